@@ -1,0 +1,73 @@
+//! Writing of parts of a module.
+
+use crate::{EmitError, IdsToIndices};
+use walrus_ir::{FunctionId, IdHashMap, IdHashSet, InstrLocId, LocalId, Module};
+
+/// What the body of a function is found to hold before it is written.
+#[derive(Drop)]
+pub struct EmitFacts {
+    /// How many instructions there are.
+    pub size: u64,
+    /// Whether an instruction names a data segment.
+    pub uses_data_segments: bool,
+    /// The functions that `ref.func` refers to, in the order of the instructions, repeats kept.
+    pub ref_funcs: Vec<FunctionId>,
+    /// The locals that are read or written.
+    pub used_locals: IdHashSet<LocalId>,
+}
+
+/// What the parts of a module are written into.
+#[derive(Drop)]
+pub struct EmitContext<'a> {
+    /// The module that is written.
+    pub module: &'a Module,
+    /// The new indices of ids. A section that is written gives those of its items.
+    pub indices: &'a mut IdsToIndices,
+    /// The bytes so far.
+    pub bytes: Vec<u8>,
+    /// The facts of the functions' bodies.
+    pub func_facts: IdHashMap<FunctionId, EmitFacts>,
+    /// The location and the place among the bytes of each operator that has been written.
+    pub code_transform: Vec<(InstrLocId, usize)>,
+}
+
+/// A part of a module that can be written into a context.
+pub trait Emit {
+    ghost use Rattle.std.specs.Prelude.{◌≡◌, OnOk, OnErr, IfErr};
+    ghost use Rattle.walrus_body.specs.declared.error.EmitError.{EmitError};
+    ghost use Rattle.walrus_body.specs.declared.emit.EmitContext.{EmitContext};
+    ghost use Rattle.walrus_body.specs.Emitting.{Written, Appends, IsUnchanged};
+
+    /// What is written into a context, behind what stands there.
+    ghost appended: { Self → EmitContext → Written };
+
+    /// What else holds between the context before and after.
+    ghost changes: { Self → EmitContext → EmitContext → Type 0 };
+
+    /// Why it may be refused.
+    ghost refuses: { Self → EmitContext → EmitError → Type 0 };
+
+    /// Writes it. A refusal leaves the context as it was.
+    fn emit(&self, cx: &mut EmitContext<'_>) -> Result<(), EmitError>
+        ensures ok { OnOk result (Appends (appended self.now cx.old) cx.old cx.new) }
+        ensures changes { OnOk result (changes self.now cx.old cx.new) }
+        ensures refused { IfErr result (refuses self.now cx.old) }
+        ensures err { OnErr result (IsUnchanged cx.old cx.new) }
+        ensures same_indices { cx.new.indices.ghost_name ≡ cx.old.indices.ghost_name };
+}
+
+/// A reference is written as its value is.
+impl<T: Emit> Emit for &T {
+    ghost appended = { λ part. T.appended part.now };
+
+    ghost changes = { λ part. T.changes part.now };
+
+    ghost refuses = { λ part. T.refuses part.now };
+
+    fn emit(&self, cx: &mut EmitContext<'_>) -> Result<(), EmitError> {
+        T::emit(self, cx)
+    }
+}
+
+#[cfg(test)]
+mod tests;

@@ -1,0 +1,95 @@
+ghost use Rattle.std.specs.Prelude.{◌≡◌, ◌⊎◌, [], ◌∷◌, length, OnOk, OnErr, IfErr};
+ghost use Rattle.walrus_body.specs.declared.error.EmitError.TheVariants.{Memory, TooLarge};
+ghost use Rattle.walrus_body.specs.Emitting.{Appends, IsUnchanged, ChangesNothingElse};
+
+use super::*;
+use walrus_ir::{ModuleItems, ModuleTypes};
+
+// A `nop` at its location.
+#[derive(Drop)]
+struct Nop {
+    location: InstrLocId,
+}
+
+impl Emit for Nop {
+    ghost appended = { λ nop cx. record { bytes = 1 ∷ []; code_transform = (nop.location, length cx.bytes.items) ∷ [] } };
+
+    ghost changes = { λ _. ChangesNothingElse };
+
+    ghost refuses = { λ _ _ error. error ≡ Memory };
+
+    fn emit(&self, cx: &mut EmitContext<'_>) -> Result<(), EmitError> {
+        let place = cx.bytes.len();
+        if cx.bytes.push(0x01).is_err() {
+            return Err(EmitError::Memory);
+        }
+        if cx.code_transform.push((self.location, place)).is_err() {
+            let _ = cx.bytes.pop();
+            return Err(EmitError::Memory);
+        }
+        Ok(())
+    }
+}
+
+// An operator that turns out too large once its first byte is written.
+#[derive(Drop)]
+struct Oversized;
+
+impl Emit for Oversized {
+    ghost appended = { λ _ _. record { bytes = []; code_transform = [] } };
+
+    ghost changes = { λ _ _ _. ⊥ };
+
+    ghost refuses = { λ _ _ error. (error ≡ Memory) ⊎ (error ≡ TooLarge) };
+
+    fn emit(&self, cx: &mut EmitContext<'_>) -> Result<(), EmitError> {
+        if cx.bytes.push(0x0e).is_err() {
+            return Err(EmitError::Memory);
+        }
+        let _ = cx.bytes.pop();
+        Err(EmitError::TooLarge)
+    }
+}
+
+// Writes a part through a reference, which has the part's own meaning.
+fn emit_through_reference<T: Emit>(part: &T, cx: &mut EmitContext<'_>) -> Result<(), EmitError>
+    ensures ok { OnOk result (Appends (T.appended part.now cx.old) cx.old cx.new) }
+    ensures changes { OnOk result (T.changes part.now cx.old cx.new) }
+    ensures refused { IfErr result (T.refuses part.now cx.old) }
+    ensures err { OnErr result (IsUnchanged cx.old cx.new) }
+    ensures same_indices { cx.new.indices.ghost_name ≡ cx.old.indices.ghost_name }
+{
+    <&T as Emit>::emit(&part, cx)
+}
+
+#[test]
+fn a_refused_part_leaves_what_was_written(rt: HostRuntime) {
+    let module = Module {
+        types: ModuleTypes::new(rt.alloc()),
+        tags: ModuleItems::new(rt.alloc()),
+        locals: ModuleItems::new(rt.alloc()),
+        code_section_offset: 0,
+    };
+    let mut indices = IdsToIndices::new(rt.alloc());
+    let mut cx = EmitContext {
+        module: &module,
+        indices: &mut indices,
+        bytes: Vec::new(rt.alloc()),
+        func_facts: IdHashMap::new(rt.alloc()),
+        code_transform: Vec::new(rt.alloc()),
+    };
+    let nop = Nop {
+        location: InstrLocId::new(7),
+    };
+    assert_eq!(rt; emit_through_reference(&nop, &mut cx), Ok(()));
+    assert_eq!(rt;
+        emit_through_reference(&Oversized, &mut cx),
+        Err(EmitError::TooLarge)
+    );
+    assert_eq!(rt; emit_through_reference(&nop, &mut cx), Ok(()));
+    assert_eq!(rt; cx.bytes.as_slice(), [0x01, 0x01].as_slice());
+    assert_eq!(rt;
+        cx.code_transform.as_slice(),
+        [(nop.location, 0), (nop.location, 1)].as_slice()
+    );
+}

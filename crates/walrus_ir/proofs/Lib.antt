@@ -1,0 +1,11 @@
+pub mod SameTypes
+pub mod Positions
+pub mod WalkLaws
+pub mod Tasks
+pub mod Marks
+pub mod Planning
+pub mod Telling
+pub mod Handlers
+pub mod Next
+pub mod Pending
+pub mod Stage

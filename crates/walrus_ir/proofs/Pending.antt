@@ -1,0 +1,206 @@
+-- What the open sequences and the places to come stand for: what is left of a tree.
+use Rattle.std.proofs.Common.{◌≡◌, ◌<◌, ◌+◌, ℕ, suc, List, [], ◌∷◌, ◌++◌, Option, Some, None, length, reverse, slice_index, refl, sym, ap, ◌∙◌, subst, append_assoc, arith}
+use Rattle.std.proofs.lemmas.List.{reverse-append, append-nil}
+use Rattle.std.proofs.lemmas.Option.{slice_get_within}
+use Rattle.std.specs.Prelude.{slice_get}
+use Rattle.walrus_ir.specs.declared.seq.InstrSeq.{InstrSeq}
+use Rattle.walrus_ir.specs.Tree.{Items, no_items, item, Sequences, no_sequences, sequence, alone}
+use Rattle.walrus_ir.specs.Unfolding.{Placed, Located, places_in, AreItems, are_no_items, are_items, AreSequences, are_no_sequences, are_sequences, reached, reached_each}
+use Rattle.walrus_ir.specs.Events.{Event, StartSequence, EndSequence, VisitInstruction, names, item_events, sequence_events, events}
+use Rattle.walrus_ir.specs.Planning.{IsOrder}
+use Rattle.walrus_ir.specs.Telling.{Frame, started, Next, starts, visits, ends}
+
+-- the places of the sequences, in walk order, and then these
+abbrev mutual
+  pub item_places : Items Placed Located → List ℕ → List ℕ
+  item_places no_items later = later
+  item_places (item x inside rest) later = sequence_places inside (item_places rest later)
+
+  pub sequence_places : Sequences Placed Located → List ℕ → List ℕ
+  sequence_places no_sequences later = later
+  sequence_places (sequence head items rest) later = head.place ∷ item_places items (sequence_places rest later)
+
+mutual
+  items_reached : (is : Items Placed Located) (seen later : List ℕ) → reverse (reached is seen) ++ later ≡ reverse seen ++ item_places is later
+  items_reached no_items seen later = refl
+  items_reached (item x inside rest) seen later = items_reached rest (reached_each inside seen) later ∙ sequences_reached inside seen (item_places rest later)
+
+  sequences_reached : (ss : Sequences Placed Located) (seen later : List ℕ) → reverse (reached_each ss seen) ++ later ≡ reverse seen ++ sequence_places ss later
+  sequences_reached no_sequences seen later = refl
+  sequences_reached (sequence head is rest) seen later =
+      let inside = item_places is (sequence_places rest later) in
+      sequences_reached rest (reached is (head.place ∷ seen)) later
+      ∙ (items_reached is (head.place ∷ seen) (sequence_places rest later)
+      ∙ (ap (λ ps. ps ++ inside) (reverse-append (head.place ∷ []) seen) ∙ append_assoc (reverse seen) (head.place ∷ []) inside))
+
+pub places_in_order : (ss : Sequences Placed Located) → reverse (reached_each ss []) ≡ sequence_places ss []
+places_in_order ss = sym (append-nil (reverse (reached_each ss []))) ∙ sequences_reached ss [] []
+
+-- the innermost open sequence, with the trees that are left in it, and what is left below it
+pub record Top (b : List InstrSeq) (f : Frame) (Below : List ℕ → List Event → Type 0) (coming : List ℕ) (left : List Event) : Type 0 where
+  pub places : List ℕ
+  pub inside : Sequences Placed Located
+  pub items : Items Placed Located
+  pub later : List ℕ
+  pub after : List Event
+  pub many : length places ≡ f.inside
+  pub are_inside : AreSequences b places inside
+  pub are_rest : AreItems b f.rest items
+  pub below : Below later after
+  pub coming_is : coming ≡ sequence_places inside (item_places items later)
+  pub left_is : left ≡ sequence_events inside (item_events items (EndSequence f.seq ∷ after))
+
+-- with these open sequences and these places to come, these events are left
+abbrev pub Pending : List InstrSeq → List Frame → List ℕ → List Event → Type 0
+Pending b [] coming left = (coming ≡ []) × (left ≡ [])
+Pending b (f ∷ fs) coming left = Top b f (Pending b fs) coming left
+
+-- a sequence that has just started
+abbrev pub just_started : (b : List InstrSeq) (seq : InstrSeq) (fs : List Frame) (items : Items Placed Located) (later : List ℕ) (after : List Event)
+    → AreItems b seq.instrs.items items → Pending b fs later after → Pending b (started seq ∷ fs) (item_places items later) (item_events items (EndSequence seq ∷ after))
+just_started b seq fs items later after a below = record {
+  places = [];
+  inside = no_sequences;
+  items = items;
+  later = later;
+  after = after;
+  many = refl;
+  are_inside = are_no_sequences;
+  are_rest = a;
+  below = below;
+  coming_is = refl;
+  left_is = refl;
+}
+
+-- some of the events that are left, and what is left behind them
+pub record Behind (b : List InstrSeq) (fs : List Frame) (coming : List ℕ) (es left : List Event) : Type 0 where
+  pub more : List Event
+  pub left_is : left ≡ es ++ more
+  pub pending : Pending b fs coming more
+
+-- the next sequence inside the last instruction starts
+start_pending : {b : List InstrSeq} (fs : List Frame) (seq next : InstrSeq) (rest : List Located) (n p : ℕ) (coming : List ℕ) (left : List Event)
+    (h : Top b (record { seq = seq; rest = rest; inside = suc n }) (Pending b fs) (p ∷ coming) left) (places : List ℕ) (inside : Sequences Placed Located)
+    → slice_get b p ≡ Some next → length places ≡ suc n → AreSequences b places inside → p ∷ coming ≡ sequence_places inside (item_places h.items h.later)
+    → left ≡ sequence_events inside (item_events h.items (EndSequence seq ∷ h.after))
+    → Behind b (started next ∷ record { seq = seq; rest = rest; inside = n } ∷ fs) coming (StartSequence next ∷ []) left
+start_pending fs seq next rest n p coming left h places inside known many are_no_sequences coming_is left_is = absurd (omega arith)
+start_pending {b = b} fs seq next rest n p coming left h places inside known many (are_sequences {p = q} {ps = ps} {seq = s} {items = is} {rest = ss} k a r) coming_is left_is =
+    let same_place : q ≡ p = cc in
+    let same : s ≡ next = (let found : slice_get b p ≡ Some s = rw (← same_place) k in cc) in
+    let P : InstrSeq → Type 0 = λ z. AreItems b z.instrs.items is in
+    let below : Pending b (record { seq = seq; rest = rest; inside = n } ∷ fs) (sequence_places ss (item_places h.items h.later)) (sequence_events ss (item_events h.items (EndSequence seq ∷ h.after))) = record {
+      places = ps;
+      inside = ss;
+      items = h.items;
+      later = h.later;
+      after = h.after;
+      many = omega arith;
+      are_inside = r;
+      are_rest = h.are_rest;
+      below = h.below;
+      coming_is = refl;
+      left_is = refl;
+    } in
+    let others : coming ≡ item_places is (sequence_places ss (item_places h.items h.later)) = cc in
+    record {
+      more = item_events is (EndSequence next ∷ sequence_events ss (item_events h.items (EndSequence seq ∷ h.after)));
+      left_is = rw same at left_is;
+      pending = rw others (just_started b next (record { seq = seq; rest = rest; inside = n } ∷ fs) is _ _ (subst P same a) below);
+    }
+
+-- the next instruction is visited
+visit_pending : {b : List InstrSeq} (fs : List Frame) (seq : InstrSeq) (x : Located) (rest : List Located) (coming : List ℕ) (left : List Event)
+    (h : Top b (record { seq = seq; rest = x ∷ rest; inside = 0 }) (Pending b fs) coming left) (places : List ℕ) (inside : Sequences Placed Located) (items : Items Placed Located)
+    → length places ≡ 0 → AreSequences b places inside → AreItems b (x ∷ rest) items → coming ≡ sequence_places inside (item_places items h.later)
+    → left ≡ sequence_events inside (item_events items (EndSequence seq ∷ h.after))
+    → Behind b (record { seq = seq; rest = rest; inside = length (places_in x.0) } ∷ fs) coming (VisitInstruction x.0 x.1 ∷ names x.0) left
+visit_pending fs seq x rest coming left h places inside items none (are_sequences k a r) are_rest coming_is left_is = absurd (omega arith)
+visit_pending fs seq x rest coming left h places inside items none are_no_sequences (are_items {inside = ss} {rest = is} a r) coming_is left_is = record {
+  more = sequence_events ss (item_events is (EndSequence seq ∷ h.after));
+  left_is = left_is;
+  pending = record {
+    places = places_in x.0;
+    inside = ss;
+    items = is;
+    later = h.later;
+    after = h.after;
+    many = refl;
+    are_inside = a;
+    are_rest = r;
+    below = h.below;
+    coming_is = coming_is;
+    left_is = refl;
+  };
+}
+
+-- the sequence ends
+end_pending : {b : List InstrSeq} (fs : List Frame) (seq : InstrSeq) (coming : List ℕ) (left : List Event)
+    (h : Top b (record { seq = seq; rest = []; inside = 0 }) (Pending b fs) coming left) (places : List ℕ) (inside : Sequences Placed Located) (items : Items Placed Located)
+    → length places ≡ 0 → AreSequences b places inside → AreItems b [] items → coming ≡ sequence_places inside (item_places items h.later)
+    → left ≡ sequence_events inside (item_events items (EndSequence seq ∷ h.after))
+    → Behind b fs coming (EndSequence seq ∷ []) left
+end_pending fs seq coming left h places inside items none (are_sequences k a r) are_rest coming_is left_is = absurd (omega arith)
+end_pending fs seq coming left h places inside items none are_no_sequences are_no_items coming_is left_is = record { more = h.after; left_is = left_is; pending = rw coming_is h.below }
+
+pub next_pending : {b : List InstrSeq} {f : Frame} {coming : List ℕ} {es : List Event} {opened : List Frame} {coming' : List ℕ} (fs : List Frame) (left : List Event)
+    → Next b f coming es opened coming' → Pending b (f ∷ fs) coming left → Behind b (opened ++ fs) coming' es left
+next_pending fs left (starts known) h = start_pending fs _ _ _ _ _ _ left h h.places h.inside known h.many h.are_inside h.coming_is h.left_is
+next_pending fs left visits h = visit_pending fs _ _ _ _ left h h.places h.inside h.items h.many h.are_inside h.are_rest h.coming_is h.left_is
+next_pending fs left ends h = end_pending fs _ _ left h h.places h.inside h.items h.many h.are_inside h.are_rest h.coming_is h.left_is
+
+next_within : {b : List InstrSeq} (places : List ℕ) (inside : Sequences Placed Located) (coming later : List ℕ) → AreSequences b places inside → 0 < length places
+    → coming ≡ sequence_places inside later → (0 < length coming) × (slice_index coming 0 < length b)
+next_within places inside coming later are_no_sequences some e = absurd (omega arith)
+next_within {b = b} places inside coming later (are_sequences {p = p} {seq = seq} k a r) some e = rw e (omega arith, slice_get_within b p seq k)
+
+-- the next place is known, where a sequence inside the last instruction is to come
+pub next_comes : (b : List InstrSeq) (f : Frame) (fs : List Frame) (coming : List ℕ) (left : List Event) → Pending b (f ∷ fs) coming left → 0 < f.inside
+    → (0 < length coming) × (slice_index coming 0 < length b)
+next_comes b f fs coming left h some = next_within h.places h.inside coming (item_places h.items h.later) h.are_inside (rw h.many some) h.coming_is
+
+-- the first sequence of a walk, and the places that come after it
+pub record Begins (b : List InstrSeq) (first : ℕ) (coming : List ℕ) (es : List Event) : Type 0 where
+  pub seq : InstrSeq
+  pub items : Items Placed Located
+  pub known : slice_get b first ≡ Some seq
+  pub are : AreItems b seq.instrs.items items
+  pub coming_are : coming ≡ item_places items []
+  pub events_are : es ≡ StartSequence seq ∷ item_events items (EndSequence seq ∷ [])
+
+begin : {b : List InstrSeq} {start : ℕ} (first : ℕ) (coming : List ℕ) (ss : Sequences Placed Located) → AreSequences b (start ∷ []) ss → sequence_places ss [] ≡ first ∷ coming
+    → Begins b first coming (sequence_events ss [])
+begin {start = start} first coming ss (are_sequences {seq = seq} {items = items} k a are_no_sequences) e =
+    let same : start ≡ first = cc in
+    record { seq = seq; items = items; known = rw (← same) k; are = a; coming_are = cc; events_are = refl }
+
+order_places : {b : List InstrSeq} {start : ℕ} {order : List ℕ} (h : IsOrder b start order) → order ≡ sequence_places (alone h.tree) []
+order_places h = h.places ∙ places_in_order (alone h.tree)
+
+pub begins : {b : List InstrSeq} {start : ℕ} {order : List ℕ} (first : ℕ) (coming : List ℕ) (h : IsOrder b start order) → order ≡ first ∷ coming → Begins b first coming (events h.tree)
+begins first coming h e = begin first coming (alone h.tree) h.is_tree.unfolds (sym (order_places h) ∙ e)
+
+some_first : {b : List InstrSeq} {start : ℕ} (ss : Sequences Placed Located) → AreSequences b (start ∷ []) ss → 0 < length (sequence_places ss [])
+some_first ss (are_sequences k a r) = omega arith
+
+pub some_order : {b : List InstrSeq} {start : ℕ} {order : List ℕ} → IsOrder b start order → 0 < length order
+some_order h = rw (order_places h) (some_first (alone h.tree) h.is_tree.unfolds)
+
+-- the work that the places to come take, and those that the open sequences take
+abbrev pub work_in : Option InstrSeq → ℕ
+work_in None = 0
+work_in (Some seq) = 2 + length seq.instrs.items
+
+abbrev pub work_to_come : List InstrSeq → List ℕ → ℕ
+work_to_come b [] = 0
+work_to_come b (p ∷ ps) = work_in (slice_get b p) + work_to_come b ps
+
+abbrev pub work_open : List Frame → ℕ
+work_open [] = 0
+work_open (f ∷ fs) = 1 + (length f.rest + work_open fs)
+
+pub next_falls : {b : List InstrSeq} {f : Frame} {coming : List ℕ} {es : List Event} {opened : List Frame} {coming' : List ℕ} (fs : List Frame)
+    → Next b f coming es opened coming' → work_to_come b coming' + work_open (opened ++ fs) < work_to_come b coming + work_open (f ∷ fs)
+next_falls {b = b} fs (starts {p = p} known) = rw known (omega arith)
+next_falls fs visits = omega arith
+next_falls fs ends = omega arith

@@ -1,0 +1,75 @@
+-- Where the telling of a walk stands.
+use Rattle.std.proofs.Common.{◌≡◌, ℕ, List, [], ◌∷◌, ◌++◌, Some, refl, sym, ap, ◌∙◌, subst, append_assoc}
+use Rattle.std.proofs.lemmas.List.{append-nil}
+use Rattle.std.specs.Prelude.{slice_get}
+use Rattle.walrus_ir.specs.declared.seq.InstrSeq.{InstrSeq}
+use Rattle.walrus_ir.specs.Tree.{Tree}
+use Rattle.walrus_ir.specs.Unfolding.{Placed, Located, AreItems, IsTree}
+use Rattle.walrus_ir.specs.Events.{Event, StartSequence, EndSequence, item_events, events, Folds, through, after, Stops, refused}
+use Rattle.walrus_ir.specs.Walk.{Finishes, IsRefused}
+use Rattle.walrus_ir.specs.Planning.{IsOrder}
+use Rattle.walrus_ir.specs.Telling.{Frame, started, IsToldNext, IsRefusedNext}
+use Rattle.walrus_ir.proofs.Telling.{Folds-append, Stops-append, Stops_behind}
+use Rattle.walrus_ir.proofs.Pending.{Pending, just_started, next_pending, begins}
+
+module _ {V F : Type 0} (b : List InstrSeq) (start : ℕ) (steps : V → Event → V → Type 0) (refuses : V → Event → F → Type 0) (same : V → V → Type 0) where
+  -- the visitor was told the first events of the tree, and what is open and to come stands for the others
+  pub record Stage (v w : V) (fs : List Frame) (coming : List ℕ) : Type 0 where
+    pub tree : Tree Placed Located
+    pub is_tree : IsTree b start tree
+    pub told : List Event
+    pub left : List Event
+    pub all : events tree ≡ told ++ left
+    pub folds : Folds steps v told w
+    pub pending : Pending b fs coming left
+
+  pub stage_first : {v w : V} {order coming : List ℕ} {first : ℕ} {next : InstrSeq} {fs : List Frame} → IsOrder b start order → order ≡ first ∷ coming → slice_get b first ≡ Some next
+      → steps v (StartSequence next) w → fs ≡ started next ∷ [] → Stage v w fs coming
+  stage_first {coming = coming} {first = first} {next = next} h e known step opened =
+      let begun = begins first coming h e in
+      let same : begun.seq ≡ next = (let found = begun.known in cc) in
+      let P : InstrSeq → Type 0 = λ z. AreItems b z.instrs.items begun.items in
+      let Q : List ℕ → Type 0 = λ ps. Pending b (started next ∷ []) ps (item_events begun.items (EndSequence next ∷ [])) in
+      record {
+        tree = h.tree;
+        is_tree = h.is_tree;
+        told = StartSequence next ∷ [];
+        left = item_events begun.items (EndSequence next ∷ []);
+        all = rw same at begun.events_are;
+        folds = after step through;
+        pending = rw opened (subst Q (sym begun.coming_are) (just_started b next [] begun.items [] [] (subst P same begun.are) (refl, refl)));
+      }
+
+  pub first_refused : {v w : V} {fault : F} {order coming : List ℕ} {first : ℕ} {next : InstrSeq} → IsOrder b start order → order ≡ first ∷ coming → slice_get b first ≡ Some next
+      → refuses v (StartSequence next) fault → same v w → IsRefused b start steps refuses same v w fault
+  first_refused {coming = coming} {first = first} {next = next} h e known refusal as_it_was =
+      let begun = begins first coming h e in
+      let same_seq : begun.seq ≡ next = (let found = begun.known in cc) in
+      record { tree = h.tree; is_tree = h.is_tree; stops = rw (begun.events_are, same_seq) (refused refusal as_it_was) }
+
+  pub stage_told : {v w x : V} {f : Frame} {fs fs' : List Frame} {coming coming' : List ℕ} → Stage v w (f ∷ fs) coming → IsToldNext b f coming fs (λ es. Folds steps w es x) fs' coming' → Stage v x fs' coming'
+  stage_told {x = x} {fs = fs} {fs' = fs'} {coming' = coming'} h t =
+      let behind = next_pending fs h.left t.next h.pending in
+      record {
+        tree = h.tree;
+        is_tree = h.is_tree;
+        told = h.told ++ t.events;
+        left = behind.more;
+        all = h.all ∙ (ap (λ es. h.told ++ es) behind.left_is ∙ sym (append_assoc h.told t.events behind.more));
+        folds = Folds-append steps refuses same t.events h.folds t.told;
+        pending = rw t.stack behind.pending;
+      }
+
+  pub stage_refused : {v w x : V} {fault : F} {f : Frame} {fs : List Frame} {coming : List ℕ} → Stage v w (f ∷ fs) coming → IsRefusedNext b f coming (λ es. Stops steps refuses same w es x fault) → IsRefused b start steps refuses same v x fault
+  stage_refused {fs = fs} h t =
+      let behind = next_pending fs h.left t.next h.pending in
+      record {
+        tree = h.tree;
+        is_tree = h.is_tree;
+        stops = rw (h.all, behind.left_is) (Stops_behind steps refuses same (t.events ++ behind.more) h.folds (Stops-append steps refuses same behind.more t.stopped));
+      }
+
+  pub stage_last : {v w : V} {coming : List ℕ} → Stage v w [] coming → Finishes b start steps v w
+  stage_last {v = v} {w = w} h =
+      let all_told : events h.tree ≡ h.told = h.all ∙ (ap (λ es. h.told ++ es) h.pending.1 ∙ append-nil h.told) in
+      record { tree = h.tree; is_tree = h.is_tree; folds = rw all_told h.folds }

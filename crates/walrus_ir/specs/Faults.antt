@@ -1,0 +1,21 @@
+-- The first fault of a walk, where a function has no tree.
+use Rattle.std.specs.Prelude.{◌≡◌, ℕ, List, [], ◌∷◌, ◌++◌, true, false, Some, None, slice_get}
+use Rattle.walrus_ir.specs.declared.seq.InstrSeq.{InstrSeq}
+use Rattle.walrus_ir.specs.declared.error.WalkError.{WalkError}
+use Rattle.walrus_ir.specs.declared.error.WalkError.TheVariants.{UnknownSequence, SharedSequence}
+use Rattle.walrus_ir.specs.Unfolding.{places_in_all, among}
+
+-- The walk in its order, without a tree: it has reached the sequences `seen`, the last first, which are all known and
+-- apart, and goes on to the places `next`. Those in a sequence come behind it, before what stood behind it.
+pub data Walks (b : List InstrSeq) (start : ℕ) : (seen next : List ℕ) → Type 0 where
+  begun : Walks b start [] (start ∷ [])
+  onward : {seen : List ℕ} {p : ℕ} {next : List ℕ} {seq : InstrSeq}
+      → Walks b start seen (p ∷ next) → slice_get b p ≡ Some seq → among p seen ≡ false
+      → Walks b start (p ∷ seen) (places_in_all seq.instrs.items ++ next)
+
+-- the first place in walk order that isn't known or was reached before, and which of both it is
+pub data FirstFault (b : List InstrSeq) (start : ℕ) : WalkError → Type 0 where
+  unknown : {seen : List ℕ} {p : ℕ} {next : List ℕ}
+      → Walks b start seen (p ∷ next) → slice_get b p ≡ None → FirstFault b start UnknownSequence
+  shared : {seen : List ℕ} {p : ℕ} {next : List ℕ}
+      → Walks b start seen (p ∷ next) → among p seen ≡ true → FirstFault b start SharedSequence

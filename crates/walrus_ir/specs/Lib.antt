@@ -1,0 +1,13 @@
+pub mod Types
+pub mod Tree
+pub mod Locations
+pub mod TypeEntries
+pub mod Arena
+pub mod Lending
+pub mod Unfolding
+pub mod Faults
+pub mod Events
+pub mod Walk
+pub mod WalkLaws
+pub mod Planning
+pub mod Telling

@@ -1,0 +1,92 @@
+-- What the plan of a walk keeps: the sequences that it has reached, and the tasks that are left.
+use Rattle.std.specs.Prelude.{◌≡◌, ℕ, ◌+◌, ◌*◌, ◌≤◌, List, [], ◌∷◌, ◌++◌, Bool, true, false, Some, None}
+use Rattle.std.specs.Prelude.{length, reverse, slice_get, slice_index_or, slice_set}
+use Rattle.std.specs.List.{flat_map, sum_by}
+use Rattle.walrus_ir.specs.declared.seq.InstrSeq.{InstrSeq}
+use Rattle.walrus_ir.specs.declared.instr.Instr.{Instr}
+use Rattle.walrus_ir.specs.declared.instr.Instr.TheVariants.{Block, Loop, IfElse, TryTable, Try}
+use Rattle.walrus_ir.specs.declared.error.WalkError.{WalkError}
+use Rattle.walrus_ir.specs.declared.error.WalkError.TheVariants.{UnknownSequence, SharedSequence}
+use Rattle.walrus_ir.specs.declared.plan.Plan.{Plan}
+use Rattle.walrus_ir.specs.declared.plan.Task.{Task}
+use Rattle.walrus_ir.specs.declared.plan.Task.TheVariants.{Enter, Resume, Clauses}
+use Rattle.walrus_ir.specs.Tree.{Tree, alone}
+use Rattle.walrus_ir.specs.Unfolding.{Placed, Located, handlers, places_in_all, reached_each, IsTree}
+
+-- the places that a task goes on to, and those that the tasks on a stack go on to, the top first
+abbrev pub goes_to : Task → List ℕ
+goes_to (Enter p) = p ∷ []
+goes_to (Resume rest) = places_in_all rest.now
+goes_to (Clauses rest) = handlers rest.now
+
+abbrev pub agenda : List Task → List ℕ
+agenda tasks = flat_map goes_to (reverse tasks)
+
+-- how many work an instruction, some instructions, a task and the tasks on a stack take at most, but for those inside
+-- the sequences
+abbrev pub work_of : Instr → ℕ
+work_of (Block x) = 1
+work_of (Loop x) = 1
+work_of (IfElse x) = 2
+work_of (TryTable x) = 1
+work_of (Try x) = 2 + 2 * length x.catches.items
+work_of _ = 0
+
+abbrev pub work_of_all : List Located → ℕ
+work_of_all [] = 0
+work_of_all (x ∷ xs) = 1 + (work_of x.0 + work_of_all xs)
+
+abbrev pub work_of_task : Task → ℕ
+work_of_task (Enter p) = 1
+work_of_task (Resume rest) = 1 + work_of_all rest.now
+work_of_task (Clauses rest) = 1 + 2 * length rest.now
+
+abbrev pub work : List Task → ℕ
+work tasks = sum_by work_of_task tasks
+
+-- the tasks on a stack go on to these places first, and take no more work than these more
+pub record Adds (old new : List Task) (places : List ℕ) (more : ℕ) : Type 0 where
+  pub goes : agenda new ≡ places ++ agenda old
+  pub falls : work new ≤ more + work old
+
+-- why a sequence is not reached
+abbrev pub IsRefusedAt : List InstrSeq → List Bool → ℕ → WalkError → Type 0
+IsRefusedAt b marks p UnknownSequence = slice_get b p ≡ None
+IsRefusedAt b marks p SharedSequence = slice_index_or marks p false ≡ true
+IsRefusedAt b marks p _ = ⊥
+
+-- a sequence is reached
+pub record IsReached (b : List InstrSeq) (p : ℕ) (seq : InstrSeq) (old new : List Bool) : Type 0 where
+  pub known : slice_get b p ≡ Some seq
+  pub fresh : slice_index_or old p false ≡ false
+  pub marked : new ≡ slice_set old p true
+
+-- a sequence is entered: it is reached, and stands next in the order
+pub record IsEntered (b : List InstrSeq) (p : ℕ) (old new : Plan) : Type 0 where
+  pub seq : InstrSeq
+  pub reached : IsReached b p seq old.reached.items new.reached.items
+  pub ordered : new.order.items ≡ old.order.items ++ p ∷ []
+  pub adds : Adds old.tasks.items new.tasks.items (places_in_all seq.instrs.items) (1 + work_of_all seq.instrs.items)
+
+-- nothing is reached, and the tasks go on to the same places
+pub record IsGoneOn (task : Task) (old new : Plan) : Type 0 where
+  pub same_marks : new.reached.items ≡ old.reached.items
+  pub same_order : new.order.items ≡ old.order.items
+  pub goes : agenda new.tasks.items ≡ goes_to task ++ agenda old.tasks.items
+  pub falls : 1 + work new.tasks.items ≤ work_of_task task + work old.tasks.items
+
+-- a task is done
+abbrev pub IsDone : List InstrSeq → Task → Plan → Plan → Type 0
+IsDone b (Enter p) old new = IsEntered b p old new
+IsDone b task old new = IsGoneOn task old new
+
+-- why a task is not done
+abbrev pub IsNotDone : List InstrSeq → List Bool → Task → WalkError → Type 0
+IsNotDone b marks (Enter p) e = IsRefusedAt b marks p e
+IsNotDone b marks _ e = ⊥
+
+-- these are the places of the tree from a sequence on, in walk order
+pub record IsOrder (b : List InstrSeq) (start : ℕ) (order : List ℕ) : Type 0 where
+  pub tree : Tree Placed Located
+  pub is_tree : IsTree b start tree
+  pub places : order ≡ reverse (reached_each (alone tree) [])

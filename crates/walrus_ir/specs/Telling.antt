@@ -1,0 +1,52 @@
+-- What is kept while a walk is told: the sequences that are open, and the places of those that are to come.
+use Rattle.std.specs.Prelude.{◌≡◌, ℕ, suc, List, [], ◌∷◌, ◌++◌, Some, length, map, reverse, slice_get}
+use Rattle.walrus_ir.specs.declared.seq.InstrSeq.{InstrSeq}
+use Rattle.walrus_ir.specs.declared.walk.Open.{Open}
+use Rattle.walrus_ir.specs.Unfolding.{Located, places_in}
+use Rattle.walrus_ir.specs.Events.{Event, StartSequence, EndSequence, VisitInstruction, names}
+
+-- an open sequence: the instructions that are left of it, and how many of the sequences inside the last one are to come
+pub record Frame : Type 0 where
+  pub seq : InstrSeq
+  pub rest : List Located
+  pub inside : ℕ
+
+abbrev pub frame : Open → Frame
+frame o = record { seq = o.seq.now; rest = o.rest.now; inside = o.inside }
+
+-- the open sequences on a stack, the innermost first
+abbrev pub frames : List Open → List Frame
+frames stack = map frame (reverse stack)
+
+abbrev pub started : InstrSeq → Frame
+started seq = record { seq = seq; rest = seq.instrs.items; inside = 0 }
+
+-- What comes next at the innermost open sequence: the events that are told, the sequences that are open in its place then,
+-- and the places that are to come then. A sequence inside the last instruction starts; else the next instruction is
+-- visited; else the sequence ends.
+pub data Next (b : List InstrSeq) : Frame → (coming : List ℕ) → List Event → (opened : List Frame) → (coming' : List ℕ) → Type 0 where
+  starts : {seq inner : InstrSeq} {rest : List Located} {n p : ℕ} {coming : List ℕ} → slice_get b p ≡ Some inner
+      → Next b (record { seq = seq; rest = rest; inside = suc n }) (p ∷ coming)
+        (StartSequence inner ∷ []) (started inner ∷ record { seq = seq; rest = rest; inside = n } ∷ []) coming
+  visits : {seq : InstrSeq} {x : Located} {rest : List Located} {coming : List ℕ}
+      → Next b (record { seq = seq; rest = x ∷ rest; inside = 0 }) coming
+        (VisitInstruction x.0 x.1 ∷ names x.0) (record { seq = seq; rest = rest; inside = length (places_in x.0) } ∷ []) coming
+  ends : {seq : InstrSeq} {coming : List ℕ}
+      → Next b (record { seq = seq; rest = []; inside = 0 }) coming (EndSequence seq ∷ []) [] coming
+
+-- what comes next was told
+pub record IsToldNext (b : List InstrSeq) (f : Frame) (coming : List ℕ) (fs : List Frame)
+    (Told : List Event → Type 0) (fs' : List Frame) (coming' : List ℕ) : Type 0 where
+  pub events : List Event
+  pub opened : List Frame
+  pub next : Next b f coming events opened coming'
+  pub told : Told events
+  pub stack : fs' ≡ opened ++ fs
+
+-- what comes next was told up to an event that was refused
+pub record IsRefusedNext (b : List InstrSeq) (f : Frame) (coming : List ℕ) (Stopped : List Event → Type 0) : Type 0 where
+  pub events : List Event
+  pub opened : List Frame
+  pub coming' : List ℕ
+  pub next : Next b f coming events opened coming'
+  pub stopped : Stopped events

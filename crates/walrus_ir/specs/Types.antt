@@ -1,0 +1,116 @@
+-- The types of a module, and which of them a sequence that takes and gives some values has.
+use Rattle.std.specs.Prelude.{ℕ, List, [], ◌∷◌, Bool, true, false, ◌&&◌, ◌==◌, Option, Some, None, slice_get, position, option_and_then}
+use Rattle.std.specs.Option.{option_map}
+use Rattle.walrus_ir.specs.declared.val_type.AbstractHeapType.{AbstractHeapType}
+use Rattle.walrus_ir.specs.declared.val_type.AbstractHeapType.TheVariants as abstract
+use Rattle.walrus_ir.specs.declared.val_type.HeapType.{HeapType}
+use Rattle.walrus_ir.specs.declared.val_type.HeapType.TheVariants.{Abstract, Concrete}
+use Rattle.walrus_ir.specs.declared.val_type.ValType.{ValType}
+use Rattle.walrus_ir.specs.declared.val_type.ValType.TheVariants.{I32, I64, F32, F64, V128, Ref}
+use Rattle.walrus_ir.specs.declared.val_type.InstrSeqType.{InstrSeqType}
+use Rattle.walrus_ir.specs.declared.val_type.InstrSeqType.TheVariants.{Simple, MultiValue}
+
+-- What is taken and what is given.
+pub record Signature : Type 0 where
+  pub parameters : List (ValType ℕ)
+  pub results : List (ValType ℕ)
+
+abbrev pub signature : List (ValType ℕ) → List (ValType ℕ) → Signature
+signature parameters results = record { parameters = parameters; results = results }
+
+-- A type of the module: of functions, of the entry of a function with these results, or a struct or array type,
+-- of which nothing is known here. The types of a module are a list, by id.
+pub data ModuleType : Type 0 where
+  Func : (parameters results : List (ValType ℕ)) → ModuleType
+  Entry : (results : List (ValType ℕ)) → ModuleType
+  Other : ModuleType
+
+abbrev pub signature_in : ModuleType → Option Signature
+signature_in (Func parameters results) = Some (signature parameters results)
+signature_in (Entry results) = Some (signature [] results)
+signature_in Other = None
+
+-- what a type of the module stands for; an entry type takes nothing
+abbrev pub signature_of : List ModuleType → ℕ → Option Signature
+signature_of types id = option_and_then signature_in (slice_get types id)
+
+-- ---- equal types
+
+-- the place of an abstract heap type in their order
+abbrev pub rank_of : AbstractHeapType → ℕ
+rank_of abstract.NoExn = 0
+rank_of abstract.NoFunc = 1
+rank_of abstract.NoExtern = 2
+rank_of abstract.None = 3
+rank_of abstract.Func = 4
+rank_of abstract.Extern = 5
+rank_of abstract.Any = 6
+rank_of abstract.Eq = 7
+rank_of abstract.I31 = 8
+rank_of abstract.Struct = 9
+rank_of abstract.Array = 10
+rank_of abstract.Exn = 11
+
+abbrev pub same_heap : HeapType ℕ → HeapType ℕ → Bool
+same_heap (Abstract a) (Abstract b) = rank_of a == rank_of b
+same_heap (Concrete m) (Concrete n) = m == n
+same_heap (Abstract a) (Concrete n) = false
+same_heap (Concrete m) (Abstract b) = false
+
+abbrev pub same_bool : Bool → Bool → Bool
+same_bool true true = true
+same_bool false false = true
+same_bool true false = false
+same_bool false true = false
+
+abbrev pub same_type : ValType ℕ → ValType ℕ → Bool
+same_type I32 I32 = true
+same_type I64 I64 = true
+same_type F32 F32 = true
+same_type F64 F64 = true
+same_type V128 V128 = true
+same_type (Ref a) (Ref b) = same_bool a.nullable b.nullable && same_heap a.heap_type b.heap_type
+same_type _ _ = false
+
+abbrev pub same_types : List (ValType ℕ) → List (ValType ℕ) → Bool
+same_types [] [] = true
+same_types [] (u ∷ us) = false
+same_types (t ∷ ts) [] = false
+same_types (t ∷ ts) (u ∷ us) = same_type t u && same_types ts us
+
+-- ---- the pick
+
+abbrev pub is_function : List (ValType ℕ) → List (ValType ℕ) → ModuleType → Bool
+is_function parameters results (Func ps rs) = same_types ps parameters && same_types rs results
+is_function parameters results (Entry rs) = false
+is_function parameters results Other = false
+
+abbrev pub is_entry : List (ValType ℕ) → ModuleType → Bool
+is_entry results (Entry rs) = same_types rs results
+is_entry results (Func ps rs) = false
+is_entry results Other = false
+
+-- the first function type with these lists, that is no entry type
+abbrev pub find : List ModuleType → List (ValType ℕ) → List (ValType ℕ) → Option ℕ
+find types parameters results = position (is_function parameters results) types
+
+-- the first entry type with these results
+abbrev pub find_entry : List ModuleType → List (ValType ℕ) → Option ℕ
+find_entry types results = position (is_entry results) types
+
+-- The pick: the type of a sequence that takes and gives these. Where it takes nothing and gives at most one value it
+-- needs no type of the module; else it has the first function type with these lists.
+abbrev pub existing : List ModuleType → List (ValType ℕ) → List (ValType ℕ) → Option InstrSeqType
+existing types [] [] = Some (Simple None)
+existing types [] (t ∷ []) = Some (Simple (Some t))
+existing types [] (t ∷ u ∷ ts) = option_map MultiValue (find types [] (t ∷ u ∷ ts))
+existing types (p ∷ ps) results = option_map MultiValue (find types (p ∷ ps) results)
+
+abbrev pub pick : List ModuleType → Signature → Option InstrSeqType
+pick types s = existing types s.parameters s.results
+
+-- what a sequence of the type takes and gives, where the module has the type
+abbrev pub signature_of_type : List ModuleType → InstrSeqType → Option Signature
+signature_of_type types (Simple None) = Some (signature [] [])
+signature_of_type types (Simple (Some t)) = Some (signature [] (t ∷ []))
+signature_of_type types (MultiValue id) = signature_of types id

@@ -1,0 +1,98 @@
+//! Instructions on memories.
+
+use crate::id::{DataId, MemoryId};
+use crate::memory::{AtomicOp, AtomicWidth, LoadKind, LoadSimdKind, MemArg, StoreKind};
+
+/// A load, narrow and atomic ones too.
+#[derive(Clone, Copy, Debug, PartialEq, Eq)]
+pub struct Load {
+    pub memory: MemoryId,
+    pub kind: LoadKind,
+    pub arg: MemArg,
+}
+
+/// A store, narrow and atomic ones too.
+#[derive(Clone, Copy, Debug, PartialEq, Eq)]
+pub struct Store {
+    pub memory: MemoryId,
+    pub kind: StoreKind,
+    pub arg: MemArg,
+}
+
+/// A vector access that is no plain load or store; those that store a lane too.
+#[derive(Clone, Copy, Debug, PartialEq, Eq)]
+pub struct LoadSimd {
+    pub memory: MemoryId,
+    pub kind: LoadSimdKind,
+    pub arg: MemArg,
+}
+
+/// An atomic read-modify-write.
+#[derive(Clone, Copy, Debug, PartialEq, Eq)]
+pub struct AtomicRmw {
+    pub memory: MemoryId,
+    pub op: AtomicOp,
+    pub width: AtomicWidth,
+    pub arg: MemArg,
+}
+
+/// An atomic compare and exchange.
+#[derive(Clone, Copy, Debug, PartialEq, Eq)]
+pub struct Cmpxchg {
+    pub memory: MemoryId,
+    pub width: AtomicWidth,
+    pub arg: MemArg,
+}
+
+/// `memory.atomic.notify`.
+#[derive(Clone, Copy, Debug, PartialEq, Eq)]
+pub struct AtomicNotify {
+    pub memory: MemoryId,
+    pub arg: MemArg,
+}
+
+/// `memory.atomic.wait32`, or `wait64` where it is marked so.
+#[derive(Clone, Copy, Debug, PartialEq, Eq)]
+pub struct AtomicWait {
+    pub memory: MemoryId,
+    pub arg: MemArg,
+    pub sixty_four: bool,
+}
+
+/// `memory.size`.
+#[derive(Clone, Copy, Debug, PartialEq, Eq)]
+pub struct MemorySize {
+    pub memory: MemoryId,
+}
+
+/// `memory.grow`.
+#[derive(Clone, Copy, Debug, PartialEq, Eq)]
+pub struct MemoryGrow {
+    pub memory: MemoryId,
+}
+
+/// `memory.fill`.
+#[derive(Clone, Copy, Debug, PartialEq, Eq)]
+pub struct MemoryFill {
+    pub memory: MemoryId,
+}
+
+/// `memory.init`: copies from a data segment.
+#[derive(Clone, Copy, Debug, PartialEq, Eq)]
+pub struct MemoryInit {
+    pub memory: MemoryId,
+    pub data_id: DataId,
+}
+
+/// `data.drop`.
+#[derive(Clone, Copy, Debug, PartialEq, Eq)]
+pub struct DataDrop {
+    pub data_id: DataId,
+}
+
+/// `memory.copy`.
+#[derive(Clone, Copy, Debug, PartialEq, Eq)]
+pub struct MemoryCopy {
+    pub src: MemoryId,
+    pub dst: MemoryId,
+}

@@ -1,0 +1,41 @@
+//! Calls.
+
+use crate::id::{FunctionId, TableId, TypeId};
+
+/// `call`.
+#[derive(Clone, Copy, Debug, PartialEq, Eq)]
+pub struct Call {
+    pub func: FunctionId,
+}
+
+/// `return_call`.
+#[derive(Clone, Copy, Debug, PartialEq, Eq)]
+pub struct ReturnCall {
+    pub func: FunctionId,
+}
+
+/// `call_indirect`: calls a function of a table.
+#[derive(Clone, Copy, Debug, PartialEq, Eq)]
+pub struct CallIndirect {
+    pub ty: TypeId,
+    pub table: TableId,
+}
+
+/// `return_call_indirect`.
+#[derive(Clone, Copy, Debug, PartialEq, Eq)]
+pub struct ReturnCallIndirect {
+    pub ty: TypeId,
+    pub table: TableId,
+}
+
+/// `call_ref`: calls what a reference refers to.
+#[derive(Clone, Copy, Debug, PartialEq, Eq)]
+pub struct CallRef {
+    pub ty: TypeId,
+}
+
+/// `return_call_ref`.
+#[derive(Clone, Copy, Debug, PartialEq, Eq)]
+pub struct ReturnCallRef {
+    pub ty: TypeId,
+}

@@ -1,0 +1,74 @@
+//! Instructions on operands, locals and globals.
+
+use crate::binary::BinaryOp;
+use crate::id::{GlobalId, LocalId};
+use crate::ternary::TernaryOp;
+use crate::unary::UnaryOp;
+use crate::val_type::ValType;
+use crate::value::Value;
+
+/// A constant.
+#[derive(Clone, Copy, Debug, PartialEq, Eq)]
+pub struct Const {
+    pub value: Value,
+}
+
+/// An operator of one operand.
+#[derive(Clone, Copy, Debug, PartialEq, Eq)]
+pub struct Unop {
+    pub op: UnaryOp,
+}
+
+/// An operator of two operands.
+#[derive(Clone, Copy, Debug, PartialEq, Eq)]
+pub struct Binop {
+    pub op: BinaryOp,
+}
+
+/// An operator of three operands.
+#[derive(Clone, Copy, Debug, PartialEq, Eq)]
+pub struct TernOp {
+    pub op: TernaryOp,
+}
+
+/// `i8x16.shuffle`: the lanes of two vectors that each lane of the result is taken from.
+#[derive(Clone, Copy, Debug, PartialEq, Eq)]
+pub struct I8x16Shuffle {
+    pub indices: [u8; 16],
+}
+
+/// `select`, with the type of its operands where it is written.
+#[derive(Clone, Copy, Debug, PartialEq, Eq)]
+pub struct Select {
+    pub ty: Option<ValType>,
+}
+
+/// `local.get`.
+#[derive(Clone, Copy, Debug, PartialEq, Eq)]
+pub struct LocalGet {
+    pub local: LocalId,
+}
+
+/// `local.set`.
+#[derive(Clone, Copy, Debug, PartialEq, Eq)]
+pub struct LocalSet {
+    pub local: LocalId,
+}
+
+/// `local.tee`.
+#[derive(Clone, Copy, Debug, PartialEq, Eq)]
+pub struct LocalTee {
+    pub local: LocalId,
+}
+
+/// `global.get`.
+#[derive(Clone, Copy, Debug, PartialEq, Eq)]
+pub struct GlobalGet {
+    pub global: GlobalId,
+}
+
+/// `global.set`.
+#[derive(Clone, Copy, Debug, PartialEq, Eq)]
+pub struct GlobalSet {
+    pub global: GlobalId,
+}

@@ -1,0 +1,171 @@
+//! The plan of a walk: which sequences it enters, one after the other, if they are a tree.
+ghost use Rattle.std.specs.Prelude.{◌≡◌, ◌⊎◌, ◌+◌, ◌*◌, length, OnOk, MatchResult, vec_len};
+ghost use Rattle.walrus_ir.specs.Arena.{arena};
+ghost use Rattle.walrus_ir.specs.Unfolding.{handlers, places_in, places_in_all};
+ghost use Rattle.walrus_ir.specs.Walk.{HasNoWalk};
+ghost use Rattle.walrus_ir.specs.Planning.{work_of, work_of_all, Adds, IsRefusedAt, IsReached};
+ghost use Rattle.walrus_ir.specs.Planning.{IsEntered, IsDone, IsNotDone, IsOrder};
+ghost use Rattle.walrus_ir.specs.declared.error.WalkError.TheVariants.{Memory};
+
+use crate::builder::FunctionBuilder;
+use crate::control::LegacyCatch;
+use crate::error::WalkError;
+use crate::id::InstrSeqId;
+use crate::instr::Instr;
+use crate::location::InstrLocId;
+use crate::seq::InstrSeq;
+use std::alloc::AllocError;
+
+/// What is left to be looked at.
+#[derive(Clone, Copy)]
+pub(crate) enum Task<'a> {
+    /// The sequence at this place.
+    Enter(usize),
+    /// These instructions of a sequence.
+    Resume(&'a [(Instr, InstrLocId)]),
+    /// These clauses of a legacy `try`.
+    Clauses(&'a [LegacyCatch]),
+}
+
+/// What is kept while the plan is made.
+#[derive(Drop)]
+pub(crate) struct Plan<'a> {
+    /// Whether a sequence was reached, by its place.
+    reached: Vec<bool>,
+    /// The sequences that were reached, in walk order.
+    order: Vec<InstrSeqId>,
+    /// What is left to be looked at, the next last.
+    tasks: Vec<Task<'a>>,
+}
+
+// Puts what is inside an instruction on the stack, the first on top.
+fn push_inside<'a>(tasks: &mut Vec<Task<'a>>, instr: &'a Instr) -> Result<(), AllocError>
+    ensures { OnOk result
+        (Adds tasks.old.items tasks.new.items (places_in instr.now) (work_of instr.now)) }
+{
+    match instr {
+        Instr::Block(x) => tasks.push(Task::Enter(x.seq.index()))?,
+        Instr::Loop(x) => tasks.push(Task::Enter(x.seq.index()))?,
+        Instr::IfElse(x) => {
+            tasks.push(Task::Enter(x.alternative.index()))?;
+            tasks.push(Task::Enter(x.consequent.index()))?;
+        }
+        Instr::TryTable(x) => tasks.push(Task::Enter(x.seq.index()))?,
+        Instr::Try(x) => {
+            tasks.push(Task::Clauses(x.catches.as_slice()))?;
+            tasks.push(Task::Enter(x.seq.index()))?;
+        }
+        _ => {}
+    }
+    Ok(())
+}
+
+// Goes on with a sequence of which these instructions are left.
+fn resume<'a>(
+    tasks: &mut Vec<Task<'a>>,
+    instrs: &'a [(Instr, InstrLocId)],
+) -> Result<(), AllocError>
+    ensures { OnOk result
+        (Adds tasks.old.items tasks.new.items (places_in_all instrs.now) (work_of_all instrs.now)) }
+{
+    if let Some((first, others)) = instrs.split_first() {
+        tasks.push(Task::Resume(others))?;
+        push_inside(tasks, &first.0)?;
+    }
+    Ok(())
+}
+
+// Goes on with a legacy `try` of which these clauses are left.
+fn handle<'a>(tasks: &mut Vec<Task<'a>>, clauses: &'a [LegacyCatch]) -> Result<(), AllocError>
+    ensures { OnOk result
+        (Adds tasks.old.items tasks.new.items (handlers clauses.now) (2 * length clauses.now)) }
+{
+    if let Some((first, others)) = clauses.split_first() {
+        tasks.push(Task::Clauses(others))?;
+        match first {
+            LegacyCatch::Catch { handler, .. } => tasks.push(Task::Enter(handler.index()))?,
+            LegacyCatch::CatchAll { handler } => tasks.push(Task::Enter(handler.index()))?,
+            LegacyCatch::Delegate { .. } => {}
+        }
+    }
+    Ok(())
+}
+
+// The sequence at a place, which is marked, if it is known and was not reached before.
+fn reach<'a>(
+    reached: &mut Vec<bool>,
+    builder: &'a FunctionBuilder,
+    place: usize,
+) -> Result<&'a InstrSeq, WalkError>
+    requires { vec_len reached.old ≡ length (arena builder.now) }
+    ensures { MatchResult result
+        (λ seq. IsReached (arena builder.now) place seq.now reached.old.items reached.new.items)
+        (IsRefusedAt (arena builder.now) reached.old.items place) }
+{
+    let id = InstrSeqId::new(place);
+    if !builder.has(id) {
+        return Err(WalkError::UnknownSequence);
+    }
+    if reached[place] {
+        return Err(WalkError::SharedSequence);
+    }
+    reached[place] = true;
+    Ok(builder.seq(id))
+}
+
+impl<'a> Plan<'a> {
+    // Enters a sequence.
+    fn enter(&mut self, builder: &'a FunctionBuilder, place: usize) -> Result<(), WalkError>
+        requires { vec_len self.old.reached ≡ length (arena builder.now) }
+        ensures { MatchResult result
+            (λ _. IsEntered (arena builder.now) place self.old self.new)
+            (λ e. (e ≡ Memory) ⊎ IsRefusedAt (arena builder.now) self.old.reached.items place e) }
+    {
+        let seq = reach(&mut self.reached, builder, place)?;
+        self.order.push(InstrSeqId::new(place))?;
+        self.tasks.push(Task::Resume(seq.instrs.as_slice()))?;
+        Ok(())
+    }
+
+    // Does one task, which was taken off the stack.
+    fn advance(&mut self, builder: &'a FunctionBuilder, task: Task<'a>) -> Result<(), WalkError>
+        requires { vec_len self.old.reached ≡ length (arena builder.now) }
+        ensures { MatchResult result
+            (λ _. IsDone (arena builder.now) task.entry self.old self.new)
+            (λ e. (e ≡ Memory) ⊎ IsNotDone (arena builder.now) self.old.reached.items task.entry e) }
+    {
+        match task {
+            Task::Enter(place) => self.enter(builder, place)?,
+            Task::Resume(instrs) => resume(&mut self.tasks, instrs)?,
+            Task::Clauses(clauses) => handle(&mut self.tasks, clauses)?,
+        }
+        Ok(())
+    }
+}
+
+/// The sequences from one on, each by its place, in the order in which a walk enters them, if they are a tree. Beside the
+/// result it takes memory for a mark a sequence of the builder, and for the sequences that are open at once.
+pub(crate) fn walk_order(
+    builder: &FunctionBuilder,
+    start: InstrSeqId,
+) -> Result<Vec<InstrSeqId>, WalkError>
+    ensures { MatchResult result
+        (λ order. IsOrder (arena builder.now) start order.items)
+        (HasNoWalk (arena builder.now) start) }
+{
+    let alloc = builder.allocator();
+    let reached = vec![in alloc; false; builder.count()]?;
+    let order = Vec::new(alloc);
+    let mut tasks = Vec::new(alloc);
+    tasks.push(Task::Enter(start.index()))?;
+    let mut plan = Plan {
+        reached,
+        order,
+        tasks,
+    };
+    'walk: while let Some(task) = plan.tasks.pop() {
+        plan.advance(builder, task)?;
+    }
+    let Plan { order, .. } = plan;
+    Ok(order)
+}

@@ -1,0 +1,44 @@
+//! Sequences of instructions.
+ghost use Rattle.std.specs.Prelude.{◌≡◌, ◌==◌, vec_len};
+ghost use Rattle.walrus_ir.specs.Arena.{id_of};
+
+use crate::id::InstrSeqId;
+use crate::instr::Instr;
+use crate::location::InstrLocId;
+use crate::val_type::InstrSeqType;
+
+/// A sequence of instructions. It is known by its place in its function's builder.
+#[derive(Debug, Drop, PartialEq, Eq)]
+pub struct InstrSeq {
+    pub(crate) id: InstrSeqId,
+    /// What it takes and gives.
+    pub ty: InstrSeqType,
+    /// Its instructions, each with its location.
+    pub instrs: Vec<(Instr, InstrLocId)>,
+    /// The location of what ends it.
+    pub end: InstrLocId,
+}
+
+impl InstrSeq {
+    /// The id that `FunctionBuilder::alloc` gave it. It moves with the sequence where two are swapped, so it need not
+    /// be the place where the sequence stands.
+    pub fn id(&self) -> InstrSeqId
+        ensures { result ≡ id_of self.now }
+    {
+        self.id
+    }
+
+    /// The number of its instructions.
+    pub fn len(&self) -> usize
+        ensures { result ≡ vec_len self.now.instrs }
+    {
+        self.instrs.len()
+    }
+
+    /// Whether it has no instructions.
+    pub fn is_empty(&self) -> bool
+        ensures { result ≡ (vec_len self.now.instrs == 0) }
+    {
+        self.instrs.is_empty()
+    }
+}

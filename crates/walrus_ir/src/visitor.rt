@@ -1,0 +1,52 @@
+//! Visitors.
+
+use crate::error::WalkError;
+use crate::id::{DataId, LocalId};
+use crate::instr::Instr;
+use crate::location::InstrLocId;
+use crate::reference::RefFunc;
+use crate::seq::InstrSeq;
+
+/// What is told of the events of a walk. Each call may refuse, which ends the walk, and then leaves the visitor as it
+/// was.
+///
+/// A visitor says what it means: `steps s e t`, at the state `s` it may take the event `e`, and is then at `t`;
+/// `refuses s e f`, at `s` it may refuse `e` with the fault `f`; `same s t`, at `t` it is as it was at `s`.
+pub trait Visitor {
+    /// Why a call is refused, or the walk not made.
+    type Fault: From<WalkError>;
+
+    ghost use Rattle.std.specs.Prelude.{◌≡◌};
+    ghost use Rattle.walrus_ir.specs.Events.{Event, StartSequence, EndSequence, VisitInstruction, Hears};
+    ghost use Rattle.walrus_ir.specs.Events.{NameFunction, NameLocal, NameData};
+
+    ghost steps: { Self → Event → Self → Type 0 };
+
+    ghost refuses: { Self → Event → Self.Fault → Type 0 };
+
+    ghost same: { Self → Self → Type 0 } = { λ s t. s ≡ t };
+
+    /// A sequence begins.
+    fn start_instr_seq(&mut self, seq: &InstrSeq) -> Result<(), Self::Fault>
+        ensures { Hears steps refuses same self.old (StartSequence seq.now) result self.new };
+
+    /// A sequence ends.
+    fn end_instr_seq(&mut self, seq: &InstrSeq) -> Result<(), Self::Fault>
+        ensures { Hears steps refuses same self.old (EndSequence seq.now) result self.new };
+
+    /// An instruction, before what it names and the sequences in it.
+    fn visit_instr(&mut self, instr: &Instr, loc: &InstrLocId) -> Result<(), Self::Fault>
+        ensures { Hears steps refuses same self.old (VisitInstruction instr.now loc.now) result self.new };
+
+    /// The data segment that the instruction names.
+    fn visit_data_id(&mut self, data_id: &DataId) -> Result<(), Self::Fault>
+        ensures { Hears steps refuses same self.old (NameData data_id.now) result self.new };
+
+    /// The local that the instruction names.
+    fn visit_local_id(&mut self, local: &LocalId) -> Result<(), Self::Fault>
+        ensures { Hears steps refuses same self.old (NameLocal local.now) result self.new };
+
+    /// The instruction is a `ref.func`.
+    fn visit_ref_func(&mut self, instr: &RefFunc) -> Result<(), Self::Fault>
+        ensures { Hears steps refuses same self.old (NameFunction instr.now.func) result self.new };
+}

@@ -1,0 +1,195 @@
+//! The walk over the sequences of a function, in order.
+ghost use Rattle.std.specs.Prelude.{◌≡◌, ◌⊎◌, ◌+◌, ◌≤◌, ◌<◌, [], ◌∷◌, length, slice_index, vec_len, vec_capacity};
+ghost use Rattle.std.specs.Prelude.{IfOk, OnOk, IfErr, MatchResult};
+ghost use Rattle.walrus_ir.specs.Arena.{arena};
+ghost use Rattle.walrus_ir.specs.Unfolding.{handlers, places_in};
+ghost use Rattle.walrus_ir.specs.Events.{StartSequence, VisitInstruction, names, Hears, Tells, Folds, Stops};
+ghost use Rattle.walrus_ir.specs.Walk.{HasNoWalk, Finishes, IsRefused, IsUnwalked};
+ghost use Rattle.walrus_ir.specs.Planning.{IsOrder};
+ghost use Rattle.walrus_ir.specs.Telling.{frame, frames, started, IsToldNext, IsRefusedNext};
+
+use crate::access::{DataDrop, MemoryInit};
+use crate::aggregate::{ArrayInitData, ArrayNewData};
+use crate::builder::FunctionBuilder;
+use crate::control::LegacyCatch;
+use crate::error::WalkError;
+use crate::id::InstrSeqId;
+use crate::instr::Instr;
+use crate::location::InstrLocId;
+use crate::plain::{LocalGet, LocalSet, LocalTee};
+use crate::plan::walk_order;
+use crate::seq::InstrSeq;
+use crate::visitor::Visitor;
+
+/// A sequence that has started and not ended.
+#[derive(Clone, Copy)]
+pub(crate) struct Open<'a> {
+    seq: &'a InstrSeq,
+    /// The instructions that are left.
+    rest: &'a [(Instr, InstrLocId)],
+    /// How many sequences inside the last instruction are still to come.
+    inside: usize,
+}
+
+// How many clauses of a legacy `try` have a handler.
+fn count_handlers(clauses: &[LegacyCatch]) -> usize
+    ensures { result ≡ length (handlers clauses.now) }
+{
+    clauses
+        .iter()
+        .filter(|clause| !matches!(clause, LegacyCatch::Delegate { .. }))
+        .count()
+}
+
+// How many sequences are inside an instruction.
+fn count_inside(instr: &Instr) -> usize
+    ensures { result ≡ length (places_in instr.now) }
+{
+    match instr {
+        Instr::Block(_) | Instr::Loop(_) | Instr::TryTable(_) => 1,
+        Instr::IfElse(_) => 2,
+        Instr::Try(x) => 1 + count_handlers(&x.catches),
+        _ => 0,
+    }
+}
+
+// Tells a visitor what an instruction names.
+fn tell_names<V: Visitor>(visitor: &mut V, instr: &Instr) -> Result<(), V::Fault>
+    ensures { Tells V.steps V.refuses V.same visitor.old (names instr.now) result visitor.new }
+{
+    match instr {
+        Instr::RefFunc(x) => visitor.visit_ref_func(x),
+        Instr::LocalGet(LocalGet { local })
+        | Instr::LocalSet(LocalSet { local })
+        | Instr::LocalTee(LocalTee { local }) => visitor.visit_local_id(local),
+        Instr::MemoryInit(MemoryInit { data_id, .. })
+        | Instr::DataDrop(DataDrop { data_id })
+        | Instr::ArrayNewData(ArrayNewData { data_id, .. })
+        | Instr::ArrayInitData(ArrayInitData { data_id, .. }) => visitor.visit_data_id(data_id),
+        _ => Ok(()),
+    }
+}
+
+// Tells a visitor an instruction, and then what it names.
+fn tell_instr<V: Visitor>(visitor: &mut V, located: &(Instr, InstrLocId)) -> Result<(), V::Fault>
+    ensures { Tells V.steps V.refuses V.same visitor.old
+        (VisitInstruction located.now.0 located.now.1 ∷ names located.now.0) result visitor.new }
+{
+    visitor.visit_instr(&located.0, &located.1)?;
+    tell_names(visitor, &located.0)
+}
+
+// Starts a sequence.
+fn start_seq<'a, V: Visitor>(
+    visitor: &mut V,
+    seq: &'a InstrSeq,
+    stack: &mut Vec<Open<'a>>,
+) -> Result<(), V::Fault>
+    requires { vec_len stack.old < vec_capacity stack.old }
+    ensures told { Hears V.steps V.refuses V.same visitor.old (StartSequence seq.now) result visitor.new }
+    ensures opened { OnOk result (frames stack.new.items ≡ started seq.now ∷ frames stack.old.items) }
+    ensures len { OnOk result (vec_len stack.new ≡ vec_len stack.old + 1) }
+    ensures room { vec_capacity stack.old ≤ vec_capacity stack.new }
+{
+    visitor.start_instr_seq(seq)?;
+    stack
+        .push(Open {
+            seq,
+            rest: seq.instrs.as_slice(),
+            inside: 0,
+        })
+        .unwrap();
+    Ok(())
+}
+
+// Tells what comes next at the innermost open sequence, which is taken off the stack, and answers what is then to come.
+fn tell_next<'a, 'b, V: Visitor>(
+    visitor: &mut V,
+    builder: &'a FunctionBuilder,
+    top: Open<'a>,
+    coming: &'b [InstrSeqId],
+    stack: &mut Vec<Open<'a>>,
+) -> Result<&'b [InstrSeqId], V::Fault>
+    requires comes { 0 < top.inside → 0 < length coming.now }
+    requires known { 0 < top.inside → slice_index coming.now 0 < length (arena builder.now) }
+    requires room { vec_len stack.old + length coming.now < vec_capacity stack.old }
+    ensures told { MatchResult result
+        (λ left. IsToldNext (arena builder.now) (frame top.entry) coming.now (frames stack.old.items)
+        (λ es. Folds V.steps visitor.old es visitor.new) (frames stack.new.items) left.now)
+        (λ f. IsRefusedNext (arena builder.now) (frame top.entry) coming.now
+        (λ es. Stops V.steps V.refuses V.same visitor.old es visitor.new f)) }
+    ensures room { IfOk result (λ left. vec_len stack.new + length left.now ≤ vec_capacity stack.new) }
+{
+    if top.inside > 0 {
+        let (next, left) = coming.split_first().unwrap();
+        stack
+            .push(Open {
+                seq: top.seq,
+                rest: top.rest,
+                inside: top.inside - 1,
+            })
+            .unwrap();
+        start_seq(visitor, builder.seq(*next), stack)?;
+        return Ok(left);
+    }
+    match top.rest.split_first() {
+        Some((located, rest)) => {
+            tell_instr(visitor, located)?;
+            stack
+                .push(Open {
+                    seq: top.seq,
+                    rest,
+                    inside: count_inside(&located.0),
+                })
+                .unwrap();
+            Ok(coming)
+        }
+        None => {
+            visitor.end_instr_seq(top.seq)?;
+            Ok(coming)
+        }
+    }
+}
+
+// The sequences that a walk enters, and room for those that are open at once.
+fn plan<'a>(
+    builder: &'a FunctionBuilder,
+    start: InstrSeqId,
+) -> Result<(Vec<InstrSeqId>, Vec<Open<'a>>), WalkError>
+    ensures order { MatchResult result
+        (λ p. IsOrder (arena builder.now) start p.0.items)
+        (HasNoWalk (arena builder.now) start) }
+    ensures empty { IfOk result (λ p. p.1.items ≡ []) }
+    ensures room { IfOk result (λ p. vec_len p.0 ≤ vec_capacity p.1) }
+{
+    let order = walk_order(builder, start)?;
+    let stack = Vec::with_capacity(builder.allocator(), order.len())?;
+    Ok((order, stack))
+}
+
+/// Walks over the sequences from one on, in order. Whether they are a tree is found out before the visitor is called, and
+/// all memory that the walk itself needs is taken before: a place and a mark a sequence, and what is kept of those that
+/// are open.
+///
+/// # Errors
+///
+/// Where there is no tree, the first fault in walk order, or `WalkError::Memory`, turned into the visitor's fault; the
+/// visitor was not called. Else the visitor's own fault, which ends the walk.
+pub fn dfs_in_order<V: Visitor>(
+    visitor: &mut V,
+    builder: &FunctionBuilder,
+    start: InstrSeqId,
+) -> Result<(), V::Fault>
+    ensures ok { OnOk result (Finishes (arena builder.now) start V.steps visitor.old visitor.new) }
+    ensures err { IfErr result (λ f.
+        IsRefused (arena builder.now) start V.steps V.refuses V.same visitor.old visitor.new f
+        ⊎ IsUnwalked (arena builder.now) start V.Fault.from_gives visitor.old visitor.new f) }
+{
+    let (order, mut stack) = plan(builder, start)?;
+    let (first, mut coming) = order.split_first().unwrap();
+    start_seq(visitor, builder.seq(*first), &mut stack)?;
+    'walk: while let Some(top) = stack.pop() {
+        coming = tell_next(visitor, builder, top, coming, &mut stack)?;
+    }
+    Ok(())
+}

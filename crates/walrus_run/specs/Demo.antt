@@ -1,0 +1,58 @@
+-- The demo module, over which the program parses and writes bodies.
+use Rattle.std.specs.Prelude.{ℕ, nat_lt, List, [], ◌∷◌, length, Ok, Err, if◌then◌else◌}
+use Rattle.std.specs.FinMap.{empty, insert}
+use Rattle.walrus_ir.specs.declared.val_type.ValType.{ValType}
+use Rattle.walrus_ir.specs.declared.val_type.ValType.TheVariants.{I32, I64}
+use Rattle.walrus_ir.specs.declared.module.Module.{Module}
+use Rattle.walrus_ir.specs.Types.{ModuleType, Func, Entry}
+use Rattle.walrus_body.specs.declared.error.EmitError.TheVariants.{Index, UnnumberedLocal}
+use Rattle.walrus_body.specs.declared.error.IndexError.TheVariants.{Unnumbered}
+use Rattle.walrus_body.specs.declared.indices_to_ids.IndicesToIds.{IndicesToIds}
+use Rattle.walrus_body.specs.IndexMaps.{ids_in}
+use Rattle.walrus_body.specs.Environments.{environment_of}
+use Rattle.walrus_body.specs.Naming.{Environment}
+use Rattle.walrus_body.specs.Accepted.{Setting}
+use Rattle.walrus_body.specs.Bytes.{Numbers}
+use Rattle.walrus_run.specs.BodyParsing.{accepting}
+
+-- The last type is that of the entry of a function without results.
+abbrev pub demo_types : List ModuleType
+demo_types = Func [] [] ∷ Func (I32 ∷ []) [] ∷ Func (I32 ∷ I32 ∷ []) (I32 ∷ []) ∷ Func (I32 ∷ []) [] ∷ Entry [] ∷ []
+
+abbrev pub demo_tags : List ℕ
+demo_tags = 0 ∷ 1 ∷ []
+
+abbrev pub demo_locals : List (ValType ℕ)
+demo_locals = I32 ∷ I64 ∷ I64 ∷ I64 ∷ []
+
+abbrev pub demo_module : Module
+demo_module = record { types = demo_types; tags = demo_tags; locals = demo_locals; code_section_offset = 0 }
+
+-- Every old index is that of its id. The entry type has none.
+abbrev pub demo_indices : IndicesToIds
+demo_indices = record {
+  tables = 0 ∷ [];
+  types = 0 ∷ 1 ∷ 2 ∷ 3 ∷ [];
+  funcs = 0 ∷ 1 ∷ [];
+  globals = 0 ∷ [];
+  memories = 0 ∷ [];
+  elements = 0 ∷ [];
+  «data» = 0 ∷ [];
+  tags = 0 ∷ 1 ∷ [];
+  locals = insert empty 0 (0 ∷ 1 ∷ 2 ∷ 3 ∷ []);
+}
+
+-- The body is that of function 0, which has type 1.
+abbrev pub demo_environment : Environment
+demo_environment = environment_of demo_module demo_indices 0 1
+
+-- Its first operator stands at place 0; no location function, and every operator passes.
+abbrev pub demo : Setting (Unit {0})
+demo = accepting demo_environment 0
+
+-- The number of an id is its old index. (Locals have none: no operator on them is carried yet.)
+abbrev pub demo_numbers : Numbers
+demo_numbers = record {
+  number_of = λ space id. if nat_lt id (length (ids_in demo_indices space)) then Ok id else Err (Index (Unnumbered space));
+  local_number = λ id. Err UnnumberedLocal;
+}

@@ -1,0 +1,10 @@
+pub mod Machine
+pub mod Places
+pub mod Laws
+pub mod OpenSequences
+pub mod Parsers
+pub mod BlockTypes
+pub mod Placing
+pub mod OperatorKinds
+pub mod BodyParsing
+pub mod Demo

@@ -1,0 +1,13 @@
+-- Declarations of locals (WebAssembly core specification 3.0, binary format, code section).
+use Rattle.std.specs.Prelude.{ℕ, List, ◌++◌, length}
+use Rattle.std.specs.List.{flat_map}
+use Rattle.walrus_ir.specs.declared.val_type.ValType.{ValType}
+use Rattle.wasm_ops.specs.Shortest.{short_number, short_value}
+
+-- so many locals of a type
+abbrev pub short_declaration : ℕ × ValType ℕ → List ℕ
+short_declaration local = short_number local.0 ++ short_value local.1
+
+-- how many pairs of a count and a type there are, and each pair
+abbrev pub declarations : List (ℕ × ValType ℕ) → List ℕ
+declarations locals = short_number (length locals) ++ flat_map short_declaration locals

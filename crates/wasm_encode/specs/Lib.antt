@@ -1,0 +1,3 @@
+pub mod Immediates
+pub mod Declarations
+pub mod Writable

@@ -1,0 +1,152 @@
+//! The bytes of a function's body, as they are written.
+
+ghost use Rattle.std.specs.Prelude.{◌≡◌, ◌++◌, ◌≤◌, OnOk, take, length};
+ghost use Rattle.std.specs.List.{flat_map};
+ghost use Rattle.wasm_encode.specs.Declarations.{short_declaration};
+
+use crate::number::write_number;
+use crate::operation::{OutOp, write_op};
+use crate::type_writer::write_value_type;
+use std::alloc::{AllocError, Global};
+use std::marker::Model;
+use wasm_ops::RawValType;
+
+/// Appends the declaration of so many locals of a type.
+#[tactic(auto, using(crate::proofs::Appending::appending))]
+fn write_declaration(out: &mut Vec<u8>, count: u32, ty: RawValType) -> Result<(), AllocError>
+    ensures ok { OnOk result (out.new.items ≡ out.old.items ++ short_declaration (count, ty)) }
+    ensures kept { take (length out.old.items) out.new.items ≡ out.old.items }
+{
+    write_number(out, count as u64)?;
+    write_value_type(out, ty)
+}
+
+/// Appends declarations of locals, each a count and a type.
+#[tactic(auto, using(crate::proofs::Appending::appending))]
+fn write_declarations(out: &mut Vec<u8>, locals: &[(u32, RawValType)]) -> Result<(), AllocError>
+    ensures ok { OnOk result (out.new.items ≡ out.old.items ++ flat_map short_declaration locals.now) }
+    ensures kept { take (length out.old.items) out.new.items ≡ out.old.items }
+{
+    for (count, ty) in locals {
+        write_declaration(out, *count, *ty)?;
+    }
+    Ok(())
+}
+
+/// The bytes of a function's body: its declarations of locals, and the operators written so far. A contract sees the
+/// list of the bytes.
+#[derive(Drop)]
+pub struct FunctionEncoder {
+    bytes: Vec<u8>,
+}
+
+impl Model for FunctionEncoder {
+    ghost use Rattle.std.specs.Prelude.{List, ℕ};
+
+    ghost Value = { List ℕ };
+
+    ghost view = { λ e. e.bytes.items };
+}
+
+impl FunctionEncoder {
+    ghost use Rattle.std.specs.Prelude.{◌≡◌, ◌++◌, ◌<◌, ◌^◌, OnOk, OnErr, IfOk, length};
+    ghost use Rattle.wasm_ops.specs.Meaning.{meaning};
+    ghost use Rattle.wasm_ops.specs.Shortest.{short};
+    ghost use Rattle.wasm_encode.specs.Declarations.{declarations};
+    ghost use Rattle.wasm_encode.specs.Writable.{IsWritable};
+
+    /// An encoder that holds the declarations of these locals: how many pairs there are, and each pair of a count and a
+    /// type.
+    pub fn new(alloc: Global, locals: &[(u32, RawValType)]) -> Result<Self, AllocError>
+        requires { length locals.now < 2 ^ 32 }
+        ensures { IfOk result (λ e. e ≡ declarations locals.now) }
+    {
+        let mut bytes = Vec::new(alloc);
+        write_number(&mut bytes, locals.len() as u64)?;
+        write_declarations(&mut bytes, locals)?;
+        Ok(FunctionEncoder { bytes })
+    }
+
+    /// How many bytes there are.
+    pub fn byte_len(&self) -> usize
+        ensures { result ≡ length self.now }
+    {
+        self.bytes.len()
+    }
+
+    /// Appends the shortest spelling of an operator. It asks that the exponent of a memory argument is at most 31. Where
+    /// memory runs out the encoder is as before.
+    pub fn instruction(&mut self, op: &OutOp) -> Result<(), AllocError>
+        requires { IsWritable (meaning op.now) }
+        ensures ok { OnOk result (self.new ≡ self.old ++ short (meaning op.now)) }
+        ensures err { OnErr result (self.new ≡ self.old) }
+    {
+        write_op(op, &mut self.bytes)
+    }
+
+    /// Appends the bytes as they are. Where memory runs out the encoder is as before.
+    pub fn raw(&mut self, bytes: &[u8]) -> Result<(), AllocError>
+        ensures ok { OnOk result (self.new ≡ self.old ++ bytes.now) }
+        ensures err { OnErr result (self.new ≡ self.old) }
+    {
+        self.bytes.extend_from_slice(bytes)
+    }
+
+    /// The bytes.
+    pub fn bytes(&self) -> &[u8]
+        ensures { result.now ≡ self.now }
+    {
+        self.bytes.as_slice()
+    }
+
+    /// The bytes: declarations and operators, with no size before them.
+    pub fn into_raw_body(self) -> Vec<u8>
+        ensures { result.items ≡ self }
+    {
+        self.bytes
+    }
+}
+
+#[cfg(test)]
+mod tests {
+    use super::*;
+    use std::test::Fail;
+    use walrus_ir::{LoadKind, UnaryOp};
+    use wasm_ops::{RawMemArg, Reader};
+
+    #[test]
+    fn reads_what_was_written(rt: HostRuntime) -> Result<(), Fail> {
+        let mut encoder = FunctionEncoder::new(rt.alloc(), &[(2, RawValType::I64)])?;
+        assert_eq!(rt; encoder.bytes(), [0x01, 0x02, 0x7e].as_slice());
+        assert_eq!(rt; encoder.byte_len(), 3);
+
+        let constant = OutOp::I64Const { value: -1 };
+        let conversion = OutOp::Unop(UnaryOp::I64TruncUSatF64);
+        let kind = LoadKind::I32 { atomic: false };
+        let memarg = RawMemArg {
+            exponent: 2,
+            memory: 0,
+            offset: 4294967296,
+        };
+        let load = OutOp::Load { kind, memarg };
+        encoder.instruction(&constant)?;
+        encoder.instruction(&conversion)?;
+        encoder.raw(&[0x0b])?;
+        let body = encoder.into_raw_body();
+        assert_eq!(rt;
+            body.as_slice(),
+            [0x01, 0x02, 0x7e, 0x42, 0x7f, 0xfc, 0x07, 0x0b].as_slice()
+        );
+
+        let mut out = Vec::new(rt.alloc());
+        write_op(&load, &mut out)?;
+        assert_eq!(rt;
+            out.as_slice(),
+            [0x28, 0x02, 0x80, 0x80, 0x80, 0x80, 0x10].as_slice()
+        );
+        let mut reader = Reader::new(out.as_slice(), 0);
+        assert_eq!(rt; reader.read()?, load);
+        assert!(rt; reader.eof());
+        Ok(())
+    }
+}

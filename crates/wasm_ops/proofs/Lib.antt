@@ -1,0 +1,14 @@
+pub mod Powers
+pub mod BitsLaws
+pub mod Agreement
+pub mod NumberLaws
+pub mod TypeLaws
+pub mod ImmediateLaws
+pub mod OperationLaws
+pub mod Fronts
+pub mod ShortestNumbers
+pub mod Shortness
+pub mod ShortestTypes
+pub mod ShortestImmediates
+pub mod ShortestOperations
+pub mod ListLaws

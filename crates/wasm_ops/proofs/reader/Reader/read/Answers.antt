@@ -1,0 +1,12 @@
+use Rattle.std.proofs.Common.{ap, ◌∙◌}
+use Rattle.wasm_ops.specs.Position.{Position}
+use Rattle.wasm_ops.proofs.Fronts.{moved}
+use Rattle.wasm_ops.proofs.reader.Reader.read.Goals as goal
+
+pub returns-in-Ok-clause-only : goal.returns-in-Ok-clause-only
+returns-in-Ok-clause-only c = λ o text rest spelt parts.
+    let taken = c.in-Ok.ensures.only o text rest spelt (ap (λ (p : Position). p.rest) c.self.view_is ∙ parts) in
+    (taken.0, moved c.args.self.now c.self.inside.rest.now c.self.inside.position c.in-Ok.rest.now text rest c.self.view_is parts taken.1)
+
+pub returns-in-Err-clause-only : goal.returns-in-Err-clause-only
+returns-in-Err-clause-only c = λ o text rest spelt parts. c.in-Err.ensures.only o text rest spelt (ap (λ (p : Position). p.rest) c.self.view_is ∙ parts)

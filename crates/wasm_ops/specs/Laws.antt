@@ -1,0 +1,35 @@
+-- The laws of spellings.
+use Rattle.std.specs.Prelude.{◌≡◌, ℕ, ◌+◌, ◌⊎◌, List, ◌++◌, length}
+use Rattle.wasm_ops.specs.Reading.{Spelling}
+use Rattle.wasm_ops.specs.OperatorList.{Placed, Lists}
+use Rattle.wasm_ops.specs.Shortest.{IsLeast}
+
+-- No spelling begins another, and none spells two values.
+abbrev pub OneSpelling : {V : Type 0} → Spelling V → Type 0
+OneSpelling {V} Spells =
+    (v w : V) (text other behind follows : List ℕ) → Spells v text → Spells w other → text ++ behind ≡ other ++ follows
+    → (v ≡ w) × (text ≡ other)
+
+-- Of a value that has a spelling this is one, and every other is longer.
+abbrev pub IsShortest : {V : Type 0} → (V → List ℕ) → Spelling V → Type 0
+IsShortest {V} short Spells = (v : V) (text : List ℕ) → Spells v text → Spells v (short v) × IsLeast (short v) text
+
+-- The second list of operators goes on where the first ends: with operators that are spelt behind the front which the
+-- first one takes.
+pub record GoesOn (first second : List Placed) (place : ℕ) (bytes rest others : List ℕ) : Type 0 where
+  pub more : List Placed
+  pub longer : second ≡ first ++ more
+  pub front : List ℕ
+  pub parts : bytes ≡ front ++ rest
+  pub behind : Lists more (place + length front) rest others
+
+-- Two lists of operators that the same bytes spell agree as far as both go: one of them goes on where the other ends.
+abbrev pub ListsAgree : Type 0
+ListsAgree =
+    (xs ys : List Placed) (place : ℕ) (bytes rest others : List ℕ) → Lists xs place bytes rest → Lists ys place bytes others
+    → GoesOn xs ys place bytes rest others ⊎ GoesOn ys xs place bytes others rest
+
+-- So the bytes as far as a rest spell one list of operators at most.
+abbrev pub OneList : Type 0
+OneList =
+    (xs ys : List Placed) (place : ℕ) (bytes rest : List ℕ) → Lists xs place bytes rest → Lists ys place bytes rest → xs ≡ ys

@@ -1,0 +1,47 @@
+-- What an operator of the code means: its opcode and its immediates, a row an operator.
+use Rattle.std.specs.Prelude.{[], ◌∷◌}
+use Rattle.wasm_ops.specs.declared.operator.Operator.{Operator}
+use Rattle.wasm_ops.specs.declared.operator.Operator.TheVariants as operator
+use Rattle.wasm_ops.specs.declared.types.Opcode.TheVariants.{Byte, Prefixed}
+use Rattle.wasm_ops.specs.declared.types.Space.TheVariants.{Tables, Globals, Memories, Elements, Data}
+use Rattle.wasm_ops.specs.Operations.{index, label, block, value, i32, i64, f32, f64, RawOperation, operation}
+use Rattle.wasm_ops.specs.UnaryOperations.{unary_operation}
+use Rattle.wasm_ops.specs.BinaryOperations.{binary_operation}
+use Rattle.wasm_ops.specs.TernaryOperations.{ternary_operation}
+use Rattle.wasm_ops.specs.AccessOperations.{access_of, load_operation, store_operation}
+
+abbrev pub meaning : Operator → RawOperation
+meaning operator.Unreachable = operation (Byte 0x00) []
+meaning operator.Nop = operation (Byte 0x01) []
+meaning (operator.Block type) = operation (Byte 0x02) (block type ∷ [])
+meaning operator.End = operation (Byte 0x0b) []
+meaning (operator.Br depth) = operation (Byte 0x0c) (label depth ∷ [])
+meaning operator.Return = operation (Byte 0x0f) []
+meaning operator.Drop = operation (Byte 0x1a) []
+meaning operator.Select = operation (Byte 0x1b) []
+meaning (operator.TypedSelect type) = operation (Byte 0x1c) (value type ∷ [])
+meaning (operator.GlobalGet global) = operation (Byte 0x23) (index Globals global ∷ [])
+meaning (operator.GlobalSet global) = operation (Byte 0x24) (index Globals global ∷ [])
+meaning (operator.TableGet table) = operation (Byte 0x25) (index Tables table ∷ [])
+meaning (operator.TableSet table) = operation (Byte 0x26) (index Tables table ∷ [])
+meaning (operator.Load kind memarg) = load_operation kind (access_of memarg)
+meaning (operator.Store kind memarg) = store_operation kind (access_of memarg)
+meaning (operator.MemorySize memory) = operation (Byte 0x3f) (index Memories memory ∷ [])
+meaning (operator.MemoryGrow memory) = operation (Byte 0x40) (index Memories memory ∷ [])
+meaning (operator.I32Const n) = operation (Byte 0x41) (i32 n ∷ [])
+meaning (operator.I64Const n) = operation (Byte 0x42) (i64 n ∷ [])
+meaning (operator.F32Const bits) = operation (Byte 0x43) (f32 bits ∷ [])
+meaning (operator.F64Const bits) = operation (Byte 0x44) (f64 bits ∷ [])
+meaning (operator.Unop op) = unary_operation op
+meaning (operator.Binop op) = binary_operation op
+meaning (operator.TernOp op) = ternary_operation op
+meaning (operator.MemoryInit data_segment memory) = operation (Prefixed 0xfc 8) (index Data data_segment ∷ index Memories memory ∷ [])
+meaning (operator.DataDrop data_segment) = operation (Prefixed 0xfc 9) (index Data data_segment ∷ [])
+meaning (operator.MemoryCopy target source) = operation (Prefixed 0xfc 10) (index Memories target ∷ index Memories source ∷ [])
+meaning (operator.MemoryFill memory) = operation (Prefixed 0xfc 11) (index Memories memory ∷ [])
+meaning (operator.TableInit element table) = operation (Prefixed 0xfc 12) (index Elements element ∷ index Tables table ∷ [])
+meaning (operator.ElemDrop element) = operation (Prefixed 0xfc 13) (index Elements element ∷ [])
+meaning (operator.TableCopy target source) = operation (Prefixed 0xfc 14) (index Tables target ∷ index Tables source ∷ [])
+meaning (operator.TableGrow table) = operation (Prefixed 0xfc 15) (index Tables table ∷ [])
+meaning (operator.TableSize table) = operation (Prefixed 0xfc 16) (index Tables table ∷ [])
+meaning (operator.TableFill table) = operation (Prefixed 0xfc 17) (index Tables table ∷ [])

@@ -1,0 +1,99 @@
+-- Which opcodes there are, and which immediates follow each: a row an opcode or a range of opcodes (WebAssembly core
+-- specification 3.0, binary format, instructions). An operator is carried where its opcode has a row here.
+use Rattle.std.specs.Prelude.{◌≡◌, ℕ, ◌<◌, Bool, true, false, List, [], ◌∷◌, Option, Some, None, Ok, Err, nat_le, ◌==◌, if◌then◌else◌}
+use Rattle.wasm_ops.specs.declared.fault.ReadFault.TheVariants.{Truncated}
+use Rattle.wasm_ops.specs.declared.types.Opcode.{Opcode}
+use Rattle.wasm_ops.specs.declared.types.Opcode.TheVariants.{Byte, Prefixed}
+use Rattle.wasm_ops.specs.declared.types.Space.TheVariants.{Tables, Globals, Memories, Elements, Data}
+use Rattle.wasm_ops.specs.Reading.{◌>>=◌, Spelling, Reader}
+use Rattle.wasm_ops.specs.Numbers.{IsU32, u32}
+use Rattle.wasm_ops.specs.Types.{row_at}
+use Rattle.wasm_ops.specs.Immediates.{Kind, an_index, a_label, an_access, a_block, a_value, an_i32, an_i64, an_f32, an_f64}
+
+-- ---- opcodes of one byte
+
+-- 0x00 to 0x1f
+abbrev pub control_rows : List (ℕ × List Kind)
+control_rows =
+    (0x00, []) ∷  -- unreachable
+    (0x01, []) ∷  -- nop
+    (0x02, a_block ∷ []) ∷  -- block
+    (0x0b, []) ∷  -- end
+    (0x0c, a_label ∷ []) ∷  -- br
+    (0x0f, []) ∷  -- return
+    (0x1a, []) ∷  -- drop
+    (0x1b, []) ∷  -- select
+    (0x1c, a_value ∷ []) ∷  -- select with a type
+    []
+
+-- 0x20 to 0x27
+abbrev pub variable_rows : List (ℕ × List Kind)
+variable_rows =
+    (0x23, an_index Globals ∷ []) ∷  -- global.get
+    (0x24, an_index Globals ∷ []) ∷  -- global.set
+    (0x25, an_index Tables ∷ []) ∷  -- table.get
+    (0x26, an_index Tables ∷ []) ∷  -- table.set
+    []
+
+-- 0x3f to 0x44
+abbrev pub constant_rows : List (ℕ × List Kind)
+constant_rows =
+    (0x3f, an_index Memories ∷ []) ∷  -- memory.size
+    (0x40, an_index Memories ∷ []) ∷  -- memory.grow
+    (0x41, an_i32 ∷ []) ∷  -- i32.const
+    (0x42, an_i64 ∷ []) ∷  -- i64.const
+    (0x43, an_f32 ∷ []) ∷  -- f32.const
+    (0x44, an_f64 ∷ []) ∷  -- f64.const
+    []
+
+unfoldable pub kinds_of_byte : ℕ → Option (List Kind)
+kinds_of_byte b =
+    if nat_le b 0x1f then row_at control_rows b
+    else if nat_le b 0x27 then row_at variable_rows b
+    else if nat_le b 0x3e then Some (an_access ∷ [])  -- loads and stores
+    else if nat_le b 0x44 then row_at constant_rows b
+    else if nat_le b 0xc4 then Some []  -- numeric operators
+    else None
+
+-- ---- opcodes of a prefix byte and a number
+
+-- the prefix bytes behind which an operator is carried
+abbrev pub is_prefix : ℕ → Bool
+is_prefix b = b == 0xfc
+
+-- 0xfc 8 to 17
+abbrev pub bulk_rows : List (ℕ × List Kind)
+bulk_rows =
+    (8, an_index Data ∷ an_index Memories ∷ []) ∷  -- memory.init
+    (9, an_index Data ∷ []) ∷  -- data.drop
+    (10, an_index Memories ∷ an_index Memories ∷ []) ∷  -- memory.copy
+    (11, an_index Memories ∷ []) ∷  -- memory.fill
+    (12, an_index Elements ∷ an_index Tables ∷ []) ∷  -- table.init
+    (13, an_index Elements ∷ []) ∷  -- elem.drop
+    (14, an_index Tables ∷ an_index Tables ∷ []) ∷  -- table.copy
+    (15, an_index Tables ∷ []) ∷  -- table.grow
+    (16, an_index Tables ∷ []) ∷  -- table.size
+    (17, an_index Tables ∷ []) ∷  -- table.fill
+    []
+
+unfoldable pub kinds_behind : ℕ → ℕ → Option (List Kind)
+kinds_behind prefix n =
+    if prefix == 0xfc then
+    (if nat_le n 7 then Some []  -- conversions that saturate
+    else row_at bulk_rows n)
+    else None
+
+-- ---- any opcode
+
+abbrev pub kinds_of : Opcode → Option (List Kind)
+kinds_of (Byte b) = kinds_of_byte b
+kinds_of (Prefixed prefix n) = kinds_behind prefix n
+
+-- a byte that is no prefix, or a prefix and any spelling of the number
+abbrev pub IsOpcode : Spelling Opcode
+IsOpcode (Byte b) text = (is_prefix b ≡ false) × (b < 256) × (text ≡ b ∷ [])
+IsOpcode (Prefixed prefix n) text = (is_prefix prefix ≡ true) × (prefix < 256) × (rest : List ℕ) × (text ≡ prefix ∷ rest) × IsU32 n rest
+
+unfoldable pub opcode : Reader Opcode
+opcode [] = Err Truncated
+opcode (b ∷ bytes) = if is_prefix b then (u32 bytes >>= λ n. Ok (Prefixed b n.0, n.1)) else Ok (Byte b, bytes)

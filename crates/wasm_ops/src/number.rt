@@ -1,0 +1,202 @@
+//! Reading numbers: integers in LEB128 (WebAssembly core specification 3.0, binary format, values).
+
+ghost use Rattle.std.specs.Prelude.{◌≡◌, ◌<◌, ◌≤◌, ◌+◌, ◌-◌, ◌*◌, ◌^◌, IfOk, IfSome, pos, ◌≤ℤ◌, ◌<ℤ◌, ◌+ℤ◌, ◌*ℤ◌};
+ghost use Rattle.wasm_ops.specs.Reading.{Gives};
+ghost use Rattle.wasm_ops.specs.Numbers.{unsigned, signed, unsigned_last, signed_last, integer, u32 as a_u32, u64 as a_u64, s32 as an_s32, s64 as an_s64, byte as byte_at, bits as some_bits};
+
+use crate::fault::ReadFault;
+
+/// What a last byte stands for in an unsigned number with so many bits left.
+#[tactic(auto, using(crate::proofs::Powers::powers))]
+fn last_unsigned(bits: u32, byte: u8) -> Option<u64>
+    requires { byte < 128 }
+    ensures gives { result ≡ unsigned_last bits byte }
+    ensures fits { IfSome result (λ v. v < 2 ^ bits) }
+{
+    if bits >= 7 {
+        Some(byte as u64)
+    } else if byte < 1 << bits {
+        Some(byte as u64)
+    } else {
+        None
+    }
+}
+
+/// What a last byte stands for in a signed number with so many bits left.
+#[tactic(auto, using(crate::proofs::Powers::powers))]
+fn last_signed(bits: u32, byte: u8) -> Option<i64>
+    requires some { 0 < bits }
+    requires low { byte < 128 }
+    ensures gives { result ≡ signed_last bits byte }
+    ensures low { IfSome result (λ v. pos 0 ≤ℤ (v +ℤ pos (2 ^ (bits - 1)))) }
+    ensures high { IfSome result (λ v. v <ℤ pos (2 ^ (bits - 1))) }
+{
+    let half: u8 = if bits >= 7 { 64 } else { 1 << (bits - 1) };
+    if byte < 64 {
+        if byte < half { Some(byte as i64) } else { None }
+    } else if 128 <= byte + half {
+        Some(byte as i64 - 128)
+    } else {
+        None
+    }
+}
+
+/// The number of `bits` bits that has these low seven bits, and this number above them.
+fn join_unsigned(bits: u32, low: u8, high: u64) -> u64
+    requires long { 7 < bits }
+    requires wide { bits ≤ 64 }
+    requires low { low < 128 }
+    requires high { high < 2 ^ (bits - 7) }
+    ensures value { result ≡ low + 128 * high }
+    ensures fits { result < 2 ^ bits }
+{
+    low as u64 + 128 * high
+}
+
+/// The signed number of `bits` bits that has these low seven bits, and this number above them.
+fn join_signed(bits: u32, low: u8, high: i64) -> i64
+    requires long { 7 < bits }
+    requires wide { bits ≤ 64 }
+    requires low { low < 128 }
+    requires least { pos 0 ≤ℤ (high +ℤ pos (2 ^ (bits - 7 - 1))) }
+    requires most { high <ℤ pos (2 ^ (bits - 7 - 1)) }
+    ensures value { result ≡ pos low +ℤ (pos 128 *ℤ high) }
+    ensures low { pos 0 ≤ℤ (result +ℤ pos (2 ^ (bits - 1))) }
+    ensures high { result <ℤ pos (2 ^ (bits - 1)) }
+{
+    let shifted = 128 * high;
+    low as i64 + shifted
+}
+
+/// An unsigned number of `bits` bits at the front, and what follows it.
+#[tactic(auto, using(crate::proofs::Powers::powers), unfolding(crate::specs::Numbers::integer))]
+pub(crate) fn read_unsigned(bits: u32, bytes: &[u8]) -> Result<(u64, &[u8]), ReadFault>
+    requires { bits ≤ 64 }
+    ensures gives { Gives (λ x. (x.0, x.1.now)) result (integer unsigned bits bytes.now) }
+    ensures fits { IfOk result (λ x. x.0 < 2 ^ bits) }
+{
+    match bytes {
+        [] => Err(ReadFault::Truncated),
+        [byte, rest @ ..] => {
+            if *byte < 128 {
+                match last_unsigned(bits, *byte) {
+                    Some(value) => Ok((value, rest)),
+                    None => Err(ReadFault::BadNumber),
+                }
+            } else if bits <= 7 {
+                Err(ReadFault::BadNumber)
+            } else {
+                let (high, rest) = read_unsigned(bits - 7, rest)?;
+                Ok((join_unsigned(bits, *byte - 128, high), rest))
+            }
+        }
+    }
+}
+
+/// A signed number of `bits` bits at the front, and what follows it.
+#[tactic(auto, using(crate::proofs::Powers::powers), unfolding(crate::specs::Numbers::integer))]
+pub(crate) fn read_signed(bits: u32, bytes: &[u8]) -> Result<(i64, &[u8]), ReadFault>
+    requires some { 0 < bits }
+    requires wide { bits ≤ 64 }
+    ensures gives { Gives (λ x. (x.0, x.1.now)) result (integer signed bits bytes.now) }
+    ensures low { IfOk result (λ x. pos 0 ≤ℤ (x.0 +ℤ pos (2 ^ (bits - 1)))) }
+    ensures high { IfOk result (λ x. x.0 <ℤ pos (2 ^ (bits - 1))) }
+{
+    match bytes {
+        [] => Err(ReadFault::Truncated),
+        [byte, rest @ ..] => {
+            if *byte < 128 {
+                match last_signed(bits, *byte) {
+                    Some(value) => Ok((value, rest)),
+                    None => Err(ReadFault::BadNumber),
+                }
+            } else if bits <= 7 {
+                Err(ReadFault::BadNumber)
+            } else {
+                let (high, rest) = read_signed(bits - 7, rest)?;
+                Ok((join_signed(bits, *byte - 128, high), rest))
+            }
+        }
+    }
+}
+
+/// A `u32` at the front, and what follows it.
+pub(crate) fn read_u32(bytes: &[u8]) -> Result<(u32, &[u8]), ReadFault>
+    ensures { Gives (λ x. (x.0, x.1.now)) result (a_u32 bytes.now) }
+{
+    let (value, rest) = read_unsigned(32, bytes)?;
+    Ok((value as u32, rest))
+}
+
+/// A `u64` at the front, and what follows it.
+pub(crate) fn read_u64(bytes: &[u8]) -> Result<(u64, &[u8]), ReadFault>
+    ensures { Gives (λ x. (x.0, x.1.now)) result (a_u64 bytes.now) }
+{
+    read_unsigned(64, bytes)
+}
+
+/// An `s32` at the front, and what follows it.
+pub(crate) fn read_s32(bytes: &[u8]) -> Result<(i32, &[u8]), ReadFault>
+    ensures { Gives (λ x. (x.0, x.1.now)) result (an_s32 bytes.now) }
+{
+    let (value, rest) = read_signed(32, bytes)?;
+    Ok((value as i32, rest))
+}
+
+/// An `s64` at the front, and what follows it.
+pub(crate) fn read_s64(bytes: &[u8]) -> Result<(i64, &[u8]), ReadFault>
+    ensures { Gives (λ x. (x.0, x.1.now)) result (an_s64 bytes.now) }
+{
+    read_signed(64, bytes)
+}
+
+/// A byte at the front, and what follows it.
+fn read_byte(bytes: &[u8]) -> Result<(u8, &[u8]), ReadFault>
+    ensures { Gives (λ x. (x.0, x.1.now)) result (byte_at bytes.now) }
+{
+    match bytes {
+        [] => Err(ReadFault::Truncated),
+        [byte, rest @ ..] => Ok((*byte, rest)),
+    }
+}
+
+/// The number of `count` bytes that has this low byte, and this number above it.
+fn join_bytes(count: u32, low: u8, high: u64) -> u64
+    requires some { 0 < count }
+    requires few { count ≤ 8 }
+    requires high { high < 2 ^ (8 * (count - 1)) }
+    ensures value { result ≡ low + 256 * high }
+    ensures fits { result < 2 ^ (8 * count) }
+{
+    low as u64 + 256 * high
+}
+
+/// So many bytes at the front as one number, the least first, and what follows them.
+#[tactic(auto, using(crate::proofs::BitsLaws::reading))]
+fn read_bits(count: u32, bytes: &[u8]) -> Result<(u64, &[u8]), ReadFault>
+    requires { count ≤ 8 }
+    ensures gives { Gives (λ x. (x.0, x.1.now)) result (some_bits count bytes.now) }
+    ensures fits { IfOk result (λ x. x.0 < 2 ^ (8 * count)) }
+{
+    if count == 0 {
+        return Ok((0, bytes));
+    }
+    let (low, rest) = read_byte(bytes)?;
+    let (high, rest) = read_bits(count - 1, rest)?;
+    Ok((join_bytes(count, low, high), rest))
+}
+
+/// The bits of an `f32` at the front, and what follows them.
+pub(crate) fn read_f32(bytes: &[u8]) -> Result<(u32, &[u8]), ReadFault>
+    ensures { Gives (λ x. (x.0, x.1.now)) result (some_bits 4 bytes.now) }
+{
+    let (bits, rest) = read_bits(4, bytes)?;
+    Ok((bits as u32, rest))
+}
+
+/// The bits of an `f64` at the front, and what follows them.
+pub(crate) fn read_f64(bytes: &[u8]) -> Result<(u64, &[u8]), ReadFault>
+    ensures { Gives (λ x. (x.0, x.1.now)) result (some_bits 8 bytes.now) }
+{
+    read_bits(8, bytes)
+}

@@ -1,0 +1,78 @@
+//! Operators.
+
+use crate::types::{BlockType, RawMemArg, RawValType};
+use walrus_ir::{BinaryOp, LoadKind, StoreKind, TernaryOp, UnaryOp};
+
+/// An operator as it is spelt (WebAssembly core specification 3.0, binary format, instructions): with raw indices, and
+/// labels as depths.
+#[derive(Clone, Copy, Debug, PartialEq, Eq)]
+pub enum Operator {
+    /// `unreachable`
+    Unreachable,
+    /// `nop`
+    Nop,
+    /// `block`
+    Block { ty: BlockType },
+    /// `end`
+    End,
+    /// `br`
+    Br { label: u32 },
+    /// `return`
+    Return,
+    /// `drop`
+    Drop,
+    /// `select`
+    Select,
+    /// `select` with the type of its operands
+    TypedSelect { ty: RawValType },
+    /// `global.get`
+    GlobalGet { global: u32 },
+    /// `global.set`
+    GlobalSet { global: u32 },
+    /// `table.get`
+    TableGet { table: u32 },
+    /// `table.set`
+    TableSet { table: u32 },
+    /// a load, as `i32.load8_s`
+    Load { kind: LoadKind, memarg: RawMemArg },
+    /// a store, as `i64.store`
+    Store { kind: StoreKind, memarg: RawMemArg },
+    /// `memory.size`
+    MemorySize { memory: u32 },
+    /// `memory.grow`
+    MemoryGrow { memory: u32 },
+    /// `i32.const`
+    I32Const { value: i32 },
+    /// `i64.const`
+    I64Const { value: i64 },
+    /// `f32.const`, by its bits
+    F32Const { bits: u32 },
+    /// `f64.const`, by its bits
+    F64Const { bits: u64 },
+    /// an operator of one operand, as `i32.eqz`
+    Unop(UnaryOp),
+    /// an operator of two operands, as `i32.add`
+    Binop(BinaryOp),
+    /// an operator of three operands
+    TernOp(TernaryOp),
+    /// `memory.init`
+    MemoryInit { data: u32, memory: u32 },
+    /// `data.drop`
+    DataDrop { data: u32 },
+    /// `memory.copy`
+    MemoryCopy { target: u32, source: u32 },
+    /// `memory.fill`
+    MemoryFill { memory: u32 },
+    /// `table.init`
+    TableInit { element: u32, table: u32 },
+    /// `elem.drop`
+    ElemDrop { element: u32 },
+    /// `table.copy`
+    TableCopy { target: u32, source: u32 },
+    /// `table.grow`
+    TableGrow { table: u32 },
+    /// `table.size`
+    TableSize { table: u32 },
+    /// `table.fill`
+    TableFill { table: u32 },
+}

@@ -1,0 +1,92 @@
+//! Reading types (WebAssembly core specification 3.0, binary format, types).
+
+ghost use Rattle.std.specs.Prelude.{◌≡◌, ◌||◌, ◌^◌, ◌<ℤ◌, pos};
+ghost use Rattle.wasm_ops.specs.Reading.{Gives};
+ghost use Rattle.wasm_ops.specs.Immediates.{selected};
+ghost use Rattle.wasm_ops.specs.Types.{value_at, type_index as type_index_of, starts_value_type as is_value_byte, value_type, block_type};
+
+use crate::fault::ReadFault;
+use crate::number::{read_signed, read_u32};
+use crate::types::{BlockType, RawValType};
+
+/// The number or vector type of a byte.
+#[tactic(auto, unfolding(crate::specs::Types::value_at))]
+fn value_of(byte: u8) -> Option<RawValType>
+    ensures { result ≡ value_at byte }
+{
+    match byte {
+        0x7f => Some(RawValType::I32),
+        0x7e => Some(RawValType::I64),
+        0x7d => Some(RawValType::F32),
+        0x7c => Some(RawValType::F64),
+        0x7b => Some(RawValType::V128),
+        _ => None,
+    }
+}
+
+/// Whether a value type begins with the byte.
+#[tactic(auto, unfolding(crate::specs::Types::nullable_at))]
+fn starts_value_type(byte: u8) -> bool
+    ensures { result ≡ is_value_byte byte }
+{
+    value_of(byte).is_some()
+}
+
+/// A value type at the front, and what follows it.
+#[tactic(auto, unfolding(crate::specs::Types::nullable_at))]
+pub(crate) fn read_value_type(bytes: &[u8]) -> Result<(RawValType, &[u8]), ReadFault>
+    ensures { Gives (λ x. (x.0, x.1.now)) result (value_type bytes.now) }
+{
+    match bytes {
+        [] => Err(ReadFault::Truncated),
+        [byte, rest @ ..] => match value_of(*byte) {
+            Some(ty) => Ok((ty, rest)),
+            None => Err(ReadFault::BadType),
+        },
+    }
+}
+
+/// The type index that a signed number of 33 bits stands for.
+fn type_index(value: i64) -> Result<u32, ReadFault>
+    requires { value <ℤ pos (2 ^ 32) }
+    ensures { Gives (λ x. x) result (type_index_of value) }
+{
+    if value < 0 {
+        Err(ReadFault::BadType)
+    } else {
+        Ok(value as u32)
+    }
+}
+
+/// A block type at the front, and what follows it.
+#[tactic(auto, unfolding(crate::specs::Numbers::integer))]
+pub(crate) fn read_block_type(bytes: &[u8]) -> Result<(BlockType, &[u8]), ReadFault>
+    ensures { Gives (λ x. (x.0, x.1.now)) result (block_type bytes.now) }
+{
+    match bytes {
+        [] => Err(ReadFault::Truncated),
+        [0x40, rest @ ..] => Ok((BlockType::Empty, rest)),
+        [byte, ..] => {
+            if starts_value_type(*byte) {
+                let (ty, rest) = read_value_type(bytes)?;
+                Ok((BlockType::Value(ty), rest))
+            } else {
+                let (value, rest) = read_signed(33, bytes)?;
+                Ok((BlockType::FuncType(type_index(value)?), rest))
+            }
+        }
+    }
+}
+
+/// The one type of a `select` at the front, behind a count that is one, and what follows it.
+#[tactic(auto, unfolding(crate::specs::Immediates::selected))]
+pub(crate) fn read_selected(bytes: &[u8]) -> Result<(RawValType, &[u8]), ReadFault>
+    ensures { Gives (λ x. (x.0, x.1.now)) result (selected bytes.now) }
+{
+    let (count, rest) = read_u32(bytes)?;
+    if count == 1 {
+        read_value_type(rest)
+    } else {
+        Err(ReadFault::BadSelect)
+    }
+}

@@ -1,0 +1,68 @@
+//! Types and other immediates as operators spell them: with raw indices.
+
+use std::fmt;
+use walrus_ir::{HeapType, ValType};
+
+/// The type of a value, with raw type indices.
+pub type RawValType = ValType<u32>;
+/// What a reference refers to, with raw type indices.
+pub type RawHeapType = HeapType<u32>;
+
+/// What a block takes and gives, as it is spelt.
+#[derive(Clone, Copy, Debug, PartialEq, Eq, Hash)]
+pub enum BlockType {
+    /// Nothing is taken or given.
+    Empty,
+    /// One value is given.
+    Value(RawValType),
+    /// What the function type with this raw index takes and gives.
+    FuncType(u32),
+}
+
+/// What an access to memory says of itself, as it is spelt.
+#[derive(Clone, Copy, Debug, PartialEq, Eq)]
+pub struct RawMemArg {
+    /// The exponent of the alignment, a power of two; at most 31.
+    pub exponent: u32,
+    /// The raw index of the memory.
+    pub memory: u32,
+    /// A number of bytes, which is added to the address.
+    pub offset: u64,
+}
+
+/// The index spaces of a module.
+#[derive(Clone, Copy, Debug, PartialEq, Eq, Hash)]
+pub enum Space {
+    Tables,
+    Types,
+    Funcs,
+    Globals,
+    Memories,
+    Elements,
+    Data,
+    Tags,
+}
+
+impl fmt::Display for Space {
+    fn fmt<W: fmt::Write>(&self, f: &mut fmt::Formatter<W>) -> fmt::Result {
+        f.write_str(match self {
+            Space::Tables => "tables",
+            Space::Types => "types",
+            Space::Funcs => "funcs",
+            Space::Globals => "globals",
+            Space::Memories => "memories",
+            Space::Elements => "elements",
+            Space::Data => "data",
+            Space::Tags => "tags",
+        })
+    }
+}
+
+/// What an operator begins with.
+#[derive(Clone, Copy, Debug, PartialEq, Eq, Hash)]
+pub enum Opcode {
+    /// One byte.
+    Byte(u8),
+    /// A prefix byte, and a number behind it.
+    Prefixed(u8, u32),
+}
