@@ -69,8 +69,8 @@ module _ {A : Type 0} (env : Environment) (fs : List (Frame A)) where
       let first = bound (translate_immediates (naming env fs) o.immediates) (λ is. Ok (record { opcode = o.opcode; immediates = is })) named e in
       let is : named ≡ record { opcode = o.opcode; immediates = first.0 } = cc first.2 in
       let leads = translate_leads (naming env fs) kept (kept_raw env) o.immediates
-          (lead_all (naming env fs) kept (kept_raw env) named_lead o.immediates (all_of (Leads (naming env fs).block kept.block (kept_raw env).block) (λ b d h. refl) (block_types o.immediates)))
-          first.0 first.1 in
+      (lead_all (naming env fs) kept (kept_raw env) named_lead o.immediates (all_of (Leads (naming env fs).block kept.block (kept_raw env).block) (λ b d h. refl) (block_types o.immediates)))
+      first.0 first.1 in
       record {
         opcode = ap (λ (n : NamedOperation). n.opcode) is;
         kept = sym leads ∙ ok-sure (translate_immediates kept first.0) ∙ ap (λ (n : NamedOperation). Ok (kept_operation n).immediates) (sym is);

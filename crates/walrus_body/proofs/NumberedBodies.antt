@@ -193,12 +193,12 @@ module _ (env : Environment) (to : Numbers) (has : HasNumbers env to) where
   written_operation fs t o text named spelt is type =
       let kept = kept_of env fs o named is in
       let lead = translate_leads (kept_raw env) (typed writing t) (renumbered t) o.immediates
-          (lead_all (kept_raw env) (typed writing t) (renumbered t) (written_lead t) o.immediates (all_of (Leads (kept_raw env).block (typed writing t).block (renumbered t).block) (λ b d h. refl) (block_types o.immediates)))
-          (kept_operation named).immediates kept.kept in
+      (lead_all (kept_raw env) (typed writing t) (renumbered t) (written_lead t) o.immediates (all_of (Leads (kept_raw env).block (typed writing t).block (renumbered t).block) (λ b d h. refl) (block_types o.immediates)))
+      (kept_operation named).immediates kept.kept in
       let first = bound (translate_immediates (naming env fs) o.immediates) (λ js. Ok (record { opcode = o.opcode; immediates = js })) named is in
       let plain = carried_kinds o.opcode (map kind_of o.immediates) spelt.kinds in
       let h = immediates_answer (naming env fs) (renumbered t) (answers fs t type) o.immediates
-          (all_others_ok fs t o.immediates (all_spelt o.immediates spelt.others spelt.immediates plain)) (ok_of (translate_immediates (naming env fs) o.immediates) first.0 first.1) in
+      (all_others_ok fs t o.immediates (all_spelt o.immediates spelt.others spelt.immediates plain)) (ok_of (translate_immediates (naming env fs) o.immediates) first.0 first.1) in
       last_ok (translate_immediates (typed writing t) (kept_operation named).immediates) (λ js. record { opcode = named.opcode; immediates = js }) (subst (λ r. IsOk r) (sym lead) h)
 
   -- ---- an operator of a body
@@ -251,10 +251,12 @@ module _ (env : Environment) (to : Numbers) (has : HasNumbers env to) where
       let spelt = has_text.1 in
       let named = translated fs x.spelt x.named is in
       let same = (kept_of env fs x.spelt x.named named).opcode in
-      let parts : parts_try (role_of x.named.opcode) ≡ false = ap (λ c. parts_try (role_of c)) same ∙ carried_parts x.spelt.opcode (map kind_of x.spelt.immediates) spelt.kinds in
-      (refl, writes_by_role (role_of x.named.opcode) x.named.immediates (name_at x) parts
-      (written_operation fs (Simple None) x.spelt has_text.0 x.named spelt named refl)
-      (written_operation fs (type_of (typing_of env) x.named) x.spelt has_text.0 x.named spelt named (type_ok fs x.spelt x.named named)))
+      let parts : parts_try (role_of x.named.opcode) ≡ false = ap (λ c. parts_try (role_of c)) same ∙ carried_parts x.spelt.opcode (map kind_of x.spelt.immediates) spelt.kinds in (
+        refl,
+        writes_by_role (role_of x.named.opcode) x.named.immediates (name_at x) parts
+            (written_operation fs (Simple None) x.spelt has_text.0 x.named spelt named refl)
+            (written_operation fs (type_of (typing_of env) x.named) x.spelt has_text.0 x.named spelt named (type_ok fs x.spelt x.named named)),
+      )
 
   -- ---- a body
 

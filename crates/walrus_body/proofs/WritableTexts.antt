@@ -134,6 +134,6 @@ module _ {M C : Type 0} (w : Writing M C) (m : Typing) where
         (refl, sequence_ok c (closing end_operation e.location ∷ k) h.1 (refl, g))
 
   pub normal_text : (b : Body Named) → Each CanWrite b.sequence → IsOk (tree_text w (normal_form m b))
-  normal_text b h = 
+  normal_text b h =
       let last = closing end_operation b.close.location ∷ [] in
       all_gathered (items_text w (normal m b.sequence) last) (sequence_ok b.sequence last h (refl, tt))

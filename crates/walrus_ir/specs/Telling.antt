@@ -27,10 +27,10 @@ started seq = record { seq = seq; rest = seq.instrs.items; inside = 0 }
 pub data Next (b : List InstrSeq) : Frame → (coming : List ℕ) → List Event → (opened : List Frame) → (coming' : List ℕ) → Type 0 where
   starts : {seq inner : InstrSeq} {rest : List Located} {n p : ℕ} {coming : List ℕ} → slice_get b p ≡ Some inner
       → Next b (record { seq = seq; rest = rest; inside = suc n }) (p ∷ coming)
-        (StartSequence inner ∷ []) (started inner ∷ record { seq = seq; rest = rest; inside = n } ∷ []) coming
+      (StartSequence inner ∷ []) (started inner ∷ record { seq = seq; rest = rest; inside = n } ∷ []) coming
   visits : {seq : InstrSeq} {x : Located} {rest : List Located} {coming : List ℕ}
       → Next b (record { seq = seq; rest = x ∷ rest; inside = 0 }) coming
-        (VisitInstruction x.0 x.1 ∷ names x.0) (record { seq = seq; rest = rest; inside = length (places_in x.0) } ∷ []) coming
+      (VisitInstruction x.0 x.1 ∷ names x.0) (record { seq = seq; rest = rest; inside = length (places_in x.0) } ∷ []) coming
   ends : {seq : InstrSeq} {coming : List ℕ}
       → Next b (record { seq = seq; rest = []; inside = 0 }) coming (EndSequence seq ∷ []) [] coming
 

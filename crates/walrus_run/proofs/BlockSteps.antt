@@ -101,7 +101,7 @@ steps_block old new ls s b t place location keeps is_type enters =
     let x = occurrence (operation (Byte 0x02) (block b ∷ [])) place location (block_of h.signature) in
     let typed : t ≡ type_of (typing_of env) x.named = sym (ap (λ o. unwrap_or o (Simple None)) h.is_pick) in
     let opened = opens_block env (arena old.builder) enters.grows.seq new.current (opens old) ls s x
-        enters.place enters.is_empty enters.is_alive enters.opened_at (enters.grows.has_type ∙ typed) enters.grows.has_no_end refl keeps in
+    enters.place enters.is_empty enters.is_alive enters.opened_at (enters.grows.has_type ∙ typed) enters.grows.has_no_end refl keeps in
     let around : new.current ∷ opens old ≡ opens new = ap (λ fs. new.current ∷ fs) (sym (ap reverse enters.around ∙ reverse-append old.outer.items (old.current ∷ []))) in
     record {
       named = block_of h.signature;
@@ -151,7 +151,7 @@ steps_end old new ls s place location keeps leaves =
     let around : opens old ≡ old.current ∷ leaves.parent ∷ outer = ap (λ fs. old.current ∷ fs) (ap reverse leaves.around ∙ reverse-append new.outer.items (leaves.parent ∷ [])) in
     let inside = in_construct env b (length b) old.current leaves.parent outer ls s (subst (λ fs. Holds env b (length b) fs ls s) around keeps) in
     let closes = closes_block env b (arena new.builder) leaves.sealed.seq old.current leaves.parent new.current outer inside.others inside.first.before s inside.first.construct x
-        leaves.sealed.written (λ t r. leaves.sealed.same_type r.seq r.stands ∙ r.has_type) leaves.sealed.instrs leaves.sealed.end_is leaves.takes inside.kept inside.is_open inside.around in
+    leaves.sealed.written (λ t r. leaves.sealed.same_type r.seq r.stands ∙ r.has_type) leaves.sealed.instrs leaves.sealed.end_is leaves.takes inside.kept inside.is_open inside.around in
     record {
       named = end_operation;
       is_named = named_end env ls;
@@ -175,5 +175,5 @@ ends_body p builder ls s x none keeps seals =
     let env = env_of p in
     let b = arena p.builder in
     let alone : Holds env b (length b) (p.current ∷ []) [] s =
-        subst (λ ks. Holds env b (length b) (p.current ∷ []) ks s) (no_layers p ls s none keeps) (subst (λ fs. Holds env b (length b) (p.current ∷ reverse fs) ls s) none keeps) in
+    subst (λ ks. Holds env b (length b) (p.current ∷ []) ks s) (no_layers p ls s none keeps) (subst (λ fs. Holds env b (length b) (p.current ∷ reverse fs) ls s) none keeps) in
     closes_body env b (arena builder) seals.seq p.current s x seals.written (λ t r. seals.same_type r.seq r.stands ∙ r.has_type) seals.instrs seals.end_is alone

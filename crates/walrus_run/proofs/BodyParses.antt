@@ -72,11 +72,13 @@ module _ (env : Environment) (start : ℕ) where
   on_named turns ls s place next rest after o named some enough read is moved shorter =
       let f = from_next turns ls s place rest some enough in
       let t_is = f.1 in
-      let here : place + (length rest - length after) ≡ next = omega arith in
-      (f.0, omega arith,
-      f.2 ∙ ap (λ r. after_next f.0 ls s place (length rest) (r >>= λ x. named_in env (frames_of ls) x.0 >>= λ named. Ok (done place x.0 x.1 named))) read
-      ∙ ap (λ r. after_next f.0 ls s place (length rest) (r >>= λ named. Ok (done place o after named))) is
-      ∙ ap (λ n. parsed_from (accepting env start) f.0 (further (Within ls s) (mark (occurrence o place place named))) tt n after) here)
+      let here : place + (length rest - length after) ≡ next = omega arith in (
+        f.0,
+        omega arith,
+        f.2 ∙ ap (λ r. after_next f.0 ls s place (length rest) (r >>= λ x. named_in env (frames_of ls) x.0 >>= λ named. Ok (done place x.0 x.1 named))) read
+            ∙ ap (λ r. after_next f.0 ls s place (length rest) (r >>= λ named. Ok (done place o after named))) is
+            ∙ ap (λ n. parsed_from (accepting env start) f.0 (further (Within ls s) (mark (occurrence o place place named))) tt n after) here,
+      )
 
   -- it can't be read, or it breaks a rule
   on_unread : (turns : ℕ) (ls : List (Layer Occurrence)) (s : Sequence Occurrence) (place : ℕ) (rest : List ℕ) (e : ParseError) →

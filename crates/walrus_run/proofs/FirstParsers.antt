@@ -29,16 +29,17 @@ pub begun : (p : Parser) (old : List InstrSeq) (entry : ℕ) → entry_of (env_o
 begun p old entry is none grown at empty alive alone =
     let place : p.current.place ≡ 0 = at ∙ ap length none in
     let one : arena p.builder ≡ grown.seq ∷ [] = grown.grows ∙ ap (λ b. b ++ grown.seq ∷ []) none in
-    let within : length (arena p.builder) ≡ 1 = ap length one in
-    (record { items = no_items; are_items = subst (λ xs. AreItems (arena p.builder) xs no_items) (sym empty) are_no_items; rise = omega arith; is_normal = refl; is_dead = alive },
-    record {
-      seq = grown.seq;
-      stands = ap (slice_get (arena p.builder)) place ∙ ap (λ b. slice_get b 0) one;
-      has_type = grown.has_type ∙ sym (ap entry_type is);
-      has_no_end = grown.has_no_end;
-    },
-    place,
-    ap reverse alone)
+    let within : length (arena p.builder) ≡ 1 = ap length one in (
+      record { items = no_items; are_items = subst (λ xs. AreItems (arena p.builder) xs no_items) (sym empty) are_no_items; rise = omega arith; is_normal = refl; is_dead = alive },
+      record {
+        seq = grown.seq;
+        stands = ap (slice_get (arena p.builder)) place ∙ ap (λ b. slice_get b 0) one;
+        has_type = grown.has_type ∙ sym (ap entry_type is);
+        has_no_end = grown.has_no_end;
+      },
+      place,
+      ap reverse alone,
+    )
 
 -- ---- the function's own type
 

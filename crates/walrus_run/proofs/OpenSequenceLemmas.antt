@@ -66,10 +66,11 @@ holds_same env b c high (f ∷ fs) [] s same h =
     let below = kept_below env b high f [] s h.0 in
     (kept_same env b c high f [] s same h.0, reserved_same b c f.place _ (same f.place (omega arith) below) h.1, h.2, h.3)
 holds_same env b c high (f ∷ fs) (l ∷ ls) s same h =
-    let below = kept_below env b high f (places fs) s h.0 in
-    (kept_same env b c high f (places fs) s same h.0,
-    open_same env b c f l.construct (same f.place (omega arith) below) h.1,
-    holds_same env b c f.place fs ls l.before (λ p m n. same p m (omega arith)) h.2)
+    let below = kept_below env b high f (places fs) s h.0 in (
+      kept_same env b c high f (places fs) s same h.0,
+      open_same env b c f l.construct (same f.place (omega arith) below) h.1,
+      holds_same env b c f.place fs ls l.before (λ p m n. same p m (omega arith)) h.2,
+    )
 
 -- ---- a sequence with something more
 
@@ -239,10 +240,11 @@ pub opens_block : (env : Environment) (b : List InstrSeq) (seq : InstrSeq) (f : 
 opens_block env b seq f fs ls s a at_end empty alive location type no_end operator h =
     let more : length (b ++ seq ∷ []) ≡ length b + 1 = length_push b seq in
     let stands : slice_get (b ++ seq ∷ []) f.place ≡ Some seq = ap (slice_get (b ++ seq ∷ [])) at_end ∙ grown_at b seq in
-    let outside = holds_same env b (b ++ seq ∷ []) (length b) fs ls s (λ p l m. grown_before b seq p m) h in
-    (record { items = no_items; are_items = subst (λ xs. AreItems (b ++ seq ∷ []) xs no_items) (sym empty) are_no_items; rise = omega arith; is_normal = refl; is_dead = alive },
-    record { reserved = record { seq = seq; stands = stands; has_type = type; has_no_end = no_end }; location = location; operator = operator },
-    subst (λ n. Holds env (b ++ seq ∷ []) n fs ls s) (sym at_end) outside)
+    let outside = holds_same env b (b ++ seq ∷ []) (length b) fs ls s (λ p l m. grown_before b seq p m) h in (
+      record { items = no_items; are_items = subst (λ xs. AreItems (b ++ seq ∷ []) xs no_items) (sym empty) are_no_items; rise = omega arith; is_normal = refl; is_dead = alive },
+      record { reserved = record { seq = seq; stands = stands; has_type = type; has_no_end = no_end }; location = location; operator = operator },
+      subst (λ n. Holds env (b ++ seq ∷ []) n fs ls s) (sym at_end) outside,
+    )
 
 -- ---- a construct is closed
 
@@ -256,7 +258,7 @@ closed_block env b c seq f around s a e k o w type instrs end_is =
     let inside : AreItems c seq.instrs.items k.items = subst (λ xs. AreItems c xs k.items) (sym instrs) (items-same c (suc f.place) (length b) (λ p l h. w.elsewhere p (λ q. let d : p ≡ f.place = q in omega arith)) k.rise k.are_items) in
     let below = rise-range (suc f.place) k.items (length c) wide in
     let op : instruction_in around (the_block f.place, f.opened_at) ≡ instruction (name_at a) [] =
-        λ i. record { op = sym o.operator i; clauses = []; location = o.location i } in
+    λ i. record { op = sym o.operator i; clauses = []; location = o.location i } in
     let top : head_of seq ≡ head (type_of (typing_of env) a.named) e.location = λ i. record { type = type i; end_location = end_is i } in
     record {
       items = item (the_block f.place, f.opened_at) (sequence (record { place = f.place; seq = seq }) k.items no_sequences) no_items;

@@ -88,8 +88,8 @@ steps_instruction old new ls s op i place location keeps is placed no_places no_
     let same : instruction_in (open_places old) (i, location) ≡ instruction (name_at x) [] = λ j. record { op = n.kept j; clauses = no_clauses j; location = location } in
     let cut : dead_behind (fate behind.action) false ≡ is_cut op = ap (λ u. dead_behind u false) behind.has_fate ∙ no_cut (is_cut op) in
     let kept = keeps_instruction env (arena old.builder) high old.current new.current (reverse old.outer.items) ls s (i, location) x behind.action
-        (λ e. is_kept (is_cut op) (sym behind.has_fate ∙ e)) no_places same
-        (subst (λ d. Takes old.current new.current ((i, location) ∷ []) d) (sym cut) takes) keeps in
+    (λ e. is_kept (is_cut op) (sym behind.has_fate ∙ e)) no_places same
+    (subst (λ d. Takes old.current new.current ((i, location) ∷ []) d) (sym cut) takes) keeps in
     record {
       named = n.named;
       is_named = named_by_itself env ls (meaning op) n.named before.action behind.action before.does behind.does n.is_named;

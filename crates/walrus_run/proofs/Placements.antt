@@ -96,8 +96,8 @@ module _ {A : Type 0} (env : Environment) (fs : List (Frame A)) (ps : List ℕ) 
       let alike = translate_alike (placing env fs ps) (naming env fs) (placing_alike long) o.immediates in
       let second = alike_ok (translate_immediates (placing env fs ps) o.immediates) (translate_immediates (naming env fs) o.immediates) first.0 alike first.1 in
       let aims = translate_leads (placing env fs ps) (aiming ps) (kept_raw env) o.immediates
-          (lead_all (placing env fs ps) (aiming ps) (kept_raw env) (placed_lead fall) o.immediates (all_of (Leads (placing env fs ps).block (aiming ps).block (kept_raw env).block) (λ b d h. refl) (block_types o.immediates)))
-          first.0 first.1 in
+      (lead_all (placing env fs ps) (aiming ps) (kept_raw env) (placed_lead fall) o.immediates (all_of (Leads (placing env fs ps).block (aiming ps).block (kept_raw env).block) (λ b d h. refl) (block_types o.immediates)))
+      first.0 first.1 in
       let named : NamedOperation = record { opcode = o.opcode; immediates = second.0 } in
       let is_named : translate (naming env fs) o ≡ Ok named = ap (λ r. r >>= λ is. Ok (record { opcode = o.opcode; immediates = is })) second.1 in
       let same = aims ∙ (kept_of env fs o named is_named).kept in

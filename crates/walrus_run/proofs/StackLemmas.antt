@@ -29,7 +29,7 @@ label_within c xs (suc n) index x nonzero within is e =
     let long = length-reverse xs in
     let same : length xs - 1 - n ≡ index = omega arith in
     let found : slice_get (reverse xs) n ≡ Some x =
-        slice_get-get_or (reverse xs) n x (omega arith) ∙ ap Some (get_or-reverse xs n x (omega arith) ∙ ap (λ i. slice_index_or xs i x) same ∙ sym e) in
+    slice_get-get_or (reverse xs) n x (omega arith) ∙ ap Some (get_or-reverse xs n x (omega arith) ∙ ap (λ i. slice_index_or xs i x) same ∙ sym e) in
     ap (λ o. some_or o NoSuchLabel) (place_at (reverse xs) n x found)
 
 pub label_past : (c : OpenSequence) (xs : List OpenSequence) (depth : ℕ) → depth ≢ 0 → (depth ≤ length xs → ⊥) →

@@ -27,7 +27,6 @@ opens p = p.current ∷ reverse p.outer.items
 abbrev pub open_places : Parser → List ℕ
 open_places p = places (opens p)
 
-
 -- what is read so far is kept
 abbrev pub Keeps : Parser → List (Layer Occurrence) → Sequence Occurrence → Type 0
 Keeps p ls s = Holds (env_of p) (arena p.builder) (length (arena p.builder)) (opens p) ls s

@@ -1,7 +1,6 @@
 //! Looking up the types that a body names.
 ghost use Rattle.std.specs.Prelude.{◌≡◌};
 ghost use Rattle.walrus_ir.specs.declared.val_type.ValType.TheVariants.{Ref};
-
 ghost use Rattle.walrus_body.specs.Translation.{translate_value};
 ghost use Rattle.walrus_run.specs.BlockTypes.{ids_at, sequence_type};
 
@@ -28,7 +27,12 @@ pub(crate) fn value_type(indices: &IndicesToIds, ty: RawValType) -> Result<ValTy
         ValType::F32 => Ok(ValType::F32),
         ValType::F64 => Ok(ValType::F64),
         ValType::V128 => Ok(ValType::V128),
-        ValType::Ref(RefType { nullable, heap_type }) => match heap_type {
+        ValType::Ref(
+            RefType {
+                nullable,
+                heap_type,
+            },
+        ) => match heap_type {
             HeapType::Abstract(ty) => Ok(reference(nullable, HeapType::Abstract(ty))),
             HeapType::Concrete(index) => {
                 let id = indices.get_type(index)?;

@@ -73,10 +73,7 @@ pub(crate) fn parse_operators(
             Err(error) => return Err(failure(error, at)),
         }
     }
-    Err(failure(
-        ParseError::MissingEnd,
-        reader.original_position(),
-    ))
+    Err(failure(ParseError::MissingEnd, reader.original_position()))
 }
 
 /// Parses a body's operators, the first of which stands at the place `start`, into the sequences of its function.

@@ -18,8 +18,7 @@ use crate::open_sequence::OpenSequence;
 use std::alloc::Global;
 use walrus_body::{IndicesToIds, ParseError};
 use walrus_ir::{
-    Block, FunctionBuilder, FunctionId, Instr, InstrLocId, InstrSeqId, InstrSeqType, Module,
-    TypeId,
+    Block, FunctionBuilder, FunctionId, Instr, InstrLocId, InstrSeqId, InstrSeqType, Module, TypeId,
 };
 use wasm_ops::Operator;
 
@@ -86,7 +85,8 @@ impl Parser<'_> {
     {
         let place = self.builder.alloc(ty)?;
         let inner = OpenSequence::new(self.builder.allocator(), place, location);
-        self.outer.push(std::mem::replace(&mut self.current, inner))?;
+        self.outer
+            .push(std::mem::replace(&mut self.current, inner))?;
         Ok(())
     }
 

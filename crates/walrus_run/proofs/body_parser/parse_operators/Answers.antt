@@ -74,10 +74,11 @@ returns-then-is_empty c =
     let read : read_next now.place now.rest ≡ Ok (end_operation, next.rest) = c.in-Ok.ensures.ok.0 ∙ ap (λ o. Ok (meaning o, next.rest)) is in
     let b = body_at f.sequence now.place in
     let seals = subst (λ l. Seals p.builder c.finish.result p.current l) c.in-Ok.ensures.ok.1 c.finish.ensures in
-    let tree = ends_body p c.finish.result f.layers f.sequence b.close none f.keeps seals in
-    (b,
-    whole (env_of c.args.parser) start.place start.rest p now.place next.place now.rest next.rest f top some read c.in-Ok.ensures.moves.0 c.in-Ok.ensures.moves.1 last,
-    record { entry = seals.entry_is ∙ f.entry; holds = subst (λ e. HasTree (arena c.finish.result) 0 (normal_form (typing_of e) (named_body b))) f.env_is tree })
+    let tree = ends_body p c.finish.result f.layers f.sequence b.close none f.keeps seals in (
+      b,
+      whole (env_of c.args.parser) start.place start.rest p now.place next.place now.rest next.rest f top some read c.in-Ok.ensures.moves.0 c.in-Ok.ensures.moves.1 last,
+      record { entry = seals.entry_is ∙ f.entry; holds = subst (λ e. HasTree (arena c.finish.result) 0 (normal_form (typing_of e) (named_body b))) f.env_is tree },
+    )
 
 pub step-requires-clause-known : goal.step-requires-clause-known
 step-requires-clause-known c = let f = c.loop-reader.invariant in (f.layers, f.sequence, f.keeps)

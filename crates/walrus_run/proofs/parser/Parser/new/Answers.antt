@@ -16,9 +16,10 @@ returns-clause-ok c =
     let told = c.in_ok-place.ensures in
     let p : Parser = record { «module» = a.module; indices = a.indices; function = a.function; builder = c.set_entry.new.self; current = c.new.result; outer = c.new-2.result } in
     let is : env_of p ≡ environment_of a.module.now a.indices.now a.function a.ty =
-        ap (environment_of a.module.now a.indices.now a.function) (c.set_entry.ensures.ty ∙ (told.ty ∙ c.without_entry-builder.ensures.ty)) in
+    ap (environment_of a.module.now a.indices.now a.function) (c.set_entry.ensures.ty ∙ (told.ty ∙ c.without_entry-builder.ensures.ty)) in
     let grown : Grown old (arena p.builder) p.current.place (MultiValue a.entry) =
-        subst (λ q. Grown old (arena p.builder) q (MultiValue a.entry)) (sym c.new.ensures.0) (subst (λ b. Grown old b place (MultiValue a.entry)) (sym c.set_entry.ensures.sequences) told.ok) in
-    (is,
-    begun p old a.entry (ap entry_of is ∙ c.requires) c.without_entry-builder.ensures.sequences grown (c.new.ensures.0 ∙ told.id) c.new.ensures.2 c.new.ensures.3 c.new-2.ensures.items,
-    c.set_entry.ensures.entry ∙ ap Some (told.id ∙ ap length c.without_entry-builder.ensures.sequences))
+    subst (λ q. Grown old (arena p.builder) q (MultiValue a.entry)) (sym c.new.ensures.0) (subst (λ b. Grown old b place (MultiValue a.entry)) (sym c.set_entry.ensures.sequences) told.ok) in (
+      is,
+      begun p old a.entry (ap entry_of is ∙ c.requires) c.without_entry-builder.ensures.sequences grown (c.new.ensures.0 ∙ told.id) c.new.ensures.2 c.new.ensures.3 c.new-2.ensures.items,
+      c.set_entry.ensures.entry ∙ ap Some (told.id ∙ ap length c.without_entry-builder.ensures.sequences),
+    )

@@ -15,7 +15,7 @@ pub returns-in_err-ty-in-Block-clause-step : goal.returns-in_err-ty-in-Block-cla
 returns-in_err-ty-in-Block-clause-step c = λ ls s place keeps.
     let p = c.args.self.now in
     let refused : named_in (env_of p) (frames_of ls) (meaning c.args.operator.now) ≡ Err c.in_err-ty-in-Block.field-0.0 =
-        ap (λ o. named_in (env_of p) (frames_of ls) (meaning o)) c.in-Block.is ∙ refuses_block (env_of p) ls c.in-Block.ty c.in_err-ty-in-Block.field-0.0 (sym c.sequence_type.ensures ∙ c.in_err-ty-in-Block.was) in
+    ap (λ o. named_in (env_of p) (frames_of ls) (meaning o)) c.in-Block.is ∙ refuses_block (env_of p) ls c.in-Block.ty c.in_err-ty-in-Block.field-0.0 (sym c.sequence_type.ensures ∙ c.in_err-ty-in-Block.was) in
     steps_refused p p ls s (meaning c.args.operator.now) place c.args.location c.from_residual.result c.in_err-ty-in-Block.field-0.0 c.from_residual.ensures.1 refused
 
 pub leave_block-requires-clause-stands : goal.leave_block-requires-clause-stands
