@@ -8,3 +8,6 @@ pub mod Placing
 pub mod OperatorKinds
 pub mod BodyParsing
 pub mod Demo
+pub mod WalkFaults
+pub mod Writing
+pub mod Scopes

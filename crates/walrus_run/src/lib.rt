@@ -9,9 +9,12 @@ mod instructions;
 mod laws;
 mod names;
 mod open_sequence;
+mod operators;
 mod parser;
 mod program;
 mod rewriting;
+mod scopes;
+mod write_fault;
 
 pub use error::RewriteError;
 pub use laws::law_executions;
