@@ -11,7 +11,7 @@ pub mod KeepingLemmas
 pub mod Outcomes
 pub mod ArenaLemmas
 mod EntryMaps
-mod NumberingLemmas
+pub mod NumberingLemmas
 mod ReadingSequences
 pub mod Steps
 pub mod Translations

@@ -36,7 +36,7 @@ abbrev AreNew : FinMap nat_cmp ℕ → List ℕ → Type 0
 AreNew m ids = AllByRecursion (λ id. get m id ≡ None) ids
 
 -- one more id: its number, and those of the others
-get-numbered : (m : FinMap nat_cmp ℕ) (id q : ℕ) → get (numbered m id) q ≡ cond (q == id) (Some (len m)) (get m q)
+pub get-numbered : (m : FinMap nat_cmp ℕ) (id q : ℕ) → get (numbered m id) q ≡ cond (q == id) (Some (len m)) (get m q)
 get-numbered m id q = get-insert nat_cmp_total m id (len m) q ∙ ap (λ b. cond b (Some (len m)) (get m q)) (unsigned_tied q id)
 
 -- a new id has the next place

@@ -18,3 +18,5 @@ mod BlockSteps
 mod NextOperators
 mod BodyParses
 mod FirstParsers
+mod DemoMaps
+mod DemoNumbers

@@ -1,8 +1,12 @@
 //! The demo module, over which the program parses and writes bodies.
-ghost use Rattle.std.specs.Prelude.{◌≡◌, ℕ, IfOk, IfErr};
-ghost use Rattle.walrus_ir.specs.Types.{Func, Entry};
+ghost use Rattle.std.specs.Prelude.{◌≡◌, [], ◌∷◌, None, IfOk, IfErr, OnOk};
+ghost use Rattle.std.specs.FinMap as map;
 ghost use Rattle.walrus_body.specs.declared.error.IndexError.TheVariants.{Memory};
-ghost use Rattle.walrus_run.specs.Demo.{demo_module, demo_indices};
+ghost use Rattle.wasm_ops.specs.declared.types.Space.TheVariants.{Tables, Types, Funcs, Globals, Memories, Elements, Data, Tags};
+ghost use Rattle.walrus_body.specs.IndexMaps.{no_ids, ids_in, with_ids, with_locals, numbers_in, with_numbers};
+ghost use Rattle.walrus_body.specs.Numbering.{pushed};
+ghost use Rattle.walrus_run.specs.Demo.{demo_module, demo_indices, demo_numbers};
+ghost use Rattle.walrus_run.specs.Writing.{numbers_of};
 
 use std::alloc::{AllocError, Global};
 use walrus_body::{IdsToIndices, IndexError, IndicesToIds};
@@ -37,29 +41,135 @@ pub(crate) fn module(alloc: Global) -> Result<Module, AllocError>
     })
 }
 
-/// The ids that its old indices stand for.
-pub(crate) fn indices(alloc: Global) -> Result<IndicesToIds, IndexError>
-    ensures ok { IfOk result (λ m. m ≡ demo_indices) }
+/// Gives old indices to the types of an index map without any.
+fn push_types(indices: &mut IndicesToIds) -> Result<(), IndexError>
+    requires { ids_in indices.old Types ≡ [] }
+    ensures ok { OnOk result (indices.new ≡ with_ids Types (0 ∷ 1 ∷ 2 ∷ 3 ∷ []) indices.old) }
     ensures err { IfErr result (λ e. e ≡ Memory) }
 {
-    let mut indices = IndicesToIds::new(alloc);
     indices.push_type(TypeId::new(0))?;
     indices.push_type(TypeId::new(1))?;
     indices.push_type(TypeId::new(2))?;
     indices.push_type(TypeId::new(3))?;
+    Ok(())
+}
+
+/// Gives old indices to the functions and tags of an index map without any.
+fn push_funcs_and_tags(indices: &mut IndicesToIds) -> Result<(), IndexError>
+    requires funcs { ids_in indices.old Funcs ≡ [] }
+    requires tags { ids_in indices.old Tags ≡ [] }
+    ensures ok { OnOk result (indices.new ≡ with_ids Tags (0 ∷ 1 ∷ []) (with_ids Funcs (0 ∷ 1 ∷ []) indices.old)) }
+    ensures err { IfErr result (λ e. e ≡ Memory) }
+{
     indices.push_func(FunctionId::new(0))?;
     indices.push_func(FunctionId::new(1))?;
     indices.push_tag(TagId::new(0))?;
     indices.push_tag(TagId::new(1))?;
+    Ok(())
+}
+
+/// Gives the index 0 to a table, a memory, a global, a data segment and an element segment.
+fn push_storage(indices: &mut IndicesToIds) -> Result<(), IndexError>
+    requires tables { ids_in indices.old Tables ≡ [] }
+    requires memories { ids_in indices.old Memories ≡ [] }
+    requires globals { ids_in indices.old Globals ≡ [] }
+    requires data_segments { ids_in indices.old Data ≡ [] }
+    requires elements { ids_in indices.old Elements ≡ [] }
+    ensures ok { OnOk result (indices.new ≡ with_ids Elements (0 ∷ []) (with_ids Data (0 ∷ []) (with_ids Globals (0 ∷ []) (with_ids Memories (0 ∷ []) (with_ids Tables (0 ∷ []) indices.old))))) }
+    ensures err { IfErr result (λ e. e ≡ Memory) }
+{
     indices.push_table(TableId::new(0))?;
     indices.push_memory(MemoryId::new(0))?;
     indices.push_global(GlobalId::new(0))?;
     indices.push_data(DataId::new(0))?;
     indices.push_element(ElementId::new(0))?;
+    Ok(())
+}
+
+/// Gives old indices to the locals of function 0, which has none.
+#[tactic(auto, using(crate::proofs::DemoMaps::local_maps))]
+fn push_locals(indices: &mut IndicesToIds) -> Result<(), IndexError>
+    requires { map.get indices.old.locals 0 ≡ None }
+    ensures ok { OnOk result (indices.new ≡ with_locals 0 (0 ∷ 1 ∷ 2 ∷ 3 ∷ []) indices.old) }
+    ensures err { IfErr result (λ e. e ≡ Memory) }
+{
     let function = FunctionId::new(0);
     indices.push_local(function, LocalId::new(0))?;
     indices.push_local(function, LocalId::new(1))?;
     indices.push_local(function, LocalId::new(2))?;
     indices.push_local(function, LocalId::new(3))?;
+    Ok(())
+}
+
+/// The ids that its old indices stand for.
+#[tactic(auto, using(crate::proofs::DemoMaps::local_maps))]
+pub(crate) fn indices(alloc: Global) -> Result<IndicesToIds, IndexError>
+    ensures ok { IfOk result (λ m. m ≡ demo_indices) }
+    ensures err { IfErr result (λ e. e ≡ Memory) }
+{
+    let mut indices = IndicesToIds::new(alloc);
+    push_types(&mut indices)?;
+    push_funcs_and_tags(&mut indices)?;
+    push_storage(&mut indices)?;
+    push_locals(&mut indices)?;
     Ok(indices)
+}
+
+/// Gives new indices to the types of a map without any.
+#[tactic(auto, using(crate::proofs::DemoMaps::numbering))]
+fn number_types(numbers: &mut IdsToIndices) -> Result<(), IndexError>
+    requires { numbers_in numbers.old Types ≡ map.empty }
+    ensures ok { OnOk result (numbers.new ≡ pushed Types (0 ∷ 1 ∷ 2 ∷ 3 ∷ []) numbers.old) }
+    ensures err { IfErr result (λ e. e ≡ Memory) }
+{
+    numbers.push_type(TypeId::new(0))?;
+    numbers.push_type(TypeId::new(1))?;
+    numbers.push_type(TypeId::new(2))?;
+    numbers.push_type(TypeId::new(3))?;
+    Ok(())
+}
+
+/// Gives new indices to the functions and tags of a map without any.
+#[tactic(auto, using(crate::proofs::DemoMaps::numbering))]
+fn number_funcs_and_tags(numbers: &mut IdsToIndices) -> Result<(), IndexError>
+    requires funcs { numbers_in numbers.old Funcs ≡ map.empty }
+    requires tags { numbers_in numbers.old Tags ≡ map.empty }
+    ensures ok { OnOk result (numbers.new ≡ pushed Tags (0 ∷ 1 ∷ []) (pushed Funcs (0 ∷ 1 ∷ []) numbers.old)) }
+    ensures err { IfErr result (λ e. e ≡ Memory) }
+{
+    numbers.push_func(FunctionId::new(0))?;
+    numbers.push_func(FunctionId::new(1))?;
+    numbers.push_tag(TagId::new(0))?;
+    numbers.push_tag(TagId::new(1))?;
+    Ok(())
+}
+
+/// Gives the new index 0 to a table, a memory, a global, a data segment and an element segment.
+#[tactic(auto, using(crate::proofs::DemoMaps::numbering))]
+fn number_storage(numbers: &mut IdsToIndices) -> Result<(), IndexError>
+    requires tables { numbers_in numbers.old Tables ≡ map.empty }
+    requires memories { numbers_in numbers.old Memories ≡ map.empty }
+    requires globals { numbers_in numbers.old Globals ≡ map.empty }
+    requires elements { numbers_in numbers.old Elements ≡ map.empty }
+    ensures ok { OnOk result (numbers.new ≡ with_numbers Data (map.insert (numbers_in numbers.old Data) 0 0) (pushed Elements (0 ∷ []) (pushed Globals (0 ∷ []) (pushed Memories (0 ∷ []) (pushed Tables (0 ∷ []) numbers.old))))) }
+    ensures err { IfErr result (λ e. e ≡ Memory) }
+{
+    numbers.push_table(TableId::new(0))?;
+    numbers.push_memory(MemoryId::new(0))?;
+    numbers.push_global(GlobalId::new(0))?;
+    numbers.push_element(ElementId::new(0))?;
+    numbers.set_data_index(DataId::new(0), 0)?;
+    Ok(())
+}
+
+/// Its new indices, which are the old ones.
+pub(crate) fn numbers(alloc: Global) -> Result<IdsToIndices, IndexError>
+    ensures ok { IfOk result (λ m. numbers_of m ≡ demo_numbers) }
+    ensures err { IfErr result (λ e. e ≡ Memory) }
+{
+    let mut numbers = IdsToIndices::new(alloc);
+    number_types(&mut numbers)?;
+    number_funcs_and_tags(&mut numbers)?;
+    number_storage(&mut numbers)?;
+    Ok(numbers)
 }

@@ -2,13 +2,24 @@
 
 use crate::error::RewriteError;
 use walrus_body::{EmitError, IndexError, ParseError};
+use walrus_ir::WalkError;
 use wasm_ops::ReadFault;
 
 /// The name of a fault.
 pub(crate) fn rewrite_name(error: RewriteError) -> &'static str {
     match error {
         RewriteError::Parse(failure) => parse_name(failure.error),
+        RewriteError::Walk(error) => walk_name(error),
         RewriteError::Emit(error) => emit_name(error),
+    }
+}
+
+fn walk_name(error: WalkError) -> &'static str {
+    match error {
+        WalkError::UnknownSequence => "UnknownSequence",
+        WalkError::SharedSequence => "SharedSequence",
+        WalkError::Memory => "Memory",
+        WalkError::TooLarge => "TooLarge",
     }
 }
 

@@ -1,0 +1,124 @@
+-- The demo module's numbers: there is one for each id that an old index stands for, and for the type of each sequence.
+use Rattle.std.specs.Prelude.{◌≡◌, ℕ, suc, zero, nat_lt, List, [], ◌∷◌, length, Bool, true, false, Option, Some, None, slice_get, if◌then◌else◌, IsOk, is_ok, Result, Ok, Err}
+use Rattle.std.specs.List.{AllByRecursion}
+use Rattle.std.proofs.Common.{refl, ap, sym, subst, ◌∙◌}
+use Rattle.walrus_ir.specs.declared.val_type.HeapType.{HeapType}
+use Rattle.walrus_ir.specs.declared.val_type.HeapType.TheVariants.{Abstract, Concrete}
+use Rattle.walrus_ir.specs.declared.val_type.ValType.{ValType}
+use Rattle.walrus_ir.specs.declared.val_type.ValType.TheVariants.{I32, I64, F32, F64, V128, Ref}
+use Rattle.walrus_ir.specs.declared.val_type.InstrSeqType.{InstrSeqType}
+use Rattle.walrus_ir.specs.declared.val_type.InstrSeqType.TheVariants.{Simple, MultiValue}
+use Rattle.walrus_ir.specs.Types.{Signature, signature, pick}
+use Rattle.wasm_ops.specs.declared.types.BlockType.{BlockType}
+use Rattle.wasm_ops.specs.declared.types.BlockType.TheVariants.{Empty, Value, FuncType}
+use Rattle.wasm_ops.specs.declared.types.Space.{Space}
+use Rattle.wasm_ops.specs.declared.types.Space.TheVariants.{Tables, Types, Funcs, Globals, Memories, Elements, Data, Tags}
+use Rattle.walrus_body.specs.declared.error.EmitError.{EmitError}
+use Rattle.walrus_body.specs.declared.error.EmitError.TheVariants.{Index}
+use Rattle.walrus_body.specs.declared.error.IndexError.TheVariants.{Unnumbered}
+use Rattle.walrus_body.specs.declared.error.ParseError.{ParseError}
+use Rattle.walrus_body.specs.Results.{◌>>=◌, some_or, faulting}
+use Rattle.walrus_body.specs.IndexMaps.{ids_in, id_of}
+use Rattle.walrus_body.specs.Translation.{translate_heap, translate_value}
+use Rattle.walrus_body.specs.Naming.{id_at, name_block, function_type}
+use Rattle.walrus_body.specs.Bytes.{numbered_block}
+use Rattle.walrus_body.proofs.Steps.{bound}
+use Rattle.walrus_body.proofs.NumberedBodies.{HasNumbers}
+use Rattle.walrus_run.specs.Demo.{demo_types, demo_indices, demo_environment, demo_numbers}
+
+-- ---- ids of old indices
+
+within : (count : ℕ) (ids : List ℕ) (n id : ℕ) → AllByRecursion (λ i. nat_lt i count ≡ true) ids → slice_get ids n ≡ Some id → nat_lt id count ≡ true
+within count [] n id all at = absurd cc
+within count (i ∷ ids) zero id all at = let e : i ≡ id = cc in subst (λ j. nat_lt j count ≡ true) e all.0
+within count (i ∷ ids) (suc n) id all at = within count ids n id all.1 at
+
+all_below : (space : Space) → AllByRecursion (λ i. nat_lt i (length (ids_in demo_indices space)) ≡ true) (ids_in demo_indices space)
+all_below Tables = (refl, tt)
+all_below Types = (refl, refl, refl, refl, tt)
+all_below Funcs = (refl, refl, tt)
+all_below Globals = (refl, tt)
+all_below Memories = (refl, tt)
+all_below Elements = (refl, tt)
+all_below Data = (refl, tt)
+all_below Tags = (refl, refl, tt)
+
+numbered : (space : Space) (id : ℕ) → nat_lt id (length (ids_in demo_indices space)) ≡ true → demo_numbers.number_of space id ≡ Ok id
+numbered space id below = ap (λ b. if b then Ok id else Err (Index (Unnumbered space))) below
+
+some_of : {E : Type 0} (o : Option ℕ) (e : E) (id : ℕ) → some_or o e ≡ Ok id → o ≡ Some id
+some_of (Some x) e id h = let same : x ≡ id = cc in ap Some same
+some_of None e id h = absurd cc
+
+has_index : (space : Space) (n id : ℕ) → demo_environment.id_of space n ≡ Ok id → demo_numbers.number_of space id ≡ Ok id
+has_index space n id at = numbered space id (within _ (ids_in demo_indices space) n id (all_below space) (some_of _ _ id at))
+
+-- ---- types of sequences
+
+unfaulted : {A E F : Type 0} (f : E → F) (r : Result A E) (x : A) → faulting f r ≡ Ok x → r ≡ Ok x
+unfaulted f (Ok y) x h = let same : y ≡ x = cc in ap Ok same
+unfaulted f (Err e) x h = absurd cc
+
+HeapNumbered : HeapType ℕ → Type 0
+HeapNumbered h = IsOk (translate_heap demo_numbers.number_of h)
+
+has_heap : (h g : HeapType ℕ) → translate_heap (id_at demo_environment) h ≡ Ok g → HeapNumbered g
+has_heap (Abstract a) g e = let same : Abstract a ≡ g = cc in subst HeapNumbered same refl
+has_heap (Concrete n) g e =
+    let id = bound (id_at demo_environment Types n) (λ m. Ok (Concrete m)) g e in
+    let same : Concrete id.0 ≡ g = cc in
+    let at = has_index Types n id.0 (unfaulted _ (demo_environment.id_of Types n) id.0 id.1) in
+    subst HeapNumbered same (ap (λ r. is_ok (r >>= λ m. Ok (Concrete m))) at)
+
+ValueNumbered : ValType ℕ → Type 0
+ValueNumbered t = IsOk (translate_value demo_numbers.number_of t)
+
+reference : (nullable : Bool) (h : HeapType ℕ) → ValType ℕ
+reference nullable h = Ref (record { nullable = nullable; heap_type = h })
+
+then_ok : {A B E : Type 0} (r : Result A E) (f : A → B) → IsOk r → IsOk (r >>= λ x. Ok (f x))
+then_ok (Ok x) f h = refl
+then_ok (Err e) f h = absurd cc
+
+has_value : (t u : ValType ℕ) → translate_value (id_at demo_environment) t ≡ Ok u → ValueNumbered u
+has_value I32 u e = let same : I32 ≡ u = cc in subst ValueNumbered same refl
+has_value I64 u e = let same : I64 ≡ u = cc in subst ValueNumbered same refl
+has_value F32 u e = let same : F32 ≡ u = cc in subst ValueNumbered same refl
+has_value F64 u e = let same : F64 ≡ u = cc in subst ValueNumbered same refl
+has_value V128 u e = let same : V128 ≡ u = cc in subst ValueNumbered same refl
+has_value (Ref r) u e =
+    let h = bound (translate_heap (id_at demo_environment) r.heap_type) (λ h. Ok (reference r.nullable h)) u e in
+    let same : reference r.nullable h.0 ≡ u = cc in
+    subst ValueNumbered same (then_ok (translate_heap demo_numbers.number_of h.0) (reference r.nullable) (has_heap r.heap_type h.0 h.1))
+
+BlockNumbered : InstrSeqType → Type 0
+BlockNumbered t = IsOk (numbered_block demo_numbers t)
+
+-- whatever is picked for it has a number
+PickNumbered : Signature → Type 0
+PickNumbered s = (t : InstrSeqType) → pick demo_types s ≡ Some t → BlockNumbered t
+
+picked : (s : Signature) (u : InstrSeqType) → pick demo_types s ≡ Some u → BlockNumbered u → PickNumbered s
+picked s u at ok t e = let same : u ≡ t = cc in subst BlockNumbered same ok
+
+has_type : (id : ℕ) (s : Signature) → function_type demo_environment id ≡ Ok s → PickNumbered s
+has_type zero s e = let same : signature [] [] ≡ s = cc in subst PickNumbered same (picked _ (Simple None) refl refl)
+has_type (suc zero) s e = let same : signature (I32 ∷ []) [] ≡ s = cc in subst PickNumbered same (picked _ (MultiValue 1) refl refl)
+has_type (suc (suc zero)) s e = let same : signature (I32 ∷ I32 ∷ []) (I32 ∷ []) ≡ s = cc in subst PickNumbered same (picked _ (MultiValue 2) refl refl)
+has_type (suc (suc (suc zero))) s e = let same : signature (I32 ∷ []) [] ≡ s = cc in subst PickNumbered same (picked _ (MultiValue 1) refl refl)
+has_type (suc (suc (suc (suc zero)))) s e = let same : signature [] [] ≡ s = cc in subst PickNumbered same (picked _ (Simple None) refl refl)
+has_type (suc (suc (suc (suc (suc n))))) s e = absurd cc
+
+has_block : (b : BlockType) (s : Signature) → name_block demo_environment b ≡ Ok s → PickNumbered s
+has_block Empty s e = let same : signature [] [] ≡ s = cc in subst PickNumbered same (picked _ (Simple None) refl refl)
+has_block (Value t) s e =
+    let u = bound (translate_value (id_at demo_environment) t) (λ u. Ok (signature [] (u ∷ []))) s e in
+    let same : signature [] (u.0 ∷ []) ≡ s = cc in
+    subst PickNumbered same (picked _ (Simple (Some u.0)) refl (then_ok (translate_value demo_numbers.number_of u.0) Value (has_value t u.0 u.1)))
+has_block (FuncType n) s e = let id = bound (id_at demo_environment Types n) (function_type demo_environment) s e in has_type id.0 s id.2
+
+pub demo_has_numbers : HasNumbers demo_environment demo_numbers
+demo_has_numbers = record {
+  indices = λ space n id at. ap is_ok (has_index space n id at);
+  blocks = λ b s t named pick. has_block b s named t pick;
+}
