@@ -219,7 +219,7 @@ module _ (env : Environment) (to : Numbers) (has : HasNumbers env to) where
       by_blocks (s ∷ ss) h = by_pick s h.0.0 h.0.1 (pick env.types s) refl
 
   -- what naming an operator in its place answers is its translation
-  translated : (fs : List (Frame Occurrence)) (o : RawOperation) (named : NamedOperation) → named_in env fs o ≡ Ok named → translate (naming env fs) o ≡ Ok named
+  pub translated : (fs : List (Frame Occurrence)) (o : RawOperation) (named : NamedOperation) → named_in env fs o ≡ Ok named → translate (naming env fs) o ≡ Ok named
   translated fs o named e =
       let types : NamedOperation → Result (Unit {0}) ParseError = λ n. has_types env fs (control_of n) n in
       let stood = bound (stands fs (control_of o)) (λ u. translate (naming env fs) o >>= λ n. types n >>= λ v. Ok n) named e in

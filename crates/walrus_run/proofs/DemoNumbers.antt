@@ -35,13 +35,13 @@ within count (i ∷ ids) (suc n) id all at = within count ids n id all.1 at
 
 all_below : (space : Space) → AllByRecursion (λ i. nat_lt i (length (ids_in demo_indices space)) ≡ true) (ids_in demo_indices space)
 all_below Tables = (refl, tt)
-all_below Types = (refl, refl, refl, refl, tt)
-all_below Funcs = (refl, refl, tt)
+all_below Types = (refl, (refl, (refl, (refl, tt))))
+all_below Funcs = (refl, (refl, tt))
 all_below Globals = (refl, tt)
 all_below Memories = (refl, tt)
 all_below Elements = (refl, tt)
 all_below Data = (refl, tt)
-all_below Tags = (refl, refl, tt)
+all_below Tags = (refl, (refl, tt))
 
 numbered : (space : Space) (id : ℕ) → nat_lt id (length (ids_in demo_indices space)) ≡ true → demo_numbers.number_of space id ≡ Ok id
 numbered space id below = ap (λ b. if b then Ok id else Err (Index (Unnumbered space))) below
@@ -59,7 +59,7 @@ unfaulted : {A E F : Type 0} (f : E → F) (r : Result A E) (x : A) → faulting
 unfaulted f (Ok y) x h = let same : y ≡ x = cc in ap Ok same
 unfaulted f (Err e) x h = absurd cc
 
-HeapNumbered : HeapType ℕ → Type 0
+abbrev HeapNumbered : HeapType ℕ → Type 0
 HeapNumbered h = IsOk (translate_heap demo_numbers.number_of h)
 
 has_heap : (h g : HeapType ℕ) → translate_heap (id_at demo_environment) h ≡ Ok g → HeapNumbered g
@@ -70,10 +70,10 @@ has_heap (Concrete n) g e =
     let at = has_index Types n id.0 (unfaulted _ (demo_environment.id_of Types n) id.0 id.1) in
     subst HeapNumbered same (ap (λ r. is_ok (r >>= λ m. Ok (Concrete m))) at)
 
-ValueNumbered : ValType ℕ → Type 0
+abbrev ValueNumbered : ValType ℕ → Type 0
 ValueNumbered t = IsOk (translate_value demo_numbers.number_of t)
 
-reference : (nullable : Bool) (h : HeapType ℕ) → ValType ℕ
+abbrev reference : (nullable : Bool) (h : HeapType ℕ) → ValType ℕ
 reference nullable h = Ref (record { nullable = nullable; heap_type = h })
 
 then_ok : {A B E : Type 0} (r : Result A E) (f : A → B) → IsOk r → IsOk (r >>= λ x. Ok (f x))
@@ -91,30 +91,30 @@ has_value (Ref r) u e =
     let same : reference r.nullable h.0 ≡ u = cc in
     subst ValueNumbered same (then_ok (translate_heap demo_numbers.number_of h.0) (reference r.nullable) (has_heap r.heap_type h.0 h.1))
 
-BlockNumbered : InstrSeqType → Type 0
+abbrev BlockNumbered : InstrSeqType → Type 0
 BlockNumbered t = IsOk (numbered_block demo_numbers t)
 
 -- whatever is picked for it has a number
-PickNumbered : Signature → Type 0
+abbrev PickNumbered : Signature → Type 0
 PickNumbered s = (t : InstrSeqType) → pick demo_types s ≡ Some t → BlockNumbered t
 
 picked : (s : Signature) (u : InstrSeqType) → pick demo_types s ≡ Some u → BlockNumbered u → PickNumbered s
 picked s u at ok t e = let same : u ≡ t = cc in subst BlockNumbered same ok
 
 has_type : (id : ℕ) (s : Signature) → function_type demo_environment id ≡ Ok s → PickNumbered s
-has_type zero s e = let same : signature [] [] ≡ s = cc in subst PickNumbered same (picked _ (Simple None) refl refl)
-has_type (suc zero) s e = let same : signature (I32 ∷ []) [] ≡ s = cc in subst PickNumbered same (picked _ (MultiValue 1) refl refl)
-has_type (suc (suc zero)) s e = let same : signature (I32 ∷ I32 ∷ []) (I32 ∷ []) ≡ s = cc in subst PickNumbered same (picked _ (MultiValue 2) refl refl)
-has_type (suc (suc (suc zero))) s e = let same : signature (I32 ∷ []) [] ≡ s = cc in subst PickNumbered same (picked _ (MultiValue 1) refl refl)
-has_type (suc (suc (suc (suc zero)))) s e = let same : signature [] [] ≡ s = cc in subst PickNumbered same (picked _ (Simple None) refl refl)
+has_type zero s e = let same : signature [] [] ≡ s = cc in subst PickNumbered same (picked (signature [] []) (Simple None) refl refl)
+has_type (suc zero) s e = let same : signature (I32 ∷ []) [] ≡ s = cc in subst PickNumbered same (picked (signature (I32 ∷ []) []) (MultiValue 1) refl refl)
+has_type (suc (suc zero)) s e = let same : signature (I32 ∷ I32 ∷ []) (I32 ∷ []) ≡ s = cc in subst PickNumbered same (picked (signature (I32 ∷ I32 ∷ []) (I32 ∷ [])) (MultiValue 2) refl refl)
+has_type (suc (suc (suc zero))) s e = let same : signature (I32 ∷ []) [] ≡ s = cc in subst PickNumbered same (picked (signature (I32 ∷ []) []) (MultiValue 1) refl refl)
+has_type (suc (suc (suc (suc zero)))) s e = let same : signature [] [] ≡ s = cc in subst PickNumbered same (picked (signature [] []) (Simple None) refl refl)
 has_type (suc (suc (suc (suc (suc n))))) s e = absurd cc
 
 has_block : (b : BlockType) (s : Signature) → name_block demo_environment b ≡ Ok s → PickNumbered s
-has_block Empty s e = let same : signature [] [] ≡ s = cc in subst PickNumbered same (picked _ (Simple None) refl refl)
+has_block Empty s e = let same : signature [] [] ≡ s = cc in subst PickNumbered same (picked (signature [] []) (Simple None) refl refl)
 has_block (Value t) s e =
     let u = bound (translate_value (id_at demo_environment) t) (λ u. Ok (signature [] (u ∷ []))) s e in
     let same : signature [] (u.0 ∷ []) ≡ s = cc in
-    subst PickNumbered same (picked _ (Simple (Some u.0)) refl (then_ok (translate_value demo_numbers.number_of u.0) Value (has_value t u.0 u.1)))
+    subst PickNumbered same (picked (signature [] (u.0 ∷ [])) (Simple (Some u.0)) refl (then_ok (translate_value demo_numbers.number_of u.0) Value (has_value t u.0 u.1)))
 has_block (FuncType n) s e = let id = bound (id_at demo_environment Types n) (function_type demo_environment) s e in has_type id.0 s id.2
 
 pub demo_has_numbers : HasNumbers demo_environment demo_numbers

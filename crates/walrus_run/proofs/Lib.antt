@@ -20,3 +20,5 @@ mod BodyParses
 mod FirstParsers
 mod DemoMaps
 mod DemoNumbers
+mod CarriedTrees
+mod RewritingLemmas

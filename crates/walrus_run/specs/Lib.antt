@@ -12,3 +12,4 @@ pub mod WalkFaults
 pub mod Writing
 pub mod Scopes
 pub mod Rewriting
+pub mod Encoding

@@ -1,15 +1,49 @@
 //! Rewriting a body.
-ghost use Rattle.std.specs.Prelude.{◌≡◌, ◌⊎◌, Err, IfOk, IfErr};
+ghost use Rattle.std.specs.Prelude.{◌≡◌, ◌⊎◌, Ok, Err, IfOk, IfErr, IsOk, IsErr};
 ghost use Rattle.walrus_body.specs.declared.error.ParseFailure.{ParseFailure as Failure};
+ghost use Rattle.walrus_body.specs.declared.error.EmitError.TheVariants.{Memory};
 ghost use Rattle.walrus_body.specs.SourceTree.{Body};
 ghost use Rattle.walrus_body.specs.Naming.{Occurrence};
 ghost use Rattle.walrus_body.specs.Accepted.{Accepted, FirstFault};
+ghost use Rattle.walrus_body.specs.FunctionTree.{FunctionTree};
+ghost use Rattle.walrus_body.specs.Bytes.{tree_bytes};
 ghost use Rattle.walrus_run.specs.declared.error.RewriteError.TheVariants.{Parse};
+ghost use Rattle.walrus_run.specs.BodyParsing.{IsFunction};
 ghost use Rattle.walrus_run.specs.Demo.{demo};
+ghost use Rattle.walrus_run.specs.Encoding.{AreCarried};
 ghost use Rattle.walrus_run.specs.Rewriting.{IsNormalBytes, IsRewritten, WantsMemory, IsFaulty};
+ghost use Rattle.walrus_run.specs.Writing.{numbers_of};
 
+use crate::body_parser::parse_body;
+use crate::demo;
 use crate::error::RewriteError;
+use crate::write_fault::WriteFault;
+use crate::writer::encode;
 use std::alloc::Global;
+use walrus_body::{EmitError, IdsToIndices};
+use walrus_ir::{FunctionBuilder, FunctionId, TypeId};
+
+/// The operators of a function that has a tree and can be written with these new indices.
+fn written_operators(
+    alloc: Global,
+    builder: &FunctionBuilder,
+    numbers: &IdsToIndices,
+) -> Result<Vec<u8>, EmitError>
+    requires { (t : FunctionTree) × IsFunction builder.now t × IsOk (tree_bytes (numbers_of numbers.now) t) × AreCarried t.items }
+    ensures ok { IfOk result (λ out. (t : FunctionTree) → IsFunction builder.now t → tree_bytes (numbers_of numbers.now) t ≡ Ok out.items) }
+    ensures err { IfErr result (λ e. e ≡ Memory) }
+{
+    match encode(alloc, builder, builder.entry().unwrap(), numbers) {
+        Ok(encoder) => {
+            let mut bytes = encoder.into_raw_body();
+            // The count of declarations, which is 0.
+            bytes.remove(0);
+            Ok(bytes)
+        }
+        Err(WriteFault::Emit(error)) => Err(error),
+        Err(WriteFault::NotCarried) => unreachable!(),
+    }
+}
 
 /// Rewrites the operators of a body over the demo module: they are parsed as the body of its function 0, which begins at
 /// place 0, and the tree is written again with the same indices. The answer is the written operators, without
@@ -25,8 +59,25 @@ pub fn rewrite_demo(alloc: Global, ops: &[u8]) -> Result<Vec<u8>, RewriteError>
 
     // Want of memory aside, each accepted body is answered, and each first fault is.
     ensures each_body { (b : Body Occurrence) → Accepted demo ops.now b → IfErr result WantsMemory × IfOk result (λ out. IsNormalBytes b out.items) }
-    ensures each_fault { (f : Failure) → FirstFault demo ops.now f → IfErr result (λ e. WantsMemory e ⊎ (e ≡ Parse f)) × IfOk result (λ out. ⊥) }
+    ensures each_fault { (f : Failure) → FirstFault demo ops.now f → IsErr result × IfErr result (λ e. WantsMemory e ⊎ (e ≡ Parse f)) }
 {
-    let _ = ops;
-    Ok(Vec::new(alloc))
+    let module = demo::module(alloc)?;
+    let (Ok(indices), Ok(numbers)) = (demo::indices(alloc), demo::numbers(alloc)) else {
+        return Err(RewriteError::Emit(EmitError::Memory));
+    };
+    match parse_body(
+        alloc,
+        &module,
+        &indices,
+        FunctionId::new(0),
+        TypeId::new(1),
+        ops,
+        0,
+    ) {
+        Ok(builder) => match written_operators(alloc, &builder, &numbers) {
+            Ok(bytes) => Ok(bytes),
+            Err(error) => Err(RewriteError::Emit(error)),
+        },
+        Err(failure) => Err(RewriteError::Parse(failure)),
+    }
 }
