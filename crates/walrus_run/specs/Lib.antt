@@ -11,3 +11,4 @@ pub mod Demo
 pub mod WalkFaults
 pub mod Writing
 pub mod Scopes
+pub mod InstructionKinds
