@@ -19,3 +19,5 @@ mod NextOperators
 mod BodyParses
 mod FirstParsers
 mod ScopeLemmas
+mod Exponents
+mod NotCarried

@@ -48,8 +48,10 @@ pub(crate) fn block_type(indices: &IdsToIndices, ty: InstrSeqType) -> Result<Blo
     ensures { result ≡ numbered_block (numbers_of indices.now) ty }
 {
     match ty {
-        InstrSeqType::Simple(None) => Ok(BlockType::Empty),
-        InstrSeqType::Simple(Some(ty)) => Ok(BlockType::Value(value_type(indices, ty)?)),
+        InstrSeqType::Simple(ty) => match ty {
+            None => Ok(BlockType::Empty),
+            Some(ty) => Ok(BlockType::Value(value_type(indices, ty)?)),
+        },
         InstrSeqType::MultiValue(id) => Ok(BlockType::FuncType(indices.get_type_index(id)?)),
     }
 }
