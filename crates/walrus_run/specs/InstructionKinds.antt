@@ -1,9 +1,7 @@
 -- Kinds of instructions, by the operators that they are written as.
 use Rattle.std.specs.Prelude.{Bool, true, false}
 use Rattle.walrus_ir.specs.declared.instr.Instr.{Instr}
-use Rattle.walrus_ir.specs.declared.instr.Instr.TheVariants.{Unreachable, Block, Br, Return, Drop, Select, Const, Unop, Binop, TernOp, GlobalGet, GlobalSet, Load, Store, MemorySize, MemoryGrow, MemoryInit, DataDrop, MemoryCopy, MemoryFill, TableGet, TableSet, TableInit, ElemDrop, TableCopy, TableGrow, TableSize, TableFill}
-use Rattle.walrus_ir.specs.declared.value.Value.{Value}
-use Rattle.walrus_ir.specs.declared.value.Value.TheVariants.{V128}
+use Rattle.walrus_ir.specs.declared.instr.Instr.TheVariants.{Load, Store, MemorySize, MemoryGrow, MemoryInit, DataDrop, MemoryCopy, MemoryFill, TableGet, TableSet, TableInit, ElemDrop, TableCopy, TableGrow, TableSize, TableFill}
 
 -- those on memories and data segments
 abbrev pub is_on_memory : Instr → Bool
