@@ -22,3 +22,6 @@ mod DemoMaps
 mod DemoNumbers
 mod CarriedTrees
 mod RewritingLemmas
+mod ScopeLemmas
+mod Exponents
+mod NotCarried

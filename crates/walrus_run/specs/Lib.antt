@@ -13,3 +13,4 @@ pub mod Writing
 pub mod Scopes
 pub mod Rewriting
 pub mod Encoding
+pub mod InstructionKinds

@@ -16,6 +16,7 @@ mod rewriting;
 mod scopes;
 mod write_fault;
 mod writer;
+mod written_types;
 
 pub use error::RewriteError;
 pub use laws::law_executions;

@@ -1,20 +1,35 @@
 //! The sequences that are open while a tree is written.
 ghost use Rattle.std.specs.Prelude.{◌≡◌, ◌≤◌, ◌⊎◌, ◌∷◌, [], ℕ, List, OnOk, OnErr, IfOk, IfErr};
 ghost use Rattle.walrus_body.specs.declared.error.EmitError.TheVariants as emit;
-ghost use Rattle.walrus_body.specs.Results.{◌>>=◌};
-ghost use Rattle.walrus_body.specs.FlatText.{depth_of};
 ghost use Rattle.walrus_body.specs.Bytes.{fitting};
-ghost use Rattle.walrus_body.specs.TreeOfFunction.{target_in};
-ghost use Rattle.walrus_run.specs.Scopes.{IsOpen};
+ghost use Rattle.walrus_run.specs.Scopes.{IsOpen, depth_in};
 
 use std::alloc::{AllocError, Global};
 use walrus_body::EmitError;
 use walrus_ir::InstrSeqId;
 
-/// The sequences that are open, with a table that gives the depth of each.
+/// The sequences that are open, with a table that gives the level of each.
 #[derive(Drop)]
 pub(crate) struct Scopes {
+    /// Of each sequence of the builder, if it is open, how many open sequences stand around it.
     levels: Vec<Option<usize>>,
+    /// The open sequences, the innermost last.
+    entered: Vec<Entered>,
+}
+
+/// An open sequence.
+#[derive(Clone, Copy)]
+struct Entered {
+    place: InstrSeqId,
+    /// The level in the table before.
+    before: Option<usize>,
+}
+
+/// A depth as it is written.
+fn fitting(depth: usize) -> Result<u32, EmitError>
+    ensures { result ≡ fitting depth }
+{
+    u32::try_from(depth).map_err(|_| EmitError::TooLarge)
 }
 
 impl Scopes {
@@ -22,16 +37,23 @@ impl Scopes {
     pub fn new(alloc: Global, count: usize) -> Result<Scopes, AllocError>
         ensures { IfOk result (λ s. IsOpen s count []) }
     {
-        let _ = (alloc, count);
-        Err(AllocError)
+        let mut levels = Vec::new(alloc);
+        levels.resize(count, None)?;
+        Ok(Scopes {
+            levels,
+            entered: Vec::new(alloc),
+        })
     }
 
     /// How many sequences stand between the open sequence at this place and what is written.
     pub fn depth(&self, place: InstrSeqId) -> Result<u32, EmitError>
-        ensures { (count : ℕ) (around : List ℕ) → IsOpen self.now count around → result ≡ (depth_of (target_in around place) >>= fitting) }
+        ensures { (count : ℕ) (around : List ℕ) → IsOpen self.now count around → result ≡ depth_in around place }
     {
-        let _ = place;
-        Err(EmitError::Memory)
+        let level = self.levels.get(place.index()).copied().flatten();
+        let Some(level) = level else {
+            return Err(EmitError::BranchOutside);
+        };
+        fitting(self.entered.len().saturating_sub(level).saturating_sub(1))
     }
 
     /// Opens the sequence at a place.
@@ -40,12 +62,29 @@ impl Scopes {
         ensures err { IfErr result (λ e. (e ≡ emit.Memory) ⊎ ((count : ℕ) (around : List ℕ) → IsOpen self.old count around → count ≤ place)) }
         ensures kept { OnErr result ((count : ℕ) (around : List ℕ) → IsOpen self.old count around → IsOpen self.new count around) }
     {
-        let _ = place;
-        Err(EmitError::Memory)
+        let index = place.index();
+        if index >= self.levels.len() {
+            return Err(EmitError::UnknownSequence);
+        }
+        let level = self.entered.len();
+        let before = self.levels[index];
+        if self.entered.push(Entered { place, before }).is_err() {
+            return Err(EmitError::Memory);
+        }
+        self.levels[index] = Some(level);
+        Ok(())
     }
 
     /// Closes the innermost open sequence, if one is open.
     pub fn leave(&mut self)
         ensures { (count place : ℕ) (around : List ℕ) → IsOpen self.old count (place ∷ around) → IsOpen self.new count around }
-    {}
+    {
+        let Some(left) = self.entered.pop() else {
+            return;
+        };
+        let index = left.place.index();
+        if index < self.levels.len() {
+            self.levels[index] = left.before;
+        }
+    }
 }

@@ -1,7 +1,7 @@
 //! Why a tree isn't written.
 
 use std::alloc::AllocError;
-use walrus_body::EmitError;
+use walrus_body::{EmitError, IndexError};
 use walrus_ir::WalkError;
 
 /// Why a tree isn't written.
@@ -21,6 +21,29 @@ impl From<AllocError> for WriteFault {
 
     fn from(_failed: AllocError) -> WriteFault {
         WriteFault::Emit(EmitError::Memory)
+    }
+}
+
+impl From<EmitError> for WriteFault {
+    ghost use Rattle.std.specs.Prelude.{◌≡◌};
+    ghost use Rattle.walrus_run.specs.declared.write_fault.WriteFault.TheVariants.{Emit};
+
+    ghost from_gives = { λ fault error. error ≡ Emit fault };
+
+    fn from(fault: EmitError) -> WriteFault {
+        WriteFault::Emit(fault)
+    }
+}
+
+impl From<IndexError> for WriteFault {
+    ghost use Rattle.std.specs.Prelude.{◌≡◌};
+    ghost use Rattle.walrus_body.specs.declared.error.EmitError.TheVariants.{Index};
+    ghost use Rattle.walrus_run.specs.declared.write_fault.WriteFault.TheVariants.{Emit};
+
+    ghost from_gives = { λ fault error. error ≡ Emit (Index fault) };
+
+    fn from(fault: IndexError) -> WriteFault {
+        WriteFault::Emit(EmitError::Index(fault))
     }
 }
 

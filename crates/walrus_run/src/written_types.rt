@@ -1,0 +1,57 @@
+//! The types that a tree names, with the numbers that are written for them.
+ghost use Rattle.std.specs.Prelude.{◌≡◌};
+ghost use Rattle.walrus_ir.specs.declared.val_type.ValType.TheVariants.{Ref};
+ghost use Rattle.walrus_body.specs.Bytes.{numbered_block};
+ghost use Rattle.walrus_body.specs.Translation.{translate_value};
+ghost use Rattle.walrus_run.specs.Writing.{numbers_of};
+
+use walrus_body::{EmitError, IdsToIndices};
+use walrus_ir::{HeapType, InstrSeqType, RefType, ValType};
+use wasm_ops::{BlockType, RawHeapType, RawValType};
+
+fn reference(nullable: bool, heap_type: RawHeapType) -> RawValType
+    ensures { result ≡ Ref (record { nullable = nullable; heap_type = heap_type }) }
+{
+    ValType::Ref(RefType {
+        nullable,
+        heap_type,
+    })
+}
+
+/// A value type with the numbers of the types that it names.
+pub(crate) fn value_type(indices: &IdsToIndices, ty: ValType) -> Result<RawValType, EmitError>
+    ensures { result ≡ translate_value (numbers_of indices.now).number_of ty }
+{
+    match ty {
+        ValType::I32 => Ok(ValType::I32),
+        ValType::I64 => Ok(ValType::I64),
+        ValType::F32 => Ok(ValType::F32),
+        ValType::F64 => Ok(ValType::F64),
+        ValType::V128 => Ok(ValType::V128),
+        ValType::Ref(
+            RefType {
+                nullable,
+                heap_type,
+            },
+        ) => match heap_type {
+            HeapType::Abstract(ty) => Ok(reference(nullable, HeapType::Abstract(ty))),
+            HeapType::Concrete(id) => {
+                let number = indices.get_type_index(id)?;
+                Ok(reference(nullable, HeapType::Concrete(number)))
+            }
+        },
+    }
+}
+
+/// The block type of a construct whose sequence has this type.
+pub(crate) fn block_type(indices: &IdsToIndices, ty: InstrSeqType) -> Result<BlockType, EmitError>
+    ensures { result ≡ numbered_block (numbers_of indices.now) ty }
+{
+    match ty {
+        InstrSeqType::Simple(ty) => match ty {
+            None => Ok(BlockType::Empty),
+            Some(ty) => Ok(BlockType::Value(value_type(indices, ty)?)),
+        },
+        InstrSeqType::MultiValue(id) => Ok(BlockType::FuncType(indices.get_type_index(id)?)),
+    }
+}
