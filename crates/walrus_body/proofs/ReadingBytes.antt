@@ -10,7 +10,7 @@ all_bytes [] a i = omega arith
 all_bytes (b ∷ bytes) a zero = a.0
 all_bytes (b ∷ bytes) a (suc i) = all_bytes bytes a.1 i
 
-each_byte : (bytes : List ℕ) → IsBytes bytes → AreBytes bytes
+pub each_byte : (bytes : List ℕ) → IsBytes bytes → AreBytes bytes
 each_byte [] h = tt
 each_byte (b ∷ bytes) h = (h 0, each_byte bytes (λ i. h (suc i)))
 

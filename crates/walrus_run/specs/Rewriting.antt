@@ -1,5 +1,5 @@
 -- Rewriting a body over the demo module.
-use Rattle.std.specs.Prelude.{◌≡◌, ◌⊎◌, ℕ, List, Ok}
+use Rattle.std.specs.Prelude.{◌≡◌, ◌⊎◌, ℕ, List, Ok, Err}
 use Rattle.walrus_ir.specs.declared.error.WalkError.TheVariants as walk
 use Rattle.walrus_body.specs.declared.error.ParseError.TheVariants as parse
 use Rattle.walrus_body.specs.declared.error.EmitError.TheVariants as emit
@@ -7,6 +7,7 @@ use Rattle.walrus_body.specs.declared.error.ParseFailure.{ParseFailure}
 use Rattle.walrus_body.specs.SourceTree.{Body}
 use Rattle.walrus_body.specs.Naming.{Occurrence}
 use Rattle.walrus_body.specs.Accepted.{Accepted, FirstFault}
+use Rattle.walrus_body.specs.Parsing.{parsed}
 use Rattle.walrus_body.specs.NormalForm.{typing_of, normal_form, named_body}
 use Rattle.walrus_body.specs.Bytes.{tree_bytes}
 use Rattle.walrus_run.specs.declared.error.RewriteError.{RewriteError}
@@ -30,3 +31,11 @@ WantsMemory (Emit e) = e ≡ emit.Memory
 -- The operators have this first fault.
 abbrev pub IsFaulty : List ℕ → RewriteError → Type 0
 IsFaulty ops e = (f : ParseFailure) × FirstFault demo ops f × (e ≡ Parse f)
+
+-- ---- the same, of what parsing on lists answers
+
+abbrev pub IsParsedAndWritten : List ℕ → List ℕ → Type 0
+IsParsedAndWritten ops out = (b : Body Occurrence) × (parsed demo ops ≡ Ok b) × IsNormalBytes b out
+
+abbrev pub IsRefused : List ℕ → RewriteError → Type 0
+IsRefused ops e = WantsMemory e ⊎ ((f : ParseFailure) × (parsed demo ops ≡ Err f) × (e ≡ Parse f))

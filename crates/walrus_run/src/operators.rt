@@ -1,5 +1,7 @@
 //! The operators that instructions are written as: ids are looked up in the order in which their numbers are written.
-ghost use Rattle.std.specs.Prelude.{◌≡◌, ◌<◌, ℕ, List, true};
+ghost use Rattle.std.specs.Prelude.{◌≡◌, ◌<◌, [], ℕ, List, true, IfOk};
+ghost use Rattle.wasm_ops.specs.Meaning.{meaning};
+ghost use Rattle.wasm_encode.specs.Writable.{IsWritable};
 ghost use Rattle.walrus_body.specs.FlatText.{exponent_of};
 ghost use Rattle.walrus_ir.specs.declared.val_type.InstrSeqType.{InstrSeqType as SequenceType};
 ghost use Rattle.walrus_run.specs.InstructionKinds.{is_on_memory, is_on_table};
@@ -113,7 +115,8 @@ pub(crate) fn operator_of(
     scopes: &Scopes,
     indices: &IdsToIndices,
 ) -> Result<OutOp, WriteFault>
-    ensures { (count : ℕ) (around : List ℕ) → IsOpen scopes.now count around → IsOperatorOf (numbers_of indices.now) around ty instr.now result }
+    ensures operator { (count : ℕ) (around : List ℕ) → IsOpen scopes.now count around → IsOperatorOf (numbers_of indices.now) around ty instr.now result }
+    ensures writable { IfOk result (λ op. IsWritable (meaning op)) }
 {
     Ok(match instr {
         Instr::Unreachable => Operator::Unreachable,

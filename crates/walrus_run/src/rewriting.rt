@@ -9,9 +9,9 @@ ghost use Rattle.walrus_body.specs.FunctionTree.{FunctionTree};
 ghost use Rattle.walrus_body.specs.Bytes.{tree_bytes};
 ghost use Rattle.walrus_run.specs.declared.error.RewriteError.TheVariants.{Parse};
 ghost use Rattle.walrus_run.specs.BodyParsing.{IsFunction};
-ghost use Rattle.walrus_run.specs.Demo.{demo};
+ghost use Rattle.walrus_run.specs.Demo.{demo, demo_module, demo_indices, demo_numbers};
 ghost use Rattle.walrus_run.specs.Encoding.{AreCarried};
-ghost use Rattle.walrus_run.specs.Rewriting.{IsNormalBytes, IsRewritten, WantsMemory, IsFaulty};
+ghost use Rattle.walrus_run.specs.Rewriting.{IsNormalBytes, IsRewritten, WantsMemory, IsFaulty, IsParsedAndWritten, IsRefused};
 ghost use Rattle.walrus_run.specs.Writing.{numbers_of};
 
 use crate::body_parser::parse_body;
@@ -20,8 +20,8 @@ use crate::error::RewriteError;
 use crate::write_fault::WriteFault;
 use crate::writer::encode;
 use std::alloc::Global;
-use walrus_body::{EmitError, IdsToIndices};
-use walrus_ir::{FunctionBuilder, FunctionId, TypeId};
+use walrus_body::{EmitError, IdsToIndices, IndicesToIds};
+use walrus_ir::{FunctionBuilder, FunctionId, Module, TypeId};
 
 /// The operators of a function that has a tree and can be written with these new indices.
 fn written_operators(
@@ -45,6 +45,30 @@ fn written_operators(
     }
 }
 
+/// Rewrites operators over a module and its index maps, which are those of the demo module.
+fn rewrite(
+    alloc: Global,
+    module: &Module,
+    indices: &IndicesToIds,
+    numbers: &IdsToIndices,
+    ops: &[u8],
+) -> Result<Vec<u8>, RewriteError>
+    requires module_is { «module».now ≡ demo_module }
+    requires indices_are { indices.now ≡ demo_indices }
+    requires numbers_are { numbers_of numbers.now ≡ demo_numbers }
+    ensures ok { IfOk result (λ out. IsParsedAndWritten ops.now out.items) }
+    ensures err { IfErr result (λ e. IsRefused ops.now e) }
+{
+    let (function, ty) = (FunctionId::new(0), TypeId::new(1));
+    match parse_body(alloc, module, indices, function, ty, ops, 0) {
+        Ok(builder) => match written_operators(alloc, &builder, numbers) {
+            Ok(bytes) => Ok(bytes),
+            Err(error) => Err(RewriteError::Emit(error)),
+        },
+        Err(failure) => Err(RewriteError::Parse(failure)),
+    }
+}
+
 /// Rewrites the operators of a body over the demo module: they are parsed as the body of its function 0, which begins at
 /// place 0, and the tree is written again with the same indices. The answer is the written operators, without
 /// declarations of locals.
@@ -65,19 +89,5 @@ pub fn rewrite_demo(alloc: Global, ops: &[u8]) -> Result<Vec<u8>, RewriteError>
     let (Ok(indices), Ok(numbers)) = (demo::indices(alloc), demo::numbers(alloc)) else {
         return Err(RewriteError::Emit(EmitError::Memory));
     };
-    match parse_body(
-        alloc,
-        &module,
-        &indices,
-        FunctionId::new(0),
-        TypeId::new(1),
-        ops,
-        0,
-    ) {
-        Ok(builder) => match written_operators(alloc, &builder, &numbers) {
-            Ok(bytes) => Ok(bytes),
-            Err(error) => Err(RewriteError::Emit(error)),
-        },
-        Err(failure) => Err(RewriteError::Parse(failure)),
-    }
+    rewrite(alloc, &module, &indices, &numbers, ops)
 }
