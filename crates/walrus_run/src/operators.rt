@@ -1,5 +1,5 @@
 //! The operators that instructions are written as: ids are looked up in the order in which their numbers are written.
-ghost use Rattle.std.specs.Prelude.{◌≡◌, ◌<◌, [], ℕ, List, true, IfOk};
+ghost use Rattle.std.specs.Prelude.{◌≡◌, ◌<◌, ℕ, List, true, IfOk};
 ghost use Rattle.wasm_ops.specs.Meaning.{meaning};
 ghost use Rattle.wasm_encode.specs.Writable.{IsWritable};
 ghost use Rattle.walrus_body.specs.FlatText.{exponent_of};
@@ -115,8 +115,8 @@ pub(crate) fn operator_of(
     scopes: &Scopes,
     indices: &IdsToIndices,
 ) -> Result<OutOp, WriteFault>
-    ensures operator { (count : ℕ) (around : List ℕ) → IsOpen scopes.now count around → IsOperatorOf (numbers_of indices.now) around ty instr.now result }
     ensures writable { IfOk result (λ op. IsWritable (meaning op)) }
+    ensures operator { (count : ℕ) (around : List ℕ) → IsOpen scopes.now count around → IsOperatorOf (numbers_of indices.now) around ty instr.now result }
 {
     Ok(match instr {
         Instr::Unreachable => Operator::Unreachable,

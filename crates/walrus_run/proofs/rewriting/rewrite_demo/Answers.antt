@@ -17,12 +17,12 @@ returns-clause-refused c =
 
 pub returns-clause-each_body : goal.returns-clause-each_body
 returns-clause-each_body c b accepted = (
-    if_err (IsRefused c.args.ops.now) WantsMemory (λ e. body_not_refused c.args.ops.now e b accepted) c.rewrite.result c.rewrite.ensures.err,
-    if_ok (λ out. IsParsedAndWritten c.args.ops.now out.items) (λ out. IsNormalBytes b out.items) (λ out. body_answered c.args.ops.now out.items b accepted) c.rewrite.result c.rewrite.ensures.ok,
+  if_err (IsRefused c.args.ops.now) WantsMemory (λ e. body_not_refused c.args.ops.now e b accepted) c.rewrite.result c.rewrite.ensures.err,
+  if_ok (λ out. IsParsedAndWritten c.args.ops.now out.items) (λ out. IsNormalBytes b out.items) (λ out. body_answered c.args.ops.now out.items b accepted) c.rewrite.result c.rewrite.ensures.ok,
 )
 
 pub returns-clause-each_fault : goal.returns-clause-each_fault
 returns-clause-each_fault c f fault = (
-    no_answer (λ out. IsParsedAndWritten c.args.ops.now out.items) (λ out. fault_not_written c.args.ops.now out.items f fault) c.rewrite.result c.rewrite.ensures.ok,
-    if_err (IsRefused c.args.ops.now) (λ e. WantsMemory e ⊎ (e ≡ Parse f)) (λ e. fault_answered c.args.ops.now e f fault) c.rewrite.result c.rewrite.ensures.err,
+  no_answer (λ out. IsParsedAndWritten c.args.ops.now out.items) (λ out. fault_not_written c.args.ops.now out.items f fault) c.rewrite.result c.rewrite.ensures.ok,
+  if_err (IsRefused c.args.ops.now) (λ e. WantsMemory e ⊎ (e ≡ Parse f)) (λ e. fault_answered c.args.ops.now e f fault) c.rewrite.result c.rewrite.ensures.err,
 )
