@@ -18,3 +18,4 @@ mod BlockSteps
 mod NextOperators
 mod BodyParses
 mod FirstParsers
+mod Emitting

@@ -11,3 +11,5 @@ pub mod Demo
 pub mod WalkFaults
 pub mod Writing
 pub mod Scopes
+pub mod Encoding
+pub mod Emission

@@ -15,6 +15,7 @@ mod program;
 mod rewriting;
 mod scopes;
 mod write_fault;
+mod writer;
 
 pub use error::RewriteError;
 pub use laws::law_executions;
