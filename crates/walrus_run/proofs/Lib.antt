@@ -19,3 +19,5 @@ mod NextOperators
 mod BodyParses
 mod FirstParsers
 mod Emitting
+mod EmitSteps
+mod Encoded

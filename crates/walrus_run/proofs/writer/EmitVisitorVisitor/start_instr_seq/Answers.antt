@@ -1,0 +1,5 @@
+use Rattle.walrus_run.proofs.EmitSteps.{not_entered}
+use Rattle.walrus_run.proofs.writer.EmitVisitorVisitor.start_instr_seq.Goals as goal
+
+pub returns-in-Err : goal.returns-in-Err
+returns-in-Err c = (not_entered c.args.self.now c.in-Some.place c.in-Err.fault c.in-Some.is c.in-Err.ensures.err, tt)
