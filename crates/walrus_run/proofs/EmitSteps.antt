@@ -1,5 +1,5 @@
 -- What the visitor of a writer makes of each event.
-use Rattle.std.specs.Prelude.{◌≡◌, ◌≢◌, ◌⊎◌, ◌<◌, ◌≤◌, ◌++◌, ℕ, List, [], length, Option, Some, None, slice_get, option_map, if◌then◌else◌, Result, Ok, Err, IsErrAnd}
+use Rattle.std.specs.Prelude.{◌≡◌, ◌≢◌, ◌⊎◌, ◌<◌, ◌≤◌, ◌++◌, ℕ, List, [], ◌∷◌, length, Option, Some, None, slice_get, option_map, if◌then◌else◌, Result, Ok, Err, IsErrAnd}
 use Rattle.std.proofs.Common.{refl, sym, ap, subst, ◌∙◌, inl, inr, arith}
 use Rattle.walrus_ir.specs.declared.seq.InstrSeq.{InstrSeq}
 use Rattle.walrus_ir.specs.declared.val_type.InstrSeqType.{InstrSeqType}
@@ -13,7 +13,7 @@ use Rattle.walrus_ir.specs.declared.control.Try.{Try}
 use Rattle.walrus_ir.specs.declared.control.TryTable.{TryTable}
 use Rattle.walrus_ir.specs.Arena.{arena}
 use Rattle.walrus_ir.specs.Unfolding.{places_in}
-use Rattle.walrus_ir.specs.Events.{Event, Hears}
+use Rattle.walrus_ir.specs.Events.{Event, StartSequence, Hears}
 use Rattle.wasm_ops.specs.declared.operator.Operator.{Operator}
 use Rattle.wasm_ops.specs.Meaning.{meaning}
 use Rattle.wasm_ops.specs.Operations.{RawOperation}
@@ -30,6 +30,7 @@ use Rattle.walrus_body.specs.Bytes.{Numbers}
 use Rattle.walrus_run.specs.declared.write_fault.WriteFault.{WriteFault}
 use Rattle.walrus_run.specs.declared.write_fault.WriteFault.TheVariants.{Emit, NotCarried}
 use Rattle.walrus_run.specs.declared.writer.EmitVisitor.{EmitVisitor}
+use Rattle.walrus_run.specs.declared.scopes.Scopes.{Scopes}
 use Rattle.walrus_run.specs.Scopes.{IsOpen}
 use Rattle.walrus_run.specs.Writing.{numbers_of, instruction_operator, IsOperatorOf}
 use Rattle.walrus_run.specs.Emission.{first_place, type_at, ClosesByEnd, straight, a_block, IsFirst, Stands, own_operator, Opens, IsUnwritten, Steps, Refuses, Same}
@@ -58,6 +59,24 @@ opens_more i (inl h) = ap (λ j. kinds_of (operation_of j).opcode) h.1
 opens_more i (inr (inl h)) = ap (λ j. kinds_of (operation_of j).opcode) h.1
 opens_more i (inr (inr (inl h))) = ap (λ j. kinds_of (operation_of j).opcode) h.1
 opens_more i (inr (inr (inr h))) = ap (λ j. kinds_of (operation_of j).opcode) h.1
+
+-- ---- a sequence begins
+
+pub entered : (v : EmitVisitor) (seq : InstrSeq) (scopes : Scopes) (place : ℕ) → v.coming ≡ Some place → ((count : ℕ) (around : List ℕ) → IsOpen v.scopes count around → IsOpen scopes count (place ∷ around))
+    → Steps v (StartSequence seq) (record v { scopes = scopes; coming = None })
+entered v seq scopes place is opens b to p around stands =
+    let same : place ≡ p = cc (is, stands.next) in (
+      record { sequences = stands.sequences; numbers = stands.numbers; next = refl; are_open = subst (λ q. IsOpen scopes (length b) (q ∷ around)) same (opens (length b) around stands.are_open) },
+      refl,
+    )
+
+pub not_entered : (v : EmitVisitor) (place : ℕ) (e : EmitError) → v.coming ≡ Some place → (e ≡ Memory) ⊎ ((count : ℕ) (around : List ℕ) → IsOpen v.scopes count around → count ≤ place)
+    → (b : List InstrSeq) (to : Numbers) (p : ℕ) (around : List ℕ) → Stands b to (Some p) around v → p < length b → Emit e ≡ Emit Memory
+not_entered v place e is (inl m) b to p around stands within = ap Emit m
+not_entered v place e is (inr past) b to p around stands within =
+    let same : place ≡ p = cc (is, stands.next) in
+    let far : length b ≤ place = past (length b) around stands.are_open in
+    absurd omega (arith, same, far, within)
 
 -- ---- an instruction's operator
 
@@ -109,11 +128,3 @@ not_visited v i l found NotCarried first answers b to around stands = answers (l
 pub refuses_event : {U : Type 0} (v w : EmitVisitor) (e : Event) (r : Result U WriteFault) (f : WriteFault) → IsErrAnd r (λ g. g ≡ f) → Refuses v e f → Hears Steps Refuses Same v e r w
 refuses_event v w e (Ok x) f h n = absurd h
 refuses_event v w e (Err g) f h n = (subst (λ k. Refuses v e k) (sym h) n, tt)
-
-pub not_entered : (v : EmitVisitor) (place : ℕ) (e : EmitError) → v.coming ≡ Some place → (e ≡ Memory) ⊎ ((count : ℕ) (around : List ℕ) → IsOpen v.scopes count around → count ≤ place)
-    → (b : List InstrSeq) (to : Numbers) (p : ℕ) (around : List ℕ) → Stands b to (Some p) around v → p < length b → Emit e ≡ Emit Memory
-not_entered v place e is (inl m) b to p around stands within = ap Emit m
-not_entered v place e is (inr past) b to p around stands within =
-    let same : place ≡ p = cc (is, stands.next) in
-    let far : length b ≤ place = past (length b) around stands.are_open in
-    absurd omega (arith, same, far, within)

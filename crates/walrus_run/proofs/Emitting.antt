@@ -1,14 +1,14 @@
 -- Behind the events of a tree its text is written.
-use Rattle.std.specs.Prelude.{◌≡◌, ◌⊎◌, ◌<◌, ◌++◌, ℕ, List, [], ◌∷◌, Option, Some, None, slice_get, option_map, IsSome, Result, Ok, Err}
-use Rattle.std.proofs.Common.{refl, sym, ap, subst, ◌∙◌, inl, inr, append_assoc, append-nil}
+use Rattle.std.specs.Prelude.{◌≡◌, ◌++◌, ℕ, List, [], ◌∷◌, Option, Some, None, slice_get, option_map, IsSome, Result, Ok, Err}
+use Rattle.std.proofs.Common.{refl, sym, ap, subst, ◌∙◌, inl, inr, append_assoc}
 use Rattle.std.proofs.lemmas.Option.{slice_get_within}
 use Rattle.walrus_ir.specs.declared.seq.InstrSeq.{InstrSeq}
 use Rattle.walrus_ir.specs.declared.val_type.InstrSeqType.{InstrSeqType}
 use Rattle.walrus_ir.specs.declared.instr.Instr.{Instr}
 use Rattle.walrus_ir.specs.declared.instr.Instr.TheVariants.{RefFunc, LocalGet, LocalSet, LocalTee, MemoryInit, DataDrop, ArrayNewData, ArrayInitData}
-use Rattle.walrus_ir.specs.Tree.{Items, item, Sequences}
+use Rattle.walrus_ir.specs.Tree.{Items, Sequences}
 use Rattle.walrus_ir.specs.Unfolding.{Placed, Located, places_in, AreItems, are_no_items, are_items, AreSequences, are_no_sequences, are_sequences}
-use Rattle.walrus_ir.specs.Events.{Event, StartSequence, EndSequence, VisitInstruction, NameFunction, NameLocal, NameData, names, item_events, sequence_events, Folds, through, after, Stops, refused, later}
+use Rattle.walrus_ir.specs.Events.{Event, StartSequence, EndSequence, VisitInstruction, NameFunction, NameLocal, NameData, names, item_events, sequence_events, Folds, after, Stops, refused, later}
 use Rattle.wasm_ops.specs.Operations.{RawOperation}
 use Rattle.wasm_ops.specs.Opcodes.{kinds_of}
 use Rattle.wasm_ops.specs.Shortest.{short}
@@ -18,14 +18,14 @@ use Rattle.walrus_body.specs.Results.{◌>>=◌, gathered}
 use Rattle.walrus_body.specs.Control.{role_of, end_operation}
 use Rattle.walrus_body.specs.Translation.{Located as LocatedOperation, located}
 use Rattle.walrus_body.specs.InstructionTable.{operation_of, legacy_clauses}
-use Rattle.walrus_body.specs.TreeOfFunction.{instruction_in, items_in, sequences_in}
+use Rattle.walrus_body.specs.TreeOfFunction.{items_in, sequences_in}
 use Rattle.walrus_body.specs.Bytes.{Numbers, numbering, bytes_of}
 use Rattle.walrus_body.specs.FlatText.{then_by, first_type, closers, TextOperation, text, texts}
 use Rattle.walrus_run.specs.declared.write_fault.WriteFault.{WriteFault}
 use Rattle.walrus_run.specs.declared.write_fault.WriteFault.TheVariants.{Emit, NotCarried}
 use Rattle.walrus_run.specs.declared.writer.EmitVisitor.{EmitVisitor}
 use Rattle.walrus_run.specs.Encoding.{AreCarried, AreCarriedIn}
-use Rattle.walrus_run.specs.Emission.{type_at, first_place, ClosesByEnd, straight, a_block, Stands, own_operator, Opens, IsUnwritten, Steps, Refuses, Same}
+use Rattle.walrus_run.specs.Emission.{type_at, first_place, ClosesByEnd, straight, a_block, Stands, own_operator, IsUnwritten, Steps, Refuses, Same}
 
 -- ---- the events, to the end or up to a refusal
 

@@ -6,7 +6,7 @@ use Rattle.walrus_ir.specs.declared.error.WalkError.{WalkError}
 use Rattle.walrus_ir.specs.Arena.{arena}
 use Rattle.walrus_ir.specs.Tree.{Tree, alone}
 use Rattle.walrus_ir.specs.Unfolding.{Placed, Located, IsTree}
-use Rattle.walrus_ir.specs.Events.{events, through, Folds, Stops}
+use Rattle.walrus_ir.specs.Events.{events, through, Stops}
 use Rattle.walrus_ir.specs.Walk.{HasNoWalk, Finishes, IsRefused, IsUnwalked}
 use Rattle.wasm_encode.specs.Declarations.{declarations}
 use Rattle.walrus_body.specs.Results.{◌>>=◌}
@@ -15,7 +15,7 @@ use Rattle.walrus_body.specs.TreeOfFunction.{tree_of, HasTree, sequences_in}
 use Rattle.walrus_body.specs.Bytes.{Numbers, numbering, bytes_of}
 use Rattle.walrus_body.specs.FlatText.{then_by, texts}
 use Rattle.walrus_run.specs.declared.write_fault.WriteFault.{WriteFault}
-use Rattle.walrus_run.specs.declared.write_fault.WriteFault.TheVariants.{Emit, NotCarried}
+use Rattle.walrus_run.specs.declared.write_fault.WriteFault.TheVariants.{Emit}
 use Rattle.walrus_run.specs.declared.writer.EmitVisitor.{EmitVisitor}
 use Rattle.walrus_run.specs.Scopes.{IsOpen}
 use Rattle.walrus_run.specs.Writing.{numbers_of}

@@ -100,6 +100,11 @@ impl Visitor for EmitVisitor<'_> {
 }
 
 /// The operators of the function whose tree begins at `entry`, written with the new indices, behind no declarations.
+///
+/// # Errors
+///
+/// Where there is no tree, the first fault in walk order; else the first fault in order of writing, or `NotCarried`. Or
+/// memory runs out.
 pub(crate) fn encode(
     alloc: Global,
     builder: &FunctionBuilder,
