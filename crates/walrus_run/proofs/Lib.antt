@@ -25,3 +25,6 @@ mod RewritingLemmas
 mod ScopeLemmas
 mod Exponents
 mod NotCarried
+mod Emitting
+mod EmitSteps
+mod Encoded

@@ -6,7 +6,6 @@ use Rattle.walrus_ir.specs.Tree.{Items, no_items, item, Sequences, no_sequences,
 use Rattle.walrus_ir.specs.Faults.{FirstFault}
 use Rattle.wasm_ops.specs.Opcodes.{kinds_of}
 use Rattle.wasm_encode.specs.Declarations.{declarations}
-use Rattle.walrus_body.specs.declared.error.EmitError.{EmitError}
 use Rattle.walrus_body.specs.declared.error.EmitError.TheVariants.{Memory}
 use Rattle.walrus_body.specs.FunctionTree.{Head, Instruction, FunctionTree}
 use Rattle.walrus_body.specs.TreeOfFunction.{HasTree}

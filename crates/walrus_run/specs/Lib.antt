@@ -14,3 +14,4 @@ pub mod Scopes
 pub mod Rewriting
 pub mod Encoding
 pub mod InstructionKinds
+pub mod Emission
