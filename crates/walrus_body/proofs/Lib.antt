@@ -31,3 +31,5 @@ pub mod Answering
 pub mod CarriedKinds
 pub mod KeptNames
 pub mod NumberedBodies
+mod Collecting
+mod Counting

@@ -24,3 +24,6 @@ pub mod IndexMaps
 pub mod Numbering
 pub mod Environments
 pub mod Emitting
+pub mod Facts
+pub mod Sizes
+pub mod Segments

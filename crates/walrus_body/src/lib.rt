@@ -10,6 +10,8 @@ mod id_numbers;
 mod ids_to_indices;
 mod indices_to_ids;
 mod laws;
+mod segments;
+mod sizes;
 
 pub use emit::{Emit, EmitContext, EmitFacts};
 pub use error::{EmitError, IndexError, ParseError, ParseFailure};
@@ -18,4 +20,6 @@ pub use indices_to_ids::IndicesToIds;
 pub use laws::{
     law_normal_again, law_normal_form_texts, law_one_answer, law_same_texts, law_unique_reading,
 };
+pub use segments::DataSegmentsVisitor;
+pub use sizes::SizeVisitor;
 pub use wasm_ops::Space;

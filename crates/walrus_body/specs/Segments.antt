@@ -1,0 +1,29 @@
+-- What `DataSegmentsVisitor` means: it collects the data segments that are named.
+use Rattle.std.specs.Prelude.{◌≡◌, ◌||◌, ◌==◌, ℕ, Bool, List, [], ◌∷◌}
+use Rattle.std.specs.HashSet.{contains}
+use Rattle.walrus_ir.specs.declared.error.WalkError.{WalkError}
+use Rattle.walrus_ir.specs.declared.error.WalkError.TheVariants.{Memory}
+use Rattle.walrus_ir.specs.Unfolding.{among}
+use Rattle.walrus_ir.specs.Events.{Event, NameData}
+use Rattle.walrus_body.specs.declared.segments.DataSegmentsVisitor.{DataSegmentsVisitor}
+
+-- whether it holds a data segment
+abbrev pub holds : DataSegmentsVisitor → ℕ → Bool
+holds s d = contains (λ x y. x == y) s.segments d
+
+-- the data segment that an event names
+abbrev pub named : Event → List ℕ
+named (NameData d) = d ∷ []
+named _ = []
+
+abbrev pub Collects : DataSegmentsVisitor → Event → DataSegmentsVisitor → Type 0
+Collects s e t = (d : ℕ) → holds t d ≡ (among d (named e) || holds s d)
+
+-- no memory was left for the data segment that is named
+abbrev pub WantsMemory : DataSegmentsVisitor → Event → WalkError → Type 0
+WantsMemory s (NameData d) f = f ≡ Memory
+WantsMemory s _ f = ⊥
+
+-- it holds the same data segments
+abbrev pub HoldsSame : DataSegmentsVisitor → DataSegmentsVisitor → Type 0
+HoldsSame s t = (d : ℕ) → holds t d ≡ holds s d
