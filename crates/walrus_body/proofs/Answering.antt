@@ -1,5 +1,5 @@
 -- A translation that has an answer wherever another has one, locals, labels and counts apart.
-use Rattle.std.specs.Prelude.{◌≡◌, ℕ, List, [], ◌∷◌, length, Option, Some, None, IsOk, Result, Ok, Err}
+use Rattle.std.specs.Prelude.{ℕ, List, [], ◌∷◌, length, Option, Some, None, IsOk, Result, Ok, Err}
 use Rattle.std.specs.List.{AllByRecursion}
 use Rattle.std.proofs.Common.{refl}
 use Rattle.walrus_ir.specs.declared.val_type.HeapType.{HeapType}

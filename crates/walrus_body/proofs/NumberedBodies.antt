@@ -1,13 +1,13 @@
 -- An accepted body's normal form has bytes, under numbers for all ids that its old indices and the types of its sequences
 -- stand for.
-use Rattle.std.specs.Prelude.{◌≡◌, ℕ, suc, zero, ◌<◌, ◌^◌, nat_lt, List, [], ◌∷◌, length, map, Bool, true, false, Option, Some, None, unwrap_or, IsOk, is_ok, Result, Ok, Err}
+use Rattle.std.specs.Prelude.{◌≡◌, ℕ, suc, zero, ◌<◌, ◌^◌, List, [], ◌∷◌, length, map, true, false, Option, Some, None, unwrap_or, IsOk, is_ok, Result, Ok, Err}
 use Rattle.std.specs.List.{AllByRecursion}
 use Rattle.std.proofs.lemmas.Bool.{and_parts, lt-ltb}
 use Rattle.std.proofs.Common.{refl, ap, sym, subst, ◌∙◌}
-use Rattle.wasm_ops.specs.Reading.{Spelling, Many}
+use Rattle.wasm_ops.specs.Reading.{Many}
 use Rattle.wasm_ops.specs.Numbers.{IsU32}
-use Rattle.wasm_ops.specs.Immediates.{kind_of, SpellsImmediate, SpellsImmediates, IsClause, made_clause}
-use Rattle.wasm_ops.specs.Operations.{CatchClause, Cast, Immediate, RawImmediate, index, local, label, handler, outer, number, access, branch_table, clauses, block, heap, value, cast, i32, i64, f32, f64, v128, lane, lanes, zero_byte, RawOperation}
+use Rattle.wasm_ops.specs.Immediates.{kind_of, SpellsImmediate, SpellsImmediates, IsClause}
+use Rattle.wasm_ops.specs.Operations.{CatchClause, Cast, Immediate, RawImmediate, index, local, label, branch_table, clauses, cast, RawOperation}
 use Rattle.wasm_ops.specs.declared.types.BlockType.{BlockType}
 use Rattle.wasm_ops.specs.declared.types.Space.{Space}
 use Rattle.wasm_ops.specs.Spelling.{Spells}

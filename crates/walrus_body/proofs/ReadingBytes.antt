@@ -1,5 +1,5 @@
 -- What is read of bytes is what is spelt there, by the codec's lemma.
-use Rattle.std.specs.Prelude.{◌≡◌, ℕ, zero, suc, ◌<◌, List, [], ◌∷◌}
+use Rattle.std.specs.Prelude.{ℕ, zero, suc, List, [], ◌∷◌}
 use Rattle.std.proofs.Common.{arith}
 use Rattle.wasm_ops.proofs.Agreement.{IsBytes}
 use Rattle.wasm_ops.proofs.OperationLaws.{operations_agree}

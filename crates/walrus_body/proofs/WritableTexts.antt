@@ -1,7 +1,7 @@
 -- The normal form of a body has a text in any way of writing that has an answer for each of its operators.
 use Rattle.std.specs.Prelude.{◌≡◌, ℕ, List, [], ◌∷◌, true, IsOk, Result, Ok, Err, if◌then◌else◌}
 use Rattle.std.specs.List.{AllByRecursion}
-use Rattle.std.proofs.Common.{refl, ap, sym, subst, ◌∙◌}
+use Rattle.std.proofs.Common.{refl, sym, subst}
 use Rattle.walrus_ir.specs.declared.val_type.InstrSeqType.{InstrSeqType}
 use Rattle.walrus_ir.specs.declared.val_type.InstrSeqType.TheVariants.{Simple}
 use Rattle.std.specs.Prelude.{None}
@@ -12,7 +12,7 @@ use Rattle.wasm_ops.specs.Operations.{index, outer, Operation, operation}
 use Rattle.walrus_body.specs.declared.error.EmitError.{EmitError}
 use Rattle.walrus_body.specs.declared.error.EmitError.TheVariants.{BadClauses}
 use Rattle.walrus_body.specs.Results.{◌>>=◌, gathered}
-use Rattle.walrus_body.specs.Control.{Action, Control, Does, Opens, Else, Catch, CatchAll, End, Delegate, If, Try, end_operation, else_operation, catch_opcode, catch_all_operation, delegate_operation}
+use Rattle.walrus_body.specs.Control.{Action, Control, Does, Opens, Catch, Delegate, If, Try, end_operation, else_operation, catch_opcode, catch_all_operation, delegate_operation}
 use Rattle.walrus_body.specs.SourceTree.{Sequence, Empty, Single, Wrapped, IfThen, IfElse, TryCatch, TryDelegate, Clauses, Ended, Catches, CatchesAll, construct_of, Body}
 use Rattle.walrus_body.specs.Translation.{translate, Located, located}
 use Rattle.walrus_body.specs.Naming.{NamedOperation}

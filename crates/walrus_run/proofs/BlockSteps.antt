@@ -1,6 +1,6 @@
 -- How `nop`, the opener of a block and the `end` of one advance the parser, and how the function's own `end` makes the body
 -- whole.
-use Rattle.std.specs.Prelude.{◌≡◌, ℕ, List, [], ◌∷◌, ◌++◌, length, reverse, Bool, true, false, Option, Some, None, is_some, unwrap_or, Result, Ok, Err}
+use Rattle.std.specs.Prelude.{◌≡◌, ℕ, List, [], ◌∷◌, ◌++◌, length, reverse, Option, Some, None, is_some, unwrap_or, Result, Ok, Err}
 use Rattle.std.proofs.lemmas.List.{reverse-append}
 use Rattle.std.proofs.Common.{refl, ap, sym, subst, ◌∙◌}
 use Rattle.walrus_ir.specs.declared.seq.InstrSeq.{InstrSeq}
@@ -8,7 +8,7 @@ use Rattle.walrus_ir.specs.declared.val_type.InstrSeqType.{InstrSeqType}
 use Rattle.walrus_ir.specs.declared.val_type.InstrSeqType.TheVariants.{Simple}
 use Rattle.walrus_ir.specs.declared.builder.FunctionBuilder.{FunctionBuilder}
 use Rattle.walrus_ir.specs.Arena.{arena}
-use Rattle.walrus_ir.specs.Types.{Signature, ModuleType, pick}
+use Rattle.walrus_ir.specs.Types.{Signature, pick}
 use Rattle.wasm_ops.specs.declared.types.BlockType.{BlockType}
 use Rattle.wasm_ops.specs.declared.types.BlockType.TheVariants as block_type
 use Rattle.wasm_ops.specs.declared.types.Opcode.TheVariants.{Byte}
@@ -17,9 +17,9 @@ use Rattle.walrus_body.specs.declared.error.ParseError.{ParseError}
 use Rattle.walrus_body.specs.declared.error.ParseError.TheVariants.{TypeMissing}
 use Rattle.walrus_body.specs.Results.{◌>>=◌, some_or, unless}
 use Rattle.walrus_body.specs.Control.{Nop, control_of, end_operation}
-use Rattle.walrus_body.specs.SourceTree.{Sequence, Empty, Single, OfBlock}
+use Rattle.walrus_body.specs.SourceTree.{Sequence, Empty, OfBlock}
 use Rattle.walrus_body.specs.Environments.{environment_of}
-use Rattle.walrus_body.specs.Naming.{Environment, NamedOperation, Occurrence, id_at, name_block, has_pick, has_types, named_in}
+use Rattle.walrus_body.specs.Naming.{Environment, NamedOperation, Occurrence, id_at, name_block, has_types, named_in}
 use Rattle.walrus_body.specs.Accepted.{mark}
 use Rattle.walrus_body.specs.NormalForm.{typing_of, type_of, normal_form, named_body}
 use Rattle.walrus_body.specs.TreeOfFunction.{HasTree}

@@ -1,6 +1,6 @@
 -- A parse so far: what is left, read from here on, is what the whole is read from its beginning.
 use Rattle.std.specs.Prelude.{◌≡◌, ℕ, zero, suc, ◌+◌, ◌-◌, ◌<◌, ◌≤◌, List, [], ◌∷◌, length, Bool, true, false, Some, None, Result, Ok, Err}
-use Rattle.std.proofs.Common.{refl, ap, sym, subst, ◌∙◌, arith}
+use Rattle.std.proofs.Common.{refl, ap, sym, ◌∙◌, arith}
 use Rattle.walrus_ir.specs.Arena.{entry_of}
 use Rattle.wasm_ops.specs.declared.fault.ReadFault.{ReadFault}
 use Rattle.wasm_ops.specs.Operations.{RawOperation}

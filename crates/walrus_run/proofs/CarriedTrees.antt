@@ -1,13 +1,13 @@
 -- An operator is carried for each instruction of an accepted body's normal form.
-use Rattle.std.specs.Prelude.{◌≡◌, ℕ, List, [], ◌∷◌, map, Option, Some, IsSome, Result, Ok}
+use Rattle.std.specs.Prelude.{◌≡◌, ℕ, List, [], ◌∷◌, map, Option, Some, IsSome, Ok}
 use Rattle.std.specs.List.{AllByRecursion}
-use Rattle.std.proofs.Common.{refl, sym, ap, subst, ◌∙◌}
-use Rattle.walrus_ir.specs.Tree.{Items, no_items, item, Sequences, no_sequences, sequence}
+use Rattle.std.proofs.Common.{refl, sym, subst}
+use Rattle.walrus_ir.specs.Tree.{Items}
 use Rattle.wasm_ops.specs.declared.types.Opcode.{Opcode}
 use Rattle.wasm_ops.specs.Immediates.{Kind, kind_of}
 use Rattle.wasm_ops.specs.Opcodes.{kinds_of}
 use Rattle.wasm_ops.specs.OperatorList.{Lists}
-use Rattle.walrus_body.specs.Control.{Control, End, marked, control_of}
+use Rattle.walrus_body.specs.Control.{Control, End, marked}
 use Rattle.walrus_body.specs.Frames.{Frame}
 use Rattle.walrus_body.specs.SourceTree.{Sequence, Empty, Single, Wrapped, IfThen, IfElse, TryCatch, TryDelegate, Clauses, Ended, Catches, CatchesAll, Body}
 use Rattle.walrus_body.specs.Translation.{Located}

@@ -1,11 +1,11 @@
 -- The index maps of the demo module: locals that are put in one after the other, and numbers that are given in turn.
-use Rattle.std.specs.Prelude.{◌≡◌, ℕ, zero, suc, nat_lt, ◌==◌, List, [], ◌∷◌, ◌++◌, length, Bool, true, false, cond, Option, Some, None, if◌then◌else◌, Result, Ok, Err}
+use Rattle.std.specs.Prelude.{◌≡◌, ℕ, zero, suc, nat_lt, List, [], ◌∷◌, length, Bool, true, false, Some, None, if◌then◌else◌, Result, Ok, Err}
 use Rattle.std.proofs.Common.{refl, ap, sym, ◌∙◌, rules, arith}
 use Rattle.std.proofs.Math.Path.{fun_ext}
 use Rattle.std.proofs.lemmas.Bool.Decides.{nat_tests}
 use Rattle.std.specs.Ordering.{nat_cmp}
 use Rattle.std.specs.Cmp.{nat_cmp_total}
-use Rattle.std.specs.FinMap.{FinMap, empty, insert, get, len, get-empty, get-insert, len-insert, len-empty, same_map, nat_cmp-IsAntisymmetric, gets}
+use Rattle.std.specs.FinMap.{FinMap, empty, insert, get, len, get-empty, len-insert, len-empty, same_map, nat_cmp-IsAntisymmetric, gets}
 use Rattle.wasm_ops.specs.declared.types.Space.{Space}
 use Rattle.wasm_ops.specs.declared.types.Space.TheVariants.{Tables, Types, Funcs, Globals, Memories, Elements, Data, Tags}
 use Rattle.walrus_body.specs.declared.error.EmitError.{EmitError}
@@ -16,7 +16,6 @@ use Rattle.walrus_body.specs.declared.ids_to_indices.IdsToIndices.{IdsToIndices}
 use Rattle.walrus_body.specs.Results.{faulting, some_or}
 use Rattle.walrus_body.specs.IndexMaps.{ids_in, locals_in, with_locals, numbers_in, with_numbers, numbered, number_of}
 use Rattle.walrus_body.specs.Numbering.{pushed}
-use Rattle.walrus_body.specs.Bytes.{Numbers}
 use Rattle.walrus_body.proofs.NumberingLemmas.{get-numbered}
 use Rattle.walrus_run.specs.Demo.{demo_indices, demo_numbers}
 use Rattle.walrus_run.specs.Writing.{numbers_of}

@@ -1,7 +1,7 @@
 -- The demo module's numbers: there is one for each id that an old index stands for, and for the type of each sequence.
-use Rattle.std.specs.Prelude.{◌≡◌, ℕ, suc, zero, nat_lt, List, [], ◌∷◌, length, Bool, true, false, Option, Some, None, slice_get, if◌then◌else◌, IsOk, is_ok, Result, Ok, Err}
+use Rattle.std.specs.Prelude.{◌≡◌, ℕ, suc, zero, nat_lt, List, [], ◌∷◌, length, Bool, true, Option, Some, None, slice_get, if◌then◌else◌, IsOk, is_ok, Result, Ok, Err}
 use Rattle.std.specs.List.{AllByRecursion}
-use Rattle.std.proofs.Common.{refl, ap, sym, subst, ◌∙◌}
+use Rattle.std.proofs.Common.{refl, ap, subst}
 use Rattle.walrus_ir.specs.declared.val_type.HeapType.{HeapType}
 use Rattle.walrus_ir.specs.declared.val_type.HeapType.TheVariants.{Abstract, Concrete}
 use Rattle.walrus_ir.specs.declared.val_type.ValType.{ValType}
@@ -13,12 +13,10 @@ use Rattle.wasm_ops.specs.declared.types.BlockType.{BlockType}
 use Rattle.wasm_ops.specs.declared.types.BlockType.TheVariants.{Empty, Value, FuncType}
 use Rattle.wasm_ops.specs.declared.types.Space.{Space}
 use Rattle.wasm_ops.specs.declared.types.Space.TheVariants.{Tables, Types, Funcs, Globals, Memories, Elements, Data, Tags}
-use Rattle.walrus_body.specs.declared.error.EmitError.{EmitError}
 use Rattle.walrus_body.specs.declared.error.EmitError.TheVariants.{Index}
 use Rattle.walrus_body.specs.declared.error.IndexError.TheVariants.{Unnumbered}
-use Rattle.walrus_body.specs.declared.error.ParseError.{ParseError}
 use Rattle.walrus_body.specs.Results.{◌>>=◌, some_or, faulting}
-use Rattle.walrus_body.specs.IndexMaps.{ids_in, id_of}
+use Rattle.walrus_body.specs.IndexMaps.{ids_in}
 use Rattle.walrus_body.specs.Translation.{translate_heap, translate_value}
 use Rattle.walrus_body.specs.Naming.{id_at, name_block, function_type}
 use Rattle.walrus_body.specs.Bytes.{numbered_block}

@@ -1,5 +1,5 @@
 -- A parser that has read nothing, and what parsing a body begins with.
-use Rattle.std.specs.Prelude.{◌≡◌, ℕ, ◌+◌, List, [], ◌∷◌, ◌++◌, length, reverse, false, true, Option, Some, None, IsSomeAnd, Result, Ok, Err, slice_get}
+use Rattle.std.specs.Prelude.{◌≡◌, ℕ, List, [], ◌∷◌, ◌++◌, length, reverse, false, Option, Some, None, IsSomeAnd, Result, Ok, Err, slice_get}
 use Rattle.std.proofs.Common.{refl, inl, inr, ap, sym, subst, ◌∙◌, arith}
 use Rattle.walrus_ir.specs.declared.seq.InstrSeq.{InstrSeq}
 use Rattle.walrus_ir.specs.declared.val_type.ValType.{ValType}
@@ -12,14 +12,13 @@ use Rattle.walrus_body.specs.declared.error.ParseError.{ParseError}
 use Rattle.walrus_body.specs.declared.error.ParseError.TheVariants.{NotAFunctionType, EntryTypeMissing}
 use Rattle.walrus_body.specs.Results.{◌>>=◌, some_or}
 use Rattle.walrus_body.specs.SourceTree.{Empty}
-use Rattle.walrus_body.specs.Naming.{Environment, function_type, entry_of}
-use Rattle.walrus_body.specs.NormalForm.{typing_of, entry_type}
+use Rattle.walrus_body.specs.Naming.{Environment, entry_of}
+use Rattle.walrus_body.specs.NormalForm.{entry_type}
 use Rattle.walrus_body.specs.declared.error.ParseFailure.{ParseFailure}
 use Rattle.walrus_ir.specs.declared.builder.FunctionBuilder.{FunctionBuilder}
 use Rattle.walrus_body.specs.Parsing.{failure, parsed_behind_entry, parsed}
 use Rattle.walrus_run.specs.BodyParsing.{accepting, Parses, ParsesBody}
 use Rattle.walrus_run.specs.declared.parser.Parser.{Parser}
-use Rattle.walrus_run.specs.OpenSequences.{IsKept, IsReserved}
 use Rattle.walrus_run.specs.Parsers.{env_of, Keeps}
 
 -- ---- a parser

@@ -1,17 +1,15 @@
 -- What a parser keeps of open sequences, and how each operator carries it on.
-use Rattle.std.specs.Prelude.{◌≡◌, ◌≢◌, ℕ, zero, suc, ◌+◌, ◌<◌, ◌≤◌, List, [], ◌∷◌, ◌++◌, length, Bool, true, false, ◌||◌, Option, Some, None, slice_get}
+use Rattle.std.specs.Prelude.{◌≡◌, ◌≢◌, ℕ, zero, suc, ◌+◌, ◌<◌, ◌≤◌, List, [], ◌∷◌, ◌++◌, length, Bool, true, false, ◌||◌, Some, slice_get}
 use Rattle.std.proofs.lemmas.List.{length_push, append-nil}
 use Rattle.std.proofs.Common.{refl, ap, sym, subst, ◌∙◌, arith}
 use Rattle.walrus_ir.specs.declared.seq.InstrSeq.{InstrSeq}
-use Rattle.walrus_ir.specs.declared.instr.Instr.{Instr}
-use Rattle.walrus_ir.specs.declared.instr.Instr.TheVariants.{Block}
 use Rattle.walrus_ir.specs.declared.val_type.InstrSeqType.{InstrSeqType}
 use Rattle.walrus_ir.specs.Tree.{Items, no_items, item, no_sequences, sequence}
-use Rattle.walrus_ir.specs.Unfolding.{Placed, Located, places_in, AreItems, AreSequences, are_no_items, are_items, are_no_sequences, are_sequences, IsTree}
+use Rattle.walrus_ir.specs.Unfolding.{Placed, Located, places_in, AreItems, AreSequences, are_no_items, are_items, are_no_sequences, are_sequences}
 use Rattle.wasm_ops.specs.declared.types.Opcode.TheVariants.{Byte}
 use Rattle.wasm_ops.specs.Operations.{block, operation}
 use Rattle.walrus_body.specs.Control.{Action}
-use Rattle.walrus_body.specs.SourceTree.{Sequence, Empty, Single, Wrapped, Wrapper, OfBlock, OfLoop, OfTryTable, reshown, Body}
+use Rattle.walrus_body.specs.SourceTree.{Sequence, Empty, Single, Wrapped, OfBlock, OfLoop, OfTryTable, reshown}
 use Rattle.walrus_body.specs.Naming.{Occurrence, Environment}
 use Rattle.walrus_body.specs.NormalForm.{Fate, Drops, Stays, Cuts, fate, with_fate, typing_of, type_of, kept_operation, instruction, head, normal, normal_form, name_at, named_body}
 use Rattle.walrus_body.specs.FunctionTree.{Head, Instruction, default_location}

@@ -1,9 +1,8 @@
 -- How each kind of operator advances the parser.
-use Rattle.std.specs.Prelude.{◌≡◌, ◌≢◌, ℕ, List, [], ◌∷◌, ◌++◌, length, reverse, Bool, true, false, ◌<◌, Option, Some, None, is_some, unwrap_or, Result, Ok, Err, OnOk, IfErr, IsErrAnd}
-use Rattle.std.proofs.lemmas.List.{reverse-append, length-map}
+use Rattle.std.specs.Prelude.{◌≡◌, ◌≢◌, ℕ, List, [], ◌∷◌, length, reverse, Bool, true, false, ◌<◌, Result, Ok, Err, OnOk, IfErr, IsErrAnd}
+use Rattle.std.proofs.lemmas.List.{length-map}
 use Rattle.std.proofs.Common.{refl, inl, inr, ap, sym, subst, ◌∙◌}
 use Rattle.walrus_ir.specs.declared.instr.Instr.{Instr}
-use Rattle.walrus_ir.specs.declared.seq.InstrSeq.{InstrSeq}
 use Rattle.walrus_ir.specs.Arena.{arena}
 use Rattle.walrus_ir.specs.Unfolding.{places_in}
 use Rattle.wasm_ops.specs.declared.operator.Operator.{Operator}
@@ -12,28 +11,26 @@ use Rattle.wasm_ops.specs.Meaning.{meaning}
 use Rattle.walrus_body.specs.declared.error.ParseError.{ParseError}
 use Rattle.walrus_body.specs.declared.error.ParseError.TheVariants.{Memory}
 use Rattle.walrus_body.specs.Results.{◌>>=◌}
-use Rattle.walrus_body.specs.Control.{Action, Control, Does, role_of, control_by, control_of}
+use Rattle.walrus_body.specs.Control.{Action, Control, Does, role_of, control_of}
 use Rattle.walrus_body.specs.SourceTree.{Sequence, Empty, Single}
-use Rattle.walrus_body.specs.Frames.{Frame}
 use Rattle.walrus_body.specs.Translation.{translate}
 use Rattle.walrus_body.specs.Naming.{Environment, NamedOperation, Occurrence, stands, naming, has_types, named_in}
 use Rattle.walrus_body.specs.Accepted.{mark}
-use Rattle.walrus_body.specs.FunctionTree.{Instruction}
-use Rattle.walrus_body.specs.NormalForm.{Fate, Drops, Stays, Cuts, fate, instruction, kept_operation, name_at}
+use Rattle.walrus_body.specs.NormalForm.{Drops, fate, instruction, name_at}
 use Rattle.walrus_body.specs.Keeping.{dead_behind}
 use Rattle.walrus_body.specs.InstructionTable.{operation_of, legacy_clauses}
-use Rattle.walrus_body.specs.TreeOfFunction.{aimed, instruction_in}
-use Rattle.walrus_body.specs.Progress.{Layer, Progress, Within, append, frames_of, further, further_within}
+use Rattle.walrus_body.specs.TreeOfFunction.{instruction_in}
+use Rattle.walrus_body.specs.Progress.{Layer, Within, append, frames_of, further, further_within}
 use Rattle.walrus_run.specs.declared.open_sequence.OpenSequence.{OpenSequence}
 use Rattle.walrus_run.specs.declared.parser.Parser.{Parser}
-use Rattle.walrus_run.specs.OpenSequences.{places, Holds, Takes}
+use Rattle.walrus_run.specs.OpenSequences.{places, Takes}
 use Rattle.walrus_run.specs.OperatorKinds.{is_instruction, is_cut}
 use Rattle.walrus_run.specs.Parsers.{env_of, opens, open_places, Keeps, KeepsProgress, occurrence, Advances, Steps}
 use Rattle.walrus_run.specs.Placing.{placing}
 use Rattle.walrus_run.proofs.LabelLemmas.{holds_fall, holds_length}
 use Rattle.walrus_run.proofs.OpenSequenceLemmas.{kept_below, keeps_instruction}
-use Rattle.walrus_run.proofs.Placements.{IsNamedAs, placed_named, placed_refused}
-use Rattle.walrus_run.proofs.Roles.{fate_by, fate_of_role, fate_of_operator, DoesAs, does_as}
+use Rattle.walrus_run.proofs.Placements.{placed_named, placed_refused}
+use Rattle.walrus_run.proofs.Roles.{fate_by, fate_of_role, fate_of_operator, does_as}
 
 -- ---- an operator by itself
 

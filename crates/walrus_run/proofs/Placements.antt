@@ -1,28 +1,25 @@
 -- An operator with places for labels, and its name: both are made, or both are refused for the same fault, and the tree holds
 -- the same operator.
-use Rattle.std.specs.Prelude.{◌≡◌, ℕ, zero, suc, ◌^◌, nat_lt, List, [], ◌∷◌, length, Bool, true, false, Option, Some, None, slice_get, Result, Ok, Err, unwrap_or}
-use Rattle.std.specs.List.{AllByRecursion}
+use Rattle.std.specs.Prelude.{◌≡◌, ℕ, nat_lt, List, length, Bool, true, false, Option, Some, None, slice_get, Result, Ok, Err}
 use Rattle.std.proofs.lemmas.Bool.{ltb-true, ltb-false}
 use Rattle.std.proofs.lemmas.Option.{slice_get_past, slice_get-get_or}
 use Rattle.std.proofs.Common.{refl, ap, sym, ◌∙◌, arith}
-use Rattle.wasm_ops.specs.declared.types.BlockType.{BlockType}
-use Rattle.wasm_ops.specs.declared.types.Space.{Space}
 use Rattle.wasm_ops.specs.Operations.{Immediate, operation, RawOperation}
 use Rattle.walrus_ir.specs.Types.{Signature}
 use Rattle.walrus_body.specs.declared.error.ParseError.{ParseError}
-use Rattle.walrus_body.specs.declared.error.ParseError.TheVariants.{NoSuchLabel, RethrowOutsideHandler}
-use Rattle.walrus_body.specs.Results.{◌>>=◌, sure, some_or, unless, faulting}
-use Rattle.walrus_body.specs.Frames.{Frame, handler_at, outside}
-use Rattle.walrus_body.specs.Translation.{Translation, translate, translate_immediates}
-use Rattle.walrus_body.specs.Naming.{Environment, NamedOperation, naming, id_at, name_block, open_label, handler_label, block_types}
-use Rattle.walrus_body.specs.FunctionTree.{Target, Depth, TreeOperation}
-use Rattle.walrus_body.specs.NormalForm.{kept, kept_operation}
+use Rattle.walrus_body.specs.declared.error.ParseError.TheVariants.{NoSuchLabel}
+use Rattle.walrus_body.specs.Results.{◌>>=◌, sure, some_or, unless}
+use Rattle.walrus_body.specs.Frames.{Frame, outside}
+use Rattle.walrus_body.specs.Translation.{translate, translate_immediates}
+use Rattle.walrus_body.specs.Naming.{Environment, NamedOperation, naming, id_at, name_block, open_label, block_types}
+use Rattle.walrus_body.specs.FunctionTree.{Target, Depth}
+use Rattle.walrus_body.specs.NormalForm.{kept_operation}
 use Rattle.walrus_body.specs.InstructionTable.{PlacedOperation}
 use Rattle.walrus_body.specs.TreeOfFunction.{target_in, aiming, aimed}
-use Rattle.walrus_body.proofs.Steps.{Leads, bound, all_of, ok-sure}
+use Rattle.walrus_body.proofs.Steps.{Leads, bound, all_of}
 use Rattle.walrus_body.proofs.Translations.{LeadAll, lead_all, translate_leads}
 use Rattle.walrus_body.proofs.KeptNames.{kept_raw, number_leads, open_same, handler_same, same_leads, kept_of}
-use Rattle.walrus_body.proofs.Outcomes.{outcome, Alike, alike_last, alike_then, AreAlike, translate_alike}
+use Rattle.walrus_body.proofs.Outcomes.{outcome, Alike, AreAlike, translate_alike}
 use Rattle.walrus_run.specs.Placing.{placing}
 use Rattle.walrus_run.proofs.LabelLemmas.{Fall, target_of_label}
 

@@ -1,5 +1,5 @@
 -- Bodies over the demo module: what is parsed is written, and what is answered is what is accepted.
-use Rattle.std.specs.Prelude.{◌≡◌, ◌⊎◌, ℕ, ◌<◌, List, [], ◌∷◌, ◌++◌, length, drop, Option, Some, IsOk, IsErr, IfOk, IfErr, Result, Ok, Err}
+use Rattle.std.specs.Prelude.{◌≡◌, ◌⊎◌, ℕ, ◌<◌, List, [], ◌∷◌, ◌++◌, length, drop, Some, IsOk, IsErr, IfOk, IfErr, Result, Ok, Err}
 use Rattle.std.specs.List.{AllByRecursion}
 use Rattle.std.proofs.Common.{inl, inr, refl, sym, ap, subst, ◌∙◌, arith}
 use Rattle.walrus_ir.specs.declared.seq.InstrSeq.{InstrSeq}

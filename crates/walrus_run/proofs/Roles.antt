@@ -1,5 +1,5 @@
 -- What the operators that are carried do to the control.
-use Rattle.std.specs.Prelude.{◌≡◌, ◌≢◌, ℕ, List, [], Bool, true, false, Option, Some, None, if◌then◌else◌}
+use Rattle.std.specs.Prelude.{◌≡◌, ◌≢◌, ℕ, List, Bool, true, false, Option, Some, None}
 use Rattle.std.proofs.Common.{refl, ap}
 use Rattle.walrus_ir.specs.declared.unary.UnaryOp.{UnaryOp}
 use Rattle.walrus_ir.specs.declared.unary.UnaryOp.TheVariants as unary
@@ -7,7 +7,6 @@ use Rattle.walrus_ir.specs.declared.binary.BinaryOp.{BinaryOp}
 use Rattle.walrus_ir.specs.declared.binary.BinaryOp.TheVariants as binary
 use Rattle.walrus_ir.specs.declared.ternary.TernaryOp.{TernaryOp}
 use Rattle.walrus_ir.specs.declared.ternary.TernaryOp.TheVariants as ternary
-use Rattle.walrus_ir.specs.declared.memory.ExtendedLoad.{ExtendedLoad}
 use Rattle.walrus_ir.specs.declared.memory.ExtendedLoad.TheVariants.{SignExtend, ZeroExtend, ZeroExtendAtomic}
 use Rattle.walrus_ir.specs.declared.memory.LoadKind.{LoadKind}
 use Rattle.walrus_ir.specs.declared.memory.LoadKind.TheVariants as load

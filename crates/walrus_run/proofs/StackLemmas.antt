@@ -1,6 +1,6 @@
 -- A stack of open sequences, whose last is the innermost, read innermost first.
-use Rattle.std.specs.Prelude.{◌≡◌, ◌≢◌, ℕ, zero, suc, ◌+◌, ◌-◌, ◌<◌, ◌≤◌, List, [], ◌∷◌, ◌++◌, length, map, reverse, Option, Some, None, slice_get, slice_set, slice_index_or, Result, Ok, Err}
-use Rattle.std.proofs.lemmas.List.{length-map, length-reverse, get_or-reverse, reverse-append}
+use Rattle.std.specs.Prelude.{◌≡◌, ◌≢◌, ℕ, zero, suc, ◌-◌, ◌<◌, ◌≤◌, List, [], ◌∷◌, length, reverse, Some, slice_get, slice_set, slice_index_or, Result, Ok, Err}
+use Rattle.std.proofs.lemmas.List.{length-map, length-reverse, get_or-reverse}
 use Rattle.std.proofs.lemmas.Option.{slice_get_past, slice_get-get_or}
 use Rattle.std.proofs.Common.{refl, ap, sym, ◌∙◌, arith}
 use Rattle.walrus_ir.specs.declared.seq.InstrSeq.{InstrSeq}

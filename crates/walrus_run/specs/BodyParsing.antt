@@ -1,5 +1,5 @@
 -- Parsing the operators of a body, without a location function and with a validator that accepts everything.
-use Rattle.std.specs.Prelude.{◌≡◌, ◌⊎◌, ℕ, List, [], ◌∷◌, length, Some, None, Result, Ok, Err}
+use Rattle.std.specs.Prelude.{◌≡◌, ◌⊎◌, ℕ, List, length, Some, None, Result, Ok, Err}
 use Rattle.walrus_ir.specs.Arena.{arena, entry_of}
 use Rattle.walrus_ir.specs.declared.builder.FunctionBuilder.{FunctionBuilder}
 use Rattle.wasm_ops.specs.Operations.{RawOperation}

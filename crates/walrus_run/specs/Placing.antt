@@ -1,6 +1,6 @@
 -- Instructions of operators as they are read: old indices become ids, a label the place of the sequence that it names, and an
 -- exponent a number of bytes.
-use Rattle.std.specs.Prelude.{◌≡◌, ℕ, ◌^◌, List, slice_get, Result, Ok, Err}
+use Rattle.std.specs.Prelude.{ℕ, ◌^◌, List, slice_get, Ok}
 use Rattle.wasm_ops.specs.declared.types.BlockType.{BlockType}
 use Rattle.walrus_body.specs.declared.error.ParseError.{ParseError}
 use Rattle.walrus_body.specs.declared.error.ParseError.TheVariants.{NoSuchLabel}

@@ -1,4 +1,4 @@
-use Rattle.std.proofs.Common.{◌≡◌, ◌<◌, ◌⊎◌, ℕ, length, List, [], ◌∷◌, refl, rules, arith, inl, inr, sym, ap, subst, ◌∙◌, Ok, Err}
+use Rattle.std.proofs.Common.{◌≡◌, ◌<◌, ◌⊎◌, length, List, [], ◌∷◌, refl, rules, arith, inl, inr, sym, ap, subst, ◌∙◌, Ok, Err}
 use Rattle.std.specs.Vec.{vec_len}
 use Rattle.walrus_ir.specs.Arena.{arena}
 use Rattle.wasm_ops.specs.declared.operator.Operator.TheVariants.{End}

@@ -1,4 +1,4 @@
-use Rattle.std.proofs.Common.{◌≡◌, ap, ◌∙◌}
+use Rattle.std.proofs.Common.{ap, ◌∙◌}
 use Rattle.wasm_ops.specs.declared.types.Space.TheVariants.{Tables, Types, Funcs, Globals, Memories, Elements, Tags}
 use Rattle.walrus_body.specs.IndexMaps.{numbers_in}
 use Rattle.walrus_run.proofs.DemoMaps.{demo_numbers_are}

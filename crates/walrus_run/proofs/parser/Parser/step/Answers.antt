@@ -1,11 +1,10 @@
 use Rattle.std.proofs.Common.{refl, sym, ap, subst, ◌≡◌, ◌∙◌, ◌∷◌, [], Err, OnOk}
-use Rattle.walrus_ir.specs.Arena.{arena}
 use Rattle.wasm_ops.specs.Meaning.{meaning}
 use Rattle.walrus_body.specs.Naming.{named_in}
 use Rattle.walrus_body.specs.Progress.{frames_of}
 use Rattle.walrus_run.specs.OpenSequences.{Takes}
 use Rattle.walrus_run.specs.OperatorKinds.{is_cut}
-use Rattle.walrus_run.specs.Parsers.{env_of, KeepsRest, Keeps, Enters, LeavesBlock, Advances, Steps}
+use Rattle.walrus_run.specs.Parsers.{env_of, KeepsRest, Enters, LeavesBlock, Advances, Steps}
 use Rattle.walrus_run.proofs.ParserSteps.{steps_from, steps_refused, no_ok, in_any_case, current_within, steps_instruction, refuses_instruction}
 use Rattle.walrus_run.proofs.BlockSteps.{steps_nop, steps_block, refuses_block, steps_end}
 use Rattle.walrus_run.proofs.Roles.{makes_instruction}
