@@ -20,7 +20,7 @@ use Rattle.wasm_ops.specs.Operations.{RawOperation}
 use Rattle.wasm_ops.specs.Opcodes.{kinds_of_byte, kinds_of}
 use Rattle.wasm_ops.specs.Shortest.{short}
 use Rattle.walrus_body.specs.declared.error.EmitError.{EmitError}
-use Rattle.walrus_body.specs.declared.error.EmitError.TheVariants.{Memory, BadClauses}
+use Rattle.walrus_body.specs.declared.error.EmitError.TheVariants.{Memory, BadClauses, UnknownSequence}
 use Rattle.walrus_body.specs.Results.{◌>>=◌}
 use Rattle.walrus_body.specs.Translation.{Located, located}
 use Rattle.walrus_body.specs.InstructionTable.{operation_of, legacy_clauses}
@@ -70,12 +70,12 @@ entered v seq scopes place is opens b to p around stands =
       refl,
     )
 
-pub not_entered : (v : EmitVisitor) (place : ℕ) (e : EmitError) → v.coming ≡ Some place → (e ≡ Memory) ⊎ ((count : ℕ) (around : List ℕ) → IsOpen v.scopes count around → count ≤ place)
+pub not_entered : (v : EmitVisitor) (place : ℕ) (e : EmitError) → v.coming ≡ Some place → (e ≡ Memory) ⊎ ((e ≡ UnknownSequence) × ((count : ℕ) (around : List ℕ) → IsOpen v.scopes count around → count ≤ place))
     → (b : List InstrSeq) (to : Numbers) (p : ℕ) (around : List ℕ) → Stands b to (Some p) around v → p < length b → Emit e ≡ Emit Memory
 not_entered v place e is (inl m) b to p around stands within = ap Emit m
 not_entered v place e is (inr past) b to p around stands within =
     let same : place ≡ p = cc (is, stands.next) in
-    let far : length b ≤ place = past (length b) around stands.are_open in
+    let far : length b ≤ place = past.1 (length b) around stands.are_open in
     absurd omega (arith, same, far, within)
 
 -- ---- an instruction's operator

@@ -59,7 +59,7 @@ impl Scopes {
     /// Opens the sequence at a place.
     pub fn enter(&mut self, place: InstrSeqId) -> Result<(), EmitError>
         ensures ok { OnOk result ((count : ℕ) (around : List ℕ) → IsOpen self.old count around → IsOpen self.new count (place ∷ around)) }
-        ensures err { IfErr result (λ e. (e ≡ emit.Memory) ⊎ ((count : ℕ) (around : List ℕ) → IsOpen self.old count around → count ≤ place)) }
+        ensures err { IfErr result (λ e. (e ≡ emit.Memory) ⊎ ((e ≡ emit.UnknownSequence) × ((count : ℕ) (around : List ℕ) → IsOpen self.old count around → count ≤ place))) }
         ensures kept { OnErr result ((count : ℕ) (around : List ℕ) → IsOpen self.old count around → IsOpen self.new count around) }
     {
         let index = place.index();
