@@ -3,7 +3,7 @@ use Rattle.std.specs.Prelude.{ℕ}
 use Rattle.walrus_ir.specs.declared.module.Module.{Module}
 use Rattle.walrus_body.specs.declared.indices_to_ids.IndicesToIds.{IndicesToIds}
 use Rattle.walrus_body.specs.IndexMaps.{id_of, local_of}
-use Rattle.walrus_body.specs.Naming.{Environment}
+use Rattle.wasm_body.specs.Naming.{Environment}
 
 -- of this function, which has this type
 abbrev pub environment_of : Module → IndicesToIds → (function type : ℕ) → Environment

@@ -1,7 +1,7 @@
 -- When an index map can grow.
 use Rattle.std.specs.Prelude.{◌≡◌, ℕ, ◌<◌, ◌^◌, nat_lt, Result, Ok, Err, if◌then◌else◌}
-use Rattle.walrus_body.specs.declared.error.IndexError.{IndexError}
-use Rattle.walrus_body.specs.declared.error.IndexError.TheVariants.{TooMany, Memory}
+use Rattle.wasm_body.specs.declared.error.IndexError.{IndexError}
+use Rattle.wasm_body.specs.declared.error.IndexError.TheVariants.{TooMany, Memory}
 
 -- the index that is given behind so many ids, unless 2^32 are there
 abbrev pub index_behind : ℕ → Result ℕ IndexError

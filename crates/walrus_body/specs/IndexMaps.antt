@@ -5,11 +5,11 @@ use Rattle.std.specs.Ordering.{nat_cmp}
 use Rattle.std.specs.FinMap.{FinMap, empty, get, insert, len}
 use Rattle.wasm_ops.specs.declared.types.Space.{Space}
 use Rattle.wasm_ops.specs.declared.types.Space.TheVariants.{Tables, Types, Funcs, Globals, Memories, Elements, Data, Tags}
-use Rattle.walrus_body.specs.declared.error.IndexError.{IndexError}
-use Rattle.walrus_body.specs.declared.error.IndexError.TheVariants.{OutOfRange, Unnumbered}
+use Rattle.wasm_body.specs.declared.error.IndexError.{IndexError}
+use Rattle.wasm_body.specs.declared.error.IndexError.TheVariants.{OutOfRange, Unnumbered}
 use Rattle.walrus_body.specs.declared.indices_to_ids.IndicesToIds.{IndicesToIds}
 use Rattle.walrus_body.specs.declared.ids_to_indices.IdsToIndices.{IdsToIndices}
-use Rattle.walrus_body.specs.Results.{some_or}
+use Rattle.wasm_body.specs.Results.{some_or}
 use Rattle.walrus_body.specs.Locals.{list_of, local_in}
 
 -- ---- from old indices to ids

@@ -34,7 +34,7 @@ pub struct EmitContext<'a> {
 /// A part of a module that can be written into a context.
 pub trait Emit {
     ghost use Rattle.std.specs.Prelude.{◌≡◌, OnOk, OnErr, IfErr};
-    ghost use Rattle.walrus_body.specs.declared.error.EmitError.{EmitError};
+    ghost use Rattle.wasm_body.specs.declared.error.EmitError.{EmitError};
     ghost use Rattle.walrus_body.specs.declared.emit.EmitContext.{EmitContext};
     ghost use Rattle.walrus_body.specs.Emitting.{Written, Appends, IsUnchanged};
 

@@ -2,24 +2,21 @@
 #![tactic(auto)]
 
 mod emit;
-mod error;
 mod function_locals;
 mod growth;
 mod id_list;
 mod id_numbers;
 mod ids_to_indices;
 mod indices_to_ids;
-mod laws;
 mod segments;
 mod sizes;
 
 pub use emit::{Emit, EmitContext, EmitFacts};
-pub use error::{EmitError, IndexError, ParseError, ParseFailure};
 pub use ids_to_indices::{IdsToIndices, law_numbers_of_pushes};
 pub use indices_to_ids::IndicesToIds;
-pub use laws::{
-    law_normal_again, law_normal_form_texts, law_one_answer, law_same_texts, law_unique_reading,
-};
 pub use segments::DataSegmentsVisitor;
 pub use sizes::SizeVisitor;
-pub use wasm_ops::Space;
+pub use wasm_body::{
+    EmitError, IndexError, ParseError, ParseFailure, Space, law_executions, law_normal_again,
+    law_normal_form_texts, law_one_answer, law_same_texts, law_unique_reading,
+};

@@ -13,24 +13,24 @@ use Rattle.wasm_ops.specs.declared.types.BlockType.{BlockType}
 use Rattle.wasm_ops.specs.declared.types.BlockType.TheVariants as block_type
 use Rattle.wasm_ops.specs.declared.types.Opcode.TheVariants.{Byte}
 use Rattle.wasm_ops.specs.Operations.{block, operation}
-use Rattle.walrus_body.specs.declared.error.ParseError.{ParseError}
-use Rattle.walrus_body.specs.declared.error.ParseError.TheVariants.{TypeMissing}
-use Rattle.walrus_body.specs.Results.{◌>>=◌, some_or, unless}
-use Rattle.walrus_body.specs.Control.{Nop, control_of, end_operation}
-use Rattle.walrus_body.specs.SourceTree.{Sequence, Empty, OfBlock}
+use Rattle.wasm_body.specs.declared.error.ParseError.{ParseError}
+use Rattle.wasm_body.specs.declared.error.ParseError.TheVariants.{TypeMissing}
+use Rattle.wasm_body.specs.Results.{◌>>=◌, some_or, unless}
+use Rattle.wasm_body.specs.Control.{Nop, control_of, end_operation}
+use Rattle.wasm_body.specs.SourceTree.{Sequence, Empty, OfBlock}
 use Rattle.walrus_body.specs.Environments.{environment_of}
-use Rattle.walrus_body.specs.Naming.{Environment, NamedOperation, Occurrence, id_at, name_block, has_types, named_in}
-use Rattle.walrus_body.specs.Accepted.{mark}
-use Rattle.walrus_body.specs.NormalForm.{typing_of, type_of, normal_form, named_body}
-use Rattle.walrus_body.specs.TreeOfFunction.{HasTree}
-use Rattle.walrus_body.specs.Progress.{InWrapper, Layer, layer, Within, append, closed, frames_of, further}
+use Rattle.wasm_body.specs.Naming.{Environment, NamedOperation, Occurrence, id_at, name_block, has_types, named_in}
+use Rattle.wasm_body.specs.Parsing.Accepted.{mark}
+use Rattle.wasm_body.specs.NormalForm.{typing_of, type_of, normal_form, named_body}
+use Rattle.wasm_body.specs.TreeOfFunction.{HasTree}
+use Rattle.wasm_body.specs.Parsing.Progress.{InWrapper, Layer, layer, Within, append, closed, frames_of, further}
 use Rattle.walrus_run.specs.declared.open_sequence.OpenSequence.{OpenSequence}
 use Rattle.walrus_run.specs.declared.parser.Parser.{Parser}
 use Rattle.walrus_run.specs.BlockTypes.{block_signature, sequence_type}
 use Rattle.walrus_run.specs.OpenSequences.{places, IsKept, IsOpenIn, Holds}
 use Rattle.walrus_run.specs.Parsers.{env_of, opens, Keeps, KeepsProgress, occurrence, KeepsRest, Enters, Seals, LeavesBlock, Advances}
 use Rattle.walrus_run.proofs.OpenSequenceLemmas.{keeps_nothing, opens_block, closes_block, closes_body}
-use Rattle.walrus_body.proofs.Steps.{bound}
+use Rattle.wasm_body.proofs.Translation.Steps.{bound}
 
 -- ---- `nop`
 

@@ -5,17 +5,17 @@ use Rattle.walrus_ir.specs.Arena.{entry_of}
 use Rattle.wasm_ops.specs.declared.fault.ReadFault.{ReadFault}
 use Rattle.wasm_ops.specs.Operations.{RawOperation}
 use Rattle.wasm_ops.specs.Spelling.{read_operation}
-use Rattle.walrus_body.specs.declared.error.ParseError.{ParseError}
-use Rattle.walrus_body.specs.declared.error.ParseError.TheVariants.{Read, PlaceTooGreat, Trailing, MissingEnd}
-use Rattle.walrus_body.specs.declared.error.ParseFailure.{ParseFailure}
-use Rattle.walrus_body.specs.Results.{◌>>=◌, unless, faulting}
-use Rattle.walrus_body.specs.Control.{end_operation}
-use Rattle.walrus_body.specs.SourceTree.{Sequence, Empty, Body}
-use Rattle.walrus_body.specs.Frames.{Frame}
-use Rattle.walrus_body.specs.Naming.{Environment, NamedOperation, Occurrence, named_in}
-use Rattle.walrus_body.specs.Accepted.{mark, has_location, Handled, handled}
-use Rattle.walrus_body.specs.Parsing.{failure, behind, parsed_from}
-use Rattle.walrus_body.specs.Progress.{Layer, Progress, Within, Whole, NoBody, frames_of, further}
+use Rattle.wasm_body.specs.declared.error.ParseError.{ParseError}
+use Rattle.wasm_body.specs.declared.error.ParseError.TheVariants.{Read, PlaceTooGreat, Trailing, MissingEnd}
+use Rattle.wasm_body.specs.declared.error.ParseFailure.{ParseFailure}
+use Rattle.wasm_body.specs.Results.{◌>>=◌, unless, faulting}
+use Rattle.wasm_body.specs.Control.{end_operation}
+use Rattle.wasm_body.specs.SourceTree.{Sequence, Empty, Body}
+use Rattle.wasm_body.specs.Frames.{Frame}
+use Rattle.wasm_body.specs.Naming.{Environment, NamedOperation, Occurrence, named_in}
+use Rattle.wasm_body.specs.Parsing.Accepted.{mark, has_location, Handled, handled}
+use Rattle.wasm_body.specs.Parsing.Lists.{failure, behind, parsed_from}
+use Rattle.wasm_body.specs.Parsing.Progress.{Layer, Progress, Within, Whole, NoBody, frames_of, further}
 use Rattle.walrus_run.specs.declared.parser.Parser.{Parser}
 use Rattle.walrus_run.specs.BodyParsing.{accepting, read_next, parsed_operators}
 use Rattle.walrus_run.specs.Parsers.{env_of, Keeps, KeepsProgress, occurrence}

@@ -7,19 +7,19 @@ use Rattle.wasm_ops.specs.declared.types.Opcode.{Opcode}
 use Rattle.wasm_ops.specs.Immediates.{Kind, kind_of}
 use Rattle.wasm_ops.specs.Opcodes.{kinds_of}
 use Rattle.wasm_ops.specs.OperatorList.{Lists}
-use Rattle.walrus_body.specs.Control.{Control, End, marked}
-use Rattle.walrus_body.specs.Frames.{Frame}
-use Rattle.walrus_body.specs.SourceTree.{Sequence, Empty, Single, Wrapped, IfThen, IfElse, TryCatch, TryDelegate, Clauses, Ended, Catches, CatchesAll, Body}
-use Rattle.walrus_body.specs.Translation.{Located}
-use Rattle.walrus_body.specs.Naming.{Environment, NamedOperation, Occurrence, named_in}
-use Rattle.walrus_body.specs.Accepted.{placed, mark, Lawful}
-use Rattle.walrus_body.specs.FunctionTree.{Head, Instruction}
-use Rattle.walrus_body.specs.NormalForm.{Typing, typing_of, Fate, Drops, Stays, Cuts, fate, with_fate, instruction, normal, handlers, name_at, named_body, normal_form}
-use Rattle.walrus_body.specs.Bytes.{Numbers}
-use Rattle.walrus_body.proofs.Along.{Each, EachIn, AllMarked, each_of, each_reshown}
-use Rattle.walrus_body.proofs.LawfulTyped.{named_somewhere}
-use Rattle.walrus_body.proofs.KeptNames.{kept_of}
-use Rattle.walrus_body.proofs.NumberedBodies.{HasText, HasNumbers, translated}
+use Rattle.wasm_body.specs.Control.{Control, End, marked}
+use Rattle.wasm_body.specs.Frames.{Frame}
+use Rattle.wasm_body.specs.SourceTree.{Sequence, Empty, Single, Wrapped, IfThen, IfElse, TryCatch, TryDelegate, Clauses, Ended, Catches, CatchesAll, Body}
+use Rattle.wasm_body.specs.Translation.{Located}
+use Rattle.wasm_body.specs.Naming.{Environment, NamedOperation, Occurrence, named_in}
+use Rattle.wasm_body.specs.Parsing.Accepted.{placed, mark, Lawful}
+use Rattle.wasm_body.specs.FunctionTree.{Head, Instruction}
+use Rattle.wasm_body.specs.NormalForm.{Typing, typing_of, Fate, Drops, Stays, Cuts, fate, with_fate, instruction, normal, handlers, name_at, named_body, normal_form}
+use Rattle.wasm_body.specs.Bytes.{Numbers}
+use Rattle.wasm_body.proofs.Structure.Along.{Each, EachIn, AllMarked, each_of, each_reshown}
+use Rattle.wasm_body.proofs.Bytes.LawfulTyped.{named_somewhere}
+use Rattle.wasm_body.proofs.NormalForm.KeptNames.{kept_of}
+use Rattle.wasm_body.proofs.Bytes.NumberedBodies.{HasText, HasNumbers, translated}
 use Rattle.walrus_run.specs.Encoding.{AreCarried, AreCarriedIn}
 
 -- ---- trees

@@ -8,12 +8,12 @@ use Rattle.std.specs.Cmp.{nat_cmp_total}
 use Rattle.std.specs.FinMap.{FinMap, empty, insert, get, len, get-empty, len-insert, len-empty, same_map, nat_cmp-IsAntisymmetric, gets}
 use Rattle.wasm_ops.specs.declared.types.Space.{Space}
 use Rattle.wasm_ops.specs.declared.types.Space.TheVariants.{Tables, Types, Funcs, Globals, Memories, Elements, Data, Tags}
-use Rattle.walrus_body.specs.declared.error.EmitError.{EmitError}
-use Rattle.walrus_body.specs.declared.error.EmitError.TheVariants.{Index, UnnumberedLocal}
-use Rattle.walrus_body.specs.declared.error.IndexError.TheVariants.{Unnumbered}
+use Rattle.wasm_body.specs.declared.error.EmitError.{EmitError}
+use Rattle.wasm_body.specs.declared.error.EmitError.TheVariants.{Index, UnnumberedLocal}
+use Rattle.wasm_body.specs.declared.error.IndexError.TheVariants.{Unnumbered}
 use Rattle.walrus_body.specs.declared.indices_to_ids.IndicesToIds.{IndicesToIds}
 use Rattle.walrus_body.specs.declared.ids_to_indices.IdsToIndices.{IdsToIndices}
-use Rattle.walrus_body.specs.Results.{faulting, some_or}
+use Rattle.wasm_body.specs.Results.{faulting, some_or}
 use Rattle.walrus_body.specs.IndexMaps.{ids_in, locals_in, with_locals, numbers_in, with_numbers, numbered, number_of}
 use Rattle.walrus_body.specs.Numbering.{pushed}
 use Rattle.walrus_body.proofs.NumberingLemmas.{get-numbered}

@@ -13,15 +13,15 @@ use Rattle.wasm_ops.specs.declared.types.BlockType.{BlockType}
 use Rattle.wasm_ops.specs.declared.types.BlockType.TheVariants.{Empty, Value, FuncType}
 use Rattle.wasm_ops.specs.declared.types.Space.{Space}
 use Rattle.wasm_ops.specs.declared.types.Space.TheVariants.{Tables, Types, Funcs, Globals, Memories, Elements, Data, Tags}
-use Rattle.walrus_body.specs.declared.error.EmitError.TheVariants.{Index}
-use Rattle.walrus_body.specs.declared.error.IndexError.TheVariants.{Unnumbered}
-use Rattle.walrus_body.specs.Results.{◌>>=◌, some_or, faulting}
+use Rattle.wasm_body.specs.declared.error.EmitError.TheVariants.{Index}
+use Rattle.wasm_body.specs.declared.error.IndexError.TheVariants.{Unnumbered}
+use Rattle.wasm_body.specs.Results.{◌>>=◌, some_or, faulting}
 use Rattle.walrus_body.specs.IndexMaps.{ids_in}
-use Rattle.walrus_body.specs.Translation.{translate_heap, translate_value}
-use Rattle.walrus_body.specs.Naming.{id_at, name_block, function_type}
-use Rattle.walrus_body.specs.Bytes.{numbered_block}
-use Rattle.walrus_body.proofs.Steps.{bound}
-use Rattle.walrus_body.proofs.NumberedBodies.{HasNumbers}
+use Rattle.wasm_body.specs.Translation.{translate_heap, translate_value}
+use Rattle.wasm_body.specs.Naming.{id_at, name_block, function_type}
+use Rattle.wasm_body.specs.Bytes.{numbered_block}
+use Rattle.wasm_body.proofs.Translation.Steps.{bound}
+use Rattle.wasm_body.proofs.Bytes.NumberedBodies.{HasNumbers}
 use Rattle.walrus_run.specs.Demo.{demo_types, demo_indices, demo_environment, demo_numbers}
 
 -- ---- ids of old indices

@@ -19,14 +19,14 @@ use Rattle.wasm_ops.specs.Meaning.{meaning}
 use Rattle.wasm_ops.specs.Operations.{RawOperation}
 use Rattle.wasm_ops.specs.Opcodes.{kinds_of_byte, kinds_of}
 use Rattle.wasm_ops.specs.Shortest.{short}
-use Rattle.walrus_body.specs.declared.error.EmitError.{EmitError}
-use Rattle.walrus_body.specs.declared.error.EmitError.TheVariants.{Memory, BadClauses, UnknownSequence}
-use Rattle.walrus_body.specs.Results.{◌>>=◌}
-use Rattle.walrus_body.specs.Translation.{Located, located}
-use Rattle.walrus_body.specs.InstructionTable.{operation_of, legacy_clauses}
-use Rattle.walrus_body.specs.FunctionTree.{LegacyClause}
-use Rattle.walrus_body.specs.FlatText.{are_lawful}
-use Rattle.walrus_body.specs.Bytes.{Numbers}
+use Rattle.wasm_body.specs.declared.error.EmitError.{EmitError}
+use Rattle.wasm_body.specs.declared.error.EmitError.TheVariants.{Memory, BadClauses, UnknownSequence}
+use Rattle.wasm_body.specs.Results.{◌>>=◌}
+use Rattle.wasm_body.specs.Translation.{Located, located}
+use Rattle.wasm_body.specs.InstructionTable.{operation_of, legacy_clauses}
+use Rattle.wasm_body.specs.FunctionTree.{LegacyClause}
+use Rattle.wasm_body.specs.FlatText.{are_lawful}
+use Rattle.wasm_body.specs.Bytes.{Numbers}
 use Rattle.walrus_run.specs.declared.write_fault.WriteFault.{WriteFault}
 use Rattle.walrus_run.specs.declared.write_fault.WriteFault.TheVariants.{Emit, NotCarried}
 use Rattle.walrus_run.specs.declared.writer.EmitVisitor.{EmitVisitor}

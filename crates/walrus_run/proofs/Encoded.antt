@@ -9,11 +9,11 @@ use Rattle.walrus_ir.specs.Unfolding.{Placed, Located, IsTree}
 use Rattle.walrus_ir.specs.Events.{events, through, Stops}
 use Rattle.walrus_ir.specs.Walk.{HasNoWalk, Finishes, IsRefused, IsUnwalked}
 use Rattle.wasm_encode.specs.Declarations.{declarations}
-use Rattle.walrus_body.specs.Results.{◌>>=◌}
-use Rattle.walrus_body.specs.Control.{end_operation}
-use Rattle.walrus_body.specs.TreeOfFunction.{tree_of, HasTree, sequences_in}
-use Rattle.walrus_body.specs.Bytes.{Numbers, numbering, bytes_of}
-use Rattle.walrus_body.specs.FlatText.{then_by, texts}
+use Rattle.wasm_body.specs.Results.{◌>>=◌}
+use Rattle.wasm_body.specs.Control.{end_operation}
+use Rattle.wasm_body.specs.TreeOfFunction.{tree_of, HasTree, sequences_in}
+use Rattle.wasm_body.specs.Bytes.{Numbers, numbering, bytes_of}
+use Rattle.wasm_body.specs.FlatText.{then_by, texts}
 use Rattle.walrus_run.specs.declared.write_fault.WriteFault.{WriteFault}
 use Rattle.walrus_run.specs.declared.write_fault.WriteFault.TheVariants.{Emit}
 use Rattle.walrus_run.specs.declared.writer.EmitVisitor.{EmitVisitor}

@@ -4,7 +4,7 @@ use Rattle.std.proofs.Common.{ap, sym, ◌∙◌, arith}
 use Rattle.std.proofs.Math.Nat.{pow-suc}
 use Rattle.std.proofs.lemmas.Bool.{lt-ltb, le-ltb}
 use Rattle.std.proofs.lemmas.Nat.{pow_pos}
-use Rattle.walrus_body.specs.FlatText.{halvings, exponent_of}
+use Rattle.wasm_body.specs.FlatText.{halvings, exponent_of}
 
 halved : (f n e : ℕ) → n ≤ f → 2 ^ e ≤ n → n < 2 * 2 ^ e → halvings f n ≡ e
 halved zero n e fuel low high = absurd (omega (arith, pow_pos e))

@@ -8,15 +8,15 @@ use Rattle.walrus_ir.specs.Arena.{arena, Grown}
 use Rattle.walrus_ir.specs.Types.{Signature, signature_of, find_entry}
 use Rattle.walrus_ir.specs.Unfolding.{AreItems, are_no_items}
 use Rattle.walrus_ir.specs.Tree.{no_items}
-use Rattle.walrus_body.specs.declared.error.ParseError.{ParseError}
-use Rattle.walrus_body.specs.declared.error.ParseError.TheVariants.{NotAFunctionType, EntryTypeMissing}
-use Rattle.walrus_body.specs.Results.{◌>>=◌, some_or}
-use Rattle.walrus_body.specs.SourceTree.{Empty}
-use Rattle.walrus_body.specs.Naming.{Environment, entry_of}
-use Rattle.walrus_body.specs.NormalForm.{entry_type}
-use Rattle.walrus_body.specs.declared.error.ParseFailure.{ParseFailure}
+use Rattle.wasm_body.specs.declared.error.ParseError.{ParseError}
+use Rattle.wasm_body.specs.declared.error.ParseError.TheVariants.{NotAFunctionType, EntryTypeMissing}
+use Rattle.wasm_body.specs.Results.{◌>>=◌, some_or}
+use Rattle.wasm_body.specs.SourceTree.{Empty}
+use Rattle.wasm_body.specs.Naming.{Environment, entry_of}
+use Rattle.wasm_body.specs.NormalForm.{entry_type}
+use Rattle.wasm_body.specs.declared.error.ParseFailure.{ParseFailure}
 use Rattle.walrus_ir.specs.declared.builder.FunctionBuilder.{FunctionBuilder}
-use Rattle.walrus_body.specs.Parsing.{failure, parsed_behind_entry, parsed}
+use Rattle.wasm_body.specs.Parsing.Lists.{failure, parsed_behind_entry, parsed}
 use Rattle.walrus_run.specs.BodyParsing.{accepting, Parses, ParsesBody}
 use Rattle.walrus_run.specs.declared.parser.Parser.{Parser}
 use Rattle.walrus_run.specs.Parsers.{env_of, Keeps}

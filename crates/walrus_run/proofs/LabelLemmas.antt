@@ -4,11 +4,11 @@ use Rattle.std.specs.Prelude.{◌≡◌, ℕ, zero, suc, ◌<◌, ◌==◌, List
 use Rattle.std.specs.List.{AllByRecursion}
 use Rattle.std.proofs.Common.{ap, sym, subst, ◌∙◌, arith}
 use Rattle.walrus_ir.specs.declared.seq.InstrSeq.{InstrSeq}
-use Rattle.walrus_body.specs.SourceTree.{Sequence}
-use Rattle.walrus_body.specs.Naming.{Occurrence, Environment}
-use Rattle.walrus_body.specs.FunctionTree.{Depth}
-use Rattle.walrus_body.specs.TreeOfFunction.{deeper, target_in}
-use Rattle.walrus_body.specs.Progress.{Layer, frames_of}
+use Rattle.wasm_body.specs.SourceTree.{Sequence}
+use Rattle.wasm_body.specs.Naming.{Occurrence, Environment}
+use Rattle.wasm_body.specs.FunctionTree.{Depth}
+use Rattle.wasm_body.specs.TreeOfFunction.{deeper, target_in}
+use Rattle.wasm_body.specs.Parsing.Progress.{Layer, frames_of}
 use Rattle.walrus_run.specs.declared.open_sequence.OpenSequence.{OpenSequence}
 use Rattle.walrus_run.specs.OpenSequences.{places, Holds}
 use Rattle.walrus_run.proofs.OpenSequenceLemmas.{kept_below}

@@ -1,16 +1,6 @@
 mod OpenSequenceLemmas
 mod LabelLemmas
 mod StackLemmas
-mod Same
-mod Steps
-mod Constructs
-mod Handlers
-mod RewritesTo
-mod Enough
-mod Natural
-mod NormalForms
-mod Examples
-mod Traces
 mod Placements
 mod Roles
 mod ParserSteps

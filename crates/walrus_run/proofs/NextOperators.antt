@@ -10,10 +10,10 @@ use Rattle.wasm_ops.specs.Opcodes.{IsOpcode}
 use Rattle.wasm_ops.specs.Position.{Position, Moves}
 use Rattle.wasm_ops.specs.Spelling.{Spells, read_operation}
 use Rattle.wasm_ops.proofs.OperationLaws.{operations_agree}
-use Rattle.walrus_body.specs.declared.error.ParseError.{ParseError}
-use Rattle.walrus_body.specs.declared.error.ParseError.TheVariants.{Read, PlaceTooGreat}
-use Rattle.walrus_body.specs.Results.{◌>>=◌, unless, faulting}
-use Rattle.walrus_body.specs.Accepted.{has_location}
+use Rattle.wasm_body.specs.declared.error.ParseError.{ParseError}
+use Rattle.wasm_body.specs.declared.error.ParseError.TheVariants.{Read, PlaceTooGreat}
+use Rattle.wasm_body.specs.Results.{◌>>=◌, unless, faulting}
+use Rattle.wasm_body.specs.Parsing.Accepted.{has_location}
 use Rattle.walrus_run.specs.BodyParsing.{read_next}
 
 abbrev Next : Type 0

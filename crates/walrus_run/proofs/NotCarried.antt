@@ -9,7 +9,7 @@ use Rattle.walrus_ir.specs.declared.value.Value.{Value}
 use Rattle.walrus_ir.specs.declared.value.Value.TheVariants.{V128}
 use Rattle.wasm_ops.specs.Opcodes.{kinds_of, kinds_of_byte, kinds_behind}
 use Rattle.wasm_ops.specs.VectorAccessOpcodes.{vector_access_opcode}
-use Rattle.walrus_body.specs.InstructionTable.{operation_of, const_operation, by_null, wait_opcode}
+use Rattle.wasm_body.specs.InstructionTable.{operation_of, const_operation, by_null, wait_opcode}
 
 -- those of which some are carried
 abbrev pub is_carried : Instr → Bool

@@ -8,17 +8,17 @@ use Rattle.walrus_ir.specs.Tree.{Items, no_items, item, no_sequences, sequence}
 use Rattle.walrus_ir.specs.Unfolding.{Placed, Located, places_in, AreItems, AreSequences, are_no_items, are_items, are_no_sequences, are_sequences}
 use Rattle.wasm_ops.specs.declared.types.Opcode.TheVariants.{Byte}
 use Rattle.wasm_ops.specs.Operations.{block, operation}
-use Rattle.walrus_body.specs.Control.{Action}
-use Rattle.walrus_body.specs.SourceTree.{Sequence, Empty, Single, Wrapped, OfBlock, OfLoop, OfTryTable, reshown}
-use Rattle.walrus_body.specs.Naming.{Occurrence, Environment}
-use Rattle.walrus_body.specs.NormalForm.{Fate, Drops, Stays, Cuts, fate, with_fate, typing_of, type_of, kept_operation, instruction, head, normal, normal_form, name_at, named_body}
-use Rattle.walrus_body.specs.FunctionTree.{Head, Instruction, default_location}
-use Rattle.walrus_body.specs.Keeping.{dead_behind, is_dead, joined, joined_alive}
-use Rattle.walrus_body.specs.TreeOfFunction.{items_in, instruction_in, head_of, HasTree}
-use Rattle.walrus_body.specs.Intervals.{RiseIn}
-use Rattle.walrus_body.specs.Progress.{append, closed, OpenConstruct, InWrapper, InThen, InElse, InTry, InCatch, InCatchAll, Layer, layer}
-use Rattle.walrus_body.proofs.KeepingLemmas.{dead_append, dead_reshown, reshown_append, normal_append}
-use Rattle.walrus_body.proofs.ArenaLemmas.{rise-range, rise-wider, rise-joined, items-joined, in-joined, SameIn, items-same, all_reached-fresh}
+use Rattle.wasm_body.specs.Control.{Action}
+use Rattle.wasm_body.specs.SourceTree.{Sequence, Empty, Single, Wrapped, OfBlock, OfLoop, OfTryTable, reshown}
+use Rattle.wasm_body.specs.Naming.{Occurrence, Environment}
+use Rattle.wasm_body.specs.NormalForm.{Fate, Drops, Stays, Cuts, fate, with_fate, typing_of, type_of, kept_operation, instruction, head, normal, normal_form, name_at, named_body}
+use Rattle.wasm_body.specs.FunctionTree.{Head, Instruction, default_location}
+use Rattle.wasm_body.specs.Keeping.{dead_behind, is_dead, joined, joined_alive}
+use Rattle.wasm_body.specs.TreeOfFunction.{items_in, instruction_in, head_of, HasTree}
+use Rattle.wasm_body.specs.Intervals.{RiseIn}
+use Rattle.wasm_body.specs.Parsing.Progress.{append, closed, OpenConstruct, InWrapper, InThen, InElse, InTry, InCatch, InCatchAll, Layer, layer}
+use Rattle.wasm_body.proofs.NormalForm.KeepingLemmas.{dead_append, dead_reshown, reshown_append, normal_append}
+use Rattle.wasm_body.proofs.NormalForm.ArenaLemmas.{rise-range, rise-wider, rise-joined, items-joined, in-joined, SameIn, items-same, all_reached-fresh}
 use Rattle.walrus_run.specs.declared.open_sequence.OpenSequence.{OpenSequence}
 use Rattle.walrus_run.specs.OpenSequences.{places, Takes, IsWritten, the_block, IsKept, IsReserved, IsOpenedBy, IsOpenIn, Holds}
 

@@ -8,19 +8,19 @@ use Rattle.walrus_ir.specs.Unfolding.{places_in}
 use Rattle.wasm_ops.specs.declared.operator.Operator.{Operator}
 use Rattle.wasm_ops.specs.Operations.{RawOperation}
 use Rattle.wasm_ops.specs.Meaning.{meaning}
-use Rattle.walrus_body.specs.declared.error.ParseError.{ParseError}
-use Rattle.walrus_body.specs.declared.error.ParseError.TheVariants.{Memory}
-use Rattle.walrus_body.specs.Results.{◌>>=◌}
-use Rattle.walrus_body.specs.Control.{Action, Control, Does, role_of, control_of}
-use Rattle.walrus_body.specs.SourceTree.{Sequence, Empty, Single}
-use Rattle.walrus_body.specs.Translation.{translate}
-use Rattle.walrus_body.specs.Naming.{Environment, NamedOperation, Occurrence, stands, naming, has_types, named_in}
-use Rattle.walrus_body.specs.Accepted.{mark}
-use Rattle.walrus_body.specs.NormalForm.{Drops, fate, instruction, name_at}
-use Rattle.walrus_body.specs.Keeping.{dead_behind}
-use Rattle.walrus_body.specs.InstructionTable.{operation_of, legacy_clauses}
-use Rattle.walrus_body.specs.TreeOfFunction.{instruction_in}
-use Rattle.walrus_body.specs.Progress.{Layer, Within, append, frames_of, further, further_within}
+use Rattle.wasm_body.specs.declared.error.ParseError.{ParseError}
+use Rattle.wasm_body.specs.declared.error.ParseError.TheVariants.{Memory}
+use Rattle.wasm_body.specs.Results.{◌>>=◌}
+use Rattle.wasm_body.specs.Control.{Action, Control, Does, role_of, control_of}
+use Rattle.wasm_body.specs.SourceTree.{Sequence, Empty, Single}
+use Rattle.wasm_body.specs.Translation.{translate}
+use Rattle.wasm_body.specs.Naming.{Environment, NamedOperation, Occurrence, stands, naming, has_types, named_in}
+use Rattle.wasm_body.specs.Parsing.Accepted.{mark}
+use Rattle.wasm_body.specs.NormalForm.{Drops, fate, instruction, name_at}
+use Rattle.wasm_body.specs.Keeping.{dead_behind}
+use Rattle.wasm_body.specs.InstructionTable.{operation_of, legacy_clauses}
+use Rattle.wasm_body.specs.TreeOfFunction.{instruction_in}
+use Rattle.wasm_body.specs.Parsing.Progress.{Layer, Within, append, frames_of, further, further_within}
 use Rattle.walrus_run.specs.declared.open_sequence.OpenSequence.{OpenSequence}
 use Rattle.walrus_run.specs.declared.parser.Parser.{Parser}
 use Rattle.walrus_run.specs.OpenSequences.{places, Takes}

@@ -6,20 +6,20 @@ use Rattle.std.proofs.lemmas.Option.{slice_get_past, slice_get-get_or}
 use Rattle.std.proofs.Common.{refl, ap, sym, ◌∙◌, arith}
 use Rattle.wasm_ops.specs.Operations.{Immediate, operation, RawOperation}
 use Rattle.walrus_ir.specs.Types.{Signature}
-use Rattle.walrus_body.specs.declared.error.ParseError.{ParseError}
-use Rattle.walrus_body.specs.declared.error.ParseError.TheVariants.{NoSuchLabel}
-use Rattle.walrus_body.specs.Results.{◌>>=◌, sure, some_or, unless}
-use Rattle.walrus_body.specs.Frames.{Frame, outside}
-use Rattle.walrus_body.specs.Translation.{translate, translate_immediates}
-use Rattle.walrus_body.specs.Naming.{Environment, NamedOperation, naming, id_at, name_block, open_label, block_types}
-use Rattle.walrus_body.specs.FunctionTree.{Target, Depth}
-use Rattle.walrus_body.specs.NormalForm.{kept_operation}
-use Rattle.walrus_body.specs.InstructionTable.{PlacedOperation}
-use Rattle.walrus_body.specs.TreeOfFunction.{target_in, aiming, aimed}
-use Rattle.walrus_body.proofs.Steps.{Leads, bound, all_of}
-use Rattle.walrus_body.proofs.Translations.{LeadAll, lead_all, translate_leads}
-use Rattle.walrus_body.proofs.KeptNames.{kept_raw, number_leads, open_same, handler_same, same_leads, kept_of}
-use Rattle.walrus_body.proofs.Outcomes.{outcome, Alike, AreAlike, translate_alike}
+use Rattle.wasm_body.specs.declared.error.ParseError.{ParseError}
+use Rattle.wasm_body.specs.declared.error.ParseError.TheVariants.{NoSuchLabel}
+use Rattle.wasm_body.specs.Results.{◌>>=◌, sure, some_or, unless}
+use Rattle.wasm_body.specs.Frames.{Frame, outside}
+use Rattle.wasm_body.specs.Translation.{translate, translate_immediates}
+use Rattle.wasm_body.specs.Naming.{Environment, NamedOperation, naming, id_at, name_block, open_label, block_types}
+use Rattle.wasm_body.specs.FunctionTree.{Target, Depth}
+use Rattle.wasm_body.specs.NormalForm.{kept_operation}
+use Rattle.wasm_body.specs.InstructionTable.{PlacedOperation}
+use Rattle.wasm_body.specs.TreeOfFunction.{target_in, aiming, aimed}
+use Rattle.wasm_body.proofs.Translation.Steps.{Leads, bound, all_of}
+use Rattle.wasm_body.proofs.Translation.Translations.{LeadAll, lead_all, translate_leads}
+use Rattle.wasm_body.proofs.NormalForm.KeptNames.{kept_raw, number_leads, open_same, handler_same, same_leads, kept_of}
+use Rattle.wasm_body.proofs.Translation.Outcomes.{outcome, Alike, AreAlike, translate_alike}
 use Rattle.walrus_run.specs.Placing.{placing}
 use Rattle.walrus_run.proofs.LabelLemmas.{Fall, target_of_label}
 

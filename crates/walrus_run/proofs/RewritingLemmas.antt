@@ -8,26 +8,26 @@ use Rattle.walrus_ir.specs.Arena.{arena, entry_of}
 use Rattle.walrus_ir.proofs.WalkLaws.{one_tree, tree_has_no_fault}
 use Rattle.wasm_ops.specs.Shortest.{short_unsigned}
 use Rattle.wasm_encode.specs.Declarations.{declarations}
-use Rattle.walrus_body.specs.declared.error.EmitError.{EmitError}
-use Rattle.walrus_body.specs.declared.error.EmitError.TheVariants.{Memory}
-use Rattle.walrus_body.specs.TreeOfFunction.{tree_of, HasTree}
+use Rattle.wasm_body.specs.declared.error.EmitError.{EmitError}
+use Rattle.wasm_body.specs.declared.error.EmitError.TheVariants.{Memory}
+use Rattle.wasm_body.specs.TreeOfFunction.{tree_of, HasTree}
 use Rattle.walrus_run.specs.declared.write_fault.WriteFault.{WriteFault}
 use Rattle.walrus_run.specs.declared.write_fault.WriteFault.TheVariants.{Emit, NotCarried}
 use Rattle.walrus_ir.specs.declared.module.Module.{Module}
 use Rattle.walrus_body.specs.declared.indices_to_ids.IndicesToIds.{IndicesToIds}
-use Rattle.walrus_body.specs.declared.error.ParseFailure.{ParseFailure}
-use Rattle.walrus_body.specs.SourceTree.{Body}
+use Rattle.wasm_body.specs.declared.error.ParseFailure.{ParseFailure}
+use Rattle.wasm_body.specs.SourceTree.{Body}
 use Rattle.walrus_body.specs.Environments.{environment_of}
-use Rattle.walrus_body.specs.Naming.{Environment, Occurrence}
-use Rattle.walrus_body.specs.Accepted.{Accepted, FirstFault}
-use Rattle.walrus_body.specs.FunctionTree.{FunctionTree}
-use Rattle.walrus_body.specs.NormalForm.{typing_of, normal_form, named_body}
-use Rattle.walrus_body.specs.Parsing.{parsed}
-use Rattle.walrus_body.specs.Bytes.{Numbers, tree_bytes}
-use Rattle.walrus_body.proofs.Parses.{AreBytes}
-use Rattle.walrus_body.proofs.Answers.{Answers, answers, accepted_parsed, fault_parsed}
-use Rattle.walrus_body.proofs.ReadingBytes.{reading_agrees}
-use Rattle.walrus_body.proofs.NumberedBodies.{HasText, body_bytes_ok}
+use Rattle.wasm_body.specs.Naming.{Environment, Occurrence}
+use Rattle.wasm_body.specs.Parsing.Accepted.{Accepted, FirstFault}
+use Rattle.wasm_body.specs.FunctionTree.{FunctionTree}
+use Rattle.wasm_body.specs.NormalForm.{typing_of, normal_form, named_body}
+use Rattle.wasm_body.specs.Parsing.Lists.{parsed}
+use Rattle.wasm_body.specs.Bytes.{Numbers, tree_bytes}
+use Rattle.wasm_body.proofs.Parsing.Parses.{AreBytes}
+use Rattle.wasm_body.proofs.Parsing.Answers.{Answers, answers, accepted_parsed, fault_parsed}
+use Rattle.wasm_body.proofs.Parsing.ReadingBytes.{reading_agrees}
+use Rattle.wasm_body.proofs.Bytes.NumberedBodies.{HasText, body_bytes_ok}
 use Rattle.walrus_run.specs.declared.error.RewriteError.{RewriteError}
 use Rattle.walrus_run.specs.declared.error.RewriteError.TheVariants.{Parse}
 use Rattle.walrus_run.specs.BodyParsing.{IsFunction, ParsesBody}

@@ -21,8 +21,8 @@ use Rattle.wasm_ops.specs.UnaryOperations.{unary_opcode}
 use Rattle.wasm_ops.specs.BinaryOperations.{binary_opcode}
 use Rattle.wasm_ops.specs.TernaryOperations.{ternary_opcode}
 use Rattle.wasm_ops.specs.AccessOperations.{load_opcode, store_opcode}
-use Rattle.walrus_body.specs.Control.{Role, an_unreachable, a_branch, a_return, a_plain, role_of, Action, Plain, Return, Unreachable, Branch, Control, Does, control_by, first_label}
-use Rattle.walrus_body.specs.NormalForm.{Fate, Stays, Cuts, fate}
+use Rattle.wasm_body.specs.Control.{Role, an_unreachable, a_branch, a_return, a_plain, role_of, Action, Plain, Return, Unreachable, Branch, Control, Does, control_by, first_label}
+use Rattle.wasm_body.specs.NormalForm.{Fate, Stays, Cuts, fate}
 use Rattle.walrus_run.specs.OperatorKinds.{is_instruction, is_cut}
 
 -- ---- plain operators, by the tables of their opcodes

@@ -3,12 +3,12 @@ use Rattle.std.specs.Prelude.{◌≡◌, ℕ, suc, ◌-◌, ◌<◌, ◌==◌, L
 use Rattle.std.specs.Option.{option_flatten}
 use Rattle.std.proofs.Common.{refl, ap, sym, ◌∙◌, arith}
 use Rattle.std.proofs.lemmas.List.{length-append}
-use Rattle.walrus_body.specs.declared.error.EmitError.TheVariants.{BranchOutside}
-use Rattle.walrus_body.specs.Results.{◌>>=◌}
-use Rattle.walrus_body.specs.Bytes.{fitting}
-use Rattle.walrus_body.specs.FunctionTree.{Target, Depth, Outside}
-use Rattle.walrus_body.specs.FlatText.{depth_of}
-use Rattle.walrus_body.specs.TreeOfFunction.{deeper, target_in}
+use Rattle.wasm_body.specs.declared.error.EmitError.TheVariants.{BranchOutside}
+use Rattle.wasm_body.specs.Results.{◌>>=◌}
+use Rattle.wasm_body.specs.Bytes.{fitting}
+use Rattle.wasm_body.specs.FunctionTree.{Target, Depth, Outside}
+use Rattle.wasm_body.specs.FlatText.{depth_of}
+use Rattle.wasm_body.specs.TreeOfFunction.{deeper, target_in}
 use Rattle.walrus_run.specs.declared.scopes.Scopes.{Scopes}
 use Rattle.walrus_run.specs.Scopes.{level_in, entered_at, IsOpen, depth_in}
 

@@ -4,9 +4,9 @@ use Rattle.std.proofs.lemmas.List.{length-map, length-reverse, get_or-reverse}
 use Rattle.std.proofs.lemmas.Option.{slice_get_past, slice_get-get_or}
 use Rattle.std.proofs.Common.{refl, ap, sym, ◌∙◌, arith}
 use Rattle.walrus_ir.specs.declared.seq.InstrSeq.{InstrSeq}
-use Rattle.walrus_body.specs.declared.error.ParseError.{ParseError}
-use Rattle.walrus_body.specs.declared.error.ParseError.TheVariants.{NoSuchLabel}
-use Rattle.walrus_body.specs.Results.{some_or}
+use Rattle.wasm_body.specs.declared.error.ParseError.{ParseError}
+use Rattle.wasm_body.specs.declared.error.ParseError.TheVariants.{NoSuchLabel}
+use Rattle.wasm_body.specs.Results.{some_or}
 use Rattle.walrus_run.specs.declared.open_sequence.OpenSequence.{OpenSequence}
 use Rattle.walrus_run.specs.OpenSequences.{places, IsWritten}
 

@@ -6,11 +6,11 @@ use Rattle.wasm_ops.specs.declared.types.BlockType.{BlockType}
 use Rattle.wasm_ops.specs.declared.types.BlockType.TheVariants.{Empty, Value, FuncType}
 use Rattle.wasm_ops.specs.declared.types.Space.{Space}
 use Rattle.wasm_ops.specs.declared.types.Space.TheVariants.{Types}
-use Rattle.walrus_body.specs.declared.error.ParseError.{ParseError}
-use Rattle.walrus_body.specs.declared.error.ParseError.TheVariants.{Index, NotAFunctionType, TypeMissing}
+use Rattle.wasm_body.specs.declared.error.ParseError.{ParseError}
+use Rattle.wasm_body.specs.declared.error.ParseError.TheVariants.{Index, NotAFunctionType, TypeMissing}
 use Rattle.walrus_body.specs.declared.indices_to_ids.IndicesToIds.{IndicesToIds}
-use Rattle.walrus_body.specs.Results.{◌>>=◌, some_or, faulting}
-use Rattle.walrus_body.specs.Translation.{translate_value}
+use Rattle.wasm_body.specs.Results.{◌>>=◌, some_or, faulting}
+use Rattle.wasm_body.specs.Translation.{translate_value}
 use Rattle.walrus_body.specs.IndexMaps.{id_of}
 
 -- the id of an old index

@@ -4,18 +4,18 @@ use Rattle.walrus_ir.specs.Arena.{arena, entry_of}
 use Rattle.walrus_ir.specs.declared.builder.FunctionBuilder.{FunctionBuilder}
 use Rattle.wasm_ops.specs.Operations.{RawOperation}
 use Rattle.wasm_ops.specs.Spelling.{read_operation}
-use Rattle.walrus_body.specs.declared.error.ParseError.{ParseError}
-use Rattle.walrus_body.specs.declared.error.ParseError.TheVariants.{Read, PlaceTooGreat, Memory}
-use Rattle.walrus_body.specs.declared.error.ParseFailure.{ParseFailure}
-use Rattle.walrus_body.specs.Results.{◌>>=◌, unless, faulting}
-use Rattle.walrus_body.specs.SourceTree.{Body}
-use Rattle.walrus_body.specs.Naming.{Environment, Occurrence}
-use Rattle.walrus_body.specs.Accepted.{has_location, Setting}
-use Rattle.walrus_body.specs.FunctionTree.{FunctionTree}
-use Rattle.walrus_body.specs.NormalForm.{typing_of, normal_form, named_body}
-use Rattle.walrus_body.specs.Parsing.{parsed_from, parsed}
-use Rattle.walrus_body.specs.Progress.{nothing_read}
-use Rattle.walrus_body.specs.TreeOfFunction.{HasTree}
+use Rattle.wasm_body.specs.declared.error.ParseError.{ParseError}
+use Rattle.wasm_body.specs.declared.error.ParseError.TheVariants.{Read, PlaceTooGreat, Memory}
+use Rattle.wasm_body.specs.declared.error.ParseFailure.{ParseFailure}
+use Rattle.wasm_body.specs.Results.{◌>>=◌, unless, faulting}
+use Rattle.wasm_body.specs.SourceTree.{Body}
+use Rattle.wasm_body.specs.Naming.{Environment, Occurrence}
+use Rattle.wasm_body.specs.Parsing.Accepted.{has_location, Setting}
+use Rattle.wasm_body.specs.FunctionTree.{FunctionTree}
+use Rattle.wasm_body.specs.NormalForm.{typing_of, normal_form, named_body}
+use Rattle.wasm_body.specs.Parsing.Lists.{parsed_from, parsed}
+use Rattle.wasm_body.specs.Parsing.Progress.{nothing_read}
+use Rattle.wasm_body.specs.TreeOfFunction.{HasTree}
 
 -- what such a parse is given; the validator has one state
 abbrev pub accepting : Environment → (start : ℕ) → Setting (Unit {0})

@@ -5,14 +5,14 @@ use Rattle.walrus_ir.specs.declared.val_type.ValType.{ValType}
 use Rattle.walrus_ir.specs.declared.val_type.ValType.TheVariants.{I32, I64}
 use Rattle.walrus_ir.specs.declared.module.Module.{Module}
 use Rattle.walrus_ir.specs.Types.{ModuleType, Func, Entry}
-use Rattle.walrus_body.specs.declared.error.EmitError.TheVariants.{Index, UnnumberedLocal}
-use Rattle.walrus_body.specs.declared.error.IndexError.TheVariants.{Unnumbered}
+use Rattle.wasm_body.specs.declared.error.EmitError.TheVariants.{Index, UnnumberedLocal}
+use Rattle.wasm_body.specs.declared.error.IndexError.TheVariants.{Unnumbered}
 use Rattle.walrus_body.specs.declared.indices_to_ids.IndicesToIds.{IndicesToIds}
 use Rattle.walrus_body.specs.IndexMaps.{ids_in}
 use Rattle.walrus_body.specs.Environments.{environment_of}
-use Rattle.walrus_body.specs.Naming.{Environment}
-use Rattle.walrus_body.specs.Accepted.{Setting}
-use Rattle.walrus_body.specs.Bytes.{Numbers}
+use Rattle.wasm_body.specs.Naming.{Environment}
+use Rattle.wasm_body.specs.Parsing.Accepted.{Setting}
+use Rattle.wasm_body.specs.Bytes.{Numbers}
 use Rattle.walrus_run.specs.BodyParsing.{accepting}
 
 -- The last type is that of the entry of a function without results.

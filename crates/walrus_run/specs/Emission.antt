@@ -12,14 +12,14 @@ use Rattle.walrus_ir.specs.Events.{Event, StartSequence, EndSequence, VisitInstr
 use Rattle.wasm_ops.specs.Opcodes.{kinds_of}
 use Rattle.wasm_ops.specs.Operations.{RawOperation}
 use Rattle.wasm_ops.specs.Shortest.{short}
-use Rattle.walrus_body.specs.declared.error.EmitError.{EmitError}
-use Rattle.walrus_body.specs.declared.error.EmitError.TheVariants.{Memory}
-use Rattle.walrus_body.specs.Control.{end_operation}
-use Rattle.walrus_body.specs.Translation.{Located as LocatedOperation}
-use Rattle.walrus_body.specs.InstructionTable.{operation_of}
-use Rattle.walrus_body.specs.TreeOfFunction.{instruction_in}
-use Rattle.walrus_body.specs.Bytes.{Numbers, numbering}
-use Rattle.walrus_body.specs.FlatText.{then_by, opened}
+use Rattle.wasm_body.specs.declared.error.EmitError.{EmitError}
+use Rattle.wasm_body.specs.declared.error.EmitError.TheVariants.{Memory}
+use Rattle.wasm_body.specs.Control.{end_operation}
+use Rattle.wasm_body.specs.Translation.{Located as LocatedOperation}
+use Rattle.wasm_body.specs.InstructionTable.{operation_of}
+use Rattle.wasm_body.specs.TreeOfFunction.{instruction_in}
+use Rattle.wasm_body.specs.Bytes.{Numbers, numbering}
+use Rattle.wasm_body.specs.FlatText.{then_by, opened}
 use Rattle.walrus_run.specs.declared.write_fault.WriteFault.{WriteFault}
 use Rattle.walrus_run.specs.declared.write_fault.WriteFault.TheVariants.{Emit, NotCarried}
 use Rattle.walrus_run.specs.declared.writer.EmitVisitor.{EmitVisitor}

@@ -6,10 +6,10 @@ use Rattle.walrus_ir.specs.Tree.{Items, no_items, item, Sequences, no_sequences,
 use Rattle.walrus_ir.specs.Faults.{FirstFault}
 use Rattle.wasm_ops.specs.Opcodes.{kinds_of}
 use Rattle.wasm_encode.specs.Declarations.{declarations}
-use Rattle.walrus_body.specs.declared.error.EmitError.TheVariants.{Memory}
-use Rattle.walrus_body.specs.FunctionTree.{Head, Instruction, FunctionTree}
-use Rattle.walrus_body.specs.TreeOfFunction.{HasTree}
-use Rattle.walrus_body.specs.Bytes.{Numbers, tree_bytes}
+use Rattle.wasm_body.specs.declared.error.EmitError.TheVariants.{Memory}
+use Rattle.wasm_body.specs.FunctionTree.{Head, Instruction, FunctionTree}
+use Rattle.wasm_body.specs.TreeOfFunction.{HasTree}
+use Rattle.wasm_body.specs.Bytes.{Numbers, tree_bytes}
 use Rattle.walrus_run.specs.declared.write_fault.WriteFault.{WriteFault}
 use Rattle.walrus_run.specs.declared.write_fault.WriteFault.TheVariants.{Emit, NotCarried}
 use Rattle.walrus_run.specs.WalkFaults.{walk_fault}

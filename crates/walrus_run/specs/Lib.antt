@@ -1,6 +1,3 @@
-pub mod Machine
-pub mod Places
-pub mod Laws
 pub mod OpenSequences
 pub mod Parsers
 pub mod BlockTypes

@@ -8,14 +8,14 @@ use Rattle.walrus_ir.specs.Tree.{Items}
 use Rattle.walrus_ir.specs.Unfolding.{Placed, Located, AreItems}
 use Rattle.wasm_ops.specs.declared.types.Opcode.TheVariants.{Byte}
 use Rattle.wasm_ops.specs.Operations.{block, operation}
-use Rattle.walrus_body.specs.SourceTree.{Sequence, OfBlock, reshown}
-use Rattle.walrus_body.specs.FunctionTree.{default_location}
-use Rattle.walrus_body.specs.Naming.{Occurrence, Environment}
-use Rattle.walrus_body.specs.NormalForm.{typing_of, type_of, kept_operation, normal, name_at}
-use Rattle.walrus_body.specs.Keeping.{is_dead}
-use Rattle.walrus_body.specs.TreeOfFunction.{items_in}
-use Rattle.walrus_body.specs.Intervals.{RiseIn}
-use Rattle.walrus_body.specs.Progress.{OpenConstruct, InWrapper, Layer}
+use Rattle.wasm_body.specs.SourceTree.{Sequence, OfBlock, reshown}
+use Rattle.wasm_body.specs.FunctionTree.{default_location}
+use Rattle.wasm_body.specs.Naming.{Occurrence, Environment}
+use Rattle.wasm_body.specs.NormalForm.{typing_of, type_of, kept_operation, normal, name_at}
+use Rattle.wasm_body.specs.Keeping.{is_dead}
+use Rattle.wasm_body.specs.TreeOfFunction.{items_in}
+use Rattle.wasm_body.specs.Intervals.{RiseIn}
+use Rattle.wasm_body.specs.Parsing.Progress.{OpenConstruct, InWrapper, Layer}
 use Rattle.walrus_run.specs.declared.open_sequence.OpenSequence.{OpenSequence}
 
 abbrev pub places : List OpenSequence → List ℕ

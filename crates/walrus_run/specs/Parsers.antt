@@ -6,12 +6,12 @@ use Rattle.walrus_ir.specs.declared.val_type.InstrSeqType.{InstrSeqType}
 use Rattle.walrus_ir.specs.Arena.{type_of, entry_of, arena, Grown}
 use Rattle.wasm_ops.specs.Operations.{RawOperation}
 use Rattle.walrus_body.specs.Environments.{environment_of}
-use Rattle.walrus_body.specs.SourceTree.{Sequence}
-use Rattle.walrus_body.specs.declared.error.ParseError.{ParseError}
-use Rattle.walrus_body.specs.declared.error.ParseError.TheVariants.{Memory}
-use Rattle.walrus_body.specs.Naming.{Environment, NamedOperation, Occurrence, named_in}
-use Rattle.walrus_body.specs.Accepted.{mark}
-use Rattle.walrus_body.specs.Progress.{Layer, Progress, Within, frames_of, further}
+use Rattle.wasm_body.specs.SourceTree.{Sequence}
+use Rattle.wasm_body.specs.declared.error.ParseError.{ParseError}
+use Rattle.wasm_body.specs.declared.error.ParseError.TheVariants.{Memory}
+use Rattle.wasm_body.specs.Naming.{Environment, NamedOperation, Occurrence, named_in}
+use Rattle.wasm_body.specs.Parsing.Accepted.{mark}
+use Rattle.wasm_body.specs.Parsing.Progress.{Layer, Progress, Within, frames_of, further}
 use Rattle.walrus_run.specs.declared.open_sequence.OpenSequence.{OpenSequence}
 use Rattle.walrus_run.specs.declared.parser.Parser.{Parser}
 use Rattle.walrus_run.specs.OpenSequences.{places, Holds, Takes, IsWritten, the_block}

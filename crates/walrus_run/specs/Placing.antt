@@ -2,12 +2,12 @@
 -- exponent a number of bytes.
 use Rattle.std.specs.Prelude.{ℕ, ◌^◌, List, slice_get, Ok}
 use Rattle.wasm_ops.specs.declared.types.BlockType.{BlockType}
-use Rattle.walrus_body.specs.declared.error.ParseError.{ParseError}
-use Rattle.walrus_body.specs.declared.error.ParseError.TheVariants.{NoSuchLabel}
-use Rattle.walrus_body.specs.Results.{◌>>=◌, some_or}
-use Rattle.walrus_body.specs.Frames.{Frame, outside}
-use Rattle.walrus_body.specs.Translation.{Translation}
-use Rattle.walrus_body.specs.Naming.{Environment, id_at, name_block, handler_label, open_label, naming}
+use Rattle.wasm_body.specs.declared.error.ParseError.{ParseError}
+use Rattle.wasm_body.specs.declared.error.ParseError.TheVariants.{NoSuchLabel}
+use Rattle.wasm_body.specs.Results.{◌>>=◌, some_or}
+use Rattle.wasm_body.specs.Frames.{Frame, outside}
+use Rattle.wasm_body.specs.Translation.{Translation}
+use Rattle.wasm_body.specs.Naming.{Environment, id_at, name_block, handler_label, open_label, naming}
 
 -- where the sequences at these places are open, innermost first
 abbrev pub placing : {A : Type 0} → Environment → List (Frame A) → List ℕ → Translation ℕ BlockType ℕ (Unit {0}) ParseError

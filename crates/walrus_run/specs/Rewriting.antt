@@ -1,15 +1,15 @@
 -- Rewriting a body over the demo module.
 use Rattle.std.specs.Prelude.{◌≡◌, ◌⊎◌, ℕ, List, Ok, Err}
 use Rattle.walrus_ir.specs.declared.error.WalkError.TheVariants as walk
-use Rattle.walrus_body.specs.declared.error.ParseError.TheVariants as parse
-use Rattle.walrus_body.specs.declared.error.EmitError.TheVariants as emit
-use Rattle.walrus_body.specs.declared.error.ParseFailure.{ParseFailure}
-use Rattle.walrus_body.specs.SourceTree.{Body}
-use Rattle.walrus_body.specs.Naming.{Occurrence}
-use Rattle.walrus_body.specs.Accepted.{Accepted, FirstFault}
-use Rattle.walrus_body.specs.Parsing.{parsed}
-use Rattle.walrus_body.specs.NormalForm.{typing_of, normal_form, named_body}
-use Rattle.walrus_body.specs.Bytes.{tree_bytes}
+use Rattle.wasm_body.specs.declared.error.ParseError.TheVariants as parse
+use Rattle.wasm_body.specs.declared.error.EmitError.TheVariants as emit
+use Rattle.wasm_body.specs.declared.error.ParseFailure.{ParseFailure}
+use Rattle.wasm_body.specs.SourceTree.{Body}
+use Rattle.wasm_body.specs.Naming.{Occurrence}
+use Rattle.wasm_body.specs.Parsing.Accepted.{Accepted, FirstFault}
+use Rattle.wasm_body.specs.Parsing.Lists.{parsed}
+use Rattle.wasm_body.specs.NormalForm.{typing_of, normal_form, named_body}
+use Rattle.wasm_body.specs.Bytes.{tree_bytes}
 use Rattle.walrus_run.specs.declared.error.RewriteError.{RewriteError}
 use Rattle.walrus_run.specs.declared.error.RewriteError.TheVariants.{Parse, Walk, Emit}
 use Rattle.walrus_run.specs.Demo.{demo_environment, demo, demo_numbers}

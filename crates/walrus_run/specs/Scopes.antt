@@ -1,10 +1,10 @@
 -- The open sequences of a writer, and the table of their levels.
 use Rattle.std.specs.Prelude.{◌≡◌, ℕ, List, [], ◌∷◌, ◌++◌, length, Option, None, Some, ◌==◌, if◌then◌else◌, slice_index_or, Result}
-use Rattle.walrus_body.specs.declared.error.EmitError.{EmitError}
-use Rattle.walrus_body.specs.Results.{◌>>=◌}
-use Rattle.walrus_body.specs.Bytes.{fitting}
-use Rattle.walrus_body.specs.FlatText.{depth_of}
-use Rattle.walrus_body.specs.TreeOfFunction.{target_in}
+use Rattle.wasm_body.specs.declared.error.EmitError.{EmitError}
+use Rattle.wasm_body.specs.Results.{◌>>=◌}
+use Rattle.wasm_body.specs.Bytes.{fitting}
+use Rattle.wasm_body.specs.FlatText.{depth_of}
+use Rattle.wasm_body.specs.TreeOfFunction.{target_in}
 use Rattle.walrus_run.specs.declared.scopes.Entered.{Entered}
 use Rattle.walrus_run.specs.declared.scopes.Scopes.{Scopes}
 

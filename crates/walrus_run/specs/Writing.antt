@@ -7,16 +7,16 @@ use Rattle.wasm_ops.specs.Meaning.{meaning}
 use Rattle.wasm_ops.specs.Opcodes.{kinds_of}
 use Rattle.wasm_ops.specs.Operations.{RawOperation}
 use Rattle.wasm_encode.specs.Writable.{IsWritable}
-use Rattle.walrus_body.specs.declared.error.EmitError.{EmitError}
-use Rattle.walrus_body.specs.declared.error.EmitError.TheVariants.{Index, UnnumberedLocal}
+use Rattle.wasm_body.specs.declared.error.EmitError.{EmitError}
+use Rattle.wasm_body.specs.declared.error.EmitError.TheVariants.{Index, UnnumberedLocal}
 use Rattle.walrus_body.specs.declared.ids_to_indices.IdsToIndices.{IdsToIndices}
 use Rattle.walrus_body.specs.IndexMaps.{number_of}
-use Rattle.walrus_body.specs.Results.{faulting}
-use Rattle.walrus_body.specs.Translation.{translate}
-use Rattle.walrus_body.specs.Bytes.{Numbers, numbering}
-use Rattle.walrus_body.specs.FlatText.{then_by, typed}
-use Rattle.walrus_body.specs.InstructionTable.{operation_of}
-use Rattle.walrus_body.specs.TreeOfFunction.{aimed}
+use Rattle.wasm_body.specs.Results.{faulting}
+use Rattle.wasm_body.specs.Translation.{translate}
+use Rattle.wasm_body.specs.Bytes.{Numbers, numbering}
+use Rattle.wasm_body.specs.FlatText.{then_by, typed}
+use Rattle.wasm_body.specs.InstructionTable.{operation_of}
+use Rattle.wasm_body.specs.TreeOfFunction.{aimed}
 use Rattle.walrus_run.specs.declared.write_fault.WriteFault.{WriteFault}
 use Rattle.walrus_run.specs.declared.write_fault.WriteFault.TheVariants.{Emit, NotCarried}
 

@@ -1,7 +1,7 @@
 //! Looking up the types that a body names.
 ghost use Rattle.std.specs.Prelude.{◌≡◌};
 ghost use Rattle.walrus_ir.specs.declared.val_type.ValType.TheVariants.{Ref};
-ghost use Rattle.walrus_body.specs.Translation.{translate_value};
+ghost use Rattle.wasm_body.specs.Translation.{translate_value};
 ghost use Rattle.walrus_run.specs.BlockTypes.{ids_at, sequence_type};
 
 use walrus_body::{IndicesToIds, ParseError};

@@ -4,9 +4,9 @@ ghost use Rattle.walrus_ir.specs.Arena.{entry_of};
 ghost use Rattle.wasm_ops.specs.Meaning.{meaning};
 ghost use Rattle.wasm_encode.specs.Writable.{IsWritable};
 ghost use Rattle.walrus_body.specs.Environments.{environment_of};
-ghost use Rattle.walrus_body.specs.Accepted.{has_location};
-ghost use Rattle.walrus_body.specs.Parsing.{failure};
-ghost use Rattle.walrus_body.specs.SourceTree.{Empty};
+ghost use Rattle.wasm_body.specs.Parsing.Accepted.{has_location};
+ghost use Rattle.wasm_body.specs.Parsing.Lists.{failure};
+ghost use Rattle.wasm_body.specs.SourceTree.{Empty};
 ghost use Rattle.walrus_run.specs.BodyParsing.{read_next, Parses, ParsesBody};
 ghost use Rattle.walrus_run.specs.Parsers.{env_of, Keeps};
 

@@ -1,7 +1,7 @@
 //! The demo module, over which the program parses and writes bodies.
 ghost use Rattle.std.specs.Prelude.{◌≡◌, [], ◌∷◌, None, IfOk, IfErr, OnOk};
 ghost use Rattle.std.specs.FinMap as map;
-ghost use Rattle.walrus_body.specs.declared.error.IndexError.TheVariants.{Memory};
+ghost use Rattle.wasm_body.specs.declared.error.IndexError.TheVariants.{Memory};
 ghost use Rattle.wasm_ops.specs.declared.types.Space.TheVariants.{Tables, Types, Funcs, Globals, Memories, Elements, Data, Tags};
 ghost use Rattle.walrus_body.specs.IndexMaps.{no_ids, ids_in, with_ids, with_locals, numbers_in, with_numbers};
 ghost use Rattle.walrus_body.specs.Numbering.{pushed};

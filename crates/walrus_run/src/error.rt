@@ -21,7 +21,7 @@ pub enum RewriteError {
 
 impl From<AllocError> for RewriteError {
     ghost use Rattle.std.specs.Prelude.{◌≡◌};
-    ghost use Rattle.walrus_body.specs.declared.error.EmitError.TheVariants.{Memory};
+    ghost use Rattle.wasm_body.specs.declared.error.EmitError.TheVariants.{Memory};
     ghost use Rattle.walrus_run.specs.declared.error.RewriteError.TheVariants.{Emit};
 
     ghost from_gives = { λ _ error. error ≡ Emit Memory };

@@ -6,7 +6,6 @@ mod body_parser;
 mod demo;
 mod error;
 mod instructions;
-mod laws;
 mod names;
 mod open_sequence;
 mod operators;
@@ -19,6 +18,6 @@ mod writer;
 mod written_types;
 
 pub use error::RewriteError;
-pub use laws::law_executions;
 pub use program::run_words;
 pub use rewriting::rewrite_demo;
+pub use walrus_body::law_executions;

@@ -1,6 +1,6 @@
 //! Sequences that are open while a body is parsed.
 ghost use Rattle.std.specs.Prelude.{◌≡◌, ◌∷◌, [], false, OnOk, IfErr};
-ghost use Rattle.walrus_body.specs.declared.error.ParseError.{ParseError as ParseFault};
+ghost use Rattle.wasm_body.specs.declared.error.ParseError.{ParseError as ParseFault};
 ghost use Rattle.walrus_run.specs.OpenSequences.{Takes};
 
 use std::alloc::Global;

@@ -2,7 +2,7 @@
 ghost use Rattle.std.specs.Prelude.{◌≡◌, ◌<◌, ℕ, List, true, IfOk};
 ghost use Rattle.wasm_ops.specs.Meaning.{meaning};
 ghost use Rattle.wasm_encode.specs.Writable.{IsWritable};
-ghost use Rattle.walrus_body.specs.FlatText.{exponent_of};
+ghost use Rattle.wasm_body.specs.FlatText.{exponent_of};
 ghost use Rattle.walrus_ir.specs.declared.val_type.InstrSeqType.{InstrSeqType as SequenceType};
 ghost use Rattle.walrus_run.specs.InstructionKinds.{is_on_memory, is_on_table};
 ghost use Rattle.walrus_run.specs.Scopes.{IsOpen};

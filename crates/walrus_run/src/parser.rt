@@ -4,12 +4,12 @@ ghost use Rattle.walrus_ir.specs.Arena.{arena, entry_of};
 ghost use Rattle.wasm_ops.specs.declared.operator.Operator.TheVariants as op;
 ghost use Rattle.wasm_ops.specs.Meaning.{meaning};
 ghost use Rattle.wasm_encode.specs.Writable.{IsWritable};
-ghost use Rattle.walrus_body.specs.declared.error.ParseError.{ParseError as ParseFault};
-ghost use Rattle.walrus_body.specs.Results.{some_or};
+ghost use Rattle.wasm_body.specs.declared.error.ParseError.{ParseError as ParseFault};
+ghost use Rattle.wasm_body.specs.Results.{some_or};
 ghost use Rattle.walrus_body.specs.Environments.{environment_of};
-ghost use Rattle.walrus_body.specs.SourceTree.{Sequence, Empty};
-ghost use Rattle.walrus_body.specs.Naming.{Occurrence, entry_of as entry_type_of};
-ghost use Rattle.walrus_body.specs.Progress.{Layer};
+ghost use Rattle.wasm_body.specs.SourceTree.{Sequence, Empty};
+ghost use Rattle.wasm_body.specs.Naming.{Occurrence, entry_of as entry_type_of};
+ghost use Rattle.wasm_body.specs.Parsing.Progress.{Layer};
 ghost use Rattle.walrus_run.specs.OperatorKinds.{is_cut};
 ghost use Rattle.walrus_run.specs.Parsers.{env_of, open_places, KeepsRest, Keeps, Enters, Seals, LeavesBlock, Steps};
 

@@ -1,12 +1,12 @@
 //! Rewriting a body.
 ghost use Rattle.std.specs.Prelude.{◌≡◌, ◌⊎◌, Ok, Err, IfOk, IfErr, IsOk, IsErr};
-ghost use Rattle.walrus_body.specs.declared.error.ParseFailure.{ParseFailure as Failure};
-ghost use Rattle.walrus_body.specs.declared.error.EmitError.TheVariants.{Memory};
-ghost use Rattle.walrus_body.specs.SourceTree.{Body};
-ghost use Rattle.walrus_body.specs.Naming.{Occurrence};
-ghost use Rattle.walrus_body.specs.Accepted.{Accepted, FirstFault};
-ghost use Rattle.walrus_body.specs.FunctionTree.{FunctionTree};
-ghost use Rattle.walrus_body.specs.Bytes.{tree_bytes};
+ghost use Rattle.wasm_body.specs.declared.error.ParseFailure.{ParseFailure as Failure};
+ghost use Rattle.wasm_body.specs.declared.error.EmitError.TheVariants.{Memory};
+ghost use Rattle.wasm_body.specs.SourceTree.{Body};
+ghost use Rattle.wasm_body.specs.Naming.{Occurrence};
+ghost use Rattle.wasm_body.specs.Parsing.Accepted.{Accepted, FirstFault};
+ghost use Rattle.wasm_body.specs.FunctionTree.{FunctionTree};
+ghost use Rattle.wasm_body.specs.Bytes.{tree_bytes};
 ghost use Rattle.walrus_run.specs.declared.error.RewriteError.TheVariants.{Parse};
 ghost use Rattle.walrus_run.specs.BodyParsing.{IsFunction};
 ghost use Rattle.walrus_run.specs.Demo.{demo, demo_module, demo_indices, demo_numbers};

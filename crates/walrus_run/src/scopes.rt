@@ -1,7 +1,7 @@
 //! The sequences that are open while a tree is written.
 ghost use Rattle.std.specs.Prelude.{◌≡◌, ◌≤◌, ◌⊎◌, ◌∷◌, [], ℕ, List, OnOk, OnErr, IfOk, IfErr};
-ghost use Rattle.walrus_body.specs.declared.error.EmitError.TheVariants as emit;
-ghost use Rattle.walrus_body.specs.Bytes.{fitting};
+ghost use Rattle.wasm_body.specs.declared.error.EmitError.TheVariants as emit;
+ghost use Rattle.wasm_body.specs.Bytes.{fitting};
 ghost use Rattle.walrus_run.specs.Scopes.{IsOpen, depth_in};
 
 use std::alloc::{AllocError, Global};

@@ -14,7 +14,7 @@ pub(crate) enum WriteFault {
 
 impl From<AllocError> for WriteFault {
     ghost use Rattle.std.specs.Prelude.{◌≡◌};
-    ghost use Rattle.walrus_body.specs.declared.error.EmitError.TheVariants.{Memory};
+    ghost use Rattle.wasm_body.specs.declared.error.EmitError.TheVariants.{Memory};
     ghost use Rattle.walrus_run.specs.declared.write_fault.WriteFault.TheVariants.{Emit};
 
     ghost from_gives = { λ _ error. error ≡ Emit Memory };
@@ -37,7 +37,7 @@ impl From<EmitError> for WriteFault {
 
 impl From<IndexError> for WriteFault {
     ghost use Rattle.std.specs.Prelude.{◌≡◌};
-    ghost use Rattle.walrus_body.specs.declared.error.EmitError.TheVariants.{Index};
+    ghost use Rattle.wasm_body.specs.declared.error.EmitError.TheVariants.{Index};
     ghost use Rattle.walrus_run.specs.declared.write_fault.WriteFault.TheVariants.{Emit};
 
     ghost from_gives = { λ fault error. error ≡ Emit (Index fault) };

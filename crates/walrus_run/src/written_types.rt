@@ -1,8 +1,8 @@
 //! The types that a tree names, with the numbers that are written for them.
 ghost use Rattle.std.specs.Prelude.{◌≡◌};
 ghost use Rattle.walrus_ir.specs.declared.val_type.ValType.TheVariants.{Ref};
-ghost use Rattle.walrus_body.specs.Bytes.{numbered_block};
-ghost use Rattle.walrus_body.specs.Translation.{translate_value};
+ghost use Rattle.wasm_body.specs.Bytes.{numbered_block};
+ghost use Rattle.wasm_body.specs.Translation.{translate_value};
 ghost use Rattle.walrus_run.specs.Writing.{numbers_of};
 
 use walrus_body::{EmitError, IdsToIndices};

@@ -1,5 +1,5 @@
 ghost use Rattle.std.specs.Prelude.{◌≡◌, ◌⊎◌, [], ◌∷◌, length, OnOk, OnErr, IfErr};
-ghost use Rattle.walrus_body.specs.declared.error.EmitError.TheVariants.{Memory, TooLarge};
+ghost use Rattle.wasm_body.specs.declared.error.EmitError.TheVariants.{Memory, TooLarge};
 ghost use Rattle.walrus_body.specs.Emitting.{Appends, IsUnchanged, ChangesNothingElse};
 
 use super::*;

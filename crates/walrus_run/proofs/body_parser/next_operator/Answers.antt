@@ -1,7 +1,7 @@
 use Rattle.std.proofs.Common.{◌≡◌, true, false, None, Err, sym, ap, ◌∙◌}
 use Rattle.wasm_ops.specs.Meaning.{meaning}
-use Rattle.walrus_body.specs.declared.error.ParseFailure.{ParseFailure}
-use Rattle.walrus_body.specs.Accepted.{has_location}
+use Rattle.wasm_body.specs.declared.error.ParseFailure.{ParseFailure}
+use Rattle.wasm_body.specs.Parsing.Accepted.{has_location}
 use Rattle.walrus_run.proofs.NextOperators.{next_found, next_too_great, moved_on}
 use Rattle.walrus_run.proofs.body_parser.next_operator.Goals as goal
 

@@ -3,14 +3,14 @@ use Rattle.std.specs.Vec.{vec_len}
 use Rattle.walrus_ir.specs.Arena.{arena}
 use Rattle.wasm_ops.specs.declared.operator.Operator.TheVariants.{End}
 use Rattle.wasm_ops.specs.Meaning.{meaning}
-use Rattle.walrus_body.specs.declared.error.ParseError.TheVariants.{Trailing, MissingEnd}
-use Rattle.walrus_body.specs.declared.error.ParseFailure.{ParseFailure}
-use Rattle.walrus_body.specs.Control.{end_operation}
-use Rattle.walrus_body.specs.Naming.{named_in}
-use Rattle.walrus_body.specs.NormalForm.{typing_of, normal_form, named_body}
-use Rattle.walrus_body.specs.Parsing.{failure}
-use Rattle.walrus_body.specs.Progress.{frames_of}
-use Rattle.walrus_body.specs.TreeOfFunction.{HasTree}
+use Rattle.wasm_body.specs.declared.error.ParseError.TheVariants.{Trailing, MissingEnd}
+use Rattle.wasm_body.specs.declared.error.ParseFailure.{ParseFailure}
+use Rattle.wasm_body.specs.Control.{end_operation}
+use Rattle.wasm_body.specs.Naming.{named_in}
+use Rattle.wasm_body.specs.NormalForm.{typing_of, normal_form, named_body}
+use Rattle.wasm_body.specs.Parsing.Lists.{failure}
+use Rattle.wasm_body.specs.Parsing.Progress.{frames_of}
+use Rattle.wasm_body.specs.TreeOfFunction.{HasTree}
 use Rattle.walrus_run.specs.BodyParsing.{read_next}
 use Rattle.walrus_run.specs.Parsers.{env_of, Seals, Advances}
 use Rattle.walrus_run.proofs.BodyParses.{begins, advances, unread, broken, missing, whole, trailing, body_at}

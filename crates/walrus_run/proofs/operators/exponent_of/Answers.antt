@@ -1,5 +1,5 @@
 use Rattle.std.proofs.Common.{◌≡◌, ◌<◌, sym, subst}
-use Rattle.walrus_body.specs.FlatText.{exponent_of}
+use Rattle.wasm_body.specs.FlatText.{exponent_of}
 use Rattle.walrus_run.proofs.Exponents.{exponent_from}
 use Rattle.walrus_run.proofs.operators.exponent_of.Goals as goal
 

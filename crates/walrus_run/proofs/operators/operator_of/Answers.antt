@@ -6,8 +6,8 @@ use Rattle.wasm_ops.specs.declared.operator.Operator.{Operator}
 use Rattle.wasm_ops.specs.Meaning.{meaning}
 use Rattle.wasm_ops.specs.Opcodes.{kinds_of}
 use Rattle.wasm_encode.specs.Writable.{IsWritable}
-use Rattle.walrus_body.specs.InstructionTable.{operation_of}
-use Rattle.walrus_body.specs.Bytes.{Numbers}
+use Rattle.wasm_body.specs.InstructionTable.{operation_of}
+use Rattle.wasm_body.specs.Bytes.{Numbers}
 use Rattle.walrus_run.specs.declared.write_fault.WriteFault.{WriteFault}
 use Rattle.walrus_run.specs.Writing.{numbers_of, IsOperatorOf}
 use Rattle.walrus_run.proofs.NotCarried.{is_carried, vector_constant, not_carried}

@@ -1,6 +1,6 @@
 use Rattle.std.proofs.Common.{rules, ◌≡◌, sym, ap, subst, ◌∙◌, Ok, Err, ◌<◌, length, drop}
 use Rattle.std.specs.Prelude.{vec_len}
-use Rattle.walrus_body.specs.Bytes.{tree_bytes}
+use Rattle.wasm_body.specs.Bytes.{tree_bytes}
 use Rattle.walrus_run.specs.Writing.{numbers_of}
 use Rattle.walrus_run.proofs.RewritingLemmas.{Writes, function_writes, one_tree_of}
 use Rattle.walrus_run.proofs.rewriting.written_operators.Goals as goal

@@ -2,7 +2,7 @@ use Rattle.std.proofs.Common.{◌≡◌, length, Some, ap, sym, subst, ◌∙◌
 use Rattle.walrus_ir.specs.declared.val_type.InstrSeqType.TheVariants.{MultiValue}
 use Rattle.walrus_ir.specs.Arena.{arena, Grown}
 use Rattle.walrus_body.specs.Environments.{environment_of}
-use Rattle.walrus_body.specs.Naming.{entry_of}
+use Rattle.wasm_body.specs.Naming.{entry_of}
 use Rattle.walrus_run.specs.Parsers.{env_of}
 use Rattle.walrus_run.specs.declared.parser.Parser.{Parser}
 use Rattle.walrus_run.proofs.FirstParsers.{begun}

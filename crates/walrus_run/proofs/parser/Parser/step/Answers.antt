@@ -1,7 +1,7 @@
 use Rattle.std.proofs.Common.{refl, sym, ap, subst, ◌≡◌, ◌∙◌, ◌∷◌, [], Err, OnOk}
 use Rattle.wasm_ops.specs.Meaning.{meaning}
-use Rattle.walrus_body.specs.Naming.{named_in}
-use Rattle.walrus_body.specs.Progress.{frames_of}
+use Rattle.wasm_body.specs.Naming.{named_in}
+use Rattle.wasm_body.specs.Parsing.Progress.{frames_of}
 use Rattle.walrus_run.specs.OpenSequences.{Takes}
 use Rattle.walrus_run.specs.OperatorKinds.{is_cut}
 use Rattle.walrus_run.specs.Parsers.{env_of, KeepsRest, Enters, LeavesBlock, Advances, Steps}

@@ -1,5 +1,5 @@
 use Rattle.std.proofs.Common.{◌≡◌, ◌-◌, length, None, Some, slice_index_or, sym, ap, ◌∙◌, arith}
-use Rattle.walrus_body.specs.Bytes.{fitting}
+use Rattle.wasm_body.specs.Bytes.{fitting}
 use Rattle.walrus_run.proofs.ScopeLemmas.{flattened, depth_found, depth_missing}
 use Rattle.walrus_run.proofs.scopes.Scopes.depth.Goals as goal
 

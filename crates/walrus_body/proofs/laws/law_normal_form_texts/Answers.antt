@@ -1,5 +1,0 @@
-use Rattle.walrus_body.proofs.Rewritten.{have_texts}
-use Rattle.walrus_body.proofs.laws.law_normal_form_texts.Goals as goal
-
-pub returns : goal.returns
-returns c = have_texts

@@ -1,0 +1,8 @@
+-- Normal forms have bytes: the types that their operators name, and the numbers.
+pub mod Openers
+pub mod BlockTypes
+pub mod Picks
+pub mod LawfulTyped
+pub mod WritableTexts
+pub mod CarriedKinds
+pub mod NumberedBodies

@@ -1,0 +1,279 @@
+-- An accepted body's normal form has bytes, under numbers for all ids that its old indices and the types of its sequences
+-- stand for.
+use Rattle.std.specs.Prelude.{◌≡◌, ℕ, suc, zero, ◌<◌, ◌^◌, List, [], ◌∷◌, length, map, true, false, Option, Some, None, unwrap_or, IsOk, is_ok, Result, Ok, Err}
+use Rattle.std.specs.List.{AllByRecursion}
+use Rattle.std.proofs.lemmas.Bool.{and_parts, lt-ltb}
+use Rattle.std.proofs.Common.{refl, ap, sym, subst, ◌∙◌}
+use Rattle.wasm_ops.specs.Reading.{Many}
+use Rattle.wasm_ops.specs.Numbers.{IsU32}
+use Rattle.wasm_ops.specs.Immediates.{kind_of, SpellsImmediate, SpellsImmediates, IsClause}
+use Rattle.wasm_ops.specs.Operations.{CatchClause, Cast, Immediate, RawImmediate, index, local, label, branch_table, clauses, cast, RawOperation}
+use Rattle.wasm_ops.specs.declared.types.BlockType.{BlockType}
+use Rattle.wasm_ops.specs.declared.types.Space.{Space}
+use Rattle.wasm_ops.specs.Spelling.{Spells}
+use Rattle.wasm_ops.proofs.ShortestNumbers.{unsigned_below}
+use Rattle.wasm_ops.proofs.Shortness.{many_length}
+use Rattle.wasm_body.proofs.Bytes.BlockTypes.{FromBlock, blocks_from}
+use Rattle.wasm_body.proofs.Bytes.WritableTexts.{Writes, CanWrite, normal_text}
+use Rattle.wasm_body.proofs.Bytes.CarriedKinds.{is_no_local, no_locals, carried_kinds, parts_try, carried_parts}
+use Rattle.wasm_body.specs.declared.error.EmitError.{EmitError}
+use Rattle.wasm_body.specs.declared.error.EmitError.TheVariants.{TooLarge}
+use Rattle.walrus_ir.specs.declared.val_type.InstrSeqType.{InstrSeqType}
+use Rattle.walrus_ir.specs.declared.val_type.InstrSeqType.TheVariants.{Simple}
+use Rattle.walrus_ir.specs.Types.{Signature, pick}
+use Rattle.wasm_body.specs.declared.error.IndexError.{IndexError}
+use Rattle.wasm_body.specs.declared.error.ParseError.TheVariants.{Index}
+use Rattle.wasm_body.specs.declared.error.ParseError.{ParseError}
+use Rattle.wasm_body.specs.Results.{◌>>=◌, unless, faulting}
+use Rattle.wasm_body.specs.Control.{Role, a_block, a_loop, an_if, a_try, a_try_table, a_catch, a_catch_all, a_delegate, an_else, an_end, role_of, Control, End, control_by, control_of, marked}
+use Rattle.wasm_body.specs.Frames.{Frame}
+use Rattle.wasm_body.specs.Translation.{Translation, translate, translate_immediates, Located}
+use Rattle.wasm_body.specs.Naming.{Environment, NamedOperation, Occurrence, naming, id_at, name_block, block_types, first_signature, stands, has_types, named_in}
+use Rattle.wasm_body.specs.FunctionTree.{Target, Depth}
+use Rattle.wasm_body.specs.NormalForm.{typing_of, type_of, kept_operation, name_at, named_body, normal_form}
+use Rattle.wasm_body.specs.FlatText.{Writing, then_by, typed}
+use Rattle.wasm_body.specs.Bytes.{Numbers, fitting, numbered_block, numbering, numbered_text, bytes_of, tree_bytes}
+use Rattle.wasm_body.specs.SourceTree.{Body}
+use Rattle.wasm_body.specs.Parsing.Accepted.{mark, Lawful}
+use Rattle.wasm_body.proofs.Structure.Along.{AllMarked, each_of, each_reshown}
+use Rattle.wasm_body.proofs.Bytes.LawfulTyped.{named_somewhere}
+use Rattle.wasm_body.proofs.Translation.Steps.{Leads, bound, all_of}
+use Rattle.wasm_body.proofs.Translation.Translations.{LeadAll, lead_all, translate_leads}
+use Rattle.wasm_body.proofs.NormalForm.Kept.{exponent_of-pow}
+use Rattle.wasm_body.proofs.NormalForm.KeptNames.{sure_number, kept_raw, kept_of}
+use Rattle.wasm_body.proofs.Translation.Answering.{AnswersWhere, OthersOk, last_ok, immediates_answer}
+
+-- ---- what is spelt fits 32 bits
+
+fits : (n : ℕ) → n < 2 ^ 32 → IsOk (fitting n)
+fits n l = ap (λ b. is_ok (unless b TooLarge >>= λ _. Ok n)) (lt-ltb n (2 ^ 32) l)
+
+pub u32_fits : (n : ℕ) (text : List ℕ) → IsU32 n text → IsOk (fitting n)
+u32_fits n text s = fits n (unsigned_below 32 n text s)
+
+all_fit : (count : ℕ) (ns : List ℕ) (text : List ℕ) → Many IsU32 count ns text → AllByRecursion (λ n. IsOk (fitting n)) ns
+all_fit zero [] text s = tt
+all_fit zero (n ∷ ns) text s = absurd s
+all_fit (suc c) [] text s = absurd s
+all_fit (suc c) (n ∷ ns) text s = (u32_fits n s.0 s.3, all_fit c ns s.1 s.4)
+
+abbrev counted : ℕ → Result (Unit {0}) EmitError
+counted n = fitting n >>= λ _. Ok tt
+
+count_fits : (n : ℕ) (text : List ℕ) → IsU32 n text → IsOk (counted n)
+count_fits n text s = by_answer (fitting n) (u32_fits n text s)
+  where
+    by_answer : (r : Result ℕ EmitError) → IsOk r → IsOk (let t : Result (Unit {0}) EmitError = r >>= (λ _. Ok tt) in t)
+    by_answer (Ok m) h = refl
+    by_answer (Err e) h = absurd cc
+
+-- the labels and counts of an immediate
+abbrev Fits : RawImmediate → Type 0
+Fits (local n) = ⊥
+Fits (label l) = IsOk (fitting l)
+Fits (branch_table ts d) = IsOk (counted (length ts)) × AllByRecursion (λ l. IsOk (fitting l)) ts × IsOk (fitting d)
+Fits (clauses cs) = IsOk (counted (length cs)) × AllByRecursion (λ (c : CatchClause ℕ). IsOk (fitting c.label)) cs
+Fits (cast c) = IsOk (fitting c.label)
+Fits _ = Unit {0}
+
+clause_fits : (c : CatchClause ℕ) (text : List ℕ) → IsClause c text → IsOk (fitting c.label)
+clause_fits c text s =
+    let made : CatchClause ℕ = record { by_reference = s.0.0.1; tag = s.0.1.0; label = s.0.1.1 } in
+    let is : made ≡ c = cc s.1 in
+    let inner = s.2.4 in
+    subst (λ (d : CatchClause ℕ). IsOk (fitting d.label)) is (u32_fits s.0.1.1 inner.1 inner.4)
+
+clauses_fit : (count : ℕ) (cs : List (CatchClause ℕ)) (text : List ℕ) → Many IsClause count cs text → AllByRecursion (λ (c : CatchClause ℕ). IsOk (fitting c.label)) cs
+clauses_fit zero [] text s = tt
+clauses_fit zero (c ∷ cs) text s = absurd s
+clauses_fit (suc n) [] text s = absurd s
+clauses_fit (suc n) (c ∷ cs) text s = (clause_fits c s.0 s.3, clauses_fit n cs s.1 s.4)
+
+spelt_fits : (i : RawImmediate) (text : List ℕ) → SpellsImmediate i text → is_no_local (kind_of i) ≡ true → Fits i
+spelt_fits (local n) text s k = absurd cc
+spelt_fits (label l) text s k = u32_fits l text s
+spelt_fits (branch_table ts d) text s k =
+    let e : s.0.1 ≡ (ts, d) = cc s.1 in
+    let inner = s.2.4 in
+    let long : s.0.0 ≡ length s.0.1.0 = many_length IsU32 s.0.0 s.0.1.0 inner.0 inner.3 in
+    let P : List ℕ × ℕ → Type 0 = λ t. IsOk (counted (length t.0)) × AllByRecursion (λ l. IsOk (fitting l)) t.0 × IsOk (fitting t.1) in
+    subst P e (subst (λ n. IsOk (counted n)) long (count_fits s.0.0 s.2.0 s.2.3), all_fit s.0.0 s.0.1.0 inner.0 inner.3, u32_fits s.0.1.1 inner.1 inner.4)
+spelt_fits (clauses cs) text s k =
+    let e : s.0.1 ≡ cs = cc s.1 in
+    let long : s.0.0 ≡ length s.0.1 = many_length IsClause s.0.0 s.0.1 s.2.1 s.2.4 in
+    let P : List (CatchClause ℕ) → Type 0 = λ ds. IsOk (counted (length ds)) × AllByRecursion (λ (c : CatchClause ℕ). IsOk (fitting c.label)) ds in
+    subst P e (subst (λ n. IsOk (counted n)) long (count_fits s.0.0 s.2.0 s.2.3), clauses_fit s.0.0 s.0.1 s.2.1 s.2.4)
+spelt_fits (cast c) text s k =
+    let made : Cast ℕ = record { from_nullable = s.0.0.0; to_nullable = s.0.0.1; label = s.0.1.0; source = s.0.1.1.0; target = s.0.1.1.1 } in
+    let is : made ≡ c = cc s.1 in
+    let inner = s.2.4 in
+    subst (λ (d : Cast ℕ). IsOk (fitting d.label)) is (u32_fits s.0.1.0 inner.0 inner.3)
+spelt_fits (index space n) text s k = tt
+spelt_fits _ text s k = tt
+
+all_spelt : (is : List RawImmediate) (text : List ℕ) → SpellsImmediates is text → no_locals (map kind_of is) ≡ true → AllByRecursion Fits is
+all_spelt [] text s k = tt
+all_spelt (i ∷ is) text s k = let both = and_parts (is_no_local (kind_of i)) (no_locals (map kind_of is)) k in (spelt_fits i s.0 s.3 both.0, all_spelt is s.1 s.4 both.1)
+
+-- it has a spelling
+abbrev pub HasText : Occurrence → Type 0
+HasText x = (text : List ℕ) × Spells x.spelt text
+
+-- ---- numbers
+
+-- There are numbers for the ids that old indices stand for, and for the types of sequences.
+pub record HasNumbers (env : Environment) (to : Numbers) : Type 0 where
+  pub indices : (space : Space) (n id : ℕ) → env.id_of space n ≡ Ok id → IsOk (to.number_of space id)
+  pub blocks : (b : BlockType) (s : Signature) (t : InstrSeqType) → name_block env b ≡ Ok s → pick env.types s ≡ Some t → IsOk (numbered_block to t)
+
+module _ (env : Environment) (to : Numbers) (has : HasNumbers env to) where
+  abbrev pub writing : Writing ℕ BlockType
+  writing = then_by (numbering to)
+
+  -- what is written of an operator as it is read, in a sequence of the type
+  abbrev renumbered : InstrSeqType → Translation ℕ BlockType ℕ BlockType EmitError
+  renumbered t = record {
+    index = λ space n. to.number_of space (sure_number (id_at env space n));
+    local = λ n. to.local_number (sure_number (faulting Index (env.local_of n)));
+    label = fitting;
+    handler = λ n. Ok n;
+    outer = λ n. Ok n;
+    block = λ b. numbered_block to t;
+    alignment = λ e. e;
+    count = counted;
+  }
+
+  same_index : (f : ℕ → Result ℕ EmitError) (m q : ℕ) → (let s : Result ℕ ⊥ = Ok m in s) ≡ Ok q → f q ≡ f m
+  same_index f m q e = let same : m ≡ q = cc e in ap f (sym same)
+
+  same_target : (n : ℕ) (q : Target) → (let s : Result Target ⊥ = Ok (Depth n) in s) ≡ Ok q → writing.label q ≡ fitting n
+  same_target n q e = let same : Depth n ≡ q = cc e in ap writing.label (sym same)
+
+  written_lead : (t : InstrSeqType) → LeadAll (kept_raw env) (typed writing t) (renumbered t)
+  written_lead t = record {
+    indices = λ space n q e. same_index (to.number_of space) (sure_number (id_at env space n)) q e;
+    locals = λ n q e. same_index to.local_number (sure_number (faulting Index (env.local_of n))) q e;
+    labels = same_target;
+    handlers = λ n q e. same_index (λ k. Ok k) n q e;
+    outers = λ n q e. same_index (λ k. Ok k) n q e;
+    alignments = exponent_of-pow;
+    counts = λ n u e. refl;
+  }
+
+  answers : {A : Type 0} (fs : List (Frame A)) (t : InstrSeqType) → IsOk (numbered_block to t) → AnswersWhere (naming env fs) (renumbered t)
+  answers fs t typed = record {
+    indices = λ space n h. numbered space n (env.id_of space n) refl h;
+    handlers = λ n h. refl;
+    outers = λ n h. refl;
+    blocks = λ b h. typed;
+  }
+    where
+      numbered : (space : Space) (n : ℕ) (r : Result ℕ IndexError) → env.id_of space n ≡ r → IsOk (faulting Index r) → IsOk (to.number_of space (sure_number (id_at env space n)))
+      numbered space n (Ok id) e h = subst (λ r. IsOk (to.number_of space (sure_number (faulting Index r)))) (sym e) (has.indices space n id e)
+      numbered space n (Err f) e h = absurd cc
+
+  others_ok : {A : Type 0} (fs : List (Frame A)) (t : InstrSeqType) (i : RawImmediate) → Fits i → OthersOk (naming env fs) (renumbered t) i
+  others_ok fs t (local n) f = absurd f
+  others_ok fs t (label l) f = f
+  others_ok fs t (branch_table ts d) f = f
+  others_ok fs t (clauses cs) f = f
+  others_ok fs t (cast c) f = f
+  others_ok fs t _ f = tt
+
+  all_others_ok : {A : Type 0} (fs : List (Frame A)) (t : InstrSeqType) (is : List RawImmediate) → AllByRecursion Fits is → AllByRecursion (OthersOk (naming env fs) (renumbered t)) is
+  all_others_ok fs t [] f = tt
+  all_others_ok fs t (i ∷ is) f = (others_ok fs t i f.0, all_others_ok fs t is f.1)
+
+  ok_of : {A E : Type 0} (r : Result A E) (x : A) → r ≡ Ok x → IsOk r
+  ok_of r x e = ap is_ok e
+
+  -- an operator that is read and named can be written
+  written_operation : {A : Type 0} (fs : List (Frame A)) (t : InstrSeqType) (o : RawOperation) (text : List ℕ) (named : NamedOperation) →
+      Spells o text → translate (naming env fs) o ≡ Ok named → IsOk (numbered_block to t) → IsOk (translate (typed writing t) (kept_operation named))
+  written_operation fs t o text named spelt is type =
+      let kept = kept_of env fs o named is in
+      let lead = translate_leads (kept_raw env) (typed writing t) (renumbered t) o.immediates
+      (lead_all (kept_raw env) (typed writing t) (renumbered t) (written_lead t) o.immediates (all_of (Leads (kept_raw env).block (typed writing t).block (renumbered t).block) (λ b d h. refl) (block_types o.immediates)))
+      (kept_operation named).immediates kept.kept in
+      let first = bound (translate_immediates (naming env fs) o.immediates) (λ js. Ok (record { opcode = o.opcode; immediates = js })) named is in
+      let plain = carried_kinds o.opcode (map kind_of o.immediates) spelt.kinds in
+      let h = immediates_answer (naming env fs) (renumbered t) (answers fs t type) o.immediates
+      (all_others_ok fs t o.immediates (all_spelt o.immediates spelt.others spelt.immediates plain)) (ok_of (translate_immediates (naming env fs) o.immediates) first.0 first.1) in
+      last_ok (translate_immediates (typed writing t) (kept_operation named).immediates) (λ js. record { opcode = named.opcode; immediates = js }) (subst (λ r. IsOk r) (sym lead) h)
+
+  -- ---- an operator of a body
+
+  -- the type of the sequences in a construct is that of a block type, or of none
+  type_ok : (fs : List (Frame Occurrence)) (o : RawOperation) (named : NamedOperation) → translate (naming env fs) o ≡ Ok named → IsOk (numbered_block to (type_of (typing_of env) named))
+  type_ok fs o named is =
+      let first = bound (translate_immediates (naming env fs) o.immediates) (λ js. Ok (record { opcode = o.opcode; immediates = js })) named is in
+      let same : named ≡ record { opcode = o.opcode; immediates = first.0 } = cc first.2 in
+      subst (λ (n : NamedOperation). IsOk (numbered_block to (type_of (typing_of env) n))) (sym same) (by_blocks (block_types first.0) (blocks_from (naming env fs) o.immediates first.0 first.1))
+    where
+      by_pick : (s : Signature) (b : BlockType) → name_block env b ≡ Ok s → (picked : Option InstrSeqType) → pick env.types s ≡ picked → IsOk (numbered_block to (unwrap_or (pick env.types s) (Simple None)))
+      by_pick s b e (Some t) p = subst (λ r. IsOk (numbered_block to (unwrap_or r (Simple None)))) (sym p) (has.blocks b s t e p)
+      by_pick s b e None p = subst (λ r. IsOk (numbered_block to (unwrap_or r (Simple None)))) (sym p) refl
+
+      by_blocks : (ss : List Signature) → AllByRecursion (FromBlock (naming env fs)) ss → IsOk (numbered_block to (unwrap_or (pick env.types (first_signature ss)) (Simple None)))
+      by_blocks [] h = refl
+      by_blocks (s ∷ ss) h = by_pick s h.0.0 h.0.1 (pick env.types s) refl
+
+  -- what naming an operator in its place answers is its translation
+  pub translated : (fs : List (Frame Occurrence)) (o : RawOperation) (named : NamedOperation) → named_in env fs o ≡ Ok named → translate (naming env fs) o ≡ Ok named
+  translated fs o named e =
+      let types : NamedOperation → Result (Unit {0}) ParseError = λ n. has_types env fs (control_of n) n in
+      let stood = bound (stands fs (control_of o)) (λ u. translate (naming env fs) o >>= λ n. types n >>= λ v. Ok n) named e in
+      let found = bound (translate (naming env fs) o) (λ n. types n >>= λ v. Ok n) named stood.2 in
+      let typed = bound (types found.0) (λ v. Ok found.0) named found.2 in
+      let same : found.0 ≡ named = cc typed.2 in
+      found.1 ∙ ap Ok same
+
+  writes_by_role : (r : Role) (is : List (Immediate ℕ Signature)) (a : Located NamedOperation) → parts_try r ≡ false →
+      IsOk (translate (typed writing (Simple None)) (kept_operation a.op)) → IsOk (translate (typed writing (type_of (typing_of env) a.op)) (kept_operation a.op)) →
+      Writes writing (typing_of env) a (control_by r is)
+  writes_by_role a_block is a p single opener = opener
+  writes_by_role a_loop is a p single opener = opener
+  writes_by_role an_if is a p single opener = opener
+  writes_by_role a_try is a p single opener = opener
+  writes_by_role a_try_table is a p single opener = opener
+  writes_by_role a_catch is a p single opener = absurd cc
+  writes_by_role a_catch_all is a p single opener = absurd cc
+  writes_by_role a_delegate is a p single opener = absurd cc
+  writes_by_role an_else is a p single opener = tt
+  writes_by_role an_end is a p single opener = tt
+  writes_by_role _ is a p single opener = single
+
+  abbrev Written : Occurrence → Control → Type 0
+  Written x c = CanWrite writing (typing_of env) (name_at x) c
+
+  writes_occurrence : (x : Occurrence) (fs : List (Frame Occurrence)) → named_in env fs x.spelt ≡ Ok x.named → HasText x → Written x (control_of x.named)
+  writes_occurrence x fs is has_text =
+      let spelt = has_text.1 in
+      let named = translated fs x.spelt x.named is in
+      let same = (kept_of env fs x.spelt x.named named).opcode in
+      let parts : parts_try (role_of x.named.opcode) ≡ false = ap (λ c. parts_try (role_of c)) same ∙ carried_parts x.spelt.opcode (map kind_of x.spelt.immediates) spelt.kinds in (
+        refl,
+        writes_by_role (role_of x.named.opcode) x.named.immediates (name_at x) parts
+            (written_operation fs (Simple None) x.spelt has_text.0 x.named spelt named refl)
+            (written_operation fs (type_of (typing_of env) x.named) x.spelt has_text.0 x.named spelt named (type_ok fs x.spelt x.named named)),
+      )
+
+  -- ---- a body
+
+  abbrev Somewhere : Occurrence → Control → Type 0
+  Somewhere x c = (fs : List (Frame Occurrence)) × (named_in env fs x.spelt ≡ Ok x.named)
+
+  all_written : (xs : List Occurrence) → AllByRecursion HasText xs → AllMarked Somewhere (map mark xs) → AllMarked Written (map mark xs)
+  all_written [] t h = tt
+  all_written (x ∷ xs) t h = (writes_occurrence x h.0.0 h.0.1 t.0, all_written xs t.1 h.1)
+
+  pub body_text_ok : (xs : List Occurrence) (b : Body Occurrence) → AllByRecursion HasText xs → Lawful env xs b → IsOk (numbered_text to (normal_form (typing_of env) (named_body b)))
+  body_text_ok xs b texts lawful =
+      let named = named_somewhere env xs b lawful in
+      let marks = subst (AllMarked Written) lawful.is_body (all_written xs texts named) in
+      let each = (each_of Written b.sequence (marked b.close End ∷ []) marks).0 in
+      normal_text writing (typing_of env) (named_body b) (each_reshown (CanWrite writing (typing_of env)) name_at b.sequence each)
+
+  -- Of an accepted body the normal form has bytes.
+  pub body_bytes_ok : (xs : List Occurrence) (b : Body Occurrence) → AllByRecursion HasText xs → Lawful env xs b → IsOk (tree_bytes to (normal_form (typing_of env) (named_body b)))
+  body_bytes_ok xs b texts lawful = last_ok (numbered_text to (normal_form (typing_of env) (named_body b))) bytes_of (body_text_ok xs b texts lawful)

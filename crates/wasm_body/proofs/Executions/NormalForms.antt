@@ -1,0 +1,83 @@
+-- The law of executions: the text of a normal form is that of a right rewriting of the body.
+use Rattle.std.proofs.Common.{◌≡◌, ℕ, List, [], ◌∷◌, map, Some, refl, sym, ap, ◌∙◌}
+use Rattle.std.specs.List.{AllByRecursion}
+use Rattle.wasm_body.specs.Control.{Action, Nop, Plain, Branch, ConditionalBranch, TableBranch, Return, Unreachable, Throw, ThrowRef, Rethrow, TailCall, Control, control_of}
+use Rattle.wasm_body.specs.SourceTree.{Sequence, Empty, Single, Wrapped, IfThen, IfElse, TryCatch, TryDelegate, Clauses, Ended, Catches, CatchesAll, Body}
+use Rattle.wasm_body.specs.Naming.{Occurrence}
+use Rattle.wasm_body.specs.NormalForm.{fate, typing_of, name_at, named_body}
+use Rattle.wasm_body.specs.TextLaws.{IsNamedBody}
+use Rattle.wasm_body.proofs.NormalForm.Rewritten.{Named, single_with_fate, rewritten, rewritten_clauses, rewritten_body, rewritten_list, has_text, text_body}
+use Rattle.wasm_body.proofs.Bytes.LawfulTyped.{HasKinds, lawful_typed}
+use Rattle.wasm_body.proofs.Structure.Reshown.{is_named_body}
+use Rattle.wasm_body.specs.Machine.{Outcome, run}
+use Rattle.wasm_body.specs.Places.{show_run, run_by_place, shown_by}
+use Rattle.wasm_body.specs.ExecutionLaws.{controls, HasSpelling, ExecutionsKept}
+use Rattle.wasm_body.proofs.Executions.RewritesTo.{RewritesTo, empty, drop_nop, keep, cut, wrapped, if_else, add_else, try_catch, try_delegate, ClausesRewriteTo, ended, catches_one, catches_all, runs_alike}
+use Rattle.wasm_body.proofs.Executions.Natural.{shown_by-run}
+
+-- ---- what the normal form does is right
+
+single_rewrites : (a : Named) (action : Action) (r r' : Sequence Named) → RewritesTo r r'
+    → RewritesTo (Single a action r) (single_with_fate (fate action) a action r')
+single_rewrites a Nop r r' f = drop_nop f
+single_rewrites a Plain r r' f = keep f
+single_rewrites a (Branch n) r r' f = cut refl
+single_rewrites a (ConditionalBranch n) r r' f = keep f
+single_rewrites a (TableBranch ts d) r r' f = cut refl
+single_rewrites a Return r r' f = cut refl
+single_rewrites a Unreachable r r' f = cut refl
+single_rewrites a (Throw t) r r' f = cut refl
+single_rewrites a ThrowRef r r' f = cut refl
+single_rewrites a (Rethrow n) r r' f = cut refl
+single_rewrites a TailCall r r' f = keep f
+
+mutual
+  rewritten_rewrites : (s : Sequence Named) → RewritesTo s (rewritten s)
+  rewritten_rewrites Empty = empty
+  rewritten_rewrites (Single a action r) = single_rewrites a action r (rewritten r) (rewritten_rewrites r)
+  rewritten_rewrites (Wrapped a w b e r) = wrapped (rewritten_rewrites b) (rewritten_rewrites r)
+  rewritten_rewrites (IfThen a b e r) = add_else (rewritten_rewrites b) (rewritten_rewrites r)
+  rewritten_rewrites (IfElse a b l c e r) = if_else (rewritten_rewrites b) (rewritten_rewrites c) (rewritten_rewrites r)
+  rewritten_rewrites (TryCatch a b cs r) = try_catch (rewritten_rewrites b) (clauses_rewrite cs) (rewritten_rewrites r)
+  rewritten_rewrites (TryDelegate a b e n r) = try_delegate (rewritten_rewrites b) (rewritten_rewrites r)
+
+  clauses_rewrite : (cs : Clauses Named) → ClausesRewriteTo cs (rewritten_clauses cs)
+  clauses_rewrite (Ended e) = ended
+  clauses_rewrite (Catches a t b cs) = catches_one (rewritten_rewrites b) (clauses_rewrite cs)
+  clauses_rewrite (CatchesAll a b e) = catches_all (rewritten_rewrites b)
+
+-- ---- whatever is shown of the operators of two bodies
+
+shown_alike : {B : Type 0} → (v : Named → B) (b c : Body Named) → RewritesTo b.sequence c.sequence → (xs ys : List Named)
+    → IsNamedBody xs b → IsNamedBody ys c
+    → (outcomes : List Outcome) (turns : ℕ) → shown_by (map v xs) (run_by_place (controls xs) outcomes turns)
+    ≡ shown_by (map v ys) (run_by_place (controls ys) outcomes turns)
+shown_alike v b c f xs ys hx hy o t =
+    let control : Named → Control = λ x. control_of x.op in
+    shown_by-run control v xs o t
+    ∙ (ap (λ l. show_run (λ a. Some (v a)) (run l o t)) hx
+    ∙ (ap (show_run (λ a. Some (v a))) (runs_alike b c f o t)
+    ∙ (ap (λ l. show_run (λ a. Some (v a)) (run l o t)) (sym hy)
+    ∙ sym (shown_by-run control v ys o t))))
+
+-- ---- the law
+
+have_kinds : (xs : List Occurrence) → AllByRecursion HasSpelling xs → AllByRecursion HasKinds xs
+have_kinds [] h = tt
+have_kinds (x ∷ xs) h = (h.0.1.kinds, have_kinds xs h.1)
+
+pub executions_kept : ExecutionsKept
+executions_kept env xs b spelt lawful =
+    let m = typing_of env in
+    let zs = map name_at xs in
+    let c = named_body b in
+    let hz = is_named_body xs b lawful.is_body in
+    let h = lawful_typed env xs b (have_kinds xs spelt) lawful in
+    let hy = text_body m zs c hz h in (
+      rewritten_list c,
+      has_text m zs c hz h,
+      record {
+        operators = λ o t. shown_alike (λ x. x.op) c (rewritten_body c) (rewritten_rewrites c.sequence) zs (rewritten_list c) hz hy o t;
+        locations = λ o t. shown_alike (λ x. x.location) c (rewritten_body c) (rewritten_rewrites c.sequence) zs (rewritten_list c) hz hy o t;
+      },
+    )

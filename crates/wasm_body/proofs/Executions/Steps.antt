@@ -1,0 +1,175 @@
+-- One step from two places at which the machine does the same.
+use Rattle.std.proofs.Common.{◌≡◌, ℕ, zero, suc, ◌≤◌, List, [], ◌∷◌, length, Bool, true, false, cond, Option, Some, None, refl, sym, ap, ◌∙◌, arith}
+use Rattle.wasm_body.specs.Control.{Action, Nop, Plain, Branch, ConditionalBranch, TableBranch, Return, Unreachable, Throw, ThrowRef, Rethrow, TailCall, Control, Does, Opens, End, Marked, marked}
+use Rattle.wasm_body.specs.NormalForm.{fate, Cuts}
+use Rattle.wasm_body.specs.TextLaws.{Stops}
+use Rattle.wasm_body.specs.Machine.{Outcome, Go, Trap, Raise, Way, Entry, Executed, Mismatch, Run, ends, then, Tags, behind_closer, Label, Response, branch, raise, caught_at, rethrow, ask, ask_way, ask_entry, act, step, leave, has, target, arrive, react, responds}
+use Rattle.wasm_body.proofs.Executions.Same.{again, go, Same, SameOutside}
+
+pub weaken : {A : Type 0} → (t v b b' c c' : ℕ) (labels labels' : List (Label A)) → v ≤ t → b ≤ c → b' ≤ c'
+    → SameOutside t b b' labels labels' → SameOutside v c c' labels labels'
+weaken t v b b' c c' ls ls' lt lb lb' e = record {
+  branches = λ u n m j o hu hn hm. e.branches u n m j o (omega arith) (omega arith) (omega arith);
+  raises = λ u n m s o k hu hn hm. e.raises u n m s o k (omega arith) (omega arith) (omega arith);
+  handlers = e.handlers;
+}
+
+-- the same step from two operators
+pub step_same : {A : Type 0} → (x x' : Marked A) (t : ℕ) (r r' : List (Marked A)) (labels labels' : List (Label A))
+    → ((u n m : ℕ) (outcomes : List Outcome) → u ≤ t → length r ≤ n → length r' ≤ m
+    → step (again u) (go u n) x.control x.shown r labels outcomes ≡ step (again u) (go u m) x'.control x'.shown r' labels' outcomes)
+    → Same t (x ∷ r) labels (x' ∷ r') labels'
+step_same x x' t r r' ls ls' h u zero m o hu hn hm = absurd (omega arith)
+step_same x x' t r r' ls ls' h u (suc n) zero o hu hn hm = absurd (omega arith)
+step_same x x' t r r' ls ls' h u (suc n) (suc m) o hu hn hm = h u n m o hu (omega arith) (omega arith)
+
+-- ---- the ways to ask
+
+ask_same : {A : Type 0}
+    → (may_raise : Tags → Bool) (may_trap : Bool) (a : A) (on on' : List Outcome → Run A) (raised raised' : Tags → List Outcome → Run A)
+    → ((outcomes : List Outcome) → on outcomes ≡ on' outcomes)
+    → ((tags : Tags) (outcomes : List Outcome) → raised tags outcomes ≡ raised' tags outcomes)
+    → (outcomes : List Outcome) → ask may_raise may_trap a on raised outcomes ≡ ask may_raise may_trap a on' raised' outcomes
+ask_same p q a on on' out out' h k [] = refl
+ask_same p q a on on' out out' h k (Go ∷ o) = h o
+ask_same p q a on on' out out' h k (Trap ∷ o) = refl
+ask_same p q a on on' out out' h k (Raise s ∷ o) = ap (λ r. cond (p s) (then (Executed a) r) (ends Mismatch)) (k s o)
+ask_same p q a on on' out out' h k (Way w ∷ o) = refl
+ask_same p q a on on' out out' h k (Entry n ∷ o) = refl
+
+pub way_same : {A : Type 0} → (a : A) (on on' : Bool → List Outcome → Run A)
+    → ((w : Bool) (outcomes : List Outcome) → on w outcomes ≡ on' w outcomes)
+    → (outcomes : List Outcome) → ask_way a on outcomes ≡ ask_way a on' outcomes
+way_same a on on' h [] = refl
+way_same a on on' h (Way w ∷ o) = ap (then (Executed a)) (h w o)
+way_same a on on' h (Go ∷ o) = refl
+way_same a on on' h (Trap ∷ o) = refl
+way_same a on on' h (Raise s ∷ o) = refl
+way_same a on on' h (Entry n ∷ o) = refl
+
+entry_same : {A : Type 0} → (a : A) (on on' : ℕ → List Outcome → Run A)
+    → ((k : ℕ) (outcomes : List Outcome) → on k outcomes ≡ on' k outcomes)
+    → (outcomes : List Outcome) → ask_entry a on outcomes ≡ ask_entry a on' outcomes
+entry_same a on on' h [] = refl
+entry_same a on on' h (Entry k ∷ o) = ap (then (Executed a)) (h k o)
+entry_same a on on' h (Go ∷ o) = refl
+entry_same a on on' h (Trap ∷ o) = refl
+entry_same a on on' h (Raise s ∷ o) = refl
+entry_same a on on' h (Way w ∷ o) = refl
+
+pub cond_same : {X : Type 0} → (w : Bool) (a a' b b' : X) → a ≡ a' → b ≡ b' → cond w a b ≡ cond w a' b'
+cond_same true a a' b b' p q = p
+cond_same false a a' b b' p q = q
+
+rethrow_same : {A : Type 0} → (f f' : Tags → Run A) (c : Option Tags) → ((tags : Tags) → f tags ≡ f' tags) → rethrow f c ≡ rethrow f' c
+rethrow_same f f' None h = refl
+rethrow_same f f' (Some s) h = h s
+
+-- ---- operators by themselves
+
+-- one that cuts, whatever stands behind it
+cut_same : {A : Type 0} → (action : Action) (a : A) (t : ℕ) (r r' : List (Marked A)) (labels labels' : List (Label A))
+    → SameOutside t (length r) (length r') labels labels' → fate action ≡ Cuts
+    → (u n m : ℕ) (outcomes : List Outcome) → u ≤ t → length r ≤ n → length r' ≤ m
+    → act (again u) (go u n) action a r labels outcomes ≡ act (again u) (go u m) action a r' labels' outcomes
+cut_same (Branch j) a t r r' ls ls' e c u n m o hu hn hm = ap (then (Executed a)) (e.branches u n m j o hu hn hm)
+cut_same (TableBranch ts d) a t r r' ls ls' e c u n m o hu hn hm = entry_same a _ _ (λ k o. e.branches u n m (target ts d k) o hu hn hm) o
+cut_same Return a t r r' ls ls' e c u n m o hu hn hm = refl
+cut_same Unreachable a t r r' ls ls' e c u n m o hu hn hm = refl
+cut_same (Throw g) a t r r' ls ls' e c u n m o hu hn hm =
+    ask_same (λ s. has s g) false a _ _ _ _ (λ o. refl) (λ s o. e.raises u n m s o 0 hu hn hm) o
+cut_same ThrowRef a t r r' ls ls' e c u n m o hu hn hm = ask_same (λ s. true) true a _ _ _ _ (λ o. refl) (λ s o. e.raises u n m s o 0 hu hn hm) o
+cut_same (Rethrow j) a t r r' ls ls' e c u n m o hu hn hm =
+    ap (then (Executed a))
+    (ap (rethrow (λ s. raise (again u) (go u n) s ls o 0)) (e.handlers j)
+    ∙ rethrow_same (λ s. raise (again u) (go u n) s ls o 0) (λ s. raise (again u) (go u m) s ls' o 0) (caught_at ls' j)
+    (λ s. e.raises u n m s o 0 hu hn hm))
+cut_same _ a t r r' ls ls' e c u n m o hu hn hm = absurd (cc c)
+
+-- one behind which the same follows
+act_same : {A : Type 0} → (action : Action) (a : A) (t : ℕ) (r r' : List (Marked A)) (labels labels' : List (Label A))
+    → SameOutside t (length r) (length r') labels labels' → Same t r labels r' labels'
+    → (u n m : ℕ) (outcomes : List Outcome) → u ≤ t → length r ≤ n → length r' ≤ m
+    → act (again u) (go u n) action a r labels outcomes ≡ act (again u) (go u m) action a r' labels' outcomes
+act_same Nop a t r r' ls ls' e s u n m o hu hn hm = s u n m o hu hn hm
+act_same Plain a t r r' ls ls' e s u n m o hu hn hm =
+    ask_same (λ s. true) true a _ _ _ _ (λ o. ap (then (Executed a)) (s u n m o hu hn hm)) (λ g o. e.raises u n m g o 0 hu hn hm) o
+act_same (ConditionalBranch j) a t r r' ls ls' e s u n m o hu hn hm =
+    way_same a _ _ (λ w o. cond_same w _ _ _ _ (e.branches u n m j o hu hn hm) (s u n m o hu hn hm)) o
+act_same TailCall a t r r' ls ls' e s u n m o hu hn hm = refl
+act_same action a t r r' ls ls' e s u n m o hu hn hm = cut_same action a t r r' ls ls' e refl u n m o hu hn hm
+
+pub nop_same : {A : Type 0} → (a : A) (t : ℕ) (r r' : List (Marked A)) (labels labels' : List (Label A))
+    → Same t r labels r' labels' → Same t (marked a (Does Nop) ∷ r) labels r' labels'
+nop_same a t r r' ls ls' s u zero m o hu hn hm = absurd (omega arith)
+nop_same a t r r' ls ls' s u (suc n) m o hu hn hm = s u n m o hu (omega arith) hm
+
+pub kept_same : {A : Type 0} → (action : Action) (a : A) (t : ℕ) (r r' : List (Marked A)) (labels labels' : List (Label A))
+    → SameOutside t (length r) (length r') labels labels' → Same t r labels r' labels'
+    → Same t (marked a (Does action) ∷ r) labels (marked a (Does action) ∷ r') labels'
+kept_same action a t r r' ls ls' e s =
+    step_same (marked a (Does action)) (marked a (Does action)) t r r' ls ls' (act_same action a t r r' ls ls' e s)
+
+pub last_same : {A : Type 0} → (action : Action) (a : A) (t : ℕ) (r r' : List (Marked A)) (labels labels' : List (Label A))
+    → fate action ≡ Cuts → SameOutside t (length r) (length r') labels labels'
+    → Same t (marked a (Does action) ∷ r) labels (marked a (Does action) ∷ r') labels'
+last_same action a t r r' ls ls' c e =
+    step_same (marked a (Does action)) (marked a (Does action)) t r r' ls ls' (cut_same action a t r r' ls ls' e c)
+
+-- ---- a label more
+
+-- what a construct does with an exception, by its response
+abbrev pub reacts : {A : Type 0} → (turns count : ℕ) → Tags → Label A → List (Label A) → List Outcome → Response A → Run A
+reacts u n tags l ls outcomes response = react (again u) (go u n) (raise (again u) (go u n) tags ls outcomes) tags l ls outcomes response
+
+-- where a branch to it, an exception that reaches it and a `rethrow` of it do the same
+pub push : {A : Type 0} → (t b b' : ℕ) (l l' : Label A) (labels labels' : List (Label A)) → SameOutside t b b' labels labels'
+    → ((u n m : ℕ) (outcomes : List Outcome) → u ≤ t → b ≤ n → b' ≤ m
+    → arrive (again u) (go u n) l.construct l labels outcomes ≡ arrive (again u) (go u m) l'.construct l' labels' outcomes)
+    → ((u n m : ℕ) (tags : Tags) (outcomes : List Outcome) → u ≤ t → b ≤ n → b' ≤ m
+    → reacts u n tags l labels outcomes (responds tags l) ≡ reacts u m tags l' labels' outcomes (responds tags l'))
+    → l.caught ≡ l'.caught → SameOutside t b b' (l ∷ labels) (l' ∷ labels')
+push t b b' l l' ls ls' e own_branch own_raise own_caught = record { branches = branches; raises = raises; handlers = handlers }
+  where
+    branches : (u n m j : ℕ) (o : List Outcome) → u ≤ t → b ≤ n → b' ≤ m
+        → branch (again u) (go u n) j (l ∷ ls) o ≡ branch (again u) (go u m) j (l' ∷ ls') o
+    branches u n m zero o hu hn hm = own_branch u n m o hu hn hm
+    branches u n m (suc j) o hu hn hm = e.branches u n m j o hu hn hm
+
+    raises : (u n m : ℕ) (s : Tags) (o : List Outcome) (k : ℕ) → u ≤ t → b ≤ n → b' ≤ m
+        → raise (again u) (go u n) s (l ∷ ls) o k ≡ raise (again u) (go u m) s (l' ∷ ls') o k
+    raises u n m s o zero hu hn hm = own_raise u n m s o hu hn hm
+    raises u n m s o (suc k) hu hn hm = e.raises u n m s o k hu hn hm
+
+    handlers : (j : ℕ) → caught_at (l ∷ ls) j ≡ caught_at (l' ∷ ls') j
+    handlers zero = own_caught
+    handlers (suc j) = e.handlers j
+
+-- ---- the end of a sequence
+
+step_stops : {A : Type 0} → (c : Control) → Stops c
+    → (u n : ℕ) (a : A) (r : List (Marked A)) (labels : List (Label A)) (outcomes : List Outcome)
+    → step (again u) (go u n) c a r labels outcomes ≡ leave (go u n) labels outcomes
+step_stops (Does action) h u n a r ls o = absurd h
+step_stops (Opens construct) h u n a r ls o = absurd h
+step_stops _ h u n a r ls o = refl
+
+pub stop_same : {A : Type 0}
+    → (c c' : Control) (a a' : A) (t : ℕ) (x x' r r' : List (Marked A)) (l l' : Label A) (labels labels' : List (Label A))
+    → Stops c → Stops c'
+    → behind_closer l.behind ≡ r → behind_closer l'.behind ≡ r' → length r ≤ length x → length r' ≤ length x' → Same t r labels r' labels'
+    → Same t (marked a c ∷ x) (l ∷ labels) (marked a' c' ∷ x') (l' ∷ labels')
+stop_same c c' a a' t x x' r r' l l' ls ls' h h' e e' lx lx' s =
+    step_same (marked a c) (marked a' c') t x x' (l ∷ ls) (l' ∷ ls') λ u n m o hu hn hm.
+    step_stops c h u n a x (l ∷ ls) o
+    ∙ (ap (λ k. go u n k ls o) e
+    ∙ (s u n m o hu (omega arith) (omega arith)
+    ∙ (ap (λ k. go u m k ls' o) (sym e')
+    ∙ sym (step_stops c' h' u m a' x' (l' ∷ ls') o))))
+
+-- the last `end` of a body
+pub last_end : {A : Type 0} → (a a' : A) (t : ℕ) → Same t (marked a End ∷ []) [] (marked a' End ∷ []) []
+last_end a a' t = step_same (marked a End) (marked a' End) t [] [] [] [] (λ u n m o hu hn hm. refl)
+
+pub no_labels : {A : Type 0} → (t b b' : ℕ) → SameOutside {A = A} t b b' [] []
+no_labels t b b' = record { branches = λ u n m j o hu hn hm. refl; raises = λ u n m s o k hu hn hm. refl; handlers = λ j. refl }

@@ -1,0 +1,12 @@
+-- reading a tree, its text, and the frames behind a front
+pub mod Structure
+-- translations of operators, one after the other and refused alike
+pub mod Translation
+-- accepted bodies and first faults are what parsing on lists answers
+pub mod Parsing
+-- normal forms and their texts
+pub mod NormalForm
+-- normal forms have bytes
+pub mod Bytes
+-- the law of executions, and worked runs
+pub mod Executions

@@ -1,0 +1,8 @@
+-- Normal forms and their texts.
+pub mod KeepingLemmas
+pub mod ArenaLemmas
+pub mod Kept
+pub mod KeptNames
+pub mod Rewritten
+pub mod NormalAgain
+pub mod SameTexts

@@ -1,0 +1,77 @@
+-- A named operator, kept in the tree and written with names, is itself.
+use Rattle.std.proofs.Common.{◌≡◌, ℕ, zero, suc, ◌^◌, ◌/◌, ◌≤◌, List, [], ◌∷◌, false, Result, Ok, refl, ap, ◌∙◌, arith}
+use Rattle.std.specs.Prelude.{nat_lt, if◌then◌else◌}
+use Rattle.std.proofs.Math.Nat.{pow-suc}
+use Rattle.std.proofs.lemmas.Bool.{le-ltb}
+use Rattle.std.proofs.lemmas.Nat.{pow_pos, shl-shr}
+use Rattle.std.specs.List.{AllByRecursion}
+use Rattle.walrus_ir.specs.declared.val_type.InstrSeqType.{InstrSeqType}
+use Rattle.walrus_ir.specs.Types.{Signature}
+use Rattle.wasm_ops.specs.declared.types.Space.TheVariants.{Types}
+use Rattle.wasm_body.specs.declared.error.EmitError.{EmitError}
+use Rattle.wasm_body.specs.declared.error.EmitError.TheVariants.{Index}
+use Rattle.wasm_body.specs.declared.error.IndexError.TheVariants.{Unnumbered}
+use Rattle.wasm_body.specs.Results.{some_or}
+use Rattle.wasm_body.specs.Translation.{translate, translate_immediates}
+use Rattle.wasm_body.specs.Naming.{NamedOperation, block_types}
+use Rattle.wasm_body.specs.FunctionTree.{Target, Depth, Outside}
+use Rattle.wasm_body.specs.NormalForm.{Typing, kept, kept_operation}
+use Rattle.wasm_body.specs.FlatText.{halvings, exponent_of, typed, with_names}
+use Rattle.wasm_body.specs.Typed.{StandsFor}
+use Rattle.wasm_body.proofs.Translation.Steps.{Leads, after_one, ok-sure}
+use Rattle.wasm_body.proofs.Translation.Translations.{LeadAll, lead_all, translate_leads, same, translate_same}
+
+-- ---- the exponent of a power of two
+
+halvings-pow : (f e : ℕ) → e ≤ f → halvings f (2 ^ e) ≡ e
+halvings-pow zero zero h = refl
+halvings-pow zero (suc e) h = absurd (omega arith)
+halvings-pow (suc f) zero h = refl
+halvings-pow (suc f) (suc e) h =
+    let half : 2 ^ suc e / 2 ≡ 2 ^ e = ap (λ x. x / 2) (pow-suc 2 e) ∙ shl-shr (2 ^ e) 1 in
+    let large : nat_lt (2 ^ suc e) 2 ≡ false = le-ltb (2 ^ suc e) 2 (omega (arith, pow-suc 2 e, pow_pos e)) in
+    ap (λ b. if b then 0 else suc (halvings f (2 ^ suc e / 2))) large
+    ∙ (ap (λ x. suc (halvings f x)) half ∙ ap suc (halvings-pow f e (omega (arith, h))))
+
+below_pow : (e : ℕ) → e ≤ 2 ^ e
+below_pow zero = omega arith
+below_pow (suc e) = omega (arith, below_pow e, pow_pos e, pow-suc 2 e)
+
+pub exponent_of-pow : (e : ℕ) → exponent_of (2 ^ e) ≡ e
+exponent_of-pow e = halvings-pow (2 ^ e) e (below_pow e)
+
+-- ---- kept and written
+
+block_types_lead : (m : Typing) (t : InstrSeqType) (ss : List Signature) → StandsFor m t ss
+    → AllByRecursion (Leads kept.block (λ b. some_or (m.signature_of t) (Index (Unnumbered Types))) Ok) ss
+block_types_lead m t [] h = tt
+block_types_lead m t (s ∷ ss) h = ((λ c e. ap (λ o. some_or o (Index (Unnumbered Types))) h.0), block_types_lead m t ss h.1)
+
+label_leads : (m : Typing) (n : ℕ) (t : Target) → kept.label n ≡ Ok t → (with_names m).label t ≡ Ok n
+label_leads m n (Depth k) e = let h : Depth k ≡ Depth n = cc in ap (with_names m).label h
+label_leads m n Outside e = absurd cc
+
+number_leads : (n k : ℕ) → (let r : Result ℕ ⊥ = Ok n in r) ≡ Ok k → (let r : Result ℕ EmitError = Ok k in r) ≡ Ok n
+number_leads n k e = let h : k ≡ n = cc in ap Ok h
+
+all_lead : (m : Typing) (t : InstrSeqType) → LeadAll kept (typed (with_names m) t) same
+all_lead m t = record {
+  indices = λ space n. number_leads n;
+  locals = number_leads;
+  labels = label_leads m;
+  handlers = number_leads;
+  outers = number_leads;
+  alignments = exponent_of-pow;
+  counts = λ n u e. refl;
+}
+
+-- at a sequence whose type stands for its block type
+pub kept_written : (m : Typing) (t : InstrSeqType) (o : NamedOperation) → StandsFor m t (block_types o.immediates)
+    → translate (typed (with_names m) t) (kept_operation o) ≡ Ok o
+kept_written m t o h =
+    after_one (translate_immediates (typed (with_names m) t) (kept_operation o).immediates) (Ok o.immediates)
+    (λ is. Ok (record { opcode = o.opcode; immediates = is }))
+    (translate_leads kept (typed (with_names m) t) same o.immediates
+    (lead_all kept (typed (with_names m) t) same (all_lead m t) o.immediates (block_types_lead m t (block_types o.immediates) h))
+    (kept_operation o).immediates (ok-sure (translate_immediates kept o.immediates))
+    ∙ translate_same o.immediates)

@@ -1,0 +1,109 @@
+-- Trees that are the same have the same operators in their text, or the same fault.
+use Rattle.std.proofs.Common.{◌≡◌, ℕ, List, [], ◌∷◌, map, Bool, true, false, None, Result, Ok, Err, refl, sym, ap, ◌∙◌}
+use Rattle.std.specs.Prelude.{if◌then◌else◌}
+use Rattle.walrus_ir.specs.declared.val_type.InstrSeqType.{InstrSeqType}
+use Rattle.walrus_ir.specs.declared.val_type.InstrSeqType.TheVariants.{Simple}
+use Rattle.walrus_ir.specs.Tree.{Items, no_items, item, Sequences, no_sequences, sequence, alone}
+use Rattle.wasm_ops.specs.Operations.{Operation}
+use Rattle.wasm_body.specs.declared.error.EmitError.{EmitError}
+use Rattle.wasm_body.specs.declared.error.EmitError.TheVariants.{BadClauses}
+use Rattle.wasm_body.specs.Results.{◌>>=◌, gathered}
+use Rattle.wasm_body.specs.Control.{Role, an_if, role_of, end_operation}
+use Rattle.wasm_body.specs.Translation.{translate, Located, located}
+use Rattle.wasm_body.specs.FunctionTree.{Head, LegacyClause, Instruction, Bare, bare, bare_items, bare_sequences}
+use Rattle.wasm_body.specs.FlatText.{Writing, TextOperation, are_lawful, closers, if_closers, written, typed, first_type, text, texts}
+use Rattle.wasm_body.specs.TextLaws.{without_locations, SameTexts}
+use Rattle.wasm_body.proofs.Translation.Steps.{after_one}
+
+-- ---- the text of a tree without locations
+
+abbrev without_location : {X : Type 0} → Result (Located X) EmitError → Result X EmitError
+without_location r = r >>= λ x. Ok x.op
+
+abbrev bare_type : Sequences InstrSeqType Bare → InstrSeqType
+bare_type no_sequences = Simple None
+bare_type (sequence t is r) = t
+
+abbrev bare_opened : {M C : Type 0} → Writing M C → Bare → InstrSeqType → Result (Operation M C) EmitError
+bare_opened w i t = if are_lawful i.1 then translate (typed w t) i.0 else Err BadClauses
+
+abbrev mutual
+  bare_text : {M C : Type 0} → Writing M C → Items InstrSeqType Bare → List (Result (Operation M C) EmitError)
+      → List (Result (Operation M C) EmitError)
+  bare_text w no_items k = k
+  bare_text w (item i ss r) k = bare_opened w i (bare_type ss) ∷ bare_texts w (closers (role_of i.0.opcode) i.1 ss) ss (bare_text w r k)
+
+  bare_texts : {M C : Type 0} → Writing M C → List TextOperation → Sequences InstrSeqType Bare
+      → List (Result (Operation M C) EmitError) → List (Result (Operation M C) EmitError)
+  bare_texts w cs no_sequences k = k
+  bare_texts w [] (sequence t is r) k = k
+  bare_texts w (c ∷ cs) (sequence t is r) k = bare_text w is (translate w c ∷ bare_texts w cs r k)
+
+-- ---- it is the text of the tree without locations
+
+located_bare : {X : Type 0} → (r : Result X EmitError) (l : ℕ) → without_location (r >>= λ x. Ok (located x l)) ≡ r
+located_bare (Ok x) l = refl
+located_bare (Err e) l = refl
+
+opened_bare : {M C : Type 0} → (w : Writing M C) (b : Bool) (i : Instruction) (t : InstrSeqType)
+    → without_location (if b then (translate (typed w t) i.op >>= λ x. Ok (located x i.location)) else Err BadClauses)
+    ≡ (if b then translate (typed w t) i.op else Err BadClauses)
+opened_bare w true i t = located_bare (translate (typed w t) i.op) i.location
+opened_bare w false i t = refl
+
+type_bare : (ss : Sequences Head Instruction) → first_type ss ≡ bare_type (bare_sequences ss)
+type_bare no_sequences = refl
+type_bare (sequence h is r) = refl
+
+if_closers_bare : (ss : Sequences Head Instruction) → if_closers ss ≡ if_closers (bare_sequences ss)
+if_closers_bare no_sequences = refl
+if_closers_bare (sequence h is no_sequences) = refl
+if_closers_bare (sequence h is (sequence g js r)) = refl
+
+closers_bare : (r : Role) (cs : List LegacyClause) (ss : Sequences Head Instruction) → closers r cs ss ≡ closers r cs (bare_sequences ss)
+closers_bare an_if cs ss = if_closers_bare ss
+closers_bare _ cs ss = refl
+
+mutual
+  text_bare : {M C : Type 0} → (w : Writing M C) (is : Items Head Instruction) (k : List (Result (Located (Operation M C)) EmitError))
+      → map without_location (text w is k) ≡ bare_text w (bare_items is) (map without_location k)
+  text_bare w no_items k = refl
+  text_bare w (item i ss r) k =
+      let role = role_of i.op.opcode in
+      let ts = bare_sequences ss in
+      let here = bare_opened w (bare i) (bare_type ts) in
+      ap (λ x. x ∷ map without_location (texts w (closers role i.clauses ss) ss (text w r k)))
+      (opened_bare w (are_lawful i.clauses) i (first_type ss) ∙ ap (λ t. bare_opened w (bare i) t) (type_bare ss))
+      ∙ (ap (λ l. here ∷ l) (texts_bare w (closers role i.clauses ss) ss (text w r k))
+      ∙ (ap (λ l. here ∷ bare_texts w l ts (map without_location (text w r k))) (closers_bare role i.clauses ss)
+      ∙ ap (λ l. here ∷ bare_texts w (closers role i.clauses ts) ts l) (text_bare w r k)))
+
+  texts_bare : {M C : Type 0}
+      → (w : Writing M C) (cs : List TextOperation) (ss : Sequences Head Instruction) (k : List (Result (Located (Operation M C)) EmitError))
+      → map without_location (texts w cs ss k) ≡ bare_texts w cs (bare_sequences ss) (map without_location k)
+  texts_bare w cs no_sequences k = refl
+  texts_bare w [] (sequence h is r) k = refl
+  texts_bare w (c ∷ cs) (sequence h is r) k =
+      text_bare w is (written w c h.end_location ∷ texts w cs r k)
+      ∙ (ap (λ x. bare_text w (bare_items is) (x ∷ map without_location (texts w cs r k))) (located_bare (translate w c) h.end_location)
+      ∙ ap (λ l. bare_text w (bare_items is) (translate w c ∷ l)) (texts_bare w cs r k))
+
+gathered_bare : {X : Type 0} → (rs : List (Result (Located X) EmitError))
+    → without_locations (gathered rs) ≡ gathered (map without_location rs)
+gathered_bare {X = X} [] = refl
+gathered_bare {X = X} (Ok x ∷ rs) =
+    rest (gathered rs) ∙ after_one (without_locations (gathered rs)) (gathered (map without_location rs)) (λ os. Ok (x.op ∷ os)) (gathered_bare rs)
+  where
+    rest : (r : Result (List (Located X)) EmitError) → without_locations (r >>= λ xs. Ok (x ∷ xs))
+        ≡ (without_locations r >>= λ os. Ok (x.op ∷ os))
+    rest (Ok xs) = refl
+    rest (Err e) = refl
+gathered_bare {X = X} (Err e ∷ rs) = refl
+
+pub same_texts : SameTexts
+same_texts w t u h =
+    gathered_bare (texts w (end_operation ∷ []) (alone t) [])
+    ∙ (ap gathered (texts_bare w (end_operation ∷ []) (alone t) [])
+    ∙ (ap (λ s. gathered (bare_texts w (end_operation ∷ []) s [])) h
+    ∙ (sym (ap gathered (texts_bare w (end_operation ∷ []) (alone u) []))
+    ∙ sym (gathered_bare (texts w (end_operation ∷ []) (alone u) [])))))

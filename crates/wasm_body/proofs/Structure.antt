@@ -1,0 +1,7 @@
+-- Reading a tree, its text, and the frames behind a front.
+pub mod ReadingTrees
+pub mod ReadTexts
+pub mod ReadFrames
+pub mod ReadingSequences
+pub mod Along
+pub mod Reshown

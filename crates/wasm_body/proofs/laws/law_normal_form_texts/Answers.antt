@@ -1,0 +1,5 @@
+use Rattle.wasm_body.proofs.NormalForm.Rewritten.{have_texts}
+use Rattle.wasm_body.proofs.laws.law_normal_form_texts.Goals as goal
+
+pub returns : goal.returns
+returns c = have_texts

@@ -1,0 +1,56 @@
+-- The bytes of a tree.
+use Rattle.std.specs.Prelude.{ℕ, ◌^◌, nat_lt, List, Some, None, Result, Ok}
+use Rattle.std.specs.List.{flat_map}
+use Rattle.walrus_ir.specs.declared.val_type.InstrSeqType.{InstrSeqType}
+use Rattle.walrus_ir.specs.declared.val_type.InstrSeqType.TheVariants.{Simple, MultiValue}
+use Rattle.wasm_ops.specs.declared.types.BlockType.{BlockType}
+use Rattle.wasm_ops.specs.declared.types.BlockType.TheVariants.{Empty, Value, FuncType}
+use Rattle.wasm_ops.specs.declared.types.Space.{Space}
+use Rattle.wasm_ops.specs.declared.types.Space.TheVariants.{Types}
+use Rattle.wasm_ops.specs.Operations.{RawOperation}
+use Rattle.wasm_ops.specs.Shortest.{short}
+use Rattle.wasm_body.specs.declared.error.EmitError.{EmitError}
+use Rattle.wasm_body.specs.declared.error.EmitError.TheVariants.{TooLarge}
+use Rattle.wasm_body.specs.Results.{◌>>=◌, unless}
+use Rattle.wasm_body.specs.Translation.{Translation, translate_value, Located}
+use Rattle.wasm_body.specs.FunctionTree.{FunctionTree}
+use Rattle.wasm_body.specs.FlatText.{then_by, tree_text}
+
+-- The numbers that are written for ids.
+pub record Numbers : Type 0 where
+  pub number_of : Space → ℕ → Result ℕ EmitError
+  pub local_number : ℕ → Result ℕ EmitError
+
+-- what is written in 32 bits
+abbrev pub fitting : ℕ → Result ℕ EmitError
+fitting n = unless (nat_lt n (2 ^ 32)) TooLarge >>= λ _. Ok n
+
+abbrev pub numbered_block : Numbers → InstrSeqType → Result BlockType EmitError
+numbered_block to (Simple None) = Ok Empty
+numbered_block to (Simple (Some t)) = translate_value to.number_of t >>= λ u. Ok (Value u)
+numbered_block to (MultiValue id) = to.number_of Types id >>= λ n. Ok (FuncType n)
+
+-- Numbering: a number for each id, and the number of its type for a block type.
+abbrev pub numbering : Numbers → Translation ℕ InstrSeqType ℕ BlockType EmitError
+numbering to = record {
+  index = to.number_of;
+  local = to.local_number;
+  label = fitting;
+  handler = λ n. Ok n;
+  outer = λ n. Ok n;
+  block = numbered_block to;
+  alignment = λ e. e;
+  count = λ n. fitting n >>= λ _. Ok tt;
+}
+
+-- the operators of a tree as they are spelt, each at its location
+abbrev pub numbered_text : Numbers → FunctionTree → Result (List (Located RawOperation)) EmitError
+numbered_text to t = tree_text (then_by (numbering to)) t
+
+-- the shortest spelling of each, one behind the other
+abbrev pub bytes_of : List (Located RawOperation) → List ℕ
+bytes_of xs = flat_map (λ x. short x.op) xs
+
+-- The bytes of a tree under the numbers, or the first fault in order of writing.
+abbrev pub tree_bytes : Numbers → FunctionTree → Result (List ℕ) EmitError
+tree_bytes to t = numbered_text to t >>= λ xs. Ok (bytes_of xs)

@@ -1,0 +1,163 @@
+-- The flat text: the operators of a function's tree as a list, in the order of writing, each at its location. How they are
+-- written is a translation: with ids, with numbers, or with names.
+use Rattle.std.specs.Prelude.{ℕ, zero, suc, ◌/◌, nat_lt, if◌then◌else◌, List, [], ◌∷◌, Bool, true, false, None, Result, Ok, Err}
+use Rattle.walrus_ir.specs.declared.val_type.InstrSeqType.{InstrSeqType}
+use Rattle.walrus_ir.specs.declared.val_type.InstrSeqType.TheVariants.{Simple}
+use Rattle.walrus_ir.specs.Types.{Signature}
+use Rattle.walrus_ir.specs.Tree.{Items, no_items, item, Sequences, no_sequences, sequence, alone}
+use Rattle.wasm_ops.specs.declared.types.Space.TheVariants.{Types, Tags}
+use Rattle.wasm_ops.specs.Operations.{index, Operation, operation}
+use Rattle.wasm_body.specs.declared.error.EmitError.{EmitError}
+use Rattle.wasm_body.specs.declared.error.EmitError.TheVariants.{Index, BranchOutside, BadClauses}
+use Rattle.wasm_body.specs.declared.error.IndexError.TheVariants.{Unnumbered}
+use Rattle.wasm_body.specs.Results.{◌>>=◌, some_or, gathered}
+use Rattle.wasm_body.specs.Control.{Role, an_if, a_try, a_block, a_loop, a_try_table, role_of, end_operation, else_operation, catch_opcode, catch_all_operation, delegate_operation}
+use Rattle.wasm_body.specs.Translation.{Translation, translate, Located, located}
+use Rattle.wasm_body.specs.FunctionTree.{Target, Depth, Outside, Head, LegacyClause, handles, handles_all, delegates, Instruction, FunctionTree}
+use Rattle.wasm_body.specs.NormalForm.{Typing}
+
+-- an operator of the text, before it is written: an opener carries the type of its first sequence
+abbrev pub TextOperation : Type 0
+TextOperation = Operation Target InstrSeqType
+
+-- a way of writing
+abbrev pub Writing : Type 0 → Type 0 → Type 0
+Writing M C = Translation Target InstrSeqType M C EmitError
+
+-- ---- which operators close the sequences of an instruction
+
+-- any number of handlers by tag, then at most one of all; or one delegate alone
+abbrev pub is_empty : List LegacyClause → Bool
+is_empty [] = true
+is_empty (c ∷ cs) = false
+
+abbrev pub are_handlers : List LegacyClause → Bool
+are_handlers [] = true
+are_handlers (handles t ∷ cs) = are_handlers cs
+are_handlers (handles_all ∷ cs) = is_empty cs
+are_handlers (delegates n ∷ cs) = false
+
+abbrev pub are_lawful : List LegacyClause → Bool
+are_lawful [] = true
+are_lawful (handles t ∷ cs) = are_handlers cs
+are_lawful (handles_all ∷ cs) = is_empty cs
+are_lawful (delegates n ∷ cs) = is_empty cs
+
+-- a try's body and each handler end where the next clause begins, and the last at the `end`
+abbrev pub try_closers : List LegacyClause → List TextOperation
+try_closers [] = end_operation ∷ []
+try_closers (handles t ∷ cs) = operation catch_opcode (index Tags t ∷ []) ∷ try_closers cs
+try_closers (handles_all ∷ cs) = catch_all_operation ∷ try_closers cs
+try_closers (delegates n ∷ cs) = delegate_operation n ∷ []
+
+-- a consequent alone ends at the `end`
+abbrev pub if_closers : {S I : Type 0} → Sequences S I → List TextOperation
+if_closers no_sequences = []
+if_closers (sequence h is no_sequences) = end_operation ∷ []
+if_closers (sequence h is (sequence g js r)) = else_operation ∷ end_operation ∷ []
+
+abbrev pub closers : {S I : Type 0} → Role → List LegacyClause → Sequences S I → List TextOperation
+closers a_block cs ss = end_operation ∷ []
+closers a_loop cs ss = end_operation ∷ []
+closers a_try_table cs ss = end_operation ∷ []
+closers an_if cs ss = if_closers ss
+closers a_try cs ss = try_closers cs
+closers _ cs ss = []
+
+-- ---- the text
+
+abbrev pub written : {M C : Type 0} → Writing M C → TextOperation → ℕ → Result (Located (Operation M C)) EmitError
+written w o l = translate w o >>= λ x. Ok (located x l)
+
+-- where each block type is this one
+abbrev pub typed : {M C : Type 0} → Writing M C → InstrSeqType → Translation Target (Unit {0}) M C EmitError
+typed w t = record {
+  index = w.index;
+  local = w.local;
+  label = w.label;
+  handler = w.handler;
+  outer = w.outer;
+  block = λ b. w.block t;
+  alignment = w.alignment;
+  count = w.count;
+}
+
+abbrev pub first_type : Sequences Head Instruction → InstrSeqType
+first_type no_sequences = Simple None
+first_type (sequence h is r) = h.type
+
+-- an instruction's own operator
+abbrev pub opened : {M C : Type 0} → Writing M C → Instruction → InstrSeqType → Result (Located (Operation M C)) EmitError
+opened w i t = if are_lawful i.clauses then (translate (typed w t) i.op >>= λ x. Ok (located x i.location)) else Err BadClauses
+
+-- each sequence, and the operator that closes it at its end location
+abbrev mutual
+  pub text : {M C : Type 0} → Writing M C → Items Head Instruction → List (Result (Located (Operation M C)) EmitError) → List (Result (Located (Operation M C)) EmitError)
+  text w no_items k = k
+  text w (item i ss r) k = opened w i (first_type ss) ∷ texts w (closers (role_of i.op.opcode) i.clauses ss) ss (text w r k)
+
+  pub texts : {M C : Type 0} → Writing M C → List TextOperation → Sequences Head Instruction → List (Result (Located (Operation M C)) EmitError) → List (Result (Located (Operation M C)) EmitError)
+  texts w cs no_sequences k = k
+  texts w [] (sequence h is r) k = k
+  texts w (c ∷ cs) (sequence h is r) k = text w is (written w c h.end_location ∷ texts w cs r k)
+
+-- the operators of the tree, or the first fault in order of writing
+abbrev pub tree_text : {M C : Type 0} → Writing M C → FunctionTree → Result (List (Located (Operation M C))) EmitError
+tree_text w t = gathered (texts w (end_operation ∷ []) (alone t) [])
+
+-- ---- ways of writing
+
+abbrev pub halvings : ℕ → ℕ → ℕ
+halvings zero n = zero
+halvings (suc f) n = if nat_lt n 2 then zero else suc (halvings f (n / 2))
+
+-- of the greatest power of two that is at most the alignment
+abbrev pub exponent_of : ℕ → ℕ
+exponent_of n = halvings n n
+
+abbrev pub depth_of : Target → Result ℕ EmitError
+depth_of (Depth n) = Ok n
+depth_of Outside = Err BranchOutside
+
+-- with ids, and the types of sequences
+abbrev pub with_ids : Writing ℕ InstrSeqType
+with_ids = record {
+  index = λ space n. Ok n;
+  local = λ n. Ok n;
+  label = depth_of;
+  handler = λ n. Ok n;
+  outer = λ n. Ok n;
+  block = λ t. Ok t;
+  alignment = exponent_of;
+  count = λ n. Ok tt;
+}
+
+-- from ids and types of sequences onwards
+abbrev pub then_by : {M C : Type 0} → Translation ℕ InstrSeqType M C EmitError → Writing M C
+then_by f = record {
+  index = f.index;
+  local = f.local;
+  label = λ t. depth_of t >>= λ n. f.label n;
+  handler = f.handler;
+  outer = f.outer;
+  block = f.block;
+  alignment = λ n. f.alignment (exponent_of n);
+  count = f.count;
+}
+
+-- from ids and types of sequences to names, where the module holds the types
+abbrev pub names : Typing → Translation ℕ InstrSeqType ℕ Signature EmitError
+names m = record {
+  index = λ space n. Ok n;
+  local = λ n. Ok n;
+  label = λ n. Ok n;
+  handler = λ n. Ok n;
+  outer = λ n. Ok n;
+  block = λ t. some_or (m.signature_of t) (Index (Unnumbered Types));
+  alignment = λ e. e;
+  count = λ n. Ok tt;
+}
+
+-- with ids, and parameters and results
+abbrev pub with_names : Typing → Writing ℕ Signature
+with_names m = then_by (names m)

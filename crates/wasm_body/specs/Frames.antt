@@ -1,0 +1,146 @@
+-- The sequences around an operator, innermost first: the control frames of the standard's validation algorithm.
+use Rattle.std.specs.Prelude.{ℕ, zero, suc, List, [], ◌∷◌, Bool, true, false, Option, Some, None, is_some}
+use Rattle.wasm_body.specs.Control.{Construct, Block, Loop, TryTable, If, Try, Control, Does, Opens, Else, Catch, CatchAll, End, Delegate, Marked, marked}
+use Rattle.wasm_body.specs.SourceTree.{construct_of, Sequence, Empty, Single, Wrapped, IfThen, IfElse, TryCatch, TryDelegate, Clauses, Ended, Catches, CatchesAll, Body}
+
+-- an open sequence, with what is shown of the operator that opened its construct
+pub data Frame (A : Type 0) : Type 0 where
+  OfFunction : Frame A
+  OfWrapper : (a : A) → Frame A
+  Consequent : (a : A) → Frame A
+  Alternative : (a : A) → Frame A
+  TryBody : (a : A) → Frame A
+  Handler : (a : A) → Frame A
+  HandlerOfAll : (a : A) → Frame A
+
+-- what must hold at an operator, by the frames around it
+abbrev pub Rule : Type 0 → Type 1
+Rule A = List (Frame A) → Marked A → Type 0
+
+-- ---- a rule along a tree
+
+-- The rule holds at each operator of a sequence around which these frames are, its own included.
+abbrev mutual
+  pub Follows : {A : Type 0} → Rule A → List (Frame A) → Sequence A → Type 0
+  Follows R fs Empty = Unit {0}
+  Follows R fs (Single a action r) = R fs (marked a (Does action)) × Follows R fs r
+  Follows R fs (Wrapped a w b e r) =
+      R fs (marked a (Opens (construct_of w))) × Follows R (OfWrapper a ∷ fs) b × R (OfWrapper a ∷ fs) (marked e End) × Follows R fs r
+  Follows R fs (IfThen a b e r) =
+      R fs (marked a (Opens If)) × Follows R (Consequent a ∷ fs) b × R (Consequent a ∷ fs) (marked e End) × Follows R fs r
+  Follows R fs (IfElse a b l c e r) =
+      R fs (marked a (Opens If))
+      × Follows R (Consequent a ∷ fs) b
+      × R (Consequent a ∷ fs) (marked l Else)
+      × Follows R (Alternative a ∷ fs) c
+      × R (Alternative a ∷ fs) (marked e End)
+      × Follows R fs r
+  Follows R fs (TryCatch a b cs r) =
+      R fs (marked a (Opens Try)) × Follows R (TryBody a ∷ fs) b × FollowsIn R fs a (TryBody a) cs × Follows R fs r
+  Follows R fs (TryDelegate a b e n r) =
+      R fs (marked a (Opens Try)) × Follows R (TryBody a ∷ fs) b × R (TryBody a ∷ fs) (marked e (Delegate n)) × Follows R fs r
+
+  -- the clauses behind the sequence f of the `try` that a opens
+  pub FollowsIn : {A : Type 0} → Rule A → List (Frame A) → A → Frame A → Clauses A → Type 0
+  FollowsIn R fs a f (Ended e) = R (f ∷ fs) (marked e End)
+  FollowsIn R fs a f (Catches h t b cs) = R (f ∷ fs) (marked h (Catch t)) × Follows R (Handler a ∷ fs) b × FollowsIn R fs a (Handler a) cs
+  FollowsIn R fs a f (CatchesAll h b e) =
+      R (f ∷ fs) (marked h CatchAll) × Follows R (HandlerOfAll a ∷ fs) b × R (HandlerOfAll a ∷ fs) (marked e End)
+
+abbrev pub function_frames : {A : Type 0} → List (Frame A)
+function_frames = OfFunction ∷ []
+
+-- The rule holds at each operator of the body.
+abbrev pub BodyFollows : {A : Type 0} → Rule A → Body A → Type 0
+BodyFollows R b = Follows R function_frames b.sequence × R function_frames (marked b.close End)
+
+-- ---- the frames behind an operator
+
+abbrev pub frame_opened : {A : Type 0} → A → Construct → Frame A
+frame_opened a Block = OfWrapper a
+frame_opened a Loop = OfWrapper a
+frame_opened a (TryTable cs) = OfWrapper a
+frame_opened a If = Consequent a
+frame_opened a Try = TryBody a
+
+abbrev pub else_moves : {A : Type 0} → Frame A → Option (Frame A)
+else_moves (Consequent a) = Some (Alternative a)
+else_moves _ = None
+
+abbrev pub catch_moves : {A : Type 0} → Frame A → Option (Frame A)
+catch_moves (TryBody a) = Some (Handler a)
+catch_moves (Handler a) = Some (Handler a)
+catch_moves _ = None
+
+abbrev pub catch_all_moves : {A : Type 0} → Frame A → Option (Frame A)
+catch_all_moves (TryBody a) = Some (HandlerOfAll a)
+catch_all_moves (Handler a) = Some (HandlerOfAll a)
+catch_all_moves _ = None
+
+abbrev pub onto : {A : Type 0} → List (Frame A) → Option (Frame A) → Option (List (Frame A))
+onto fs (Some f) = Some (f ∷ fs)
+onto fs None = None
+
+abbrev pub delegate_moves : {A : Type 0} → List (Frame A) → Frame A → Option (List (Frame A))
+delegate_moves fs (TryBody a) = Some fs
+delegate_moves fs _ = None
+
+-- The frames behind an operator, or none where it may not stand: an opener adds one, an operator that parts a construct
+-- changes the innermost, one that closes a construct removes it.
+abbrev pub moves : {A : Type 0} → Control → A → List (Frame A) → Option (List (Frame A))
+moves c a [] = None
+moves (Does action) a (f ∷ fs) = Some (f ∷ fs)
+moves (Opens construct) a (f ∷ fs) = Some (frame_opened a construct ∷ f ∷ fs)
+moves Else a (f ∷ fs) = onto fs (else_moves f)
+moves (Catch t) a (f ∷ fs) = onto fs (catch_moves f)
+moves CatchAll a (f ∷ fs) = onto fs (catch_all_moves f)
+moves End a (f ∷ fs) = Some fs
+moves (Delegate n) a (f ∷ fs) = delegate_moves fs f
+
+abbrev pub moved : {A : Type 0} → Option (List (Frame A)) → Marked A → Option (List (Frame A))
+moved None x = None
+moved (Some fs) x = moves x.control x.shown fs
+
+-- the frames behind so many operators
+abbrev pub frames_behind : {A : Type 0} → Option (List (Frame A)) → List (Marked A) → Option (List (Frame A))
+frames_behind frames [] = frames
+frames_behind frames (x ∷ xs) = frames_behind (moved frames x) xs
+
+-- ---- what the rules ask of frames
+
+-- whether an operator may stand in the innermost sequence
+abbrev pub may_stand : {A : Type 0} → List (Frame A) → Control → Bool
+may_stand [] c = false
+may_stand (f ∷ fs) (Does action) = true
+may_stand (f ∷ fs) (Opens construct) = true
+may_stand (f ∷ fs) Else = is_some (else_moves f)
+may_stand (f ∷ fs) (Catch t) = is_some (catch_moves f)
+may_stand (f ∷ fs) CatchAll = is_some (catch_all_moves f)
+may_stand (f ∷ fs) End = true
+may_stand (f ∷ fs) (Delegate n) = is_some (delegate_moves fs f)
+
+-- whether the sequence is a handler, which `rethrow` may name
+abbrev pub is_handler : {A : Type 0} → Frame A → Bool
+is_handler (Handler a) = true
+is_handler (HandlerOfAll a) = true
+is_handler _ = false
+
+abbrev pub handler_at : {A : Type 0} → List (Frame A) → ℕ → Bool
+handler_at [] n = false
+handler_at (f ∷ fs) zero = is_handler f
+handler_at (f ∷ fs) (suc n) = handler_at fs n
+
+-- the frames outside the innermost sequence's construct
+abbrev pub outside : {A : Type 0} → List (Frame A) → List (Frame A)
+outside [] = []
+outside (f ∷ fs) = fs
+
+-- what is shown of the opener of the innermost sequence
+abbrev pub opener_of : {A : Type 0} → Frame A → Option A
+opener_of OfFunction = None
+opener_of (OfWrapper a) = Some a
+opener_of (Consequent a) = Some a
+opener_of (Alternative a) = Some a
+opener_of (TryBody a) = Some a
+opener_of (Handler a) = Some a
+opener_of (HandlerOfAll a) = Some a

@@ -1,0 +1,201 @@
+-- Which operator an instruction of the tree is: its opcode, and its immediates in the order in which they are written.
+-- Labels are the places of the sequences that they name, and of a block type only the place among the immediates is left.
+use Rattle.std.specs.Prelude.{ℕ, List, [], ◌∷◌, map, Bool, true, false, Option, Some, None}
+use Rattle.walrus_ir.specs.declared.instr.Instr.{Instr}
+use Rattle.walrus_ir.specs.declared.instr.Instr.TheVariants as instr
+use Rattle.walrus_ir.specs.declared.control.TryTableCatch.{TryTableCatch}
+use Rattle.walrus_ir.specs.declared.control.TryTableCatch.TheVariants as table_catch
+use Rattle.walrus_ir.specs.declared.control.LegacyCatch.{LegacyCatch}
+use Rattle.walrus_ir.specs.declared.control.LegacyCatch.TheVariants as legacy_catch
+use Rattle.walrus_ir.specs.declared.memory.MemArg.{MemArg}
+use Rattle.walrus_ir.specs.declared.memory.LoadSimdKind.{LoadSimdKind}
+use Rattle.walrus_ir.specs.declared.memory.LoadSimdKind.TheVariants.{V128Load8Lane, V128Load16Lane, V128Load32Lane, V128Load64Lane, V128Store8Lane, V128Store16Lane, V128Store32Lane, V128Store64Lane}
+use Rattle.walrus_ir.specs.declared.value.Value.{Value}
+use Rattle.walrus_ir.specs.declared.value.Value.TheVariants.{I32, I64, F32, F64, V128}
+use Rattle.walrus_ir.specs.declared.val_type.ValType.{ValType}
+use Rattle.wasm_ops.specs.declared.types.Opcode.{Opcode}
+use Rattle.wasm_ops.specs.declared.types.Opcode.TheVariants.{Byte, Prefixed}
+use Rattle.wasm_ops.specs.declared.types.Space.TheVariants.{Types, Funcs, Tables, Globals, Memories, Elements, Data, Tags}
+use Rattle.wasm_ops.specs.Operations.{Access, CatchClause, Immediate, index, local, label, handler, number, access, branch_table, clauses, block, heap, value, cast, i32, i64, f32, f64, v128, lane, lanes, zero_byte, Operation, operation}
+use Rattle.wasm_ops.specs.UnaryOperations.{unary_operation}
+use Rattle.wasm_ops.specs.BinaryOperations.{binary_operation}
+use Rattle.wasm_ops.specs.TernaryOperations.{ternary_operation}
+use Rattle.wasm_ops.specs.AccessOperations.{load_operation, store_operation}
+use Rattle.wasm_ops.specs.VectorAccessOpcodes.{vector_access_opcode}
+use Rattle.wasm_ops.specs.AtomicOpcodes.{atomic_opcode, cmpxchg_opcode}
+use Rattle.wasm_body.specs.FunctionTree.{LegacyClause, handles, handles_all, delegates}
+
+abbrev pub PlacedImmediate : Type 0
+PlacedImmediate = Immediate ℕ (Unit {0})
+
+abbrev pub PlacedOperation : Type 0
+PlacedOperation = Operation ℕ (Unit {0})
+
+-- ---- immediates
+
+abbrev pub a_block : PlacedImmediate
+a_block = block tt
+
+abbrev pub table_clause : TryTableCatch → CatchClause ℕ
+table_clause (table_catch.Catch tag place) = record { by_reference = false; tag = Some tag; label = place }
+table_clause (table_catch.CatchRef tag place) = record { by_reference = true; tag = Some tag; label = place }
+table_clause (table_catch.CatchAll place) = record { by_reference = false; tag = None; label = place }
+table_clause (table_catch.CatchAllRef place) = record { by_reference = true; tag = None; label = place }
+
+-- with the alignment as a number of bytes
+abbrev pub access_at : ℕ → MemArg → Access
+access_at memory arg = record { alignment = arg.align; memory = memory; offset = arg.offset }
+
+-- the lane that a vector access names
+abbrev pub lane_of : LoadSimdKind → List PlacedImmediate
+lane_of (V128Load8Lane n) = lane n ∷ []
+lane_of (V128Load16Lane n) = lane n ∷ []
+lane_of (V128Load32Lane n) = lane n ∷ []
+lane_of (V128Load64Lane n) = lane n ∷ []
+lane_of (V128Store8Lane n) = lane n ∷ []
+lane_of (V128Store16Lane n) = lane n ∷ []
+lane_of (V128Store32Lane n) = lane n ∷ []
+lane_of (V128Store64Lane n) = lane n ∷ []
+lane_of _ = []
+
+-- ---- operators
+
+abbrev pub const_operation : Value → PlacedOperation
+const_operation (I32 z) = operation (Byte 0x41) (i32 z ∷ [])
+const_operation (I64 z) = operation (Byte 0x42) (i64 z ∷ [])
+const_operation (F32 bits) = operation (Byte 0x43) (f32 bits ∷ [])
+const_operation (F64 bits) = operation (Byte 0x44) (f64 bits ∷ [])
+const_operation (V128 bits) = operation (Prefixed 0xfd 12) (v128 bits ∷ [])
+
+abbrev pub select_operation : Option (ValType ℕ) → PlacedOperation
+select_operation None = operation (Byte 0x1b) []
+select_operation (Some type) = operation (Byte 0x1c) (value type ∷ [])
+
+-- the second where a reference may be null
+abbrev pub by_null : Bool → ℕ → ℕ → Opcode
+by_null false m n = Prefixed 0xfb m
+by_null true m n = Prefixed 0xfb n
+
+abbrev pub wait_opcode : Bool → Opcode
+wait_opcode false = Prefixed 0xfe 1
+wait_opcode true = Prefixed 0xfe 2
+
+-- ---- the table
+
+-- structs, arrays and references
+abbrev pub reference_operation : Instr → PlacedOperation
+reference_operation (instr.RefNull x) = operation (Byte 0xd0) (heap x.ty.heap_type ∷ [])
+reference_operation instr.RefIsNull = operation (Byte 0xd1) []
+reference_operation (instr.RefFunc x) = operation (Byte 0xd2) (index Funcs x.func ∷ [])
+reference_operation instr.RefEq = operation (Byte 0xd3) []
+reference_operation instr.RefAsNonNull = operation (Byte 0xd4) []
+reference_operation (instr.StructNew x) = operation (Prefixed 0xfb 0) (index Types x.ty ∷ [])
+reference_operation (instr.StructNewDefault x) = operation (Prefixed 0xfb 1) (index Types x.ty ∷ [])
+reference_operation (instr.StructGet x) = operation (Prefixed 0xfb 2) (index Types x.ty ∷ number x.field ∷ [])
+reference_operation (instr.StructGetS x) = operation (Prefixed 0xfb 3) (index Types x.ty ∷ number x.field ∷ [])
+reference_operation (instr.StructGetU x) = operation (Prefixed 0xfb 4) (index Types x.ty ∷ number x.field ∷ [])
+reference_operation (instr.StructSet x) = operation (Prefixed 0xfb 5) (index Types x.ty ∷ number x.field ∷ [])
+reference_operation (instr.ArrayNew x) = operation (Prefixed 0xfb 6) (index Types x.ty ∷ [])
+reference_operation (instr.ArrayNewDefault x) = operation (Prefixed 0xfb 7) (index Types x.ty ∷ [])
+reference_operation (instr.ArrayNewFixed x) = operation (Prefixed 0xfb 8) (index Types x.ty ∷ number x.len ∷ [])
+reference_operation (instr.ArrayNewData x) = operation (Prefixed 0xfb 9) (index Types x.ty ∷ index Data x.data_id ∷ [])
+reference_operation (instr.ArrayNewElem x) = operation (Prefixed 0xfb 10) (index Types x.ty ∷ index Elements x.elem ∷ [])
+reference_operation (instr.ArrayGet x) = operation (Prefixed 0xfb 11) (index Types x.ty ∷ [])
+reference_operation (instr.ArrayGetS x) = operation (Prefixed 0xfb 12) (index Types x.ty ∷ [])
+reference_operation (instr.ArrayGetU x) = operation (Prefixed 0xfb 13) (index Types x.ty ∷ [])
+reference_operation (instr.ArraySet x) = operation (Prefixed 0xfb 14) (index Types x.ty ∷ [])
+reference_operation instr.ArrayLen = operation (Prefixed 0xfb 15) []
+reference_operation (instr.ArrayFill x) = operation (Prefixed 0xfb 16) (index Types x.ty ∷ [])
+reference_operation (instr.ArrayCopy x) = operation (Prefixed 0xfb 17) (index Types x.dst_ty ∷ index Types x.src_ty ∷ [])
+reference_operation (instr.ArrayInitData x) = operation (Prefixed 0xfb 18) (index Types x.ty ∷ index Data x.data_id ∷ [])
+reference_operation (instr.ArrayInitElem x) = operation (Prefixed 0xfb 19) (index Types x.ty ∷ index Elements x.elem ∷ [])
+reference_operation (instr.RefTest x) = operation (by_null x.nullable 20 21) (heap x.heap_type ∷ [])
+reference_operation (instr.RefCast x) = operation (by_null x.nullable 22 23) (heap x.heap_type ∷ [])
+reference_operation instr.AnyConvertExtern = operation (Prefixed 0xfb 26) []
+reference_operation instr.ExternConvertAny = operation (Prefixed 0xfb 27) []
+reference_operation instr.RefI31 = operation (Prefixed 0xfb 28) []
+reference_operation instr.I31GetS = operation (Prefixed 0xfb 29) []
+reference_operation instr.I31GetU = operation (Prefixed 0xfb 30) []
+reference_operation _ = operation (Byte 0x00) []  -- the others have their rows below
+
+-- memories and tables
+abbrev pub storage_operation : Instr → PlacedOperation
+storage_operation (instr.Load x) = load_operation x.kind (access_at x.memory x.arg)
+storage_operation (instr.Store x) = store_operation x.kind (access_at x.memory x.arg)
+storage_operation (instr.LoadSimd x) = operation (vector_access_opcode x.kind) (access (access_at x.memory x.arg) ∷ lane_of x.kind)
+storage_operation (instr.AtomicRmw x) = operation (atomic_opcode x.op x.width) (access (access_at x.memory x.arg) ∷ [])
+storage_operation (instr.Cmpxchg x) = operation (cmpxchg_opcode x.width) (access (access_at x.memory x.arg) ∷ [])
+storage_operation (instr.AtomicNotify x) = operation (Prefixed 0xfe 0) (access (access_at x.memory x.arg) ∷ [])
+storage_operation (instr.AtomicWait x) = operation (wait_opcode x.sixty_four) (access (access_at x.memory x.arg) ∷ [])
+storage_operation instr.AtomicFence = operation (Prefixed 0xfe 3) (zero_byte ∷ [])
+storage_operation (instr.MemorySize x) = operation (Byte 0x3f) (index Memories x.memory ∷ [])
+storage_operation (instr.MemoryGrow x) = operation (Byte 0x40) (index Memories x.memory ∷ [])
+storage_operation (instr.MemoryInit x) = operation (Prefixed 0xfc 8) (index Data x.data_id ∷ index Memories x.memory ∷ [])
+storage_operation (instr.DataDrop x) = operation (Prefixed 0xfc 9) (index Data x.data_id ∷ [])
+storage_operation (instr.MemoryCopy x) = operation (Prefixed 0xfc 10) (index Memories x.dst ∷ index Memories x.src ∷ [])
+storage_operation (instr.MemoryFill x) = operation (Prefixed 0xfc 11) (index Memories x.memory ∷ [])
+storage_operation (instr.TableGet x) = operation (Byte 0x25) (index Tables x.table ∷ [])
+storage_operation (instr.TableSet x) = operation (Byte 0x26) (index Tables x.table ∷ [])
+storage_operation (instr.TableInit x) = operation (Prefixed 0xfc 12) (index Elements x.elem ∷ index Tables x.table ∷ [])
+storage_operation (instr.ElemDrop x) = operation (Prefixed 0xfc 13) (index Elements x.elem ∷ [])
+storage_operation (instr.TableCopy x) = operation (Prefixed 0xfc 14) (index Tables x.dst ∷ index Tables x.src ∷ [])
+storage_operation (instr.TableGrow x) = operation (Prefixed 0xfc 15) (index Tables x.table ∷ [])
+storage_operation (instr.TableSize x) = operation (Prefixed 0xfc 16) (index Tables x.table ∷ [])
+storage_operation (instr.TableFill x) = operation (Prefixed 0xfc 17) (index Tables x.table ∷ [])
+storage_operation i = reference_operation i
+
+-- control, calls, operands, locals, globals and vectors
+abbrev pub operation_of : Instr → PlacedOperation
+operation_of instr.Unreachable = operation (Byte 0x00) []
+operation_of (instr.Block x) = operation (Byte 0x02) (a_block ∷ [])
+operation_of (instr.Loop x) = operation (Byte 0x03) (a_block ∷ [])
+operation_of (instr.IfElse x) = operation (Byte 0x04) (a_block ∷ [])
+operation_of (instr.Try x) = operation (Byte 0x06) (a_block ∷ [])
+operation_of (instr.TryTable x) = operation (Byte 0x1f) (a_block ∷ clauses (map table_clause x.catches.items) ∷ [])
+operation_of (instr.Throw x) = operation (Byte 0x08) (index Tags x.tag ∷ [])
+operation_of (instr.Rethrow x) = operation (Byte 0x09) (handler x.relative_depth ∷ [])
+operation_of instr.ThrowRef = operation (Byte 0x0a) []
+operation_of (instr.Br x) = operation (Byte 0x0c) (label x.block ∷ [])
+operation_of (instr.BrIf x) = operation (Byte 0x0d) (label x.block ∷ [])
+operation_of (instr.BrTable x) = operation (Byte 0x0e) (branch_table x.blocks.items x.default ∷ [])
+operation_of (instr.BrOnNull x) = operation (Byte 0xd5) (label x.block ∷ [])
+operation_of (instr.BrOnNonNull x) = operation (Byte 0xd6) (label x.block ∷ [])
+operation_of (instr.BrOnCast x) = operation (Prefixed 0xfb 24) (cast (record { from_nullable = x.from_nullable; to_nullable = x.to_nullable; label = x.block; source = x.from_heap_type; target = x.to_heap_type }) ∷ [])
+operation_of (instr.BrOnCastFail x) = operation (Prefixed 0xfb 25) (cast (record { from_nullable = x.from_nullable; to_nullable = x.to_nullable; label = x.block; source = x.from_heap_type; target = x.to_heap_type }) ∷ [])
+operation_of instr.Return = operation (Byte 0x0f) []
+operation_of (instr.Call x) = operation (Byte 0x10) (index Funcs x.func ∷ [])
+operation_of (instr.CallIndirect x) = operation (Byte 0x11) (index Types x.ty ∷ index Tables x.table ∷ [])
+operation_of (instr.CallRef x) = operation (Byte 0x14) (index Types x.ty ∷ [])
+operation_of (instr.ReturnCall x) = operation (Byte 0x12) (index Funcs x.func ∷ [])
+operation_of (instr.ReturnCallIndirect x) = operation (Byte 0x13) (index Types x.ty ∷ index Tables x.table ∷ [])
+operation_of (instr.ReturnCallRef x) = operation (Byte 0x15) (index Types x.ty ∷ [])
+operation_of instr.Drop = operation (Byte 0x1a) []
+operation_of (instr.Select x) = select_operation x.ty
+operation_of (instr.LocalGet x) = operation (Byte 0x20) (local x.local ∷ [])
+operation_of (instr.LocalSet x) = operation (Byte 0x21) (local x.local ∷ [])
+operation_of (instr.LocalTee x) = operation (Byte 0x22) (local x.local ∷ [])
+operation_of (instr.GlobalGet x) = operation (Byte 0x23) (index Globals x.global ∷ [])
+operation_of (instr.GlobalSet x) = operation (Byte 0x24) (index Globals x.global ∷ [])
+operation_of (instr.Const x) = const_operation x.value
+operation_of (instr.Unop x) = unary_operation x.op
+operation_of (instr.Binop x) = binary_operation x.op
+operation_of (instr.TernOp x) = ternary_operation x.op
+operation_of (instr.I8x16Shuffle x) = operation (Prefixed 0xfd 13) (lanes x.indices ∷ [])
+operation_of instr.I8x16Swizzle = operation (Prefixed 0xfd 14) []
+operation_of instr.V128Bitselect = operation (Prefixed 0xfd 82) []
+operation_of instr.I64Add128 = operation (Prefixed 0xfc 19) []
+operation_of instr.I64Sub128 = operation (Prefixed 0xfc 20) []
+operation_of instr.I64MulWideS = operation (Prefixed 0xfc 21) []
+operation_of instr.I64MulWideU = operation (Prefixed 0xfc 22) []
+operation_of i = storage_operation i
+
+-- ---- the clauses of a legacy `try`
+
+abbrev pub legacy_clause : LegacyCatch → LegacyClause
+legacy_clause (legacy_catch.Catch tag place) = handles tag
+legacy_clause (legacy_catch.CatchAll place) = handles_all
+legacy_clause (legacy_catch.Delegate depth) = delegates depth
+
+abbrev pub legacy_clauses : Instr → List LegacyClause
+legacy_clauses (instr.Try x) = map legacy_clause x.catches.items
+legacy_clauses _ = []

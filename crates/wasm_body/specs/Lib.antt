@@ -1,0 +1,27 @@
+-- answers that may be faults
+pub mod Results
+-- operators between bytes and trees: what they do to the control, their names, and carrying them from level to level
+pub mod Control
+pub mod Translation
+pub mod Naming
+-- structured control: the grammar of bodies, and the frames around an operator
+pub mod SourceTree
+pub mod Frames
+-- accepted bodies and first faults
+pub mod Parsing
+-- the tree of a function, what is in a builder, and the normal form of a body
+pub mod FunctionTree
+pub mod InstructionTable
+pub mod TreeOfFunction
+pub mod NormalForm
+pub mod Keeping
+pub mod Typed
+pub mod Intervals
+-- the text of a tree, and its bytes
+pub mod FlatText
+pub mod Bytes
+pub mod TextLaws
+-- the trace machine, and the law that executions are kept
+pub mod Machine
+pub mod Places
+pub mod ExecutionLaws

@@ -1,0 +1,330 @@
+-- The trace machine: which operators a flat list executes, for given outcomes and a bound on loop turns (WebAssembly core
+-- specification 3.0, execution, control instructions; legacy exception handling). It runs on a list of operators by what
+-- each does to the control, and knows no tree. What the world answers an operator (which way a condition goes, whether it
+-- traps or raises) is a list of outcomes; operand values and memories are not there.
+--
+-- A place is the list of the operators from it on. A run is at a place, with the labels that are open there, the outcomes
+-- that are left and the turns that are left.
+use Rattle.std.specs.Prelude.{ℕ, zero, suc, List, [], ◌∷◌, Bool, true, false, cond, eqb, Option, Some, None, length, slice_index_or}
+use Rattle.wasm_body.specs.Control.{Action, Nop, Plain, Branch, ConditionalBranch, TableBranch, Return, Unreachable, Throw, ThrowRef, Rethrow, TailCall, Clause, Construct, Block, Loop, TryTable, If, Try, Control, Does, Opens, Else, Catch, CatchAll, End, Delegate, Marked}
+
+-- ---- outcomes, events and endings
+
+-- a set of tags
+abbrev pub Tags : Type 0
+Tags = List ℕ
+
+abbrev pub has : Tags → ℕ → Bool
+has [] t = false
+has (x ∷ xs) t = cond (eqb x t) true (has xs t)
+
+-- what the world answers an operator
+pub data Outcome : Type 0 where
+  Go : Outcome  -- it goes on
+  Trap : Outcome  -- it traps
+  Raise : (tags : Tags) → Outcome  -- it raises an exception, which each of these tags catches
+  Way : (taken : Bool) → Outcome  -- the condition, or the branch, is taken or not
+  Entry : (k : ℕ) → Outcome  -- the entry of a branch table
+
+-- an operator was executed; or the construct of an opener took an exception, by the clause of this number, from 0 on, and
+-- with this tag, or none where it catches all
+pub data Event (A : Type 0) : Type 0 where
+  Executed : (shown : A) → Event A
+  Taken : (opener : A) (clause : ℕ) (tag : Option ℕ) → Event A
+
+pub data Ending : Type 0 where
+  Returned : Ending
+  TailCalled : Ending
+  Trapped : Ending
+  Escaped : (tags : Tags) → Ending
+  OutcomesOut : Ending  -- an operator asked for an outcome, and none was left
+  TurnsOut : Ending  -- a branch went to a loop, and no turn was left
+  Mismatch : Ending  -- an operator got an outcome that it doesn't ask for
+
+pub record Run (A : Type 0) : Type 0 where
+  pub events : List (Event A)
+  pub ending : Ending
+
+abbrev pub ends : {A : Type 0} → Ending → Run A
+ends e = record { events = []; ending = e }
+
+-- an event, and then a run
+abbrev pub then : {A : Type 0} → Event A → Run A → Run A
+then e r = record { events = e ∷ r.events; ending = r.ending }
+
+-- ---- closers and parts
+
+-- openers and closers are counted; `else`, `catch` and `catch_all` part a construct
+pub data Shape : Type 0 where
+  Opener : Shape
+  Part : Shape
+  Closer : Shape
+  Other : Shape
+
+abbrev pub shape_of : Control → Shape
+shape_of (Does action) = Other
+shape_of (Opens construct) = Opener
+shape_of Else = Part
+shape_of (Catch tag) = Part
+shape_of CatchAll = Part
+shape_of End = Closer
+shape_of (Delegate n) = Closer
+
+-- From behind an opener, with `depth` more openers than closers since: the closer of an opener is the next place at which
+-- openers less closers come back to zero, and its parts are those that stand at one. What is sought is the first part that
+-- passes the test, or else the closer: the place, and how many parts were passed over.
+pub record Found (A : Type 0) : Type 0 where
+  pub passed : ℕ
+  pub rest : List (Marked A)
+
+abbrev pub found : {A : Type 0} → ℕ → List (Marked A) → Found A
+found i rest = record { passed = i; rest = rest }
+
+abbrev pub seek_at : {A : Type 0} → Shape → (depth : ℕ) → (passes : Bool) → ℕ → List (Marked A) → (ℕ → ℕ → Found A) → Found A
+seek_at Opener depth p i here on = on (suc depth) i
+seek_at Other depth p i here on = on depth i
+seek_at Closer zero p i here on = found i here
+seek_at Closer (suc depth) p i here on = on depth i
+seek_at Part zero true i here on = found i here
+seek_at Part zero false i here on = on zero (suc i)
+seek_at Part (suc depth) p i here on = on (suc depth) i
+
+abbrev pub seek : {A : Type 0} → (Control → Bool) → (depth : ℕ) → ℕ → List (Marked A) → Found A
+seek test depth i [] = found i []
+seek test depth i (x ∷ xs) = seek_at (shape_of x.control) depth (test x.control) i (x ∷ xs) (λ d j. seek test d j xs)
+
+abbrev pub tail : {A : Type 0} → List A → List A
+tail [] = []
+tail (x ∷ xs) = xs
+
+-- the place behind the closer, from behind the opener
+abbrev pub behind_closer : {A : Type 0} → List (Marked A) → List (Marked A)
+behind_closer xs = tail (seek (λ c. false) 0 0 xs).rest
+
+-- ---- labels
+
+-- an open label: its opener, the place behind that, and for a handler the tags that it caught
+pub record Label (A : Type 0) : Type 0 where
+  pub opener : A
+  pub construct : Construct
+  pub behind : List (Marked A)
+  pub caught : Option Tags
+
+abbrev pub label : {A : Type 0} → A → Construct → List (Marked A) → Label A
+label a construct behind = record { opener = a; construct = construct; behind = behind; caught = None }
+
+abbrev pub handler : {A : Type 0} → Label A → Tags → Label A
+handler l tags = record { opener = l.opener; construct = l.construct; behind = l.behind; caught = Some tags }
+
+-- a run from a place, with the labels that are open there, innermost first, and the outcomes that are left
+abbrev pub From : Type 0 → Type 0
+From A = List (Marked A) → List (Label A) → List Outcome → Run A
+
+-- In what follows `go` goes on within the turn, and `again` goes on behind a turn that is paid.
+
+-- ---- branches
+
+-- A branch to a loop goes to the operator behind the `loop`, and costs a turn. One to another construct goes behind its
+-- closer.
+abbrev pub arrive : {A : Type 0} → (again go : From A) → Construct → Label A → List (Label A) → List Outcome → Run A
+arrive again go Block l ls outcomes = go (behind_closer l.behind) ls outcomes
+arrive again go Loop l ls outcomes = again l.behind (l ∷ ls) outcomes
+arrive again go If l ls outcomes = go (behind_closer l.behind) ls outcomes
+arrive again go Try l ls outcomes = go (behind_closer l.behind) ls outcomes
+arrive again go (TryTable cs) l ls outcomes = go (behind_closer l.behind) ls outcomes
+
+-- A branch to the function's label returns.
+abbrev pub branch : {A : Type 0} → (again go : From A) → ℕ → List (Label A) → List Outcome → Run A
+branch again go n [] outcomes = ends Returned
+branch again go zero (l ∷ ls) outcomes = arrive again go l.construct l ls outcomes
+branch again go (suc n) (l ∷ ls) outcomes = branch again go n ls outcomes
+
+-- the label of a table's entry: the default where there is no such entry
+abbrev pub target : List ℕ → ℕ → ℕ → ℕ
+target targets default k = slice_index_or targets k default
+
+-- The end of a sequence is reached: the run goes on behind the closer of its construct. At the function's end it returns.
+abbrev pub leave : {A : Type 0} → (go : From A) → List (Label A) → List Outcome → Run A
+leave go [] outcomes = ends Returned
+leave go (l ∷ ls) outcomes = go (behind_closer l.behind) ls outcomes
+
+-- ---- exceptions
+
+-- What a construct does with an exception that leaves it: it passes it on; it hands it to the construct of a label, from
+-- outside; by a clause it branches to a label, or enters a handler.
+pub data Response (A : Type 0) : Type 0 where
+  Passes : Response A
+  Hands : (n : ℕ) → Response A
+  Jumps : (clause : ℕ) (tag : Option ℕ) (n : ℕ) → Response A
+  Enters : (clause : ℕ) (tag : Option ℕ) (rest : List (Marked A)) → Response A
+
+-- whether a clause takes an exception with these tags
+abbrev pub takes : Tags → Option ℕ → Bool
+takes tags None = true
+takes tags (Some t) = has tags t
+
+-- the first clause of a `try_table` that takes the exception
+abbrev pub jump : {A : Type 0} → Tags → ℕ → List Clause → Response A
+jump tags i [] = Passes
+jump tags i (c ∷ cs) = cond (takes tags c.tag) (Jumps i c.tag c.label) (jump tags (suc i) cs)
+
+-- a `catch` of one of the tags, or a `catch_all`
+abbrev pub catches : Tags → Control → Bool
+catches tags (Catch t) = has tags t
+catches tags CatchAll = true
+catches tags _ = false
+
+-- what was found from a legacy `try` on: a clause that takes the exception, or its closer
+abbrev pub clause_at : {A : Type 0} → ℕ → Control → List (Marked A) → Response A
+clause_at i (Catch t) rest = Enters i (Some t) rest
+clause_at i CatchAll rest = Enters i None rest
+clause_at i (Delegate n) rest = Hands n
+clause_at i _ rest = Passes
+
+abbrev pub clause_found : {A : Type 0} → ℕ → List (Marked A) → Response A
+clause_found i [] = Passes
+clause_found i (x ∷ xs) = clause_at i x.control xs
+
+abbrev pub try_responds : {A : Type 0} → Tags → Found A → Response A
+try_responds tags f = clause_found f.passed f.rest
+
+-- A `try_table` asks its clauses in order. So does a legacy `try` that is left from its body, and one that `delegate`
+-- closes hands the exception on. A `try` that is left from a handler passes it, as every other construct does.
+abbrev pub responds_as : {A : Type 0} → Tags → Construct → (caught : Option Tags) → List (Marked A) → Response A
+responds_as tags Block caught behind = Passes
+responds_as tags Loop caught behind = Passes
+responds_as tags If caught behind = Passes
+responds_as tags (TryTable cs) caught behind = jump tags 0 cs
+responds_as tags Try (Some t) behind = Passes
+responds_as tags Try None behind = try_responds tags (seek (catches tags) 0 0 behind)
+
+abbrev pub responds : {A : Type 0} → Tags → Label A → Response A
+responds tags l = responds_as tags l.construct l.caught l.behind
+
+-- A taken clause is an event, also where no turn is left for its branch. A handler remembers the tags. `outward n` looks
+-- further outwards, from label n on as counted from outside the construct.
+abbrev pub react : {A : Type 0} → (again go : From A) → (outward : ℕ → Run A) → Tags → Label A → List (Label A) → List Outcome → Response A → Run A
+react again go outward tags l ls outcomes Passes = outward 0
+react again go outward tags l ls outcomes (Hands n) = outward n
+react again go outward tags l ls outcomes (Jumps i t n) = then (Taken l.opener i t) (branch again go n ls outcomes)
+react again go outward tags l ls outcomes (Enters i t rest) = then (Taken l.opener i t) (go rest (handler l tags ∷ ls) outcomes)
+
+-- An exception looks outwards, from label n on. Past the function it escapes.
+abbrev pub raise : {A : Type 0} → (again go : From A) → Tags → List (Label A) → List Outcome → ℕ → Run A
+raise again go tags [] outcomes n = ends (Escaped tags)
+raise again go tags (l ∷ ls) outcomes zero = react again go (raise again go tags ls outcomes) tags l ls outcomes (responds tags l)
+raise again go tags (l ∷ ls) outcomes (suc n) = raise again go tags ls outcomes n
+
+-- the tags that the handler of a label caught
+abbrev pub caught_at : {A : Type 0} → List (Label A) → ℕ → Option Tags
+caught_at [] n = None
+caught_at (l ∷ ls) zero = l.caught
+caught_at (l ∷ ls) (suc n) = caught_at ls n
+
+-- A `rethrow` raises the tags of the handler that it names.
+abbrev pub rethrow : {A : Type 0} → (Tags → Run A) → Option Tags → Run A
+rethrow raised None = ends Mismatch
+rethrow raised (Some tags) = raised tags
+
+-- ---- asking for an outcome: a missing one, or one of another kind, ends the run before the operator is executed
+
+-- Go, Trap where it may trap, or Raise of tags that it may raise
+abbrev pub ask : {A : Type 0} → (may_raise : Tags → Bool) → (may_trap : Bool) → A → (List Outcome → Run A) → (Tags → List Outcome → Run A) → List Outcome → Run A
+ask may_raise may_trap a on raised [] = ends OutcomesOut
+ask may_raise may_trap a on raised (Go ∷ outcomes) = on outcomes
+ask may_raise may_trap a on raised (Trap ∷ outcomes) = cond may_trap (then (Executed a) (ends Trapped)) (ends Mismatch)
+ask may_raise may_trap a on raised (Raise tags ∷ outcomes) = cond (may_raise tags) (then (Executed a) (raised tags outcomes)) (ends Mismatch)
+ask may_raise may_trap a on raised (Way w ∷ outcomes) = ends Mismatch
+ask may_raise may_trap a on raised (Entry k ∷ outcomes) = ends Mismatch
+
+abbrev pub ask_way : {A : Type 0} → A → (Bool → List Outcome → Run A) → List Outcome → Run A
+ask_way a on [] = ends OutcomesOut
+ask_way a on (Way w ∷ outcomes) = then (Executed a) (on w outcomes)
+ask_way a on (Go ∷ outcomes) = ends Mismatch
+ask_way a on (Trap ∷ outcomes) = ends Mismatch
+ask_way a on (Raise tags ∷ outcomes) = ends Mismatch
+ask_way a on (Entry k ∷ outcomes) = ends Mismatch
+
+abbrev pub ask_entry : {A : Type 0} → A → (ℕ → List Outcome → Run A) → List Outcome → Run A
+ask_entry a on [] = ends OutcomesOut
+ask_entry a on (Entry k ∷ outcomes) = then (Executed a) (on k outcomes)
+ask_entry a on (Go ∷ outcomes) = ends Mismatch
+ask_entry a on (Trap ∷ outcomes) = ends Mismatch
+ask_entry a on (Raise tags ∷ outcomes) = ends Mismatch
+ask_entry a on (Way w ∷ outcomes) = ends Mismatch
+
+-- ---- the step
+
+-- One operator by itself; `rest` stands behind it. Two families of operators can't go on: what they would go on with is
+-- handed in as a mismatch.
+abbrev pub act : {A : Type 0} → (again go : From A) → Action → A → List (Marked A) → List (Label A) → List Outcome → Run A
+-- `nop` asks for nothing and is no event.
+act again go Nop a rest ls outcomes = go rest ls outcomes
+-- A plain operator asks for Go, Trap or Raise.
+act again go Plain a rest ls outcomes = ask (λ s. true) true a (λ o. then (Executed a) (go rest ls o)) (λ s o. raise again go s ls o 0) outcomes
+-- `br` asks for nothing.
+act again go (Branch n) a rest ls outcomes = then (Executed a) (branch again go n ls outcomes)
+-- `br_if` and its kind ask for Way: true branches.
+act again go (ConditionalBranch n) a rest ls outcomes = ask_way a (λ w o. cond w (branch again go n ls o) (go rest ls o)) outcomes
+-- `br_table` asks for Entry.
+act again go (TableBranch targets default) a rest ls outcomes = ask_entry a (λ k o. branch again go (target targets default k) ls o) outcomes
+-- `return` and `unreachable` ask for nothing.
+act again go Return a rest ls outcomes = then (Executed a) (ends Returned)
+act again go Unreachable a rest ls outcomes = then (Executed a) (ends Trapped)
+-- `throw` asks for Raise with its tag.
+act again go (Throw t) a rest ls outcomes = ask (λ s. has s t) false a (λ o. ends Mismatch) (λ s o. raise again go s ls o 0) outcomes
+-- `throw_ref` asks for Raise or Trap.
+act again go ThrowRef a rest ls outcomes = ask (λ s. true) true a (λ o. ends Mismatch) (λ s o. raise again go s ls o 0) outcomes
+-- `rethrow` asks for nothing, and looks outwards from its own place.
+act again go (Rethrow n) a rest ls outcomes = then (Executed a) (rethrow (λ s. raise again go s ls outcomes 0) (caught_at ls n))
+-- A tail call asks for Go or Trap.
+act again go TailCall a rest ls outcomes = ask (λ s. false) true a (λ o. then (Executed a) (ends TailCalled)) (λ s o. ends Mismatch) outcomes
+
+-- the way of an `if` that isn't taken: behind its `else`, or behind its `end` where there is none
+abbrev pub is_else : Control → Bool
+is_else Else = true
+is_else _ = false
+
+abbrev pub other_at : {A : Type 0} → (go : From A) → Label A → List (Label A) → List Outcome → List (Marked A) → Run A
+other_at go l ls outcomes [] = ends Returned
+other_at go l ls outcomes (x ∷ xs) = cond (is_else x.control) (go xs (l ∷ ls) outcomes) (go xs ls outcomes)
+
+abbrev pub other_way : {A : Type 0} → (go : From A) → Label A → List (Label A) → List Outcome → Found A → Run A
+other_way go l ls outcomes f = other_at go l ls outcomes f.rest
+
+-- An opener opens a label. Only `if` asks for an outcome: Way, of which true enters the consequent.
+abbrev pub enter : {A : Type 0} → (go : From A) → Construct → A → List (Marked A) → List (Label A) → List Outcome → Run A
+enter go Block a rest ls outcomes = then (Executed a) (go rest (label a Block rest ∷ ls) outcomes)
+enter go Loop a rest ls outcomes = then (Executed a) (go rest (label a Loop rest ∷ ls) outcomes)
+enter go (TryTable cs) a rest ls outcomes = then (Executed a) (go rest (label a (TryTable cs) rest ∷ ls) outcomes)
+enter go Try a rest ls outcomes = then (Executed a) (go rest (label a Try rest ∷ ls) outcomes)
+enter go If a rest ls outcomes =
+    ask_way a (λ w o. cond w (go rest (label a If rest ∷ ls) o) (other_way go (label a If rest) ls o (seek is_else 0 0 rest))) outcomes
+
+-- The operators that part and close constructs ask for nothing and are no events: there the sequence ends.
+abbrev pub step : {A : Type 0} → (again go : From A) → Control → A → List (Marked A) → List (Label A) → List Outcome → Run A
+step again go (Does action) a rest ls outcomes = act again go action a rest ls outcomes
+step again go (Opens construct) a rest ls outcomes = enter go construct a rest ls outcomes
+step again go Else a rest ls outcomes = leave go ls outcomes
+step again go (Catch t) a rest ls outcomes = leave go ls outcomes
+step again go CatchAll a rest ls outcomes = leave go ls outcomes
+step again go End a rest ls outcomes = leave go ls outcomes
+step again go (Delegate n) a rest ls outcomes = leave go ls outcomes
+
+-- ---- the run
+
+-- At most so many operators, until a turn is paid. A step that pays no turn leaves fewer operators behind the place, so a
+-- count of those is enough.
+abbrev pub straight : {A : Type 0} → (again : From A) → ℕ → From A
+straight again zero rest ls outcomes = ends Returned
+straight again (suc n) [] ls outcomes = ends Returned
+straight again (suc n) (x ∷ xs) ls outcomes = step again (straight again n) x.control x.shown xs ls outcomes
+
+-- with so many turns left
+abbrev pub run_from : {A : Type 0} → (turns : ℕ) → From A
+run_from zero rest ls outcomes = straight (λ r l o. ends TurnsOut) (length rest) rest ls outcomes
+run_from (suc turns) rest ls outcomes = straight (run_from turns) (length rest) rest ls outcomes
+
+-- The run of a list of operators. Outcomes that are left over mean nothing.
+abbrev pub run : {A : Type 0} → List (Marked A) → List Outcome → (turns : ℕ) → Run A
+run ops outcomes turns = run_from turns ops [] outcomes

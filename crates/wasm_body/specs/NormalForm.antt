@@ -1,0 +1,149 @@
+-- The normal form of a body: the tree of the function that a parse makes of it.
+use Rattle.std.specs.Prelude.{ℕ, List, [], ◌∷◌, ◌^◌, Option, Some, None, unwrap_or, option_and_then, slice_get, Result, Ok, Err}
+use Rattle.walrus_ir.specs.declared.val_type.ValType.{ValType}
+use Rattle.walrus_ir.specs.declared.val_type.InstrSeqType.{InstrSeqType}
+use Rattle.walrus_ir.specs.declared.val_type.InstrSeqType.TheVariants.{Simple, MultiValue}
+use Rattle.walrus_ir.specs.Types.{Signature, signature, signature_of, signature_of_type, pick}
+use Rattle.walrus_ir.specs.Tree.{Items, no_items, item, Sequences, no_sequences, sequence}
+use Rattle.wasm_body.specs.declared.error.ParseError.{ParseError}
+use Rattle.wasm_body.specs.Results.{sure}
+use Rattle.wasm_body.specs.Control.{Action, Nop, Plain, Branch, ConditionalBranch, TableBranch, Return, Unreachable, Throw, ThrowRef, Rethrow, TailCall}
+use Rattle.wasm_body.specs.SourceTree.{Sequence, Empty, Single, Wrapped, IfThen, IfElse, TryCatch, TryDelegate, Clauses, Ended, Catches, CatchesAll, Body, reshown_body}
+use Rattle.wasm_body.specs.Translation.{Translation, translate_immediates, Located, located}
+use Rattle.wasm_body.specs.Naming.{NamedOperation, Occurrence, Environment, block_signature, entry_of}
+use Rattle.wasm_body.specs.FunctionTree.{Target, Depth, TreeOperation, Head, LegacyClause, handles, handles_all, delegates, Instruction, FunctionTree, default_location}
+
+-- ---- types of sequences
+
+-- What a module says of the types of sequences.
+pub record Typing : Type 0 where
+  pub picked : Signature → InstrSeqType  -- the type of a sequence that takes and gives these
+  pub signature_of : InstrSeqType → Option Signature  -- what a sequence of the type takes and gives, where the module has it
+  pub tag_parameters : ℕ → List (ValType ℕ)
+  pub entry : InstrSeqType  -- of the function's own sequence
+
+abbrev pub parameters_of : Option Signature → List (ValType ℕ)
+parameters_of (Some s) = s.parameters
+parameters_of None = []
+
+abbrev pub entry_type : Result ℕ ParseError → InstrSeqType
+entry_type (Ok id) = MultiValue id
+entry_type (Err e) = Simple None
+
+-- Of an accepted body each type that is asked for is there.
+abbrev pub typing_of : Environment → Typing
+typing_of env = record {
+  picked = λ s. unwrap_or (pick env.types s) (Simple None);
+  signature_of = signature_of_type env.types;
+  tag_parameters = λ tag. parameters_of (option_and_then (signature_of env.types) (slice_get env.tags tag));
+  entry = entry_type (entry_of env);
+}
+
+abbrev pub type_of : Typing → NamedOperation → InstrSeqType
+type_of m o = m.picked (block_signature o)
+
+-- a handler gives what its `try` does
+abbrev pub handler_type : Typing → NamedOperation → List (ValType ℕ) → InstrSeqType
+handler_type m o parameters = m.picked (signature parameters (block_signature o).results)
+
+-- ---- instructions
+
+-- The tree keeps the ids. A depth is a target, a block type moves to the sequence, an exponent becomes a number of bytes.
+abbrev pub kept : Translation ℕ Signature Target (Unit {0}) ⊥
+kept = record {
+  index = λ space n. Ok n;
+  local = λ n. Ok n;
+  label = λ n. Ok (Depth n);
+  handler = λ n. Ok n;
+  outer = λ n. Ok n;
+  block = λ s. Ok tt;
+  alignment = λ e. 2 ^ e;
+  count = λ n. Ok tt;
+}
+
+abbrev pub kept_operation : NamedOperation → TreeOperation
+kept_operation o = record { opcode = o.opcode; immediates = sure (translate_immediates kept o.immediates) }
+
+abbrev pub instruction : Located NamedOperation → List LegacyClause → Instruction
+instruction a cs = record { op = kept_operation a.op; clauses = cs; location = a.location }
+
+-- What becomes of an operator by itself: it is dropped, it is kept, or it is kept and what follows it is dropped. A tail
+-- call is taken as one that goes on.
+pub data Fate : Type 0 where
+  Drops : Fate
+  Stays : Fate
+  Cuts : Fate
+
+abbrev pub fate : Action → Fate
+fate Nop = Drops
+fate Plain = Stays
+fate (Branch n) = Cuts
+fate (ConditionalBranch n) = Stays
+fate (TableBranch ts d) = Cuts
+fate Return = Cuts
+fate Unreachable = Cuts
+fate (Throw t) = Cuts
+fate ThrowRef = Cuts
+fate (Rethrow n) = Cuts
+fate TailCall = Stays
+
+-- an operator by itself, before the normal form of what follows
+abbrev pub with_fate : Fate → Instruction → Items Head Instruction → Items Head Instruction
+with_fate Drops i rest = rest
+with_fate Stays i rest = item i no_sequences rest
+with_fate Cuts i rest = item i no_sequences no_items
+
+-- ---- trees
+
+abbrev pub head : InstrSeqType → ℕ → Head
+head t l = record { type = t; end_location = l }
+
+abbrev pub legacy_clauses : {A : Type 0} → Clauses A → List LegacyClause
+legacy_clauses (Ended e) = []
+legacy_clauses (Catches a t b cs) = handles t ∷ legacy_clauses cs
+legacy_clauses (CatchesAll a b e) = handles_all ∷ []
+
+-- where the sequence before these clauses is closed
+abbrev pub closed_at : Clauses (Located NamedOperation) → ℕ
+closed_at (Ended e) = e.location
+closed_at (Catches a t b cs) = a.location
+closed_at (CatchesAll a b e) = a.location
+
+-- In each sequence by itself: `nop` is dropped, and what follows the first operator that cuts. An `if` without `else` gets
+-- an empty alternative, whose end has the default location. A sequence ends at the location of the operator that closes
+-- it, but one that `delegate` closes at the default.
+abbrev mutual
+  pub normal : Typing → Sequence (Located NamedOperation) → Items Head Instruction
+  normal m Empty = no_items
+  normal m (Single a action r) = with_fate (fate action) (instruction a []) (normal m r)
+  normal m (Wrapped a w b e r) = item (instruction a []) (sequence (head (type_of m a.op) e.location) (normal m b) no_sequences) (normal m r)
+  normal m (IfThen a b e r) =
+      item (instruction a [])
+      (sequence (head (type_of m a.op) e.location) (normal m b)
+      (sequence (head (type_of m a.op) default_location) no_items no_sequences))
+      (normal m r)
+  normal m (IfElse a b l c e r) =
+      item (instruction a [])
+      (sequence (head (type_of m a.op) l.location) (normal m b)
+      (sequence (head (type_of m a.op) e.location) (normal m c) no_sequences))
+      (normal m r)
+  normal m (TryCatch a b cs r) =
+      item (instruction a (legacy_clauses cs)) (sequence (head (type_of m a.op) (closed_at cs)) (normal m b) (handlers m a.op cs)) (normal m r)
+  normal m (TryDelegate a b e n r) =
+      item (instruction a (delegates n ∷ [])) (sequence (head (type_of m a.op) default_location) (normal m b) no_sequences) (normal m r)
+
+  -- the handlers of the `try` that o opens
+  pub handlers : Typing → NamedOperation → Clauses (Located NamedOperation) → Sequences Head Instruction
+  handlers m o (Ended e) = no_sequences
+  handlers m o (Catches a t b cs) = sequence (head (handler_type m o (m.tag_parameters t)) (closed_at cs)) (normal m b) (handlers m o cs)
+  handlers m o (CatchesAll a b e) = sequence (head (handler_type m o []) e.location) (normal m b) no_sequences
+
+abbrev pub normal_form : Typing → Body (Located NamedOperation) → FunctionTree
+normal_form m b = record { head = head m.entry b.close.location; items = normal m b.sequence }
+
+-- an operator as it occurs, by its name and its location
+abbrev pub name_at : Occurrence → Located NamedOperation
+name_at x = located x.named x.location
+
+abbrev pub named_body : Body Occurrence → Body (Located NamedOperation)
+named_body b = reshown_body name_at b

@@ -1,0 +1,5 @@
+-- Which bytes are accepted as a body, and the first fault of all others.
+pub mod Accepted
+pub mod Progress
+pub mod Lists
+pub mod Laws

@@ -1,0 +1,136 @@
+-- Which bytes are accepted as a body, and which fault is the first otherwise.
+use Rattle.std.specs.Prelude.{◌≡◌, ℕ, ◌+◌, List, [], ◌∷◌, ◌++◌, length, map, replicate, nat_lt, Bool, true, Option, None, Some, IsOk, Result, Ok, Err}
+use Rattle.std.specs.List.{AllByRecursion}
+use Rattle.wasm_ops.specs.OperatorList.{Placed, Lists}
+use Rattle.wasm_ops.specs.Spelling.{read_operation}
+use Rattle.wasm_body.specs.declared.error.ParseError.{ParseError}
+use Rattle.wasm_body.specs.declared.error.ParseError.TheVariants.{Read, PlaceTooGreat, Checked, Trailing, MissingEnd}
+use Rattle.wasm_body.specs.declared.error.ParseFailure.{ParseFailure}
+use Rattle.wasm_body.specs.Results.{◌>>=◌, unless, faulting}
+use Rattle.wasm_body.specs.Control.{Marked, marked, control_of, end_operation}
+use Rattle.wasm_body.specs.SourceTree.{Body, body_text}
+use Rattle.wasm_body.specs.Frames.{Frame, Rule, BodyFollows, function_frames, frames_behind}
+use Rattle.wasm_body.specs.Naming.{Environment, Occurrence, named_in, entry_of}
+
+-- ---- operators as they occur
+
+abbrev pub placed : Occurrence → Placed
+placed x = record { spelt = x.spelt; place = x.place }
+
+abbrev pub mark : Occurrence → Marked Occurrence
+mark x = marked x (control_of x.named)
+
+-- The operators are this body.
+abbrev pub IsBody : List Occurrence → Body Occurrence → Type 0
+IsBody xs b = map mark xs ≡ body_text b
+
+-- The operator has this name where it stands, and so keeps the rules.
+abbrev pub IsNamed : Environment → Rule Occurrence
+IsNamed env fs x = named_in env fs x.shown.spelt ≡ Ok x.shown.named
+
+-- The operators are this body, they have their names in it, and the function's own type is in order.
+pub record Lawful (env : Environment) (xs : List Occurrence) (body : Body Occurrence) : Type 0 where
+  pub entry : IsOk (entry_of env)
+  pub is_body : IsBody xs body
+  pub named : BodyFollows (IsNamed env) body
+
+-- ---- the validator's run: each operator with its place is a step to the next state, or is refused with a number
+
+abbrev pub validated : {V : Type 0} → (V → Placed → Result V ℕ) → V → List Placed → Result V ℕ
+validated check v [] = Ok v
+validated check v (x ∷ xs) = check v x >>= λ w. validated check w xs
+
+-- ---- places and locations
+
+-- Locations are what the caller's location function answers for a place. Where there is none, the place is the location,
+-- and has to be below the number that stands for no location.
+abbrev pub location_at : Option (ℕ → ℕ) → ℕ → ℕ
+location_at None place = place
+location_at (Some locate) place = locate place
+
+abbrev pub location_limit : ℕ
+location_limit = 4294967295
+
+abbrev pub has_location : Option (ℕ → ℕ) → ℕ → Bool
+has_location None place = nat_lt place location_limit
+has_location (Some locate) place = true
+
+-- What a parse is given beside the bytes: what bodies are named by, the place of the first operator, the location function,
+-- if there is one, and the validator, which begins in the state `first`.
+pub record Setting (V : Type 0) : Type 0 where
+  pub environment : Environment
+  pub start : ℕ
+  pub locations : Option (ℕ → ℕ)
+  pub check : V → Placed → Result V ℕ
+  pub first : V
+
+-- ---- accepted bodies
+
+-- The operators stand at the front of the bytes, have locations, and pass the validator; then the rest follows.
+pub record IsFront {V : Type 0} (given : Setting V) (xs : List Occurrence) (bytes rest : List ℕ) : Type 0 where
+  pub spelt : Lists (map placed xs) given.start bytes rest
+  pub have_locations : AllByRecursion (λ x. has_location given.locations x.place ≡ true) xs
+  pub located : AllByRecursion (λ x. x.location ≡ location_at given.locations x.place) xs
+  pub passes : IsOk (validated given.check given.first (map placed xs))
+
+-- The bytes are accepted as this body.
+pub record Accepted {V : Type 0} (given : Setting V) (bytes : List ℕ) (body : Body Occurrence) : Type 0 where
+  pub operators : List Occurrence
+  pub all : IsFront given operators bytes []
+  pub lawful : Lawful given.environment operators body
+
+-- ---- the first fault
+
+-- an operator that was handled, the bytes behind it, and the validator's next state
+pub record Handled (V : Type 0) : Type 0 where
+  pub operator : Occurrence
+  pub rest : List ℕ
+  pub state : V
+
+-- The operator at the front of the bytes is read; then its place is looked at, then the validator is asked, and then its
+-- rules are tried. The first that fails is its fault.
+abbrev pub handled : {V : Type 0} → Setting V → V → List (Frame Occurrence) → ℕ → List ℕ → Result (Handled V) ParseError
+handled given v fs place bytes =
+    faulting (λ fault. Read (record { fault = fault; at = place })) (read_operation bytes) >>= λ x.
+    unless (has_location given.locations place) PlaceTooGreat >>= λ _.
+    faulting Checked (given.check v (record { spelt = x.0; place = place })) >>= λ w.
+    named_in given.environment fs x.0 >>= λ named.
+    Ok (record {
+      operator = record { spelt = x.0; place = place; location = location_at given.locations place; named = named };
+      rest = x.1;
+      state = w;
+    })
+
+-- an `end` that is not there
+abbrev pub added_end : Occurrence
+added_end = record { spelt = end_operation; place = 0; location = 0; named = end_operation }
+
+-- So many more `end`s make a body of the operators.
+pub record Stands (env : Environment) (xs : List Occurrence) (count : ℕ) : Type 0 where
+  pub body : Body Occurrence
+  pub lawful : Lawful env (xs ++ replicate count added_end) body
+
+-- what is wrong with the rest, where these sequences are open
+abbrev pub FaultBehind : {V : Type 0} → Setting V → V → List (Frame Occurrence) → ℕ → List ℕ → ParseError → Type 0
+FaultBehind given v [] place [] error = ⊥
+FaultBehind given v [] place (b ∷ rest) error = error ≡ Trailing
+FaultBehind given v (f ∷ fs) place [] error = error ≡ MissingEnd
+FaultBehind given v (f ∷ fs) place (b ∷ rest) error = handled given v (f ∷ fs) place (b ∷ rest) ≡ Err error
+
+-- A front of the operators stands, and the fault lies behind it.
+pub record FaultAfterFront {V : Type 0} (given : Setting V) (bytes : List ℕ) (failure : ParseFailure) : Type 0 where
+  pub front : List Occurrence
+  pub rest : List ℕ
+  pub frames : List (Frame Occurrence)
+  pub state : V
+  pub is_front : IsFront given front bytes rest
+  pub stands : Stands given.environment front (length frames)
+  pub frames_are : frames_behind (Some function_frames) (map mark front) ≡ Some frames
+  pub state_is : validated given.check given.first (map placed front) ≡ Ok state
+  pub place : failure.at + length rest ≡ given.start + length bytes
+  pub fault : FaultBehind given state frames failure.at rest failure.error
+
+-- The first fault of the bytes, and its place: the function's type is at fault, or what lies behind a front that stands.
+pub data FirstFault {V : Type 0} (given : Setting V) (bytes : List ℕ) (failure : ParseFailure) : Type 0 where
+  of_entry : entry_of given.environment ≡ Err failure.error → failure.at ≡ given.start → FirstFault given bytes failure
+  of_operators : FaultAfterFront given bytes failure → FirstFault given bytes failure

@@ -1,0 +1,69 @@
+-- Laws of trees and texts.
+use Rattle.std.specs.Prelude.{◌≡◌, ℕ, List, ◌∷◌, map, Result, Ok}
+use Rattle.wasm_ops.specs.declared.types.BlockType.{BlockType}
+use Rattle.wasm_body.specs.declared.error.EmitError.{EmitError}
+use Rattle.wasm_body.specs.Results.{◌>>=◌}
+use Rattle.wasm_body.specs.Control.{Marked, marked, Control, Else, Catch, CatchAll, End, Delegate, control_of}
+use Rattle.wasm_body.specs.SourceTree.{Sequence, text, Body, body_text}
+use Rattle.wasm_body.specs.Translation.{Located}
+use Rattle.wasm_body.specs.Naming.{NamedOperation}
+use Rattle.wasm_body.specs.FunctionTree.{FunctionTree, IsSameTree}
+use Rattle.wasm_body.specs.NormalForm.{Typing, normal_form}
+use Rattle.wasm_body.specs.FlatText.{Writing, with_names, tree_text}
+use Rattle.wasm_body.specs.Typed.{AreTyped}
+
+-- ---- reading a tree is unique
+
+-- an operator that ends the sequence that it stands in
+abbrev pub Stops : Control → Type 0
+Stops Else = Unit {0}
+Stops (Catch t) = Unit {0}
+Stops CatchAll = Unit {0}
+Stops End = Unit {0}
+Stops (Delegate n) = Unit {0}
+Stops _ = ⊥
+
+-- A list is the text of one body at most.
+abbrev pub OneBody : Type 0 → Type 0
+OneBody A = (b c : Body A) → body_text b ≡ body_text c → b ≡ c
+
+-- A list begins in one way with a sequence and an operator that ends it.
+abbrev pub OneSequence : Type 0 → Type 0
+OneSequence A =
+    (s t : Sequence A) (x y : Marked A) (k l : List (Marked A)) → Stops x.control → Stops y.control →
+    text s (x ∷ k) ≡ text t (y ∷ l) → (s ≡ t) × (x ≡ y) × (k ≡ l)
+
+-- ---- the text of a normal form
+
+abbrev pub mark_named : Located NamedOperation → Marked (Located NamedOperation)
+mark_named x = marked x (control_of x.op)
+
+-- Named operators are this body.
+abbrev pub IsNamedBody : List (Located NamedOperation) → Body (Located NamedOperation) → Type 0
+IsNamedBody xs b = map mark_named xs ≡ body_text b
+
+-- The list is the text of the tree, with names.
+abbrev pub IsTextOf : Typing → FunctionTree → List (Located NamedOperation) → Type 0
+IsTextOf m t ys = tree_text (with_names m) t ≡ Ok ys
+
+-- The normal form has a text, and the text is a body again.
+abbrev pub HaveTexts : Type 0
+HaveTexts =
+    (m : Typing) (xs : List (Located NamedOperation)) (b : Body (Located NamedOperation)) → IsNamedBody xs b → AreTyped m xs →
+    (ys : List (Located NamedOperation)) × (c : Body (Located NamedOperation)) × IsTextOf m (normal_form m b) ys × IsNamedBody ys c
+
+-- The text, read as a body again, has a normal form that is the same tree.
+abbrev pub NormalAgain : Type 0
+NormalAgain =
+    (m : Typing) (xs ys : List (Located NamedOperation)) (b c : Body (Located NamedOperation)) → IsNamedBody xs b → AreTyped m xs →
+    IsTextOf m (normal_form m b) ys → IsNamedBody ys c → IsSameTree (normal_form m c) (normal_form m b)
+
+-- ---- trees that are the same
+
+abbrev pub without_locations : {X : Type 0} → Result (List (Located X)) EmitError → Result (List X) EmitError
+without_locations r = r >>= λ xs. Ok (map (λ x. x.op) xs)
+
+-- They are written by the same operators, or refused for the same fault.
+abbrev pub SameTexts : Type 0
+SameTexts =
+    (w : Writing ℕ BlockType) (t u : FunctionTree) → IsSameTree t u → without_locations (tree_text w t) ≡ without_locations (tree_text w u)

@@ -1,0 +1,60 @@
+-- The tree of a function as this crate's definitions speak of it: the builder's sequences unfolded, without their places. A
+-- branch goes to the number of sequences between.
+use Rattle.std.specs.Prelude.{◌≡◌, ℕ, suc, List, [], ◌∷◌, ◌==◌, if◌then◌else◌, Ok}
+use Rattle.walrus_ir.specs.declared.seq.InstrSeq.{InstrSeq}
+use Rattle.walrus_ir.specs.Tree.{Items, no_items, item, Sequences, no_sequences, sequence, Tree}
+use Rattle.walrus_ir.specs.Unfolding.{Placed, Located, IsTree}
+use Rattle.wasm_body.specs.Results.{sure}
+use Rattle.wasm_body.specs.Translation.{Translation, translate_immediates}
+use Rattle.wasm_body.specs.FunctionTree.{Target, Depth, Outside, TreeOperation, Head, Instruction, FunctionTree}
+use Rattle.wasm_body.specs.InstructionTable.{PlacedOperation, operation_of, legacy_clauses}
+
+abbrev pub deeper : Target → Target
+deeper (Depth n) = Depth (suc n)
+deeper Outside = Outside
+
+-- the target that a place is where the sequences at these places are open, innermost first
+abbrev pub target_in : List ℕ → ℕ → Target
+target_in [] place = Outside
+target_in (p ∷ ps) place = if place == p then Depth 0 else deeper (target_in ps place)
+
+-- places of sequences become targets
+abbrev pub aiming : List ℕ → Translation ℕ (Unit {0}) Target (Unit {0}) ⊥
+aiming around = record {
+  index = λ space n. Ok n;
+  local = λ n. Ok n;
+  label = λ place. Ok (target_in around place);
+  handler = λ n. Ok n;
+  outer = λ n. Ok n;
+  block = λ b. Ok b;
+  alignment = λ n. n;
+  count = λ n. Ok tt;
+}
+
+abbrev pub aimed : List ℕ → PlacedOperation → TreeOperation
+aimed around o = record { opcode = o.opcode; immediates = sure (translate_immediates (aiming around) o.immediates) }
+
+abbrev pub instruction_in : List ℕ → Located → Instruction
+instruction_in around x = record { op = aimed around (operation_of x.0); clauses = legacy_clauses x.0; location = x.1 }
+
+abbrev pub head_of : InstrSeq → Head
+head_of seq = record { type = seq.ty; end_location = seq.end }
+
+-- within the sequences at these places, innermost first
+abbrev mutual
+  pub items_in : List ℕ → Items Placed Located → Items Head Instruction
+  items_in around no_items = no_items
+  items_in around (item x inside rest) = item (instruction_in around x) (sequences_in around inside) (items_in around rest)
+
+  pub sequences_in : List ℕ → Sequences Placed Located → Sequences Head Instruction
+  sequences_in around no_sequences = no_sequences
+  sequences_in around (sequence h items rest) = sequence (head_of h.seq) (items_in (h.place ∷ around) items) (sequences_in around rest)
+
+abbrev pub tree_of : Tree Placed Located → FunctionTree
+tree_of t = record { head = head_of t.head.seq; items = items_in (t.head.place ∷ []) t.items }
+
+-- From this sequence on the builder holds this tree.
+pub record HasTree (sequences : List InstrSeq) (start : ℕ) (tree : FunctionTree) : Type 0 where
+  pub unfolded : Tree Placed Located
+  pub is_tree : IsTree sequences start unfolded
+  pub is : tree_of unfolded ≡ tree

@@ -1,0 +1,13 @@
+//! What the body of a function is: which bytes are accepted as one, the tree that stands for it, the text and the bytes of
+//! a tree, and what a body executes. This crate holds definitions and laws, and the errors that the definitions name.
+#![tactic(auto)]
+
+mod error;
+mod laws;
+
+pub use error::{EmitError, IndexError, ParseError, ParseFailure};
+pub use laws::{
+    law_executions, law_normal_again, law_normal_form_texts, law_one_answer, law_same_texts,
+    law_unique_reading,
+};
+pub use wasm_ops::Space;
