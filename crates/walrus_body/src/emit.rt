@@ -68,6 +68,3 @@ impl<T: Emit> Emit for &T {
         T::emit(self, cx)
     }
 }
-
-#[cfg(test)]
-mod tests;

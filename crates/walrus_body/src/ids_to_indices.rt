@@ -191,6 +191,3 @@ impl IdsToIndices {
 pub fn law_numbers_of_pushes()
     ensures { PushesNumberInOrder }
 {}
-
-#[cfg(test)]
-mod tests;

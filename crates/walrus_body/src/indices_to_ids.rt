@@ -209,6 +209,3 @@ impl IndicesToIds {
         self.types.set(index, id);
     }
 }
-
-#[cfg(test)]
-mod tests;

@@ -88,6 +88,3 @@ pub(crate) fn used_data_segments(
     let DataSegmentsVisitor { segments } = visitor;
     Ok(segments)
 }
-
-#[cfg(test)]
-mod tests;

@@ -81,6 +81,3 @@ pub(crate) fn size(builder: &FunctionBuilder, start: InstrSeqId) -> Result<u64, 
     dfs_in_order(&mut visitor, builder, start)?;
     Ok(visitor.size)
 }
-
-#[cfg(test)]
-mod tests;

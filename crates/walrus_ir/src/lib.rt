@@ -148,6 +148,3 @@ pub use val_type::ValType;
 pub use value::Value;
 pub use visitor::Visitor;
 pub use walk::dfs_in_order;
-
-#[cfg(test)]
-mod tests;

@@ -92,6 +92,3 @@ pub fn run_words<W: Write, E: Write>(
     };
     if written.is_ok() { status } else { 1 }
 }
-
-#[cfg(test)]
-mod tests;

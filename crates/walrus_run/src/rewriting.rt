@@ -91,6 +91,3 @@ pub fn rewrite_demo(alloc: Global, ops: &[u8]) -> Result<Vec<u8>, RewriteError>
     };
     rewrite(alloc, &module, &indices, &numbers, ops)
 }
-
-#[cfg(test)]
-mod tests;

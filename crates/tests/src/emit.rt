@@ -2,8 +2,10 @@ ghost use Rattle.std.specs.Prelude.{◌≡◌, ◌⊎◌, [], ◌∷◌, length,
 ghost use Rattle.wasm_body.specs.declared.error.EmitError.TheVariants.{Memory, TooLarge};
 ghost use Rattle.walrus_body.specs.Emitting.{Appends, IsUnchanged, ChangesNothingElse};
 
-use super::*;
-use walrus_ir::{ModuleItems, ModuleTypes};
+use std::alloc::Global;
+use std::test::Fail;
+use walrus_body::{Emit, EmitContext, EmitError, IdsToIndices};
+use walrus_ir::{IdHashMap, InstrLocId, Module, ModuleItems, ModuleTypes};
 
 // A `nop` at its location.
 #[derive(Drop)]

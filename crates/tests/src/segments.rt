@@ -1,19 +1,23 @@
-//! Data segments of functions that are built by hand.
-use super::*;
-use std::alloc::AllocError;
+//! Data segments of functions that are made by hand.
+use crate::by_hand::put;
+use std::alloc::Global;
 use std::test::Fail;
+use walrus_body::DataSegmentsVisitor;
 use walrus_ir::{
-    ArrayInitData, ArrayNewData, Block, DataDrop, InstrSeqType, MemoryId, MemoryInit, TypeId,
+    ArrayInitData, ArrayNewData, Block, DataDrop, DataId, FunctionBuilder, IdHashSet, Instr,
+    InstrSeqId, InstrSeqType, MemoryId, MemoryInit, TypeId, WalkError, dfs_in_order,
 };
 
-fn put(builder: &mut FunctionBuilder, seq: InstrSeqId, instr: Instr) -> Result<(), AllocError> {
-    if builder.has(seq) {
-        builder
-            .seq_mut(seq)
-            .instrs
-            .push((instr, InstrLocId::default()))?;
-    }
-    Ok(())
+// The data segments that are named from a sequence on.
+fn used_data_segments(
+    alloc: Global,
+    builder: &FunctionBuilder,
+    start: InstrSeqId,
+) -> Result<IdHashSet<DataId>, WalkError> {
+    let mut visitor = DataSegmentsVisitor::new(alloc);
+    dfs_in_order(&mut visitor, builder, start)?;
+    let DataSegmentsVisitor { segments } = visitor;
+    Ok(segments)
 }
 
 #[test]
@@ -28,13 +32,13 @@ fn collects_data_segments(rt: HostRuntime) -> Result<(), Fail> {
         memory: MemoryId::new(1),
         data_id: DataId::new(4),
     };
-    put(b, entry, Instr::Block(Block { seq: block }))?;
-    put(b, entry, Instr::MemoryInit(init))?;
+    put(b, entry, Instr::Block(Block { seq: block }), 0)?;
+    put(b, entry, Instr::MemoryInit(init), 0)?;
     for (seq, segment) in [(block, 5), (entry, 4), (unused, 6)] {
         let data_id = DataId::new(segment);
-        put(b, seq, Instr::DataDrop(DataDrop { data_id }))?;
+        put(b, seq, Instr::DataDrop(DataDrop { data_id }), 0)?;
     }
-    match used_data_segments(&builder, entry) {
+    match used_data_segments(rt.alloc(), &builder, entry) {
         Ok(found) => {
             assert_eq!(rt; found.len(), 2);
             for (segment, wanted) in [(1, false), (4, true), (5, true), (6, false)] {
@@ -64,9 +68,9 @@ fn collects_those_of_arrays(rt: HostRuntime) -> Result<(), Fail> {
         ty,
         data_id: DataId::new(2),
     };
-    put(b, entry, Instr::ArrayNewData(made))?;
-    put(b, entry, Instr::ArrayInitData(filled))?;
-    match used_data_segments(&builder, entry) {
+    put(b, entry, Instr::ArrayNewData(made), 0)?;
+    put(b, entry, Instr::ArrayInitData(filled), 0)?;
+    match used_data_segments(rt.alloc(), &builder, entry) {
         Ok(found) => {
             assert_eq!(rt; found.len(), 2);
             assert!(rt; found.contains(&DataId::new(0)));
@@ -81,8 +85,8 @@ fn collects_those_of_arrays(rt: HostRuntime) -> Result<(), Fail> {
 fn has_no_data_segments_without_a_tree(rt: HostRuntime) -> Result<(), Fail> {
     let mut builder = FunctionBuilder::without_entry(rt.alloc(), TypeId::new(0));
     let entry = builder.alloc(InstrSeqType::Simple(None))?;
-    put(&mut builder, entry, Instr::Block(Block { seq: entry }))?;
-    match used_data_segments(&builder, entry) {
+    put(&mut builder, entry, Instr::Block(Block { seq: entry }), 0)?;
+    match used_data_segments(rt.alloc(), &builder, entry) {
         Ok(_) => assert!(rt; false),
         Err(error) => assert_eq!(rt; error, WalkError::SharedSequence),
     }

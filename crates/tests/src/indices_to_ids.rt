@@ -1,5 +1,9 @@
-use super::*;
+//! Ids of old indices, and the texts of what is refused.
 use std::test::Fail;
+use walrus_body::{IndexError, IndicesToIds, Space};
+use walrus_ir::{
+    DataId, ElementId, FunctionId, GlobalId, LocalId, MemoryId, TableId, TagId, TypeId,
+};
 
 #[test]
 fn an_index_is_remapped(rt: HostRuntime) {

@@ -1,6 +1,9 @@
-use super::*;
+//! What the program `wbody` prints, and its status.
+use std::alloc::{AllocError, Global};
 use std::io;
+use std::io::Write;
 use std::test::Fail;
+use walrus_run::run_words;
 
 /// Takes nothing.
 #[derive(Drop)]

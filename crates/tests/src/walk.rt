@@ -1,12 +1,12 @@
-//! Modules, builders and walks that are made by hand.
-use crate::{
-    ArrayInitData, ArrayNewData, Block, Call, Const, DataDrop, DataId, FunctionBuilder, FunctionId,
-    IfElse, Instr, InstrLocId, InstrSeq, InstrSeqId, InstrSeqType, LegacyCatch, LocalGet, LocalId,
-    LocalSet, LocalTee, MemoryId, MemoryInit, ModuleLocals, ModuleTags, ModuleTypes, RefFunc,
-    TagId, Try, TypeId, ValType, Value, Visitor, WalkError, dfs_in_order,
-};
-use std::alloc::{AllocError, Global};
+//! Walks over functions that are made by hand.
+use crate::by_hand::{empty, example, put};
+use std::alloc::Global;
 use std::test::Fail;
+use walrus_ir::{
+    ArrayInitData, ArrayNewData, Block, Call, DataDrop, DataId, FunctionBuilder, FunctionId, Instr,
+    InstrLocId, InstrSeq, InstrSeqId, LocalGet, LocalId, LocalSet, LocalTee, MemoryId, MemoryInit,
+    RefFunc, TypeId, Visitor, WalkError, dfs_in_order,
+};
 
 // Writes down what it is told, a word a call, and refuses once it was called often enough.
 #[derive(Drop)]
@@ -73,71 +73,6 @@ impl Visitor for Recorder {
     fn visit_ref_func(&mut self, instr: &RefFunc) -> Result<(), WalkError> {
         self.note("func", instr.func.index())
     }
-}
-
-fn put(
-    builder: &mut FunctionBuilder,
-    seq: InstrSeqId,
-    instr: Instr,
-    loc: u32,
-) -> Result<(), AllocError> {
-    if builder.has(seq) && loc != u32::MAX {
-        builder
-            .seq_mut(seq)
-            .instrs
-            .push((instr, InstrLocId::new(loc)))?;
-    }
-    Ok(())
-}
-
-// A constant, at the location that is its value, and a `drop`.
-fn put_const(builder: &mut FunctionBuilder, seq: InstrSeqId, value: u16) -> Result<(), AllocError> {
-    let constant = Const {
-        value: Value::I32(i32::from(value)),
-    };
-    put(builder, seq, Instr::Const(constant), u32::from(value))?;
-    put(builder, seq, Instr::Drop, 0)
-}
-
-fn empty(builder: &mut FunctionBuilder) -> Result<InstrSeqId, AllocError> {
-    builder.alloc(InstrSeqType::Simple(None))
-}
-
-// An entry with a block, in it an if-else, and a `try` with two handlers.
-fn example(alloc: Global) -> Result<(FunctionBuilder, InstrSeqId), AllocError> {
-    let mut builder = FunctionBuilder::without_entry(alloc, TypeId::new(0));
-    let b = &mut builder;
-    let entry = empty(b)?;
-    let block = empty(b)?;
-    let consequent = empty(b)?;
-    let alternative = empty(b)?;
-    let body = empty(b)?;
-    let first = empty(b)?;
-    let second = empty(b)?;
-    put_const(b, entry, 1)?;
-    put(b, entry, Instr::Block(Block { seq: block }), 0)?;
-    put_const(b, entry, 6)?;
-    let mut catches = Vec::new(alloc);
-    catches.push(LegacyCatch::Catch {
-        tag: TagId::new(0),
-        handler: first,
-    })?;
-    catches.push(LegacyCatch::CatchAll { handler: second })?;
-    put(b, entry, Instr::Try(Try { seq: body, catches }), 0)?;
-    put_const(b, entry, 10)?;
-    put_const(b, block, 2)?;
-    let choice = IfElse {
-        consequent,
-        alternative,
-    };
-    put(b, block, Instr::IfElse(choice), 0)?;
-    put_const(b, block, 5)?;
-    put_const(b, consequent, 3)?;
-    put_const(b, alternative, 4)?;
-    put_const(b, body, 7)?;
-    put_const(b, first, 8)?;
-    put_const(b, second, 9)?;
-    Ok((builder, entry))
 }
 
 #[test]
@@ -282,63 +217,4 @@ fn walks_a_deep_tree(rt: HostRuntime) -> Result<(), Fail> {
     assert_eq!(rt; dfs_in_order(&mut recorder, &builder, entry), Ok(()));
     assert_eq!(rt; recorder.calls_left, 0);
     Ok(())
-}
-
-#[test]
-fn picks_types(rt: HostRuntime) -> Result<(), Fail> {
-    let mut types = ModuleTypes::new(rt.alloc());
-    types.add_func(&[], &[])?;
-    types.add_func(&[ValType::I32], &[])?;
-    types.add_func(&[ValType::I32, ValType::I32], &[ValType::I32])?;
-    types.add_func(&[ValType::I32], &[])?;
-    types.add_entry(&[])?;
-    types.add_entry(&[ValType::I32, ValType::I32])?;
-    types.add_other()?;
-    for (params, results, wanted) in [
-        (0, 0, Some(InstrSeqType::Simple(None))),
-        (0, 1, Some(InstrSeqType::Simple(Some(ValType::I32)))),
-        (0, 2, None),
-        (1, 0, Some(InstrSeqType::MultiValue(TypeId::new(1)))),
-        (1, 1, None),
-        (2, 1, Some(InstrSeqType::MultiValue(TypeId::new(2)))),
-    ] {
-        let lists = [ValType::I32, ValType::I32];
-        let pick = InstrSeqType::existing(&types, &lists[..params], &lists[..results]);
-        assert_eq!(rt; pick, wanted, "from {params} to {results}");
-    }
-    assert_eq!(rt; types.find(&[], &[]), Some(TypeId::new(0)));
-    assert_eq!(rt; types.find(&[ValType::I64], &[]), None);
-    assert_eq!(rt; types.find_for_function_entry(&[]), Some(TypeId::new(4)));
-    assert_eq!(rt;
-        types.find_for_function_entry(&[ValType::I32, ValType::I32]),
-        Some(TypeId::new(5))
-    );
-    assert_eq!(rt; types.find_for_function_entry(&[ValType::I32]), None);
-    for (id, wanted) in [(0, true), (3, true), (5, true), (6, false), (7, false)] {
-        assert_eq!(rt; types.is_func(TypeId::new(id)), wanted, "at {id}");
-    }
-    Ok(())
-}
-
-#[test]
-fn keeps_tags_and_locals(rt: HostRuntime) -> Result<(), Fail> {
-    let mut tags = ModuleTags::new(rt.alloc());
-    let tag = tags.add(TypeId::new(3))?;
-    assert_eq!(rt; tags.get(tag), Some(TypeId::new(3)));
-    assert_eq!(rt; tags.get(TagId::new(1)), None);
-    let mut locals = ModuleLocals::new(rt.alloc());
-    locals.add(ValType::I32)?;
-    let local = locals.add(ValType::V128)?;
-    assert_eq!(rt; local.index(), 1);
-    assert_eq!(rt; locals.get(local), Some(ValType::V128));
-    Ok(())
-}
-
-#[test]
-fn tells_locations_apart(rt: HostRuntime) {
-    let location = InstrLocId::new(5);
-    assert_eq!(rt; location.data(), 5);
-    assert!(rt; !location.is_default());
-    assert_eq!(rt; InstrLocId::default().data(), 0xffff_ffff);
-    assert!(rt; InstrLocId::default().is_default());
 }

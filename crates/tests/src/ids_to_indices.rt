@@ -1,4 +1,7 @@
-use super::*;
+//! New indices of ids.
+use std::test::Fail;
+use walrus_body::{IdsToIndices, IndexError, Space};
+use walrus_ir::{DataId, ElementId, FunctionId, GlobalId, MemoryId, TableId, TagId, TypeId};
 
 #[test]
 fn functions_are_numbered_in_order(rt: HostRuntime) {

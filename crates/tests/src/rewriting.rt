@@ -1,7 +1,8 @@
-use super::*;
-use std::alloc::AllocError;
+//! Bodies rewritten over the demo module.
+use std::alloc::{AllocError, Global};
 use std::test::Fail;
 use walrus_body::{IndexError, ParseError, ParseFailure, Space};
+use walrus_run::{RewriteError, rewrite_demo};
 use wasm_ops::{ReadError, ReadFault};
 
 /// The rewritten operators as hexadecimal text, of operators that are given so.

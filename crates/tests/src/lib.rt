@@ -1,0 +1,28 @@
+//! Tests of what no contract says: worked rows and cases from outside, printed texts, the laws' calls, and that each call
+//! that takes memory succeeds where memory is left.
+#![tactic(auto)]
+
+#[cfg(test)]
+mod by_hand;
+#[cfg(test)]
+mod emit;
+#[cfg(test)]
+mod ids_to_indices;
+#[cfg(test)]
+mod indices_to_ids;
+#[cfg(test)]
+mod modules;
+#[cfg(test)]
+mod program;
+#[cfg(test)]
+mod reading;
+#[cfg(test)]
+mod rewriting;
+#[cfg(test)]
+mod segments;
+#[cfg(test)]
+mod sizes;
+#[cfg(test)]
+mod walk;
+#[cfg(test)]
+mod writing;

@@ -1,0 +1,41 @@
+//! Operators that are written, and read again.
+use std::test::Fail;
+use walrus_ir::{LoadKind, UnaryOp};
+use wasm_encode::{FunctionEncoder, OutOp, write_op};
+use wasm_ops::{RawMemArg, RawValType, Reader};
+
+#[test]
+fn reads_what_was_written(rt: HostRuntime) -> Result<(), Fail> {
+    let mut encoder = FunctionEncoder::new(rt.alloc(), &[(2, RawValType::I64)])?;
+    assert_eq!(rt; encoder.bytes(), [0x01, 0x02, 0x7e].as_slice());
+    assert_eq!(rt; encoder.byte_len(), 3);
+
+    let constant = OutOp::I64Const { value: -1 };
+    let conversion = OutOp::Unop(UnaryOp::I64TruncUSatF64);
+    let kind = LoadKind::I32 { atomic: false };
+    let memarg = RawMemArg {
+        exponent: 2,
+        memory: 0,
+        offset: 4294967296,
+    };
+    let load = OutOp::Load { kind, memarg };
+    encoder.instruction(&constant)?;
+    encoder.instruction(&conversion)?;
+    encoder.raw(&[0x0b])?;
+    let body = encoder.into_raw_body();
+    assert_eq!(rt;
+        body.as_slice(),
+        [0x01, 0x02, 0x7e, 0x42, 0x7f, 0xfc, 0x07, 0x0b].as_slice()
+    );
+
+    let mut out = Vec::new(rt.alloc());
+    write_op(&load, &mut out)?;
+    assert_eq!(rt;
+        out.as_slice(),
+        [0x28, 0x02, 0x80, 0x80, 0x80, 0x80, 0x10].as_slice()
+    );
+    let mut reader = Reader::new(out.as_slice(), 0);
+    assert_eq!(rt; reader.read()?, load);
+    assert!(rt; reader.eof());
+    Ok(())
+}
