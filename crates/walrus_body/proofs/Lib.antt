@@ -4,3 +4,6 @@ pub mod NumberingLemmas
 -- what visitors make of a tree's events
 mod Collecting
 mod Counting
+
+-- writing a function's tree
+pub mod Emission

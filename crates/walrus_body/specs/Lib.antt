@@ -7,3 +7,4 @@ pub mod Emitting
 pub mod Facts
 pub mod Sizes
 pub mod Segments
+pub mod Emission

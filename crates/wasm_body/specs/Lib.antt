@@ -20,6 +20,7 @@ pub mod Intervals
 -- the text of a tree, and its bytes
 pub mod FlatText
 pub mod Bytes
+pub mod Pairs
 pub mod TextLaws
 -- the trace machine, and the law that executions are kept
 pub mod Machine
