@@ -7,3 +7,6 @@ mod Counting
 
 -- writing a function's tree
 pub mod Emission
+
+-- what is kept while a body is parsed
+pub mod Parsing

@@ -8,3 +8,4 @@ pub mod Facts
 pub mod Sizes
 pub mod Segments
 pub mod Emission
+pub mod Parsing

@@ -1,0 +1,2 @@
+-- What is kept while a body is parsed.
+pub mod Closing

@@ -1,0 +1,116 @@
+-- The normal form of a construct that is open: its opener, its clauses so far, and its closed sequences; the open one has a
+-- type, and ends where it is closed.
+use Rattle.std.specs.Prelude.{ℕ, List, [], ◌∷◌}
+use Rattle.walrus_ir.specs.declared.val_type.InstrSeqType.{InstrSeqType}
+use Rattle.walrus_ir.specs.declared.control.BlockKind.{BlockKind}
+use Rattle.walrus_ir.specs.declared.control.BlockKind.TheVariants as kind
+use Rattle.walrus_ir.specs.Tree.{Items, no_items, item, Sequences, no_sequences, sequence}
+use Rattle.wasm_body.specs.SourceTree.{Sequence, Wrapper, OfBlock, OfLoop, OfTryTable, reshown}
+use Rattle.wasm_body.specs.Translation.{Located}
+use Rattle.wasm_body.specs.FunctionTree.{Head, LegacyClause, handles, handles_all, Instruction, default_location}
+use Rattle.wasm_body.specs.Naming.{NamedOperation}
+use Rattle.wasm_body.specs.NormalForm.{Typing, type_of, handler_type, instruction, head, normal}
+use Rattle.wasm_body.specs.Parsing.Progress.{ClosedClause, closed_clause, OpenConstruct, InWrapper, InThen, InElse, InTry, InCatch, InCatchAll}
+
+-- the operator that opened it
+abbrev pub opener_in : {A : Type 0} → OpenConstruct A → A
+opener_in (InWrapper a w) = a
+opener_in (InThen a) = a
+opener_in (InElse a b l) = a
+opener_in (InTry a) = a
+opener_in (InCatch a b gs h t) = a
+opener_in (InCatchAll a b gs h) = a
+
+-- what the open sequence is to it
+abbrev pub wrapper_kind : Wrapper → BlockKind
+wrapper_kind OfBlock = kind.Block
+wrapper_kind OfLoop = kind.Loop
+wrapper_kind (OfTryTable cs) = kind.TryTable
+
+abbrev pub kind_in : {A : Type 0} → OpenConstruct A → BlockKind
+kind_in (InWrapper a w) = wrapper_kind w
+kind_in (InThen a) = kind.If
+kind_in (InElse a b l) = kind.Else
+kind_in (InTry a) = kind.Try
+kind_in (InCatch a b gs h t) = kind.Catch
+kind_in (InCatchAll a b gs h) = kind.CatchAll
+
+-- ---- the clauses of a legacy `try`, that of the open handler included
+
+abbrev pub clauses_behind : {A : Type 0} → List (ClosedClause A) → List LegacyClause → List LegacyClause
+clauses_behind [] cs = cs
+clauses_behind (g ∷ gs) cs = clauses_behind gs (handles g.tag ∷ cs)
+
+abbrev pub clauses_in : {A : Type 0} → OpenConstruct A → List LegacyClause
+clauses_in (InWrapper a w) = []
+clauses_in (InThen a) = []
+clauses_in (InElse a b l) = []
+clauses_in (InTry a) = []
+clauses_in (InCatch a b gs h t) = clauses_behind gs (handles t ∷ [])
+clauses_in (InCatchAll a b gs h) = clauses_behind gs (handles_all ∷ [])
+
+-- ---- the closed sequences
+
+abbrev pub Named : Type 0
+Named = Located NamedOperation
+
+-- sequences behind others
+abbrev pub sequences_joined : {S I : Type 0} → Sequences S I → Sequences S I → Sequences S I
+sequences_joined no_sequences rs = rs
+sequences_joined (sequence h is r) rs = sequence h is (sequences_joined r rs)
+
+-- The handlers of closed clauses, of which the last comes first, and then the rest: each ends where the next clause begins,
+-- and the last at this location.
+abbrev pub handlers_behind : Typing → NamedOperation → (end_location : ℕ) → List (ClosedClause Named) → Sequences Head Instruction → Sequences Head Instruction
+handlers_behind m o end_location [] rest = rest
+handlers_behind m o end_location (g ∷ gs) rest =
+    handlers_behind m o g.mark.location gs (sequence (head (handler_type m o (m.tag_parameters g.tag)) end_location) (normal m g.body) rest)
+
+-- where the first clause begins
+abbrev pub first_clause_at : (location : ℕ) → List (ClosedClause Named) → ℕ
+first_clause_at location [] = location
+first_clause_at location (g ∷ gs) = first_clause_at g.mark.location gs
+
+abbrev pub try_sequences : Typing → NamedOperation → Sequence Named → List (ClosedClause Named) → (location : ℕ) → Sequences Head Instruction
+try_sequences m o b gs location = sequence (head (type_of m o) (first_clause_at location gs)) (normal m b) (handlers_behind m o location gs no_sequences)
+
+abbrev pub closed_in : Typing → OpenConstruct Named → Sequences Head Instruction
+closed_in m (InWrapper a w) = no_sequences
+closed_in m (InThen a) = no_sequences
+closed_in m (InElse a b l) = sequence (head (type_of m a.op) l.location) (normal m b) no_sequences
+closed_in m (InTry a) = no_sequences
+closed_in m (InCatch a b gs h t) = try_sequences m a.op b gs h.location
+closed_in m (InCatchAll a b gs h) = try_sequences m a.op b gs h.location
+
+-- ---- the open sequence
+
+abbrev pub type_in : Typing → OpenConstruct Named → InstrSeqType
+type_in m (InCatch a b gs h t) = handler_type m a.op (m.tag_parameters t)
+type_in m (InCatchAll a b gs h) = handler_type m a.op []
+type_in m p = type_of m (opener_in p).op
+
+-- the sequence behind an open one that is closed by `end`: an empty alternative behind a consequent
+abbrev pub added_in : Typing → OpenConstruct Named → Sequences Head Instruction
+added_in m (InThen a) = sequence (head (type_of m a.op) default_location) no_items no_sequences
+added_in m _ = no_sequences
+
+-- the sequences, where the open one holds these items and ends at this location
+abbrev pub sequences_closed : Typing → OpenConstruct Named → Items Head Instruction → (location : ℕ) → Sequences Head Instruction → Sequences Head Instruction
+sequences_closed m p items location rest = sequences_joined (closed_in m p) (sequence (head (type_in m p) location) items rest)
+
+-- ---- the same with something else shown
+
+abbrev pub reshown_clause : {A B : Type 0} → (A → B) → ClosedClause A → ClosedClause B
+reshown_clause f g = closed_clause (f g.mark) g.tag (reshown f g.body)
+
+abbrev pub reshown_closed : {A B : Type 0} → (A → B) → List (ClosedClause A) → List (ClosedClause B)
+reshown_closed f [] = []
+reshown_closed f (g ∷ gs) = reshown_clause f g ∷ reshown_closed f gs
+
+abbrev pub reshown_construct : {A B : Type 0} → (A → B) → OpenConstruct A → OpenConstruct B
+reshown_construct f (InWrapper a w) = InWrapper (f a) w
+reshown_construct f (InThen a) = InThen (f a)
+reshown_construct f (InElse a b l) = InElse (f a) (reshown f b) (f l)
+reshown_construct f (InTry a) = InTry (f a)
+reshown_construct f (InCatch a b gs h t) = InCatch (f a) (reshown f b) (reshown_closed f gs) (f h) t
+reshown_construct f (InCatchAll a b gs h) = InCatchAll (f a) (reshown f b) (reshown_closed f gs) (f h)
