@@ -1,2 +1,6 @@
 -- What is kept while a body is parsed.
 pub mod Closing
+pub mod AnyLocations
+pub mod Mappings
+pub mod SoFars
+pub mod Taking

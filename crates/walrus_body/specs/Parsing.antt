@@ -1,2 +1,6 @@
 -- What is kept while a body is parsed.
 pub mod OpenConstructs
+pub mod Checking
+pub mod Locating
+pub mod Settings
+pub mod OpenFrames

@@ -1,0 +1,286 @@
+-- Which fault is the first doesn't depend on what the location function answers.
+use Rattle.std.specs.Prelude.{◌≡◌, ℕ, zero, suc, ◌+◌, ◌-◌, List, [], ◌∷◌, map, length, nat_lt, Bool, true, false, Option, Some, None, Result, Ok, Err}
+use Rattle.std.specs.Option.{option_map}
+use Rattle.std.proofs.lemmas.List.{length-map}
+use Rattle.std.proofs.Common.{refl, ap, sym, ◌∙◌}
+use Rattle.walrus_ir.specs.declared.val_type.ValType.{ValType}
+use Rattle.walrus_ir.specs.Types.{signature}
+use Rattle.wasm_ops.specs.declared.fault.ReadFault.{ReadFault}
+use Rattle.wasm_ops.specs.declared.types.BlockType.{BlockType}
+use Rattle.walrus_ir.specs.Types.{Signature}
+use Rattle.wasm_ops.specs.Operations.{RawOperation}
+use Rattle.wasm_ops.specs.OperatorList.{Placed}
+use Rattle.wasm_ops.specs.Spelling.{read_operation}
+use Rattle.wasm_body.specs.declared.error.ParseError.{ParseError}
+use Rattle.wasm_body.specs.declared.error.ParseError.TheVariants.{Read, PlaceTooGreat, Checked, NoSuchLabel, RethrowOutsideHandler}
+use Rattle.wasm_body.specs.declared.error.ParseFailure.{ParseFailure}
+use Rattle.wasm_body.specs.Results.{◌>>=◌, unless, faulting}
+use Rattle.wasm_body.specs.Control.{Block, Loop, TryTable, If, Try, Control, Does, Opens, Else, Catch, CatchAll, End, Delegate, control_of}
+use Rattle.wasm_body.specs.SourceTree.{Sequence, Body}
+use Rattle.wasm_body.specs.Frames.{Frame, OfFunction, OfWrapper, Consequent, Alternative, TryBody, Handler, HandlerOfAll, moves, may_stand, handler_at, outside}
+use Rattle.wasm_body.specs.Translation.{Translation, translate}
+use Rattle.wasm_body.specs.Naming.{Environment, NamedOperation, Occurrence, position_fault, naming, block_signature, construct_results, has_pick, tag_type, has_types, named_in}
+use Rattle.wasm_body.specs.Parsing.Accepted.{mark, has_location, location_at, Setting, Handled, handled}
+use Rattle.wasm_body.specs.Parsing.Lists.{behind, parsed_from}
+use Rattle.wasm_body.specs.Parsing.Progress.{Layer, Progress, Within, Whole, NoBody, nothing_read, frames_of, further}
+use Rattle.wasm_body.proofs.Structure.ReadFrames.{progress_frames, further_frames}
+use Rattle.walrus_body.specs.Parsing.Checking.{placed_at}
+use Rattle.walrus_body.specs.Parsing.Settings.{Taken, taken, given_with, BothOrNone}
+use Rattle.walrus_body.proofs.Parsing.SoFars.{occurrence}
+
+-- ---- frames with something else shown
+
+abbrev reframe : {A B : Type 0} → (A → B) → Frame A → Frame B
+reframe h OfFunction = OfFunction
+reframe h (OfWrapper a) = OfWrapper (h a)
+reframe h (Consequent a) = Consequent (h a)
+reframe h (Alternative a) = Alternative (h a)
+reframe h (TryBody a) = TryBody (h a)
+reframe h (Handler a) = Handler (h a)
+reframe h (HandlerOfAll a) = HandlerOfAll (h a)
+
+moves_reframed : {A B : Type 0} (h : A → B) (c : Control) (a : A) (fs : List (Frame A)) → moves c (h a) (map (reframe h) fs) ≡ option_map (map (reframe h)) (moves c a fs)
+moves_reframed h c a [] = refl
+moves_reframed h (Does action) a (f ∷ fs) = refl
+moves_reframed h (Opens Block) a (f ∷ fs) = refl
+moves_reframed h (Opens Loop) a (f ∷ fs) = refl
+moves_reframed h (Opens (TryTable cs)) a (f ∷ fs) = refl
+moves_reframed h (Opens If) a (f ∷ fs) = refl
+moves_reframed h (Opens Try) a (f ∷ fs) = refl
+moves_reframed h Else a (Consequent b ∷ fs) = refl
+moves_reframed h Else a (_ ∷ fs) = refl
+moves_reframed h (Catch t) a (TryBody b ∷ fs) = refl
+moves_reframed h (Catch t) a (Handler b ∷ fs) = refl
+moves_reframed h (Catch t) a (_ ∷ fs) = refl
+moves_reframed h CatchAll a (TryBody b ∷ fs) = refl
+moves_reframed h CatchAll a (Handler b ∷ fs) = refl
+moves_reframed h CatchAll a (_ ∷ fs) = refl
+moves_reframed h End a (f ∷ fs) = refl
+moves_reframed h (Delegate n) a (TryBody b ∷ fs) = refl
+moves_reframed h (Delegate n) a (_ ∷ fs) = refl
+
+stand_reframed : {A B : Type 0} (h : A → B) (fs : List (Frame A)) (c : Control) → may_stand (map (reframe h) fs) c ≡ may_stand fs c
+stand_reframed h [] c = refl
+stand_reframed h (f ∷ fs) (Does action) = refl
+stand_reframed h (f ∷ fs) (Opens construct) = refl
+stand_reframed h (Consequent a ∷ fs) Else = refl
+stand_reframed h (_ ∷ fs) Else = refl
+stand_reframed h (TryBody a ∷ fs) (Catch t) = refl
+stand_reframed h (Handler a ∷ fs) (Catch t) = refl
+stand_reframed h (_ ∷ fs) (Catch t) = refl
+stand_reframed h (TryBody a ∷ fs) CatchAll = refl
+stand_reframed h (Handler a ∷ fs) CatchAll = refl
+stand_reframed h (_ ∷ fs) CatchAll = refl
+stand_reframed h (f ∷ fs) End = refl
+stand_reframed h (TryBody a ∷ fs) (Delegate n) = refl
+stand_reframed h (_ ∷ fs) (Delegate n) = refl
+
+handler_reframed : {A B : Type 0} (h : A → B) (fs : List (Frame A)) (n : ℕ) → handler_at (map (reframe h) fs) n ≡ handler_at fs n
+handler_reframed h [] n = refl
+handler_reframed h (Handler a ∷ fs) zero = refl
+handler_reframed h (HandlerOfAll a ∷ fs) zero = refl
+handler_reframed h (_ ∷ fs) zero = refl
+handler_reframed h (f ∷ fs) (suc n) = handler_reframed h fs n
+
+outside_reframed : {A B : Type 0} (h : A → B) (fs : List (Frame A)) → length (outside (map (reframe h) fs)) ≡ length (outside fs)
+outside_reframed h [] = refl
+outside_reframed h (f ∷ fs) = length-map fs (reframe h)
+
+-- ---- what naming asks of frames
+
+abbrev name_of : Occurrence → NamedOperation
+name_of x = x.named
+
+abbrev shapes : List (Frame Occurrence) → List (Frame NamedOperation)
+shapes = map (reframe name_of)
+
+abbrev shape_results : List (Frame NamedOperation) → List (ValType ℕ)
+shape_results [] = []
+shape_results (OfFunction ∷ fs) = []
+shape_results (OfWrapper o ∷ fs) = (block_signature o).results
+shape_results (Consequent o ∷ fs) = (block_signature o).results
+shape_results (Alternative o ∷ fs) = (block_signature o).results
+shape_results (TryBody o ∷ fs) = (block_signature o).results
+shape_results (Handler o ∷ fs) = (block_signature o).results
+shape_results (HandlerOfAll o ∷ fs) = (block_signature o).results
+
+results_shape : (fs : List (Frame Occurrence)) → construct_results fs ≡ shape_results (shapes fs)
+results_shape [] = refl
+results_shape (OfFunction ∷ fs) = refl
+results_shape (OfWrapper x ∷ fs) = refl
+results_shape (Consequent x ∷ fs) = refl
+results_shape (Alternative x ∷ fs) = refl
+results_shape (TryBody x ∷ fs) = refl
+results_shape (Handler x ∷ fs) = refl
+results_shape (HandlerOfAll x ∷ fs) = refl
+
+module _ (env : Environment) where
+  abbrev types_by : List (ValType ℕ) → Control → NamedOperation → Result (Unit {0}) ParseError
+  types_by results (Opens construct) o = has_pick env (block_signature o)
+  types_by results (Catch tag) o = tag_type env tag >>= λ s. has_pick env (signature s.parameters results)
+  types_by results CatchAll o = has_pick env (signature [] results)
+  types_by results (Does action) o = Ok tt
+  types_by results Else o = Ok tt
+  types_by results End o = Ok tt
+  types_by results (Delegate n) o = Ok tt
+
+  types_are : (fs : List (Frame Occurrence)) (c : Control) (o : NamedOperation) → has_types env fs c o ≡ types_by (construct_results fs) c o
+  types_are fs (Opens construct) o = refl
+  types_are fs (Catch tag) o = refl
+  types_are fs CatchAll o = refl
+  types_are fs (Does action) o = refl
+  types_are fs Else o = refl
+  types_are fs End o = refl
+  types_are fs (Delegate n) o = refl
+
+  abbrev open_by : ℕ → ℕ → Result ℕ ParseError
+  open_by count n = unless (nat_lt n count) NoSuchLabel >>= λ u. Ok n
+
+  abbrev naming_by : (count outer : ℕ) → (ℕ → Bool) → Translation ℕ BlockType ℕ Signature ParseError
+  naming_by count outer handler = record (naming {A = Occurrence} env []) {
+    label = open_by count;
+    handler = λ n. open_by count n >>= λ m. unless (handler n) RethrowOutsideHandler >>= λ u. Ok n;
+    outer = open_by outer;
+  }
+
+  abbrev named_by : RawOperation → Bool → (count outer : ℕ) → (ℕ → Bool) → List (ValType ℕ) → Result NamedOperation ParseError
+  named_by o stand count outer handler results =
+      unless stand (position_fault (control_of o)) >>= λ _.
+      translate (naming_by count outer handler) o >>= λ named.
+      types_by results (control_of named) named >>= λ _.
+      Ok named
+
+  named_is : (fs : List (Frame Occurrence)) (o : RawOperation) → named_in env fs o ≡ named_by o (may_stand fs (control_of o)) (length fs) (length (outside fs)) (handler_at fs) (construct_results fs)
+  named_is fs o = by_stand (may_stand fs (control_of o))
+    where
+      by_name : (r : Result NamedOperation ParseError) → ◌≡◌ {A = Result NamedOperation ParseError}
+          (r >>= λ named. has_types env fs (control_of named) named >>= λ _. Ok named) (r >>= λ named. types_by (construct_results fs) (control_of named) named >>= λ _. Ok named)
+      by_name (Err e) = refl
+      by_name (Ok named) = ap (λ t. t >>= λ _. Ok named) (types_are fs (control_of named) named)
+
+      by_stand : (b : Bool) → ◌≡◌ {A = Result NamedOperation ParseError}
+          (unless b (position_fault (control_of o)) >>= λ _. translate (naming env fs) o >>= λ named. has_types env fs (control_of named) named >>= λ _. Ok named)
+          (unless b (position_fault (control_of o)) >>= λ _. translate (naming_by (length fs) (length (outside fs)) (handler_at fs)) o >>= λ named. types_by (construct_results fs) (control_of named) named >>= λ _. Ok named)
+      by_stand true = by_name (translate (naming env fs) o)
+      by_stand false = refl
+
+  -- frames that were opened by operators of the same names name an operator alike
+  pub named_same : (fs gs : List (Frame Occurrence)) (o : RawOperation) → shapes fs ≡ shapes gs → named_in env fs o ≡ named_in env gs o
+  named_same fs gs o e =
+      let h = name_of in
+      let stand = sym (stand_reframed h fs (control_of o)) ∙ ap (λ s. may_stand s (control_of o)) e ∙ stand_reframed h gs (control_of o) in
+      let count : length fs ≡ length gs = sym (length-map fs (reframe h)) ∙ ap length e ∙ length-map gs (reframe h) in
+      let outer : length (outside fs) ≡ length (outside gs) = sym (outside_reframed h fs) ∙ ap (λ s. length (outside s)) e ∙ outside_reframed h gs in
+      let handler : (n : ℕ) → handler_at fs n ≡ handler_at gs n = λ n. sym (handler_reframed h fs n) ∙ ap (λ s. handler_at s n) e ∙ handler_reframed h gs n in
+      let results : construct_results fs ≡ construct_results gs = results_shape fs ∙ ap shape_results e ∙ sym (results_shape gs) in
+      named_is fs o ∙ (λ i. named_by o (stand i) (count i) (outer i) (λ n. handler n i) (results i)) ∙ sym (named_is gs o)
+
+-- ---- one fault
+
+abbrev progress_shapes : Progress Occurrence → Option (List (Frame NamedOperation))
+progress_shapes p = option_map shapes (progress_frames p)
+
+within_shapes : (ls ks : List (Layer Occurrence)) (s t : Sequence Occurrence) → progress_shapes (Within ls s) ≡ progress_shapes (Within ks t) → shapes (frames_of ls) ≡ shapes (frames_of ks)
+within_shapes ls ks s t e = cc
+
+further_shapes : (ls ks : List (Layer Occurrence)) (s t : Sequence Occurrence) (op : RawOperation) (place l m : ℕ) (named : NamedOperation) → shapes (frames_of ls) ≡ shapes (frames_of ks) →
+    progress_shapes (further (Within ls s) (mark (occurrence op place l named))) ≡ progress_shapes (further (Within ks t) (mark (occurrence op place m named)))
+further_shapes ls ks s t op place l m named e =
+    ap (option_map shapes) (further_frames (Within ls s) (mark (occurrence op place l named)))
+    ∙ sym (moves_reframed name_of (control_of named) (occurrence op place l named) (frames_of ls))
+    ∙ ap (moves (control_of named) named) e
+    ∙ moves_reframed name_of (control_of named) (occurrence op place m named) (frames_of ks)
+    ∙ sym (ap (option_map shapes) (further_frames (Within ks t) (mark (occurrence op place m named))))
+
+module _ {S : Type 0} (env : Environment) (start : ℕ) (check : S → Placed → Result S ℕ) (first : S) where
+  abbrev given : Option (ℕ → ℕ) → Setting S
+  given = given_with env start check first
+
+  -- an operator that was taken, with its name
+  abbrev stepped : (ℕ → Bool) → S → List (Frame Occurrence) → ℕ → List ℕ → Result (NamedOperation × Taken S) ParseError
+  stepped fits v fs place bytes = taken fits check v place bytes >>= λ t. named_in env fs t.spelt >>= λ named. Ok (named, t)
+
+  abbrev put : Option (ℕ → ℕ) → ℕ → NamedOperation × Taken S → Handled S
+  put locations place k = record { operator = occurrence k.1.spelt place (location_at locations place) k.0; rest = k.1.rest; state = k.1.state }
+
+  handled_as : (locations : Option (ℕ → ℕ)) (v : S) (fs : List (Frame Occurrence)) (place : ℕ) (bytes : List ℕ) →
+      handled (given locations) v fs place bytes ≡ (stepped (has_location locations) v fs place bytes >>= λ k. Ok (put locations place k))
+  handled_as locations v fs place bytes = by_read (read_operation bytes)
+    where
+      by_name : (x : RawOperation × List ℕ) (w : S) (r : Result NamedOperation ParseError) → ◌≡◌ {A = Result (Handled S) ParseError}
+          (r >>= λ named. Ok (record { operator = occurrence x.0 place (location_at locations place) named; rest = x.1; state = w }))
+          ((r >>= λ named. Ok (named, record { spelt = x.0; rest = x.1; state = w })) >>= λ k. Ok (put locations place k))
+      by_name x w (Ok named) = refl
+      by_name x w (Err e) = refl
+
+      by_check : (x : RawOperation × List ℕ) (c : Result S ℕ) → ◌≡◌ {A = Result (Handled S) ParseError}
+          (faulting Checked c >>= λ w. named_in env fs x.0 >>= λ named. Ok (record { operator = occurrence x.0 place (location_at locations place) named; rest = x.1; state = w }))
+          (((faulting Checked c >>= λ t. Ok (record { spelt = x.0; rest = x.1; state = t })) >>= λ t. named_in env fs t.spelt >>= λ named. Ok (named, t)) >>= λ k. Ok (put locations place k))
+      by_check x (Ok w) = by_name x w (named_in env fs x.0)
+      by_check x (Err n) = refl
+
+      by_place : (x : RawOperation × List ℕ) (b : Bool) → ◌≡◌ {A = Result (Handled S) ParseError}
+          (unless b PlaceTooGreat >>= λ _. faulting Checked (check v (placed_at x.0 place)) >>= λ w. named_in env fs x.0 >>= λ named. Ok (record { operator = occurrence x.0 place (location_at locations place) named; rest = x.1; state = w }))
+          (((unless b PlaceTooGreat >>= λ _. faulting Checked (check v (placed_at x.0 place)) >>= λ t. Ok (record { spelt = x.0; rest = x.1; state = t })) >>= λ t. named_in env fs t.spelt >>= λ named. Ok (named, t)) >>= λ k. Ok (put locations place k))
+      by_place x true = by_check x (check v (placed_at x.0 place))
+      by_place x false = refl
+
+      by_read : (r : Result (RawOperation × List ℕ) ReadFault) → ◌≡◌ {A = Result (Handled S) ParseError}
+          (faulting (λ fault. Read (record { fault = fault; at = place })) r >>= λ x.
+          unless (has_location locations place) PlaceTooGreat >>= λ _. faulting Checked (check v (placed_at x.0 place)) >>= λ w. named_in env fs x.0 >>= λ named. Ok (record { operator = occurrence x.0 place (location_at locations place) named; rest = x.1; state = w }))
+          (((faulting (λ fault. Read (record { fault = fault; at = place })) r >>= λ x.
+          unless (has_location locations place) PlaceTooGreat >>= λ _. faulting Checked (check v (placed_at x.0 place)) >>= λ t. Ok (record { spelt = x.0; rest = x.1; state = t })) >>= λ t. named_in env fs t.spelt >>= λ named. Ok (named, t)) >>= λ k. Ok (put locations place k))
+      by_read (Ok x) = by_place x (has_location locations place)
+      by_read (Err e) = refl
+
+  same_names : (fits : ℕ → Bool) (v : S) (fs gs : List (Frame Occurrence)) (place : ℕ) (bytes : List ℕ) → shapes fs ≡ shapes gs → stepped fits v fs place bytes ≡ stepped fits v gs place bytes
+  same_names fits v fs gs place bytes e = λ i. taken fits check v place bytes >>= λ t. named_same env fs gs t.spelt e i >>= λ named. Ok (named, t)
+
+  same_limit : (l m : Option (ℕ → ℕ)) → BothOrNone l m → has_location l ≡ has_location m
+  same_limit None None h = refl
+  same_limit (Some l) (Some m) h = refl
+  same_limit None (Some m) h = absurd h
+  same_limit (Some l) None h = absurd h
+
+  module _ (l m : Option (ℕ → ℕ)) (both : BothOrNone l m) where
+    abbrev SameFault : ℕ → Type 0
+    SameFault turns = (p q : Progress Occurrence) (v : S) (place : ℕ) (bytes : List ℕ) (f : ParseFailure) → progress_shapes p ≡ progress_shapes q →
+        parsed_from (given l) turns p v place bytes ≡ Err f → parsed_from (given m) turns q v place bytes ≡ Err f
+
+    abbrev after : Option (ℕ → ℕ) → ℕ → (ls : List (Layer Occurrence)) (s : Sequence Occurrence) (place size : ℕ) → Result (Handled S) ParseError → Result (Body Occurrence) ParseFailure
+    after locations turns ls s place size r = behind place r (λ h. parsed_from (given locations) turns (further (Within ls s) (mark h.operator)) h.state (place + (size - length h.rest)) h.rest)
+
+    turn_same : (turns : ℕ) → SameFault turns → (ls ks : List (Layer Occurrence)) (s t : Sequence Occurrence) (place size : ℕ) (f : ParseFailure) → shapes (frames_of ls) ≡ shapes (frames_of ks) →
+        (r : Result (NamedOperation × Taken S) ParseError) → after l turns ls s place size (r >>= λ k. Ok (put l place k)) ≡ Err f → after m turns ks t place size (r >>= λ k. Ok (put m place k)) ≡ Err f
+    turn_same turns ih ls ks s t place size f same (Err e) is = is
+    turn_same turns ih ls ks s t place size f same (Ok k) is =
+        ih (further (Within ls s) (mark (occurrence k.1.spelt place (location_at l place) k.0))) (further (Within ks t) (mark (occurrence k.1.spelt place (location_at m place) k.0)))
+        k.1.state (place + (size - length k.1.rest)) k.1.rest f (further_shapes ls ks s t k.1.spelt place (location_at l place) (location_at m place) k.0 same) is
+
+    not_whole : (ls : List (Layer Occurrence)) (s : Sequence Occurrence) (b : Body Occurrence) → progress_shapes (Within ls s) ≡ progress_shapes (Whole b) → ⊥
+    not_whole [] s b e = cc
+    not_whole (k ∷ ls) s b e = cc
+
+    same_fault : (turns : ℕ) → SameFault turns
+    same_fault turns (Whole b) (Whole c) v place [] f same is = absurd (cc)
+    same_fault turns (Whole b) (Whole c) v place (x ∷ bytes) f same is = is
+    same_fault turns (Whole b) (Within ks t) v place bytes f same is = absurd (not_whole ks t b (sym same))
+    same_fault turns (Whole b) NoBody v place bytes f same is = absurd (cc)
+    same_fault turns NoBody NoBody v place bytes f same is = is
+    same_fault turns NoBody (Whole c) v place bytes f same is = absurd (cc)
+    same_fault turns NoBody (Within ks t) v place bytes f same is = absurd (cc)
+    same_fault turns (Within ls s) (Whole c) v place bytes f same is = absurd (not_whole ls s c same)
+    same_fault turns (Within ls s) NoBody v place bytes f same is = absurd (cc)
+    same_fault turns (Within ls s) (Within ks t) v place [] f same is = is
+    same_fault zero (Within ls s) (Within ks t) v place (x ∷ bytes) f same is = is
+    same_fault (suc turns) (Within ls s) (Within ks t) v place (x ∷ bytes) f same is =
+        let alike = within_shapes ls ks s t same in
+        let size = length (x ∷ bytes) in
+        let step : stepped (has_location m) v (frames_of ks) place (x ∷ bytes) ≡ stepped (has_location l) v (frames_of ls) place (x ∷ bytes) =
+        ap (λ fits. stepped fits v (frames_of ks) place (x ∷ bytes)) (sym (same_limit l m both)) ∙ sym (same_names (has_location l) v (frames_of ls) (frames_of ks) place (x ∷ bytes) alike) in
+        ap (after m turns ks t place size) (handled_as m v (frames_of ks) place (x ∷ bytes) ∙ ap (λ r. r >>= λ k. Ok (put m place k)) step)
+        ∙ turn_same turns (same_fault turns) ls ks s t place size f alike (stepped (has_location l) v (frames_of ls) place (x ∷ bytes))
+        (sym (ap (after l turns ls s place size) (handled_as l v (frames_of ls) place (x ∷ bytes))) ∙ is)
+
+    pub any_locations : (bytes : List ℕ) (f : ParseFailure) → parsed_from (given l) (length bytes) nothing_read first start bytes ≡ Err f → parsed_from (given m) (length bytes) nothing_read first start bytes ≡ Err f
+    any_locations bytes f is = same_fault (length bytes) nothing_read nothing_read first start bytes f refl is

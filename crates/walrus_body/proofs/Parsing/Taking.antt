@@ -1,0 +1,90 @@
+-- The next operator of the bytes, which a validator takes.
+use Rattle.std.specs.Prelude.{◌≡◌, ℕ, ◌+◌, ◌<◌, List, length, Bool, true, false, Option, Some, None, Result, Ok, Err, ◌⊎◌}
+use Rattle.std.specs.Borrow.{Bor}
+use Rattle.std.specs.Fn.{Shared}
+use Rattle.std.proofs.lemmas.List.{length-append}
+use Rattle.std.proofs.Common.{refl, ap, ◌∙◌, arith, inl, inr}
+use Rattle.wasm_ops.specs.declared.fault.ReadFault.{ReadFault}
+use Rattle.wasm_ops.specs.declared.types.Opcode.{Opcode}
+use Rattle.wasm_ops.specs.declared.types.Opcode.TheVariants.{Byte, Prefixed}
+use Rattle.wasm_ops.specs.Operations.{RawOperation}
+use Rattle.wasm_ops.specs.OperatorList.{Placed}
+use Rattle.wasm_ops.specs.Opcodes.{IsOpcode}
+use Rattle.wasm_ops.specs.Position.{Position, Moves}
+use Rattle.wasm_ops.specs.Spelling.{Spells, read_operation}
+use Rattle.wasm_ops.proofs.OperationLaws.{operations_agree}
+use Rattle.wasm_body.specs.declared.error.ParseError.{ParseError}
+use Rattle.wasm_body.specs.declared.error.ParseError.TheVariants.{Read, PlaceTooGreat, Checked, Memory}
+use Rattle.wasm_body.specs.Results.{◌>>=◌, unless, faulting}
+use Rattle.walrus_body.specs.declared.local_function.check.CheckError.{CheckError}
+use Rattle.walrus_body.specs.declared.local_function.check.CheckError.TheVariants.{Refused, Memory as wants_memory}
+use Rattle.walrus_body.specs.Parsing.Checking.{placed_at, Checks, fault_of}
+use Rattle.walrus_body.specs.Parsing.Locating.{Locates, HasNoLocation}
+use Rattle.walrus_body.specs.Parsing.Settings.{has_place, Taken, taken}
+
+-- ---- a reader that moved
+
+pub read_moved : (old new : Position) (o : RawOperation) (text : List ℕ) → Moves old text new → Spells o text → read_operation old.rest ≡ Ok (o, new.rest)
+read_moved old new o text m s = ap read_operation m.parts ∙ operations_agree.again o text new.rest s
+
+-- an operator is a byte at least
+spelt_longer : (o : RawOperation) (text : List ℕ) → Spells o text → 0 < length text
+spelt_longer o text s =
+    let long : length text ≡ length s.first + length s.others = ap length s.parts ∙ length-append s.first s.others in
+    let some = opcode_longer o.opcode s.first s.opcode in omega arith
+  where
+    opcode_longer : (c : Opcode) (first : List ℕ) → IsOpcode c first → 0 < length first
+    opcode_longer (Byte b) first i = let l = ap length i.2 in omega arith
+    opcode_longer (Prefixed prefix n) first i = let l = ap length i.3 in omega arith
+
+pub moved_on : (old new : Position) (o : RawOperation) (text : List ℕ) → Moves old text new → Spells o text →
+    (new.place + length new.rest ≡ old.place + length old.rest) × (length new.rest < length old.rest)
+moved_on old new o text m s =
+    let long : length old.rest ≡ length text + length new.rest = ap length m.parts ∙ length-append text new.rest in
+    let some = spelt_longer o text s in
+    let place = m.place in
+    (omega arith, omega arith)
+
+-- ---- what is taken
+
+module _ {S : Type 0} (fits : ℕ → Bool) (check : S → Placed → Result S ℕ) (s : S) (place : ℕ) where
+  abbrev by_read : Result (RawOperation × List ℕ) ReadFault → Result (Taken S) ParseError
+  by_read r =
+      faulting (λ fault. Read (record { fault = fault; at = place })) r >>= λ x.
+      unless (fits place) PlaceTooGreat >>= λ _.
+      faulting Checked (check s (placed_at x.0 place)) >>= λ t.
+      Ok (record { spelt = x.0; rest = x.1; state = t })
+
+  abbrev by_place : RawOperation → List ℕ → Bool → Result (Taken S) ParseError
+  by_place o rest b = unless b PlaceTooGreat >>= λ _. faulting Checked (check s (placed_at o place)) >>= λ t. Ok (record { spelt = o; rest = rest; state = t })
+
+  abbrev by_check : RawOperation → List ℕ → Result S ℕ → Result (Taken S) ParseError
+  by_check o rest c = faulting Checked c >>= λ t. Ok (record { spelt = o; rest = rest; state = t })
+
+  pub is_taken : (bytes rest : List ℕ) (o : RawOperation) (t : S) → read_operation bytes ≡ Ok (o, rest) → fits place ≡ true → check s (placed_at o place) ≡ Ok t →
+      taken fits check s place bytes ≡ Ok (record { spelt = o; rest = rest; state = t })
+  is_taken bytes rest o t read fit checked = ap by_read read ∙ ap (by_place o rest) fit ∙ ap (by_check o rest) checked
+
+  pub is_refused : (bytes rest : List ℕ) (o : RawOperation) (n : ℕ) → read_operation bytes ≡ Ok (o, rest) → fits place ≡ true → check s (placed_at o place) ≡ Err n →
+      taken fits check s place bytes ≡ Err (Checked n)
+  is_refused bytes rest o n read fit checked = ap by_read read ∙ ap (by_place o rest) fit ∙ ap (by_check o rest) checked
+
+  -- the validator refused it, or wants memory
+  pub is_not_taken : (bytes rest : List ℕ) (o : RawOperation) (e : CheckError) (t : S) → read_operation bytes ≡ Ok (o, rest) → fits place ≡ true → Checks check s (placed_at o place) (Err e) t →
+      (fault_of e ≡ Memory) ⊎ (taken fits check s place bytes ≡ Err (fault_of e))
+  is_not_taken bytes rest o (Refused n) t read fit checked = inr (is_refused bytes rest o n read fit checked)
+  is_not_taken bytes rest o wants_memory t read fit checked = inl refl
+
+  pub is_too_great : (bytes rest : List ℕ) (o : RawOperation) → read_operation bytes ≡ Ok (o, rest) → fits place ≡ false → taken fits check s place bytes ≡ Err PlaceTooGreat
+  is_too_great bytes rest o read fit = ap by_read read ∙ ap (by_place o rest) fit
+
+-- ---- places
+
+module _ {F : Type 0} where
+  pub located_fits : (g : Shared F (Bor ℕ × Unit {0}) ℕ) (o : Option (Bor F)) (place location : ℕ) → Locates g o place location → has_place o place ≡ true
+  located_fits g None place location h = h.0
+  located_fits g (Some f) place location h = refl
+
+  pub unlocated_fits : (o : Option (Bor F)) (place : ℕ) → HasNoLocation o place → has_place o place ≡ false
+  unlocated_fits None place h = h
+  unlocated_fits (Some f) place h = absurd h

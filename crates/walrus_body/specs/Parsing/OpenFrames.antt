@@ -1,0 +1,44 @@
+-- What contracts see of the open frames, and what single calls do to them.
+use Rattle.std.specs.Prelude.{◌≡◌, ℕ, zero, suc, List, [], ◌∷◌, ◌++◌, Bool, true, false, cond, take}
+use Rattle.std.specs.List.{AllByRecursion}
+use Rattle.walrus_ir.specs.declared.control.BlockKind.{BlockKind}
+use Rattle.walrus_ir.specs.declared.val_type.ValType.{ValType}
+use Rattle.walrus_ir.specs.Unfolding.{Located}
+use Rattle.walrus_body.specs.declared.local_function.frame.ControlFrame.{ControlFrame}
+
+-- An open frame: its kind, what it takes and gives, its sequence, whether what follows is dropped, and its instructions.
+pub record OpenFrame : Type 0 where
+  pub kind : BlockKind
+  pub start_types : List (ValType ℕ)
+  pub end_types : List (ValType ℕ)
+  pub sequence : ℕ
+  pub dead : Bool
+  pub instrs : List Located
+
+-- what a frame of the code shows, with these instructions
+abbrev pub frame_with : ControlFrame → List Located → OpenFrame
+frame_with f instrs = record { kind = f.kind; start_types = f.start_types.items; end_types = f.end_types.items; sequence = f.block; dead = f.unreachable; instrs = instrs }
+
+-- the frame as the code shows it, whatever its instructions
+pub record Shows (f : ControlFrame) (frame : OpenFrame) : Type 0 where
+  pub is : frame ≡ frame_with f frame.instrs
+
+abbrev pub new_frame : BlockKind → (takes gives : List (ValType ℕ)) → (sequence : ℕ) → OpenFrame
+new_frame kind takes gives sequence = record { kind = kind; start_types = takes; end_types = gives; sequence = sequence; dead = false; instrs = [] }
+
+-- the n-th frame changed, every other as it was
+abbrev pub changed_at : ℕ → (OpenFrame → OpenFrame) → List OpenFrame → List OpenFrame
+changed_at n change [] = []
+changed_at zero change (f ∷ fs) = change f ∷ fs
+changed_at (suc n) change (f ∷ fs) = f ∷ changed_at n change fs
+
+abbrev pub killed : OpenFrame → OpenFrame
+killed f = record f { dead = true }
+
+-- one more instruction, or where the frame is dead none
+abbrev pub with_instr : Located → OpenFrame → OpenFrame
+with_instr x f = record f { instrs = cond f.dead f.instrs (f.instrs ++ x ∷ []) }
+
+-- the frames inside the n-th have no instructions
+abbrev pub InnerAreEmpty : ℕ → List OpenFrame → Type 0
+InnerAreEmpty n fs = AllByRecursion (λ f. f.instrs ≡ []) (take n fs)

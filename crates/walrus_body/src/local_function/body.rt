@@ -1,0 +1,20 @@
+//! The bytes of a body.
+ghost use Rattle.std.specs.Prelude.{◌≡◌, ◌≤◌, length, drop};
+
+/// The bytes of a function's body: its operators begin at `bytes[ops]`, and `bytes[i]` stands at the place `start + i`.
+#[derive(Clone, Copy, Debug)]
+pub struct FunctionBody<'a> {
+    pub bytes: &'a [u8],
+    pub start: usize,
+    pub ops: usize,
+}
+
+impl<'a> FunctionBody<'a> {
+    /// The bytes from the first operator on.
+    pub fn operators(self) -> &'a [u8]
+        requires { self.ops ≤ length self.bytes.now }
+        ensures { result.now ≡ drop self.entry.ops self.entry.bytes.now }
+    {
+        &self.bytes[self.ops..]
+    }
+}
