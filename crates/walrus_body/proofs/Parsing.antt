@@ -1,5 +1,6 @@
 -- What is kept while a body is parsed.
 pub mod Closing
+pub mod Frames
 pub mod AnyLocations
 pub mod Mappings
 pub mod SoFars

@@ -4,3 +4,4 @@ pub mod Checking
 pub mod Locating
 pub mod Settings
 pub mod OpenFrames
+pub mod Keeping

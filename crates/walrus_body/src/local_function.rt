@@ -8,4 +8,4 @@ mod next;
 
 pub use body::FunctionBody;
 pub use check::{AcceptAll, CheckError, OpCheck};
-pub use frame::{ControlFrame, ControlStack};
+pub use frame::{ControlFrame, ControlStack, IfElseState};

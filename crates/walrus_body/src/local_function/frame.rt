@@ -1,6 +1,6 @@
 //! Open sequences, as they are shown.
 
-use walrus_ir::{BlockKind, InstrSeqId, ValType};
+use walrus_ir::{BlockKind, InstrLocId, InstrSeqId, ValType};
 
 /// A sequence that is open.
 #[derive(Drop)]
@@ -21,3 +21,14 @@ pub struct ControlFrame {
 
 /// The open sequences, the innermost last.
 pub type ControlStack = Vec<ControlFrame>;
+
+/// An `if` whose `end` is still to come.
+#[derive(Clone, Copy)]
+pub struct IfElseState {
+    /// The location of the `if`.
+    pub start: InstrLocId,
+    /// The sequence behind the `if`.
+    pub consequent: InstrSeqId,
+    /// The sequence behind the `else`, if there is one.
+    pub alternative: Option<InstrSeqId>,
+}

@@ -1,0 +1,171 @@
+-- What a parse keeps of open sequences: in another arena, with more room, and where the innermost one goes on.
+use Rattle.std.specs.Prelude.{◌≡◌, ℕ, zero, suc, ◌+◌, ◌<◌, ◌≤◌, List, [], ◌∷◌, ◌++◌, map, length, Bool, true, false, ◌||◌, Some, slice_get}
+use Rattle.std.proofs.lemmas.List.{append-nil}
+use Rattle.std.proofs.Common.{refl, ap, sym, subst, ◌∙◌, arith}
+use Rattle.walrus_ir.specs.declared.seq.InstrSeq.{InstrSeq}
+use Rattle.walrus_ir.specs.declared.val_type.InstrSeqType.{InstrSeqType}
+use Rattle.walrus_ir.specs.Tree.{Items, no_items, item, no_sequences, sequence}
+use Rattle.walrus_ir.specs.Unfolding.{Placed, Located as LocatedInstr, AreItems, are_no_items}
+use Rattle.wasm_body.specs.SourceTree.{Sequence, reshown}
+use Rattle.wasm_body.specs.Naming.{Occurrence, Environment}
+use Rattle.wasm_body.specs.NormalForm.{typing_of, normal, name_at}
+use Rattle.wasm_body.specs.FunctionTree.{Head, Instruction}
+use Rattle.wasm_body.specs.Keeping.{is_dead, joined, joined_alive}
+use Rattle.wasm_body.specs.TreeOfFunction.{items_in}
+use Rattle.wasm_body.specs.Intervals.{RiseIn, AllRiseIn}
+use Rattle.wasm_body.specs.Parsing.Progress.{append, OpenConstruct, InWrapper, InThen, InElse, InTry, InCatch, InCatchAll, Layer}
+use Rattle.wasm_body.proofs.NormalForm.KeepingLemmas.{dead_append, dead_reshown, reshown_append, normal_append}
+use Rattle.wasm_body.proofs.NormalForm.ArenaLemmas.{rise-range, all_rise-range, rise-wider, rise-joined, items-joined, in-joined, SameIn, items-same, sequences-same}
+use Rattle.walrus_body.specs.declared.local_function.frame.IfElseState.{IfElseState}
+use Rattle.walrus_body.specs.Parsing.OpenFrames.{OpenFrame, changed_at, with_instr}
+use Rattle.walrus_body.specs.Parsing.Keeping.{slots, IsKept, IsReserved, Encloses, IsAppended, OpensWith, IsOutermost, IsWithin, Holds}
+
+-- ---- the slots of frames
+
+pub slots_changed : (x : LocatedInstr) (n : ℕ) (fs : List OpenFrame) → slots (changed_at n (with_instr x) fs) ≡ slots fs
+slots_changed x n [] = refl
+slots_changed x zero (f ∷ fs) = refl
+slots_changed x (suc n) (f ∷ fs) = ap (λ ps. f.sequence ∷ ps) (slots_changed x n fs)
+
+-- ---- the same in another arena, or with more room
+
+kept_same : (env : Environment) (b c : List InstrSeq) (high : ℕ) (f : OpenFrame) (around : List ℕ) (s : Sequence Occurrence) → SameIn b c 0 high → IsKept env b high f around s → IsKept env c high f around s
+kept_same env b c high f around s same k = record {
+  items = k.items;
+  are_items = items-same c (suc f.sequence) high (λ p l h. same p (omega arith) h) k.rise k.are_items;
+  rise = k.rise;
+  is_normal = k.is_normal;
+  is_dead = k.is_dead;
+}
+
+pub kept_wider : (env : Environment) (b : List InstrSeq) (high higher : ℕ) (f : OpenFrame) (around : List ℕ) (s : Sequence Occurrence) → high ≤ higher → IsKept env b high f around s → IsKept env b higher f around s
+kept_wider env b high higher f around s l k = record {
+  items = k.items;
+  are_items = k.are_items;
+  rise = rise-wider (suc f.sequence) (suc f.sequence) k.items high higher (omega arith) l k.rise;
+  is_normal = k.is_normal;
+  is_dead = k.is_dead;
+}
+
+pub kept_below : (env : Environment) (b : List InstrSeq) (high : ℕ) (f : OpenFrame) (around : List ℕ) (s : Sequence Occurrence) → IsKept env b high f around s → f.sequence < high
+kept_below env b high f around s k = let r = rise-range (suc f.sequence) k.items high k.rise in omega arith
+
+reserved_same : (b c : List InstrSeq) (slot : ℕ) (t : InstrSeqType) → slice_get c slot ≡ slice_get b slot → IsReserved b slot t → IsReserved c slot t
+reserved_same b c slot t e r = record { seq = r.seq; stands = e ∙ r.stands; has_type = r.has_type; has_no_end = r.has_no_end }
+
+encloses_same : (env : Environment) (b c : List InstrSeq) (low : ℕ) (f : OpenFrame) (around : List ℕ) (p : OpenConstruct Occurrence) (before : List ℕ) → SameIn b c 0 (suc f.sequence) → Encloses env b low f around p before → Encloses env c low f around p before
+encloses_same env b c low f around p before same o = record {
+  inside = o.inside;
+  are_sequences = sequences-same c low f.sequence (λ q l h. same q (omega arith) (omega arith)) o.rise o.are_sequences;
+  rise = o.rise;
+  is_normal = o.is_normal;
+  reserved = reserved_same b c f.sequence _ (same f.sequence (omega arith) (omega arith)) o.reserved;
+  kind = o.kind;
+  takes = o.takes;
+  gives = o.gives;
+}
+
+pub holds_same : (env : Environment) (b c : List InstrSeq) (ls : List (Layer Occurrence)) (s : Sequence Occurrence) (high : ℕ) (fs : List OpenFrame) (ifs : List IfElseState) → SameIn b c 0 high → Holds env b ls s high fs ifs → Holds env c ls s high fs ifs
+holds_same env b c [] s high [] ifs same h = absurd h
+holds_same env b c [] s high (f ∷ fs) ifs same h =
+    let below = kept_below env b high f (slots fs) s h.kept in
+    let first = h.first in
+    record {
+      kept = kept_same env b c high f (slots fs) s same h.kept;
+      alone = h.alone;
+      reserved = reserved_same b c 0 _ (same 0 (omega arith) (omega arith)) h.reserved;
+      first = h.first;
+      kind = h.kind;
+      no_if = h.no_if;
+    }
+holds_same env b c (l ∷ ls) s high [] ifs same h = absurd h
+holds_same env b c (l ∷ ls) s high (f ∷ fs) ifs same h =
+    let below = kept_below env b high f (slots fs) s h.kept in
+    let range = all_rise-range h.low h.encloses.inside f.sequence h.encloses.rise in
+    record {
+      kept = kept_same env b c high f (slots fs) s same h.kept;
+      low = h.low;
+      before = h.before;
+      encloses = encloses_same env b c h.low f (slots fs) l.construct h.before (λ q m n. same q m (omega arith)) h.encloses;
+      outside = h.outside;
+      other_ifs = h.other_ifs;
+      opens = h.opens;
+      outer = holds_same env b c ls l.before h.low h.outside h.other_ifs (λ q m n. same q m (omega arith)) h.outer;
+    }
+
+-- ---- the innermost frame with other instructions
+
+abbrev pub with_body : OpenFrame → List LocatedInstr → Bool → OpenFrame
+with_body f instrs dead = record f { instrs = instrs; dead = dead }
+
+abbrev Kept : Environment → Sequence Occurrence → Items Head Instruction
+Kept env s = normal (typing_of env) (reshown name_at s)
+
+pub holds_changed : (env : Environment) (b : List InstrSeq) (ls : List (Layer Occurrence)) (s t : Sequence Occurrence) (middle high : ℕ) (f : OpenFrame) (fs : List OpenFrame) (ifs : List IfElseState) (instrs : List LocatedInstr) (dead : Bool) →
+    (IsKept env b middle f (slots fs) s → IsKept env b high (with_body f instrs dead) (slots fs) t) →
+    Holds env b ls s middle (f ∷ fs) ifs → Holds env b ls t high (with_body f instrs dead ∷ fs) ifs
+holds_changed env b [] s t middle high f fs ifs instrs dead change h =
+    record { kept = change h.kept; alone = h.alone; reserved = h.reserved; first = h.first; kind = h.kind; no_if = h.no_if }
+holds_changed env b (l ∷ ls) s t middle high f fs ifs instrs dead change h = record {
+  kept = change h.kept;
+  low = h.low;
+  before = h.before;
+  encloses = record {
+    inside = h.encloses.inside;
+    are_sequences = h.encloses.are_sequences;
+    rise = h.encloses.rise;
+    is_normal = h.encloses.is_normal;
+    reserved = h.encloses.reserved;
+    kind = h.encloses.kind;
+    takes = h.encloses.takes;
+    gives = h.encloses.gives;
+  };
+  outside = h.outside;
+  other_ifs = h.other_ifs;
+  opens = h.opens;
+  outer = h.outer;
+}
+
+-- ---- a sequence with something more
+
+kept_append : (env : Environment) (s t : Sequence Occurrence) → Kept env (append s t) ≡ joined_alive (is_dead s) (Kept env s) (Kept env t)
+kept_append env s t =
+    ap (normal (typing_of env)) (reshown_append name_at s t)
+    ∙ normal_append (typing_of env) (reshown name_at s) (reshown name_at t)
+    ∙ ap (λ d. joined_alive d (Kept env s) (Kept env t)) (dead_reshown name_at s)
+
+-- instructions that are the normal form of what is added, their sequences in slots from `low` on
+pub record AreNormal (env : Environment) (b : List InstrSeq) (low high : ℕ) (around : List ℕ) (more : List LocatedInstr) (t : Sequence Occurrence) : Type 0 where
+  pub items : Items Placed LocatedInstr
+  pub are_items : AreItems b more items
+  pub rise : RiseIn low items high
+  pub is_normal : items_in around items ≡ Kept env t
+
+pub kept_add : (env : Environment) (b : List InstrSeq) (middle high : ℕ) (f : OpenFrame) (around : List ℕ) (s t : Sequence Occurrence) (more : List LocatedInstr) →
+    IsKept env b middle f around s → f.dead ≡ false → AreNormal env b middle high (f.sequence ∷ around) more t → IsKept env b high (with_body f (f.instrs ++ more) (is_dead t)) around (append s t)
+kept_add env b middle high f around s t more k alive a =
+    let goes_on : is_dead s ≡ false = sym k.is_dead ∙ alive in
+    record {
+      items = joined k.items a.items;
+      are_items = items-joined k.are_items a.are_items;
+      rise = rise-joined (suc f.sequence) k.items a.items middle high k.rise a.rise;
+      is_normal =
+          in-joined (f.sequence ∷ around) k.items a.items
+          ∙ ap (λ is. joined is (items_in (f.sequence ∷ around) a.items)) k.is_normal
+          ∙ ap (joined (Kept env s)) a.is_normal
+          ∙ ap (λ d. joined_alive d (Kept env s) (Kept env t)) (sym goes_on)
+          ∙ sym (kept_append env s t);
+      is_dead = ap (λ d. d || is_dead t) (sym goes_on) ∙ sym (dead_append s t);
+    }
+
+pub kept_drop : (env : Environment) (b : List InstrSeq) (middle high : ℕ) (f : OpenFrame) (around : List ℕ) (s t : Sequence Occurrence) →
+    IsKept env b middle f around s → f.dead ≡ true → middle ≤ high → IsKept env b high f around (append s t)
+kept_drop env b middle high f around s t k dead wider =
+    let is_cut : is_dead s ≡ true = sym k.is_dead ∙ dead in
+    record {
+      items = k.items;
+      are_items = k.are_items;
+      rise = rise-wider (suc f.sequence) (suc f.sequence) k.items middle high (omega arith) wider k.rise;
+      is_normal = k.is_normal ∙ ap (λ d. joined_alive d (Kept env s) (Kept env t)) (sym is_cut) ∙ sym (kept_append env s t);
+      is_dead = dead ∙ ap (λ d. d || is_dead t) (sym is_cut) ∙ sym (dead_append s t);
+    }
