@@ -1,6 +1,7 @@
 -- What is kept while a body is parsed.
 pub mod Closing
 pub mod Frames
+pub mod Constructs
 pub mod AnyLocations
 pub mod Mappings
 pub mod SoFars

@@ -4,8 +4,8 @@ use Rattle.std.proofs.Common.{refl, sym, ap, ◌∙◌}
 use Rattle.walrus_ir.specs.Tree.{Items, no_items, item, Sequences, no_sequences, sequence}
 use Rattle.wasm_body.specs.SourceTree.{Sequence, Empty, TryCatch, TryDelegate, Clauses, Ended, Catches, CatchesAll, reshown, reshown_clauses}
 use Rattle.wasm_body.specs.FunctionTree.{Head, LegacyClause, handles, handles_all, delegates, Instruction, default_location}
-use Rattle.wasm_body.specs.Naming.{NamedOperation}
-use Rattle.wasm_body.specs.NormalForm.{Typing, type_of, handler_type, instruction, head, legacy_clauses, closed_at, normal, handlers}
+use Rattle.wasm_body.specs.Naming.{NamedOperation, Occurrence}
+use Rattle.wasm_body.specs.NormalForm.{Typing, type_of, handler_type, instruction, head, legacy_clauses, closed_at, normal, handlers, name_at}
 use Rattle.wasm_body.specs.Parsing.Progress.{ClosedClause, closed_clause, behind_closed, OpenConstruct, InWrapper, InThen, InElse, InTry, InCatch, InCatchAll, closed}
 use Rattle.walrus_body.specs.Parsing.OpenConstructs.{opener_in, clauses_behind, clauses_in, Named, sequences_joined, handlers_behind, first_clause_at, try_sequences, closed_in, type_in, added_in, sequences_closed, reshown_clause, reshown_closed, reshown_construct}
 
@@ -76,3 +76,11 @@ reshown_in f (InCatchAll a b gs h) s e = ap (λ cs. TryCatch (f a) (reshown f b)
 pub clauses_reshown : {A B : Type 0} → (f : A → B) (gs : List (ClosedClause A)) (cs : List LegacyClause) → clauses_behind (reshown_closed f gs) cs ≡ clauses_behind gs cs
 clauses_reshown f [] cs = refl
 clauses_reshown f (g ∷ gs) cs = clauses_reshown f gs (handles g.tag ∷ cs)
+
+pub same_opener : (p : OpenConstruct Occurrence) → instruction (name_at (opener_in p)) (clauses_in p) ≡ instruction (opener_in (reshown_construct name_at p)) (clauses_in (reshown_construct name_at p))
+same_opener (InWrapper a w) = refl
+same_opener (InThen a) = refl
+same_opener (InElse a b l) = refl
+same_opener (InTry a) = refl
+same_opener (InCatch a b gs h t) = ap (instruction (name_at a)) (sym (clauses_reshown name_at gs (handles t ∷ [])))
+same_opener (InCatchAll a b gs h) = ap (instruction (name_at a)) (sym (clauses_reshown name_at gs (handles_all ∷ [])))

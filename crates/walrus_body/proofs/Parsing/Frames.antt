@@ -1,5 +1,5 @@
 -- What a parse keeps of open sequences: in another arena, with more room, and where the innermost one goes on.
-use Rattle.std.specs.Prelude.{◌≡◌, ℕ, zero, suc, ◌+◌, ◌<◌, ◌≤◌, List, [], ◌∷◌, ◌++◌, map, length, Bool, true, false, ◌||◌, Some, slice_get}
+use Rattle.std.specs.Prelude.{◌≡◌, ℕ, zero, suc, ◌+◌, ◌<◌, ◌≤◌, List, [], ◌∷◌, ◌++◌, map, length, Bool, true, false, ◌||◌, cond, Some, slice_get}
 use Rattle.std.proofs.lemmas.List.{append-nil}
 use Rattle.std.proofs.Common.{refl, ap, sym, subst, ◌∙◌, arith}
 use Rattle.walrus_ir.specs.declared.seq.InstrSeq.{InstrSeq}
@@ -17,7 +17,7 @@ use Rattle.wasm_body.specs.Parsing.Progress.{append, OpenConstruct, InWrapper, I
 use Rattle.wasm_body.proofs.NormalForm.KeepingLemmas.{dead_append, dead_reshown, reshown_append, normal_append}
 use Rattle.wasm_body.proofs.NormalForm.ArenaLemmas.{rise-range, all_rise-range, rise-wider, rise-joined, items-joined, in-joined, SameIn, items-same, sequences-same}
 use Rattle.walrus_body.specs.declared.local_function.frame.IfElseState.{IfElseState}
-use Rattle.walrus_body.specs.Parsing.OpenFrames.{OpenFrame, changed_at, with_instr}
+use Rattle.walrus_body.specs.Parsing.OpenFrames.{OpenFrame, changed_at, killed, with_instr}
 use Rattle.walrus_body.specs.Parsing.Keeping.{slots, IsKept, IsReserved, Encloses, IsAppended, OpensWith, IsOutermost, IsWithin, Holds}
 
 -- ---- the slots of frames
@@ -169,3 +169,58 @@ kept_drop env b middle high f around s t k dead wider =
       is_normal = k.is_normal ∙ ap (λ d. joined_alive d (Kept env s) (Kept env t)) (sym is_cut) ∙ sym (kept_append env s t);
       is_dead = dead ∙ ap (λ d. d || is_dead t) (sym is_cut) ∙ sym (dead_append s t);
     }
+
+-- ---- the innermost frame takes an instruction
+
+-- one more instruction, behind which the frame is dead or not; or where it was dead, all as it was
+abbrev pub taken : LocatedInstr → Bool → OpenFrame → OpenFrame
+taken x cut f = with_body f (cond f.dead f.instrs (f.instrs ++ x ∷ [])) (f.dead || cut)
+
+pub taken_alive : (x : LocatedInstr) (f : OpenFrame) → taken x false f ≡ with_instr x f
+taken_alive x f = ap (with_body f (cond f.dead f.instrs (f.instrs ++ x ∷ []))) (or_false f.dead)
+  where
+    or_false : (d : Bool) → d || false ≡ d
+    or_false true = refl
+    or_false false = refl
+
+pub taken_dead : (x : LocatedInstr) (f : OpenFrame) → taken x true f ≡ killed (with_instr x f)
+taken_dead x f = ap (with_body f (cond f.dead f.instrs (f.instrs ++ x ∷ []))) (or_true f.dead)
+  where
+    or_true : (d : Bool) → d || true ≡ true
+    or_true true = refl
+    or_true false = refl
+
+kept_takes : (env : Environment) (b : List InstrSeq) (middle high : ℕ) (f : OpenFrame) (around : List ℕ) (s t : Sequence Occurrence) (x : LocatedInstr) (cut d : Bool) → f.dead ≡ d → middle ≤ high → is_dead t ≡ cut →
+    AreNormal env b middle high (f.sequence ∷ around) (x ∷ []) t → IsKept env b middle f around s →
+    IsKept env b high (with_body f (cond d f.instrs (f.instrs ++ x ∷ [])) (d || cut)) around (append s t)
+kept_takes env b middle high f around s t x cut true dead wider is a k =
+    let dropped = kept_drop env b middle high f around s t k dead wider in
+    record { items = dropped.items; are_items = dropped.are_items; rise = dropped.rise; is_normal = dropped.is_normal; is_dead = sym dead ∙ dropped.is_dead }
+kept_takes env b middle high f around s t x cut false alive wider is a k =
+    let added = kept_add env b middle high f around s t (x ∷ []) k alive a in
+    record { items = added.items; are_items = added.are_items; rise = added.rise; is_normal = added.is_normal; is_dead = sym is ∙ added.is_dead }
+
+pub holds_takes : (env : Environment) (b : List InstrSeq) (ls : List (Layer Occurrence)) (s t : Sequence Occurrence) (middle high : ℕ) (f : OpenFrame) (fs : List OpenFrame) (ifs : List IfElseState) (x : LocatedInstr) (cut : Bool) → middle ≤ high → is_dead t ≡ cut →
+    AreNormal env b middle high (f.sequence ∷ slots fs) (x ∷ []) t → Holds env b ls s middle (f ∷ fs) ifs → Holds env b ls (append s t) high (taken x cut f ∷ fs) ifs
+holds_takes env b ls s t middle high f fs ifs x cut wider is a =
+    holds_changed env b ls s (append s t) middle high f fs ifs (cond f.dead f.instrs (f.instrs ++ x ∷ [])) (f.dead || cut)
+    (kept_takes env b middle high f (slots fs) s t x cut f.dead refl wider is a)
+
+-- an operator that is dropped leaves the frame as it was
+kept_passes : (env : Environment) (b : List InstrSeq) (high : ℕ) (f : OpenFrame) (around : List ℕ) (s t : Sequence Occurrence) (d : Bool) → f.dead ≡ d → is_dead t ≡ false → Kept env t ≡ no_items →
+    IsKept env b high f around s → IsKept env b high f around (append s t)
+kept_passes env b high f around s t true dead is none k = kept_drop env b high high f around s t k dead (omega arith)
+kept_passes env b high f around s t false alive is none k =
+    let added = kept_add env b high high f around s t [] k alive (record { items = no_items; are_items = are_no_items; rise = omega arith; is_normal = sym none }) in
+    record {
+      items = added.items;
+      are_items = subst (λ xs. AreItems b xs added.items) (append-nil f.instrs) added.are_items;
+      rise = added.rise;
+      is_normal = added.is_normal;
+      is_dead = alive ∙ sym is ∙ added.is_dead;
+    }
+
+pub holds_passes : (env : Environment) (b : List InstrSeq) (ls : List (Layer Occurrence)) (s t : Sequence Occurrence) (high : ℕ) (f : OpenFrame) (fs : List OpenFrame) (ifs : List IfElseState) → is_dead t ≡ false → Kept env t ≡ no_items →
+    Holds env b ls s high (f ∷ fs) ifs → Holds env b ls (append s t) high (f ∷ fs) ifs
+holds_passes env b ls s t high f fs ifs is none =
+    holds_changed env b ls s (append s t) high high f fs ifs f.instrs f.dead (kept_passes env b high f (slots fs) s t f.dead refl is none)
