@@ -4,6 +4,7 @@ use Rattle.std.proofs.lemmas.List.{length_push}
 use Rattle.std.proofs.Common.{refl, ap, sym, subst, ◌∙◌, arith}
 use Rattle.walrus_ir.specs.declared.seq.InstrSeq.{InstrSeq}
 use Rattle.walrus_ir.specs.declared.instr.Instr.{Instr}
+use Rattle.walrus_ir.specs.declared.instr.Instr.TheVariants as instr
 use Rattle.walrus_ir.specs.Tree.{Items, no_items, item, Sequences, no_sequences, sequence}
 use Rattle.walrus_ir.specs.Unfolding.{Placed, Located as LocatedInstr, places_in, AreItems, AreSequences, are_no_items, are_items, are_no_sequences, are_sequences}
 use Rattle.wasm_body.specs.SourceTree.{Sequence, Empty, reshown}
@@ -18,7 +19,7 @@ use Rattle.wasm_body.proofs.NormalForm.ArenaLemmas.{rise-range, all_rise-range, 
 use Rattle.walrus_body.specs.declared.local_function.frame.IfElseState.{IfElseState}
 use Rattle.walrus_body.specs.Parsing.OpenConstructs.{opener_in, kind_in, clauses_in, closed_in, type_in, added_in, sequences_joined, sequences_closed, reshown_construct}
 use Rattle.walrus_body.specs.Parsing.OpenFrames.{OpenFrame, changed_at, with_instr}
-use Rattle.walrus_body.specs.Parsing.Keeping.{slots, IsKept, IsReserved, TakesParameters, Encloses, IsAppended, OpensWith, IsWithin, Holds}
+use Rattle.walrus_body.specs.Parsing.Keeping.{slots, the_if, IsKept, IsReserved, TakesParameters, Encloses, IsAppended, OpensWith, IsWithin, Holds}
 use Rattle.walrus_body.proofs.Parsing.Closing.{normal_closed, reshown_in, same_opener}
 use Rattle.walrus_body.proofs.Parsing.Frames.{slots_changed, kept_below, holds_same, AreNormal, taken, taken_alive, holds_takes}
 
@@ -202,3 +203,97 @@ holds_ended env b c ls before s p IsOpener f fs outside ifs low places e none k 
     (holds_behind env c ls before (closed p s e) low (length c) outside ifs a.opener (closed_range closes) (closed_alive p s e)
     (subst (λ ps. AreNormal env c low (length c) ps (a.opener ∷ []) (closed p s e)) same_slots more)
     (holds_same env b c ls before low outside ifs (λ q m n. w.written.elsewhere q (λ d. let at : q ≡ f.sequence = d in omega arith)) h))
+
+-- the instruction of an `if`, which is appended at its `end`
+abbrev pub if_else : (consequent alternative location : ℕ) → LocatedInstr
+if_else consequent alternative location = (instr.IfElse (record { consequent = consequent; alternative = alternative }), location)
+
+is_if : (around : List ℕ) (consequent alternative : ℕ) (a : Occurrence) → the_if a → instruction_in around (if_else consequent alternative a.location) ≡ instruction (name_at a) []
+is_if around consequent alternative a e = λ i. record { op = sym e i; clauses = []; location = a.location }
+
+-- `end` closes an alternative
+pub holds_chosen : (env : Environment) (b c : List InstrSeq) (ls : List (Layer Occurrence)) (before s t : Sequence Occurrence) (a l e : Occurrence) (f : OpenFrame) (fs : List OpenFrame) (ifs : List IfElseState) (low consequent : ℕ) → the_if a →
+    IsKept env b (length b) f (slots fs) t → Encloses env b low f (slots fs) (InElse a s l) (consequent ∷ []) → IsSealed env b c f (InElse a s l) e.location →
+    Holds env b ls before low fs ifs → Holds env c ls (append before (closed (InElse a s l) t e)) (length c) (changed_at 0 (with_instr (if_else consequent f.sequence a.location)) fs) ifs
+holds_chosen env b c ls before s t a l e f fs ifs low consequent is k o w h =
+    let p = InElse a s l in
+    let closes = sequence_closed env b c low f (slots fs) (consequent ∷ []) p t e.location k o w in
+    let range = all_rise-range low o.inside f.sequence o.rise in
+    holds_behind env c ls before (closed p t e) low (length c) fs ifs (if_else consequent f.sequence a.location) (closed_range closes) refl
+    (closed_item env c low (length c) (slots fs) (consequent ∷ f.sequence ∷ []) p t e (if_else consequent f.sequence a.location) refl (is_if (slots fs) consequent f.sequence a is) closes)
+    (holds_same env b c ls before low fs ifs (λ q m n. w.written.elsewhere q (λ d. let at : q ≡ f.sequence = d in omega arith)) h)
+
+-- an empty alternative is made for a consequent that `end` closes
+with_alternative : (env : Environment) (c : List InstrSeq) (other : InstrSeq) (low : ℕ) (around places : List ℕ) (a : Occurrence) (s : Sequence Occurrence) (location : ℕ) →
+    other.ty ≡ type_in (typing_of env) (InThen (name_at a)) → other.instrs.items ≡ [] → other.end ≡ default_location →
+    AreClosed env c low (length c) around places (InThen a) s location no_sequences →
+    AreClosed env (c ++ other ∷ []) low (length (c ++ other ∷ [])) around (places ++ length c ∷ []) (InThen a) s location (added_in (typing_of env) (InThen (name_at a)))
+with_alternative env c other low around places a s location type empty no_end k =
+    let d = c ++ other ∷ [] in
+    let more : length d ≡ length c + 1 = length_push c other in
+    let last : Sequences Placed LocatedInstr = sequence (record { place = length c; seq = other }) no_items no_sequences in
+    let top : head_of other ≡ head (type_in (typing_of env) (InThen (name_at a))) default_location = λ i. record { type = type i; end_location = no_end i } in
+    record {
+      inside = sequences_joined k.inside last;
+      are_sequences = are_joined (sequences-same d low (length c) (λ q m n. same_grown c other q (omega arith) n) k.rise k.are_sequences)
+          (are_sequences (grown_at c other) (subst (λ xs. AreItems d xs no_items) (sym empty) are_no_items) are_no_sequences);
+      rise = all_rise_joined low (length c) (length d) k.inside last k.rise (length d, (let n : length c ≤ length c = omega arith in n), (let n : suc (length c) ≤ length d = omega arith in n), (let n : length d ≤ length d = omega arith in n));
+      is_normal =
+          in_joined around k.inside last
+          ∙ (λ i. sequences_joined (k.is_normal i) (sequence (top i) no_items no_sequences));
+    }
+
+pub holds_chosen_alone : (env : Environment) (b c : List InstrSeq) (other : InstrSeq) (ls : List (Layer Occurrence)) (before s : Sequence Occurrence) (a e : Occurrence) (f : OpenFrame) (fs : List OpenFrame) (ifs : List IfElseState) (low : ℕ) → the_if a →
+    IsKept env b (length b) f (slots fs) s → Encloses env b low f (slots fs) (InThen a) [] → IsSealed env b c f (InThen a) e.location →
+    other.ty ≡ type_in (typing_of env) (InThen (name_at a)) → other.instrs.items ≡ [] → other.end ≡ default_location →
+    Holds env b ls before low fs ifs →
+    Holds env (c ++ other ∷ []) ls (append before (closed (InThen a) s e)) (length (c ++ other ∷ [])) (changed_at 0 (with_instr (if_else f.sequence (length c) a.location)) fs) ifs
+holds_chosen_alone env b c other ls before s a e f fs ifs low is k o w type empty no_end h =
+    let p = InThen a in
+    let d = c ++ other ∷ [] in
+    let more : length d ≡ length c + 1 = length_push c other in
+    let closes = with_alternative env c other low (slots fs) (f.sequence ∷ []) a s e.location type empty no_end (sequence_closed env b c low f (slots fs) [] p s e.location k o w) in
+    let range = all_rise-range low o.inside f.sequence o.rise in
+    let below = kept_below env b (length b) f (slots fs) s k in
+    let as_many = w.written.as_many in
+    holds_behind env d ls before (closed p s e) low (length d) fs ifs (if_else f.sequence (length c) a.location) (closed_range closes) refl
+    (closed_item env d low (length d) (slots fs) (f.sequence ∷ length c ∷ []) p s e (if_else f.sequence (length c) a.location) refl (is_if (slots fs) f.sequence (length c) a is) closes)
+    (holds_same env c d ls before low fs ifs (λ q m n. same_grown c other q m (omega arith))
+    (holds_same env b c ls before low fs ifs (λ q m n. w.written.elsewhere q (λ d. let at : q ≡ f.sequence = d in omega arith)) h))
+
+-- ---- the next sequence of a construct is open
+
+pub holds_parted : (env : Environment) (b c : List InstrSeq) (seq : InstrSeq) (ls : List (Layer Occurrence)) (before s : Sequence Occurrence) (p q : OpenConstruct Occurrence) (f g : OpenFrame) (fs gs outside : List OpenFrame) (ifs other_ifs : List IfElseState)
+    (low : ℕ) (places : List ℕ) (location : ℕ) →
+    IsKept env b (length b) f (slots fs) s → Encloses env b low f (slots fs) p places → IsSealed env b c f p location → IsOpened env (length c) q g seq → slots gs ≡ slots fs →
+    closed_in (typing_of env) (reshown_construct name_at q) ≡ sequences_closed (typing_of env) (reshown_construct name_at p) (normal (typing_of env) (reshown name_at s)) location no_sequences →
+    OpensWith (slots gs) (places ++ f.sequence ∷ []) g.sequence q gs outside ifs other_ifs →
+    Holds env b ls before low outside other_ifs → Holds env (c ++ seq ∷ []) (layer before q ∷ ls) Empty (length (c ++ seq ∷ [])) (g ∷ gs) ifs
+holds_parted env b c seq ls before s p q f g fs gs outside ifs other_ifs low places location k o w n same are opens h =
+    let d = c ++ seq ∷ [] in
+    let more : length d ≡ length c + 1 = length_push c seq in
+    let here = n.here in
+    let closes = sequence_closed env b c low f (slots fs) places p s location k o w in
+    let range = all_rise-range low o.inside f.sequence o.rise in
+    let below = kept_below env b (length b) f (slots fs) s k in
+    let as_many = w.written.as_many in
+    record {
+      kept = kept_empty env d (length d) g (slots gs) n.is_empty n.is_alive (omega arith);
+      low = low;
+      before = places ++ f.sequence ∷ [];
+      encloses = record {
+        inside = closes.inside;
+        are_sequences = sequences-same d low (length c) (λ q m n. same_grown c seq q (omega arith) n) closes.rise closes.are_sequences;
+        rise = subst (AllRiseIn low closes.inside) (sym n.here) closes.rise;
+        is_normal = ap (λ ps. sequences_in ps closes.inside) same ∙ closes.is_normal ∙ sym are;
+        reserved = record { seq = seq; stands = ap (slice_get d) n.here ∙ grown_at c seq; has_type = n.has_type; has_no_end = n.has_no_end };
+        kind = n.kind;
+        takes = n.takes;
+        gives = n.gives;
+      };
+      outside = outside;
+      other_ifs = other_ifs;
+      opens = opens;
+      outer = holds_same env c d ls before low outside other_ifs (λ q m n. same_grown c seq q m (omega arith))
+          (holds_same env b c ls before low outside other_ifs (λ q m n. w.written.elsewhere q (λ d. let at : q ≡ f.sequence = d in omega arith)) h);
+    }
