@@ -2,6 +2,8 @@
 pub mod Closing
 pub mod Frames
 pub mod Constructs
+pub mod Labels
+pub mod Placements
 pub mod AnyLocations
 pub mod Mappings
 pub mod SoFars

@@ -5,3 +5,4 @@ pub mod Locating
 pub mod Settings
 pub mod OpenFrames
 pub mod Keeping
+pub mod Placing

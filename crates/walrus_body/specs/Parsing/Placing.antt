@@ -1,0 +1,23 @@
+-- Instructions of operators as they are read: old indices become ids, a label the place of the sequence that it names, and an
+-- exponent a number of bytes.
+use Rattle.std.specs.Prelude.{ℕ, ◌^◌, List, slice_get, Ok}
+use Rattle.wasm_ops.specs.declared.types.BlockType.{BlockType}
+use Rattle.wasm_body.specs.declared.error.ParseError.{ParseError}
+use Rattle.wasm_body.specs.declared.error.ParseError.TheVariants.{NoSuchLabel}
+use Rattle.wasm_body.specs.Results.{◌>>=◌, some_or}
+use Rattle.wasm_body.specs.Frames.{Frame, outside}
+use Rattle.wasm_body.specs.Translation.{Translation}
+use Rattle.wasm_body.specs.Naming.{Environment, id_at, name_block, handler_label, open_label, naming}
+
+-- where the sequences at these places are open, innermost first
+abbrev pub placing : {A : Type 0} → Environment → List (Frame A) → List ℕ → Translation ℕ BlockType ℕ (Unit {0}) ParseError
+placing env fs places = record {
+  index = id_at env;
+  local = (naming env fs).local;
+  label = λ n. some_or (slice_get places n) NoSuchLabel;
+  handler = handler_label fs;
+  outer = open_label (outside fs);
+  block = λ b. name_block env b >>= λ s. Ok tt;
+  alignment = λ e. 2 ^ e;
+  count = λ n. Ok tt;
+}
