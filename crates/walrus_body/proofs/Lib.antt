@@ -4,9 +4,7 @@ pub mod NumberingLemmas
 -- what visitors make of a tree's events
 mod Collecting
 mod Counting
-
 -- writing a function's tree
 pub mod Emission
-
 -- what is kept while a body is parsed
 pub mod Parsing

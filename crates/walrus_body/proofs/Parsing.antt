@@ -4,6 +4,8 @@ pub mod Frames
 pub mod Constructs
 pub mod Labels
 pub mod Placements
+pub mod FrameLists
+pub mod TreeChanges
 pub mod AnyLocations
 pub mod Mappings
 pub mod SoFars

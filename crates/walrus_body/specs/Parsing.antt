@@ -4,5 +4,7 @@ pub mod Checking
 pub mod Locating
 pub mod Settings
 pub mod OpenFrames
+pub mod OpenTrees
+pub mod OwnLists
 pub mod Keeping
 pub mod Placing

@@ -2,10 +2,13 @@
 
 mod body;
 mod check;
+mod context;
 mod frame;
 mod locating;
 mod next;
+mod own_lists;
 
 pub use body::FunctionBody;
 pub use check::{AcceptAll, CheckError, OpCheck};
+pub use context::ValidationContext;
 pub use frame::{ControlFrame, ControlStack, IfElseState};

@@ -39,6 +39,8 @@ fn parse_name(error: ParseError) -> &'static str {
         ParseError::RethrowOutsideHandler => "RethrowOutsideHandler",
         ParseError::Trailing => "Trailing",
         ParseError::MissingEnd => "MissingEnd",
+        ParseError::NoTry => "NoTry",
+        ParseError::NoFrame => "NoFrame",
         ParseError::UnknownId => "UnknownId",
         ParseError::Memory => "Memory",
     }

@@ -84,6 +84,12 @@ pub enum ParseError {
     /// The bytes end before the last `end`.
     #[error("an `end` is missing")]
     MissingEnd,
+    /// No legacy `try` stands at the end of the sequence around the innermost one. No parse answers it.
+    #[error("no `try` stands at the end of the sequence around")]
+    NoTry,
+    /// No sequence is open. No parse answers it.
+    #[error("no sequence is open")]
+    NoFrame,
     /// The module doesn't hold a tag.
     #[error("the module does not hold a tag")]
     UnknownId,

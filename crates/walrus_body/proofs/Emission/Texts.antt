@@ -175,8 +175,8 @@ mutual
         scopes_in ss (closers_in x.0),
         ap (λ c. scopes_at c (places_in x.0) (closers_in x.0)) q ∙ scopes_found (closers_in x.0) inside,
         names_passed (behind op (scopes_in ss (closers_in x.0))) x.0 (sequence_events ss (item_events is es))
-        ∙ sequences_told s (closers_in x.0) (item_events is es) (text (writing s) (items_in around is) k) go q inside c.closed (items_told s es k go q rest h) (output_behind s.has_map s.base o op)
-        ∙ ap (λ ts. outputs s ts go (output_behind s.has_map s.base o op)) (sym (c.same (writing s) (text (writing s) (items_in around is) k))),
+            ∙ sequences_told s (closers_in x.0) (item_events is es) (text (writing s) (items_in around is) k) go q inside c.closed (items_told s es k go q rest h) (output_behind s.has_map s.base o op)
+            ∙ ap (λ ts. outputs s ts go (output_behind s.has_map s.base o op)) (sym (c.same (writing s) (text (writing s) (items_in around is) k))),
       ))
 
   pub sequences_told : {b : List InstrSeq} {ps : List ℕ} {ss : Sequences Placed LocatedInstr} (s : Emitter) (cs : List TextOperation) (es : List Event) (k : List Written) (go : Output → Result Emitter EmitError) →

@@ -123,8 +123,8 @@ pub sequence_closed : (env : Environment) (b c : List InstrSeq) (low : ℕ) (f :
     AreClosed env c low (length c) around (before ++ f.sequence ∷ []) p s location no_sequences
 sequence_closed env b c low f around before p s location k o w =
     let inside : AreItems c w.seq.instrs.items k.items =
-        subst (λ xs. AreItems c xs k.items) (sym w.instrs)
-        (items-same c (suc f.sequence) (length b) (λ q l h. w.written.elsewhere q (λ e. let d : q ≡ f.sequence = e in omega arith)) k.rise k.are_items) in
+    subst (λ xs. AreItems c xs k.items) (sym w.instrs)
+    (items-same c (suc f.sequence) (length b) (λ q l h. w.written.elsewhere q (λ e. let d : q ≡ f.sequence = e in omega arith)) k.rise k.are_items) in
     let others : AreSequences c before o.inside = sequences-same c low f.sequence (λ q l h. w.written.elsewhere q (λ e. let d : q ≡ f.sequence = e in omega arith)) o.rise o.are_sequences in
     let wide : RiseIn (suc f.sequence) k.items (length c) = subst (RiseIn (suc f.sequence) k.items) (sym w.written.as_many) k.rise in
     let last : Sequences Placed LocatedInstr = sequence (record { place = f.sequence; seq = w.seq }) k.items no_sequences in

@@ -1,0 +1,213 @@
+//! The sequences of a function that is parsed, some of which are open.
+ghost use Rattle.std.specs.Prelude.{◌≡◌, ◌⊎◌, ◌≤◌, ◌<◌, [], ◌∷◌, length, slice_get, is_some, IsSome, IsSomeAnd, false, None, Some, IfOk, IfErr, OnOk, OnErr, MatchResult};
+ghost use Rattle.walrus_ir.specs.Arena.{arena, entry_of, type_of};
+ghost use Rattle.walrus_ir.specs.Types.{existing, signature_of};
+ghost use Rattle.walrus_ir.specs.declared.val_type.InstrSeqType.TheVariants.{MultiValue};
+ghost use Rattle.wasm_body.specs.declared.error.ParseError.{ParseError as Fault};
+ghost use Rattle.walrus_body.specs.Parsing.OpenFrames.{OpenFrame, Shows, changed_at, killed, with_instr, InnerAreEmpty};
+ghost use Rattle.walrus_body.specs.Parsing.OpenTrees.{Opens, Closes};
+
+use crate::local_function::frame::{ControlFrame, ControlStack};
+use crate::local_function::own_lists::FrameStack;
+use crate::{IndicesToIds, ParseError};
+use std::alloc::Global;
+use std::marker::Model;
+use walrus_ir::{
+    BlockKind, FunctionBuilder, FunctionId, Instr, InstrLocId, InstrSeqId, InstrSeqType, Module,
+    TypeId, ValType,
+};
+
+/// The sequences of a function that is parsed, some of which are open. A contract sees the sequences and the open frames,
+/// innermost first, each with its instructions.
+#[derive(Drop)]
+pub struct ValidationContext<'a> {
+    module: &'a Module,
+    indices: &'a IndicesToIds,
+    func_id: FunctionId,
+    func: FunctionBuilder,
+    stack: FrameStack,
+}
+
+impl<'a> Model for ValidationContext<'a> {
+    ghost use Rattle.walrus_ir.specs.Arena.{arena, entry_of, type_of};
+    ghost use Rattle.walrus_body.specs.Parsing.OpenTrees.{OpenTrees, StandIn};
+    ghost use Rattle.std.specs.Coded.{codes};
+    ghost use Rattle.walrus_body.specs.contracts.indices_to_ids.IndicesToIds as indices_to_ids;
+
+    ghost Value = { OpenTrees };
+
+    ghost coded = { Prim.hlevel (codes, indices_to_ids.the_row.coded) };
+
+    ghost view = { λ c. record {
+      «module» = c.module.now;
+      indices = c.indices.now;
+      function = c.func_id;
+      type = type_of c.func;
+      entry = entry_of c.func;
+      arena = arena c.func;
+      frames = c.stack;
+    } };
+
+    ghost invariant = { λ c. StandIn (arena c.func) c.stack };
+}
+
+fn copied(alloc: Global, types: &[ValType]) -> Result<Vec<ValType>, ParseError>
+    ensures ok { IfOk result (λ v. v.items ≡ types.now) }
+    ensures err { IfErr result (λ e. e ≡ Fault.Memory) }
+{
+    match Vec::from_slice(alloc, types) {
+        Ok(types) => Ok(types),
+        Err(_) => Err(ParseError::Memory),
+    }
+}
+
+impl<'a> ValidationContext<'a> {
+    /// No frame is open.
+    pub fn new(
+        module: &'a Module,
+        indices: &'a IndicesToIds,
+        func_id: FunctionId,
+        func: FunctionBuilder,
+        controls: ControlStack,
+        instrs: Vec<(Instr, InstrLocId)>,
+    ) -> ValidationContext<'a>
+        requires none { controls.items ≡ [] }
+        requires empty { instrs.items ≡ [] }
+        ensures { result ≡ record { «module» = «module».now; indices = indices.now; function = func_id; type = type_of func; entry = entry_of func; arena = arena func; frames = [] } }
+    {
+        ValidationContext {
+            module,
+            indices,
+            func_id,
+            func,
+            stack: FrameStack::new(controls, instrs),
+        }
+    }
+
+    // Opens a frame whose sequence has this type.
+    fn enter(
+        &mut self,
+        kind: BlockKind,
+        ty: InstrSeqType,
+        start_types: &[ValType],
+        end_types: &[ValType],
+    ) -> Result<InstrSeqId, ParseError>
+        ensures ok { IfOk result (λ id. Opens self.old self.new kind ty start_types.now end_types.now id) }
+        ensures err { IfErr result (λ e. e ≡ Fault.Memory) }
+        ensures same { OnErr result (self.new ≡ self.old) }
+    {
+        let alloc = self.func.allocator();
+        let start_types = copied(alloc, start_types)?;
+        let end_types = copied(alloc, end_types)?;
+        let block = InstrSeqId::new(self.func.count());
+        self.stack.push(kind, start_types, end_types, block)?;
+        match self.func.alloc(ty) {
+            Ok(_) => Ok(block),
+            Err(_) => {
+                self.stack.discard();
+                Err(ParseError::Memory)
+            }
+        }
+    }
+
+    /// Opens a frame that takes and gives these, whose sequence has the type that is picked for them.
+    pub fn push_control(
+        &mut self,
+        kind: BlockKind,
+        start_types: &[ValType],
+        end_types: &[ValType],
+    ) -> Result<InstrSeqId, ParseError>
+        ensures ok { IfOk result (λ id. IsSomeAnd (existing self.old.module.types start_types.now end_types.now)
+            (λ ty. Opens self.old self.new kind ty start_types.now end_types.now id)) }
+        ensures err { IfErr result (λ e. (e ≡ Fault.Memory) ⊎ ((e ≡ Fault.TypeMissing) × (existing self.old.module.types start_types.now end_types.now ≡ None))) }
+        ensures same { OnErr result (self.new ≡ self.old) }
+    {
+        match InstrSeqType::existing(&self.module.types, start_types, end_types) {
+            Some(ty) => self.enter(kind, ty, start_types, end_types),
+            None => Err(ParseError::TypeMissing),
+        }
+    }
+
+    /// Opens a frame that takes and gives what a function type does, which is the type of its sequence.
+    pub fn push_control_with_ty(
+        &mut self,
+        kind: BlockKind,
+        ty: TypeId,
+    ) -> Result<InstrSeqId, ParseError>
+        ensures ok { IfOk result (λ id. IsSomeAnd (signature_of self.old.module.types ty)
+            (λ s. Opens self.old self.new kind (MultiValue ty) s.parameters s.results id)) }
+        ensures err { IfErr result (λ e. (e ≡ Fault.Memory) ⊎ ((e ≡ Fault.NotAFunctionType) × (signature_of self.old.module.types ty ≡ None))) }
+        ensures same { OnErr result (self.new ≡ self.old) }
+    {
+        let module = self.module;
+        if !module.types.is_func(ty) {
+            return Err(ParseError::NotAFunctionType);
+        }
+        let (start_types, end_types) = module.types.params_results(ty);
+        self.enter(kind, InstrSeqType::MultiValue(ty), start_types, end_types)
+    }
+
+    /// Closes the innermost frame. Its sequence then owns its instructions.
+    pub fn pop_control(&mut self) -> Result<(ControlFrame, InstrSeqId), ParseError>
+        ensures ok { IfOk result (λ x. (frame : OpenFrame) × Shows x.0 frame × (x.1 ≡ frame.sequence) × Closes self.old self.new frame) }
+        ensures err { IfErr result (λ e. (e ≡ Fault.Memory) ⊎ ((e ≡ Fault.NoFrame) × (self.old.frames ≡ []))) }
+        ensures same { OnErr result (self.new ≡ self.old) }
+    {
+        match self.stack.pop() {
+            Ok((frame, instrs)) => {
+                let block = frame.block;
+                let seq = self.func.seq_mut(block);
+                seq.instrs = instrs;
+                Ok((frame, block))
+            }
+            Err(error) => Err(error),
+        }
+    }
+
+    /// What follows in the innermost frame is dropped.
+    pub fn unreachable(&mut self) -> Result<(), ParseError>
+        ensures ok { OnOk result ((0 < length self.old.frames) × (self.new ≡ record self.old { frames = changed_at 0 killed self.old.frames })) }
+        ensures err { IfErr result (λ e. (e ≡ Fault.NoFrame) × (self.old.frames ≡ [])) }
+        ensures same { OnErr result (self.new ≡ self.old) }
+    {
+        self.stack.kill()
+    }
+
+    /// The n-th frame from the innermost.
+    pub fn control(&self, n: usize) -> Result<&ControlFrame, ParseError>
+        ensures { MatchResult result (λ f. (frame : OpenFrame) × (slice_get self.now.frames n ≡ Some frame) × Shows f.now frame) (λ e. (e ≡ Fault.NoSuchLabel) × (length self.now.frames ≤ n)) }
+    {
+        match self.stack.get(n) {
+            Some(frame) => Ok(frame),
+            None => Err(ParseError::NoSuchLabel),
+        }
+    }
+
+    /// Appends an instruction to the n-th frame from the innermost, or drops it where that is dead.
+    pub fn alloc_instr_in_control(
+        &mut self,
+        n: usize,
+        instr: Instr,
+        loc: InstrLocId,
+    ) -> Result<(), ParseError>
+        requires { InnerAreEmpty n self.old.frames }
+        ensures ok { OnOk result ((n < length self.old.frames) × (self.new ≡ record self.old { frames = changed_at n (with_instr (instr, loc)) self.old.frames })) }
+        ensures err { IfErr result (λ e. (e ≡ Fault.Memory) ⊎ ((e ≡ Fault.NoSuchLabel) × (length self.old.frames ≤ n))) }
+        ensures same { OnErr result (self.new ≡ self.old) }
+    {
+        self.stack.append(n, instr, loc)
+    }
+
+    /// The same for the innermost frame.
+    pub fn alloc_instr(&mut self, instr: Instr, loc: InstrLocId) -> Result<(), ParseError>
+        ensures ok { OnOk result ((0 < length self.old.frames) × (self.new ≡ record self.old { frames = changed_at 0 (with_instr (instr, loc)) self.old.frames })) }
+        ensures err { IfErr result (λ e. (e ≡ Fault.Memory) ⊎ ((e ≡ Fault.NoFrame) × (length self.old.frames ≤ 0))) }
+        ensures same { OnErr result (self.new ≡ self.old) }
+    {
+        match self.stack.append(0, instr, loc) {
+            Ok(()) => Ok(()),
+            Err(ParseError::NoSuchLabel) => Err(ParseError::NoFrame),
+            Err(error) => Err(error),
+        }
+    }
+}

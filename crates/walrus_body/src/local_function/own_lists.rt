@@ -1,0 +1,155 @@
+//! The open frames, each with a list of instructions of its own.
+ghost use Rattle.std.specs.Prelude.{◌≡◌, ◌⊎◌, ◌≤◌, ◌<◌, ◌∷◌, ◌++◌, [], List, length, slice_get, Some, MatchOption, IfOk, IfErr, OnOk, OnErr, IsSome};
+ghost use Rattle.wasm_body.specs.declared.error.ParseError.{ParseError as Fault};
+ghost use Rattle.walrus_body.specs.Parsing.OpenFrames.{OpenFrame, Shows, frame_with, new_frame, changed_at, killed, with_instr, InnerAreEmpty};
+
+use crate::ParseError;
+use crate::local_function::frame::{ControlFrame, ControlStack};
+use std::marker::Model;
+use walrus_ir::{BlockKind, Instr, InstrLocId, InstrSeqId, ValType};
+
+/// Pushes an item, or leaves the list as it was.
+pub(crate) fn pushed<T: Drop>(list: &mut Vec<T>, item: T) -> Result<(), ParseError>
+    ensures ok { OnOk result (list.new.items ≡ list.old.items ++ item ∷ []) }
+    ensures err { IfErr result (λ e. e ≡ Fault.Memory) }
+    ensures same { OnErr result (list.new.items ≡ list.old.items) }
+{
+    match list.push(item) {
+        Ok(()) => Ok(()),
+        Err(_) => Err(ParseError::Memory),
+    }
+}
+
+/// The open frames. A contract sees them innermost first.
+#[derive(Drop)]
+pub struct FrameStack {
+    controls: ControlStack,
+    lists: Vec<Vec<(Instr, InstrLocId)>>,
+    lent: Vec<(Instr, InstrLocId)>,
+}
+
+impl Model for FrameStack {
+    ghost use Rattle.std.specs.Prelude.{◌≡◌, List, [], length};
+    ghost use Rattle.walrus_body.specs.Parsing.OpenFrames.{OpenFrame};
+
+    ghost Value = { List OpenFrame };
+
+    ghost use Rattle.walrus_body.specs.Parsing.OwnLists.{frames_within};
+
+    ghost view = { λ s. frames_within [] s.controls.items s.lists.items };
+
+    ghost invariant = { λ s. (length s.lists.items ≡ length s.controls.items) × (s.lent.items ≡ []) };
+}
+
+impl FrameStack {
+    /// No frame is open.
+    pub fn new(controls: ControlStack, lent: Vec<(Instr, InstrLocId)>) -> FrameStack
+        requires none { controls.items ≡ [] }
+        requires empty { lent.items ≡ [] }
+        ensures { result ≡ [] }
+    {
+        let lists = Vec::new(*lent.allocator());
+        FrameStack {
+            controls,
+            lists,
+            lent,
+        }
+    }
+
+    /// The n-th frame from the innermost.
+    pub fn get(&self, n: usize) -> Option<&ControlFrame>
+        ensures { MatchOption result (length self.now ≤ n) (λ f. (frame : OpenFrame) × (slice_get self.now n ≡ Some frame) × Shows f.now frame) }
+    {
+        if n >= self.controls.len() {
+            return None;
+        }
+        Some(&self.controls[self.controls.len() - n - 1])
+    }
+
+    /// Opens a frame without instructions.
+    pub fn push(
+        &mut self,
+        kind: BlockKind,
+        start_types: Vec<ValType>,
+        end_types: Vec<ValType>,
+        block: InstrSeqId,
+    ) -> Result<(), ParseError>
+        ensures ok { OnOk result (self.new ≡ new_frame kind start_types.items end_types.items block ∷ self.old) }
+        ensures err { IfErr result (λ e. e ≡ Fault.Memory) }
+        ensures same { OnErr result (self.new ≡ self.old) }
+    {
+        let alloc = *self.lent.allocator();
+        if self.lists.reserve(1).is_err() {
+            return Err(ParseError::Memory);
+        }
+        let frame = ControlFrame {
+            start_types,
+            end_types,
+            unreachable: false,
+            block,
+            kind,
+            start: 0,
+        };
+        match pushed(&mut self.controls, frame) {
+            Ok(()) => {
+                self.lists.push(Vec::new(alloc)).unwrap();
+                Ok(())
+            }
+            Err(error) => Err(error),
+        }
+    }
+
+    /// Closes the innermost frame.
+    pub fn pop(&mut self) -> Result<(ControlFrame, Vec<(Instr, InstrLocId)>), ParseError>
+        ensures ok { IfOk result (λ x. self.old ≡ frame_with x.0 x.1.items ∷ self.new) }
+        ensures err { IfErr result (λ e. (e ≡ Fault.Memory) ⊎ ((e ≡ Fault.NoFrame) × (self.old ≡ []))) }
+        ensures same { OnErr result (self.new ≡ self.old) }
+    {
+        let Some(frame) = self.controls.pop() else {
+            return Err(ParseError::NoFrame);
+        };
+        let list = self.lists.pop().unwrap();
+        Ok((frame, list))
+    }
+
+    /// Closes the innermost frame and drops its instructions. It takes no memory.
+    pub fn discard(&mut self)
+        requires { 0 < length self.old }
+        ensures { (frame : OpenFrame) × (self.old ≡ frame ∷ self.new) }
+    {
+        let _frame = self.controls.pop().unwrap();
+        let _list = self.lists.pop().unwrap();
+    }
+
+    /// What follows in the innermost frame is dropped.
+    pub fn kill(&mut self) -> Result<(), ParseError>
+        ensures ok { OnOk result ((0 < length self.old) × (self.new ≡ changed_at 0 killed self.old)) }
+        ensures err { IfErr result (λ e. (e ≡ Fault.NoFrame) × (self.old ≡ [])) }
+        ensures same { OnErr result (self.new ≡ self.old) }
+    {
+        match self.controls.len().checked_sub(1) {
+            Some(index) => {
+                self.controls[index].unreachable = true;
+                Ok(())
+            }
+            None => Err(ParseError::NoFrame),
+        }
+    }
+
+    /// Appends an instruction to the n-th frame from the innermost, or drops it where that is dead.
+    pub fn append(&mut self, n: usize, instr: Instr, location: InstrLocId) -> Result<(), ParseError>
+        requires { InnerAreEmpty n self.old }
+        ensures ok { OnOk result ((n < length self.old) × (self.new ≡ changed_at n (with_instr (instr, location)) self.old)) }
+        ensures err { IfErr result (λ e. (e ≡ Fault.Memory) ⊎ ((e ≡ Fault.NoSuchLabel) × (length self.old ≤ n))) }
+        ensures same { OnErr result (self.new ≡ self.old) }
+    {
+        if n >= self.controls.len() {
+            return Err(ParseError::NoSuchLabel);
+        }
+        let index = self.controls.len() - n - 1;
+        if self.controls[index].unreachable {
+            return Ok(());
+        }
+        pushed(&mut self.lists[index], (instr, location))
+    }
+}
