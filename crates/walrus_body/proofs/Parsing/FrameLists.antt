@@ -1,10 +1,11 @@
 -- The frames that two lists of the same length show.
 use Rattle.std.specs.Prelude.{◌≡◌, ℕ, zero, suc, ◌+◌, List, [], ◌∷◌, ◌++◌, length, Some, slice_get, slice_set}
 use Rattle.std.specs.declared.vec.Vec.{Vec}
-use Rattle.std.proofs.Common.{refl, ap, sym, ◌∙◌, arith}
+use Rattle.std.proofs.lemmas.List.{append-nil, reverse-append}
+use Rattle.std.proofs.Common.{append_assoc, subst, reverse, refl, ap, sym, ◌∙◌, arith}
 use Rattle.walrus_ir.specs.Unfolding.{Located}
 use Rattle.walrus_body.specs.declared.local_function.frame.ControlFrame.{ControlFrame}
-use Rattle.walrus_body.specs.Parsing.OpenFrames.{OpenFrame, frame_with, changed_at}
+use Rattle.walrus_body.specs.Parsing.OpenFrames.{OpenFrame, AreShown, frame_with, changed_at}
 use Rattle.walrus_body.specs.Parsing.OwnLists.{frames_within}
 
 module _ {Z : Type 0} where
@@ -68,3 +69,16 @@ pub unchanged_at : (change : OpenFrame → OpenFrame) (fs : List OpenFrame) (n :
 unchanged_at change [] n f at same = refl
 unchanged_at change (g ∷ fs) zero f at same = let is : g ≡ f = cc in ap (λ x. x ∷ fs) (ap change is ∙ same ∙ sym is)
 unchanged_at change (g ∷ fs) (suc n) f at same = ap (λ xs. g ∷ xs) (unchanged_at change fs n f at same)
+
+-- frames of the code are shown, the innermost first
+module _ {Z : Type 0} where
+  shown_onto : (acc : List ControlFrame) (outer : List OpenFrame) (cs : List ControlFrame) (ls : List (Vec Located Z)) → length ls ≡ length cs → AreShown acc outer → AreShown (reverse cs ++ acc) (frames_within outer cs ls)
+  shown_onto acc outer [] ls e h = h
+  shown_onto acc outer (g ∷ cs) [] e h = absurd (omega arith)
+  shown_onto acc outer (g ∷ cs) (m ∷ ls) e h =
+      let rest = shown_onto (g ∷ acc) (frame_with g m.items ∷ outer) cs ls (omega arith) (record { is = refl }, h) in
+      subst (λ xs. AreShown xs (frames_within (frame_with g m.items ∷ outer) cs ls))
+      (sym (append_assoc (reverse cs) (g ∷ []) acc) ∙ ap (λ xs. xs ++ acc) (sym (reverse-append (g ∷ []) cs))) rest
+
+  pub all_shown : (cs : List ControlFrame) (ls : List (Vec Located Z)) → length ls ≡ length cs → AreShown (reverse cs) (frames_within [] cs ls)
+  all_shown cs ls e = subst (λ xs. AreShown xs (frames_within [] cs ls)) (append-nil (reverse cs)) (shown_onto [] [] cs ls e tt)

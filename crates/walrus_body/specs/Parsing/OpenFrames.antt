@@ -23,6 +23,12 @@ frame_with f instrs = record { kind = f.kind; start_types = f.start_types.items;
 pub record Shows (f : ControlFrame) (frame : OpenFrame) : Type 0 where
   pub is : frame ≡ frame_with f frame.instrs
 
+abbrev pub AreShown : List ControlFrame → List OpenFrame → Type 0
+AreShown [] [] = Unit {0}
+AreShown [] (f ∷ fs) = ⊥
+AreShown (c ∷ cs) [] = ⊥
+AreShown (c ∷ cs) (f ∷ fs) = Shows c f × AreShown cs fs
+
 abbrev pub new_frame : BlockKind → (takes gives : List (ValType ℕ)) → (sequence : ℕ) → OpenFrame
 new_frame kind takes gives sequence = record { kind = kind; start_types = takes; end_types = gives; sequence = sequence; dead = false; instrs = [] }
 

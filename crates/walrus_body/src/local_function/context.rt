@@ -1,10 +1,10 @@
 //! The sequences of a function that is parsed, some of which are open.
-ghost use Rattle.std.specs.Prelude.{◌≡◌, ◌⊎◌, ◌≤◌, ◌<◌, [], ◌∷◌, length, slice_get, is_some, IsSome, IsSomeAnd, false, None, Some, IfOk, IfErr, OnOk, OnErr, MatchResult};
+ghost use Rattle.std.specs.Prelude.{reverse, ◌≡◌, ◌⊎◌, ◌≤◌, ◌<◌, [], ◌∷◌, length, slice_get, is_some, IsSome, IsSomeAnd, false, None, Some, IfOk, IfErr, OnOk, OnErr, MatchResult};
 ghost use Rattle.walrus_ir.specs.Arena.{arena, entry_of, type_of};
 ghost use Rattle.walrus_ir.specs.Types.{existing, signature_of};
 ghost use Rattle.walrus_ir.specs.declared.val_type.InstrSeqType.TheVariants.{MultiValue};
 ghost use Rattle.wasm_body.specs.declared.error.ParseError.{ParseError as Fault};
-ghost use Rattle.walrus_body.specs.Parsing.OpenFrames.{OpenFrame, Shows, changed_at, killed, with_instr, InnerAreEmpty};
+ghost use Rattle.walrus_body.specs.Parsing.OpenFrames.{OpenFrame, AreShown, Shows, changed_at, killed, with_instr, InnerAreEmpty};
 ghost use Rattle.walrus_body.specs.Parsing.OpenTrees.{Opens, Closes};
 
 use crate::local_function::frame::{ControlFrame, ControlStack};
@@ -209,5 +209,19 @@ impl<'a> ValidationContext<'a> {
             Err(ParseError::NoSuchLabel) => Err(ParseError::NoFrame),
             Err(error) => Err(error),
         }
+    }
+
+    /// The function, the open frames as they are shown, the innermost last, and the list of instructions, which is empty
+    /// where no frame is open.
+    pub fn into_parts(self) -> (FunctionBuilder, ControlStack, Vec<(Instr, InstrLocId)>)
+        ensures type_is { type_of result.0 ≡ self.entry.type }
+        ensures entry { entry_of result.0 ≡ self.entry.entry }
+        ensures sequences { arena result.0 ≡ self.entry.arena }
+        ensures frames { AreShown (reverse result.1.items) self.entry.frames }
+        ensures empty { self.entry.frames ≡ [] → result.2.items ≡ [] }
+    {
+        let ValidationContext { func, stack, .. } = self;
+        let (controls, instrs) = stack.into_parts();
+        (func, controls, instrs)
     }
 }

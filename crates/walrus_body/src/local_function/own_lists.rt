@@ -1,7 +1,7 @@
 //! The open frames, each with a list of instructions of its own.
-ghost use Rattle.std.specs.Prelude.{◌≡◌, ◌⊎◌, ◌≤◌, ◌<◌, ◌∷◌, ◌++◌, [], List, length, slice_get, Some, MatchOption, IfOk, IfErr, OnOk, OnErr, IsSome};
+ghost use Rattle.std.specs.Prelude.{reverse, ◌≡◌, ◌⊎◌, ◌≤◌, ◌<◌, ◌∷◌, ◌++◌, [], List, length, slice_get, Some, MatchOption, IfOk, IfErr, OnOk, OnErr, IsSome};
 ghost use Rattle.wasm_body.specs.declared.error.ParseError.{ParseError as Fault};
-ghost use Rattle.walrus_body.specs.Parsing.OpenFrames.{OpenFrame, Shows, frame_with, new_frame, changed_at, killed, with_instr, InnerAreEmpty};
+ghost use Rattle.walrus_body.specs.Parsing.OpenFrames.{OpenFrame, AreShown, Shows, frame_with, new_frame, changed_at, killed, with_instr, InnerAreEmpty};
 
 use crate::ParseError;
 use crate::local_function::frame::{ControlFrame, ControlStack};
@@ -151,5 +151,14 @@ impl FrameStack {
             return Ok(());
         }
         pushed(&mut self.lists[index], (instr, location))
+    }
+
+    /// The frames as they are shown, the innermost last, and a list without instructions.
+    pub fn into_parts(self) -> (ControlStack, Vec<(Instr, InstrLocId)>)
+        ensures frames { AreShown (reverse result.0.items) self }
+        ensures empty { result.1.items ≡ [] }
+    {
+        let FrameStack { controls, lent, .. } = self;
+        (controls, lent)
     }
 }
