@@ -1,4 +1,5 @@
 pub mod Types
+pub mod TypeOrder
 pub mod Tree
 pub mod Locations
 pub mod TypeEntries
