@@ -8,6 +8,7 @@ pub mod Lending
 pub mod Unfolding
 pub mod Faults
 pub mod Events
+pub mod Sameness
 pub mod Walk
 pub mod WalkLaws
 pub mod Planning
