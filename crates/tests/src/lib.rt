@@ -16,6 +16,7 @@ mod modules;
 mod program;
 #[cfg(test)]
 mod reading;
+mod recorder;
 #[cfg(test)]
 mod rewriting;
 #[cfg(test)]

@@ -1,79 +1,12 @@
 //! Walks over functions that are made by hand.
 use crate::by_hand::{empty, example, put};
-use std::alloc::Global;
+use crate::recorder::Recorder;
 use std::test::Fail;
 use walrus_ir::{
     ArrayInitData, ArrayNewData, Block, Call, DataDrop, DataId, FunctionBuilder, FunctionId, Instr,
-    InstrLocId, InstrSeq, InstrSeqId, LocalGet, LocalId, LocalSet, LocalTee, MemoryId, MemoryInit,
-    RefFunc, TypeId, Visitor, WalkError, dfs_in_order,
+    InstrSeqId, LocalGet, LocalId, LocalSet, LocalTee, MemoryId, MemoryInit, RefFunc, TypeId,
+    WalkError, dfs_in_order,
 };
-
-// Writes down what it is told, a word a call, and refuses once it was called often enough.
-#[derive(Drop)]
-struct Recorder {
-    told: String,
-    calls_left: u32,
-}
-
-impl Recorder {
-    fn new(alloc: Global, calls_left: u32) -> Recorder {
-        Recorder {
-            told: String::new(alloc),
-            calls_left,
-        }
-    }
-
-    fn note(&mut self, word: &str, number: usize) -> Result<(), WalkError> {
-        if self.calls_left == 0 {
-            return Err(WalkError::TooLarge);
-        }
-        self.calls_left -= 1;
-        write!(self.told, " {word}{number}")?;
-        Ok(())
-    }
-}
-
-impl Visitor for Recorder {
-    type Fault = WalkError;
-
-    ghost steps = { λ _ _ _. Unit {0} };
-
-    ghost refuses = { λ _ _ _. Unit {0} };
-
-    ghost same = { λ _ _. Unit {0} };
-
-    fn start_instr_seq(&mut self, seq: &InstrSeq) -> Result<(), WalkError> {
-        self.note("start", seq.id().index())
-    }
-
-    fn end_instr_seq(&mut self, seq: &InstrSeq) -> Result<(), WalkError> {
-        self.note("end", seq.len())
-    }
-
-    fn visit_instr(&mut self, instr: &Instr, loc: &InstrLocId) -> Result<(), WalkError> {
-        let word = match instr {
-            Instr::Const(_) => "const",
-            Instr::Drop => "drop",
-            Instr::Block(_) => "block",
-            Instr::IfElse(_) => "if-else",
-            Instr::Try(_) => "try",
-            _ => "other",
-        };
-        self.note(word, loc.data() as usize)
-    }
-
-    fn visit_data_id(&mut self, data_id: &DataId) -> Result<(), WalkError> {
-        self.note("data", data_id.index())
-    }
-
-    fn visit_local_id(&mut self, local: &LocalId) -> Result<(), WalkError> {
-        self.note("local", local.index())
-    }
-
-    fn visit_ref_func(&mut self, instr: &RefFunc) -> Result<(), WalkError> {
-        self.note("func", instr.func.index())
-    }
-}
 
 #[test]
 fn walks_in_order(rt: HostRuntime) -> Result<(), Fail> {
@@ -84,7 +17,7 @@ fn walks_in_order(rt: HostRuntime) -> Result<(), Fail> {
         " start0 const1 drop0 block0 start1 const2 drop0 if-else0 start2 const3 drop0 end2 \
         start3 const4 drop0 end2 const5 drop0 end5 const6 drop0 try0 start4 const7 drop0 end2 \
         start5 const8 drop0 end2 start6 const9 drop0 end2 const10 drop0 end8";
-    assert_eq!(rt; recorder.told.as_str(), wanted);
+    assert_eq!(rt; recorder.text()?.as_str(), wanted);
     Ok(())
 }
 
@@ -161,7 +94,7 @@ fn tells_names(rt: HostRuntime) -> Result<(), Fail> {
     assert_eq!(rt; dfs_in_order(&mut recorder, &builder, entry), Ok(()));
     let wanted = " start0 other0 local1 other0 local2 other0 local3 other0 data4 other0 data5 \
         other0 data6 other0 data7 other0 func9 other0 end9";
-    assert_eq!(rt; recorder.told.as_str(), wanted);
+    assert_eq!(rt; recorder.text()?.as_str(), wanted);
     Ok(())
 }
 
@@ -171,7 +104,7 @@ fn stops_at_a_refusal(rt: HostRuntime) -> Result<(), Fail> {
     let mut recorder = Recorder::new(rt.alloc(), 2);
     let refused = dfs_in_order(&mut recorder, &builder, entry);
     assert_eq!(rt; refused, Err(WalkError::TooLarge));
-    assert_eq!(rt; recorder.told.as_str(), " start0 const1");
+    assert_eq!(rt; recorder.text()?.as_str(), " start0 const1");
     Ok(())
 }
 
@@ -198,7 +131,7 @@ fn finds_the_first_fault(rt: HostRuntime) -> Result<(), Fail> {
     ] {
         let mut recorder = Recorder::new(rt.alloc(), 1000);
         assert_eq!(rt; dfs_in_order(&mut recorder, &builder, start), Err(fault));
-        assert_eq!(rt; recorder.told.as_str(), "");
+        assert_eq!(rt; recorder.text()?.as_str(), "");
     }
     Ok(())
 }

@@ -42,6 +42,19 @@ impl Visitor for DataSegmentsVisitor {
 
     ghost same = { HoldsSame };
 
+    ghost use Rattle.std.proofs.Common.{refl, sym, ◌∙◌};
+    ghost use Rattle.walrus_body.specs.Segments.{collect_alike, want_alike};
+
+    ghost reflexive = { λ s d. refl };
+
+    ghost symmetric = { λ s t h d. sym (h d) };
+
+    ghost transitive = { λ s t u h k d. k d ∙ h d };
+
+    ghost steps_alike = { collect_alike };
+
+    ghost refuses_alike = { want_alike };
+
     fn start_instr_seq(&mut self, _seq: &InstrSeq) -> Result<(), WalkError> {
         Ok(())
     }

@@ -36,6 +36,19 @@ impl Visitor for SizeVisitor {
 
     ghost refuses = { Overflows };
 
+    ghost use Rattle.std.proofs.Common.{refl, sym, ◌∙◌};
+    ghost use Rattle.walrus_ir.specs.Sameness.{equal_steps_alike, equal_refusals_alike};
+
+    ghost reflexive = { λ s. refl };
+
+    ghost symmetric = { λ s t. sym };
+
+    ghost transitive = { λ s t u h k. h ∙ k };
+
+    ghost steps_alike = { equal_steps_alike Counts };
+
+    ghost refuses_alike = { equal_refusals_alike Overflows };
+
     fn start_instr_seq(&mut self, _seq: &InstrSeq) -> Result<(), WalkError> {
         Ok(())
     }

@@ -4,6 +4,7 @@ pub mod WalkLaws
 pub mod Tasks
 pub mod Marks
 pub mod Planning
+pub mod TreeOrFault
 pub mod Telling
 pub mod Handlers
 pub mod Next

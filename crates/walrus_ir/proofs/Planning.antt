@@ -30,10 +30,10 @@ pub stands_first : (b : List InstrSeq) (start : ℕ) (marks : List Bool) → len
     → Stands b start marks [] (start ∷ [])
 stands_first b start marks l m = record { seen = []; walks = begun; as_long = l; marks_are = m; order_is = refl }
 
-reach_within : {b : List InstrSeq} {start : ℕ} {marks : List Bool} {order next : List ℕ} (p : ℕ) (seq : InstrSeq) → Stands b start marks order next → slice_get b p ≡ Some seq → p < length marks
+pub reach_within : {b : List InstrSeq} {start : ℕ} {marks : List Bool} {order next : List ℕ} (p : ℕ) (seq : InstrSeq) → Stands b start marks order next → slice_get b p ≡ Some seq → p < length marks
 reach_within p seq h known = rw h.as_long (slice_get_within _ p seq known)
 
-stands_enter : {b : List InstrSeq} {start : ℕ} {marks : List Bool} {order next : List ℕ} (p : ℕ) (seq : InstrSeq) (marks' : List Bool) → IsReached b p seq marks marks'
+pub stands_enter : {b : List InstrSeq} {start : ℕ} {marks : List Bool} {order next : List ℕ} (p : ℕ) (seq : InstrSeq) (marks' : List Bool) → IsReached b p seq marks marks'
     → Stands b start marks order (p ∷ next) → Stands b start marks' (order ++ p ∷ []) (places_in_all seq.instrs.items ++ next)
 stands_enter {b = b} {marks = marks} p seq marks' r h = record {
   seen = p ∷ h.seen;
@@ -70,7 +70,7 @@ done_falls {b = b} (Enter p) old new d h =
 done_falls {b = b} (Resume rest) old new d h = gone_falls b (Resume rest) old new d
 done_falls {b = b} (Clauses rest) old new d h = gone_falls b (Clauses rest) old new d
 
-refused_fault : {b : List InstrSeq} {start : ℕ} {marks : List Bool} {order next : List ℕ} (p : ℕ) (e : WalkError)
+pub refused_fault : {b : List InstrSeq} {start : ℕ} {marks : List Bool} {order next : List ℕ} (p : ℕ) (e : WalkError)
     → Stands b start marks order (p ∷ next) → IsRefusedAt b marks p e → FirstFault b start e
 refused_fault p UnknownSequence h r = unknown h.walks r
 refused_fault p SharedSequence h r = shared h.walks (sym (h.marks_are p) ∙ r)

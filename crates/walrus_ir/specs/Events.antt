@@ -45,6 +45,13 @@ events t = sequence_events (alone t) []
 -- What a visitor means: `steps s e t`, at the state s it may take the event e, and is then at t; `refuses s e f`, at s it
 -- may refuse e with the fault f; `same s t`, at t it is as it was at s.
 
+-- states that are the same take the same steps, and refuse the same events with the same faults
+abbrev pub AreStepsAlike : {V : Type 0} → (V → V → Type 0) → (V → Event → V → Type 0) → Type 0
+AreStepsAlike {V = V} same steps = (s s' t t' : V) (e : Event) → same s s' → same t t' → steps s e t → steps s' e t'
+
+abbrev pub AreRefusalsAlike : {V F : Type 0} → (V → V → Type 0) → (V → Event → F → Type 0) → Type 0
+AreRefusalsAlike {V = V} {F = F} same refuses = (s s' : V) (e : Event) (f : F) → same s s' → refuses s e f → refuses s' e f
+
 -- from one state to another through these events
 pub data Folds {V : Type 0} (steps : V → Event → V → Type 0) : V → List Event → V → Type 0 where
   through : {v : V} → Folds steps v [] v

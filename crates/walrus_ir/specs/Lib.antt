@@ -1,4 +1,5 @@
 pub mod Types
+pub mod TypeOrder
 pub mod Tree
 pub mod Locations
 pub mod TypeEntries
@@ -7,6 +8,7 @@ pub mod Lending
 pub mod Unfolding
 pub mod Faults
 pub mod Events
+pub mod Sameness
 pub mod Walk
 pub mod WalkLaws
 pub mod Planning

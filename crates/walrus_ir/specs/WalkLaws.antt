@@ -1,5 +1,5 @@
 -- What the definitions of trees, faults and walks owe each other.
-use Rattle.std.specs.Prelude.{◌≡◌, ℕ, List, []}
+use Rattle.std.specs.Prelude.{◌≡◌, ◌⊎◌, ℕ, List, []}
 use Rattle.walrus_ir.specs.declared.seq.InstrSeq.{InstrSeq}
 use Rattle.walrus_ir.specs.declared.error.WalkError.{WalkError}
 use Rattle.walrus_ir.specs.Tree.{Tree, alone}
@@ -15,6 +15,11 @@ TreeHasNoFault =
 
 abbrev pub OneFault : Type 0
 OneFault = (b : List InstrSeq) (start : ℕ) (e f : WalkError) → FirstFault b start e → FirstFault b start f → e ≡ f
+
+-- every function has a tree from a sequence on, or a first fault
+abbrev pub TreeOrFault : Type 0
+TreeOrFault =
+    (b : List InstrSeq) (start : ℕ) → ((t : Tree Placed Located) × IsTree b start t) ⊎ ((e : WalkError) × FirstFault b start e)
 
 -- where there is a tree, the walk reaches its places in its order, and then has none left
 abbrev pub TreeIsWalked : Type 0

@@ -4,7 +4,7 @@ use crate::id::{DataId, MemoryId};
 use crate::memory::{AtomicOp, AtomicWidth, LoadKind, LoadSimdKind, MemArg, StoreKind};
 
 /// A load, narrow and atomic ones too.
-#[derive(Clone, Copy, Debug, PartialEq, Eq)]
+#[derive(Clone, Copy)]
 pub struct Load {
     pub memory: MemoryId,
     pub kind: LoadKind,
@@ -12,7 +12,7 @@ pub struct Load {
 }
 
 /// A store, narrow and atomic ones too.
-#[derive(Clone, Copy, Debug, PartialEq, Eq)]
+#[derive(Clone, Copy)]
 pub struct Store {
     pub memory: MemoryId,
     pub kind: StoreKind,
@@ -20,7 +20,7 @@ pub struct Store {
 }
 
 /// A vector access that is no plain load or store; those that store a lane too.
-#[derive(Clone, Copy, Debug, PartialEq, Eq)]
+#[derive(Clone, Copy)]
 pub struct LoadSimd {
     pub memory: MemoryId,
     pub kind: LoadSimdKind,
@@ -28,7 +28,7 @@ pub struct LoadSimd {
 }
 
 /// An atomic read-modify-write.
-#[derive(Clone, Copy, Debug, PartialEq, Eq)]
+#[derive(Clone, Copy)]
 pub struct AtomicRmw {
     pub memory: MemoryId,
     pub op: AtomicOp,
@@ -37,7 +37,7 @@ pub struct AtomicRmw {
 }
 
 /// An atomic compare and exchange.
-#[derive(Clone, Copy, Debug, PartialEq, Eq)]
+#[derive(Clone, Copy)]
 pub struct Cmpxchg {
     pub memory: MemoryId,
     pub width: AtomicWidth,
@@ -45,14 +45,14 @@ pub struct Cmpxchg {
 }
 
 /// `memory.atomic.notify`.
-#[derive(Clone, Copy, Debug, PartialEq, Eq)]
+#[derive(Clone, Copy)]
 pub struct AtomicNotify {
     pub memory: MemoryId,
     pub arg: MemArg,
 }
 
 /// `memory.atomic.wait32`, or `wait64` where it is marked so.
-#[derive(Clone, Copy, Debug, PartialEq, Eq)]
+#[derive(Clone, Copy)]
 pub struct AtomicWait {
     pub memory: MemoryId,
     pub arg: MemArg,
@@ -60,38 +60,38 @@ pub struct AtomicWait {
 }
 
 /// `memory.size`.
-#[derive(Clone, Copy, Debug, PartialEq, Eq)]
+#[derive(Clone, Copy)]
 pub struct MemorySize {
     pub memory: MemoryId,
 }
 
 /// `memory.grow`.
-#[derive(Clone, Copy, Debug, PartialEq, Eq)]
+#[derive(Clone, Copy)]
 pub struct MemoryGrow {
     pub memory: MemoryId,
 }
 
 /// `memory.fill`.
-#[derive(Clone, Copy, Debug, PartialEq, Eq)]
+#[derive(Clone, Copy)]
 pub struct MemoryFill {
     pub memory: MemoryId,
 }
 
 /// `memory.init`: copies from a data segment.
-#[derive(Clone, Copy, Debug, PartialEq, Eq)]
+#[derive(Clone, Copy)]
 pub struct MemoryInit {
     pub memory: MemoryId,
     pub data_id: DataId,
 }
 
 /// `data.drop`.
-#[derive(Clone, Copy, Debug, PartialEq, Eq)]
+#[derive(Clone, Copy)]
 pub struct DataDrop {
     pub data_id: DataId,
 }
 
 /// `memory.copy`.
-#[derive(Clone, Copy, Debug, PartialEq, Eq)]
+#[derive(Clone, Copy)]
 pub struct MemoryCopy {
     pub src: MemoryId,
     pub dst: MemoryId,

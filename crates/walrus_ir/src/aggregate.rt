@@ -3,19 +3,19 @@
 use crate::id::{DataId, ElementId, TypeId};
 
 /// `struct.new`.
-#[derive(Clone, Copy, Debug, PartialEq, Eq)]
+#[derive(Clone, Copy)]
 pub struct StructNew {
     pub ty: TypeId,
 }
 
 /// `struct.new_default`.
-#[derive(Clone, Copy, Debug, PartialEq, Eq)]
+#[derive(Clone, Copy)]
 pub struct StructNewDefault {
     pub ty: TypeId,
 }
 
 /// `struct.get`.
-#[derive(Clone, Copy, Debug, PartialEq, Eq)]
+#[derive(Clone, Copy)]
 pub struct StructGet {
     pub ty: TypeId,
     /// The number of the field.
@@ -23,7 +23,7 @@ pub struct StructGet {
 }
 
 /// `struct.get_s`.
-#[derive(Clone, Copy, Debug, PartialEq, Eq)]
+#[derive(Clone, Copy)]
 pub struct StructGetS {
     pub ty: TypeId,
     /// The number of the field.
@@ -31,7 +31,7 @@ pub struct StructGetS {
 }
 
 /// `struct.get_u`.
-#[derive(Clone, Copy, Debug, PartialEq, Eq)]
+#[derive(Clone, Copy)]
 pub struct StructGetU {
     pub ty: TypeId,
     /// The number of the field.
@@ -39,7 +39,7 @@ pub struct StructGetU {
 }
 
 /// `struct.set`.
-#[derive(Clone, Copy, Debug, PartialEq, Eq)]
+#[derive(Clone, Copy)]
 pub struct StructSet {
     pub ty: TypeId,
     /// The number of the field.
@@ -47,19 +47,19 @@ pub struct StructSet {
 }
 
 /// `array.new`.
-#[derive(Clone, Copy, Debug, PartialEq, Eq)]
+#[derive(Clone, Copy)]
 pub struct ArrayNew {
     pub ty: TypeId,
 }
 
 /// `array.new_default`.
-#[derive(Clone, Copy, Debug, PartialEq, Eq)]
+#[derive(Clone, Copy)]
 pub struct ArrayNewDefault {
     pub ty: TypeId,
 }
 
 /// `array.new_fixed`.
-#[derive(Clone, Copy, Debug, PartialEq, Eq)]
+#[derive(Clone, Copy)]
 pub struct ArrayNewFixed {
     pub ty: TypeId,
     /// The number of elements.
@@ -67,65 +67,65 @@ pub struct ArrayNewFixed {
 }
 
 /// `array.new_data`.
-#[derive(Clone, Copy, Debug, PartialEq, Eq)]
+#[derive(Clone, Copy)]
 pub struct ArrayNewData {
     pub ty: TypeId,
     pub data_id: DataId,
 }
 
 /// `array.new_elem`.
-#[derive(Clone, Copy, Debug, PartialEq, Eq)]
+#[derive(Clone, Copy)]
 pub struct ArrayNewElem {
     pub ty: TypeId,
     pub elem: ElementId,
 }
 
 /// `array.get`.
-#[derive(Clone, Copy, Debug, PartialEq, Eq)]
+#[derive(Clone, Copy)]
 pub struct ArrayGet {
     pub ty: TypeId,
 }
 
 /// `array.get_s`.
-#[derive(Clone, Copy, Debug, PartialEq, Eq)]
+#[derive(Clone, Copy)]
 pub struct ArrayGetS {
     pub ty: TypeId,
 }
 
 /// `array.get_u`.
-#[derive(Clone, Copy, Debug, PartialEq, Eq)]
+#[derive(Clone, Copy)]
 pub struct ArrayGetU {
     pub ty: TypeId,
 }
 
 /// `array.set`.
-#[derive(Clone, Copy, Debug, PartialEq, Eq)]
+#[derive(Clone, Copy)]
 pub struct ArraySet {
     pub ty: TypeId,
 }
 
 /// `array.fill`.
-#[derive(Clone, Copy, Debug, PartialEq, Eq)]
+#[derive(Clone, Copy)]
 pub struct ArrayFill {
     pub ty: TypeId,
 }
 
 /// `array.copy`.
-#[derive(Clone, Copy, Debug, PartialEq, Eq)]
+#[derive(Clone, Copy)]
 pub struct ArrayCopy {
     pub dst_ty: TypeId,
     pub src_ty: TypeId,
 }
 
 /// `array.init_data`.
-#[derive(Clone, Copy, Debug, PartialEq, Eq)]
+#[derive(Clone, Copy)]
 pub struct ArrayInitData {
     pub ty: TypeId,
     pub data_id: DataId,
 }
 
 /// `array.init_elem`.
-#[derive(Clone, Copy, Debug, PartialEq, Eq)]
+#[derive(Clone, Copy)]
 pub struct ArrayInitElem {
     pub ty: TypeId,
     pub elem: ElementId,

@@ -22,19 +22,19 @@ pub enum BlockKind {
 }
 
 /// `block`: a sequence that a branch leaves.
-#[derive(Clone, Copy, Debug, PartialEq, Eq)]
+#[derive(Clone, Copy)]
 pub struct Block {
     pub seq: InstrSeqId,
 }
 
 /// `loop`: a sequence that a branch begins again.
-#[derive(Clone, Copy, Debug, PartialEq, Eq)]
+#[derive(Clone, Copy)]
 pub struct Loop {
     pub seq: InstrSeqId,
 }
 
 /// `if` with its `else`: a choice of two sequences.
-#[derive(Clone, Copy, Debug, PartialEq, Eq)]
+#[derive(Clone, Copy)]
 pub struct IfElse {
     pub consequent: InstrSeqId,
     pub alternative: InstrSeqId,
@@ -42,7 +42,7 @@ pub struct IfElse {
 
 /// A clause of a `try_table`: which exceptions it takes, and where it goes with them. A clause with `Ref` hands the
 /// exception on too.
-#[derive(Clone, Copy, Debug, PartialEq, Eq)]
+#[derive(Clone, Copy)]
 pub enum TryTableCatch {
     Catch { tag: TagId, label: InstrSeqId },
     CatchRef { tag: TagId, label: InstrSeqId },
@@ -51,7 +51,7 @@ pub enum TryTableCatch {
 }
 
 /// `try_table`: a sequence with clauses that take exceptions raised in it.
-#[derive(Debug, Drop, PartialEq, Eq)]
+#[derive(Drop)]
 pub struct TryTable {
     pub seq: InstrSeqId,
     pub catches: Vec<TryTableCatch>,
@@ -59,7 +59,7 @@ pub struct TryTable {
 
 /// A clause of a legacy `try`: which exceptions it takes, and the sequence that handles them; or, for `Delegate`, the
 /// number of constructs between the `try` and the one that the exception is handed to.
-#[derive(Clone, Copy, Debug, PartialEq, Eq)]
+#[derive(Clone, Copy)]
 pub enum LegacyCatch {
     Catch { tag: TagId, handler: InstrSeqId },
     CatchAll { handler: InstrSeqId },
@@ -67,45 +67,45 @@ pub enum LegacyCatch {
 }
 
 /// `try` of the legacy exception handling proposal: a sequence with its clauses.
-#[derive(Debug, Drop, PartialEq, Eq)]
+#[derive(Drop)]
 pub struct Try {
     pub seq: InstrSeqId,
     pub catches: Vec<LegacyCatch>,
 }
 
 /// `br`: goes to a sequence around it.
-#[derive(Clone, Copy, Debug, PartialEq, Eq)]
+#[derive(Clone, Copy)]
 pub struct Br {
     pub block: InstrSeqId,
 }
 
 /// `br_if`: goes to a sequence around it, if its operand isn't zero.
-#[derive(Clone, Copy, Debug, PartialEq, Eq)]
+#[derive(Clone, Copy)]
 pub struct BrIf {
     pub block: InstrSeqId,
 }
 
 /// `br_table`: goes to one of the sequences, by the number that it is given, or to the default.
-#[derive(Debug, Drop, PartialEq, Eq)]
+#[derive(Drop)]
 pub struct BrTable {
     pub blocks: Vec<InstrSeqId>,
     pub default: InstrSeqId,
 }
 
 /// `br_on_null`: goes to a sequence around it, if its operand is null.
-#[derive(Clone, Copy, Debug, PartialEq, Eq)]
+#[derive(Clone, Copy)]
 pub struct BrOnNull {
     pub block: InstrSeqId,
 }
 
 /// `br_on_non_null`: goes to a sequence around it, if its operand isn't null.
-#[derive(Clone, Copy, Debug, PartialEq, Eq)]
+#[derive(Clone, Copy)]
 pub struct BrOnNonNull {
     pub block: InstrSeqId,
 }
 
 /// `br_on_cast`: goes to a sequence around it, if its operand, of the first type, is of the second.
-#[derive(Clone, Copy, Debug, PartialEq, Eq)]
+#[derive(Clone, Copy)]
 pub struct BrOnCast {
     pub block: InstrSeqId,
     pub from_nullable: bool,
@@ -115,7 +115,7 @@ pub struct BrOnCast {
 }
 
 /// `br_on_cast_fail`: goes to a sequence around it, if its operand, of the first type, isn't of the second.
-#[derive(Clone, Copy, Debug, PartialEq, Eq)]
+#[derive(Clone, Copy)]
 pub struct BrOnCastFail {
     pub block: InstrSeqId,
     pub from_nullable: bool,
@@ -125,13 +125,13 @@ pub struct BrOnCastFail {
 }
 
 /// `throw`: raises an exception.
-#[derive(Clone, Copy, Debug, PartialEq, Eq)]
+#[derive(Clone, Copy)]
 pub struct Throw {
     pub tag: TagId,
 }
 
 /// `rethrow` of the legacy proposal: raises what the handler took that stands this many constructs outwards.
-#[derive(Clone, Copy, Debug, PartialEq, Eq)]
+#[derive(Clone, Copy)]
 pub struct Rethrow {
     pub relative_depth: u32,
 }

@@ -1,12 +1,37 @@
 //! Laws of the definitions, which their own contracts state.
-ghost use Rattle.walrus_ir.specs.WalkLaws.{OneTree, TreeHasNoFault, OneFault, TreeIsWalked, WalkMakesTree};
+ghost use Rattle.std.specs.Prelude.{◌≡◌, ◌↔◌, ℕ, IsTrue, Some};
+ghost use Rattle.std.specs.Ordering.{nat_cmp};
+ghost use Rattle.walrus_ir.specs.declared.val_type.ValType.{ValType as ValueType};
+ghost use Rattle.walrus_ir.specs.TypeOrder.{type_order};
+ghost use Rattle.walrus_ir.specs.WalkLaws.{OneTree, TreeHasNoFault, OneFault, TreeOrFault};
+ghost use Rattle.walrus_ir.specs.WalkLaws.{TreeIsWalked, WalkMakesTree};
 
-/// A function has at most one tree from a sequence on and at most one first fault, and not both; a tree is walked to its
-/// end, and a walk that comes to its end has gone through a tree.
+use crate::id::Id;
+use crate::val_type::ValType;
+
+/// Ids are equal and are ordered as their numbers.
+pub fn law_ids<K>()
+    ensures equality { (m n : ℕ) → IsTrue (⟦<Id<K> as PartialEq>⟧.eq m n) ↔ (m ≡ n) }
+    ensures order { (m n : ℕ) → ⟦<Id<K> as Ord>⟧.cmp m n ≡ nat_cmp m n }
+    ensures comparison { (m n : ℕ) → ⟦<Id<K> as PartialOrd>⟧.partial_cmp m n ≡ Some (nat_cmp m n) }
+{}
+
+/// The comparisons of value types: `==` is true exactly of a type and itself, and the order is that in which locals are
+/// grouped.
+pub fn law_type_order()
+    ensures equality { (t u : ValueType ℕ) → IsTrue (⟦<ValType as PartialEq>⟧.eq t u) ↔ (t ≡ u) }
+    ensures order { (t u : ValueType ℕ) → ⟦<ValType as Ord>⟧.cmp t u ≡ type_order t u }
+    ensures comparison { (t u : ValueType ℕ)
+        → ⟦<ValType as PartialOrd>⟧.partial_cmp t u ≡ Some (type_order t u) }
+{}
+
+/// From a sequence on a function has either one tree or one first fault; a tree is walked to its end, and a walk that comes
+/// to its end has gone through a tree.
 pub fn law_walk()
     ensures one_tree { OneTree }
     ensures no_fault { TreeHasNoFault }
     ensures one_fault { OneFault }
+    ensures either { TreeOrFault }
     ensures walked { TreeIsWalked }
     ensures makes_tree { WalkMakesTree }
 {}

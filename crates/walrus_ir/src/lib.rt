@@ -100,6 +100,8 @@ pub use id::TagId;
 pub use id::TypeId;
 pub use id::kind;
 pub use instr::Instr;
+pub use laws::law_ids;
+pub use laws::law_type_order;
 pub use laws::law_walk;
 pub use location::InstrLocId;
 pub use memory::AtomicOp;

@@ -8,67 +8,67 @@ use crate::val_type::ValType;
 use crate::value::Value;
 
 /// A constant.
-#[derive(Clone, Copy, Debug, PartialEq, Eq)]
+#[derive(Clone, Copy)]
 pub struct Const {
     pub value: Value,
 }
 
 /// An operator of one operand.
-#[derive(Clone, Copy, Debug, PartialEq, Eq)]
+#[derive(Clone, Copy)]
 pub struct Unop {
     pub op: UnaryOp,
 }
 
 /// An operator of two operands.
-#[derive(Clone, Copy, Debug, PartialEq, Eq)]
+#[derive(Clone, Copy)]
 pub struct Binop {
     pub op: BinaryOp,
 }
 
 /// An operator of three operands.
-#[derive(Clone, Copy, Debug, PartialEq, Eq)]
+#[derive(Clone, Copy)]
 pub struct TernOp {
     pub op: TernaryOp,
 }
 
 /// `i8x16.shuffle`: the lanes of two vectors that each lane of the result is taken from.
-#[derive(Clone, Copy, Debug, PartialEq, Eq)]
+#[derive(Clone, Copy)]
 pub struct I8x16Shuffle {
     pub indices: [u8; 16],
 }
 
 /// `select`, with the type of its operands where it is written.
-#[derive(Clone, Copy, Debug, PartialEq, Eq)]
+#[derive(Clone, Copy)]
 pub struct Select {
     pub ty: Option<ValType>,
 }
 
 /// `local.get`.
-#[derive(Clone, Copy, Debug, PartialEq, Eq)]
+#[derive(Clone, Copy)]
 pub struct LocalGet {
     pub local: LocalId,
 }
 
 /// `local.set`.
-#[derive(Clone, Copy, Debug, PartialEq, Eq)]
+#[derive(Clone, Copy)]
 pub struct LocalSet {
     pub local: LocalId,
 }
 
 /// `local.tee`.
-#[derive(Clone, Copy, Debug, PartialEq, Eq)]
+#[derive(Clone, Copy)]
 pub struct LocalTee {
     pub local: LocalId,
 }
 
 /// `global.get`.
-#[derive(Clone, Copy, Debug, PartialEq, Eq)]
+#[derive(Clone, Copy)]
 pub struct GlobalGet {
     pub global: GlobalId,
 }
 
 /// `global.set`.
-#[derive(Clone, Copy, Debug, PartialEq, Eq)]
+#[derive(Clone, Copy)]
 pub struct GlobalSet {
     pub global: GlobalId,
 }

@@ -4,26 +4,26 @@ use crate::id::FunctionId;
 use crate::val_type::{HeapType, RefType};
 
 /// `ref.null`. Of its type only the heap type is written.
-#[derive(Clone, Copy, Debug, PartialEq, Eq)]
+#[derive(Clone, Copy)]
 pub struct RefNull {
     pub ty: RefType,
 }
 
 /// `ref.func`.
-#[derive(Clone, Copy, Debug, PartialEq, Eq)]
+#[derive(Clone, Copy)]
 pub struct RefFunc {
     pub func: FunctionId,
 }
 
 /// `ref.test`.
-#[derive(Clone, Copy, Debug, PartialEq, Eq)]
+#[derive(Clone, Copy)]
 pub struct RefTest {
     pub nullable: bool,
     pub heap_type: HeapType,
 }
 
 /// `ref.cast`.
-#[derive(Clone, Copy, Debug, PartialEq, Eq)]
+#[derive(Clone, Copy)]
 pub struct RefCast {
     pub nullable: bool,
     pub heap_type: HeapType,

@@ -8,7 +8,7 @@ use crate::location::InstrLocId;
 use crate::val_type::InstrSeqType;
 
 /// A sequence of instructions. It is known by its place in its function's builder.
-#[derive(Debug, Drop, PartialEq, Eq)]
+#[derive(Drop)]
 pub struct InstrSeq {
     pub(crate) id: InstrSeqId,
     /// What it takes and gives.

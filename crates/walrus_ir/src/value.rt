@@ -1,7 +1,7 @@
 //! Constants.
 
 /// A constant; a float by its bits.
-#[derive(Clone, Copy, Debug, PartialEq, Eq)]
+#[derive(Clone, Copy)]
 pub enum Value {
     I32(i32),
     I64(i64),

@@ -19,6 +19,7 @@ pub trait Visitor {
     ghost use Rattle.std.specs.Prelude.{◌≡◌};
     ghost use Rattle.walrus_ir.specs.Events.{Event, StartSequence, EndSequence, VisitInstruction, Hears};
     ghost use Rattle.walrus_ir.specs.Events.{NameFunction, NameLocal, NameData};
+    ghost use Rattle.walrus_ir.specs.Events.{AreStepsAlike, AreRefusalsAlike};
 
     ghost steps: { Self → Event → Self → Type 0 };
 
@@ -49,4 +50,15 @@ pub trait Visitor {
     /// The instruction is a `ref.func`.
     fn visit_ref_func(&mut self, instr: &RefFunc) -> Result<(), Self::Fault>
         ensures { Hears steps refuses same self.old (NameFunction instr.now.func) result self.new };
+
+    // `same` is an equivalence, and states that are the same take and refuse the same events.
+    ghost reflexive: { (s : Self) → same s s };
+
+    ghost symmetric: { (s t : Self) → same s t → same t s };
+
+    ghost transitive: { (s t u : Self) → same s t → same t u → same s u };
+
+    ghost steps_alike: { AreStepsAlike same steps };
+
+    ghost refuses_alike: { AreRefusalsAlike same refuses };
 }

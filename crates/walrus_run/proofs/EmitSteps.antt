@@ -1,5 +1,5 @@
 -- What the visitor of a writer makes of each event.
-use Rattle.std.specs.Prelude.{◌≡◌, ◌≢◌, ◌⊎◌, ◌<◌, ◌≤◌, ◌++◌, ℕ, List, [], ◌∷◌, length, Option, Some, None, slice_get, option_map, if◌then◌else◌, Result, Ok, Err, IsErrAnd}
+use Rattle.std.specs.Prelude.{◌≡◌, ◌≢◌, ◌⊎◌, ◌↔◌, ◌<◌, ◌≤◌, ◌++◌, ℕ, List, [], ◌∷◌, length, Option, Some, None, slice_get, option_map, if◌then◌else◌, Result, Ok, Err, IsErrAnd}
 use Rattle.std.proofs.Common.{refl, sym, ap, subst, ◌∙◌, inl, inr, arith}
 use Rattle.walrus_ir.specs.declared.seq.InstrSeq.{InstrSeq}
 use Rattle.walrus_ir.specs.declared.val_type.InstrSeqType.{InstrSeqType}
@@ -33,6 +33,7 @@ use Rattle.walrus_run.specs.declared.writer.EmitVisitor.{EmitVisitor}
 use Rattle.walrus_run.specs.declared.scopes.Scopes.{Scopes}
 use Rattle.walrus_run.specs.Scopes.{IsOpen}
 use Rattle.walrus_run.specs.Writing.{numbers_of, instruction_operator, IsOperatorOf}
+use Rattle.walrus_run.specs.SameWriters.{same_itself}
 use Rattle.walrus_run.specs.Emission.{first_place, type_at, ClosesByEnd, straight, a_block, IsFirst, Stands, own_operator, Opens, IsUnwritten, Steps, Refuses, Same}
 
 -- ---- the first sequence
@@ -125,6 +126,14 @@ not_visited v i l found NotCarried first answers b to around stands = answers (l
 
 -- ---- refusals
 
-pub refuses_event : {U : Type 0} (v w : EmitVisitor) (e : Event) (r : Result U WriteFault) (f : WriteFault) → IsErrAnd r (λ g. g ≡ f) → Refuses v e f → Hears Steps Refuses Same v e r w
-refuses_event v w e (Ok x) f h n = absurd h
-refuses_event v w e (Err g) f h n = (subst (λ k. Refuses v e k) (sym h) n, tt)
+pub refuses_event : {U : Type 0} (v : EmitVisitor) (e : Event) (r : Result U WriteFault) (f : WriteFault) → IsErrAnd r (λ g. g ≡ f) → Refuses v e f → Hears Steps Refuses Same v e r v
+refuses_event v e (Ok x) f h n = absurd h
+refuses_event v e (Err g) f h n = (subst (λ k. Refuses v e k) (sym h) n, same_itself v)
+
+-- where no sequence was opened, it stands as it did
+pub scopes_kept : (v : EmitVisitor) (scopes : Scopes) → ((count : ℕ) (around : List ℕ) → IsOpen v.scopes count around ↔ IsOpen scopes count around) → Same v (record v { scopes = scopes })
+scopes_kept v scopes kept = record {
+  onward = λ b to coming around h. record { sequences = h.sequences; numbers = h.numbers; next = h.next; are_open = (kept (length b) around).0 h.are_open };
+  back = λ b to coming around h. record { sequences = h.sequences; numbers = h.numbers; next = h.next; are_open = (kept (length b) around).1 h.are_open };
+  bytes = refl;
+}

@@ -25,6 +25,7 @@ use Rattle.walrus_run.specs.declared.write_fault.WriteFault.{WriteFault}
 use Rattle.walrus_run.specs.declared.write_fault.WriteFault.TheVariants.{Emit, NotCarried}
 use Rattle.walrus_run.specs.declared.writer.EmitVisitor.{EmitVisitor}
 use Rattle.walrus_run.specs.Encoding.{AreCarried, AreCarriedIn}
+use Rattle.walrus_run.specs.SameWriters.{same_itself}
 use Rattle.walrus_run.specs.Emission.{type_at, first_place, ClosesByEnd, straight, a_block, Stands, own_operator, IsUnwritten, Steps, Refuses, Same}
 
 -- ---- the events, to the end or up to a refusal
@@ -47,21 +48,25 @@ next (Err f) h = stopped h.1
 
 -- ---- what an instruction names writes nothing
 
-passed : (v : EmitVisitor) (e : Event) (es : List Event) (r : Result EmitVisitor WriteFault)
-    → ((w : EmitVisitor) → Steps v e w → w ≡ v) → ((f : WriteFault) → Refuses v e f → ⊥) → Next v e es r → Runs v es r
-passed v e es r same never (steps w s g) = subst (λ u. Runs u es r) (same w s) g
-passed v e es r same never (refuses f n h) = absurd (never f n)
+-- these events run from a visitor that is the same
+abbrev RunsAlike : EmitVisitor → List Event → Result EmitVisitor WriteFault → Type 0
+RunsAlike v es r = (w : EmitVisitor) × Same v w × Runs w es r
 
-names_passed : (v : EmitVisitor) (i : Instr) (es : List Event) (r : Result EmitVisitor WriteFault) → Runs v (names i ++ es) r → Runs v es r
-names_passed v (RefFunc x) es r h = passed v (NameFunction x.func) es r (λ w s. s) (λ f n. n) (next r h)
-names_passed v (LocalGet x) es r h = passed v (NameLocal x.local) es r (λ w s. s) (λ f n. n) (next r h)
-names_passed v (LocalSet x) es r h = passed v (NameLocal x.local) es r (λ w s. s) (λ f n. n) (next r h)
-names_passed v (LocalTee x) es r h = passed v (NameLocal x.local) es r (λ w s. s) (λ f n. n) (next r h)
-names_passed v (MemoryInit x) es r h = passed v (NameData x.data_id) es r (λ w s. s) (λ f n. n) (next r h)
-names_passed v (DataDrop x) es r h = passed v (NameData x.data_id) es r (λ w s. s) (λ f n. n) (next r h)
-names_passed v (ArrayNewData x) es r h = passed v (NameData x.data_id) es r (λ w s. s) (λ f n. n) (next r h)
-names_passed v (ArrayInitData x) es r h = passed v (NameData x.data_id) es r (λ w s. s) (λ f n. n) (next r h)
-names_passed v _ es r h = h
+passed : {v : EmitVisitor} {e : Event} {es : List Event} {r : Result EmitVisitor WriteFault}
+    → ((w : EmitVisitor) → Steps v e w → Same v w) → ((f : WriteFault) → Refuses v e f → ⊥) → Next v e es r → RunsAlike v es r
+passed same never (steps w s g) = (w, same w s, g)
+passed same never (refuses f n h) = absurd (never f n)
+
+names_passed : (v : EmitVisitor) (i : Instr) (es : List Event) (r : Result EmitVisitor WriteFault) → Runs v (names i ++ es) r → RunsAlike v es r
+names_passed v (RefFunc x) es r h = passed {e = NameFunction x.func} (λ w s. s) (λ f n. n) (next r h)
+names_passed v (LocalGet x) es r h = passed {e = NameLocal x.local} (λ w s. s) (λ f n. n) (next r h)
+names_passed v (LocalSet x) es r h = passed {e = NameLocal x.local} (λ w s. s) (λ f n. n) (next r h)
+names_passed v (LocalTee x) es r h = passed {e = NameLocal x.local} (λ w s. s) (λ f n. n) (next r h)
+names_passed v (MemoryInit x) es r h = passed {e = NameData x.data_id} (λ w s. s) (λ f n. n) (next r h)
+names_passed v (DataDrop x) es r h = passed {e = NameData x.data_id} (λ w s. s) (λ f n. n) (next r h)
+names_passed v (ArrayNewData x) es r h = passed {e = NameData x.data_id} (λ w s. s) (λ f n. n) (next r h)
+names_passed v (ArrayInitData x) es r h = passed {e = NameData x.data_id} (λ w s. s) (λ f n. n) (next r h)
+names_passed v _ es r h = (v, same_itself v, h)
 
 -- ---- the text that is left
 
@@ -150,7 +155,9 @@ opened_by {C = C} {rs = rs} b to around x type es r v t stands k (steps w s g) =
     let same : o.type ≡ type = cc (o.is_type, t) in
     let own : own_operator to around type x ≡ Ok o.op = ap (λ t. own_operator to around t x) (sym same) ∙ o.is_op in
     let D : Type 0 = IsSome (kinds_of (operation_of x.0).opcode) × C in
-    let behind : Writes D rs w.encoder r = weaker (k o.closes w o.stands (names_passed w x.0 _ r g)) (λ d. d.1) in
+    let named : RunsAlike w es r = names_passed w x.0 es r g in
+    let stands_on = named.1.onward b to _ around o.stands in
+    let behind : Writes D rs w.encoder r = weaker (behind_these (k o.closes named.0 stands_on named.2) (sym named.1.bytes)) (λ d. d.1) in
     subst (λ q. Writes D (q ∷ rs) v.encoder r) (sym own) (written_more o.op (behind_these behind o.bytes))
 opened_by b to around x type es r v t stands k (refuses f n e) = subst (Writes _ _ _) (sym e) (unwritten b to around x type f t (n b to around stands))
 

@@ -77,6 +77,12 @@ abbrev pub IsUnwritten : List InstrSeq → Numbers → List ℕ → Located → 
 IsUnwritten b to around x (Emit e) = (e ≡ Memory) ⊎ ((type : InstrSeqType) → type_at b (places_in x.0) ≡ Some type → own_operator to around type x ≡ Err e)
 IsUnwritten b to around x NotCarried = kinds_of (operation_of x.0).opcode ≡ None
 
+-- Both stand alike, wherever that is, and have written the same.
+pub record Same (v w : EmitVisitor) : Type 0 where
+  pub onward : (b : List InstrSeq) (to : Numbers) (coming : Option ℕ) (around : List ℕ) → Stands b to coming around v → Stands b to coming around w
+  pub back : (b : List InstrSeq) (to : Numbers) (coming : Option ℕ) (around : List ℕ) → Stands b to coming around w → Stands b to coming around v
+  pub bytes : v.encoder ≡ w.encoder
+
 -- What an event makes of the visitor, wherever it stands. A sequence begins where it is to, and ends with `end`.
 abbrev pub Steps : EmitVisitor → Event → EmitVisitor → Type 0
 Steps v (StartSequence seq) w =
@@ -85,7 +91,7 @@ Steps v (EndSequence seq) w =
     (b : List InstrSeq) (to : Numbers) (p : ℕ) (around : List ℕ) → Stands b to None (p ∷ around) v →
     Stands b to None around w × (w.encoder ≡ v.encoder ++ short end_operation)
 Steps v (VisitInstruction i l) w = (b : List InstrSeq) (to : Numbers) (around : List ℕ) → Stands b to None around v → Opens b to around (i, l) v w
-Steps v _ w = w ≡ v
+Steps v _ w = Same v w
 
 -- Why it refuses an event, wherever it stands.
 abbrev pub Refuses : EmitVisitor → Event → WriteFault → Type 0
@@ -94,7 +100,3 @@ Refuses v (StartSequence seq) f =
 Refuses v (EndSequence seq) f = f ≡ Emit Memory
 Refuses v (VisitInstruction i l) f = (b : List InstrSeq) (to : Numbers) (around : List ℕ) → Stands b to None around v → IsUnwritten b to around (i, l) f
 Refuses v _ f = ⊥
-
--- Nothing is said of a visitor that has refused an event.
-abbrev pub Same : EmitVisitor → EmitVisitor → Type 0
-Same v w = Unit {0}

@@ -12,3 +12,4 @@ pub mod Rewriting
 pub mod Encoding
 pub mod InstructionKinds
 pub mod Emission
+pub mod SameWriters

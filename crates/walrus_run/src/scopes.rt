@@ -1,5 +1,5 @@
 //! The sequences that are open while a tree is written.
-ghost use Rattle.std.specs.Prelude.{◌≡◌, ◌≤◌, ◌⊎◌, ◌∷◌, [], ℕ, List, OnOk, OnErr, IfOk, IfErr};
+ghost use Rattle.std.specs.Prelude.{◌≡◌, ◌≤◌, ◌⊎◌, ◌↔◌, ◌∷◌, [], ℕ, List, OnOk, OnErr, IfOk, IfErr};
 ghost use Rattle.wasm_body.specs.declared.error.EmitError.TheVariants as emit;
 ghost use Rattle.wasm_body.specs.Bytes.{fitting};
 ghost use Rattle.walrus_run.specs.Scopes.{IsOpen, depth_in};
@@ -60,7 +60,7 @@ impl Scopes {
     pub fn enter(&mut self, place: InstrSeqId) -> Result<(), EmitError>
         ensures ok { OnOk result ((count : ℕ) (around : List ℕ) → IsOpen self.old count around → IsOpen self.new count (place ∷ around)) }
         ensures err { IfErr result (λ e. (e ≡ emit.Memory) ⊎ ((e ≡ emit.UnknownSequence) × ((count : ℕ) (around : List ℕ) → IsOpen self.old count around → count ≤ place))) }
-        ensures kept { OnErr result ((count : ℕ) (around : List ℕ) → IsOpen self.old count around → IsOpen self.new count around) }
+        ensures kept { OnErr result ((count : ℕ) (around : List ℕ) → IsOpen self.old count around ↔ IsOpen self.new count around) }
     {
         let index = place.index();
         if index >= self.levels.len() {

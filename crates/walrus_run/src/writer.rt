@@ -58,13 +58,28 @@ impl Visitor for EmitVisitor<'_> {
 
     ghost same = { Same };
 
+    ghost use Rattle.walrus_run.specs.SameWriters.{same_itself, same_back, same_through};
+    ghost use Rattle.walrus_run.specs.SameWriters.{same_steps, same_refusals};
+
+    ghost reflexive = { same_itself };
+
+    ghost symmetric = { same_back };
+
+    ghost transitive = { same_through };
+
+    ghost steps_alike = { same_steps };
+
+    ghost refuses_alike = { same_refusals };
+
     fn start_instr_seq(&mut self, _seq: &InstrSeq) -> Result<(), WriteFault> {
         let Some(place) = self.coming else {
             return Ok(());
         };
-        self.coming = None;
         match self.scopes.enter(place) {
-            Ok(()) => Ok(()),
+            Ok(()) => {
+                self.coming = None;
+                Ok(())
+            }
             Err(fault) => Err(WriteFault::Emit(fault)),
         }
     }

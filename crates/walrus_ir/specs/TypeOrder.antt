@@ -1,0 +1,33 @@
+-- The order of value types, in which locals are grouped. No standard gives one; this is the project's own.
+use Rattle.std.specs.Prelude.{ℕ, List, [], ◌∷◌, Bool, true, false}
+use Rattle.std.specs.declared.cmp.Ordering.{Ordering}
+use Rattle.std.specs.Ordering.{nat_cmp}
+use Rattle.std.specs.Cmp.Lexicographic.{slice_cmp}
+use Rattle.walrus_ir.specs.declared.val_type.HeapType.{HeapType}
+use Rattle.walrus_ir.specs.declared.val_type.HeapType.TheVariants.{Abstract, Concrete}
+use Rattle.walrus_ir.specs.declared.val_type.ValType.{ValType}
+use Rattle.walrus_ir.specs.declared.val_type.ValType.TheVariants.{I32, I64, F32, F64, V128, Ref}
+use Rattle.walrus_ir.specs.Types.{rank_of}
+
+-- references that aren't nullable come before those that are
+abbrev pub nullable_rank : Bool → ℕ
+nullable_rank false = 0
+nullable_rank true = 1
+
+-- abstract heap types come first, in their order; then those of the module, by id
+abbrev pub heap_type_key : HeapType ℕ → List ℕ
+heap_type_key (Abstract a) = 0 ∷ rank_of a ∷ []
+heap_type_key (Concrete id) = 1 ∷ id ∷ []
+
+-- what a value type is compared by, the weightiest number first: references come last
+abbrev pub type_key : ValType ℕ → List ℕ
+type_key I32 = 0 ∷ []
+type_key I64 = 1 ∷ []
+type_key F32 = 2 ∷ []
+type_key F64 = 3 ∷ []
+type_key V128 = 4 ∷ []
+type_key (Ref r) = 5 ∷ nullable_rank r.nullable ∷ heap_type_key r.heap_type
+
+-- The order of value types: the first number in which their keys differ decides.
+abbrev pub type_order : ValType ℕ → ValType ℕ → Ordering
+type_order t u = slice_cmp nat_cmp (type_key t) (type_key u)
