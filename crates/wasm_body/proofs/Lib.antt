@@ -8,5 +8,7 @@ pub mod Parsing
 pub mod NormalForm
 -- normal forms have bytes
 pub mod Bytes
+-- the bytes of a normal form are read back
+pub mod ReadBack
 -- the law of executions, and worked runs
 pub mod Executions

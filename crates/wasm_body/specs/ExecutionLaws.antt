@@ -2,12 +2,11 @@
 -- alike.
 use Rattle.std.specs.Prelude.{◌≡◌, ℕ, List, map, Option}
 use Rattle.std.specs.List.{AllByRecursion}
-use Rattle.wasm_ops.specs.Spelling.{Spells}
 use Rattle.wasm_body.specs.Control.{Control, control_of}
 use Rattle.wasm_body.specs.SourceTree.{Body}
 use Rattle.wasm_body.specs.Translation.{Located}
 use Rattle.wasm_body.specs.Naming.{Environment, NamedOperation, Occurrence}
-use Rattle.wasm_body.specs.Parsing.Accepted.{Lawful}
+use Rattle.wasm_body.specs.Parsing.Accepted.{HasSpelling, Lawful}
 use Rattle.wasm_body.specs.NormalForm.{typing_of, normal_form, name_at, named_body}
 use Rattle.wasm_body.specs.TextLaws.{IsTextOf}
 use Rattle.wasm_body.specs.Machine.{Outcome, Run}
@@ -23,10 +22,6 @@ operators_of xs outcomes turns = shown_by (map (λ x. x.op) xs) (run_by_place (c
 -- at which locations
 abbrev pub locations_of : List (Located NamedOperation) → List Outcome → (turns : ℕ) → Run (Option ℕ)
 locations_of xs outcomes turns = shown_by (map (λ x. x.location) xs) (run_by_place (controls xs) outcomes turns)
-
--- The operator has a spelling.
-abbrev pub HasSpelling : Occurrence → Type 0
-HasSpelling x = (text : List ℕ) × Spells x.spelt text
 
 -- The two lists execute the same operators, at the same locations, and end alike: for all outcomes and turns.
 pub record ExecuteAlike (xs ys : List (Located NamedOperation)) : Type 0 where

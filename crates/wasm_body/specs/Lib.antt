@@ -21,6 +21,7 @@ pub mod Intervals
 pub mod FlatText
 pub mod Bytes
 pub mod TextLaws
+pub mod ReadBack
 -- the trace machine, and the law that executions are kept
 pub mod Machine
 pub mod Places

@@ -1,5 +1,6 @@
 //! Laws of trees and texts, each the contract of a function that does nothing.
 ghost use Rattle.wasm_body.specs.ExecutionLaws.{ExecutionsKept};
+ghost use Rattle.wasm_body.specs.ReadBack.{ReadBack, NormalFormAgain, SameBytes, InverseUndoes, AcceptedAgain};
 ghost use Rattle.wasm_body.specs.TextLaws.{HaveTexts, NormalAgain, OneBody, OneSequence, SameTexts};
 ghost use Rattle.wasm_body.specs.Parsing.Laws.{OneBodyAccepted, AcceptedHasNoFault, OneFirstFault, AcceptedOrFault, LongestFront};
 
@@ -38,4 +39,26 @@ pub fn law_same_texts()
 /// alike: for all outcomes and turns.
 pub fn law_executions()
     ensures { ExecutionsKept }
+{}
+
+/// The bytes of a normal form, read back by maps that undo the numbers, are a body whose normal form is the same tree and
+/// has the same bytes; the text of a normal form, read as a body, has a normal form that is the same tree; and trees that
+/// are the same have the same bytes.
+pub fn law_read_back()
+    ensures read_back { ReadBack }
+    ensures normal_again { NormalFormAgain }
+    ensures same_bytes { SameBytes }
+{}
+
+/// Maps that give each numbered id at its number undo the numbers of the normal form of every lawful body, where no type of
+/// the module takes nothing and gives one reference.
+pub fn law_inverse_undoes()
+    ensures { InverseUndoes }
+{}
+
+/// The bytes of the normal form of an accepted body are accepted again, by maps that undo the numbers, where their operators
+/// have locations and pass the validator; and of each body as which they are the normal form is the same tree, and has the
+/// same bytes. `V` and `W` are what the states of the validators are.
+pub fn law_accepted_again<V, W>()
+    ensures { AcceptedAgain V W }
 {}

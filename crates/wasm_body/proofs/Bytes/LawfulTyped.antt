@@ -65,7 +65,7 @@ test_passed false f u e = absurd cc
 abbrev pub HasKinds : Occurrence → Type 0
 HasKinds x = kinds_of x.spelt.opcode ≡ Some (map kind_of x.spelt.immediates)
 
-named_typed : (env : Environment) (frames : List (Frame Occurrence)) (o : RawOperation) (named : NamedOperation)
+pub named_typed : (env : Environment) (frames : List (Frame Occurrence)) (o : RawOperation) (named : NamedOperation)
     → kinds_of o.opcode ≡ Some (map kind_of o.immediates)
     → named_in env frames o ≡ Ok named → IsTypedAs (typing_of env) (role_of named.opcode) named
 named_typed env fs o named kinds e =
@@ -95,7 +95,7 @@ named_typed env fs o named kinds e =
 module _ {A : Type 0} (R : Rule A) (P : A → Control → Type 0)
     (given : (frames : List (Frame A)) (a : A) (c : Control) → R frames (marked a c) → P a c) where
   mutual
-    each_of_follows : (fs : List (Frame A)) (s : Sequence A) → Follows R fs s → Each P s
+    pub each_of_follows : (fs : List (Frame A)) (s : Sequence A) → Follows R fs s → Each P s
     each_of_follows fs Empty h = tt
     each_of_follows fs (Single a action r) h = (given fs a (Does action) h.0, each_of_follows fs r h.1)
     each_of_follows fs (Wrapped a w b e r) h =

@@ -18,12 +18,11 @@ use Rattle.wasm_body.specs.SourceTree.{Single, Wrapped, IfThen, TryCatch, TryDel
 use Rattle.wasm_body.specs.SourceTree.{Sequence as tree}
 use Rattle.wasm_body.specs.Translation.{located}
 use Rattle.wasm_body.specs.Naming.{NamedOperation, Occurrence, Environment}
-use Rattle.wasm_body.specs.Parsing.Accepted.{Lawful}
+use Rattle.wasm_body.specs.Parsing.Accepted.{HasSpelling, Lawful}
 use Rattle.wasm_body.specs.FunctionTree.{default_location}
 use Rattle.wasm_body.specs.NormalForm.{Typing, typing_of, normal_form, name_at, named_body}
 use Rattle.wasm_body.specs.Typed.{AreTyped}
 use Rattle.wasm_body.specs.TextLaws.{IsTextOf}
-use Rattle.wasm_body.specs.ExecutionLaws.{HasSpelling}
 
 -- a module: the entry type of a function that gives nothing, the type of that function and of each tag, and a type that
 -- takes and gives an i32; ids are as indices

@@ -6,12 +6,14 @@ use Rattle.wasm_body.specs.SourceTree.{Sequence, Empty, Single, Wrapped, IfThen,
 use Rattle.wasm_body.specs.Naming.{Occurrence}
 use Rattle.wasm_body.specs.NormalForm.{fate, typing_of, name_at, named_body}
 use Rattle.wasm_body.specs.TextLaws.{IsNamedBody}
-use Rattle.wasm_body.proofs.NormalForm.Rewritten.{Named, single_with_fate, rewritten, rewritten_clauses, rewritten_body, rewritten_list, has_text, text_body}
+use Rattle.wasm_body.proofs.NormalForm.Rewritten.{Named, single_with_fate, rewritten, rewritten_clauses, rewritten_body, rewritten_list}
+use Rattle.wasm_body.proofs.NormalForm.NamedTexts.{has_text, text_body}
 use Rattle.wasm_body.proofs.Bytes.LawfulTyped.{HasKinds, lawful_typed}
 use Rattle.wasm_body.proofs.Structure.Reshown.{is_named_body}
 use Rattle.wasm_body.specs.Machine.{Outcome, run}
 use Rattle.wasm_body.specs.Places.{show_run, run_by_place, shown_by}
-use Rattle.wasm_body.specs.ExecutionLaws.{controls, HasSpelling, ExecutionsKept}
+use Rattle.wasm_body.specs.Parsing.Accepted.{HasSpelling}
+use Rattle.wasm_body.specs.ExecutionLaws.{controls, ExecutionsKept}
 use Rattle.wasm_body.proofs.Executions.RewritesTo.{RewritesTo, empty, drop_nop, keep, cut, wrapped, if_else, add_else, try_catch, try_delegate, ClausesRewriteTo, ended, catches_one, catches_all, runs_alike}
 use Rattle.wasm_body.proofs.Executions.Natural.{shown_by-run}
 

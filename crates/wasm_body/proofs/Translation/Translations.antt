@@ -16,15 +16,15 @@ use Rattle.wasm_body.proofs.Translation.Steps.{bound, after_one, after_two, afte
 -- ---- types and tags, which hold indices
 
 module _ {E F : Type 0} (f : Space → ℕ → Result ℕ E) (g h : Space → ℕ → Result ℕ F) where
-  abbrev LeadsHeap : HeapType ℕ → Type 0
+  abbrev pub LeadsHeap : HeapType ℕ → Type 0
   LeadsHeap (Abstract a) = Unit {0}
   LeadsHeap (Concrete n) = Leads (f Types) (g Types) (h Types) n
 
-  abbrev LeadsValue : ValType ℕ → Type 0
+  abbrev pub LeadsValue : ValType ℕ → Type 0
   LeadsValue (Ref r) = LeadsHeap r.heap_type
   LeadsValue _ = Unit {0}
 
-  abbrev LeadsTag : Option ℕ → Type 0
+  abbrev pub LeadsTag : Option ℕ → Type 0
   LeadsTag None = Unit {0}
   LeadsTag (Some n) = Leads (f Tags) (g Tags) (h Tags) n
 
@@ -57,20 +57,20 @@ module _ {E F : Type 0} (f : Space → ℕ → Result ℕ E) (g h : Space → �
 -- ---- immediates
 
 module _ {L B M C N D E F : Type 0} (f : Translation L B M C E) (g : Translation M C N D F) (h : Translation L B N D F) where
-  abbrev LeadsIndex : Space → ℕ → Type 0
+  abbrev pub LeadsIndex : Space → ℕ → Type 0
   LeadsIndex space n = Leads (f.index space) (g.index space) (h.index space) n
 
-  abbrev LeadsLabel : L → Type 0
+  abbrev pub LeadsLabel : L → Type 0
   LeadsLabel l = Leads f.label g.label h.label l
 
-  abbrev LeadsCount : ℕ → Type 0
+  abbrev pub LeadsCount : ℕ → Type 0
   LeadsCount n = (u : Unit {0}) → f.count n ≡ Ok u → g.count n ≡ h.count n
 
-  abbrev LeadsClause : CatchClause L → Type 0
+  abbrev pub LeadsClause : CatchClause L → Type 0
   LeadsClause c = LeadsTag f.index g.index h.index c.tag × LeadsLabel c.label
 
   -- What f makes of the parts of the immediate, g reads as h reads them.
-  abbrev LeadsAt : Immediate L B → Type 0
+  abbrev pub LeadsAt : Immediate L B → Type 0
   LeadsAt (index space n) = LeadsIndex space n
   LeadsAt (local n) = Leads f.local g.local h.local n
   LeadsAt (label l) = LeadsLabel l
@@ -126,7 +126,7 @@ module _ {L B M C N D E F : Type 0} (f : Translation L B M C E) (g : Translation
       ∙ (ap (λ k. g.index Memories m.0 >>= λ y. Ok (at k y)) l.1
       ∙ after_one (g.index Memories m.0) (h.index Memories a.memory) (λ y. Ok (at (h.alignment a.alignment) y)) (l.0 m.0 m.1))
 
-  abbrev LeadsOn : Immediate L B → Type 0
+  abbrev pub LeadsOn : Immediate L B → Type 0
   LeadsOn i = Leads (translate_immediate f) (translate_immediate g) (translate_immediate h) i
 
   -- an immediate of one part, and one that stays

@@ -1,4 +1,4 @@
-use Rattle.wasm_body.proofs.NormalForm.Rewritten.{have_texts}
+use Rattle.wasm_body.proofs.NormalForm.NamedTexts.{have_texts}
 use Rattle.wasm_body.proofs.laws.law_normal_form_texts.Goals as goal
 
 pub returns : goal.returns
