@@ -5,6 +5,7 @@ use Rattle.std.specs.List.{flat_map}
 use Rattle.walrus_ir.specs.declared.val_type.InstrSeqType.{InstrSeqType}
 use Rattle.walrus_ir.specs.declared.val_type.InstrSeqType.TheVariants.{Simple}
 use Rattle.walrus_ir.specs.Tree.{Items, no_items, item, Sequences, no_sequences, sequence, alone}
+use Rattle.wasm_ops.specs.declared.types.BlockType.{BlockType}
 use Rattle.wasm_ops.specs.Operations.{Operation, RawOperation}
 use Rattle.wasm_ops.specs.Shortest.{short}
 use Rattle.wasm_body.specs.declared.error.EmitError.{EmitError}
@@ -104,8 +105,8 @@ gathered_bare {X = X} (Ok x ∷ rs) =
     rest (Err e) = refl
 gathered_bare {X = X} (Err e ∷ rs) = refl
 
-pub same_texts : SameTexts
-same_texts w t u h =
+pub same_texts : (M C : Type 0) → SameTexts M C
+same_texts M C w t u h =
     gathered_bare (texts w (end_operation ∷ []) (alone t) [])
     ∙ (ap gathered (texts_bare w (end_operation ∷ []) (alone t) [])
     ∙ (ap (λ s. gathered (bare_texts w (end_operation ∷ []) s [])) h
@@ -127,5 +128,5 @@ pub same_bytes : SameBytes
 same_bytes to t u h =
     bytes_bare (numbered_text to t)
     ∙ (after_one (without_locations (numbered_text to t)) (without_locations (numbered_text to u)) (λ os. Ok (flat_map short os))
-    (same_texts (then_by (numbering to)) t u h)
+    (same_texts ℕ BlockType (then_by (numbering to)) t u h)
     ∙ sym (bytes_bare (numbered_text to u)))

@@ -22,8 +22,7 @@ use Rattle.wasm_body.specs.Bytes.{Numbers, tree_bytes}
 use Rattle.wasm_body.specs.ReadBack.{EachIn, IsUndone, IsUndoneLocal, IsUndoneType, AreUndone, Undoes, IsReadBack, ReadBack, NormalFormAgain, AreReadable, AcceptedAgain}
 use Rattle.wasm_body.proofs.Structure.Along.{Each, AllMarked, Tells, each_of, all_of_each}
 use Rattle.wasm_body.proofs.Translation.Steps.{bound}
-use Rattle.wasm_body.proofs.Bytes.LawfulTyped.{HasKinds, each_of_follows, lawful_typed}
-use Rattle.wasm_body.proofs.Structure.Reshown.{is_named_body}
+use Rattle.wasm_body.proofs.Bytes.LawfulTyped.{each_of_follows, lawful_named}
 use Rattle.wasm_body.proofs.Parsing.ReadingBytes.{reading_agrees}
 use Rattle.wasm_body.proofs.Parsing.Answers.{one_body_accepted}
 use Rattle.wasm_body.proofs.NormalForm.Rewritten.{Named, end_at, rewritten}
@@ -232,17 +231,13 @@ read_back env xs body texts lawful to bytes written again undoes start locate = 
 
 -- ---- texts with names
 
-kinds_of_spelt : (xs : List Occurrence) → AllByRecursion HasSpelling xs → AllByRecursion HasKinds xs
-kinds_of_spelt [] t = tt
-kinds_of_spelt (x ∷ xs) t = (t.0.1.kinds, kinds_of_spelt xs t.1)
-
 pub normal_form_again : NormalFormAgain
 normal_form_again env xs body texts lawful =
     let m = typing_of env in
-    let named = is_named_body xs body lawful.is_body in
-    let typed = lawful_typed env xs body (kinds_of_spelt xs texts) lawful in
-    let t = have_texts m (map name_at xs) (named_body body) named typed in
-    (t.0, t.1, t.2, t.3, normal_again m (map name_at xs) t.0 (named_body body) t.1 named typed t.2 t.3)
+    let b = named_body body in
+    let named = lawful_named env xs body texts lawful in
+    let t = have_texts m (map name_at xs) b named.0 named.1 in
+    (t.0, t.1, t.2, t.3, normal_again m (map name_at xs) t.0 b t.1 named.0 named.1 t.2 t.3)
 
 -- ---- accepted bodies
 
