@@ -1,4 +1,4 @@
--- The law of executions, and worked runs.
+-- The law of executions.
 pub mod Same
 pub mod Steps
 pub mod Constructs
@@ -7,5 +7,3 @@ pub mod RewritesTo
 pub mod Enough
 pub mod Natural
 pub mod NormalForms
-pub mod Examples
-pub mod Traces

@@ -10,5 +10,7 @@ pub mod NormalForm
 pub mod Bytes
 -- the bytes of a normal form are read back
 pub mod ReadBack
--- the law of executions, and worked runs
+-- the law of executions
 pub mod Executions
+-- examples that pin the definitions
+pub mod Examples
