@@ -56,6 +56,7 @@ kept = record {
   label = λ n. Ok (Depth n);
   handler = λ n. Ok n;
   outer = λ n. Ok n;
+  number = λ n. Ok n;
   block = λ s. Ok tt;
   alignment = λ e. 2 ^ e;
   count = λ n. Ok tt;

@@ -1,5 +1,5 @@
 -- Reading back: the bytes of a normal form are accepted again, as a body whose normal form is the same tree.
-use Rattle.std.specs.Prelude.{◌≡◌, ℕ, ◌<◌, ◌^◌, List, [], ◌∷◌, map, Option, Some, None, IsOk, Ok, true}
+use Rattle.std.specs.Prelude.{◌≡◌, ℕ, List, [], ◌∷◌, map, Option, Some, None, IsOk, Ok, true}
 use Rattle.std.specs.List.{AllByRecursion}
 use Rattle.walrus_ir.specs.declared.val_type.HeapType.{HeapType}
 use Rattle.walrus_ir.specs.declared.val_type.HeapType.TheVariants.{Abstract, Concrete}
@@ -49,12 +49,12 @@ EachIn P Q S _ = Unit {0}
 
 -- ---- maps that undo numbers
 
--- The id's number, where it has one, is one of 32 bits, and stands for the id.
+-- The id's number, where it has one, stands for the id.
 abbrev pub IsUndone : Numbers → Environment → Space → ℕ → Type 0
-IsUndone to env space id = (n : ℕ) → to.number_of space id ≡ Ok n → (n < 2 ^ 32) × (env.id_of space n ≡ Ok id)
+IsUndone to env space id = (n : ℕ) → to.number_of space id ≡ Ok n → env.id_of space n ≡ Ok id
 
 abbrev pub IsUndoneLocal : Numbers → Environment → ℕ → Type 0
-IsUndoneLocal to env id = (n : ℕ) → to.local_number id ≡ Ok n → (n < 2 ^ 32) × (env.local_of n ≡ Ok id)
+IsUndoneLocal to env id = (n : ℕ) → to.local_number id ≡ Ok n → env.local_of n ≡ Ok id
 
 -- References are not carried yet where a value type stands.
 abbrev pub IsCarriedValue : ValType ℕ → Type 0
@@ -79,7 +79,7 @@ pub record Undoes (to : Numbers) (tree : FunctionTree) (env again : Environment)
 
 -- ---- maps that undo all numbers
 
--- Each number is one of 32 bits, and stands for its id.
+-- Each number stands for its id.
 pub record IsInverse (to : Numbers) (again : Environment) : Type 0 where
   pub indices : (space : Space) (id : ℕ) → IsUndone to again space id
   pub locals : (id : ℕ) → IsUndoneLocal to again id

@@ -64,7 +64,7 @@ module _ {L B M C E : Type 0} (t : Translation L B M C E) where
   block_kept (heap h) j e = part_kept (translate_heap t.index h) heap false (λ y. refl) j e
   block_kept (value v) j e = part_kept (translate_value t.index v) value false (λ y. refl) j e
   block_kept (cast c) j e = part_kept (translate_cast t c) cast false (λ y. refl) j e
-  block_kept (number n) j e = stays (number n) j e
+  block_kept (number n) j e = part_kept (t.number n) number false (λ y. refl) j e
   block_kept (i32 z) j e = stays (i32 z) j e
   block_kept (i64 z) j e = stays (i64 z) j e
   block_kept (f32 bits) j e = stays (f32 bits) j e

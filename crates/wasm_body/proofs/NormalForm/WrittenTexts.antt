@@ -41,6 +41,7 @@ module _ {M C : Type 0} (w : Writing M C) where
     label = λ n. w.label (Depth n);
     handler = w.handler;
     outer = w.outer;
+    number = w.number;
     block = λ s. w.block t;
     alignment = λ e. w.alignment (2 ^ e);
     count = w.count;
@@ -59,6 +60,7 @@ module _ {M C : Type 0} (w : Writing M C) where
     labels = kept_label;
     handlers = kept_number w.handler;
     outers = kept_number w.outer;
+    numbers = kept_number w.number;
     alignments = λ e. refl;
     counts = λ n u e. refl;
   }

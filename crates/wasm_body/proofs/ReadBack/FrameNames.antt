@@ -128,6 +128,7 @@ ruling fs = record {
   label = open_label fs;
   handler = handler_label fs;
   outer = open_label (outside fs);
+  number = λ n. Ok n;
   block = λ s. Ok s;
   alignment = λ e. e;
   count = λ n. Ok tt;
@@ -170,6 +171,7 @@ module _ (env : Environment) (fs : List (Frame Occurrence)) where
     labels = λ n q e. ap (open_label here) (open_same fs n q e) ∙ open_frames named_of fs n;
     handlers = λ n q e. ap (handler_label here) (handler_same fs n q e) ∙ handler_label_frames named_of fs n;
     outers = λ n q e. ap (open_label (outside here)) (open_same (outside fs) n q e) ∙ outer_frames named_of fs n;
+    numbers = λ n q e. sym e;
     alignments = λ n. refl;
     counts = λ n u e. refl;
   }

@@ -1,8 +1,7 @@
 -- What was spelt, once it is named, has a spelling again with numbers for its ids.
 use Rattle.std.proofs.Common.{◌≡◌, ℕ, ◌<◌, List, [], ◌∷◌, map, length, true, Option, Some, None, Result, Ok, refl, sym, ap, ◌∙◌, subst, inl, inr}
-use Rattle.std.specs.Prelude.{◌^◌, ◌++◌, nat_lt}
+use Rattle.std.specs.Prelude.{◌^◌, ◌++◌}
 use Rattle.std.specs.List.{AllByRecursion}
-use Rattle.std.proofs.lemmas.Bool.{ltb-true}
 use Rattle.walrus_ir.specs.declared.val_type.HeapType.{HeapType}
 use Rattle.walrus_ir.specs.declared.val_type.HeapType.TheVariants.{Abstract, Concrete}
 use Rattle.walrus_ir.specs.declared.val_type.ValType.{ValType}
@@ -19,22 +18,19 @@ use Rattle.wasm_ops.specs.Numbers.{IsU32, IsU64, IsS32, IsS64, IsByte, AreBits}
 use Rattle.wasm_ops.specs.Types.{is_listed, nullable_at, value_at, value_rows, IsValueType, IsBlockType}
 use Rattle.wasm_ops.specs.Operations.{Access, CatchClause, Cast, Immediate, index, local, label, handler, outer, number, access, branch_table, clauses, block, heap, value, cast, i32, i64, f32, f64, v128, lane, lanes, zero_byte, RawImmediate}
 use Rattle.wasm_ops.specs.Immediates.{Kind, an_index, a_local, a_label, a_handler, an_outer, a_number, an_access, a_branch_table, some_clauses, a_block, a_heap, a_value, a_cast, an_i32, an_i64, an_f32, an_f64, a_v128, a_lane, sixteen_lanes, a_zero_byte, kind_of, IsAccess, IsClause, IsSelected, SpellsImmediate, SpellsImmediates}
-use Rattle.wasm_ops.proofs.ShortestNumbers.{unsigned_below}
 use Rattle.wasm_ops.proofs.ShortestTypes.{row_holds, listed_ok}
 use Rattle.wasm_ops.proofs.ShortestImmediates.{flags_are}
 use Rattle.wasm_body.specs.declared.error.EmitError.{EmitError}
-use Rattle.wasm_body.specs.declared.error.EmitError.TheVariants.{TooLarge}
-use Rattle.wasm_body.specs.Results.{◌>>=◌, unless, each}
-use Rattle.wasm_body.specs.Frames.{Frame, outside}
+use Rattle.wasm_body.specs.Results.{◌>>=◌, each}
+use Rattle.wasm_body.specs.Frames.{Frame}
 use Rattle.wasm_body.specs.Translation.{Translation, translate_heap, translate_value, translate_tag, translate_clause, translate_cast, translate_access, translate_immediate, translate_immediates}
 use Rattle.wasm_body.specs.Naming.{Environment, naming, id_at}
 use Rattle.wasm_body.specs.FlatText.{then_by, exponent_of}
 use Rattle.wasm_body.proofs.NormalForm.Kept.{exponent_of-pow}
-use Rattle.wasm_body.specs.Bytes.{Numbers, fitting, numbered_block, numbering}
+use Rattle.wasm_body.specs.Bytes.{Numbers, fitting, fitted, numbered_block, numbering}
 use Rattle.wasm_body.specs.ReadBack.{EachInHeap, EachInTag, EachIn, IsUndone, IsUndoneLocal, IsCarriedValue, IsUndoneType}
-use Rattle.wasm_body.proofs.Translation.ResultLemmas.{unless_ok}
+use Rattle.wasm_body.proofs.Bytes.Fitting.{fitting_is, fitted_is}
 use Rattle.wasm_body.proofs.Translation.Steps.{bound, length-each}
-use Rattle.wasm_body.proofs.NormalForm.KeptNames.{open_same, handler_same}
 use Rattle.wasm_body.proofs.NormalForm.WrittenTexts.{named_by}
 use Rattle.wasm_body.proofs.ReadBack.Spellings.{IsSpellable, u32_spelt, FitsHeap, heap_spelt, empty_block_spelt, value_block_spelt, index_block_spelt, access_spelt, table_spelt, FitsTag, clause_spelt, clauses_spelt, cast_spelt, selected_spelt}
 
@@ -90,7 +86,7 @@ module _ {L B M C E : Type 0} (t : Translation L B M C E) where
   kind_kept (label l) j e = through (t.label l) label (KeepsKind (label l)) (λ y h. refl) j e
   kind_kept (handler n) j e = through (t.handler n) handler (KeepsKind (handler n)) (λ y h. refl) j e
   kind_kept (outer n) j e = through (t.outer n) outer (KeepsKind (outer n)) (λ y h. refl) j e
-  kind_kept (number n) j e = at_once (number n) (KeepsKind (number n)) refl j e
+  kind_kept (number n) j e = through (t.number n) number (KeepsKind (number n)) (λ y h. refl) j e
   kind_kept (access a) j e = through (translate_access t a) access (KeepsKind (access a)) (λ y h. refl) j e
   kind_kept (branch_table ts d) j e =
       let u = bound (t.count (length ts)) (λ u. each t.label ts >>= λ us. t.label d >>= λ c. Ok (branch_table us c)) j e in
@@ -119,12 +115,9 @@ module _ {L B M C E : Type 0} (t : Translation L B M C E) where
       through (each (translate_immediate t) is) (λ ks. first.0 ∷ ks) (λ ks. map kind_in ks ≡ map kind_in (i ∷ is))
       (λ ks h. ap (λ k. k ∷ map kind_in ks) (kind_kept i first.0 first.1) ∙ ap (λ l. kind_in i ∷ l) (kinds_kept is ks h)) js first.2
 
--- ---- what has to be known of a named immediate, its ids and labels aside
+-- ---- what has to be known of a named immediate, its ids, labels and numbers aside
 
 abbrev pub IsRanged : {L B : Type 0} → Immediate L B → Type 0
-IsRanged (handler n) = n < 2 ^ 32
-IsRanged (outer n) = n < 2 ^ 32
-IsRanged (number n) = n < 2 ^ 32
 IsRanged (access a) = (a.alignment < 32) × IsSpellable IsU64 a.offset
 IsRanged (value v) = IsCarriedValue v
 IsRanged (i32 z) = IsSpellable IsS32 z
@@ -174,9 +167,6 @@ module _ {A : Type 0} (env : Environment) (fs : List (Frame A)) where
   abbrev Ranged : Immediate ℕ Signature → Type 0
   Ranged j = IsRanged j
 
-  below_same : (n q : ℕ) → n < 2 ^ 32 → q ≡ n → q < 2 ^ 32
-  below_same n q h e = subst (λ k. k < 2 ^ 32) (sym e) h
-
   access_named : (a : Access) (text : List ℕ) → IsAccess a text → (b : Access) → translate_access (naming env fs) a ≡ Ok b → Ranged (access b)
   access_named a text s b e =
       let h = access_ranged a text s in
@@ -187,11 +177,9 @@ module _ {A : Type 0} (env : Environment) (fs : List (Frame A)) where
   ranged (index space n) text s j e = through (id_at env space n) (index space) Ranged (λ y h. tt) j e
   ranged (local n) text s j e = through ((naming env fs).local n) local Ranged (λ y h. tt) j e
   ranged (label l) text s j e = through ((naming env fs).label l) label Ranged (λ y h. tt) j e
-  ranged (handler n) text s j e =
-      through ((naming env fs).handler n) handler Ranged (λ q h. below_same n q (unsigned_below 32 n text s) (handler_same fs n q h)) j e
-  ranged (outer n) text s j e =
-      through ((naming env fs).outer n) outer Ranged (λ q h. below_same n q (unsigned_below 32 n text s) (open_same (outside fs) n q h)) j e
-  ranged (number n) text s j e = at_once (number n) Ranged (unsigned_below 32 n text s) j e
+  ranged (handler n) text s j e = through ((naming env fs).handler n) handler Ranged (λ y h. tt) j e
+  ranged (outer n) text s j e = through ((naming env fs).outer n) outer Ranged (λ y h. tt) j e
+  ranged (number n) text s j e = at_once (number n) Ranged tt j e
   ranged (access a) text s j e = through (translate_access (naming env fs) a) access Ranged (λ b h. access_named a text s b h) j e
   ranged (branch_table ts d) text s j e =
       let t = naming env fs in
@@ -233,13 +221,6 @@ trivially : {X : Type 0} → (xs : List X) → AllByRecursion (λ x. Unit {0}) x
 trivially [] = tt
 trivially (x ∷ xs) = (tt, trivially xs)
 
-fitting_is : (n q : ℕ) → fitting n ≡ Ok q → (n < 2 ^ 32) × (q < 2 ^ 32)
-fitting_is n q e =
-    let u = bound (unless (nat_lt n (2 ^ 32)) TooLarge) (λ _. Ok n) q e in
-    let same : n ≡ q = cc u.2 in
-    let below = ltb-true n (2 ^ 32) (unless_ok (nat_lt n (2 ^ 32)) TooLarge u.0 u.1) in
-    (below, subst (λ k. k < 2 ^ 32) same below)
-
 module _ (to : Numbers) (env : Environment) (t : InstrSeqType) where
   abbrev onward : Translation ℕ Signature ℕ BlockType EmitError
   onward = named_by (then_by (numbering to)) t
@@ -250,67 +231,67 @@ module _ (to : Numbers) (env : Environment) (t : InstrSeqType) where
   abbrev IsSpelt : RawImmediate → Type 0
   IsSpelt k = IsSpellable SpellsImmediate k
 
-  heap_fits : (h : HeapType ℕ) → EachInHeap (IsUndone to env) h → (g : HeapType ℕ) → translate_heap to.number_of h ≡ Ok g → FitsHeap g
+  heap_fits : (h : HeapType ℕ) → EachInHeap (IsUndone to env) h → (g : HeapType ℕ) → translate_heap (fitted to).number_of h ≡ Ok g → FitsHeap g
   heap_fits (Abstract a) u g e = at_once (Abstract a) FitsHeap tt g e
-  heap_fits (Concrete n) u g e = through (to.number_of Types n) Concrete FitsHeap (λ m h. (u m h).0) g e
+  heap_fits (Concrete n) u g e = through ((fitted to).number_of Types n) Concrete FitsHeap (λ m h. (fitted_is (to.number_of Types n) m h).below) g e
 
-  tag_fits : (g : Option ℕ) → EachInTag (IsUndone to env) g → (q : Option ℕ) → translate_tag to.number_of g ≡ Ok q → FitsTag q
+  tag_fits : (g : Option ℕ) → EachInTag (IsUndone to env) g → (q : Option ℕ) → translate_tag (fitted to).number_of g ≡ Ok q → FitsTag q
   tag_fits None u q e = at_once None FitsTag tt q e
-  tag_fits (Some n) u q e = through (to.number_of Tags n) (λ m. Some m) FitsTag (λ m h. (u m h).0) q e
+  tag_fits (Some n) u q e = through ((fitted to).number_of Tags n) (λ m. Some m) FitsTag (λ m h. (fitted_is (to.number_of Tags n) m h).below) q e
 
   clause_again : (c d : CatchClause ℕ) → EachInTag (IsUndone to env) c.tag → translate_clause onward c ≡ Ok d → IsSpellable IsClause d
   clause_again c d u e =
-      let tag = bound (translate_tag to.number_of c.tag) (λ g. fitting c.label >>= λ l. Ok (record { by_reference = c.by_reference; tag = g; label = l })) d e in
+      let tag = bound (translate_tag (fitted to).number_of c.tag) (λ g. fitting c.label >>= λ l. Ok (record { by_reference = c.by_reference; tag = g; label = l })) d e in
       through (fitting c.label) (λ l. record { by_reference = c.by_reference; tag = tag.0; label = l }) (IsSpellable IsClause)
-      (λ l h. clause_spelt c.by_reference tag.0 l (tag_fits c.tag u tag.0 tag.1) (fitting_is c.label l h).1) d tag.2
+      (λ l h. clause_spelt c.by_reference tag.0 l (tag_fits c.tag u tag.0 tag.1) (fitting_is c.label l h).below) d tag.2
 
   counted_is : (n : ℕ) (u : Unit {0}) → (fitting n >>= λ _. Ok tt) ≡ Ok u → n < 2 ^ 32
-  counted_is n u e = let q = bound (fitting n) (λ _. Ok tt) u e in (fitting_is n q.0 q.1).0
+  counted_is n u e = let q = bound (fitting n) (λ _. Ok tt) u e in let fit = fitting_is n q.0 q.1 in subst (λ k. k < 2 ^ 32) fit.same fit.below
 
   block_again : (s : InstrSeqType) (c : BlockType) → IsUndoneType to env s → numbered_block to s ≡ Ok c → IsSpellable IsBlockType c
   block_again (Simple None) c u e = at_once Empty (IsSpellable IsBlockType) empty_block_spelt c e
   block_again (Simple (Some v)) c u e =
-      through (translate_value to.number_of v) Value (IsSpellable IsBlockType)
-      (λ w h. value_block_spelt w (subst IsCarriedValue (carried_same to.number_of v w u.0 h) u.0)) c e
-  block_again (MultiValue id) c u e = through (to.number_of Types id) FuncType (IsSpellable IsBlockType) (λ n h. index_block_spelt n (u n h).0) c e
+      through (translate_value (fitted to).number_of v) Value (IsSpellable IsBlockType)
+      (λ w h. value_block_spelt w (subst IsCarriedValue (carried_same (fitted to).number_of v w u.0 h) u.0)) c e
+  block_again (MultiValue id) c u e = through ((fitted to).number_of Types id) FuncType (IsSpellable IsBlockType) (λ n h. index_block_spelt n (fitted_is (to.number_of Types id) n h).below) c e
 
   cast_again : (c : Cast ℕ) → Undone (cast c) → (k : RawImmediate) → translate_immediate onward (cast c) ≡ Ok k → IsSpelt k
   cast_again c u k e =
       let from : ℕ → HeapType ℕ → HeapType ℕ → Cast ℕ = λ l s g. record { from_nullable = c.from_nullable; to_nullable = c.to_nullable; label = l; source = s; target = g } in
       through (translate_cast onward c) cast IsSpelt (λ d made.
-      let l = bound (fitting c.label) (λ l. translate_heap to.number_of c.source >>= λ s. translate_heap to.number_of c.target >>= λ g. Ok (from l s g)) d made in
-      let s = bound (translate_heap to.number_of c.source) (λ s. translate_heap to.number_of c.target >>= λ g. Ok (from l.0 s g)) d l.2 in
-      through (translate_heap to.number_of c.target) (from l.0 s.0) (λ d. IsSpelt (cast d)) (λ g h.
-      cast_spelt l.0 s.0 g (fitting_is c.label l.0 l.1).1 (heap_fits c.source u.0 s.0 s.1) (heap_fits c.target u.1 g h) c.from_nullable c.to_nullable) d s.2) k e
+      let l = bound (fitting c.label) (λ l. translate_heap (fitted to).number_of c.source >>= λ s. translate_heap (fitted to).number_of c.target >>= λ g. Ok (from l s g)) d made in
+      let s = bound (translate_heap (fitted to).number_of c.source) (λ s. translate_heap (fitted to).number_of c.target >>= λ g. Ok (from l.0 s g)) d l.2 in
+      through (translate_heap (fitted to).number_of c.target) (from l.0 s.0) (λ d. IsSpelt (cast d)) (λ g h.
+      cast_spelt l.0 s.0 g (fitting_is c.label l.0 l.1).below (heap_fits c.source u.0 s.0 s.1) (heap_fits c.target u.1 g h) c.from_nullable c.to_nullable) d s.2) k e
 
   access_again : (a : Access) → (a.alignment < 32) × IsSpellable IsU64 a.offset → IsUndone to env Memories a.memory → (b : Access) → translate_access onward a ≡ Ok b → IsSpellable IsAccess b
   access_again a r u b e =
-      through (to.number_of Memories a.memory) (λ m. record { alignment = exponent_of (2 ^ a.alignment); memory = m; offset = a.offset }) (IsSpellable IsAccess)
-      (λ m h. access_spelt (record { alignment = exponent_of (2 ^ a.alignment); memory = m; offset = a.offset }) (subst (λ n. n < 32) (sym (exponent_of-pow a.alignment)) r.0) (u m h).0 r.1) b e
+      through ((fitted to).number_of Memories a.memory) (λ m. record { alignment = exponent_of (2 ^ a.alignment); memory = m; offset = a.offset }) (IsSpellable IsAccess)
+      (λ m h. access_spelt (record { alignment = exponent_of (2 ^ a.alignment); memory = m; offset = a.offset }) (subst (λ n. n < 32) (sym (exponent_of-pow a.alignment)) r.0) (fitted_is (to.number_of Memories a.memory) m h).below r.1) b e
 
   again : (j : Immediate ℕ Signature) → IsRanged j → Undone j → (k : RawImmediate) → translate_immediate onward j ≡ Ok k → IsSpelt k
-  again (index space n) r u k e = through (to.number_of space n) (index space) IsSpelt (λ m h. u32_spelt m (u m h).0) k e
-  again (local n) r u k e = through (to.local_number n) local IsSpelt (λ m h. u32_spelt m (u m h).0) k e
-  again (label l) r u k e = through (fitting l) label IsSpelt (λ m h. u32_spelt m (fitting_is l m h).1) k e
-  again (handler n) r u k e = at_once (handler n) IsSpelt (u32_spelt n r) k e
-  again (outer n) r u k e = at_once (outer n) IsSpelt (u32_spelt n r) k e
-  again (number n) r u k e = at_once (number n) IsSpelt (u32_spelt n r) k e
+  again (index space n) r u k e = through ((fitted to).number_of space n) (index space) IsSpelt (λ m h. u32_spelt m (fitted_is (to.number_of space n) m h).below) k e
+  again (local n) r u k e = through ((fitted to).local_number n) local IsSpelt (λ m h. u32_spelt m (fitted_is (to.local_number n) m h).below) k e
+  again (label l) r u k e = through (fitting l) label IsSpelt (λ m h. u32_spelt m (fitting_is l m h).below) k e
+  again (handler n) r u k e = through (fitting n) handler IsSpelt (λ m h. u32_spelt m (fitting_is n m h).below) k e
+  again (outer n) r u k e = through (fitting n) outer IsSpelt (λ m h. u32_spelt m (fitting_is n m h).below) k e
+  again (number n) r u k e = through (fitting n) number IsSpelt (λ m h. u32_spelt m (fitting_is n m h).below) k e
   again (access a) r u k e = through (translate_access onward a) access IsSpelt (λ b h. access_again a r u b h) k e
   again (branch_table ts d) r u k e =
       let c = bound (onward.count (length ts)) (λ c. each fitting ts >>= λ us. fitting d >>= λ g. Ok (branch_table us g)) k e in
       let us = bound (each fitting ts) (λ us. fitting d >>= λ g. Ok (branch_table us g)) k c.2 in
       let count = subst (λ n. n < 2 ^ 32) (sym (length-each fitting ts us.0 us.1)) (counted_is (length ts) c.0 c.1) in
-      let all = each_made fitting (λ n. Unit {0}) (IsSpellable IsU32) (λ n m p h. u32_spelt m (fitting_is n m h).1) ts us.0 (trivially ts) us.1 in
-      through (fitting d) (λ g. branch_table us.0 g) IsSpelt (λ g h. table_spelt us.0 g count all (fitting_is d g h).1) k us.2
+      let all = each_made fitting (λ n. Unit {0}) (IsSpellable IsU32) (λ n m p h. u32_spelt m (fitting_is n m h).below) ts us.0 (trivially ts) us.1 in
+      through (fitting d) (λ g. branch_table us.0 g) IsSpelt (λ g h. table_spelt us.0 g count all (fitting_is d g h).below) k us.2
   again (clauses cs) r u k e =
       let c = bound (onward.count (length cs)) (λ c. each (translate_clause onward) cs >>= λ ds. Ok (clauses ds)) k e in
       through (each (translate_clause onward) cs) clauses IsSpelt (λ ds h.
       let count = subst (λ n. n < 2 ^ 32) (sym (length-each (translate_clause onward) cs ds h)) (counted_is (length cs) c.0 c.1) in
       clauses_spelt ds count (each_made (translate_clause onward) (λ (x : CatchClause ℕ). EachInTag (IsUndone to env) x.tag) (IsSpellable IsClause) (λ x y p g. clause_again x y p g) cs ds u h)) k c.2
   again (block s) r u k e = through (numbered_block to t) block IsSpelt (λ c h. block_again t c u h) k e
-  again (heap h) r u k e = through (translate_heap to.number_of h) heap IsSpelt (λ g made. heap_spelt g (heap_fits h u g made)) k e
+  again (heap h) r u k e = through (translate_heap (fitted to).number_of h) heap IsSpelt (λ g made. heap_spelt g (heap_fits h u g made)) k e
   again (value v) r u k e =
-      through (translate_value to.number_of v) value IsSpelt (λ w h. selected_spelt w (subst IsCarriedValue (carried_same to.number_of v w r h) r)) k e
+      through (translate_value (fitted to).number_of v) value IsSpelt (λ w h. selected_spelt w (subst IsCarriedValue (carried_same (fitted to).number_of v w r h) r)) k e
   again (cast c) r u k e = cast_again c u k e
   again (i32 z) r u k e = at_once (i32 z) IsSpelt r k e
   again (i64 z) r u k e = at_once (i64 z) IsSpelt r k e
