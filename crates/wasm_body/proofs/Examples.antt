@@ -8,4 +8,5 @@ pub mod NormalForms
 pub mod Texts
 pub mod Instructions
 pub mod Parses
+pub mod Rewritings
 pub mod Premises

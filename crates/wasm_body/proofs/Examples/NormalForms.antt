@@ -2,16 +2,16 @@
 use Rattle.std.specs.Prelude.{◌≡◌, ℕ, List, [], ◌∷◌, Some, None, refl}
 use Rattle.walrus_ir.specs.declared.val_type.InstrSeqType.TheVariants.{Simple, MultiValue}
 use Rattle.walrus_ir.specs.declared.val_type.ValType.TheVariants.{I32}
-use Rattle.walrus_ir.specs.Tree.{Items, no_items, item, Sequences, no_sequences, sequence}
+use Rattle.walrus_ir.specs.Tree.{Items, no_items, item, Sequences, no_sequences, sequence, alone as all_of}
 use Rattle.wasm_ops.specs.declared.types.BlockType.TheVariants.{Empty, Value, FuncType}
 use Rattle.wasm_ops.specs.declared.types.Opcode.TheVariants.{Byte}
 use Rattle.wasm_ops.specs.Operations.{access, Operation, operation, RawOperation}
 use Rattle.wasm_body.specs.Translation.{located}
-use Rattle.wasm_body.specs.FunctionTree.{Depth, TreeOperation, Head, LegacyClause, handles, handles_all, delegates, Instruction, FunctionTree, default_location}
+use Rattle.wasm_body.specs.FunctionTree.{Depth, TreeOperation, Head, LegacyClause, handles, handles_all, delegates, Instruction, FunctionTree, bare_sequences, IsSameTree, default_location}
 use Rattle.wasm_body.specs.NormalForm.{head}
-use Rattle.wasm_body.proofs.Examples.Operators.{unreachable, nop, block, loop, if, else, try, catch, throw, rethrow, throw_ref, end, br, br_if, br_table, return, call, return_call, return_call_indirect, return_call_ref, delegate, catch_all, drop, try_table, local_get, const, catches, catches_ref, catches_all, catches_all_ref}
+use Rattle.wasm_body.proofs.Examples.Operators.{unreachable, nop, block, loop, if, else, try, catch, throw, rethrow, throw_ref, end, br, br_if, br_table, return, call, call_indirect, call_ref, return_call, return_call_indirect, return_call_ref, delegate, catch_all, drop, try_table, local_get, const, catches, catches_ref, catches_all, catches_all_ref}
 use Rattle.wasm_body.proofs.Examples.Modules.{nothing, demo, demo_numbers, odd}
-use Rattle.wasm_body.proofs.Examples.Rows.{Answer, Is, tree, text, written}
+use Rattle.wasm_body.proofs.Examples.Rows.{Answer, Is, tree, tree_or_empty, text, written}
 
 -- ---- trees
 
@@ -104,6 +104,20 @@ load alignment = operation (Byte 0x28) (access (record { alignment = alignment; 
 alignments : tree demo (const 0 ∷ load 2 ∷ drop ∷ end ∷ []) ≡ of_demo 3 (alone (const 0) 0 (alone (load 4) 1 (alone drop 2 no_items)))
 alignments = refl
 
+-- ---- the same tree: equal but for locations
+
+-- an `if` alone, and the same with an empty `else`
+same_but_for_ends : IsSameTree (tree_or_empty (tree demo (if Empty ∷ unreachable ∷ end ∷ end ∷ []))) (tree_or_empty (tree demo (if Empty ∷ unreachable ∷ else ∷ end ∷ end ∷ [])))
+same_but_for_ends = refl
+
+-- 41 07 06 40 07 00 0b 0b: what is compared are operators, clauses and types
+without_locations : bare_sequences (all_of (tree_or_empty (tree demo (const 7 ∷ try Empty ∷ catch 0 ∷ end ∷ end ∷ []))))
+    ≡ sequence (MultiValue 4)
+    (item (const 7, []) no_sequences
+    (item (try tt, handles 0 ∷ []) (sequence (Simple None) no_items (sequence (Simple None) no_items no_sequences)) no_items))
+    no_sequences
+without_locations = refl
+
 -- ---- texts, with the locations
 
 -- 41 07 04 40 0b 0b: the added `else` stands where the `end` stood, and its `end` nowhere
@@ -169,6 +183,9 @@ behind_return_call_indirect = refl
 
 behind_return_call_ref : IsKept (return_call_ref 0 ∷ const 7 ∷ drop ∷ end ∷ [])
 behind_return_call_ref = refl
+
+behind_calls : IsKept (call 0 ∷ call_indirect 0 0 ∷ call_ref 0 ∷ const 7 ∷ drop ∷ end ∷ [])
+behind_calls = refl
 
 behind_br_if : IsKept (br_if 0 ∷ const 7 ∷ drop ∷ end ∷ [])
 behind_br_if = refl

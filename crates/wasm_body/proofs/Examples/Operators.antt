@@ -3,7 +3,7 @@ use Rattle.std.specs.Prelude.{ℕ, List, [], ◌∷◌, Bool, true, false, Optio
 use Rattle.walrus_ir.specs.declared.val_type.HeapType.{HeapType}
 use Rattle.wasm_ops.specs.declared.types.Opcode.TheVariants.{Byte, Prefixed}
 use Rattle.wasm_ops.specs.declared.types.Space.TheVariants.{Types, Funcs, Tables, Tags}
-use Rattle.wasm_ops.specs.Operations.{CatchClause, Immediate, index, local, label, handler, branch_table, clauses, cast, block as block_type, i32, Operation, operation}
+use Rattle.wasm_ops.specs.Operations.{CatchClause, Immediate, index, local, label, handler, number, branch_table, clauses, cast, block as block_type, i32, Operation, operation}
 use Rattle.wasm_body.specs.Control.{end_operation, else_operation, catch_opcode, catch_all_operation, delegate_operation}
 
 -- ---- operators
@@ -62,6 +62,9 @@ return = by_byte 0x0f []
 abbrev pub call : {L B : Type 0} → ℕ → Operation L B
 call function = by_byte 0x10 (index Funcs function ∷ [])
 
+abbrev pub call_ref : {L B : Type 0} → ℕ → Operation L B
+call_ref type = by_byte 0x14 (index Types type ∷ [])
+
 abbrev pub call_indirect : {L B : Type 0} → (type table : ℕ) → Operation L B
 call_indirect type table = by_byte 0x11 (index Types type ∷ index Tables table ∷ [])
 
@@ -97,6 +100,9 @@ br_on_null l = by_byte 0xd5 (label l ∷ [])
 
 abbrev pub br_on_non_null : {L B : Type 0} → L → Operation L B
 br_on_non_null l = by_byte 0xd6 (label l ∷ [])
+
+abbrev pub struct_get : {L B : Type 0} → (type field : ℕ) → Operation L B
+struct_get type field = operation (Prefixed 0xfb 2) (index Types type ∷ number field ∷ [])
 
 -- from a reference that may not be null to one that may not
 abbrev cast_to : {L B : Type 0} → L → (source target : HeapType ℕ) → List (Immediate L B)

@@ -1,6 +1,8 @@
 -- What the definitions answer for a list of operators that is given by hand. An operator's place and location are its number
 -- in the list.
 use Rattle.std.specs.Prelude.{ℕ, suc, List, [], ◌∷◌, map, Option, Some, None, Result, Ok, Err}
+use Rattle.walrus_ir.specs.declared.val_type.InstrSeqType.TheVariants.{Simple}
+use Rattle.walrus_ir.specs.Tree.{no_items}
 use Rattle.wasm_ops.specs.Operations.{RawOperation}
 use Rattle.wasm_body.specs.declared.error.EmitError.{EmitError}
 use Rattle.wasm_body.specs.declared.error.ParseError.{ParseError}
@@ -13,7 +15,7 @@ use Rattle.wasm_body.specs.Naming.{NamedOperation, Occurrence, Environment, name
 use Rattle.wasm_body.specs.Parsing.Accepted.{mark}
 use Rattle.wasm_body.specs.Parsing.Progress.{Progress, Within, Whole, NoBody, nothing_read, progress_behind}
 use Rattle.wasm_body.specs.FunctionTree.{FunctionTree}
-use Rattle.wasm_body.specs.NormalForm.{typing_of, normal_form, name_at, named_body}
+use Rattle.wasm_body.specs.NormalForm.{typing_of, head, normal_form, name_at, named_body}
 use Rattle.wasm_body.specs.FlatText.{tree_text, with_names}
 use Rattle.wasm_body.specs.Bytes.{Numbers, numbered_text}
 use Rattle.wasm_body.specs.Machine.{Event, Ending, Outcome, Run}
@@ -70,6 +72,10 @@ body env os = then_answer (occurrences env os) (λ xs. whole 0 (progress_behind 
 -- its normal form, the text of that with names, and the operators that are written for it
 abbrev pub tree : Environment → List RawOperation → Answer FunctionTree
 tree env os = then_answer (body env os) (λ b. Is (normal_form (typing_of env) (named_body b)))
+
+abbrev pub tree_or_empty : Answer FunctionTree → FunctionTree
+tree_or_empty (Is t) = t
+tree_or_empty _ = record { head = head (Simple None) 0; items = no_items }
 
 abbrev pub text : Environment → List RawOperation → Answer (List (Located NamedOperation))
 text env os = then_answer (tree env os) (λ t. as_text (tree_text (with_names (typing_of env)) t))

@@ -5,7 +5,7 @@ use Rattle.walrus_ir.specs.declared.val_type.HeapType.TheVariants.{Abstract}
 use Rattle.wasm_ops.specs.declared.types.BlockType.TheVariants.{Empty}
 use Rattle.wasm_ops.specs.Operations.{RawOperation}
 use Rattle.wasm_body.specs.Machine.{Outcome, Go, Trap, Raise, Way, Entry, Event, Executed, Taken, Returned, TailCalled, Trapped, Escaped, OutcomesOut, TurnsOut, Mismatch, Run}
-use Rattle.wasm_body.proofs.Examples.Operators.{unreachable, nop, block, loop, if, else, try, catch, throw, rethrow, throw_ref, end, br, br_if, br_table, return, call, return_call, return_call_indirect, return_call_ref, delegate, catch_all, drop, try_table, const, br_on_null, br_on_non_null, br_on_cast, br_on_cast_fail, catches, catches_ref, catches_all}
+use Rattle.wasm_body.proofs.Examples.Operators.{unreachable, nop, block, loop, if, else, try, catch, throw, rethrow, throw_ref, end, br, br_if, br_table, return, call, call_indirect, call_ref, return_call, return_call_indirect, return_call_ref, delegate, catch_all, drop, try_table, const, br_on_null, br_on_non_null, br_on_cast, br_on_cast_fail, catches, catches_ref, catches_all}
 use Rattle.wasm_body.proofs.Examples.Modules.{demo}
 use Rattle.wasm_body.proofs.Examples.Rows.{Answer, trace, ran}
 
@@ -109,6 +109,10 @@ no_alternative : runs (const 0 ∷ if Empty ∷ const 5 ∷ drop ∷ end ∷ nop
     ≡ ran (executed (0 ∷ 1 ∷ 6 ∷ [])) Returned
 no_alternative = refl
 
+-- behind the `end` of such an `if` its label is left
+behind_if_alone : runs (block Empty ∷ if Empty ∷ const 5 ∷ end ∷ br 0 ∷ const 7 ∷ end ∷ end ∷ []) (Way false ∷ []) 0 ≡ ran (executed (0 ∷ 1 ∷ 4 ∷ [])) Returned
+behind_if_alone = refl
+
 -- an `else` of an `if` inside is passed over
 outer_alternative : runs (if Empty ∷ if Empty ∷ else ∷ end ∷ else ∷ const 7 ∷ end ∷ end ∷ []) (Way false ∷ Go ∷ []) 0
     ≡ ran (executed (0 ∷ 5 ∷ [])) Returned
@@ -192,6 +196,17 @@ handler_alone : runs (try Empty ∷ throw 0 ∷ catch 0 ∷ const 5 ∷ catch_al
     ≡ ran (Executed 0 ∷ Executed 1 ∷ Taken 0 0 (Some 0) ∷ Executed 3 ∷ Executed 7 ∷ []) Returned
 handler_alone = refl
 
+-- the handlers of a `try` inside aren't counted
+outer_second_handler : runs (try Empty ∷ try Empty ∷ catch 0 ∷ catch_all ∷ end ∷ throw 0 ∷ catch 1 ∷ catch 0 ∷ end ∷ end ∷ []) (raise_0 ∷ []) 0
+    ≡ ran (Executed 0 ∷ Executed 1 ∷ Executed 5 ∷ Taken 0 1 (Some 0) ∷ []) Returned
+outer_second_handler = refl
+
+-- the innermost `try` that takes it is the one that does; an exception in its handler goes on outwards
+nested_handlers : runs (try Empty ∷ try Empty ∷ throw 0 ∷ catch 0 ∷ throw 1 ∷ catch_all ∷ end ∷ catch_all ∷ const 7 ∷ end ∷ end ∷ [])
+    (raise_0 ∷ Raise (1 ∷ []) ∷ Go ∷ []) 0
+    ≡ ran (Executed 0 ∷ Executed 1 ∷ Executed 2 ∷ Taken 1 0 (Some 0) ∷ Executed 4 ∷ Taken 0 0 None ∷ Executed 8 ∷ []) Returned
+nested_handlers = refl
+
 -- 06 40 08 00 07 00 09 00 0b 0b: a handler that rethrows; its own `try` doesn't take it
 rethrown : runs (try Empty ∷ throw 0 ∷ catch 0 ∷ rethrow 0 ∷ end ∷ end ∷ []) (raise_0 ∷ []) 0
     ≡ ran (Executed 0 ∷ Executed 1 ∷ Taken 0 0 (Some 0) ∷ Executed 3 ∷ []) (Escaped (0 ∷ []))
@@ -256,6 +271,10 @@ tail_call_raises = refl
 tail_call_traps : runs (return_call 0 ∷ end ∷ []) (Trap ∷ []) 0 ≡ ran (executed (0 ∷ [])) Trapped
 tail_call_traps = refl
 
+-- a call isn't one
+called : runs (call 0 ∷ call_indirect 0 0 ∷ call_ref 0 ∷ const 7 ∷ end ∷ []) (Go ∷ Go ∷ Go ∷ Go ∷ []) 0 ≡ ran (executed (0 ∷ 1 ∷ 2 ∷ 3 ∷ [])) Returned
+called = refl
+
 -- 08 00 0b: a `throw` asks for its own tag, among others
 throw_of_others : runs (throw 0 ∷ end ∷ []) (Raise (1 ∷ []) ∷ []) 0 ≡ ran [] Mismatch
 throw_of_others = refl
@@ -290,10 +309,51 @@ other_kind = refl
 no_outcome : runs (const 0 ∷ drop ∷ end ∷ []) [] 0 ≡ ran [] OutcomesOut
 no_outcome = refl
 
+-- an operator that gets an outcome of a kind that it doesn't ask for is no event
+abbrev mismatches : RawOperation → Outcome → Type 0
+mismatches o outcome = runs (block Empty ∷ o ∷ end ∷ end ∷ []) (outcome ∷ []) 0 ≡ ran (executed (0 ∷ [])) Mismatch
+
+plain_asks : mismatches (call 0) (Way true) × mismatches (call 0) (Way false) × mismatches (call 0) (Entry 0)
+plain_asks = (refl, refl, refl)
+
+conditional_branch_asks : mismatches (br_if 0) Go × mismatches (br_if 0) Trap × mismatches (br_if 0) raise_0 × mismatches (br_if 0) (Entry 0)
+conditional_branch_asks = (refl, refl, refl, refl)
+
+table_branch_asks : mismatches (br_table [] 0) Go × mismatches (br_table [] 0) Trap × mismatches (br_table [] 0) raise_0 × mismatches (br_table [] 0) (Way true)
+table_branch_asks = (refl, refl, refl, refl)
+
+throw_asks : mismatches (throw 0) Go × mismatches (throw 0) (Way true) × mismatches (throw 0) (Entry 0)
+throw_asks = (refl, refl, refl)
+
+throw_ref_asks : mismatches throw_ref (Way true) × mismatches throw_ref (Entry 0)
+throw_ref_asks = (refl, refl)
+
+tail_call_asks : mismatches (return_call 0) (Way true) × mismatches (return_call 0) (Entry 0)
+tail_call_asks = (refl, refl)
+
+if_asks : runs (if Empty ∷ end ∷ end ∷ []) (Go ∷ []) 0 ≡ ran [] Mismatch
+if_asks = refl
+
+-- and one that gets none isn't either
+unanswered : runs (block Empty ∷ br_if 0 ∷ end ∷ end ∷ []) [] 0 ≡ ran (executed (0 ∷ [])) OutcomesOut
+unanswered = refl
+
+table_unanswered : runs (br_table [] 0 ∷ end ∷ []) [] 0 ≡ ran [] OutcomesOut
+table_unanswered = refl
+
+if_unanswered : runs (if Empty ∷ end ∷ end ∷ []) [] 0 ≡ ran [] OutcomesOut
+if_unanswered = refl
+
+throw_unanswered : runs (throw 0 ∷ end ∷ []) [] 0 ≡ ran [] OutcomesOut
+throw_unanswered = refl
+
 -- a trap is no exception
 trap_not_caught : runs (try Empty ∷ call 0 ∷ catch_all ∷ end ∷ end ∷ []) (Trap ∷ []) 0 ≡ ran (executed (0 ∷ 1 ∷ [])) Trapped
 trap_not_caught = refl
 
 -- 01 0b: a `nop` asks for nothing and is no event
+nop_takes_none : runs (nop ∷ const 7 ∷ end ∷ []) (Go ∷ []) 0 ≡ ran (executed (1 ∷ [])) Returned
+nop_takes_none = refl
+
 only_nop : runs (nop ∷ end ∷ []) [] 0 ≡ ran [] Returned
 only_nop = refl

@@ -1,5 +1,5 @@
 -- Texts of trees that are given by hand: which clauses are lawful, exponents, and what isn't written.
-use Rattle.std.specs.Prelude.{◌≡◌, ◌^◌, List, [], ◌∷◌, true, false, None, Result, Ok, Err, refl}
+use Rattle.std.specs.Prelude.{◌≡◌, ℕ, ◌^◌, List, [], ◌∷◌, true, false, None, Result, Ok, Err, refl}
 use Rattle.walrus_ir.specs.declared.val_type.InstrSeqType.{InstrSeqType}
 use Rattle.walrus_ir.specs.declared.val_type.InstrSeqType.TheVariants.{Simple, MultiValue}
 use Rattle.walrus_ir.specs.Tree.{no_items, item, Sequences, no_sequences, sequence}
@@ -14,7 +14,7 @@ use Rattle.wasm_body.specs.FunctionTree.{Depth, Outside, TreeOperation, Head, Le
 use Rattle.wasm_body.specs.NormalForm.{head}
 use Rattle.wasm_body.specs.FlatText.{are_lawful, exponent_of}
 use Rattle.wasm_body.specs.Bytes.{Numbers, numbered_text}
-use Rattle.wasm_body.proofs.Examples.Operators.{block, try, catch, end, br, br_table, call, local_get, try_table, catches}
+use Rattle.wasm_body.proofs.Examples.Operators.{block, try, catch, rethrow, end, br, br_table, call, local_get, struct_get, try_table, catches}
 use Rattle.wasm_body.proofs.Examples.Modules.{demo_numbers}
 
 -- ---- the clauses of a `try`
@@ -131,6 +131,34 @@ depth_too_large = refl
 
 greatest_depth : writes demo_numbers (of_one (br (Depth 4294967295)) [] no_sequences) ≡ Ok (located (br 4294967295) 0 ∷ located end 0 ∷ [])
 greatest_depth = refl
+
+-- so does every other depth, and every number, field and length
+abbrev too_large : ℕ
+too_large = 2 ^ 32
+
+rethrow_too_large : writes demo_numbers (of_one (rethrow too_large) [] no_sequences) ≡ Err TooLarge
+rethrow_too_large = refl
+
+delegate_too_large : writes demo_numbers (of_one (try tt) (delegates too_large ∷ []) (empty_sequence (Simple None) no_sequences)) ≡ Err TooLarge
+delegate_too_large = refl
+
+number_too_large : writes demo_numbers (of_one (call too_large) [] no_sequences) ≡ Err TooLarge
+number_too_large = refl
+
+local_too_large : writes demo_numbers (of_one (local_get too_large) [] no_sequences) ≡ Err TooLarge
+local_too_large = refl
+
+type_too_large : writes demo_numbers (of_one (block tt) [] (empty_sequence (MultiValue too_large) no_sequences)) ≡ Err TooLarge
+type_too_large = refl
+
+tag_too_large : writes demo_numbers (of_one (try tt) (handles too_large ∷ []) two_sequences) ≡ Err TooLarge
+tag_too_large = refl
+
+field_too_large : writes demo_numbers (of_one (struct_get 0 too_large) [] no_sequences) ≡ Err TooLarge
+field_too_large = refl
+
+greatest_number : writes demo_numbers (of_one (call 4294967295) [] no_sequences) ≡ Ok (located (call 4294967295) 0 ∷ located end 0 ∷ [])
+greatest_number = refl
 
 unnumbered : writes no_numbers (of_one (call 0) [] no_sequences) ≡ Err (Index (Unnumbered Funcs))
 unnumbered = refl
