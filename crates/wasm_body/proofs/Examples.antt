@@ -9,4 +9,5 @@ pub mod Texts
 pub mod Instructions
 pub mod Parses
 pub mod Rewritings
+pub mod Pairs
 pub mod Premises

@@ -5,5 +5,6 @@ pub mod Constructs
 pub mod Handlers
 pub mod RewritesTo
 pub mod Enough
+pub mod Locations
 pub mod Natural
 pub mod NormalForms

@@ -22,7 +22,9 @@ pub mod FlatText
 pub mod Bytes
 pub mod TextLaws
 pub mod ReadBack
--- the trace machine, and the law that executions are kept
+pub mod Pairs
+-- the trace machine, and the laws that executions are kept, and that locations are honest along them
 pub mod Machine
 pub mod Places
 pub mod ExecutionLaws
+pub mod LocationLaws

@@ -14,13 +14,13 @@ use Rattle.wasm_ops.specs.Operations.{CatchClause, Immediate, index, local, acce
 use Rattle.wasm_ops.specs.OperatorList.{Placed, Lists}
 use Rattle.wasm_body.specs.Translation.{Located}
 use Rattle.wasm_body.specs.SourceTree.{Body}
-use Rattle.wasm_body.specs.Naming.{Environment, NamedOperation, Occurrence}
+use Rattle.wasm_body.specs.Naming.{Environment, Occurrence}
 use Rattle.wasm_body.specs.Parsing.Accepted.{HasSpelling, placed, Lawful, Setting, Accepted, has_location, validated}
 use Rattle.wasm_body.specs.FunctionTree.{FunctionTree, IsSameTree}
-use Rattle.wasm_body.specs.NormalForm.{typing_of, normal_form, named_body}
+use Rattle.wasm_body.specs.NormalForm.{Typing, typing_of, normal_form, named_body}
 use Rattle.wasm_body.specs.FlatText.{tree_text, with_ids}
 use Rattle.wasm_body.specs.Bytes.{Numbers, tree_bytes}
-use Rattle.wasm_body.specs.TextLaws.{IsTextOf, IsNamedBody}
+use Rattle.wasm_body.specs.TextLaws.{HasBodyText}
 
 -- ---- what holds of each id in an immediate: of P those of spaces, of Q locals, of S block types
 
@@ -117,13 +117,16 @@ InverseUndoes =
     (to : Numbers) (again : Environment) → again.types ≡ env.types → again.tags ≡ env.tags → again.type ≡ env.type → IsInverse to again → GivesNoReference env.types →
     Undoes to (normal_form (typing_of env) (named_body body)) env again
 
--- The normal form of a lawful body has a text with names, which is a body again, and the normal form of that body is the
--- same tree.
+-- The tree has a text with names, which is a body again, and the normal form of that body is the same tree.
+pub record IsReadByNames (m : Typing) (tree : FunctionTree) : Type 0 where
+  pub read : HasBodyText m tree
+  pub same : IsSameTree (normal_form m read.body) tree
+
+-- The normal form of a lawful body is read again by the text with names.
 abbrev pub NormalFormAgain : Type 0
 NormalFormAgain =
     (env : Environment) (xs : List Occurrence) (body : Body Occurrence) → AllByRecursion HasSpelling xs → Lawful env xs body →
-    (ys : List (Located NamedOperation)) × (c : Body (Located NamedOperation)) × IsTextOf (typing_of env) (normal_form (typing_of env) (named_body body)) ys ×
-    IsNamedBody ys c × IsSameTree (normal_form (typing_of env) c) (normal_form (typing_of env) (named_body body))
+    IsReadByNames (typing_of env) (normal_form (typing_of env) (named_body body))
 
 -- Trees that are the same have the same bytes, or the same fault.
 abbrev pub SameBytes : Type 0

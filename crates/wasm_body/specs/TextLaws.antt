@@ -54,11 +54,18 @@ LawfulAreTyped =
     (env : Environment) (xs : List Occurrence) (b : Body Occurrence) → AllByRecursion HasSpelling xs → Lawful env xs b →
     IsNamedBody (map name_at xs) (named_body b) × AreTyped (typing_of env) (map name_at xs)
 
+-- The tree has a text, and the text is a body again.
+pub record HasBodyText (m : Typing) (tree : FunctionTree) : Type 0 where
+  pub text : List (Located NamedOperation)
+  pub body : Body (Located NamedOperation)
+  pub is_text : IsTextOf m tree text
+  pub is_body : IsNamedBody text body
+
 -- The normal form of a typed body has a text, and the text is a body again.
 abbrev pub HaveTexts : Type 0
 HaveTexts =
     (m : Typing) (xs : List (Located NamedOperation)) (b : Body (Located NamedOperation)) → IsNamedBody xs b → AreTyped m xs →
-    (ys : List (Located NamedOperation)) × (c : Body (Located NamedOperation)) × IsTextOf m (normal_form m b) ys × IsNamedBody ys c
+    HasBodyText m (normal_form m b)
 
 -- The text, read as a body again, has a normal form that is the same tree.
 abbrev pub NormalAgain : Type 0

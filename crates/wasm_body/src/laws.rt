@@ -1,5 +1,6 @@
 //! Laws of trees and texts, each the contract of a function that does nothing.
-ghost use Rattle.wasm_body.specs.ExecutionLaws.{NamedExecutionsKept, ExecutionsKept, CountSuffices};
+ghost use Rattle.wasm_body.specs.ExecutionLaws.{NamedExecutionsKept, ExecutionsKept, RunsByPlace, CountSuffices};
+ghost use Rattle.wasm_body.specs.LocationLaws.{PlacesIncrease, PairsOfText, NamedLocationsHonest, LocationsHonest};
 ghost use Rattle.wasm_body.specs.ReadBack.{ReadBack, NormalFormAgain, SameBytes, InverseUndoes, AcceptedAgain};
 ghost use Rattle.wasm_body.specs.TextLaws.{LawfulAreTyped, HaveTexts, NormalAgain, OneBody, OneSequence, SameTexts};
 ghost use Rattle.wasm_body.specs.Parsing.Laws.{OneBodyAccepted, AcceptedHasNoFault, OneFirstFault, AcceptedOrFault, LongestFront};
@@ -41,12 +42,24 @@ pub fn law_same_texts<M, C>()
 
 /// The normal form of a body has a text, and the two execute the same operators, at the same locations, and end alike: for
 /// all outcomes and turns. It holds of each typed body of named operators, whatever constructs it has, and so of every
-/// accepted body. And the count of operators by which a run's turns are bounded suffices: a run that ends Returned has
-/// returned.
+/// accepted body. Each event of a run has its operator, and the count of operators by which a run's turns are bounded
+/// suffices: a run that ends Returned has returned.
 pub fn law_executions()
     ensures named { NamedExecutionsKept }
     ensures accepted { ExecutionsKept }
+    ensures by_place { RunsByPlace }
     ensures count_suffices { CountSuffices }
+{}
+
+/// Location pairs are honest along every run. The places of the pairs that are written for a tree strictly increase. Those of
+/// a body's normal form are one for each operator of its text, at its location; and whatever stands before the bytes, the
+/// pair at the place of the operator of an event holds the location of the operator of the same event of the source's run
+/// (of an exception that is taken, of the openers).
+pub fn law_locations()
+    ensures increase { PlacesIncrease }
+    ensures of_text { PairsOfText }
+    ensures named { NamedLocationsHonest }
+    ensures accepted { LocationsHonest }
 {}
 
 /// The bytes of a normal form, read back by maps that undo the numbers, are a body whose normal form is the same tree and

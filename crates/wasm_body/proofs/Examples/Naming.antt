@@ -72,6 +72,14 @@ second_catch_all = refl
 catch_in_block : named (try Empty ∷ block Empty ∷ catch 0 ∷ end ∷ end ∷ end ∷ []) ≡ Refused CatchOutsideTry 2
 catch_in_block = refl
 
+-- 04 40 05 07 00 0b 0b
+catch_in_alternative : named (if Empty ∷ else ∷ catch 0 ∷ end ∷ end ∷ []) ≡ Refused CatchOutsideTry 2
+catch_in_alternative = refl
+
+-- 04 40 19 0b 0b
+catch_in_consequent : named (if Empty ∷ catch_all ∷ end ∷ end ∷ []) ≡ Refused CatchOutsideTry 1
+catch_in_consequent = refl
+
 -- 1f 40 00 19 0b 0b
 catch_in_table : named (try_table Empty [] ∷ catch_all ∷ end ∷ end ∷ []) ≡ Refused CatchOutsideTry 1
 catch_in_table = refl
@@ -83,6 +91,18 @@ delegate_alone = refl
 -- 06 40 07 00 18 00 0b
 delegate_in_handler : named (try Empty ∷ catch 0 ∷ delegate 0 ∷ end ∷ []) ≡ Refused DelegateOutsideTry 2
 delegate_in_handler = refl
+
+-- 06 40 19 18 00 0b
+delegate_behind_all : named (try Empty ∷ catch_all ∷ delegate 0 ∷ end ∷ []) ≡ Refused DelegateOutsideTry 2
+delegate_behind_all = refl
+
+-- 06 40 02 40 18 00 0b 0b
+delegate_in_block : named (try Empty ∷ block Empty ∷ delegate 0 ∷ end ∷ end ∷ []) ≡ Refused DelegateOutsideTry 2
+delegate_in_block = refl
+
+-- 06 40 05 0b 0b
+else_in_try : named (try Empty ∷ else ∷ end ∷ end ∷ []) ≡ Refused ElseOutsideIf 1
+else_in_try = refl
 
 -- 0b 0b
 behind_the_end : named (end ∷ end ∷ []) ≡ Refused Trailing 1

@@ -23,7 +23,7 @@ judged_by env accepted start locations = record {
   first = 0;
 }
 
-abbrev from : (start : ℕ) → Option (ℕ → ℕ) → Setting ℕ
+abbrev pub from : (start : ℕ) → Option (ℕ → ℕ) → Setting ℕ
 from start locations = judged_by demo 100 start locations
 
 -- the locations of the operators of an accepted body, or the first fault and its place

@@ -9,7 +9,7 @@ use Rattle.wasm_body.proofs.NormalForm.NamedTexts.{has_text, text_body}
 use Rattle.wasm_body.proofs.Bytes.LawfulTyped.{lawful_named}
 use Rattle.wasm_body.specs.Machine.{Outcome, run}
 use Rattle.wasm_body.specs.Places.{show_run, run_by_place, shown_by}
-use Rattle.wasm_body.specs.ExecutionLaws.{controls, NamedExecutionsKept, ExecutionsKept}
+use Rattle.wasm_body.specs.ExecutionLaws.{controls, NamedExecutionsKept, ExecutionsKept, RunsByPlace}
 use Rattle.wasm_body.proofs.Executions.RewritesTo.{RewritesTo, empty, drop_nop, keep, cut, wrapped, if_else, add_else, try_catch, try_delegate, ClausesRewriteTo, ended, catches_one, catches_all, runs_alike}
 use Rattle.wasm_body.proofs.Executions.Same.{the_count}
 use Rattle.wasm_body.proofs.Executions.Natural.{shown_by-run}
@@ -66,15 +66,22 @@ named_executions_kept m xs b hx h =
     let ys = rewritten_list b in
     let c = rewritten_body b in
     let rewrites = rewritten_rewrites b.sequence in
-    let hy = text_body m xs b hx h in (
-      ys,
-      has_text m xs b hx h,
-      record {
+    let hy = text_body m xs b hx h in
+    record {
+      text = ys;
+      is_text = has_text m xs b hx h;
+      alike = record {
         operators = λ o t. shown_alike (λ x. x.op) b c rewrites xs ys hx hy o t;
         locations = λ o t. shown_alike (λ x. x.location) b c rewrites xs ys hx hy o t;
-      },
-    )
+      };
+    }
 
 pub executions_kept : ExecutionsKept
 executions_kept env xs b spelt lawful =
     let named = lawful_named env xs b spelt lawful in named_executions_kept (typing_of env) (map name_at xs) (named_body b) named.0 named.1
+
+pub runs_by_place : RunsByPlace
+runs_by_place xs o t = record {
+  operators = shown_by-run (λ x. control_of x.op) (λ x. x.op) xs o t;
+  locations = shown_by-run (λ x. control_of x.op) (λ x. x.location) xs o t;
+}

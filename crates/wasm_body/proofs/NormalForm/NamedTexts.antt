@@ -47,6 +47,9 @@ module _ (m : Typing) (xs : List Named) (b : Body Named) (hx : IsNamedBody xs b)
   sourced : Each (Sourced m) b.sequence
   sourced = along (λ x. IsTypedAs m (role_of x.op.opcode) x.op) xs b hx h
 
+  pub source_tells : Each Tells b.sequence
+  source_tells = weaker (Sourced m) Tells (λ a c g. g.0) b.sequence sourced
+
   rewritten_told : Each (IsTold m) (rewritten b.sequence)
   rewritten_told =
       each_rewritten (Sourced m) (IsTold m) (λ a action g. told m a (Does action) g) (λ a construct g. told m a (Opens construct) g)
@@ -54,7 +57,7 @@ module _ (m : Typing) (xs : List Named) (b : Body Named) (hx : IsNamedBody xs b)
 
   pub has_text : IsTextOf m (normal_form m b) (rewritten_list b)
   has_text =
-      tree_text_by (with_names m) m b (weaker (Sourced m) Tells (λ a c g. g.0) b.sequence sourced)
+      tree_text_by (with_names m) m b source_tells
       ∙ all_answered m (body_text (rewritten_body b)) (all_of_each (IsTold m) (rewritten b.sequence) (marked (end_at b.close.location) End ∷ []) rewritten_told ((refl, tt), tt))
 
   pub text_body : IsNamedBody (rewritten_list b) (rewritten_body b)
@@ -67,4 +70,4 @@ module _ (m : Typing) (xs : List Named) (b : Body Named) (hx : IsNamedBody xs b)
       let e : rewritten_list b ≡ ys = cc in ap (map mark_named) (sym e) ∙ text_body
 
 pub have_texts : HaveTexts
-have_texts m xs b hx h = (rewritten_list b, rewritten_body b, has_text m xs b hx h, text_body m xs b hx h)
+have_texts m xs b hx h = record { text = rewritten_list b; body = rewritten_body b; is_text = has_text m xs b hx h; is_body = text_body m xs b hx h }

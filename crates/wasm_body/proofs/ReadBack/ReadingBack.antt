@@ -237,7 +237,7 @@ normal_form_again env xs body texts lawful =
     let b = named_body body in
     let named = lawful_named env xs body texts lawful in
     let t = have_texts m (map name_at xs) b named.0 named.1 in
-    (t.0, t.1, t.2, t.3, normal_again m (map name_at xs) t.0 b t.1 named.0 named.1 t.2 t.3)
+    record { read = t; same = normal_again m (map name_at xs) t.text b t.body named.0 named.1 t.is_text t.is_body }
 
 -- ---- accepted bodies
 

@@ -1,0 +1,31 @@
+-- Location pairs: for each operator that is written its location, and the place of its first byte.
+use Rattle.std.specs.Prelude.{ℕ, ◌+◌, ◌==◌, if◌then◌else◌, List, [], ◌∷◌, length, Option, Some, None, Result, Ok}
+use Rattle.wasm_ops.specs.Operations.{RawOperation}
+use Rattle.wasm_ops.specs.Shortest.{short}
+use Rattle.wasm_body.specs.declared.error.EmitError.{EmitError}
+use Rattle.wasm_body.specs.Results.{◌>>=◌}
+use Rattle.wasm_body.specs.Translation.{Located}
+use Rattle.wasm_body.specs.FunctionTree.{FunctionTree}
+use Rattle.wasm_body.specs.Bytes.{Numbers, numbered_text}
+
+pub record Pair : Type 0 where
+  pub location : ℕ
+  pub place : ℕ
+
+abbrev pub pair : (location place : ℕ) → Pair
+pair location place = record { location = location; place = place }
+
+-- the pairs of operators whose shortest spellings stand one behind the other, the first at this place
+abbrev pub pairs_from : (place : ℕ) → List (Located RawOperation) → List Pair
+pairs_from place [] = []
+pairs_from place (x ∷ xs) = pair x.location place ∷ pairs_from (place + length (short x.op)) xs
+
+-- The location pairs of a tree under the numbers, where so many bytes stand before its own; or the first fault in order of
+-- writing.
+abbrev pub tree_pairs : Numbers → FunctionTree → (before : ℕ) → Result (List Pair) EmitError
+tree_pairs to t before = numbered_text to t >>= λ xs. Ok (pairs_from before xs)
+
+-- the location of the pair with this place
+abbrev pub location_at : List Pair → (place : ℕ) → Option ℕ
+location_at [] place = None
+location_at (p ∷ ps) place = if p.place == place then Some p.location else location_at ps place
