@@ -7,4 +7,5 @@ pub mod Rewritten
 pub mod WrittenTexts
 pub mod NamedTexts
 pub mod NormalAgain
+pub mod ByNames
 pub mod SameTexts

@@ -8,7 +8,7 @@ use Rattle.wasm_body.specs.Translation.{Located}
 use Rattle.wasm_body.specs.Naming.{Environment, NamedOperation, Occurrence}
 use Rattle.wasm_body.specs.Parsing.Accepted.{HasSpelling, Lawful}
 use Rattle.wasm_body.specs.FunctionTree.{FunctionTree}
-use Rattle.wasm_body.specs.NormalForm.{Typing, typing_of, normal_form, name_at, named_body}
+use Rattle.wasm_body.specs.NormalForm.{Typing, typing_of, normal_form, name_at, body_tree}
 use Rattle.wasm_body.specs.Typed.{AreTyped}
 use Rattle.wasm_body.specs.TextLaws.{mark_named, IsNamedBody, IsTextOf}
 use Rattle.wasm_body.specs.Machine.{Outcome, Run, run_by, run}
@@ -46,7 +46,7 @@ NamedExecutionsKept =
 abbrev pub ExecutionsKept : Type 0
 ExecutionsKept =
     (env : Environment) (xs : List Occurrence) (b : Body Occurrence) → AllByRecursion HasSpelling xs → Lawful env xs b →
-    HasTextAlike (typing_of env) (normal_form (typing_of env) (named_body b)) (map name_at xs)
+    HasTextAlike (typing_of env) (body_tree env b) (map name_at xs)
 
 -- Each event of a run by place has its operator: what stands at the places is what the machine shows of the operators
 -- themselves.

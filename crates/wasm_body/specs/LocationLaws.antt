@@ -8,7 +8,7 @@ use Rattle.wasm_body.specs.Translation.{Located}
 use Rattle.wasm_body.specs.Naming.{Environment, NamedOperation, Occurrence}
 use Rattle.wasm_body.specs.Parsing.Accepted.{HasSpelling, Lawful}
 use Rattle.wasm_body.specs.FunctionTree.{FunctionTree}
-use Rattle.wasm_body.specs.NormalForm.{Typing, typing_of, normal_form, name_at, named_body}
+use Rattle.wasm_body.specs.NormalForm.{Typing, typing_of, normal_form, name_at, body_tree}
 use Rattle.wasm_body.specs.Bytes.{Numbers}
 use Rattle.wasm_body.specs.Typed.{AreTyped}
 use Rattle.wasm_body.specs.TextLaws.{IsNamedBody, IsTextOf}
@@ -58,6 +58,5 @@ NamedLocationsHonest =
 abbrev pub LocationsHonest : Type 0
 LocationsHonest =
     (env : Environment) (xs : List Occurrence) (b : Body Occurrence) → AllByRecursion HasSpelling xs → Lawful env xs b →
-    (ys : List (Located NamedOperation)) → IsTextOf (typing_of env) (normal_form (typing_of env) (named_body b)) ys →
-    (to : Numbers) (before : ℕ) (ps : List Pair) → tree_pairs to (normal_form (typing_of env) (named_body b)) before ≡ Ok ps →
-    SayLocations ps ys (map name_at xs)
+    (ys : List (Located NamedOperation)) → IsTextOf (typing_of env) (body_tree env b) ys →
+    (to : Numbers) (before : ℕ) (ps : List Pair) → tree_pairs to (body_tree env b) before ≡ Ok ps → SayLocations ps ys (map name_at xs)

@@ -148,3 +148,7 @@ name_at x = located x.named x.location
 
 abbrev pub named_body : Body Occurrence → Body (Located NamedOperation)
 named_body b = reshown_body name_at b
+
+-- the tree that a parse makes of a body in an environment
+abbrev pub body_tree : Environment → Body Occurrence → FunctionTree
+body_tree env b = normal_form (typing_of env) (named_body b)

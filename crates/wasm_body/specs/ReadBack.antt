@@ -17,7 +17,7 @@ use Rattle.wasm_body.specs.SourceTree.{Body}
 use Rattle.wasm_body.specs.Naming.{Environment, Occurrence}
 use Rattle.wasm_body.specs.Parsing.Accepted.{HasSpelling, placed, Lawful, Setting, Accepted, has_location, validated}
 use Rattle.wasm_body.specs.FunctionTree.{FunctionTree, IsSameTree}
-use Rattle.wasm_body.specs.NormalForm.{Typing, typing_of, normal_form, named_body}
+use Rattle.wasm_body.specs.NormalForm.{Typing, typing_of, normal_form, body_tree}
 use Rattle.wasm_body.specs.FlatText.{tree_text, with_ids}
 use Rattle.wasm_body.specs.Bytes.{Numbers, tree_bytes}
 use Rattle.wasm_body.specs.TextLaws.{HasBodyText}
@@ -75,7 +75,8 @@ pub record Undoes (to : Numbers) (tree : FunctionTree) (env again : Environment)
   pub types : again.types ≡ env.types
   pub tags : again.tags ≡ env.tags
   pub type : again.type ≡ env.type
-  pub ids : (xs : List (Located (Operation ℕ InstrSeqType))) → tree_text with_ids tree ≡ Ok xs → AllByRecursion (λ x. AreUndone to again x.op.immediates) xs
+  pub ids : (xs : List (Located (Operation ℕ InstrSeqType))) → tree_text with_ids tree ≡ Ok xs
+      → AllByRecursion (λ x. AreUndone to again x.op.immediates) xs
 
 -- ---- maps that undo all numbers
 
@@ -98,24 +99,24 @@ pub record IsReadBack (again : Environment) (start : ℕ) (locate : ℕ → ℕ)
   pub spelt : Lists (map placed operators) start bytes []
   pub located : AllByRecursion (λ x. x.location ≡ locate x.place) operators
   pub lawful : Lawful again operators body
-  pub same : IsSameTree (normal_form (typing_of again) (named_body body)) tree
-  pub unchanged : tree_bytes to (normal_form (typing_of again) (named_body body)) ≡ Ok bytes
+  pub same : IsSameTree (body_tree again body) tree
+  pub unchanged : tree_bytes to (body_tree again body) ≡ Ok bytes
 
 -- The bytes of the normal form of a lawful body are read back, from any place on and with any locations, by all maps that
 -- undo the numbers.
 abbrev pub ReadBack : Type 0
 ReadBack =
     (env : Environment) (xs : List Occurrence) (body : Body Occurrence) → AllByRecursion HasSpelling xs → Lawful env xs body →
-    (to : Numbers) (bytes : List ℕ) → tree_bytes to (normal_form (typing_of env) (named_body body)) ≡ Ok bytes →
-    (again : Environment) → Undoes to (normal_form (typing_of env) (named_body body)) env again →
-    (start : ℕ) (locate : ℕ → ℕ) → IsReadBack again start locate to (normal_form (typing_of env) (named_body body)) bytes
+    (to : Numbers) (bytes : List ℕ) → tree_bytes to (body_tree env body) ≡ Ok bytes →
+    (again : Environment) → Undoes to (body_tree env body) env again →
+    (start : ℕ) (locate : ℕ → ℕ) → IsReadBack again start locate to (body_tree env body) bytes
 
 -- Maps that undo all numbers undo those of the normal form of every lawful body.
 abbrev pub InverseUndoes : Type 0
 InverseUndoes =
     (env : Environment) (xs : List Occurrence) (body : Body Occurrence) → AllByRecursion HasSpelling xs → Lawful env xs body →
-    (to : Numbers) (again : Environment) → again.types ≡ env.types → again.tags ≡ env.tags → again.type ≡ env.type → IsInverse to again → GivesNoReference env.types →
-    Undoes to (normal_form (typing_of env) (named_body body)) env again
+    (to : Numbers) (again : Environment) → again.types ≡ env.types → again.tags ≡ env.tags → again.type ≡ env.type →
+    IsInverse to again → GivesNoReference env.types → Undoes to (body_tree env body) env again
 
 -- The tree has a text with names, which is a body again, and the normal form of that body is the same tree.
 pub record IsReadByNames (m : Typing) (tree : FunctionTree) : Type 0 where
@@ -126,7 +127,7 @@ pub record IsReadByNames (m : Typing) (tree : FunctionTree) : Type 0 where
 abbrev pub NormalFormAgain : Type 0
 NormalFormAgain =
     (env : Environment) (xs : List Occurrence) (body : Body Occurrence) → AllByRecursion HasSpelling xs → Lawful env xs body →
-    IsReadByNames (typing_of env) (normal_form (typing_of env) (named_body body))
+    IsReadByNames (typing_of env) (body_tree env body)
 
 -- Trees that are the same have the same bytes, or the same fault.
 abbrev pub SameBytes : Type 0
@@ -136,7 +137,8 @@ SameBytes = (to : Numbers) (t u : FunctionTree) → IsSameTree t u → tree_byte
 
 -- The operators that the bytes spell have locations where they stand, and the validator accepts them.
 pub record AreReadable {W : Type 0} (again : Setting W) (bytes : List ℕ) : Type 0 where
-  pub have_locations : (xs : List Placed) → Lists xs again.start bytes [] → AllByRecursion (λ x. has_location again.locations x.place ≡ true) xs
+  pub have_locations : (xs : List Placed) → Lists xs again.start bytes []
+      → AllByRecursion (λ x. has_location again.locations x.place ≡ true) xs
   pub passes : (xs : List Placed) → Lists xs again.start bytes [] → IsOk (validated again.check again.first xs)
 
 -- The bytes are accepted as a body, and of each body as which they are the normal form is this tree, locations aside, and
@@ -144,14 +146,14 @@ pub record AreReadable {W : Type 0} (again : Setting W) (bytes : List ℕ) : Typ
 pub record IsAcceptedAgain {W : Type 0} (again : Setting W) (to : Numbers) (tree : FunctionTree) (bytes : List ℕ) : Type 0 where
   pub body : Body Occurrence
   pub accepted : Accepted again bytes body
-  pub same : (c : Body Occurrence) → Accepted again bytes c → IsSameTree (normal_form (typing_of again.environment) (named_body c)) tree
-  pub unchanged : (c : Body Occurrence) → Accepted again bytes c → tree_bytes to (normal_form (typing_of again.environment) (named_body c)) ≡ Ok bytes
+  pub same : (c : Body Occurrence) → Accepted again bytes c → IsSameTree (body_tree again.environment c) tree
+  pub unchanged : (c : Body Occurrence) → Accepted again bytes c → tree_bytes to (body_tree again.environment c) ≡ Ok bytes
 
 -- The bytes of the normal form of an accepted body are accepted again where they are readable, by all maps that undo the
 -- numbers. `V` and `W` are what the states of the two validators are.
 abbrev pub AcceptedAgain : (V W : Type 0) → Type 0
 AcceptedAgain V W =
     (given : Setting V) (source : List ℕ) (body : Body Occurrence) → Accepted given source body →
-    (to : Numbers) (bytes : List ℕ) → tree_bytes to (normal_form (typing_of given.environment) (named_body body)) ≡ Ok bytes →
-    (again : Setting W) → Undoes to (normal_form (typing_of given.environment) (named_body body)) given.environment again.environment → AreReadable again bytes →
-    IsAcceptedAgain again to (normal_form (typing_of given.environment) (named_body body)) bytes
+    (to : Numbers) (bytes : List ℕ) → tree_bytes to (body_tree given.environment body) ≡ Ok bytes →
+    (again : Setting W) → Undoes to (body_tree given.environment body) given.environment again.environment →
+    AreReadable again bytes → IsAcceptedAgain again to (body_tree given.environment body) bytes

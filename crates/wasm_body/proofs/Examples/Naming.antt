@@ -10,7 +10,7 @@ use Rattle.wasm_ops.specs.Operations.{RawOperation}
 use Rattle.wasm_body.specs.declared.error.IndexError.TheVariants.{OutOfRange, LocalOutOfRange}
 use Rattle.wasm_body.specs.declared.error.ParseError.TheVariants.{Index, NoSuchLabel, NotAFunctionType, TypeMissing, EntryTypeMissing, ElseOutsideIf, CatchOutsideTry, DelegateOutsideTry, RethrowOutsideHandler, Trailing, UnknownId}
 use Rattle.wasm_body.specs.Naming.{NamedOperation, Environment, entry_of}
-use Rattle.wasm_body.proofs.Examples.Operators.{unreachable, block, if, else, try, catch, throw, rethrow, end, br, br_table, return, call, call_indirect, delegate, catch_all, drop, try_table, local_get, const, br_on_cast, catches, catches_all}
+use Rattle.wasm_body.proofs.Examples.Operators.{unreachable, block, if, else, try, catch, throw, rethrow, end, br, br_table, return, call, call_indirect, delegate, catch_all, drop, try_table, local_get, const, br_on_cast, br_on_null_cast, catches, catches_all}
 use Rattle.wasm_body.proofs.Examples.Modules.{nothing, number_to_number, demo, odd}
 use Rattle.wasm_body.proofs.Examples.Rows.{Answer, Is, Refused, names}
 
@@ -32,6 +32,10 @@ reference n = Ref (record { nullable = false; heap_type = Concrete n })
 by_ids_in_types : names odd (block (Value (reference 0)) ∷ br_on_cast 0 (Concrete 2) (Concrete 0) ∷ end ∷ end ∷ [])
     ≡ Is (block (signature [] (reference 2 ∷ [])) ∷ br_on_cast 0 (Concrete 0) (Concrete 2) ∷ end ∷ end ∷ [])
 by_ids_in_types = refl
+
+-- and whether the references of a cast may be null stays
+by_ids_in_casts : names odd (br_on_null_cast 0 (Concrete 2) (Concrete 0) ∷ end ∷ []) ≡ Is (br_on_null_cast 0 (Concrete 0) (Concrete 2) ∷ end ∷ [])
+by_ids_in_casts = refl
 
 -- 02 04 0b 0b: an entry type is a block type where an old index stands for it
 entry_as_block_type : names odd (block (FuncType 4) ∷ end ∷ end ∷ []) ≡ Is (block nothing ∷ end ∷ end ∷ [])

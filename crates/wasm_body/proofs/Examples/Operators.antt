@@ -104,15 +104,19 @@ br_on_non_null l = by_byte 0xd6 (label l ∷ [])
 abbrev pub struct_get : {L B : Type 0} → (type field : ℕ) → Operation L B
 struct_get type field = operation (Prefixed 0xfb 2) (index Types type ∷ number field ∷ [])
 
--- from a reference that may not be null to one that may not
-abbrev cast_to : {L B : Type 0} → L → (source target : HeapType ℕ) → List (Immediate L B)
-cast_to l source target = cast (record { from_nullable = false; to_nullable = false; label = l; source = source; target = target }) ∷ []
+abbrev cast_by : {L B : Type 0} → (from to : Bool) → L → (source target : HeapType ℕ) → List (Immediate L B)
+cast_by from to l source target = cast (record { from_nullable = from; to_nullable = to; label = l; source = source; target = target }) ∷ []
 
+-- from a reference that may be null to one that may not
+abbrev pub br_on_null_cast : {L B : Type 0} → L → (source target : HeapType ℕ) → Operation L B
+br_on_null_cast l source target = operation (Prefixed 0xfb 24) (cast_by true false l source target)
+
+-- from one that may not be null to one that may not
 abbrev pub br_on_cast : {L B : Type 0} → L → (source target : HeapType ℕ) → Operation L B
-br_on_cast l source target = operation (Prefixed 0xfb 24) (cast_to l source target)
+br_on_cast l source target = operation (Prefixed 0xfb 24) (cast_by false false l source target)
 
 abbrev pub br_on_cast_fail : {L B : Type 0} → L → (source target : HeapType ℕ) → Operation L B
-br_on_cast_fail l source target = operation (Prefixed 0xfb 25) (cast_to l source target)
+br_on_cast_fail l source target = operation (Prefixed 0xfb 25) (cast_by false false l source target)
 
 -- ---- clauses of `try_table`
 

@@ -7,16 +7,14 @@ use Rattle.wasm_ops.specs.Operations.{RawOperation}
 use Rattle.wasm_body.specs.declared.error.ParseError.{ParseError}
 use Rattle.wasm_body.specs.declared.error.ParseError.TheVariants.{NoSuchLabel, RethrowOutsideHandler}
 use Rattle.wasm_body.specs.Results.{◌>>=◌, unless}
-use Rattle.wasm_body.specs.Control.{Control, Does, Opens, Else, Catch, CatchAll, End, Delegate, If, Try, marked, control_of, control_by, role_of}
-use Rattle.wasm_body.specs.SourceTree.{Sequence, Empty, Single, Wrapped, IfThen, IfElse, TryCatch, TryDelegate, Clauses, Ended, Catches, CatchesAll, construct_of, reshown, reshown_clauses}
-use Rattle.wasm_body.specs.Frames.{Frame, OfFunction, OfWrapper, Consequent, Alternative, TryBody, Handler, HandlerOfAll, Rule, Follows, FollowsIn, may_stand, else_moves, catch_moves, catch_all_moves, delegate_moves, is_handler, handler_at, outside, opener_of}
+use Rattle.wasm_body.specs.Control.{Construct, Block, Loop, If, Try, TryTable, Control, Does, Opens, Else, Catch, CatchAll, End, Delegate, control_of, control_by, role_of}
+use Rattle.wasm_body.specs.Frames.{Frame, OfFunction, OfWrapper, Consequent, Alternative, TryBody, Handler, HandlerOfAll, may_stand, frame_opened, moves, else_moves, catch_moves, catch_all_moves, delegate_moves, is_handler, handler_at, outside, opener_of}
 use Rattle.wasm_body.specs.Translation.{Translation, translate, translate_immediates}
 use Rattle.wasm_body.specs.Naming.{Environment, NamedOperation, Occurrence, naming, open_label, handler_label, block_types, block_signature, construct_results, results_of, has_pick, tag_type, has_types, position_fault, named_in}
 use Rattle.wasm_body.proofs.Translation.Steps.{Leads, bound, all_of}
 use Rattle.wasm_body.proofs.Translation.Translations.{LeadAll, lead_all, translate_leads}
 use Rattle.wasm_body.proofs.NormalForm.KeptNames.{open_same, handler_same}
 use Rattle.wasm_body.proofs.Parsing.NamingLemmas.{same_stand, same_opcode, named_parts, named_stands}
-use Rattle.wasm_body.proofs.Structure.Along.{Each, EachIn}
 
 -- ---- frames with something else shown
 
@@ -91,14 +89,34 @@ module _ {A B : Type 0} (g : A → B) where
   pub outer_frames : (fs : List (Frame A)) (n : ℕ) → open_label (outside (map_frames g fs)) n ≡ open_label (outside fs) n
   outer_frames fs n = ap (λ gs. open_label gs n) (outside_frames fs) ∙ open_frames (outside fs) n
 
-pub frames_twice : {A B C : Type 0} → (h : B → C) (g : A → B) (fs : List (Frame A)) → map_frames h (map_frames g fs) ≡ map_frames (λ a. h (g a)) fs
-frames_twice h g [] = refl
-frames_twice {A = A} {C = C} h g (f ∷ fs) =
-    ap (λ x. x ∷ map_frames h (map_frames g fs)) (twice f) ∙ ap (λ l. map_frame (λ a. h (g a)) f ∷ l) (frames_twice h g fs)
-  where
-    twice : (f : Frame A) → map_frame h (map_frame g f) ≡ map_frame (λ a. h (g a)) f
-    twice OfFunction = refl
-    twice _ = refl
+  -- ---- the frames behind an operator
+
+  opened_frame : (a : A) (k : Construct) → map_frame g (frame_opened a k) ≡ frame_opened (g a) k
+  opened_frame a Block = refl
+  opened_frame a Loop = refl
+  opened_frame a (TryTable cs) = refl
+  opened_frame a If = refl
+  opened_frame a Try = refl
+
+  abbrev pub behind_frames : Option (List (Frame A)) → Option (List (Frame B))
+  behind_frames (Some fs) = Some (map_frames g fs)
+  behind_frames None = None
+
+  pub moves_frames : (c : Control) (a : A) (fs : List (Frame A)) → behind_frames (moves c a fs) ≡ moves c (g a) (map_frames g fs)
+  moves_frames c a [] = refl
+  moves_frames (Does action) a (f ∷ fs) = refl
+  moves_frames (Opens k) a (f ∷ fs) = ap (λ x. Some (x ∷ map_frame g f ∷ map_frames g fs)) (opened_frame a k)
+  moves_frames Else a (Consequent b ∷ fs) = refl
+  moves_frames Else a (_ ∷ fs) = refl
+  moves_frames (Catch t) a (TryBody b ∷ fs) = refl
+  moves_frames (Catch t) a (Handler b ∷ fs) = refl
+  moves_frames (Catch t) a (_ ∷ fs) = refl
+  moves_frames CatchAll a (TryBody b ∷ fs) = refl
+  moves_frames CatchAll a (Handler b ∷ fs) = refl
+  moves_frames CatchAll a (_ ∷ fs) = refl
+  moves_frames End a (f ∷ fs) = refl
+  moves_frames (Delegate n) a (TryBody b ∷ fs) = refl
+  moves_frames (Delegate n) a (_ ∷ fs) = refl
 
 -- ---- the rules, by names
 
@@ -208,51 +226,3 @@ module _ (env : Environment) (fs : List (Frame Occurrence)) where
       ap (λ b. unless b (position_fault (control_of o)) >>= λ _. next (translate (naming env fs) o)) may
       ∙ (ap next e
       ∙ ap (λ (t : Result (Unit {0}) ParseError). t >>= λ _. Ok named) (types_named env fs (control_of named) named ∙ r.typed))
-
--- ---- a rule along a tree with something else shown
-
-module _ {A B : Type 0} (g : A → B) (R : Rule A) (P : A → Control → Type 0) (Q : Rule B)
-    (given : (fs : List (Frame A)) (a : A) (c : Control) → R fs (marked a c) → P a c → Q (map_frames g fs) (marked (g a) c)) where
-  mutual
-    pub follows_shown : (fs : List (Frame A)) (s : Sequence A) → Follows R fs s → Each P s → Follows Q (map_frames g fs) (reshown g s)
-    follows_shown fs Empty h p = tt
-    follows_shown fs (Single a action r) h p = (given fs a (Does action) h.0 p.0, follows_shown fs r h.1 p.1)
-    follows_shown fs (Wrapped a w b e r) h p = (
-      given fs a (Opens (construct_of w)) h.0 p.0,
-      follows_shown (OfWrapper a ∷ fs) b h.1 p.1,
-      given (OfWrapper a ∷ fs) e End h.2 p.2,
-      follows_shown fs r h.3 p.3,
-    )
-    follows_shown fs (IfThen a b e r) h p = (
-      given fs a (Opens If) h.0 p.0,
-      follows_shown (Consequent a ∷ fs) b h.1 p.1,
-      given (Consequent a ∷ fs) e End h.2 p.2,
-      follows_shown fs r h.3 p.3,
-    )
-    follows_shown fs (IfElse a b l c e r) h p = (
-      given fs a (Opens If) h.0 p.0,
-      follows_shown (Consequent a ∷ fs) b h.1 p.1,
-      given (Consequent a ∷ fs) l Else h.2 p.2,
-      follows_shown (Alternative a ∷ fs) c h.3 p.3,
-      given (Alternative a ∷ fs) e End h.4 p.4,
-      follows_shown fs r h.5 p.5,
-    )
-    follows_shown fs (TryCatch a b cs r) h p = (
-      given fs a (Opens Try) h.0 p.0,
-      follows_shown (TryBody a ∷ fs) b h.1 p.1,
-      follows_in_shown fs a (TryBody a) cs h.2 p.2,
-      follows_shown fs r h.3 p.3,
-    )
-    follows_shown fs (TryDelegate a b e n r) h p = (
-      given fs a (Opens Try) h.0 p.0,
-      follows_shown (TryBody a ∷ fs) b h.1 p.1,
-      given (TryBody a ∷ fs) e (Delegate n) h.2 p.2,
-      follows_shown fs r h.3 p.3,
-    )
-
-    follows_in_shown : (fs : List (Frame A)) (a : A) (f : Frame A) (cs : Clauses A) → FollowsIn R fs a f cs → EachIn P cs → FollowsIn Q (map_frames g fs) (g a) (map_frame g f) (reshown_clauses g cs)
-    follows_in_shown fs a f (Ended e) h p = given (f ∷ fs) e End h p
-    follows_in_shown fs a f (Catches i t b cs) h p =
-        (given (f ∷ fs) i (Catch t) h.0 p.0, follows_shown (Handler a ∷ fs) b h.1 p.1, follows_in_shown fs a (Handler a) cs h.2 p.2)
-    follows_in_shown fs a f (CatchesAll i b e) h p =
-        (given (f ∷ fs) i CatchAll h.0 p.0, follows_shown (HandlerOfAll a ∷ fs) b h.1 p.1, given (HandlerOfAll a ∷ fs) e End h.2 p.2)

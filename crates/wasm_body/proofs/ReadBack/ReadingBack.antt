@@ -11,7 +11,7 @@ use Rattle.wasm_ops.specs.Spelling.{Spells}
 use Rattle.wasm_ops.specs.Shortest.{short}
 use Rattle.wasm_ops.proofs.ShortestOperations.{shortest_operation}
 use Rattle.wasm_body.specs.Control.{Control, End, Marked, marked}
-use Rattle.wasm_body.specs.SourceTree.{Sequence, text, Body}
+use Rattle.wasm_body.specs.SourceTree.{Sequence, text, Body, body_text}
 use Rattle.wasm_body.specs.Frames.{Frame, OfFunction, function_frames, Follows, BodyFollows}
 use Rattle.wasm_body.specs.Translation.{translate_immediates}
 use Rattle.wasm_body.specs.Naming.{Environment, Occurrence}
@@ -19,22 +19,28 @@ use Rattle.wasm_body.specs.Parsing.Accepted.{HasSpelling, placed, mark, IsBody, 
 use Rattle.wasm_body.specs.FunctionTree.{FunctionTree, IsSameTree}
 use Rattle.wasm_body.specs.NormalForm.{Typing, typing_of, normal_form, name_at, named_body}
 use Rattle.wasm_body.specs.Bytes.{Numbers, tree_bytes}
+use Rattle.wasm_body.specs.TextLaws.{mark_named}
 use Rattle.wasm_body.specs.ReadBack.{EachIn, IsUndone, IsUndoneLocal, IsUndoneType, AreUndone, Undoes, IsReadBack, ReadBack, NormalFormAgain, AreReadable, AcceptedAgain}
-use Rattle.wasm_body.proofs.Structure.Along.{Each, AllMarked, Tells, each_of, all_of_each}
+use Rattle.wasm_body.proofs.Structure.Along.{Each, AllMarked, Tells, all_of_each}
 use Rattle.wasm_body.proofs.Translation.Steps.{bound}
 use Rattle.wasm_body.proofs.Bytes.LawfulTyped.{each_of_follows, lawful_named}
 use Rattle.wasm_body.proofs.Parsing.ReadingBytes.{reading_agrees}
 use Rattle.wasm_body.proofs.Parsing.Answers.{one_body_accepted}
-use Rattle.wasm_body.proofs.NormalForm.Rewritten.{Named, end_at, rewritten}
+use Rattle.wasm_body.proofs.Structure.ReadFrames.{Goes, body_goes, goes_body}
+use Rattle.wasm_body.proofs.Structure.Reshown.{remarked, text_reshown, is_named_body}
+use Rattle.wasm_body.proofs.Structure.Lifted.{lifted_body}
+use Rattle.wasm_body.proofs.NormalForm.ByNames.{op_of, same_by_names}
+use Rattle.wasm_body.proofs.NormalForm.Rewritten.{Named, end_at, rewritten, rewritten_body}
 use Rattle.wasm_body.proofs.NormalForm.NamedTexts.{have_texts}
 use Rattle.wasm_body.proofs.NormalForm.NormalAgain.{again as rewritten_again, normal_again}
 use Rattle.wasm_body.proofs.NormalForm.SameTexts.{same_bytes}
 use Rattle.wasm_body.proofs.NormalForm.WrittenTexts.{type_at, with_type, ids_at, ids_text, numbering_at, spelt_as, IsNumbered, bytes_as, numbered_bytes}
-use Rattle.wasm_body.proofs.ReadBack.FrameNames.{map_frames, named_of, IsRuled, has_name, follows_shown}
+use Rattle.wasm_body.proofs.ReadBack.FrameNames.{map_frames, named_of, IsRuled, has_name}
 use Rattle.wasm_body.proofs.ReadBack.Ranged.{raw_kinds, kinds_kept, all_again}
-use Rattle.wasm_body.proofs.ReadBack.Sound.{CanSpell, op_of, IsSound, IsSpeltThere, occurrence_sound, rewritten_sound, close_sound}
+use Rattle.wasm_body.proofs.ReadBack.Sound.{CanSpell, IsSound, IsSpeltThere, occurrence_sound, rewritten_sound, close_sound}
 use Rattle.wasm_body.proofs.ReadBack.NamedAgain.{named_again}
-use Rattle.wasm_body.proofs.ReadBack.PlacedBodies.{make, behind, at_places, next, put, head_put, text_put, follows_put, bare_put}
+use Rattle.wasm_body.proofs.ReadBack.Related.{AllRelated, goes_related}
+use Rattle.wasm_body.proofs.ReadBack.PlacedBodies.{make, behind, at_places, marks_at, are_marks, controls_at, names_at, IsMadeOf, made_at}
 
 -- ---- lists
 
@@ -100,9 +106,13 @@ pub texts_of : (xs : List Occurrence) (p : ℕ) (bytes rest : List ℕ) → List
 texts_of [] p bytes rest h = tt
 texts_of (x ∷ xs) p bytes rest h = ((h.1, h.4), texts_of xs _ h.2 rest h.5)
 
-spelt_there : (xs : List Occurrence) → AllByRecursion HasSpelling xs → AllMarked IsSpeltThere (map mark xs)
-spelt_there [] t = tt
-spelt_there (x ∷ xs) t = ((refl, t.0), spelt_there xs t.1)
+-- an operator with its name, and the name alone
+abbrev IsNamedThere : Marked Occurrence → Marked Named → Type 0
+IsNamedThere x y = (marked (name_at x.shown) x.control ≡ y) × IsSpeltThere x.shown x.control
+
+named_there_all : (xs : List Occurrence) → AllByRecursion HasSpelling xs → AllRelated named_of op_of IsNamedThere (map mark xs) (map mark_named (map name_at xs))
+named_there_all [] t = tt
+named_there_all (x ∷ xs) t = (record { control = refl; name = refl; also = (refl, (refl, t.0)) }, named_there_all xs t.1)
 
 -- ---- a body
 
@@ -129,11 +139,13 @@ module _ (env : Environment) (xs : List Occurrence) (body : Body Occurrence) (te
   abbrev ms : List (Marked Named)
   ms = text r (last ∷ [])
 
-  spelt_along : Each IsSpeltThere body.sequence
-  spelt_along = (each_of IsSpeltThere body.sequence (marked body.close End ∷ []) (subst (AllMarked IsSpeltThere) lawful.is_body (spelt_there xs texts))).0
-
   source_sound : Follows (IsSound env) function_frames b.sequence
-  source_sound = follows_shown name_at (IsNamed env) IsSpeltThere (IsSound env) (occurrence_sound env) function_frames body.sequence lawful.named.0 spelt_along
+  source_sound =
+      let named = subst (Goes (IsNamed env) (Some function_frames)) (sym lawful.is_body) (body_goes (IsNamed env) body lawful.named) in
+      let sound = goes_related named_of op_of IsNamedThere (IsNamed env) (IsSound env)
+      (λ fs gs x y same e p. subst (IsSound env gs) p.0 (occurrence_sound env fs gs x.shown x.control same e p.1))
+      (Some function_frames) (Some function_frames) refl (map mark xs) (map mark_named (map name_at xs)) (named_there_all xs texts) named in
+      (goes_body (IsSound env) b (subst (Goes (IsSound env) (Some function_frames)) (is_named_body xs body lawful.is_body) sound)).0
 
   source_tells : Each Tells b.sequence
   source_tells = each_of_follows (IsSound env) Tells (λ fs a c h. h.tells) function_frames b.sequence source_sound
@@ -163,9 +175,6 @@ module _ (env : Environment) (xs : List Occurrence) (body : Body Occurrence) (te
   ready : AllMarked IsReady ms
   ready = zipped (IsNumbered to m) (AreUndoneAt back to m) (λ x. IsReady x.shown x.control) (λ x p q. (p, q)) ms numbered.0 undone
 
-  ready_along : Each IsReady r × AllMarked IsReady (last ∷ [])
-  ready_along = each_of IsReady r (last ∷ []) ready
-
   spelt : AllByRecursion (λ x. Spells (spelt_as to m x) (short (spelt_as to m x))) ms
   spelt =
       let can = all_of_each (λ a c. CanSpell a.op) r (last ∷ []) (each_of_follows (IsSound env) (λ a c. CanSpell a.op) (λ fs a c h. h.spellable) function_frames r sound) (last_sound.spellable, tt) in
@@ -177,14 +186,20 @@ module _ (env : Environment) (xs : List Occurrence) (body : Body Occurrence) (te
   abbrev operators : List Occurrence
   operators = at_places (spelt_as to m) locate start ms
 
-  abbrev end_place : ℕ
-  end_place = next (spelt_as to m) locate start r
+  abbrev marks : List (Marked Occurrence)
+  marks = marks_at (spelt_as to m) locate start ms
+
+  all_tell : AllMarked Tells ms
+  all_tell = all_of_each Tells r (last ∷ []) tells (refl, tt)
+
+  whole : (c : Body Occurrence) × (body_text c ≡ marks)
+  whole = lifted_body (rewritten_body b) marks (controls_at (spelt_as to m) locate start ms)
 
   abbrev read : Body Occurrence
-  read = record { sequence = put (spelt_as to m) locate start r; close = make (spelt_as to m) locate end_place last }
+  read = whole.0
 
   is_read : IsBody operators read
-  is_read = text_put (spelt_as to m) locate r (last ∷ []) start tells ∙ ap (text read.sequence) (head_put (spelt_as to m) locate end_place last [] [] refl refl)
+  is_read = are_marks (spelt_as to m) locate start ms all_tell ∙ sym whole.1
 
   named_there : (fs : List (Frame Named)) (gs : List (Frame Occurrence)) (p : ℕ) (a : Named) (c : Control) → map_frames op_of fs ≡ map_frames named_of gs → IsSound env fs (marked a c) → IsReady a c →
       IsNamed back gs (marked (make (spelt_as to m) locate p (marked a c)) c)
@@ -194,16 +209,21 @@ module _ (env : Environment) (xs : List Occurrence) (body : Body Occurrence) (te
       has_name back gs (spelt_as to m (marked a c)) a.op (named_again back to (type_at m c a.op) named_of gs a.op (spelt_as to m (marked a c)) q.0 q.1 h.stands_for there.keeps) ruled
 
   read_named : BodyFollows (IsNamed back) read
-  read_named = (
-    follows_put (spelt_as to m) locate (IsSound env) IsReady (IsNamed back) named_there function_frames function_frames start r refl sound ready_along.0,
-    named_there function_frames function_frames end_place (end_at b.close.location) End refl last_sound ready_along.1.0,
-  )
+  read_named =
+      let goes = goes_related op_of named_of (IsMadeOf (spelt_as to m) locate IsReady) (IsSound env) (IsNamed back)
+      (λ fs gs x y same e p. subst (IsNamed back gs) p.1 (named_there fs gs p.0 x.shown x.control same e p.2))
+      (Some function_frames) (Some function_frames) refl ms marks (made_at (spelt_as to m) locate IsReady start ms ready)
+      (body_goes (IsSound env) (rewritten_body b) (sound, last_sound)) in
+      goes_body (IsNamed back) read (subst (Goes (IsNamed back) (Some function_frames)) (sym whole.1) goes)
 
   lists : Lists (map placed operators) start bytes []
   lists = subst (λ t. Lists (map placed operators) start t []) (sym numbered.1) (lists_of back to m locate ms start spelt)
 
   same_again : IsSameTree (normal_form m (named_body read)) (normal_form m b)
-  same_again = ap (λ x. sequence m.entry x no_sequences) (bare_put (spelt_as to m) locate m r start ∙ rewritten_again m b.sequence)
+  same_again =
+      let names = ap (map (remarked op_of)) (text_reshown name_at read.sequence (marked read.close End ∷ []) ∙ ap (map (remarked name_at)) whole.1)
+      ∙ names_at (spelt_as to m) locate start ms in
+      same_by_names m (named_body read) (rewritten_body b) names ∙ ap (λ x. sequence m.entry x no_sequences) (rewritten_again m b.sequence)
 
   by_back : IsReadBack back start locate to (normal_form m b) bytes
   by_back = record {

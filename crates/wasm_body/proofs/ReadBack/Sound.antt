@@ -23,8 +23,9 @@ use Rattle.wasm_body.proofs.Bytes.NumberedBodies.{HasText}
 use Rattle.wasm_body.proofs.Bytes.LawfulTyped.{named_typed}
 use Rattle.wasm_body.proofs.NormalForm.Rewritten.{Named, typed_told, end_at, else_at, catch_at, catch_all_at, delegate_at, single_with_fate, rewritten, rewritten_clauses}
 use Rattle.wasm_body.proofs.NormalForm.WrittenTexts.{type_at}
+use Rattle.wasm_body.proofs.NormalForm.ByNames.{op_of}
 use Rattle.wasm_body.proofs.NormalForm.NamedTexts.{stands_at}
-use Rattle.wasm_body.proofs.ReadBack.FrameNames.{map_frames, frames_twice, results_at, types_in, ruling, IsRuled, is_ruled, named_immediates}
+use Rattle.wasm_body.proofs.ReadBack.FrameNames.{map_frames, named_of, results_at, types_in, ruling, IsRuled, is_ruled, named_immediates}
 use Rattle.wasm_body.proofs.ReadBack.CarriedClosers.{else_carried, catch_carried, catch_all_carried, delegate_carried, delegate_kinds}
 use Rattle.wasm_body.proofs.ReadBack.Spellings.{IsSpellable}
 use Rattle.wasm_body.proofs.ReadBack.Ranged.{kind_in, raw_kinds, kinds_kept, IsRanged, all_ranged}
@@ -34,9 +35,6 @@ pub record CanSpell (o : NamedOperation) : Type 0 where
   pub opcode : IsSpellable IsOpcode o.opcode
   pub kinds : kinds_of o.opcode ≡ Some (map kind_in o.immediates)
   pub ranged : AllByRecursion (λ (i : Immediate ℕ Signature). IsRanged i) o.immediates
-
-abbrev pub op_of : Named → NamedOperation
-op_of a = a.op
 
 -- What holds of each operator where it stands.
 pub record IsSound (env : Environment) (fs : List (Frame Named)) (x : Marked Named) : Type 0 where
@@ -61,12 +59,13 @@ can_spell env fs o named text s e =
 abbrev pub IsSpeltThere : Occurrence → Control → Type 0
 IsSpeltThere x c = (control_of x.named ≡ c) × HasText x
 
-pub occurrence_sound : (env : Environment) (fs : List (Frame Occurrence)) (x : Occurrence) (c : Control) → IsNamed env fs (marked x c) → IsSpeltThere x c → IsSound env (map_frames name_at fs) (marked (name_at x) c)
-occurrence_sound env fs x c e p =
+pub occurrence_sound : (env : Environment) (fs : List (Frame Occurrence)) (gs : List (Frame Named)) (x : Occurrence) (c : Control)
+    → map_frames named_of fs ≡ map_frames op_of gs → IsNamed env fs (marked x c) → IsSpeltThere x c → IsSound env gs (marked (name_at x) c)
+occurrence_sound env fs gs x c same e p =
     let m = typing_of env in
     let translated = (named_parts env fs x.spelt x.named e).translated in
     record {
-      ruled = subst (λ gs. IsRuled env gs x.named) (sym (frames_twice op_of name_at fs)) (is_ruled env fs x.spelt x.named e);
+      ruled = subst (λ l. IsRuled env l x.named) same (is_ruled env fs x.spelt x.named e);
       tells = p.0;
       stands_for = stands_at m c x.named (typed_told m (name_at x) c (p.0, named_typed env fs x.spelt x.named p.1.1.kinds e));
       spellable = can_spell env fs x.spelt x.named p.1.0 p.1.1 translated;
