@@ -1,5 +1,5 @@
 -- The modules of the examples.
-use Rattle.std.specs.Prelude.{ℕ, List, [], ◌∷◌, Ok, slice_get}
+use Rattle.std.specs.Prelude.{ℕ, ◌==◌, if◌then◌else◌, List, [], ◌∷◌, Ok, slice_get}
 use Rattle.walrus_ir.specs.declared.val_type.ValType.TheVariants.{I32, I64}
 use Rattle.walrus_ir.specs.Types.{Signature, signature, ModuleType, Func, Entry, Other}
 use Rattle.wasm_ops.specs.declared.types.Space.{Space}
@@ -45,6 +45,10 @@ demo = environment demo_types (0 ∷ 1 ∷ []) demo_ids (0 ∷ 1 ∷ 2 ∷ 3 ∷
 -- the number of each id is its old index
 abbrev pub demo_numbers : Numbers
 demo_numbers = record { number_of = λ space id. Ok id; local_number = λ id. Ok id }
+
+-- the same, but that the third local has number 2
+abbrev pub numbers_of_locals : Numbers
+numbers_of_locals = record { number_of = λ space id. Ok id; local_number = λ id. if id == 3 then Ok 2 else Ok id }
 
 -- ---- A module with all that can go wrong at a type. Old indices are not ids. Of the old indices of types 4 is an entry type,
 -- 5 no function's type, 6 none that the module holds; 7 and 8 are an entry type and a function type that give what no

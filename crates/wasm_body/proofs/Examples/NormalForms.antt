@@ -10,7 +10,7 @@ use Rattle.wasm_body.specs.Translation.{located}
 use Rattle.wasm_body.specs.FunctionTree.{Depth, TreeOperation, Head, LegacyClause, handles, handles_all, delegates, Instruction, FunctionTree, bare_sequences, IsSameTree, default_location}
 use Rattle.wasm_body.specs.NormalForm.{head}
 use Rattle.wasm_body.proofs.Examples.Operators.{unreachable, nop, block, loop, if, else, try, catch, throw, rethrow, throw_ref, end, br, br_if, br_table, return, call, call_indirect, call_ref, return_call, return_call_indirect, return_call_ref, delegate, catch_all, drop, try_table, local_get, const, catches, catches_ref, catches_all, catches_all_ref}
-use Rattle.wasm_body.proofs.Examples.Modules.{nothing, demo, demo_numbers, odd}
+use Rattle.wasm_body.proofs.Examples.Modules.{nothing, demo, demo_numbers, numbers_of_locals, odd}
 use Rattle.wasm_body.proofs.Examples.Rows.{Answer, Is, tree, tree_or_empty, text, written}
 
 -- ---- trees
@@ -256,3 +256,8 @@ kept_load = refl
 -- 10 01 20 01 0b, where old indices are others than ids: the numbers are those of the ids
 by_numbers : written odd demo_numbers (call 1 ∷ local_get 1 ∷ drop ∷ end ∷ []) ≡ Is (call 3 ∷ local_get 5 ∷ drop ∷ end ∷ [])
 by_numbers = refl
+
+-- 20 01 1a 20 03 1a 0b, where the third local has number 2
+by_local_numbers : written demo numbers_of_locals (local_get 1 ∷ drop ∷ local_get 3 ∷ drop ∷ end ∷ [])
+    ≡ Is (local_get 1 ∷ drop ∷ local_get 2 ∷ drop ∷ end ∷ [])
+by_local_numbers = refl

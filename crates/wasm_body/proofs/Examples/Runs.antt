@@ -47,27 +47,28 @@ out_of_consequent : runs (const 0 ∷ if Empty ∷ br 0 ∷ else ∷ const 7 ∷
     ≡ ran (executed (0 ∷ 1 ∷ 2 ∷ 7 ∷ 8 ∷ [])) Returned
 out_of_consequent = refl
 
--- a block of one branch by a condition, which is true
+-- a branch by a condition, which is true, in two blocks
 abbrev conditional : RawOperation → Answer (Run ℕ)
-conditional o = runs (block Empty ∷ o ∷ const 7 ∷ end ∷ end ∷ []) (Way true ∷ []) 0
+conditional o = runs (block Empty ∷ block Empty ∷ o ∷ end ∷ const 7 ∷ end ∷ end ∷ []) (Way true ∷ []) 0
 
+-- it goes behind the outer block
 abbrev branched : Answer (Run ℕ)
-branched = ran (executed (0 ∷ 1 ∷ [])) Returned
+branched = ran (executed (0 ∷ 1 ∷ 2 ∷ [])) Returned
 
 -- 0d, d5, d6, fb 18 and fb 19
-by_condition : conditional (br_if 0) ≡ branched
+by_condition : conditional (br_if 1) ≡ branched
 by_condition = refl
 
-on_null : conditional (br_on_null 0) ≡ branched
+on_null : conditional (br_on_null 1) ≡ branched
 on_null = refl
 
-on_non_null : conditional (br_on_non_null 0) ≡ branched
+on_non_null : conditional (br_on_non_null 1) ≡ branched
 on_non_null = refl
 
-on_cast : conditional (br_on_cast 0 (Abstract Any) (Abstract Eq)) ≡ branched
+on_cast : conditional (br_on_cast 1 (Abstract Any) (Abstract Eq)) ≡ branched
 on_cast = refl
 
-on_cast_fail : conditional (br_on_cast_fail 0 (Abstract Any) (Abstract Eq)) ≡ branched
+on_cast_fail : conditional (br_on_cast_fail 1 (Abstract Any) (Abstract Eq)) ≡ branched
 on_cast_fail = refl
 
 -- the condition is false
