@@ -11,7 +11,7 @@ use Rattle.wasm_body.specs.FunctionTree.{FunctionTree}
 use Rattle.wasm_body.specs.NormalForm.{Typing, typing_of, normal_form, name_at, body_tree}
 use Rattle.wasm_body.specs.Typed.{AreTyped}
 use Rattle.wasm_body.specs.TextLaws.{mark_named, IsNamedBody, IsTextOf}
-use Rattle.wasm_body.specs.Machine.{Outcome, Run, run_by, run}
+use Rattle.wasm_body.specs.Machine.{Outcome, Run, bounded_run, run}
 use Rattle.wasm_body.specs.Places.{show_run, placed_from, run_by_place, shown_by}
 
 abbrev pub controls : List (Located NamedOperation) → List Control
@@ -54,8 +54,8 @@ pub record ShowsOperators (xs : List (Located NamedOperation)) (outcomes : List 
   pub operators : operators_of xs outcomes turns ≡ show_run (λ x. Some x.op) (run (map mark_named xs) outcomes turns)
   pub locations : locations_of xs outcomes turns ≡ show_run (λ x. Some x.location) (run (map mark_named xs) outcomes turns)
 
-abbrev pub RunsByPlace : Type 0
-RunsByPlace = (xs : List (Located NamedOperation)) (outcomes : List Outcome) (turns : ℕ) → ShowsOperators xs outcomes turns
+abbrev pub RunsShowOperators : Type 0
+RunsShowOperators = (xs : List (Located NamedOperation)) (outcomes : List Outcome) (turns : ℕ) → ShowsOperators xs outcomes turns
 
 -- A body runs alike with whatever bounds on the operators of its turns that are no less than their count. So the count
 -- never runs out, and a run that ends Returned has returned.
@@ -63,4 +63,4 @@ abbrev pub CountSuffices : Type 0
 CountSuffices =
     (xs : List (Located NamedOperation)) (b : Body (Located NamedOperation)) → IsNamedBody xs b →
     (bound : List (Marked ℕ) → ℕ) → ((rest : List (Marked ℕ)) → length rest ≤ bound rest) → (outcomes : List Outcome) (turns : ℕ) →
-    run_by bound turns (placed_from 0 (controls xs)) [] outcomes ≡ run_by_place (controls xs) outcomes turns
+    bounded_run bound turns (placed_from 0 (controls xs)) [] outcomes ≡ run_by_place (controls xs) outcomes turns

@@ -26,6 +26,6 @@ abbrev pub tree_pairs : Numbers → FunctionTree → (before : ℕ) → Result (
 tree_pairs to t before = numbered_text to t >>= λ xs. Ok (pairs_from before xs)
 
 -- the location of the pair with this place
-abbrev pub location_at : List Pair → (place : ℕ) → Option ℕ
-location_at [] place = None
-location_at (p ∷ ps) place = if p.place == place then Some p.location else location_at ps place
+abbrev pub location_in : List Pair → (place : ℕ) → Option ℕ
+location_in [] place = None
+location_in (p ∷ ps) place = if p.place == place then Some p.location else location_in ps place

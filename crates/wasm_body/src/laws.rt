@@ -1,6 +1,6 @@
 //! Laws of trees and texts, each the contract of a function that does nothing.
-ghost use Rattle.wasm_body.specs.ExecutionLaws.{NamedExecutionsKept, ExecutionsKept, RunsByPlace, CountSuffices};
-ghost use Rattle.wasm_body.specs.LocationLaws.{PlacesIncrease, PairsOfText, NamedLocationsHonest, LocationsHonest};
+ghost use Rattle.wasm_body.specs.ExecutionLaws.{NamedExecutionsKept, ExecutionsKept, RunsShowOperators, CountSuffices};
+ghost use Rattle.wasm_body.specs.LocationLaws.{PlacesIncrease, PairsMatchText, NamedLocationsAreHonest, LocationsAreHonest};
 ghost use Rattle.wasm_body.specs.ReadBack.{ReadBack, NormalFormAgain, SameBytes, InverseUndoes, AcceptedAgain};
 ghost use Rattle.wasm_body.specs.TextLaws.{LawfulAreTyped, HaveTexts, NormalAgain, OneBody, OneSequence, SameTexts};
 ghost use Rattle.wasm_body.specs.Parsing.Laws.{OneBodyAccepted, AcceptedHasNoFault, OneFirstFault, AcceptedOrFault, LongestFront};
@@ -47,7 +47,7 @@ pub fn law_same_texts<M, C>()
 pub fn law_executions()
     ensures named { NamedExecutionsKept }
     ensures accepted { ExecutionsKept }
-    ensures by_place { RunsByPlace }
+    ensures by_place { RunsShowOperators }
     ensures count_suffices { CountSuffices }
 {}
 
@@ -57,9 +57,9 @@ pub fn law_executions()
 /// (of an exception that is taken, of the openers).
 pub fn law_locations()
     ensures increase { PlacesIncrease }
-    ensures of_text { PairsOfText }
-    ensures named { NamedLocationsHonest }
-    ensures accepted { LocationsHonest }
+    ensures of_text { PairsMatchText }
+    ensures named { NamedLocationsAreHonest }
+    ensures accepted { LocationsAreHonest }
 {}
 
 /// The bytes of a normal form, read back by maps that undo the numbers, are a body whose normal form is the same tree and

@@ -13,23 +13,23 @@ pub fits : (n : ℕ) → n < 2 ^ 32 → IsOk (fitting n)
 fits n l = ap (λ b. is_ok (unless b TooLarge >>= λ _. Ok n)) (lt-ltb n (2 ^ 32) l)
 
 -- what fits is the number itself
-pub record Fit (n q : ℕ) : Type 0 where
+pub record IsFit (n q : ℕ) : Type 0 where
   pub same : q ≡ n
   pub below : q < 2 ^ 32
 
-pub fitting_is : (n q : ℕ) → fitting n ≡ Ok q → Fit n q
+pub fitting_is : (n q : ℕ) → fitting n ≡ Ok q → IsFit n q
 fitting_is n q e =
     let u = bound (unless (nat_lt n (2 ^ 32)) TooLarge) (λ _. Ok n) q e in
     let same : n ≡ q = cc u.2 in
     record { same = sym same; below = subst (λ k. k < 2 ^ 32) same (ltb-true n (2 ^ 32) (unless_ok (nat_lt n (2 ^ 32)) TooLarge u.0 u.1)) }
 
 -- an answer that fits
-pub record FitAnswer (r : Result ℕ EmitError) (q : ℕ) : Type 0 where
+pub record IsFitAnswer (r : Result ℕ EmitError) (q : ℕ) : Type 0 where
   pub answer : r ≡ Ok q
   pub below : q < 2 ^ 32
 
-pub fitted_is : (r : Result ℕ EmitError) (q : ℕ) → (r >>= fitting) ≡ Ok q → FitAnswer r q
-fitted_is r q e =
+pub fitting_answer : (r : Result ℕ EmitError) (q : ℕ) → (r >>= fitting) ≡ Ok q → IsFitAnswer r q
+fitting_answer r q e =
     let n = bound r fitting q e in
     let fit = fitting_is n.0 q n.2 in
     record { answer = subst (λ k. r ≡ Ok k) (sym fit.same) n.1; below = fit.below }

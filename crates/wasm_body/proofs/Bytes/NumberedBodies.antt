@@ -32,7 +32,7 @@ use Rattle.wasm_body.specs.Naming.{Environment, NamedOperation, Occurrence, nami
 use Rattle.wasm_body.specs.FunctionTree.{Target, Depth}
 use Rattle.wasm_body.specs.NormalForm.{typing_of, type_of, kept_operation, name_at, named_body, normal_form}
 use Rattle.wasm_body.specs.FlatText.{Writing, then_by, typed}
-use Rattle.wasm_body.specs.Bytes.{Numbers, fitting, fitted, numbered_block, numbering, numbered_text, bytes_of, tree_bytes}
+use Rattle.wasm_body.specs.Bytes.{Numbers, fitting, fitting_numbers, numbered_block, numbering, numbered_text, bytes_of, tree_bytes}
 use Rattle.wasm_body.specs.SourceTree.{Body}
 use Rattle.wasm_body.specs.Parsing.Accepted.{mark, Lawful}
 use Rattle.wasm_body.proofs.Structure.Along.{AllMarked, each_of, each_reshown}
@@ -126,7 +126,7 @@ HasText x = (text : List ℕ) × Spells x.spelt text
 
 -- There are numbers of 32 bits for the ids that old indices stand for, and for the types of sequences.
 pub record HasNumbers (env : Environment) (to : Numbers) : Type 0 where
-  pub indices : (space : Space) (n id : ℕ) → env.id_of space n ≡ Ok id → IsOk ((fitted to).number_of space id)
+  pub indices : (space : Space) (n id : ℕ) → env.id_of space n ≡ Ok id → IsOk ((fitting_numbers to).number_of space id)
   pub blocks : (b : BlockType) (s : Signature) (t : InstrSeqType) → name_block env b ≡ Ok s → pick env.types s ≡ Some t → IsOk (numbered_block to t)
 
 module _ (env : Environment) (to : Numbers) (has : HasNumbers env to) where
@@ -136,8 +136,8 @@ module _ (env : Environment) (to : Numbers) (has : HasNumbers env to) where
   -- what is written of an operator as it is read, in a sequence of the type
   abbrev renumbered : InstrSeqType → Translation ℕ BlockType ℕ BlockType EmitError
   renumbered t = record {
-    index = λ space n. (fitted to).number_of space (sure_number (id_at env space n));
-    local = λ n. (fitted to).local_number (sure_number (faulting Index (env.local_of n)));
+    index = λ space n. (fitting_numbers to).number_of space (sure_number (id_at env space n));
+    local = λ n. (fitting_numbers to).local_number (sure_number (faulting Index (env.local_of n)));
     label = fitting;
     handler = fitting;
     outer = fitting;
@@ -155,8 +155,8 @@ module _ (env : Environment) (to : Numbers) (has : HasNumbers env to) where
 
   written_lead : (t : InstrSeqType) → LeadAll (kept_raw env) (typed writing t) (renumbered t)
   written_lead t = record {
-    indices = λ space n q e. same_index ((fitted to).number_of space) (sure_number (id_at env space n)) q e;
-    locals = λ n q e. same_index (fitted to).local_number (sure_number (faulting Index (env.local_of n))) q e;
+    indices = λ space n q e. same_index ((fitting_numbers to).number_of space) (sure_number (id_at env space n)) q e;
+    locals = λ n q e. same_index (fitting_numbers to).local_number (sure_number (faulting Index (env.local_of n))) q e;
     labels = same_target;
     handlers = λ n q e. same_index fitting n q e;
     outers = λ n q e. same_index fitting n q e;
@@ -171,8 +171,8 @@ module _ (env : Environment) (to : Numbers) (has : HasNumbers env to) where
     blocks = λ b h. typed;
   }
     where
-      numbered : (space : Space) (n : ℕ) (r : Result ℕ IndexError) → env.id_of space n ≡ r → IsOk (faulting Index r) → IsOk ((fitted to).number_of space (sure_number (id_at env space n)))
-      numbered space n (Ok id) e h = subst (λ r. IsOk ((fitted to).number_of space (sure_number (faulting Index r)))) (sym e) (has.indices space n id e)
+      numbered : (space : Space) (n : ℕ) (r : Result ℕ IndexError) → env.id_of space n ≡ r → IsOk (faulting Index r) → IsOk ((fitting_numbers to).number_of space (sure_number (id_at env space n)))
+      numbered space n (Ok id) e h = subst (λ r. IsOk ((fitting_numbers to).number_of space (sure_number (faulting Index r)))) (sym e) (has.indices space n id e)
       numbered space n (Err f) e h = absurd cc
 
   others_ok : {A : Type 0} (fs : List (Frame A)) (t : InstrSeqType) (i : RawImmediate) → Fits i → OthersOk (naming env fs) (renumbered t) i

@@ -11,7 +11,7 @@ use Rattle.wasm_body.specs.FunctionTree.{Depth, TreeOperation, Head, LegacyClaus
 use Rattle.wasm_body.specs.NormalForm.{head}
 use Rattle.wasm_body.proofs.Examples.Operators.{unreachable, nop, block, loop, if, else, try, catch, throw, rethrow, throw_ref, end, br, br_if, br_table, return, call, call_indirect, call_ref, return_call, return_call_indirect, return_call_ref, delegate, catch_all, drop, try_table, local_get, const, catches, catches_ref, catches_all, catches_all_ref}
 use Rattle.wasm_body.proofs.Examples.Modules.{nothing, demo, demo_numbers, numbers_of_locals, odd}
-use Rattle.wasm_body.proofs.Examples.Rows.{Answer, Is, tree, tree_or_empty, text, written}
+use Rattle.wasm_body.proofs.Examples.Rows.{Answer, Is, tree, tree_or_empty, text, written_operators}
 
 -- ---- trees
 
@@ -137,41 +137,41 @@ kept_locations = refl
 
 -- ---- what is written
 
-abbrev written_as : List RawOperation → List RawOperation → Type 0
-written_as source target = written demo demo_numbers source ≡ Is target
+abbrev IsWrittenAs : List RawOperation → List RawOperation → Type 0
+IsWrittenAs source target = written_operators demo demo_numbers source ≡ Is target
 
 -- The operators are written as they stand.
 abbrev IsKept : List RawOperation → Type 0
-IsKept os = written_as os os
+IsKept os = IsWrittenAs os os
 
 -- what follows an operator in its sequence, where that is dropped
-abbrev cut_behind : RawOperation → Type 0
-cut_behind o = written_as (block Empty ∷ o ∷ const 7 ∷ drop ∷ end ∷ const 5 ∷ drop ∷ end ∷ []) (block Empty ∷ o ∷ end ∷ const 5 ∷ drop ∷ end ∷ [])
+abbrev CutsBehind : RawOperation → Type 0
+CutsBehind o = IsWrittenAs (block Empty ∷ o ∷ const 7 ∷ drop ∷ end ∷ const 5 ∷ drop ∷ end ∷ []) (block Empty ∷ o ∷ end ∷ const 5 ∷ drop ∷ end ∷ [])
 
 -- 01 0b
-dropped_nop : written_as (nop ∷ end ∷ []) (end ∷ [])
+dropped_nop : IsWrittenAs (nop ∷ end ∷ []) (end ∷ [])
 dropped_nop = refl
 
 -- the operators that cut: 0f, 00, 0c, 0e, 08, 0a, and 09 in a handler
-behind_return : cut_behind return
+behind_return : CutsBehind return
 behind_return = refl
 
-behind_unreachable : cut_behind unreachable
+behind_unreachable : CutsBehind unreachable
 behind_unreachable = refl
 
-behind_br : cut_behind (br 0)
+behind_br : CutsBehind (br 0)
 behind_br = refl
 
-behind_br_table : cut_behind (br_table (0 ∷ []) 1)
+behind_br_table : CutsBehind (br_table (0 ∷ []) 1)
 behind_br_table = refl
 
-behind_throw : cut_behind (throw 0)
+behind_throw : CutsBehind (throw 0)
 behind_throw = refl
 
-behind_throw_ref : cut_behind throw_ref
+behind_throw_ref : CutsBehind throw_ref
 behind_throw_ref = refl
 
-behind_rethrow : written_as (try Empty ∷ catch_all ∷ rethrow 0 ∷ const 7 ∷ end ∷ const 5 ∷ end ∷ []) (try Empty ∷ catch_all ∷ rethrow 0 ∷ end ∷ const 5 ∷ end ∷ [])
+behind_rethrow : IsWrittenAs (try Empty ∷ catch_all ∷ rethrow 0 ∷ const 7 ∷ end ∷ const 5 ∷ end ∷ []) (try Empty ∷ catch_all ∷ rethrow 0 ∷ end ∷ const 5 ∷ end ∷ [])
 behind_rethrow = refl
 
 -- 12 00 41 07 1a 0b, and the other tail calls and branches that go on
@@ -191,14 +191,14 @@ behind_br_if : IsKept (br_if 0 ∷ const 7 ∷ drop ∷ end ∷ [])
 behind_br_if = refl
 
 -- 0c 00 02 40 01 0b 0b: a block that is dropped
-dropped_block : written_as (br 0 ∷ block Empty ∷ nop ∷ end ∷ end ∷ []) (br 0 ∷ end ∷ [])
+dropped_block : IsWrittenAs (br 0 ∷ block Empty ∷ nop ∷ end ∷ end ∷ []) (br 0 ∷ end ∷ [])
 dropped_block = refl
 
 -- 0f 04 40 05 0b 0b and 0f 06 40 18 00 0b
-dropped_if : written_as (return ∷ if Empty ∷ else ∷ end ∷ end ∷ []) (return ∷ end ∷ [])
+dropped_if : IsWrittenAs (return ∷ if Empty ∷ else ∷ end ∷ end ∷ []) (return ∷ end ∷ [])
 dropped_if = refl
 
-dropped_try : written_as (return ∷ try Empty ∷ delegate 0 ∷ end ∷ []) (return ∷ end ∷ [])
+dropped_try : IsWrittenAs (return ∷ try Empty ∷ delegate 0 ∷ end ∷ []) (return ∷ end ∷ [])
 dropped_try = refl
 
 -- 02 40 02 40 0c 01 0b 41 05 1a 0b 0b: what follows a block whose inside is dead
@@ -213,19 +213,19 @@ behind_dead_sequences :
 behind_dead_sequences = refl
 
 -- 41 01 04 40 0b 0b
-written_else : written_as (const 1 ∷ if Empty ∷ end ∷ end ∷ []) (const 1 ∷ if Empty ∷ else ∷ end ∷ end ∷ [])
+written_else : IsWrittenAs (const 1 ∷ if Empty ∷ end ∷ end ∷ []) (const 1 ∷ if Empty ∷ else ∷ end ∷ end ∷ [])
 written_else = refl
 
 -- 41 01 02 03 1a 0b 0b: the first function type with these lists; it was the fourth
-picked_type : written_as (const 1 ∷ block (FuncType 3) ∷ drop ∷ end ∷ end ∷ []) (const 1 ∷ block (FuncType 1) ∷ drop ∷ end ∷ end ∷ [])
+picked_type : IsWrittenAs (const 1 ∷ block (FuncType 3) ∷ drop ∷ end ∷ end ∷ []) (const 1 ∷ block (FuncType 1) ∷ drop ∷ end ∷ end ∷ [])
 picked_type = refl
 
 -- 02 00 0b 0b: a type that takes and gives nothing is written as none
-no_type : written_as (block (FuncType 0) ∷ end ∷ end ∷ []) (block Empty ∷ end ∷ end ∷ [])
+no_type : IsWrittenAs (block (FuncType 0) ∷ end ∷ end ∷ []) (block Empty ∷ end ∷ end ∷ [])
 no_type = refl
 
 -- an entry type isn't picked
-not_an_entry_type : written odd demo_numbers (block (FuncType 3) ∷ end ∷ end ∷ []) ≡ Is (block (FuncType 3) ∷ end ∷ end ∷ [])
+not_an_entry_type : written_operators odd demo_numbers (block (FuncType 3) ∷ end ∷ end ∷ []) ≡ Is (block (FuncType 3) ∷ end ∷ end ∷ [])
 not_an_entry_type = refl
 
 -- 06 40 41 05 08 01 07 01 1a 19 0b 0b, 06 40 07 00 19 0b 0b and 06 40 18 00 0b
@@ -239,7 +239,7 @@ kept_delegate : IsKept (try Empty ∷ delegate 0 ∷ end ∷ [])
 kept_delegate = refl
 
 -- 06 40 08 00 01 41 07 07 00 19 0b 0b
-cut_try : written_as (try Empty ∷ throw 0 ∷ nop ∷ const 7 ∷ catch 0 ∷ catch_all ∷ end ∷ end ∷ []) (try Empty ∷ throw 0 ∷ catch 0 ∷ catch_all ∷ end ∷ end ∷ [])
+cut_try : IsWrittenAs (try Empty ∷ throw 0 ∷ nop ∷ const 7 ∷ catch 0 ∷ catch_all ∷ end ∷ end ∷ []) (try Empty ∷ throw 0 ∷ catch 0 ∷ catch_all ∷ end ∷ end ∷ [])
 cut_try = refl
 
 -- 02 40 1f 40 01 02 00 0b 0b 0b and 1f 40 01 02 00 0b 0b
@@ -254,10 +254,10 @@ kept_load : IsKept (const 0 ∷ load 2 ∷ drop ∷ end ∷ [])
 kept_load = refl
 
 -- 10 01 20 01 0b, where old indices are others than ids: the numbers are those of the ids
-by_numbers : written odd demo_numbers (call 1 ∷ local_get 1 ∷ drop ∷ end ∷ []) ≡ Is (call 3 ∷ local_get 5 ∷ drop ∷ end ∷ [])
+by_numbers : written_operators odd demo_numbers (call 1 ∷ local_get 1 ∷ drop ∷ end ∷ []) ≡ Is (call 3 ∷ local_get 5 ∷ drop ∷ end ∷ [])
 by_numbers = refl
 
 -- 20 01 1a 20 03 1a 0b, where the third local has number 2
-by_local_numbers : written demo numbers_of_locals (local_get 1 ∷ drop ∷ local_get 3 ∷ drop ∷ end ∷ [])
+by_local_numbers : written_operators demo numbers_of_locals (local_get 1 ∷ drop ∷ local_get 3 ∷ drop ∷ end ∷ [])
     ≡ Is (local_get 1 ∷ drop ∷ local_get 2 ∷ drop ∷ end ∷ [])
 by_local_numbers = refl

@@ -13,11 +13,11 @@ use Rattle.wasm_body.specs.Naming.{Occurrence}
 use Rattle.wasm_body.specs.Parsing.Lists.{parsed}
 use Rattle.wasm_body.specs.FunctionTree.{default_location}
 use Rattle.wasm_body.specs.NormalForm.{typing_of, normal_form, named_body}
-use Rattle.wasm_body.specs.Pairs.{Pair, pair, tree_pairs, location_at}
+use Rattle.wasm_body.specs.Pairs.{Pair, pair, tree_pairs, location_in}
 use Rattle.wasm_body.proofs.Examples.Operators.{nop, if, try, call, end, delegate, const}
 use Rattle.wasm_body.proofs.Examples.Modules.{demo, demo_numbers}
 use Rattle.wasm_body.proofs.Examples.Rows.{tree, tree_or_empty}
-use Rattle.wasm_body.proofs.Examples.Parses.{from}
+use Rattle.wasm_body.proofs.Examples.Parses.{setting_from}
 
 -- ---- of operators that are given by hand, where a location is the number in the list, behind a byte of declarations
 
@@ -46,7 +46,7 @@ pairs_of_body (Ok b) = Some (tree_pairs demo_numbers (normal_form (typing_of dem
 pairs_of_body (Err f) = None
 
 -- 01 0b
-by_place : pairs_of_body (parsed (from 101 None) (0x01 ∷ 0x0b ∷ [])) ≡ Some (Ok (pair 102 1 ∷ []))
+by_place : pairs_of_body (parsed (setting_from 101 None) (0x01 ∷ 0x0b ∷ [])) ≡ Some (Ok (pair 102 1 ∷ []))
 unfolding read_operation opcode kinds_of_byte
 by_place = refl
 
@@ -54,21 +54,21 @@ by_place = refl
 abbrev of_row : List Pair
 of_row = pair 102 1 ∷ pair 105 3 ∷ pair 106 4 ∷ []
 
-shortened : pairs_of_body (parsed (from 101 None) (0x01 ∷ 0x41 ∷ 0x81 ∷ 0x00 ∷ 0x1a ∷ 0x0b ∷ [])) ≡ Some (Ok of_row)
+shortened : pairs_of_body (parsed (setting_from 101 None) (0x01 ∷ 0x41 ∷ 0x81 ∷ 0x00 ∷ 0x1a ∷ 0x0b ∷ [])) ≡ Some (Ok of_row)
 unfolding read_operation opcode kinds_of_byte integer short_signed
 shortened = refl
 
 -- with a location function
-by_function : pairs_of_body (parsed (from 101 (Some (λ p. p + 7))) (0x01 ∷ 0x0b ∷ [])) ≡ Some (Ok (pair 109 1 ∷ []))
+by_function : pairs_of_body (parsed (setting_from 101 (Some (λ p. p + 7))) (0x01 ∷ 0x0b ∷ [])) ≡ Some (Ok (pair 109 1 ∷ []))
 unfolding read_operation opcode kinds_of_byte
 by_function = refl
 
 -- the pair with a place is found, where there is one
-at_first : location_at of_row 1 ≡ Some 102
+at_first : location_in of_row 1 ≡ Some 102
 at_first = refl
 
-at_second : location_at of_row 3 ≡ Some 105
+at_second : location_in of_row 3 ≡ Some 105
 at_second = refl
 
-inside_an_operator : location_at of_row 2 ≡ None
+inside_an_operator : location_in of_row 2 ≡ None
 inside_an_operator = refl

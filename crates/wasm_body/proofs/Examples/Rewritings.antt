@@ -32,35 +32,35 @@ bytes_of_body env to (Ok b) = Some (tree_bytes to (normal_form (typing_of env) (
 bytes_of_body env to (Err f) = None
 
 -- what is written for bytes, where they are accepted
-abbrev rewritten : Environment → Numbers → List ℕ → Option (Result (List ℕ) EmitError)
-rewritten env to bytes = bytes_of_body env to (parsed (anything env) bytes)
+abbrev rewriting : Environment → Numbers → List ℕ → Option (Result (List ℕ) EmitError)
+rewriting env to bytes = bytes_of_body env to (parsed (anything env) bytes)
 
 -- over the module of the worked rows
-abbrev rewritten_as : List ℕ → List ℕ → Type 0
-rewritten_as source target = rewritten demo demo_numbers source ≡ Some (Ok target)
+abbrev IsRewrittenAs : List ℕ → List ℕ → Type 0
+IsRewrittenAs source target = rewriting demo demo_numbers source ≡ Some (Ok target)
 
 -- 01 0b
-dropped_nop : rewritten_as (0x01 ∷ 0x0b ∷ []) (0x0b ∷ [])
+dropped_nop : IsRewrittenAs (0x01 ∷ 0x0b ∷ []) (0x0b ∷ [])
 unfolding read_operation opcode kinds_of_byte
 dropped_nop = refl
 
 -- 0f 41 07 1a 0b
-dropped_dead : rewritten_as (0x0f ∷ 0x41 ∷ 0x07 ∷ 0x1a ∷ 0x0b ∷ []) (0x0f ∷ 0x0b ∷ [])
+dropped_dead : IsRewrittenAs (0x0f ∷ 0x41 ∷ 0x07 ∷ 0x1a ∷ 0x0b ∷ []) (0x0f ∷ 0x0b ∷ [])
 unfolding read_operation opcode kinds_of_byte integer
 dropped_dead = refl
 
 -- 41 81 00 1a 0b: the shortest spelling
-shortest : rewritten_as (0x41 ∷ 0x81 ∷ 0x00 ∷ 0x1a ∷ 0x0b ∷ []) (0x41 ∷ 0x01 ∷ 0x1a ∷ 0x0b ∷ [])
+shortest : IsRewrittenAs (0x41 ∷ 0x81 ∷ 0x00 ∷ 0x1a ∷ 0x0b ∷ []) (0x41 ∷ 0x01 ∷ 0x1a ∷ 0x0b ∷ [])
 unfolding read_operation opcode kinds_of_byte integer short_signed
 shortest = refl
 
 -- 41 01 02 03 1a 0b 0b: the pick
-picked : rewritten_as (0x41 ∷ 0x01 ∷ 0x02 ∷ 0x03 ∷ 0x1a ∷ 0x0b ∷ 0x0b ∷ []) (0x41 ∷ 0x01 ∷ 0x02 ∷ 0x01 ∷ 0x1a ∷ 0x0b ∷ 0x0b ∷ [])
+picked : IsRewrittenAs (0x41 ∷ 0x01 ∷ 0x02 ∷ 0x03 ∷ 0x1a ∷ 0x0b ∷ 0x0b ∷ []) (0x41 ∷ 0x01 ∷ 0x02 ∷ 0x01 ∷ 0x1a ∷ 0x0b ∷ 0x0b ∷ [])
 unfolding read_operation opcode kinds_of_byte integer value_at nullable_at short_signed
 picked = refl
 
 -- 02 40 0c 00 41 07 1a 0b 41 05 1a 0b
-behind_dead_block : rewritten_as (0x02 ∷ 0x40 ∷ 0x0c ∷ 0x00 ∷ 0x41 ∷ 0x07 ∷ 0x1a ∷ 0x0b ∷ 0x41 ∷ 0x05 ∷ 0x1a ∷ 0x0b ∷ [])
+behind_dead_block : IsRewrittenAs (0x02 ∷ 0x40 ∷ 0x0c ∷ 0x00 ∷ 0x41 ∷ 0x07 ∷ 0x1a ∷ 0x0b ∷ 0x41 ∷ 0x05 ∷ 0x1a ∷ 0x0b ∷ [])
     (0x02 ∷ 0x40 ∷ 0x0c ∷ 0x00 ∷ 0x0b ∷ 0x41 ∷ 0x05 ∷ 0x1a ∷ 0x0b ∷ [])
 unfolding read_operation opcode kinds_of_byte integer short_unsigned short_signed
 behind_dead_block = refl
@@ -107,10 +107,10 @@ no_reference (suc zero) v e = absurd (nothing_given v e)
 no_reference (suc (suc id)) v e = absurd (cc e)
 
 -- 23 00 24 01 0b is written as 23 01 24 00 0b, and that, read by them, as it stands
-exchanged : rewritten with_globals swapped (0x23 ∷ 0x00 ∷ 0x24 ∷ 0x01 ∷ 0x0b ∷ []) ≡ Some (Ok (0x23 ∷ 0x01 ∷ 0x24 ∷ 0x00 ∷ 0x0b ∷ []))
+exchanged : rewriting with_globals swapped (0x23 ∷ 0x00 ∷ 0x24 ∷ 0x01 ∷ 0x0b ∷ []) ≡ Some (Ok (0x23 ∷ 0x01 ∷ 0x24 ∷ 0x00 ∷ 0x0b ∷ []))
 unfolding read_operation opcode kinds_of_byte integer short_unsigned
 exchanged = refl
 
-unchanged : rewritten back swapped (0x23 ∷ 0x01 ∷ 0x24 ∷ 0x00 ∷ 0x0b ∷ []) ≡ Some (Ok (0x23 ∷ 0x01 ∷ 0x24 ∷ 0x00 ∷ 0x0b ∷ []))
+unchanged : rewriting back swapped (0x23 ∷ 0x01 ∷ 0x24 ∷ 0x00 ∷ 0x0b ∷ []) ≡ Some (Ok (0x23 ∷ 0x01 ∷ 0x24 ∷ 0x00 ∷ 0x0b ∷ []))
 unfolding read_operation opcode kinds_of_byte integer short_unsigned
 unchanged = refl

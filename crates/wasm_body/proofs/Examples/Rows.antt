@@ -27,10 +27,10 @@ pub data Answer (X : Type 0) : Type 0 where
   Refused : ParseError → ℕ → Answer X
   Unwritten : EmitError → Answer X
 
-abbrev pub then_answer : {X Y : Type 0} → Answer X → (X → Answer Y) → Answer Y
-then_answer (Is x) f = f x
-then_answer (Refused e i) f = Refused e i
-then_answer (Unwritten e) f = Unwritten e
+abbrev pub after_answer : {X Y : Type 0} → Answer X → (X → Answer Y) → Answer Y
+after_answer (Is x) f = f x
+after_answer (Refused e i) f = Refused e i
+after_answer (Unwritten e) f = Unwritten e
 
 abbrev at_operator : {X : Type 0} → ℕ → Result X ParseError → Answer X
 at_operator i (Ok x) = Is x
@@ -48,16 +48,16 @@ named_from env frames i [] = Is []
 named_from env None i (o ∷ os) = Refused Trailing i
 named_from env (Some []) i (o ∷ os) = Refused Trailing i
 named_from env (Some (f ∷ fs)) i (o ∷ os) =
-    then_answer (at_operator i (named_in env (f ∷ fs) o)) (λ n.
+    after_answer (at_operator i (named_in env (f ∷ fs) o)) (λ n.
     let x : Occurrence = record { spelt = o; place = i; location = i; named = n } in
-    then_answer (named_from env (moves (control_of n) x (f ∷ fs)) (suc i) os) (λ xs. Is (x ∷ xs)))
+    after_answer (named_from env (moves (control_of n) x (f ∷ fs)) (suc i) os) (λ xs. Is (x ∷ xs)))
 
 abbrev pub occurrences : Environment → List RawOperation → Answer (List Occurrence)
 occurrences env os = named_from env (Some function_frames) 0 os
 
 -- the operators by their names
 abbrev pub names : Environment → List RawOperation → Answer (List NamedOperation)
-names env os = then_answer (occurrences env os) (λ xs. Is (map (λ x. x.named) xs))
+names env os = after_answer (occurrences env os) (λ xs. Is (map (λ x. x.named) xs))
 
 -- ---- the body
 
@@ -67,30 +67,30 @@ whole i (Within ls s) = Refused MissingEnd i
 whole i NoBody = Refused Trailing i
 
 abbrev pub body : Environment → List RawOperation → Answer (Body Occurrence)
-body env os = then_answer (occurrences env os) (λ xs. whole 0 (progress_behind nothing_read (map mark xs)))
+body env os = after_answer (occurrences env os) (λ xs. whole 0 (progress_behind nothing_read (map mark xs)))
 
 -- its normal form, the text of that with names, and the operators that are written for it
 abbrev pub tree : Environment → List RawOperation → Answer FunctionTree
-tree env os = then_answer (body env os) (λ b. Is (normal_form (typing_of env) (named_body b)))
+tree env os = after_answer (body env os) (λ b. Is (normal_form (typing_of env) (named_body b)))
 
 abbrev pub tree_or_empty : Answer FunctionTree → FunctionTree
 tree_or_empty (Is t) = t
 tree_or_empty _ = record { head = head (Simple None) 0; items = no_items }
 
 abbrev pub text : Environment → List RawOperation → Answer (List (Located NamedOperation))
-text env os = then_answer (tree env os) (λ t. as_text (tree_text (with_names (typing_of env)) t))
+text env os = after_answer (tree env os) (λ t. as_text (tree_text (with_names (typing_of env)) t))
 
-abbrev pub written : Environment → Numbers → List RawOperation → Answer (List RawOperation)
-written env to os = then_answer (tree env os) (λ t. then_answer (as_text (numbered_text to t)) (λ xs. Is (map (λ x. x.op) xs)))
+abbrev pub written_operators : Environment → Numbers → List RawOperation → Answer (List RawOperation)
+written_operators env to os = after_answer (tree env os) (λ t. after_answer (as_text (numbered_text to t)) (λ xs. Is (map (λ x. x.op) xs)))
 
 -- ---- runs
 
-abbrev pub ran : List (Event ℕ) → Ending → Answer (Run ℕ)
-ran events ending = Is (record { events = events; ending = ending })
+abbrev pub a_run : List (Event ℕ) → Ending → Answer (Run ℕ)
+a_run events ending = Is (record { events = events; ending = ending })
 
 -- The run of a body: an event names its operator by the number.
 abbrev pub trace : Environment → List RawOperation → List Outcome → (turns : ℕ) → Answer (Run ℕ)
-trace env os outcomes turns = then_answer (names env os) (λ ns. Is (run_by_place (map control_of ns) outcomes turns))
+trace env os outcomes turns = after_answer (names env os) (λ ns. Is (run_by_place (map control_of ns) outcomes turns))
 
 -- ---- what the laws speak of: the operators and the body, where there is no fault
 

@@ -3,7 +3,7 @@ use Rattle.std.proofs.Common.{◌≡◌, ℕ, zero, suc, ◌≤◌, List, [], �
 use Rattle.wasm_body.specs.Control.{Clause, Construct, Block, Loop, TryTable, If, Try, Opens, Marked, marked}
 use Rattle.wasm_body.specs.SourceTree.{Wrapper, OfBlock, OfLoop, OfTryTable, construct_of}
 use Rattle.wasm_body.specs.Machine.{Outcome, Executed, Taken, then, Tags, seek, behind_closer, Label, label, From, Response, Passes, Jumps, arrive, branch, takes, jump, responds_as, enter, other_way, is_else}
-use Rattle.wasm_body.proofs.Executions.Same.{Bound, the_count, again, go, run_by-go, Same, SameOutside, Agree}
+use Rattle.wasm_body.proofs.Executions.Same.{Bound, the_count, again, go, bounded_run-go, Same, SameOutside, Agree}
 use Rattle.wasm_body.proofs.Executions.Steps.{weaken, step_same, way_same, cond_same, reacts, push}
 
 -- Of a construct whose inside begins at x and whose first part or closer stands at c: r is behind its closer.
@@ -117,10 +117,10 @@ turns_same : {A : Type 0} → (a : A) (t b b' : ℕ) (x x' : List (Marked A)) (l
 turns_same a t b b' x x' ls ls' e inside v hv β zero o hu = refl
 turns_same a t b b' x x' ls ls' e inside zero hv β (suc u) o hu = absurd (omega arith)
 turns_same a t b b' x x' ls ls' e inside (suc v) hv β (suc u) o hu =
-    run_by-go β u x (label a Loop x ∷ ls) o
+    bounded_run-go β u x (label a Loop x ∷ ls) o
     ∙ (inside v (omega arith) (loop_outside a t v b b' x x' ls ls' (omega arith) e (turns_same a t b b' x x' ls ls' e inside v (omega arith)))
     β u (β.of x) (length x') o (omega arith) (β.suffices x) (omega arith)
-    ∙ sym (run_by-go the_count u x' (label a Loop x' ∷ ls') o))
+    ∙ sym (bounded_run-go the_count u x' (label a Loop x' ∷ ls') o))
 
 wrapper_outside : {A : Type 0}
     → (w : Wrapper) (a : A) (t : ℕ) (x x' c c' r r' : List (Marked A)) (labels labels' : List (Label A)) → Closes x c r

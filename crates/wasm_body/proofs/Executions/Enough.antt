@@ -2,7 +2,7 @@
 use Rattle.std.proofs.Common.{◌≡◌, ℕ, suc, List, [], ◌∷◌, map, refl, sym, ap, ◌∙◌}
 use Rattle.wasm_body.specs.Control.{Control, control_of}
 use Rattle.wasm_body.specs.SourceTree.{Sequence, Empty, Single, Wrapped, IfThen, IfElse, TryCatch, TryDelegate, Clauses, Ended, Catches, CatchesAll, Body, body_text}
-use Rattle.wasm_body.specs.Machine.{Outcome, run_by, run}
+use Rattle.wasm_body.specs.Machine.{Outcome, bounded_run, run}
 use Rattle.wasm_body.specs.Places.{placed_from}
 use Rattle.wasm_body.specs.TextLaws.{mark_named}
 use Rattle.wasm_body.specs.ExecutionLaws.{controls, CountSuffices}
@@ -28,7 +28,7 @@ mutual
 
 -- the run of a body with any bound on the operators of a turn
 enough : {A : Type 0} → (b : Body A) (β : Bound A) (outcomes : List Outcome) (turns : ℕ)
-    → run_by β.of turns (body_text b) [] outcomes ≡ run (body_text b) outcomes turns
+    → bounded_run β.of turns (body_text b) [] outcomes ≡ run (body_text b) outcomes turns
 enough b β o t = runs_alike b b (to_itself b.sequence) β o t
 
 -- ---- by place
@@ -45,4 +45,4 @@ pub count_suffices : CountSuffices
 count_suffices xs b hx bound h o t =
     let placed = placed_from 0 (controls xs) in
     let c = lifted_body b placed (controls_placed 0 (controls xs) ∙ (controls_named xs ∙ ap controls_of hx)) in
-    ap (λ l. run_by bound t l [] o) (sym c.1) ∙ (enough c.0 (record { of = bound; suffices = h }) o t ∙ ap (λ l. run l o t) c.1)
+    ap (λ l. bounded_run bound t l [] o) (sym c.1) ∙ (enough c.0 (record { of = bound; suffices = h }) o t ∙ ap (λ l. run l o t) c.1)

@@ -18,9 +18,9 @@ use Rattle.wasm_body.specs.Typed.{AreTyped}
 use Rattle.wasm_body.specs.TextLaws.{IsNamedBody, IsTextOf}
 use Rattle.wasm_body.specs.Machine.{Event, Executed, Taken, Run}
 use Rattle.wasm_body.specs.Places.{show_event, show_run, run_by_place, shown_by}
-use Rattle.wasm_body.specs.Pairs.{Pair, pair, pairs_from, tree_pairs, location_at}
+use Rattle.wasm_body.specs.Pairs.{Pair, pair, pairs_from, tree_pairs, location_in}
 use Rattle.wasm_body.specs.ExecutionLaws.{controls, locations_of}
-use Rattle.wasm_body.specs.LocationLaws.{PlacesIncrease, written_run, looked_up, SayLocations, LocationsHonest}
+use Rattle.wasm_body.specs.LocationLaws.{PlacesIncrease, written_run, locations_along, SayLocations, LocationsAreHonest}
 use Rattle.wasm_body.proofs.Translation.Steps.{bound}
 use Rattle.wasm_body.proofs.Structure.Along.{Each, Tells}
 use Rattle.wasm_body.proofs.NormalForm.Rewritten.{Named, rewritten_body}
@@ -76,18 +76,18 @@ places_from (x ∷ xs) q (suc j) =
     from_on behind q (slice_get (places (pairs_from behind xs)) j) (omega arith) (places_from xs behind j)
 
 -- the first pair is passed over
-passed : (p : Pair) (ps : List Pair) (o : Option ℕ) → IsFrom (suc p.place) o → option_and_then (location_at (p ∷ ps)) o ≡ option_and_then (location_at ps) o
+passed : (p : Pair) (ps : List Pair) (o : Option ℕ) → IsFrom (suc p.place) o → option_and_then (location_in (p ∷ ps)) o ≡ option_and_then (location_in ps) o
 passed p ps None h = refl
 passed p ps (Some q) h =
     let other : (p.place == q) ≡ false = grind arith in
-    ap (λ b. if b then Some p.location else location_at ps q) other
+    ap (λ b. if b then Some p.location else location_in ps q) other
 
 found : (xs : List (Located RawOperation)) (q j : ℕ)
-    → option_and_then (location_at (pairs_from q xs)) (slice_get (places (pairs_from q xs)) j) ≡ slice_get (map (λ x. x.location) xs) j
+    → option_and_then (location_in (pairs_from q xs)) (slice_get (places (pairs_from q xs)) j) ≡ slice_get (map (λ x. x.location) xs) j
 found [] q j = refl
 found (x ∷ xs) q zero =
     let here : (q == q) ≡ true = grind arith in
-    ap (λ b. if b then Some x.location else location_at (pairs_from (q + length (short x.op)) xs) q) here
+    ap (λ b. if b then Some x.location else location_in (pairs_from (q + length (short x.op)) xs) q) here
 found (x ∷ xs) q (suc j) =
     let behind = q + length (short x.op) in
     let rest = pairs_from behind xs in
@@ -152,11 +152,11 @@ module _ (m : Typing) (xs : List Named) (b : Body Named) (hx : IsNamedBody xs b)
       let one : kept.text ≡ ys = let both : Ok kept.text ≡ Ok ys = sym kept.is_text ∙ text in cc in
       let r = run_by_place (controls ys) outcomes turns in
       let qs = pairs_from before numbered.0 in
-      ap (λ qs. looked_up qs (written_run ys qs outcomes turns)) (sym numbered.2)
-      ∙ (run_twice (slice_get (places qs)) (option_and_then (location_at qs)) (slice_get (map (λ z. z.location) numbered.0)) (found numbered.0 before) r
+      ap (λ qs. locations_along qs (written_run ys qs outcomes turns)) (sym numbered.2)
+      ∙ (run_twice (slice_get (places qs)) (option_and_then (location_in qs)) (slice_get (map (λ z. z.location) numbered.0)) (found numbered.0 before) r
       ∙ (ap (λ l. shown_by l r) located_alike
       ∙ (ap (λ l. locations_of l outcomes turns) (sym one) ∙ sym (kept.alike.locations outcomes turns))))
 
-pub locations_honest : LocationsHonest
+pub locations_honest : LocationsAreHonest
 locations_honest env xs b spelt lawful =
     let named = lawful_named env xs b spelt lawful in say_locations (typing_of env) (map name_at xs) (named_body b) named.0 named.1

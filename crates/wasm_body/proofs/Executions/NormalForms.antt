@@ -9,7 +9,7 @@ use Rattle.wasm_body.proofs.NormalForm.NamedTexts.{has_text, text_body}
 use Rattle.wasm_body.proofs.Bytes.LawfulTyped.{lawful_named}
 use Rattle.wasm_body.specs.Machine.{Outcome, run}
 use Rattle.wasm_body.specs.Places.{show_run, run_by_place, shown_by}
-use Rattle.wasm_body.specs.ExecutionLaws.{controls, NamedExecutionsKept, ExecutionsKept, RunsByPlace}
+use Rattle.wasm_body.specs.ExecutionLaws.{controls, NamedExecutionsKept, ExecutionsKept, RunsShowOperators}
 use Rattle.wasm_body.proofs.Executions.RewritesTo.{RewritesTo, empty, drop_nop, keep, cut, wrapped, if_else, add_else, try_catch, try_delegate, ClausesRewriteTo, ended, catches_one, catches_all, runs_alike}
 use Rattle.wasm_body.proofs.Executions.Same.{the_count}
 use Rattle.wasm_body.proofs.Executions.Natural.{shown_by-run}
@@ -80,7 +80,7 @@ pub executions_kept : ExecutionsKept
 executions_kept env xs b spelt lawful =
     let named = lawful_named env xs b spelt lawful in named_executions_kept (typing_of env) (map name_at xs) (named_body b) named.0 named.1
 
-pub runs_by_place : RunsByPlace
+pub runs_by_place : RunsShowOperators
 runs_by_place xs o t = record {
   operators = shown_by-run (λ x. control_of x.op) (λ x. x.op) xs o t;
   locations = shown_by-run (λ x. control_of x.op) (λ x. x.location) xs o t;

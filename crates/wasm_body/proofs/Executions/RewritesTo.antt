@@ -4,8 +4,8 @@ use Rattle.wasm_body.specs.Control.{Action, Nop, Control, Construct, If, Try, Op
 use Rattle.wasm_body.specs.SourceTree.{Sequence, Empty, Single, Wrapped, IfThen, IfElse, TryCatch, TryDelegate, Clauses, Ended, Catches, CatchesAll, Wrapper, construct_of, text, clauses_text, Body, body_text}
 use Rattle.wasm_body.specs.NormalForm.{fate, Cuts}
 use Rattle.wasm_body.specs.TextLaws.{Stops}
-use Rattle.wasm_body.specs.Machine.{Outcome, run_by, run, Closer, shape_of, seek, seek_at, behind_closer, tail, Label, label, handler, catches, is_else, other_at}
-use Rattle.wasm_body.proofs.Executions.Same.{Bound, the_count, go, run_by-go, Same, Agree, seek_text, text_longer, clauses_longer}
+use Rattle.wasm_body.specs.Machine.{Outcome, bounded_run, run, Closer, shape_of, seek, seek_at, behind_closer, tail, Label, label, handler, catches, is_else, other_at}
+use Rattle.wasm_body.proofs.Executions.Same.{Bound, the_count, go, bounded_run-go, Same, Agree, seek_text, text_longer, clauses_longer}
 use Rattle.wasm_body.proofs.Executions.Steps.{weaken, nop_same, kept_same, last_same, stop_same, last_end, no_labels}
 use Rattle.wasm_body.proofs.Executions.Constructs.{Closes, wrapped_same, if_outside, if_same, try_same}
 use Rattle.wasm_body.proofs.Executions.Handlers.{Handled, try_outside, handler_outside, ended_handled, delegate_handled, catch_handled, catch_all_handled}
@@ -306,9 +306,9 @@ bodies_alike b b' f t = alike f t (marked b.close End ∷ []) (marked b'.close E
 
 pub runs_alike : {A : Type 0} → (b b' : Body A) → RewritesTo b.sequence b'.sequence
     → (β : Bound A) (outcomes : List Outcome) (turns : ℕ)
-    → run_by β.of turns (body_text b) [] outcomes ≡ run (body_text b') outcomes turns
+    → bounded_run β.of turns (body_text b) [] outcomes ≡ run (body_text b') outcomes turns
 runs_alike b b' f β o t =
     let x = body_text b in
     let x' = body_text b' in
-    run_by-go β t x [] o
-    ∙ (bodies_alike b b' f t β t (β.of x) (length x') o (omega arith) (β.suffices x) (omega arith) ∙ sym (run_by-go the_count t x' [] o))
+    bounded_run-go β t x [] o
+    ∙ (bodies_alike b b' f t β t (β.of x) (length x') o (omega arith) (β.suffices x) (omega arith) ∙ sym (bounded_run-go the_count t x' [] o))

@@ -2,7 +2,7 @@
 use Rattle.std.proofs.Common.{◌≡◌, ℕ, zero, suc, ◌≤◌, List, ◌∷◌, length, Bool, refl, ◌∙◌, arith}
 use Rattle.wasm_body.specs.Control.{Control, Else, End, Delegate, Marked, marked}
 use Rattle.wasm_body.specs.SourceTree.{Sequence, Empty, Single, Wrapped, IfThen, IfElse, TryCatch, TryDelegate, Clauses, Ended, Catches, CatchesAll, text, clauses_text}
-use Rattle.wasm_body.specs.Machine.{Outcome, TurnsOut, ends, Tags, seek, Label, From, branch, raise, caught_at, straight, run_by}
+use Rattle.wasm_body.specs.Machine.{Outcome, TurnsOut, ends, Tags, seek, Label, From, branch, raise, caught_at, straight, bounded_run}
 
 -- a bound on the operators of a turn, by the place where it begins: no less than their count
 pub record Bound (A : Type 0) : Type 0 where
@@ -16,16 +16,16 @@ the_count = record { of = length; suffices = λ rest. omega arith }
 -- how a run goes on behind a turn, with so many turns left
 abbrev pub again : {A : Type 0} → Bound A → (turns : ℕ) → From A
 again bound zero = λ rest labels outcomes. ends TurnsOut
-again bound (suc turns) = run_by bound.of turns
+again bound (suc turns) = bounded_run bound.of turns
 
 -- how it goes on within the turn, for at most so many operators
 abbrev pub go : {A : Type 0} → Bound A → (turns count : ℕ) → From A
 go bound turns count = straight (again bound turns) count
 
-pub run_by-go : {A : Type 0} → (bound : Bound A) (turns : ℕ) (rest : List (Marked A)) (labels : List (Label A)) (outcomes : List Outcome)
-    → run_by bound.of turns rest labels outcomes ≡ go bound turns (bound.of rest) rest labels outcomes
-run_by-go bound zero r ls o = refl
-run_by-go bound (suc u) r ls o = refl
+pub bounded_run-go : {A : Type 0} → (bound : Bound A) (turns : ℕ) (rest : List (Marked A)) (labels : List (Label A)) (outcomes : List Outcome)
+    → bounded_run bound.of turns rest labels outcomes ≡ go bound turns (bound.of rest) rest labels outcomes
+bounded_run-go bound zero r ls o = refl
+bounded_run-go bound (suc u) r ls o = refl
 
 -- The machine does the same from two places, with at most t turns left, and whatever counts are enough; and from the first
 -- with whatever bound.

@@ -7,7 +7,7 @@ use Rattle.wasm_body.proofs.Structure.ReadFrames.{Goes}
 use Rattle.wasm_body.proofs.ReadBack.FrameNames.{map_frames, behind_frames, moves_frames}
 
 -- what else has to be known of the two is P
-pub record Related {A B C : Type 0} (g : A → C) (h : B → C) (P : Marked A → Marked B → Type 0) (x : Marked A) (y : Marked B) : Type 0 where
+pub record AreRelated {A B C : Type 0} (g : A → C) (h : B → C) (P : Marked A → Marked B → Type 0) (x : Marked A) (y : Marked B) : Type 0 where
   pub control : y.control ≡ x.control
   pub name : h y.shown ≡ g x.shown
   pub also : P x y
@@ -16,12 +16,12 @@ abbrev pub AllRelated : {A B C : Type 0} → (A → C) → (B → C) → (Marked
 AllRelated g h P [] [] = Unit {0}
 AllRelated g h P [] (y ∷ ys) = ⊥
 AllRelated g h P (x ∷ xs) [] = ⊥
-AllRelated g h P (x ∷ xs) (y ∷ ys) = Related g h P x y × AllRelated g h P xs ys
+AllRelated g h P (x ∷ xs) (y ∷ ys) = AreRelated g h P x y × AllRelated g h P xs ys
 
 module _ {A B C : Type 0} (g : A → C) (h : B → C) (P : Marked A → Marked B → Type 0) (R : Rule A) (Q : Rule B)
     (given : (fs : List (Frame A)) (gs : List (Frame B)) (x : Marked A) (y : Marked B) → map_frames g fs ≡ map_frames h gs → R fs x → P x y → Q gs y) where
   -- the frames behind the two have the same names
-  frames_related : (fs : List (Frame A)) (gs : List (Frame B)) (x : Marked A) (y : Marked B) → map_frames g fs ≡ map_frames h gs → Related g h P x y
+  frames_related : (fs : List (Frame A)) (gs : List (Frame B)) (x : Marked A) (y : Marked B) → map_frames g fs ≡ map_frames h gs → AreRelated g h P x y
       → behind_frames g (moves x.control x.shown fs) ≡ behind_frames h (moves y.control y.shown gs)
   frames_related fs gs x y e r =
       moves_frames g x.control x.shown fs

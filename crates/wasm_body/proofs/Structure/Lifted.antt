@@ -21,7 +21,7 @@ split (y ∷ ys) c cs e =
     record { first = y.shown; others = ys; is = ap (λ d. marked y.shown d ∷ ys) (sym here); controls = cc }
 
 -- a tree whose text is the front of these operators; the rest does what these controls say
-record Lifted {B : Type 0} (cs : List Control) (ys : List (Marked B)) : Type 0 where
+record LiftedTree {B : Type 0} (cs : List Control) (ys : List (Marked B)) : Type 0 where
   tree : Sequence B
   rest : List (Marked B)
   is : text tree rest ≡ ys
@@ -43,7 +43,7 @@ IsOneSequence {B = B} opens closes make =
     → text (make a b e r) l ≡ marked a (Opens opens) ∷ text b (marked e closes ∷ text r l)
 
 module _ {B : Type 0} {ys : List (Marked B)} where
-  with_single : (action : Action) {cs ds : List Control} (o : Split (Does action) ds ys) (t : Lifted cs o.others) → Lifted cs ys
+  with_single : (action : Action) {cs ds : List Control} (o : Split (Does action) ds ys) (t : LiftedTree cs o.others) → LiftedTree cs ys
   with_single action o t = record {
     tree = Single o.first action t.tree;
     rest = t.rest;
@@ -52,7 +52,7 @@ module _ {B : Type 0} {ys : List (Marked B)} where
   }
 
   with_one : (opens : Construct) (closes : Control) (make : B → Sequence B → B → Sequence B → Sequence B) → IsOneSequence opens closes make
-      → {cs ds es fs : List Control} (o : Split (Opens opens) ds ys) (i : Lifted es o.others) (c : Split closes fs i.rest) (t : Lifted cs c.others) → Lifted cs ys
+      → {cs ds es fs : List Control} (o : Split (Opens opens) ds ys) (i : LiftedTree es o.others) (c : Split closes fs i.rest) (t : LiftedTree cs c.others) → LiftedTree cs ys
   with_one opens closes make made o i c t = record {
     tree = make o.first i.tree c.first t.tree;
     rest = t.rest;
@@ -63,8 +63,8 @@ module _ {B : Type 0} {ys : List (Marked B)} where
     controls = t.controls;
   }
 
-  with_two : {cs ds es fs gs hs : List Control} (o : Split (Opens If) ds ys) (i : Lifted es o.others) (m : Split Else fs i.rest)
-      → (j : Lifted gs m.others) (c : Split End hs j.rest) (t : Lifted cs c.others) → Lifted cs ys
+  with_two : {cs ds es fs gs hs : List Control} (o : Split (Opens If) ds ys) (i : LiftedTree es o.others) (m : Split Else fs i.rest)
+      → (j : LiftedTree gs m.others) (c : Split End hs j.rest) (t : LiftedTree cs c.others) → LiftedTree cs ys
   with_two o i m j c t = record {
     tree = IfElse o.first i.tree m.first j.tree c.first t.tree;
     rest = t.rest;
@@ -76,7 +76,7 @@ module _ {B : Type 0} {ys : List (Marked B)} where
     controls = t.controls;
   }
 
-  with_clauses : {cs ds es fs : List Control} (o : Split (Opens Try) ds ys) (i : Lifted es o.others) (c : LiftedClauses fs i.rest) (t : Lifted cs c.rest) → Lifted cs ys
+  with_clauses : {cs ds es fs : List Control} (o : Split (Opens Try) ds ys) (i : LiftedTree es o.others) (c : LiftedClauses fs i.rest) (t : LiftedTree cs c.rest) → LiftedTree cs ys
   with_clauses o i c t = record {
     tree = TryCatch o.first i.tree c.clauses t.tree;
     rest = t.rest;
@@ -86,7 +86,7 @@ module _ {B : Type 0} {ys : List (Marked B)} where
     controls = t.controls;
   }
 
-  with_catch : (tag : ℕ) {cs ds es : List Control} (o : Split (Catch tag) ds ys) (i : Lifted es o.others) (c : LiftedClauses cs i.rest) → LiftedClauses cs ys
+  with_catch : (tag : ℕ) {cs ds es : List Control} (o : Split (Catch tag) ds ys) (i : LiftedTree es o.others) (c : LiftedClauses cs i.rest) → LiftedClauses cs ys
   with_catch tag o i c = record {
     clauses = Catches o.first tag i.tree c.clauses;
     rest = c.rest;
@@ -94,7 +94,7 @@ module _ {B : Type 0} {ys : List (Marked B)} where
     controls = c.controls;
   }
 
-  with_catch_all : {cs ds es : List Control} (o : Split CatchAll ds ys) (i : Lifted es o.others) (c : Split End cs i.rest) → LiftedClauses cs ys
+  with_catch_all : {cs ds es : List Control} (o : Split CatchAll ds ys) (i : LiftedTree es o.others) (c : Split End cs i.rest) → LiftedClauses cs ys
   with_catch_all o i c = record {
     clauses = CatchesAll o.first i.tree c.first;
     rest = c.others;
@@ -106,7 +106,7 @@ module _ {B : Type 0} {ys : List (Marked B)} where
 
 mutual
   lifted : {A B : Type 0} → (s : Sequence A) (k : List (Marked A)) (ys : List (Marked B)) → controls_of ys ≡ controls_of (text s k)
-      → Lifted (controls_of k) ys
+      → LiftedTree (controls_of k) ys
   lifted Empty k ys e = record { tree = Empty; rest = ys; is = refl; controls = e }
   lifted (Single a action r) k ys h =
       let o = split ys (Does action) _ h in
