@@ -17,7 +17,7 @@ pub mod NormalForm
 pub mod Keeping
 pub mod Typed
 pub mod Intervals
--- the text of a tree, and its bytes
+-- the text of a tree, its bytes and location pairs, and reading back
 pub mod FlatText
 pub mod Bytes
 pub mod TextLaws
