@@ -18,7 +18,7 @@ use Rattle.wasm_body.specs.InstructionTable.{legacy_clause}
 use Rattle.wasm_body.specs.TreeOfFunction.{instruction_in}
 use Rattle.wasm_body.specs.FlatText.{TextOperation, Writing, then_by, try_closers, opened, written}
 use Rattle.wasm_body.specs.Bytes.{Numbers, numbering, bytes_of}
-use Rattle.wasm_body.specs.Pairs.{location_pairs}
+use Rattle.wasm_body.specs.Pairs.{pairs_from}
 
 -- ---- the sequences in an instruction, and what closes them
 
@@ -130,4 +130,4 @@ first_emitter b to base has_map scope = record {
 
 -- what a text is written as, behind so many bytes of others
 abbrev pub output_of : Bool → ℕ → List (Located RawOperation) → Output
-output_of has_map base xs = record { bytes = bytes_of xs; pairs = if has_map then location_pairs base xs else [] }
+output_of has_map base xs = record { bytes = bytes_of xs; pairs = if has_map then pairs_from base xs else [] }

@@ -1,5 +1,5 @@
 -- The demo module's numbers: there is one for each id that an old index stands for, and for the type of each sequence.
-use Rattle.std.specs.Prelude.{◌≡◌, ℕ, suc, zero, nat_lt, List, [], ◌∷◌, length, Bool, true, Option, Some, None, slice_get, if◌then◌else◌, IsOk, is_ok, Result, Ok, Err}
+use Rattle.std.specs.Prelude.{◌≡◌, ℕ, suc, zero, List, [], ◌∷◌, Bool, Option, Some, None, slice_get, IsOk, is_ok, Result, Ok, Err}
 use Rattle.std.specs.List.{AllByRecursion}
 use Rattle.std.proofs.Common.{refl, ap, subst}
 use Rattle.walrus_ir.specs.declared.val_type.HeapType.{HeapType}
@@ -13,43 +13,42 @@ use Rattle.wasm_ops.specs.declared.types.BlockType.{BlockType}
 use Rattle.wasm_ops.specs.declared.types.BlockType.TheVariants.{Empty, Value, FuncType}
 use Rattle.wasm_ops.specs.declared.types.Space.{Space}
 use Rattle.wasm_ops.specs.declared.types.Space.TheVariants.{Tables, Types, Funcs, Globals, Memories, Elements, Data, Tags}
-use Rattle.wasm_body.specs.declared.error.EmitError.TheVariants.{Index}
-use Rattle.wasm_body.specs.declared.error.IndexError.TheVariants.{Unnumbered}
 use Rattle.wasm_body.specs.Results.{◌>>=◌, some_or, faulting}
 use Rattle.walrus_body.specs.IndexMaps.{ids_in}
 use Rattle.wasm_body.specs.Translation.{translate_heap, translate_value}
 use Rattle.wasm_body.specs.Naming.{id_at, name_block, function_type}
-use Rattle.wasm_body.specs.Bytes.{numbered_block}
+use Rattle.wasm_body.specs.Bytes.{fitting_numbers, numbered_block}
 use Rattle.wasm_body.proofs.Translation.Steps.{bound}
 use Rattle.wasm_body.proofs.Bytes.NumberedBodies.{HasNumbers}
 use Rattle.walrus_run.specs.Demo.{demo_types, demo_indices, demo_environment, demo_numbers}
 
 -- ---- ids of old indices
 
-within : (count : ℕ) (ids : List ℕ) (n id : ℕ) → AllByRecursion (λ i. nat_lt i count ≡ true) ids → slice_get ids n ≡ Some id → nat_lt id count ≡ true
-within count [] n id all at = absurd cc
-within count (i ∷ ids) zero id all at = let e : i ≡ id = cc in subst (λ j. nat_lt j count ≡ true) e all.0
-within count (i ∷ ids) (suc n) id all at = within count ids n id all.1 at
+within : (P : ℕ → Type 0) (ids : List ℕ) (n id : ℕ) → AllByRecursion P ids → slice_get ids n ≡ Some id → P id
+within P [] n id all at = absurd cc
+within P (i ∷ ids) zero id all at = let e : i ≡ id = cc in subst P e all.0
+within P (i ∷ ids) (suc n) id all at = within P ids n id all.1 at
 
-all_below : (space : Space) → AllByRecursion (λ i. nat_lt i (length (ids_in demo_indices space)) ≡ true) (ids_in demo_indices space)
-all_below Tables = (refl, tt)
-all_below Types = (refl, (refl, (refl, (refl, tt))))
-all_below Funcs = (refl, (refl, tt))
-all_below Globals = (refl, tt)
-all_below Memories = (refl, tt)
-all_below Elements = (refl, tt)
-all_below Data = (refl, tt)
-all_below Tags = (refl, (refl, tt))
+-- the number of an id is its own
+abbrev IsNumbered : Space → ℕ → Type 0
+IsNumbered space id = (fitting_numbers demo_numbers).number_of space id ≡ Ok id
 
-numbered : (space : Space) (id : ℕ) → nat_lt id (length (ids_in demo_indices space)) ≡ true → demo_numbers.number_of space id ≡ Ok id
-numbered space id below = ap (λ b. if b then Ok id else Err (Index (Unnumbered space))) below
+all_numbered : (space : Space) → AllByRecursion (IsNumbered space) (ids_in demo_indices space)
+all_numbered Tables = (refl, tt)
+all_numbered Types = (refl, (refl, (refl, (refl, tt))))
+all_numbered Funcs = (refl, (refl, tt))
+all_numbered Globals = (refl, tt)
+all_numbered Memories = (refl, tt)
+all_numbered Elements = (refl, tt)
+all_numbered Data = (refl, tt)
+all_numbered Tags = (refl, (refl, tt))
 
 some_of : {E : Type 0} (o : Option ℕ) (e : E) (id : ℕ) → some_or o e ≡ Ok id → o ≡ Some id
 some_of (Some x) e id h = let same : x ≡ id = cc in ap Some same
 some_of None e id h = absurd cc
 
-has_index : (space : Space) (n id : ℕ) → demo_environment.id_of space n ≡ Ok id → demo_numbers.number_of space id ≡ Ok id
-has_index space n id at = numbered space id (within _ (ids_in demo_indices space) n id (all_below space) (some_of _ _ id at))
+has_index : (space : Space) (n id : ℕ) → demo_environment.id_of space n ≡ Ok id → IsNumbered space id
+has_index space n id at = within (IsNumbered space) (ids_in demo_indices space) n id (all_numbered space) (some_of _ _ id at)
 
 -- ---- types of sequences
 
@@ -58,7 +57,7 @@ unfaulted f (Ok y) x h = let same : y ≡ x = cc in ap Ok same
 unfaulted f (Err e) x h = absurd cc
 
 abbrev HeapNumbered : HeapType ℕ → Type 0
-HeapNumbered h = IsOk (translate_heap demo_numbers.number_of h)
+HeapNumbered h = IsOk (translate_heap (fitting_numbers demo_numbers).number_of h)
 
 has_heap : (h g : HeapType ℕ) → translate_heap (id_at demo_environment) h ≡ Ok g → HeapNumbered g
 has_heap (Abstract a) g e = let same : Abstract a ≡ g = cc in subst HeapNumbered same refl
@@ -69,7 +68,7 @@ has_heap (Concrete n) g e =
     subst HeapNumbered same (ap (λ r. is_ok (r >>= λ m. Ok (Concrete m))) at)
 
 abbrev ValueNumbered : ValType ℕ → Type 0
-ValueNumbered t = IsOk (translate_value demo_numbers.number_of t)
+ValueNumbered t = IsOk (translate_value (fitting_numbers demo_numbers).number_of t)
 
 abbrev reference : (nullable : Bool) (h : HeapType ℕ) → ValType ℕ
 reference nullable h = Ref (record { nullable = nullable; heap_type = h })
@@ -87,7 +86,7 @@ has_value V128 u e = let same : V128 ≡ u = cc in subst ValueNumbered same refl
 has_value (Ref r) u e =
     let h = bound (translate_heap (id_at demo_environment) r.heap_type) (λ h. Ok (reference r.nullable h)) u e in
     let same : reference r.nullable h.0 ≡ u = cc in
-    subst ValueNumbered same (then_ok (translate_heap demo_numbers.number_of h.0) (reference r.nullable) (has_heap r.heap_type h.0 h.1))
+    subst ValueNumbered same (then_ok (translate_heap (fitting_numbers demo_numbers).number_of h.0) (reference r.nullable) (has_heap r.heap_type h.0 h.1))
 
 abbrev BlockNumbered : InstrSeqType → Type 0
 BlockNumbered t = IsOk (numbered_block demo_numbers t)
@@ -112,7 +111,7 @@ has_block Empty s e = let same : signature [] [] ≡ s = cc in subst PickNumbere
 has_block (Value t) s e =
     let u = bound (translate_value (id_at demo_environment) t) (λ u. Ok (signature [] (u ∷ []))) s e in
     let same : signature [] (u.0 ∷ []) ≡ s = cc in
-    subst PickNumbered same (picked (signature [] (u.0 ∷ [])) (Simple (Some u.0)) refl (then_ok (translate_value demo_numbers.number_of u.0) Value (has_value t u.0 u.1)))
+    subst PickNumbered same (picked (signature [] (u.0 ∷ [])) (Simple (Some u.0)) refl (then_ok (translate_value (fitting_numbers demo_numbers).number_of u.0) Value (has_value t u.0 u.1)))
 has_block (FuncType n) s e = let id = bound (id_at demo_environment Types n) (function_type demo_environment) s e in has_type id.0 s id.2
 
 pub demo_has_numbers : HasNumbers demo_environment demo_numbers

@@ -5,4 +5,5 @@ pub mod Picks
 pub mod LawfulTyped
 pub mod WritableTexts
 pub mod CarriedKinds
+pub mod Fitting
 pub mod NumberedBodies

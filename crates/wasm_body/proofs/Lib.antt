@@ -8,5 +8,9 @@ pub mod Parsing
 pub mod NormalForm
 -- normal forms have bytes
 pub mod Bytes
--- the law of executions, and worked runs
+-- the bytes of a normal form are read back
+pub mod ReadBack
+-- the law of executions
 pub mod Executions
+-- examples that pin the definitions
+pub mod Examples

@@ -4,5 +4,8 @@ pub mod ArenaLemmas
 pub mod Kept
 pub mod KeptNames
 pub mod Rewritten
+pub mod WrittenTexts
+pub mod NamedTexts
 pub mod NormalAgain
+pub mod ByNames
 pub mod SameTexts

@@ -5,3 +5,4 @@ pub mod ReadFrames
 pub mod ReadingSequences
 pub mod Along
 pub mod Reshown
+pub mod Lifted

@@ -25,19 +25,25 @@ pub record Numbers : Type 0 where
 abbrev pub fitting : ℕ → Result ℕ EmitError
 fitting n = unless (nat_lt n (2 ^ 32)) TooLarge >>= λ _. Ok n
 
+-- numbers that are written: those of 32 bits
+abbrev pub fitting_numbers : Numbers → Numbers
+fitting_numbers to = record { number_of = λ space id. to.number_of space id >>= fitting; local_number = λ id. to.local_number id >>= fitting }
+
 abbrev pub numbered_block : Numbers → InstrSeqType → Result BlockType EmitError
 numbered_block to (Simple None) = Ok Empty
-numbered_block to (Simple (Some t)) = translate_value to.number_of t >>= λ u. Ok (Value u)
-numbered_block to (MultiValue id) = to.number_of Types id >>= λ n. Ok (FuncType n)
+numbered_block to (Simple (Some t)) = translate_value (fitting_numbers to).number_of t >>= λ u. Ok (Value u)
+numbered_block to (MultiValue id) = (fitting_numbers to).number_of Types id >>= λ n. Ok (FuncType n)
 
--- Numbering: a number for each id, and the number of its type for a block type.
+-- Numbering: a number for each id, and the number of its type for a block type. Each number, depth and count is one of 32
+-- bits.
 abbrev pub numbering : Numbers → Translation ℕ InstrSeqType ℕ BlockType EmitError
 numbering to = record {
-  index = to.number_of;
-  local = to.local_number;
+  index = (fitting_numbers to).number_of;
+  local = (fitting_numbers to).local_number;
   label = fitting;
-  handler = λ n. Ok n;
-  outer = λ n. Ok n;
+  handler = fitting;
+  outer = fitting;
+  number = fitting;
   block = numbered_block to;
   alignment = λ e. e;
   count = λ n. fitting n >>= λ _. Ok tt;

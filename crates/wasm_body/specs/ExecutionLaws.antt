@@ -1,17 +1,18 @@
 -- The law of executions: a body and the text of its normal form execute the same operators, at the same locations, and end
 -- alike.
-use Rattle.std.specs.Prelude.{◌≡◌, ℕ, List, map, Option}
+use Rattle.std.specs.Prelude.{◌≡◌, ℕ, ◌≤◌, List, [], length, map, Option, Some}
 use Rattle.std.specs.List.{AllByRecursion}
-use Rattle.wasm_ops.specs.Spelling.{Spells}
-use Rattle.wasm_body.specs.Control.{Control, control_of}
+use Rattle.wasm_body.specs.Control.{Control, control_of, Marked}
 use Rattle.wasm_body.specs.SourceTree.{Body}
 use Rattle.wasm_body.specs.Translation.{Located}
 use Rattle.wasm_body.specs.Naming.{Environment, NamedOperation, Occurrence}
-use Rattle.wasm_body.specs.Parsing.Accepted.{Lawful}
-use Rattle.wasm_body.specs.NormalForm.{typing_of, normal_form, name_at, named_body}
-use Rattle.wasm_body.specs.TextLaws.{IsTextOf}
-use Rattle.wasm_body.specs.Machine.{Outcome, Run}
-use Rattle.wasm_body.specs.Places.{run_by_place, shown_by}
+use Rattle.wasm_body.specs.Parsing.Accepted.{HasSpelling, Lawful}
+use Rattle.wasm_body.specs.FunctionTree.{FunctionTree}
+use Rattle.wasm_body.specs.NormalForm.{Typing, typing_of, normal_form, name_at, body_tree}
+use Rattle.wasm_body.specs.Typed.{AreTyped}
+use Rattle.wasm_body.specs.TextLaws.{mark_named, IsNamedBody, IsTextOf}
+use Rattle.wasm_body.specs.Machine.{Outcome, Run, bounded_run, run}
+use Rattle.wasm_body.specs.Places.{show_run, placed_from, run_by_place, shown_by}
 
 abbrev pub controls : List (Located NamedOperation) → List Control
 controls xs = map (λ x. control_of x.op) xs
@@ -24,17 +25,42 @@ operators_of xs outcomes turns = shown_by (map (λ x. x.op) xs) (run_by_place (c
 abbrev pub locations_of : List (Located NamedOperation) → List Outcome → (turns : ℕ) → Run (Option ℕ)
 locations_of xs outcomes turns = shown_by (map (λ x. x.location) xs) (run_by_place (controls xs) outcomes turns)
 
--- The operator has a spelling.
-abbrev pub HasSpelling : Occurrence → Type 0
-HasSpelling x = (text : List ℕ) × Spells x.spelt text
-
 -- The two lists execute the same operators, at the same locations, and end alike: for all outcomes and turns.
 pub record ExecuteAlike (xs ys : List (Located NamedOperation)) : Type 0 where
   pub operators : (outcomes : List Outcome) (turns : ℕ) → operators_of xs outcomes turns ≡ operators_of ys outcomes turns
   pub locations : (outcomes : List Outcome) (turns : ℕ) → locations_of xs outcomes turns ≡ locations_of ys outcomes turns
 
+-- The tree has a text, which executes alike with these operators.
+pub record HasTextAlike (m : Typing) (tree : FunctionTree) (xs : List (Located NamedOperation)) : Type 0 where
+  pub text : List (Located NamedOperation)
+  pub is_text : IsTextOf m tree text
+  pub alike : ExecuteAlike xs text
+
+-- The normal form of a body of named operators has a text, and the two execute alike: of every construct.
+abbrev pub NamedExecutionsKept : Type 0
+NamedExecutionsKept =
+    (m : Typing) (xs : List (Located NamedOperation)) (b : Body (Located NamedOperation)) → IsNamedBody xs b → AreTyped m xs →
+    HasTextAlike m (normal_form m b) xs
+
 -- Of every accepted body the normal form has a text, and the two execute alike.
 abbrev pub ExecutionsKept : Type 0
 ExecutionsKept =
     (env : Environment) (xs : List Occurrence) (b : Body Occurrence) → AllByRecursion HasSpelling xs → Lawful env xs b →
-    (ys : List (Located NamedOperation)) × IsTextOf (typing_of env) (normal_form (typing_of env) (named_body b)) ys × ExecuteAlike (map name_at xs) ys
+    HasTextAlike (typing_of env) (body_tree env b) (map name_at xs)
+
+-- Each event of a run by place has its operator: what stands at the places is what the machine shows of the operators
+-- themselves.
+pub record ShowsOperators (xs : List (Located NamedOperation)) (outcomes : List Outcome) (turns : ℕ) : Type 0 where
+  pub operators : operators_of xs outcomes turns ≡ show_run (λ x. Some x.op) (run (map mark_named xs) outcomes turns)
+  pub locations : locations_of xs outcomes turns ≡ show_run (λ x. Some x.location) (run (map mark_named xs) outcomes turns)
+
+abbrev pub RunsShowOperators : Type 0
+RunsShowOperators = (xs : List (Located NamedOperation)) (outcomes : List Outcome) (turns : ℕ) → ShowsOperators xs outcomes turns
+
+-- A body runs alike with whatever bounds on the operators of its turns that are no less than their count. So the count
+-- never runs out, and a run that ends Returned has returned.
+abbrev pub CountSuffices : Type 0
+CountSuffices =
+    (xs : List (Located NamedOperation)) (b : Body (Located NamedOperation)) → IsNamedBody xs b →
+    (bound : List (Marked ℕ) → ℕ) → ((rest : List (Marked ℕ)) → length rest ≤ bound rest) → (outcomes : List Outcome) (turns : ℕ) →
+    bounded_run bound turns (placed_from 0 (controls xs)) [] outcomes ≡ run_by_place (controls xs) outcomes turns

@@ -17,12 +17,14 @@ pub mod NormalForm
 pub mod Keeping
 pub mod Typed
 pub mod Intervals
--- the text of a tree, and its bytes
+-- the text of a tree, its bytes and location pairs, and reading back
 pub mod FlatText
 pub mod Bytes
 pub mod Pairs
 pub mod TextLaws
--- the trace machine, and the law that executions are kept
+pub mod ReadBack
+-- the trace machine, and the laws that executions are kept, and that locations are honest along them
 pub mod Machine
 pub mod Places
 pub mod ExecutionLaws
+pub mod LocationLaws

@@ -320,11 +320,11 @@ straight again zero rest ls outcomes = ends Returned
 straight again (suc n) [] ls outcomes = ends Returned
 straight again (suc n) (x ∷ xs) ls outcomes = step again (straight again n) x.control x.shown xs ls outcomes
 
--- with so many turns left
-abbrev pub run_from : {A : Type 0} → (turns : ℕ) → From A
-run_from zero rest ls outcomes = straight (λ r l o. ends TurnsOut) (length rest) rest ls outcomes
-run_from (suc turns) rest ls outcomes = straight (run_from turns) (length rest) rest ls outcomes
+-- with so many turns left, where `bound` bounds the operators of a turn by the place where it begins
+abbrev pub bounded_run : {A : Type 0} → (bound : List (Marked A) → ℕ) → (turns : ℕ) → From A
+bounded_run bound zero rest ls outcomes = straight (λ r l o. ends TurnsOut) (bound rest) rest ls outcomes
+bounded_run bound (suc turns) rest ls outcomes = straight (bounded_run bound turns) (bound rest) rest ls outcomes
 
 -- The run of a list of operators. Outcomes that are left over mean nothing.
 abbrev pub run : {A : Type 0} → List (Marked A) → List Outcome → (turns : ℕ) → Run A
-run ops outcomes turns = run_from turns ops [] outcomes
+run ops outcomes turns = bounded_run length turns ops [] outcomes

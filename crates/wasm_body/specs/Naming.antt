@@ -75,6 +75,7 @@ naming env fs = record {
   label = open_label fs;
   handler = handler_label fs;
   outer = open_label (outside fs);
+  number = λ n. Ok n;
   block = name_block env;
   alignment = λ e. e;
   count = λ n. Ok tt;

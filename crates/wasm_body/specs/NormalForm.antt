@@ -56,6 +56,7 @@ kept = record {
   label = λ n. Ok (Depth n);
   handler = λ n. Ok n;
   outer = λ n. Ok n;
+  number = λ n. Ok n;
   block = λ s. Ok tt;
   alignment = λ e. 2 ^ e;
   count = λ n. Ok tt;
@@ -147,3 +148,7 @@ name_at x = located x.named x.location
 
 abbrev pub named_body : Body Occurrence → Body (Located NamedOperation)
 named_body b = reshown_body name_at b
+
+-- the tree that a parse makes of a body in an environment
+abbrev pub body_tree : Environment → Body Occurrence → FunctionTree
+body_tree env b = normal_form (typing_of env) (named_body b)

@@ -1,10 +1,28 @@
--- Location pairs: where each operator of a text comes from, and where it stands in the bytes.
-use Rattle.std.specs.Prelude.{ℕ, ◌+◌, List, [], ◌∷◌, length}
+-- Location pairs: for each operator that is written its location, and the place of its first byte.
+use Rattle.std.specs.Prelude.{ℕ, ◌+◌, ◌==◌, if◌then◌else◌, List, [], ◌∷◌, length, Option, Some, None, Result, Ok}
 use Rattle.wasm_ops.specs.Operations.{RawOperation}
 use Rattle.wasm_ops.specs.Shortest.{short}
+use Rattle.wasm_body.specs.declared.error.EmitError.{EmitError}
+use Rattle.wasm_body.specs.Results.{◌>>=◌}
 use Rattle.wasm_body.specs.Translation.{Located}
+use Rattle.wasm_body.specs.FunctionTree.{FunctionTree}
+use Rattle.wasm_body.specs.Bytes.{Numbers, numbered_text}
 
--- of each operator its location and its place, where the first stands at this place and each is written shortest
-abbrev pub location_pairs : (place : ℕ) → List (Located RawOperation) → List (ℕ × ℕ)
-location_pairs place [] = []
-location_pairs place (x ∷ xs) = (x.location, place) ∷ location_pairs (place + length (short x.op)) xs
+-- the location, and the place
+abbrev pub Pair : Type 0
+Pair = ℕ × ℕ
+
+-- the pairs of operators whose shortest spellings stand one behind the other, the first at this place
+abbrev pub pairs_from : (place : ℕ) → List (Located RawOperation) → List Pair
+pairs_from place [] = []
+pairs_from place (x ∷ xs) = (x.location, place) ∷ pairs_from (place + length (short x.op)) xs
+
+-- The location pairs of a tree under the numbers, where so many bytes stand before its own; or the first fault in order of
+-- writing.
+abbrev pub tree_pairs : Numbers → FunctionTree → (before : ℕ) → Result (List Pair) EmitError
+tree_pairs to t before = numbered_text to t >>= λ xs. Ok (pairs_from before xs)
+
+-- the location of the pair with this place
+abbrev pub location_in : List Pair → (place : ℕ) → Option ℕ
+location_in [] place = None
+location_in (p ∷ ps) place = if p.1 == place then Some p.0 else location_in ps place

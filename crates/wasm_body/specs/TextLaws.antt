@@ -1,14 +1,15 @@
 -- Laws of trees and texts.
-use Rattle.std.specs.Prelude.{◌≡◌, ℕ, List, ◌∷◌, map, Result, Ok}
-use Rattle.wasm_ops.specs.declared.types.BlockType.{BlockType}
+use Rattle.std.specs.Prelude.{◌≡◌, List, ◌∷◌, map, Result, Ok}
+use Rattle.std.specs.List.{AllByRecursion}
 use Rattle.wasm_body.specs.declared.error.EmitError.{EmitError}
 use Rattle.wasm_body.specs.Results.{◌>>=◌}
 use Rattle.wasm_body.specs.Control.{Marked, marked, Control, Else, Catch, CatchAll, End, Delegate, control_of}
 use Rattle.wasm_body.specs.SourceTree.{Sequence, text, Body, body_text}
 use Rattle.wasm_body.specs.Translation.{Located}
-use Rattle.wasm_body.specs.Naming.{NamedOperation}
+use Rattle.wasm_body.specs.Naming.{Environment, NamedOperation, Occurrence}
+use Rattle.wasm_body.specs.Parsing.Accepted.{HasSpelling, Lawful}
 use Rattle.wasm_body.specs.FunctionTree.{FunctionTree, IsSameTree}
-use Rattle.wasm_body.specs.NormalForm.{Typing, normal_form}
+use Rattle.wasm_body.specs.NormalForm.{Typing, typing_of, normal_form, name_at, named_body}
 use Rattle.wasm_body.specs.FlatText.{Writing, with_names, tree_text}
 use Rattle.wasm_body.specs.Typed.{AreTyped}
 
@@ -46,11 +47,25 @@ IsNamedBody xs b = map mark_named xs ≡ body_text b
 abbrev pub IsTextOf : Typing → FunctionTree → List (Located NamedOperation) → Type 0
 IsTextOf m t ys = tree_text (with_names m) t ≡ Ok ys
 
--- The normal form has a text, and the text is a body again.
+-- Operators that have spellings and lawfully are a body are that body by their names too, and typed: what the laws below
+-- ask of a body holds of every accepted one.
+abbrev pub LawfulAreTyped : Type 0
+LawfulAreTyped =
+    (env : Environment) (xs : List Occurrence) (b : Body Occurrence) → AllByRecursion HasSpelling xs → Lawful env xs b →
+    IsNamedBody (map name_at xs) (named_body b) × AreTyped (typing_of env) (map name_at xs)
+
+-- The tree has a text, and the text is a body again.
+pub record HasBodyText (m : Typing) (tree : FunctionTree) : Type 0 where
+  pub text : List (Located NamedOperation)
+  pub body : Body (Located NamedOperation)
+  pub is_text : IsTextOf m tree text
+  pub is_body : IsNamedBody text body
+
+-- The normal form of a typed body has a text, and the text is a body again.
 abbrev pub HaveTexts : Type 0
 HaveTexts =
     (m : Typing) (xs : List (Located NamedOperation)) (b : Body (Located NamedOperation)) → IsNamedBody xs b → AreTyped m xs →
-    (ys : List (Located NamedOperation)) × (c : Body (Located NamedOperation)) × IsTextOf m (normal_form m b) ys × IsNamedBody ys c
+    HasBodyText m (normal_form m b)
 
 -- The text, read as a body again, has a normal form that is the same tree.
 abbrev pub NormalAgain : Type 0
@@ -63,7 +78,8 @@ NormalAgain =
 abbrev pub without_locations : {X : Type 0} → Result (List (Located X)) EmitError → Result (List X) EmitError
 without_locations r = r >>= λ xs. Ok (map (λ x. x.op) xs)
 
--- They are written by the same operators, or refused for the same fault.
-abbrev pub SameTexts : Type 0
-SameTexts =
-    (w : Writing ℕ BlockType) (t u : FunctionTree) → IsSameTree t u → without_locations (tree_text w t) ≡ without_locations (tree_text w u)
+-- In every way of writing they are written by the same operators, or refused for the same fault. `M` and `C` are what is
+-- written for a label and for a block type.
+abbrev pub SameTexts : (M C : Type 0) → Type 0
+SameTexts M C =
+    (w : Writing M C) (t u : FunctionTree) → IsSameTree t u → without_locations (tree_text w t) ≡ without_locations (tree_text w u)

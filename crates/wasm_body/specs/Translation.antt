@@ -17,6 +17,7 @@ pub record Translation (L B M C E : Type 0) : Type 0 where
   pub label : L → Result M E
   pub handler : ℕ → Result ℕ E
   pub outer : ℕ → Result ℕ E
+  pub number : ℕ → Result ℕ E
   pub block : B → Result C E
   pub alignment : ℕ → ℕ
   pub count : ℕ → Result (Unit {0}) E  -- whether a list of so many may be written
@@ -54,7 +55,7 @@ translate_immediate t (local n) = t.local n >>= λ m. Ok (local m)
 translate_immediate t (label l) = t.label l >>= λ m. Ok (label m)
 translate_immediate t (handler depth) = t.handler depth >>= λ n. Ok (handler n)
 translate_immediate t (outer depth) = t.outer depth >>= λ n. Ok (outer n)
-translate_immediate t (number n) = Ok (number n)
+translate_immediate t (number n) = t.number n >>= λ m. Ok (number m)
 translate_immediate t (access a) = translate_access t a >>= λ b. Ok (access b)
 translate_immediate t (branch_table ts d) = t.count (length ts) >>= λ u. each t.label ts >>= λ us. t.label d >>= λ e. Ok (branch_table us e)
 translate_immediate t (clauses cs) = t.count (length cs) >>= λ u. each (translate_clause t) cs >>= λ ds. Ok (clauses ds)

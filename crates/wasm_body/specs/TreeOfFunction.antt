@@ -26,6 +26,7 @@ aiming around = record {
   label = λ place. Ok (target_in around place);
   handler = λ n. Ok n;
   outer = λ n. Ok n;
+  number = λ n. Ok n;
   block = λ b. Ok b;
   alignment = λ n. n;
   count = λ n. Ok tt;

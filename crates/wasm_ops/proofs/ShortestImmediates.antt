@@ -32,11 +32,11 @@ refused_or false fault others v e = (refl, e)
 -- ---- memory accesses
 
 -- what flags mean: an exponent below 32, and 64 more where a memory's index follows
-record AreFlags (k : ℕ) (flags : ℕ × Bool) : Type 0 where
-  small : flags.0 < 32
-  is : k ≡ cond flags.1 (flags.0 + 64) flags.0
+pub record AreFlags (k : ℕ) (flags : ℕ × Bool) : Type 0 where
+  pub small : flags.0 < 32
+  pub is : k ≡ cond flags.1 (flags.0 + 64) flags.0
 
-flags_are : (k : ℕ) (flags : ℕ × Bool) → memory_flags k ≡ Ok flags → AreFlags k flags
+pub flags_are : (k : ℕ) (flags : ℕ × Bool) → memory_flags k ≡ Ok flags → AreFlags k flags
 flags_are k flags e =
     elim (taken_or (ltb k 32) (k, false) (cond (ltb k 64) (Err BadMemArg) (cond (ltb k 96) (Ok (k - 64, true)) (Err BadMemArg))) flags e) [
       | inl p ↦ subst (AreFlags k) p.1 (record { small = ltb-true k 32 p.0; is = refl })
@@ -118,7 +118,7 @@ plain_access : (a : Access) (x y : List ℕ) → a.alignment < 32 → a.memory �
 plain_access a x y small e p q =
     (((a.alignment, false), (a.memory, a.offset)), refl, (x, y, refl, flags_spelt a.alignment x small p, ([], y, refl, (e, refl), q)))
 
-indexed_access : (a : Access) (x m y : List ℕ) → a.alignment < 32 → IsU32 (a.alignment + 64) x → IsU32 a.memory m → IsU64 a.offset y → IsAccess a (x ++ (m ++ y))
+pub indexed_access : (a : Access) (x m y : List ℕ) → a.alignment < 32 → IsU32 (a.alignment + 64) x → IsU32 a.memory m → IsU64 a.offset y → IsAccess a (x ++ (m ++ y))
 indexed_access a x m y small p i q =
     (((a.alignment, true), (a.memory, a.offset)), refl, (x, m ++ y, refl, indexed_spelt a.alignment x small p, (m, y, refl, i, q)))
 

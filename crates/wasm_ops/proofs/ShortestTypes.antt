@@ -33,7 +33,7 @@ row_holds {V} P (row ∷ rows) each n v e =
       | inr p ↦ row_holds P rows each.1 n v p.1
     ]
 
-listed_ok : {V : Type 0} (o : Option V) (v : V) → listed o ≡ Ok v → o ≡ Some v
+pub listed_ok : {V : Type 0} (o : Option V) (v : V) → listed o ≡ Ok v → o ≡ Some v
 listed_ok None v e = absurd cc
 listed_ok (Some w) v e = cc
 
@@ -53,7 +53,7 @@ not_true : (b : Bool) → (b ≡ true → ⊥) → b ≡ false
 not_true true h = absurd (h refl)
 not_true false h = refl
 
-index_starts : (test : ℕ → Bool) → ((b : ℕ) → test b ≡ true → IsBetween b) → (n : ℕ) → starts test (short_integer (pos n)) ≡ false
+pub index_starts : (test : ℕ → Bool) → ((b : ℕ) → test b ≡ true → IsBetween b) → (n : ℕ) → starts test (short_integer (pos n)) ≡ false
 unfolding short_signed
 index_starts test between n =
     elim (cases_lt n 64) [
@@ -67,7 +67,7 @@ heap_is : (b : ℕ) (a : AbstractHeapType) → heap_at b ≡ Some a → heap_byt
 unfolding heap_at
 heap_is = row_holds (λ n a. heap_byte a ≡ n) heap_rows (search rules)
 
-heap_between : (b : ℕ) → is_listed (heap_at b) ≡ true → IsBetween b
+pub heap_between : (b : ℕ) → is_listed (heap_at b) ≡ true → IsBetween b
 unfolding heap_at
 heap_between b e = let some = listed_some (heap_at b) e in row_holds (λ n a. IsBetween n) heap_rows (search rules) b some.0 some.1
 
@@ -201,10 +201,10 @@ value_byte b e =
       | inr p ↦ let some = listed_some (nullable_at b) p in row_holds (λ n t. (64 < n) × (n < 128)) nullable_rows (search rules) b some.0 some.1
     ]
 
-value_between : (b : ℕ) → starts_value_type b ≡ true → IsBetween b
+pub value_between : (b : ℕ) → starts_value_type b ≡ true → IsBetween b
 value_between b e = let q = value_byte b e in (omega arith, q.1)
 
-empty_between : (b : ℕ) → eqb b 0x40 ≡ true → IsBetween b
+pub empty_between : (b : ℕ) → eqb b 0x40 ≡ true → IsBetween b
 empty_between b e = let q = eqb-true b 0x40 e in (omega arith, omega arith)
 
 not_empty : (b : ℕ) → starts_value_type b ≡ true → eqb b 0x40 ≡ false
@@ -231,12 +231,12 @@ empty_only text (inl h) =
 empty_only text (inr (p, inl h)) = absurd (let e = h.1.1 in cc)
 empty_only text (inr (p, inr h)) = let x = bind_ok (type_index h.1.0) (λ n. Ok (FuncType n)) Empty h.1.1 in absurd (let e = x.2 in cc)
 
-block_value_is : (t : ValType ℕ) (text : List ℕ) → IsBlockType (Value t) text → IsValueType t text
+pub block_value_is : (t : ValType ℕ) (text : List ℕ) → IsBlockType (Value t) text → IsValueType t text
 block_value_is t text (inl h) = absurd (let e = h.1.1 in cc)
 block_value_is t text (inr (p, inl h)) = let same : h.1.0 ≡ t = let e = h.1.1 in cc in subst (λ (u : ValType ℕ). IsValueType u text) same h.1.2
 block_value_is t text (inr (p, inr h)) = let x = bind_ok (type_index h.1.0) (λ n. Ok (FuncType n)) (Value t) h.1.1 in absurd (let e = x.2 in cc)
 
-as_block_value : (t : ValType ℕ) (text : List ℕ) → IsValueType t text → IsBlockType (Value t) text
+pub as_block_value : (t : ValType ℕ) (text : List ℕ) → IsValueType t text → IsBlockType (Value t) text
 as_block_value t text h =
     let first = value_starts t text h in
     inr (starts_not starts_value_type (λ b. eqb b 0x40) not_empty text first, inl (first, (t, refl, h)))

@@ -24,7 +24,7 @@ use Rattle.wasm_body.specs.FunctionTree.{Head, Instruction, LegacyClause}
 use Rattle.wasm_body.specs.TreeOfFunction.{tree_of, instruction_in, items_in, sequences_in}
 use Rattle.wasm_body.specs.FlatText.{TextOperation, Writing, then_by, closers, try_closers, are_handlers, are_lawful, first_type, opened, written, text, texts}
 use Rattle.wasm_body.specs.Bytes.{Numbers, numbering, bytes_of, numbered_text}
-use Rattle.wasm_body.specs.Pairs.{location_pairs}
+use Rattle.wasm_body.specs.Pairs.{pairs_from}
 use Rattle.walrus_body.specs.Emission.{Scope, closers_in, scope_at, scopes_at, first_type_at, Output, Emitter, slots_of, first_emitter, output_of, output_behind, with_operator, with_closer, with_instruction, with_start, with_end, emitter_behind, emitter_behind_all}
 
 abbrev Written : Type 0
@@ -218,13 +218,13 @@ bytes_behind : (m : Bool) (base : ℕ) (o : Output) (xs : List (Located RawOpera
 bytes_behind m base o [] = sym (append-nil o.bytes)
 bytes_behind m base o (x ∷ xs) = bytes_behind m base (output_behind m base o x) xs ∙ append_assoc o.bytes (short x.op) (bytes_of xs)
 
-pairs_with_map : (base : ℕ) (o : Output) (xs : List (Located RawOperation)) → (output_behind_all true base o xs).pairs ≡ o.pairs ++ location_pairs (base + length o.bytes) xs
+pairs_with_map : (base : ℕ) (o : Output) (xs : List (Located RawOperation)) → (output_behind_all true base o xs).pairs ≡ o.pairs ++ pairs_from (base + length o.bytes) xs
 pairs_with_map base o [] = sym (append-nil o.pairs)
 pairs_with_map base o (x ∷ xs) =
     let next : base + length (o.bytes ++ short x.op) ≡ base + length o.bytes + length (short x.op) = omega (arith, length-append o.bytes (short x.op)) in
     pairs_with_map base (output_behind true base o x) xs
-    ∙ append_assoc o.pairs ((x.location, base + length o.bytes) ∷ []) (location_pairs (base + length (o.bytes ++ short x.op)) xs)
-    ∙ ap (λ n. o.pairs ++ (x.location, base + length o.bytes) ∷ location_pairs n xs) next
+    ∙ append_assoc o.pairs ((x.location, base + length o.bytes) ∷ []) (pairs_from (base + length (o.bytes ++ short x.op)) xs)
+    ∙ ap (λ n. o.pairs ++ (x.location, base + length o.bytes) ∷ pairs_from n xs) next
 
 pairs_without : (base : ℕ) (o : Output) (xs : List (Located RawOperation)) → (output_behind_all false base o xs).pairs ≡ o.pairs
 pairs_without base o [] = refl
@@ -234,7 +234,7 @@ abbrev nothing : Output
 nothing = record { bytes = []; pairs = [] }
 
 written_as : (m : Bool) (base : ℕ) (xs : List (Located RawOperation)) → output_behind_all m base nothing xs ≡ output_of m base xs
-written_as true base xs = λ i. record { bytes = bytes_behind true base nothing xs i; pairs = (pairs_with_map base nothing xs ∙ ap (λ n. location_pairs n xs) (add-zero base)) i }
+written_as true base xs = λ i. record { bytes = bytes_behind true base nothing xs i; pairs = (pairs_with_map base nothing xs ∙ ap (λ n. pairs_from n xs) (add-zero base)) i }
 written_as false base xs = λ i. record { bytes = bytes_behind false base nothing xs i; pairs = pairs_without base nothing xs i }
 
 -- the head of the tree in a slot is the sequence there

@@ -9,7 +9,7 @@ use Rattle.wasm_body.specs.Naming.{block_types}
 use Rattle.wasm_body.proofs.Translation.Steps.{bound}
 use Rattle.wasm_body.proofs.Bytes.Openers.{is_block_kind, block_count}
 
-abbrev is_block : {L B : Type 0} → Immediate L B → Bool
+abbrev pub is_block : {L B : Type 0} → Immediate L B → Bool
 is_block (block b) = true
 is_block _ = false
 
@@ -46,7 +46,7 @@ module _ {L B M C E : Type 0} (t : Translation L B M C E) where
   stays : (i j : Immediate M C) → (let r : Result (Immediate M C) E = Ok i in r) ≡ Ok j → is_block j ≡ is_block i
   stays i j e = let same : i ≡ j = cc in ap is_block (sym same)
 
-  block_kept : (i : Immediate L B) (j : Immediate M C) → translate_immediate t i ≡ Ok j → is_block j ≡ is_block i
+  pub block_kept : (i : Immediate L B) (j : Immediate M C) → translate_immediate t i ≡ Ok j → is_block j ≡ is_block i
   block_kept (block b) j e = part_kept (t.block b) block true (λ y. refl) j e
   block_kept (index space n) j e = part_kept (t.index space n) (index space) false (λ y. refl) j e
   block_kept (local n) j e = part_kept (t.local n) local false (λ y. refl) j e
@@ -64,7 +64,7 @@ module _ {L B M C E : Type 0} (t : Translation L B M C E) where
   block_kept (heap h) j e = part_kept (translate_heap t.index h) heap false (λ y. refl) j e
   block_kept (value v) j e = part_kept (translate_value t.index v) value false (λ y. refl) j e
   block_kept (cast c) j e = part_kept (translate_cast t c) cast false (λ y. refl) j e
-  block_kept (number n) j e = stays (number n) j e
+  block_kept (number n) j e = part_kept (t.number n) number false (λ y. refl) j e
   block_kept (i32 z) j e = stays (i32 z) j e
   block_kept (i64 z) j e = stays (i64 z) j e
   block_kept (f32 bits) j e = stays (f32 bits) j e

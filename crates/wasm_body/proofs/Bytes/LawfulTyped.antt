@@ -16,13 +16,15 @@ use Rattle.wasm_body.specs.SourceTree.{Sequence, Empty, Single, Wrapped, IfThen,
 use Rattle.wasm_body.specs.Frames.{Frame, OfWrapper, Consequent, Alternative, TryBody, Handler, HandlerOfAll, Rule, Follows, FollowsIn, function_frames}
 use Rattle.wasm_body.specs.Translation.{translate, translate_immediates}
 use Rattle.wasm_body.specs.Naming.{NamedOperation, Occurrence, Environment, naming, stands, block_types, first_signature, block_signature, has_pick, has_types, named_in}
-use Rattle.wasm_body.specs.Parsing.Accepted.{mark, IsNamed, Lawful}
+use Rattle.wasm_body.specs.Parsing.Accepted.{HasSpelling, mark, IsNamed, Lawful}
 use Rattle.wasm_body.specs.NormalForm.{Typing, typing_of, name_at}
+use Rattle.wasm_body.specs.TextLaws.{LawfulAreTyped}
 use Rattle.wasm_body.specs.Typed.{StandsFor, IsTypedAs, AreTyped}
 use Rattle.wasm_body.proofs.Translation.Steps.{bound}
 use Rattle.wasm_body.proofs.Bytes.Openers.{opens, counted}
 use Rattle.wasm_body.proofs.Bytes.BlockTypes.{length-block_types, block_types-translate}
 use Rattle.wasm_body.proofs.Bytes.Picks.{pick_stands}
+use Rattle.wasm_body.proofs.Structure.Reshown.{is_named_body}
 use Rattle.wasm_body.proofs.Structure.Along.{Each, EachIn, AllMarked, all_of_each}
 
 -- ---- one operator
@@ -65,7 +67,7 @@ test_passed false f u e = absurd cc
 abbrev pub HasKinds : Occurrence → Type 0
 HasKinds x = kinds_of x.spelt.opcode ≡ Some (map kind_of x.spelt.immediates)
 
-named_typed : (env : Environment) (frames : List (Frame Occurrence)) (o : RawOperation) (named : NamedOperation)
+pub named_typed : (env : Environment) (frames : List (Frame Occurrence)) (o : RawOperation) (named : NamedOperation)
     → kinds_of o.opcode ≡ Some (map kind_of o.immediates)
     → named_in env frames o ≡ Ok named → IsTypedAs (typing_of env) (role_of named.opcode) named
 named_typed env fs o named kinds e =
@@ -95,7 +97,7 @@ named_typed env fs o named kinds e =
 module _ {A : Type 0} (R : Rule A) (P : A → Control → Type 0)
     (given : (frames : List (Frame A)) (a : A) (c : Control) → R frames (marked a c) → P a c) where
   mutual
-    each_of_follows : (fs : List (Frame A)) (s : Sequence A) → Follows R fs s → Each P s
+    pub each_of_follows : (fs : List (Frame A)) (s : Sequence A) → Follows R fs s → Each P s
     each_of_follows fs Empty h = tt
     each_of_follows fs (Single a action r) h = (given fs a (Does action) h.0, each_of_follows fs r h.1)
     each_of_follows fs (Wrapped a w b e r) h =
@@ -141,6 +143,13 @@ named_somewhere env xs b lawful =
     (each_of_follows (IsNamed env) (NamedSomewhere env) (λ frames x c h. (frames, h)) function_frames b.sequence lawful.named.0)
     ((function_frames, lawful.named.1), tt))
 
-pub lawful_typed : (env : Environment) (xs : List Occurrence) (b : Body Occurrence) → AllByRecursion HasKinds xs → Lawful env xs b
+lawful_typed : (env : Environment) (xs : List Occurrence) (b : Body Occurrence) → AllByRecursion HasKinds xs → Lawful env xs b
     → AreTyped (typing_of env) (map name_at xs)
 lawful_typed env xs b kinds lawful = all_typed env xs kinds (named_somewhere env xs b lawful)
+
+have_kinds : (xs : List Occurrence) → AllByRecursion HasSpelling xs → AllByRecursion HasKinds xs
+have_kinds [] t = tt
+have_kinds (x ∷ xs) t = (t.0.1.kinds, have_kinds xs t.1)
+
+pub lawful_named : LawfulAreTyped
+lawful_named env xs b spelt lawful = (is_named_body xs b lawful.is_body, lawful_typed env xs b (have_kinds xs spelt) lawful)

@@ -1,30 +1,30 @@
 -- An accepted body's normal form has bytes, under numbers for all ids that its old indices and the types of its sequences
 -- stand for.
-use Rattle.std.specs.Prelude.{◌≡◌, ℕ, suc, zero, ◌<◌, ◌^◌, List, [], ◌∷◌, length, map, true, false, Option, Some, None, unwrap_or, IsOk, is_ok, Result, Ok, Err}
+use Rattle.std.specs.Prelude.{◌≡◌, ℕ, suc, zero, List, [], ◌∷◌, length, map, true, false, Option, Some, None, unwrap_or, IsOk, is_ok, Result, Ok, Err}
 use Rattle.std.specs.List.{AllByRecursion}
-use Rattle.std.proofs.lemmas.Bool.{and_parts, lt-ltb}
+use Rattle.std.proofs.lemmas.Bool.{and_parts}
 use Rattle.std.proofs.Common.{refl, ap, sym, subst, ◌∙◌}
 use Rattle.wasm_ops.specs.Reading.{Many}
 use Rattle.wasm_ops.specs.Numbers.{IsU32}
 use Rattle.wasm_ops.specs.Immediates.{kind_of, SpellsImmediate, SpellsImmediates, IsClause}
-use Rattle.wasm_ops.specs.Operations.{CatchClause, Cast, Immediate, RawImmediate, index, local, label, branch_table, clauses, cast, RawOperation}
+use Rattle.wasm_ops.specs.Operations.{CatchClause, Cast, Immediate, RawImmediate, index, local, label, handler, outer, number, branch_table, clauses, cast, RawOperation}
 use Rattle.wasm_ops.specs.declared.types.BlockType.{BlockType}
 use Rattle.wasm_ops.specs.declared.types.Space.{Space}
 use Rattle.wasm_ops.specs.Spelling.{Spells}
 use Rattle.wasm_ops.proofs.ShortestNumbers.{unsigned_below}
 use Rattle.wasm_ops.proofs.Shortness.{many_length}
 use Rattle.wasm_body.proofs.Bytes.BlockTypes.{FromBlock, blocks_from}
+use Rattle.wasm_body.proofs.Bytes.Fitting.{fits}
 use Rattle.wasm_body.proofs.Bytes.WritableTexts.{Writes, CanWrite, normal_text}
 use Rattle.wasm_body.proofs.Bytes.CarriedKinds.{is_no_local, no_locals, carried_kinds, parts_try, carried_parts}
 use Rattle.wasm_body.specs.declared.error.EmitError.{EmitError}
-use Rattle.wasm_body.specs.declared.error.EmitError.TheVariants.{TooLarge}
 use Rattle.walrus_ir.specs.declared.val_type.InstrSeqType.{InstrSeqType}
 use Rattle.walrus_ir.specs.declared.val_type.InstrSeqType.TheVariants.{Simple}
 use Rattle.walrus_ir.specs.Types.{Signature, pick}
 use Rattle.wasm_body.specs.declared.error.IndexError.{IndexError}
 use Rattle.wasm_body.specs.declared.error.ParseError.TheVariants.{Index}
 use Rattle.wasm_body.specs.declared.error.ParseError.{ParseError}
-use Rattle.wasm_body.specs.Results.{◌>>=◌, unless, faulting}
+use Rattle.wasm_body.specs.Results.{◌>>=◌, faulting}
 use Rattle.wasm_body.specs.Control.{Role, a_block, a_loop, an_if, a_try, a_try_table, a_catch, a_catch_all, a_delegate, an_else, an_end, role_of, Control, End, control_by, control_of, marked}
 use Rattle.wasm_body.specs.Frames.{Frame}
 use Rattle.wasm_body.specs.Translation.{Translation, translate, translate_immediates, Located}
@@ -32,7 +32,7 @@ use Rattle.wasm_body.specs.Naming.{Environment, NamedOperation, Occurrence, nami
 use Rattle.wasm_body.specs.FunctionTree.{Target, Depth}
 use Rattle.wasm_body.specs.NormalForm.{typing_of, type_of, kept_operation, name_at, named_body, normal_form}
 use Rattle.wasm_body.specs.FlatText.{Writing, then_by, typed}
-use Rattle.wasm_body.specs.Bytes.{Numbers, fitting, numbered_block, numbering, numbered_text, bytes_of, tree_bytes}
+use Rattle.wasm_body.specs.Bytes.{Numbers, fitting, fitting_numbers, numbered_block, numbering, numbered_text, bytes_of, tree_bytes}
 use Rattle.wasm_body.specs.SourceTree.{Body}
 use Rattle.wasm_body.specs.Parsing.Accepted.{mark, Lawful}
 use Rattle.wasm_body.proofs.Structure.Along.{AllMarked, each_of, each_reshown}
@@ -44,9 +44,6 @@ use Rattle.wasm_body.proofs.NormalForm.KeptNames.{sure_number, kept_raw, kept_of
 use Rattle.wasm_body.proofs.Translation.Answering.{AnswersWhere, OthersOk, last_ok, immediates_answer}
 
 -- ---- what is spelt fits 32 bits
-
-fits : (n : ℕ) → n < 2 ^ 32 → IsOk (fitting n)
-fits n l = ap (λ b. is_ok (unless b TooLarge >>= λ _. Ok n)) (lt-ltb n (2 ^ 32) l)
 
 pub u32_fits : (n : ℕ) (text : List ℕ) → IsU32 n text → IsOk (fitting n)
 u32_fits n text s = fits n (unsigned_below 32 n text s)
@@ -67,10 +64,13 @@ count_fits n text s = by_answer (fitting n) (u32_fits n text s)
     by_answer (Ok m) h = refl
     by_answer (Err e) h = absurd cc
 
--- the labels and counts of an immediate
+-- the labels, depths, numbers and counts of an immediate
 abbrev Fits : RawImmediate → Type 0
 Fits (local n) = ⊥
 Fits (label l) = IsOk (fitting l)
+Fits (handler n) = IsOk (fitting n)
+Fits (outer n) = IsOk (fitting n)
+Fits (number n) = IsOk (fitting n)
 Fits (branch_table ts d) = IsOk (counted (length ts)) × AllByRecursion (λ l. IsOk (fitting l)) ts × IsOk (fitting d)
 Fits (clauses cs) = IsOk (counted (length cs)) × AllByRecursion (λ (c : CatchClause ℕ). IsOk (fitting c.label)) cs
 Fits (cast c) = IsOk (fitting c.label)
@@ -92,6 +92,9 @@ clauses_fit (suc n) (c ∷ cs) text s = (clause_fits c s.0 s.3, clauses_fit n cs
 spelt_fits : (i : RawImmediate) (text : List ℕ) → SpellsImmediate i text → is_no_local (kind_of i) ≡ true → Fits i
 spelt_fits (local n) text s k = absurd cc
 spelt_fits (label l) text s k = u32_fits l text s
+spelt_fits (handler n) text s k = u32_fits n text s
+spelt_fits (outer n) text s k = u32_fits n text s
+spelt_fits (number n) text s k = u32_fits n text s
 spelt_fits (branch_table ts d) text s k =
     let e : s.0.1 ≡ (ts, d) = cc s.1 in
     let inner = s.2.4 in
@@ -121,9 +124,9 @@ HasText x = (text : List ℕ) × Spells x.spelt text
 
 -- ---- numbers
 
--- There are numbers for the ids that old indices stand for, and for the types of sequences.
+-- There are numbers of 32 bits for the ids that old indices stand for, and for the types of sequences.
 pub record HasNumbers (env : Environment) (to : Numbers) : Type 0 where
-  pub indices : (space : Space) (n id : ℕ) → env.id_of space n ≡ Ok id → IsOk (to.number_of space id)
+  pub indices : (space : Space) (n id : ℕ) → env.id_of space n ≡ Ok id → IsOk ((fitting_numbers to).number_of space id)
   pub blocks : (b : BlockType) (s : Signature) (t : InstrSeqType) → name_block env b ≡ Ok s → pick env.types s ≡ Some t → IsOk (numbered_block to t)
 
 module _ (env : Environment) (to : Numbers) (has : HasNumbers env to) where
@@ -133,11 +136,12 @@ module _ (env : Environment) (to : Numbers) (has : HasNumbers env to) where
   -- what is written of an operator as it is read, in a sequence of the type
   abbrev renumbered : InstrSeqType → Translation ℕ BlockType ℕ BlockType EmitError
   renumbered t = record {
-    index = λ space n. to.number_of space (sure_number (id_at env space n));
-    local = λ n. to.local_number (sure_number (faulting Index (env.local_of n)));
+    index = λ space n. (fitting_numbers to).number_of space (sure_number (id_at env space n));
+    local = λ n. (fitting_numbers to).local_number (sure_number (faulting Index (env.local_of n)));
     label = fitting;
-    handler = λ n. Ok n;
-    outer = λ n. Ok n;
+    handler = fitting;
+    outer = fitting;
+    number = fitting;
     block = λ b. numbered_block to t;
     alignment = λ e. e;
     count = counted;
@@ -151,11 +155,12 @@ module _ (env : Environment) (to : Numbers) (has : HasNumbers env to) where
 
   written_lead : (t : InstrSeqType) → LeadAll (kept_raw env) (typed writing t) (renumbered t)
   written_lead t = record {
-    indices = λ space n q e. same_index (to.number_of space) (sure_number (id_at env space n)) q e;
-    locals = λ n q e. same_index to.local_number (sure_number (faulting Index (env.local_of n))) q e;
+    indices = λ space n q e. same_index ((fitting_numbers to).number_of space) (sure_number (id_at env space n)) q e;
+    locals = λ n q e. same_index (fitting_numbers to).local_number (sure_number (faulting Index (env.local_of n))) q e;
     labels = same_target;
-    handlers = λ n q e. same_index (λ k. Ok k) n q e;
-    outers = λ n q e. same_index (λ k. Ok k) n q e;
+    handlers = λ n q e. same_index fitting n q e;
+    outers = λ n q e. same_index fitting n q e;
+    numbers = λ n q e. same_index fitting n q e;
     alignments = exponent_of-pow;
     counts = λ n u e. refl;
   }
@@ -163,18 +168,19 @@ module _ (env : Environment) (to : Numbers) (has : HasNumbers env to) where
   answers : {A : Type 0} (fs : List (Frame A)) (t : InstrSeqType) → IsOk (numbered_block to t) → AnswersWhere (naming env fs) (renumbered t)
   answers fs t typed = record {
     indices = λ space n h. numbered space n (env.id_of space n) refl h;
-    handlers = λ n h. refl;
-    outers = λ n h. refl;
     blocks = λ b h. typed;
   }
     where
-      numbered : (space : Space) (n : ℕ) (r : Result ℕ IndexError) → env.id_of space n ≡ r → IsOk (faulting Index r) → IsOk (to.number_of space (sure_number (id_at env space n)))
-      numbered space n (Ok id) e h = subst (λ r. IsOk (to.number_of space (sure_number (faulting Index r)))) (sym e) (has.indices space n id e)
+      numbered : (space : Space) (n : ℕ) (r : Result ℕ IndexError) → env.id_of space n ≡ r → IsOk (faulting Index r) → IsOk ((fitting_numbers to).number_of space (sure_number (id_at env space n)))
+      numbered space n (Ok id) e h = subst (λ r. IsOk ((fitting_numbers to).number_of space (sure_number (faulting Index r)))) (sym e) (has.indices space n id e)
       numbered space n (Err f) e h = absurd cc
 
   others_ok : {A : Type 0} (fs : List (Frame A)) (t : InstrSeqType) (i : RawImmediate) → Fits i → OthersOk (naming env fs) (renumbered t) i
   others_ok fs t (local n) f = absurd f
   others_ok fs t (label l) f = f
+  others_ok fs t (handler n) f = f
+  others_ok fs t (outer n) f = f
+  others_ok fs t (number n) f = f
   others_ok fs t (branch_table ts d) f = f
   others_ok fs t (clauses cs) f = f
   others_ok fs t (cast c) f = f

@@ -85,7 +85,7 @@ module _ (marks : Role → Bool) (plain : marks a_plain ≡ false) where
       by_role false k = refl
   role_row test row others b false e h f g = g
 
-  none_marked : (test : ℕ → Bool) (rows : List (ℕ × Role)) → roles_pass test rows ≡ true → (b : ℕ) → test b ≡ false
+  pub none_marked : (test : ℕ → Bool) (rows : List (ℕ × Role)) → roles_pass test rows ≡ true → (b : ℕ) → test b ≡ false
       → marks (unwrap_or (row_at rows b) a_plain) ≡ false
   none_marked test [] h b f = plain
   none_marked test (row ∷ rows) h b f =

@@ -3,7 +3,7 @@ use Rattle.std.proofs.Common.{◌≡◌, ℕ, zero, suc, ◌≤◌, List, [], �
 use Rattle.wasm_body.specs.Control.{Clause, Construct, Block, Loop, TryTable, If, Try, Opens, Marked, marked}
 use Rattle.wasm_body.specs.SourceTree.{Wrapper, OfBlock, OfLoop, OfTryTable, construct_of}
 use Rattle.wasm_body.specs.Machine.{Outcome, Executed, Taken, then, Tags, seek, behind_closer, Label, label, From, Response, Passes, Jumps, arrive, branch, takes, jump, responds_as, enter, other_way, is_else}
-use Rattle.wasm_body.proofs.Executions.Same.{again, go, run_from-go, Same, SameOutside, Agree}
+use Rattle.wasm_body.proofs.Executions.Same.{Bound, the_count, again, go, bounded_run-go, Same, SameOutside, Agree}
 use Rattle.wasm_body.proofs.Executions.Steps.{weaken, step_same, way_same, cond_same, reacts, push}
 
 -- Of a construct whose inside begins at x and whose first part or closer stands at c: r is behind its closer.
@@ -26,18 +26,18 @@ pub exit_outside : {A : Type 0}
     → (a : A) (k : Construct) (caught : Option Tags) (t : ℕ) (x x' c c' r r' : List (Marked A)) (labels labels' : List (Label A))
     → Exits A k
     → Closes x c r → Closes x' c' r' → Agree t r labels r' labels'
-    → ((u n m : ℕ) (tags : Tags) (outcomes : List Outcome) → u ≤ t → length c ≤ n → length c' ≤ m
-    → reacts u n tags (label_of a k caught x) labels outcomes (responds_as tags k caught x)
-    ≡ reacts u m tags (label_of a k caught x') labels' outcomes (responds_as tags k caught x'))
+    → ((β : Bound A) (u n m : ℕ) (tags : Tags) (outcomes : List Outcome) → u ≤ t → length c ≤ n → length c' ≤ m
+    → reacts β u n tags (label_of a k caught x) labels outcomes (responds_as tags k caught x)
+    ≡ reacts the_count u m tags (label_of a k caught x') labels' outcomes (responds_as tags k caught x'))
     → SameOutside t (length c) (length c') (label_of a k caught x ∷ labels) (label_of a k caught x' ∷ labels')
 exit_outside a k caught t x x' c c' r r' ls ls' exits cl cl' agree own_raise =
     push t (length c) (length c') (label_of a k caught x) (label_of a k caught x') ls ls'
     (weaken t t (length r) (length r') (length c) (length c') ls ls' (omega arith) cl.shorter cl'.shorter agree.outside)
-    (λ u n m o hu hn hm.
-    exits (again u) (go u n) (label_of a k caught x) ls o
-    ∙ (ap (λ p. go u n p ls o) cl.behind
-    ∙ (agree.same u n m o hu (omega (arith, cl.shorter)) (omega (arith, cl'.shorter))
-    ∙ (ap (λ p. go u m p ls' o) (sym cl'.behind) ∙ sym (exits (again u) (go u m) (label_of a k caught x') ls' o)))))
+    (λ β u n m o hu hn hm.
+    exits (again β u) (go β u n) (label_of a k caught x) ls o
+    ∙ (ap (λ p. go β u n p ls o) cl.behind
+    ∙ (agree.same β u n m o hu (omega (arith, cl.shorter)) (omega (arith, cl'.shorter))
+    ∙ (ap (λ p. go the_count u m p ls' o) (sym cl'.behind) ∙ sym (exits (again the_count u) (go the_count u m) (label_of a k caught x') ls' o)))))
     own_raise refl
 
 -- where the construct passes exceptions on
@@ -48,25 +48,25 @@ pub passing_outside : {A : Type 0}
     → Closes x c r → Closes x' c' r' → Agree t r labels r' labels'
     → SameOutside t (length c) (length c') (label_of a k caught x ∷ labels) (label_of a k caught x' ∷ labels')
 passing_outside a k caught t x x' c c' r r' ls ls' exits passes cl cl' agree =
-    exit_outside a k caught t x x' c c' r r' ls ls' exits cl cl' agree λ u n m s o hu hn hm.
-    ap (reacts u n s (label_of a k caught x) ls o) (passes s x)
-    ∙ (agree.outside.raises u n m s o 0 hu (omega (arith, cl.shorter)) (omega (arith, cl'.shorter))
-    ∙ sym (ap (reacts u m s (label_of a k caught x') ls' o) (passes s x')))
+    exit_outside a k caught t x x' c c' r r' ls ls' exits cl cl' agree λ β u n m s o hu hn hm.
+    ap (reacts β u n s (label_of a k caught x) ls o) (passes s x)
+    ∙ (agree.outside.raises β u n m s o 0 hu (omega (arith, cl.shorter)) (omega (arith, cl'.shorter))
+    ∙ sym (ap (reacts the_count u m s (label_of a k caught x') ls' o) (passes s x')))
 
 -- the clauses of a `try_table`
 jump_same : {A : Type 0}
-    → (cs : List Clause) (i : ℕ) (tags : Tags) (l l' : Label A) (t u n m b b' : ℕ) (outcomes : List Outcome) (labels labels' : List (Label A))
+    → (cs : List Clause) (i : ℕ) (tags : Tags) (l l' : Label A) (β : Bound A) (t u n m b b' : ℕ) (outcomes : List Outcome) (labels labels' : List (Label A))
     → l.opener ≡ l'.opener → SameOutside t b b' labels labels' → u ≤ t → b ≤ n → b' ≤ m
-    → reacts u n tags l labels outcomes (jump tags i cs) ≡ reacts u m tags l' labels' outcomes (jump tags i cs)
-jump_same [] i s l l' t u n m b b' o ls ls' a e hu hn hm = e.raises u n m s o 0 hu hn hm
-jump_same {A = A} (c ∷ cs) i s l l' t u n m b b' o ls ls' a e hu hn hm =
-    by_clause (takes s c.tag) (jump s (suc i) cs) (jump s (suc i) cs) (jump_same cs (suc i) s l l' t u n m b b' o ls ls' a e hu hn hm)
+    → reacts β u n tags l labels outcomes (jump tags i cs) ≡ reacts the_count u m tags l' labels' outcomes (jump tags i cs)
+jump_same [] i s l l' β t u n m b b' o ls ls' a e hu hn hm = e.raises β u n m s o 0 hu hn hm
+jump_same {A = A} (c ∷ cs) i s l l' β t u n m b b' o ls ls' a e hu hn hm =
+    by_clause (takes s c.tag) (jump s (suc i) cs) (jump s (suc i) cs) (jump_same cs (suc i) s l l' β t u n m b b' o ls ls' a e hu hn hm)
   where
-    by_clause : (y : Bool) (q q' : Response A) → reacts u n s l ls o q ≡ reacts u m s l' ls' o q'
-        → reacts u n s l ls o (cond y (Jumps i c.tag c.label) q) ≡ reacts u m s l' ls' o (cond y (Jumps i c.tag c.label) q')
+    by_clause : (y : Bool) (q q' : Response A) → reacts β u n s l ls o q ≡ reacts the_count u m s l' ls' o q'
+        → reacts β u n s l ls o (cond y (Jumps i c.tag c.label) q) ≡ reacts the_count u m s l' ls' o (cond y (Jumps i c.tag c.label) q')
     by_clause true q q' h =
-        ap (then (Taken l.opener i c.tag)) (e.branches u n m c.label o hu hn hm)
-        ∙ ap (λ x. then (Taken x i c.tag) (branch (again u) (go u m) c.label ls' o)) a
+        ap (then (Taken l.opener i c.tag)) (e.branches β u n m c.label o hu hn hm)
+        ∙ ap (λ x. then (Taken x i c.tag) (branch (again the_count u) (go the_count u m) c.label ls' o)) a
     by_clause false q q' h = h
 
 -- ---- openers that ask for nothing
@@ -76,10 +76,10 @@ AsksNothing If = ⊥
 AsksNothing _ = Unit {0}
 
 enters : {A : Type 0} → (k : Construct) → AsksNothing k
-    → (u n : ℕ) (a : A) (x : List (Marked A)) (labels : List (Label A)) (outcomes : List Outcome)
-    → enter (go u n) k a x labels outcomes ≡ then (Executed a) (go u n x (label a k x ∷ labels) outcomes)
-enters If h u n a x ls o = absurd h
-enters _ h u n a x ls o = refl
+    → (β : Bound A) (u n : ℕ) (a : A) (x : List (Marked A)) (labels : List (Label A)) (outcomes : List Outcome)
+    → enter (go β u n) k a x labels outcomes ≡ then (Executed a) (go β u n x (label a k x ∷ labels) outcomes)
+enters If h β u n a x ls o = absurd h
+enters _ h β u n a x ls o = refl
 
 -- the same from behind an opener
 abbrev SameInside : {A : Type 0} → A → Construct → ℕ → List (Marked A) → List (Label A) → List (Marked A) → List (Label A) → Type 0
@@ -89,8 +89,8 @@ opened_same : {A : Type 0} → (k : Construct) → AsksNothing k
     → (a : A) (t : ℕ) (x x' : List (Marked A)) (labels labels' : List (Label A)) → SameInside a k t x labels x' labels'
     → Same t (marked a (Opens k) ∷ x) labels (marked a (Opens k) ∷ x') labels'
 opened_same k h a t x x' ls ls' s =
-    step_same (marked a (Opens k)) (marked a (Opens k)) t x x' ls ls' λ u n m o hu hn hm.
-    enters k h u n a x ls o ∙ (ap (then (Executed a)) (s u n m o hu hn hm) ∙ sym (enters k h u m a x' ls' o))
+    step_same (marked a (Opens k)) (marked a (Opens k)) t x x' ls ls' λ β u n m o hu hn hm.
+    enters k h β u n a x ls o ∙ (ap (then (Executed a)) (s β u n m o hu hn hm) ∙ sym (enters k h the_count u m a x' ls' o))
 
 pub try_same : {A : Type 0} → (a : A) (t : ℕ) (x x' : List (Marked A)) (labels labels' : List (Label A))
     → SameInside a Try t x labels x' labels'
@@ -101,25 +101,26 @@ try_same = opened_same Try tt
 
 loop_outside : {A : Type 0} → (a : A) (t v b b' : ℕ) (x x' : List (Marked A)) (labels labels' : List (Label A)) → v ≤ t
     → SameOutside t b b' labels labels'
-    → ((u : ℕ) (outcomes : List Outcome) → u ≤ v → again u x (label a Loop x ∷ labels) outcomes ≡ again u x' (label a Loop x' ∷ labels') outcomes)
+    → ((β : Bound A) (u : ℕ) (outcomes : List Outcome) → u ≤ v
+    → again β u x (label a Loop x ∷ labels) outcomes ≡ again the_count u x' (label a Loop x' ∷ labels') outcomes)
     → SameOutside v b b' (label a Loop x ∷ labels) (label a Loop x' ∷ labels')
 loop_outside a t v b b' x x' ls ls' hv e h =
     push v b b' (label a Loop x) (label a Loop x') ls ls' (weaken t v b b' b b' ls ls' hv (omega arith) (omega arith) e)
-    (λ u n m o hu hn hm. h u o hu) (λ u n m s o hu hn hm. e.raises u n m s o 0 (omega arith) hn hm) refl
+    (λ β u n m o hu hn hm. h β u o hu) (λ β u n m s o hu hn hm. e.raises β u n m s o 0 (omega arith) hn hm) refl
 
 -- the turns of a loop that are paid: by what its inside does with fewer turns left
 turns_same : {A : Type 0} → (a : A) (t b b' : ℕ) (x x' : List (Marked A)) (labels labels' : List (Label A))
     → SameOutside t b b' labels labels'
     → ((v : ℕ) → v ≤ t → SameOutside v b b' (label a Loop x ∷ labels) (label a Loop x' ∷ labels') → SameInside a Loop v x labels x' labels')
-    → (v : ℕ) → v ≤ t → (u : ℕ) (outcomes : List Outcome) → u ≤ v
-    → again u x (label a Loop x ∷ labels) outcomes ≡ again u x' (label a Loop x' ∷ labels') outcomes
-turns_same a t b b' x x' ls ls' e inside v hv zero o hu = refl
-turns_same a t b b' x x' ls ls' e inside zero hv (suc u) o hu = absurd (omega arith)
-turns_same a t b b' x x' ls ls' e inside (suc v) hv (suc u) o hu =
-    run_from-go u x (label a Loop x ∷ ls) o
+    → (v : ℕ) → v ≤ t → (β : Bound A) (u : ℕ) (outcomes : List Outcome) → u ≤ v
+    → again β u x (label a Loop x ∷ labels) outcomes ≡ again the_count u x' (label a Loop x' ∷ labels') outcomes
+turns_same a t b b' x x' ls ls' e inside v hv β zero o hu = refl
+turns_same a t b b' x x' ls ls' e inside zero hv β (suc u) o hu = absurd (omega arith)
+turns_same a t b b' x x' ls ls' e inside (suc v) hv β (suc u) o hu =
+    bounded_run-go β u x (label a Loop x ∷ ls) o
     ∙ (inside v (omega arith) (loop_outside a t v b b' x x' ls ls' (omega arith) e (turns_same a t b b' x x' ls ls' e inside v (omega arith)))
-    u (length x) (length x') o (omega arith) (omega arith) (omega arith)
-    ∙ sym (run_from-go u x' (label a Loop x' ∷ ls') o))
+    β u (β.of x) (length x') o (omega arith) (β.suffices x) (omega arith)
+    ∙ sym (bounded_run-go the_count u x' (label a Loop x' ∷ ls') o))
 
 wrapper_outside : {A : Type 0}
     → (w : Wrapper) (a : A) (t : ℕ) (x x' c c' r r' : List (Marked A)) (labels labels' : List (Label A)) → Closes x c r
@@ -134,8 +135,8 @@ wrapper_outside OfLoop a t x x' c c' r r' ls ls' cl cl' agree inside =
     loop_outside a t t (length c) (length c') x x' ls ls' (omega arith) e
     (turns_same a t (length c) (length c') x x' ls ls' e inside t (omega arith))
 wrapper_outside (OfTryTable cs) a t x x' c c' r r' ls ls' cl cl' agree inside =
-    exit_outside a (TryTable cs) None t x x' c c' r r' ls ls' (λ next on l ks o. refl) cl cl' agree λ u n m s o hu hn hm.
-    jump_same cs 0 s (label a (TryTable cs) x) (label a (TryTable cs) x') t u n m (length r) (length r') o ls ls' refl agree.outside hu
+    exit_outside a (TryTable cs) None t x x' c c' r r' ls ls' (λ next on l ks o. refl) cl cl' agree λ β u n m s o hu hn hm.
+    jump_same cs 0 s (label a (TryTable cs) x) (label a (TryTable cs) x') β t u n m (length r) (length r') o ls ls' refl agree.outside hu
     (omega (arith, cl.shorter)) (omega (arith, cl'.shorter))
 
 wrapper_asks : (w : Wrapper) → AsksNothing (construct_of w)
@@ -164,10 +165,10 @@ if_outside a t x x' c c' r r' ls ls' cl cl' agree =
 -- by its consequent, and by the other way
 pub if_same : {A : Type 0} → (a : A) (t : ℕ) (x x' : List (Marked A)) (labels labels' : List (Label A))
     → SameInside a If t x labels x' labels'
-    → ((u n m : ℕ) (outcomes : List Outcome) → u ≤ t → length x ≤ n → length x' ≤ m
-    → other_way (go u n) (label a If x) labels outcomes (seek is_else 0 0 x)
-    ≡ other_way (go u m) (label a If x') labels' outcomes (seek is_else 0 0 x'))
+    → ((β : Bound A) (u n m : ℕ) (outcomes : List Outcome) → u ≤ t → length x ≤ n → length x' ≤ m
+    → other_way (go β u n) (label a If x) labels outcomes (seek is_else 0 0 x)
+    ≡ other_way (go the_count u m) (label a If x') labels' outcomes (seek is_else 0 0 x'))
     → Same t (marked a (Opens If) ∷ x) labels (marked a (Opens If) ∷ x') labels'
 if_same a t x x' ls ls' s q =
-    step_same (marked a (Opens If)) (marked a (Opens If)) t x x' ls ls' λ u n m o hu hn hm.
-    way_same a _ _ (λ w o. cond_same w _ _ _ _ (s u n m o hu hn hm) (q u n m o hu hn hm)) o
+    step_same (marked a (Opens If)) (marked a (Opens If)) t x x' ls ls' λ β u n m o hu hn hm.
+    way_same a _ _ (λ w o. cond_same w _ _ _ _ (s β u n m o hu hn hm) (q β u n m o hu hn hm)) o

@@ -4,7 +4,7 @@ use Rattle.std.proofs.Common.{◌≡◌, ℕ, zero, suc, ◌+◌, List, [], ◌�
 use Rattle.std.specs.Prelude.{slice_get}
 use Rattle.wasm_body.specs.Control.{Action, Nop, Plain, Branch, ConditionalBranch, TableBranch, Return, Unreachable, Throw, ThrowRef, Rethrow, TailCall, Clause, Construct, Block, Loop, TryTable, If, Try, Control, Does, Opens, Catch, Marked, marked}
 use Rattle.wasm_body.proofs.Structure.Reshown.{remarked}
-use Rattle.wasm_body.specs.Machine.{Shape, Opener, Part, Closer, Other, shape_of, Found, found, seek_at, seek, tail, behind_closer, Tags, has, Outcome, Go, Trap, Raise, Way, Entry, Executed, Taken, TailCalled, TurnsOut, Mismatch, Run, ends, then, Label, label, handler, From, Response, Passes, Hands, Jumps, Enters, takes, jump, catches, clause_at, clause_found, try_responds, responds_as, responds, arrive, branch, react, raise, caught_at, rethrow, target, ask, ask_way, ask_entry, act, is_else, other_at, other_way, enter, leave, step, straight, run_from, run}
+use Rattle.wasm_body.specs.Machine.{Shape, Opener, Part, Closer, Other, shape_of, Found, found, seek_at, seek, tail, behind_closer, Tags, has, Outcome, Go, Trap, Raise, Way, Entry, Executed, Taken, TailCalled, TurnsOut, Mismatch, Run, ends, then, Label, label, handler, From, Response, Passes, Hands, Jumps, Enters, takes, jump, catches, clause_at, clause_found, try_responds, responds_as, responds, arrive, branch, react, raise, caught_at, rethrow, target, ask, ask_way, ask_entry, act, is_else, other_at, other_way, enter, leave, step, straight, bounded_run, run}
 use Rattle.wasm_body.specs.Places.{show_run, placed_from, run_by_place, shown_by}
 
 -- ---- operators, labels and the rest with something else shown
@@ -218,13 +218,13 @@ module _ (A B : Type 0) (f : A → B) where
   length_moved [] = refl
   length_moved (x ∷ xs) = ap suc (length_moved xs)
 
-  from_moved : (t : ℕ) → Natural f (run_from t) (run_from t)
+  from_moved : (t : ℕ) → Natural f (bounded_run length t) (bounded_run length t)
   from_moved zero r ls o =
       ap (λ n. straight (λ r l o. ends TurnsOut) n (moved f r) (relabels f ls) o) (length_moved r)
       ∙ straight_moved (λ r l o. ends TurnsOut) (λ r l o. ends TurnsOut) (λ r ls o. refl) (length r) r ls o
   from_moved (suc t) r ls o =
-      ap (λ n. straight (run_from t) n (moved f r) (relabels f ls) o) (length_moved r)
-      ∙ straight_moved (run_from t) (run_from t) (from_moved t) (length r) r ls o
+      ap (λ n. straight (bounded_run length t) n (moved f r) (relabels f ls) o) (length_moved r)
+      ∙ straight_moved (bounded_run length t) (bounded_run length t) (from_moved t) (length r) r ls o
 
 -- the run of operators that are shown in another way
 run_moved : {A B : Type 0} → (f : A → B) (xs : List (Marked A)) (outcomes : List Outcome) (turns : ℕ)

@@ -1,18 +1,17 @@
 -- The law of executions: the text of a normal form is that of a right rewriting of the body.
-use Rattle.std.proofs.Common.{◌≡◌, ℕ, List, [], ◌∷◌, map, Some, refl, sym, ap, ◌∙◌}
-use Rattle.std.specs.List.{AllByRecursion}
+use Rattle.std.proofs.Common.{◌≡◌, ℕ, List, map, Some, refl, sym, ap, ◌∙◌}
 use Rattle.wasm_body.specs.Control.{Action, Nop, Plain, Branch, ConditionalBranch, TableBranch, Return, Unreachable, Throw, ThrowRef, Rethrow, TailCall, Control, control_of}
 use Rattle.wasm_body.specs.SourceTree.{Sequence, Empty, Single, Wrapped, IfThen, IfElse, TryCatch, TryDelegate, Clauses, Ended, Catches, CatchesAll, Body}
-use Rattle.wasm_body.specs.Naming.{Occurrence}
 use Rattle.wasm_body.specs.NormalForm.{fate, typing_of, name_at, named_body}
 use Rattle.wasm_body.specs.TextLaws.{IsNamedBody}
-use Rattle.wasm_body.proofs.NormalForm.Rewritten.{Named, single_with_fate, rewritten, rewritten_clauses, rewritten_body, rewritten_list, has_text, text_body}
-use Rattle.wasm_body.proofs.Bytes.LawfulTyped.{HasKinds, lawful_typed}
-use Rattle.wasm_body.proofs.Structure.Reshown.{is_named_body}
+use Rattle.wasm_body.proofs.NormalForm.Rewritten.{Named, single_with_fate, rewritten, rewritten_clauses, rewritten_body, rewritten_list}
+use Rattle.wasm_body.proofs.NormalForm.NamedTexts.{has_text, text_body}
+use Rattle.wasm_body.proofs.Bytes.LawfulTyped.{lawful_named}
 use Rattle.wasm_body.specs.Machine.{Outcome, run}
 use Rattle.wasm_body.specs.Places.{show_run, run_by_place, shown_by}
-use Rattle.wasm_body.specs.ExecutionLaws.{controls, HasSpelling, ExecutionsKept}
+use Rattle.wasm_body.specs.ExecutionLaws.{controls, NamedExecutionsKept, ExecutionsKept, RunsShowOperators}
 use Rattle.wasm_body.proofs.Executions.RewritesTo.{RewritesTo, empty, drop_nop, keep, cut, wrapped, if_else, add_else, try_catch, try_delegate, ClausesRewriteTo, ended, catches_one, catches_all, runs_alike}
+use Rattle.wasm_body.proofs.Executions.Same.{the_count}
 use Rattle.wasm_body.proofs.Executions.Natural.{shown_by-run}
 
 -- ---- what the normal form does is right
@@ -56,28 +55,33 @@ shown_alike v b c f xs ys hx hy o t =
     let control : Named → Control = λ x. control_of x.op in
     shown_by-run control v xs o t
     ∙ (ap (λ l. show_run (λ a. Some (v a)) (run l o t)) hx
-    ∙ (ap (show_run (λ a. Some (v a))) (runs_alike b c f o t)
+    ∙ (ap (show_run (λ a. Some (v a))) (runs_alike b c f the_count o t)
     ∙ (ap (λ l. show_run (λ a. Some (v a)) (run l o t)) (sym hy)
     ∙ sym (shown_by-run control v ys o t))))
 
 -- ---- the law
 
-have_kinds : (xs : List Occurrence) → AllByRecursion HasSpelling xs → AllByRecursion HasKinds xs
-have_kinds [] h = tt
-have_kinds (x ∷ xs) h = (h.0.1.kinds, have_kinds xs h.1)
+pub named_executions_kept : NamedExecutionsKept
+named_executions_kept m xs b hx h =
+    let ys = rewritten_list b in
+    let c = rewritten_body b in
+    let rewrites = rewritten_rewrites b.sequence in
+    let hy = text_body m xs b hx h in
+    record {
+      text = ys;
+      is_text = has_text m xs b hx h;
+      alike = record {
+        operators = λ o t. shown_alike (λ x. x.op) b c rewrites xs ys hx hy o t;
+        locations = λ o t. shown_alike (λ x. x.location) b c rewrites xs ys hx hy o t;
+      };
+    }
 
 pub executions_kept : ExecutionsKept
 executions_kept env xs b spelt lawful =
-    let m = typing_of env in
-    let zs = map name_at xs in
-    let c = named_body b in
-    let hz = is_named_body xs b lawful.is_body in
-    let h = lawful_typed env xs b (have_kinds xs spelt) lawful in
-    let hy = text_body m zs c hz h in (
-      rewritten_list c,
-      has_text m zs c hz h,
-      record {
-        operators = λ o t. shown_alike (λ x. x.op) c (rewritten_body c) (rewritten_rewrites c.sequence) zs (rewritten_list c) hz hy o t;
-        locations = λ o t. shown_alike (λ x. x.location) c (rewritten_body c) (rewritten_rewrites c.sequence) zs (rewritten_list c) hz hy o t;
-      },
-    )
+    let named = lawful_named env xs b spelt lawful in named_executions_kept (typing_of env) (map name_at xs) (named_body b) named.0 named.1
+
+pub runs_by_place : RunsShowOperators
+runs_by_place xs o t = record {
+  operators = shown_by-run (λ x. control_of x.op) (λ x. x.op) xs o t;
+  locations = shown_by-run (λ x. control_of x.op) (λ x. x.location) xs o t;
+}

@@ -4,8 +4,8 @@ use Rattle.wasm_body.specs.Control.{Action, Nop, Control, Construct, If, Try, Op
 use Rattle.wasm_body.specs.SourceTree.{Sequence, Empty, Single, Wrapped, IfThen, IfElse, TryCatch, TryDelegate, Clauses, Ended, Catches, CatchesAll, Wrapper, construct_of, text, clauses_text, Body, body_text}
 use Rattle.wasm_body.specs.NormalForm.{fate, Cuts}
 use Rattle.wasm_body.specs.TextLaws.{Stops}
-use Rattle.wasm_body.specs.Machine.{Outcome, run, Closer, shape_of, seek, seek_at, behind_closer, tail, Label, label, handler, catches, is_else, other_at}
-use Rattle.wasm_body.proofs.Executions.Same.{go, run_from-go, Same, Agree, seek_text, text_longer, clauses_longer}
+use Rattle.wasm_body.specs.Machine.{Outcome, bounded_run, run, Closer, shape_of, seek, seek_at, behind_closer, tail, Label, label, handler, catches, is_else, other_at}
+use Rattle.wasm_body.proofs.Executions.Same.{Bound, the_count, go, bounded_run-go, Same, Agree, seek_text, text_longer, clauses_longer}
 use Rattle.wasm_body.proofs.Executions.Steps.{weaken, nop_same, kept_same, last_same, stop_same, last_end, no_labels}
 use Rattle.wasm_body.proofs.Executions.Constructs.{Closes, wrapped_same, if_outside, if_same, try_same}
 use Rattle.wasm_body.proofs.Executions.Handlers.{Handled, try_outside, handler_outside, ended_handled, delegate_handled, catch_handled, catch_all_handled}
@@ -112,7 +112,7 @@ module _ {A : Type 0} (t : ℕ) (r r' : List (Marked A)) (labels labels' : List 
         outside = outside;
         same =
             stop_same End End e e' v r r' r r' l l' labels labels' tt tt cl.behind cl'.behind (omega arith) (omega arith)
-            (λ u n m o hu hn hm. agree.same u n m o (omega arith) hn hm);
+            (λ β u n m o hu hn hm. agree.same β u n m o (omega arith) hn hm);
       })
 
   -- an `if` whose consequent is followed by p and by p', each an `else` or the `end`, where the other way does the same
@@ -120,9 +120,9 @@ module _ {A : Type 0} (t : ℕ) (r r' : List (Marked A)) (labels labels' : List 
       → Closes (text b (marked e p ∷ z)) (marked e p ∷ z) r → Closes (text b' (marked e' p' ∷ z')) (marked e' p' ∷ z') r'
       → length r ≤ length z → length r' ≤ length z'
       → (seek is_else 0 0 (marked e p ∷ z)).rest ≡ marked e p ∷ z → (seek is_else 0 0 (marked e' p' ∷ z')).rest ≡ marked e' p' ∷ z'
-      → ((u n m : ℕ) (outcomes : List Outcome) → u ≤ t → length z ≤ n → length z' ≤ m
-      → other_at (go u n) (label a If (text b (marked e p ∷ z))) labels outcomes (marked e p ∷ z)
-      ≡ other_at (go u m) (label a If (text b' (marked e' p' ∷ z'))) labels' outcomes (marked e' p' ∷ z'))
+      → ((β : Bound A) (u n m : ℕ) (outcomes : List Outcome) → u ≤ t → length z ≤ n → length z' ≤ m
+      → other_at (go β u n) (label a If (text b (marked e p ∷ z))) labels outcomes (marked e p ∷ z)
+      ≡ other_at (go the_count u m) (label a If (text b' (marked e' p' ∷ z'))) labels' outcomes (marked e' p' ∷ z'))
       → SameOpened If a (text b (marked e p ∷ z)) (text b' (marked e' p' ∷ z'))
   if_alike a e e' p p' stops stops' b b' body z z' cl cl' lz lz' here here' other =
       let c = marked e p ∷ z in
@@ -136,27 +136,27 @@ module _ {A : Type 0} (t : ℕ) (r r' : List (Marked A)) (labels labels' : List 
         outside = if_outside a t x x' c c' r r' labels labels' cl cl' agree;
         same = stopped p p' e e' z z' l l' stops stops' cl.behind cl'.behind lz lz';
       }))
-      (λ u n m o hu hn hm.
-      ap (other_at (go u n) l labels o) (ap (λ f. f.rest) (seek_text b is_else 0 0 c) ∙ here)
-      ∙ (other u n m o hu (omega (arith, text_longer b c)) (omega (arith, text_longer b' c'))
-      ∙ sym (ap (other_at (go u m) l' labels' o) (ap (λ f. f.rest) (seek_text b' is_else 0 0 c') ∙ here'))))
+      (λ β u n m o hu hn hm.
+      ap (other_at (go β u n) l labels o) (ap (λ f. f.rest) (seek_text b is_else 0 0 c) ∙ here)
+      ∙ (other β u n m o hu (omega (arith, text_longer b c)) (omega (arith, text_longer b' c'))
+      ∙ sym (ap (other_at (go the_count u m) l' labels' o) (ap (λ f. f.rest) (seek_text b' is_else 0 0 c') ∙ here'))))
 
   if_then_alike : (a e e' : A) (b b' : Sequence A) → Alike b b' → SameOpened If a (text b (marked e End ∷ r)) (text b' (marked e' End ∷ r'))
   if_then_alike a e e' b b' body =
       if_alike a e e' End End tt tt b b' body r r' (closes b e End r refl) (closes b' e' End r' refl) (omega arith) (omega arith) refl refl
-      (λ u n m o hu hn hm. agree.same u n m o hu hn hm)
+      (λ β u n m o hu hn hm. agree.same β u n m o hu hn hm)
 
   -- an `end` on one side alone
   end_alone : (e : A) (l : Label A) → behind_closer l.behind ≡ r' → Same t r labels (marked e End ∷ r') (l ∷ labels')
-  end_alone e l h u n zero o hu hn hm = absurd (omega arith)
-  end_alone e l h u n (suc m) o hu hn hm = agree.same u n m o hu hn (omega arith) ∙ ap (λ k. go u m k labels' o) (sym h)
+  end_alone e l h β u n zero o hu hn hm = absurd (omega arith)
+  end_alone e l h β u n (suc m) o hu hn hm = agree.same β u n m o hu hn (omega arith) ∙ ap (λ k. go the_count u m k labels' o) (sym h)
 
   add_else_alike : (a e l' e' : A) (b b' : Sequence A) → Alike b b'
       → SameOpened If a (text b (marked e End ∷ r)) (text b' (marked l' Else ∷ marked e' End ∷ r'))
   add_else_alike a e l' e' b b' body =
       let cl' = closes_else b' Empty l' e' r' in
       if_alike a e l' End Else tt tt b b' body r (marked e' End ∷ r') (closes b e End r refl) cl' (omega arith) (omega arith) refl refl
-      (λ u n m o hu hn hm. end_alone e' (label a If (text b' (marked l' Else ∷ marked e' End ∷ r'))) cl'.behind u n m o hu hn hm)
+      (λ β u n m o hu hn hm. end_alone e' (label a If (text b' (marked l' Else ∷ marked e' End ∷ r'))) cl'.behind β u n m o hu hn hm)
 
   if_else_alike : (a i i' e e' : A) (b b' d d' : Sequence A) → Alike b b' → Alike d d'
       → SameOpened If a (text b (marked i Else ∷ text d (marked e End ∷ r))) (text b' (marked i' Else ∷ text d' (marked e' End ∷ r')))
@@ -304,10 +304,11 @@ body_agrees e e' t = record { outside = no_labels t (length (marked e End ∷ []
 pub bodies_alike : {A : Type 0} → (b b' : Body A) → RewritesTo b.sequence b'.sequence → (t : ℕ) → Same t (body_text b) [] (body_text b') []
 bodies_alike b b' f t = alike f t (marked b.close End ∷ []) (marked b'.close End ∷ []) [] [] (body_agrees b.close b'.close t)
 
-pub runs_alike : {A : Type 0} → (b b' : Body A) → RewritesTo b.sequence b'.sequence → (outcomes : List Outcome) (turns : ℕ)
-    → run (body_text b) outcomes turns ≡ run (body_text b') outcomes turns
-runs_alike b b' f o t =
+pub runs_alike : {A : Type 0} → (b b' : Body A) → RewritesTo b.sequence b'.sequence
+    → (β : Bound A) (outcomes : List Outcome) (turns : ℕ)
+    → bounded_run β.of turns (body_text b) [] outcomes ≡ run (body_text b') outcomes turns
+runs_alike b b' f β o t =
     let x = body_text b in
     let x' = body_text b' in
-    run_from-go t x [] o
-    ∙ (bodies_alike b b' f t t (length x) (length x') o (omega arith) (omega arith) (omega arith) ∙ sym (run_from-go t x' [] o))
+    bounded_run-go β t x [] o
+    ∙ (bodies_alike b b' f t β t (β.of x) (length x') o (omega arith) (β.suffices x) (omega arith) ∙ sym (bounded_run-go the_count t x' [] o))

@@ -2,32 +2,42 @@
 use Rattle.std.proofs.Common.{◌≡◌, ℕ, zero, suc, ◌≤◌, List, ◌∷◌, length, Bool, refl, ◌∙◌, arith}
 use Rattle.wasm_body.specs.Control.{Control, Else, End, Delegate, Marked, marked}
 use Rattle.wasm_body.specs.SourceTree.{Sequence, Empty, Single, Wrapped, IfThen, IfElse, TryCatch, TryDelegate, Clauses, Ended, Catches, CatchesAll, text, clauses_text}
-use Rattle.wasm_body.specs.Machine.{Outcome, TurnsOut, ends, Tags, seek, Label, From, branch, raise, caught_at, straight, run_from}
+use Rattle.wasm_body.specs.Machine.{Outcome, TurnsOut, ends, Tags, seek, Label, From, branch, raise, caught_at, straight, bounded_run}
+
+-- a bound on the operators of a turn, by the place where it begins: no less than their count
+pub record Bound (A : Type 0) : Type 0 where
+  pub of : List (Marked A) → ℕ
+  pub suffices : (rest : List (Marked A)) → length rest ≤ of rest
+
+-- the count itself, by which the machine runs
+abbrev pub the_count : {A : Type 0} → Bound A
+the_count = record { of = length; suffices = λ rest. omega arith }
 
 -- how a run goes on behind a turn, with so many turns left
-abbrev pub again : {A : Type 0} → (turns : ℕ) → From A
-again zero = λ rest labels outcomes. ends TurnsOut
-again (suc turns) = run_from turns
+abbrev pub again : {A : Type 0} → Bound A → (turns : ℕ) → From A
+again bound zero = λ rest labels outcomes. ends TurnsOut
+again bound (suc turns) = bounded_run bound.of turns
 
 -- how it goes on within the turn, for at most so many operators
-abbrev pub go : {A : Type 0} → (turns count : ℕ) → From A
-go turns count = straight (again turns) count
+abbrev pub go : {A : Type 0} → Bound A → (turns count : ℕ) → From A
+go bound turns count = straight (again bound turns) count
 
-pub run_from-go : {A : Type 0} → (turns : ℕ) (rest : List (Marked A)) (labels : List (Label A)) (outcomes : List Outcome)
-    → run_from turns rest labels outcomes ≡ go turns (length rest) rest labels outcomes
-run_from-go zero r ls o = refl
-run_from-go (suc u) r ls o = refl
+pub bounded_run-go : {A : Type 0} → (bound : Bound A) (turns : ℕ) (rest : List (Marked A)) (labels : List (Label A)) (outcomes : List Outcome)
+    → bounded_run bound.of turns rest labels outcomes ≡ go bound turns (bound.of rest) rest labels outcomes
+bounded_run-go bound zero r ls o = refl
+bounded_run-go bound (suc u) r ls o = refl
 
--- The machine does the same from two places, with at most t turns left, and whatever counts are enough.
+-- The machine does the same from two places, with at most t turns left, and whatever counts are enough; and from the first
+-- with whatever bound.
 abbrev pub Same : {A : Type 0} → (t : ℕ) → List (Marked A) → List (Label A) → List (Marked A) → List (Label A) → Type 0
-Same t r ls r' ls' = (u n m : ℕ) (outcomes : List Outcome) → u ≤ t → length r ≤ n → length r' ≤ m → go u n r ls outcomes ≡ go u m r' ls' outcomes
+Same {A = A} t r ls r' ls' = (β : Bound A) (u n m : ℕ) (outcomes : List Outcome) → u ≤ t → length r ≤ n → length r' ≤ m → go β u n r ls outcomes ≡ go the_count u m r' ls' outcomes
 
 -- It does the same with whatever leaves outwards, where counts of b and b' operators are enough.
 pub record SameOutside {A : Type 0} (t b b' : ℕ) (labels labels' : List (Label A)) : Type 0 where
-  pub branches : (u n m j : ℕ) (outcomes : List Outcome) → u ≤ t → b ≤ n → b' ≤ m
-      → branch (again u) (go u n) j labels outcomes ≡ branch (again u) (go u m) j labels' outcomes
-  pub raises : (u n m : ℕ) (tags : Tags) (outcomes : List Outcome) (j : ℕ) → u ≤ t → b ≤ n → b' ≤ m
-      → raise (again u) (go u n) tags labels outcomes j ≡ raise (again u) (go u m) tags labels' outcomes j
+  pub branches : (β : Bound A) (u n m j : ℕ) (outcomes : List Outcome) → u ≤ t → b ≤ n → b' ≤ m
+      → branch (again β u) (go β u n) j labels outcomes ≡ branch (again the_count u) (go the_count u m) j labels' outcomes
+  pub raises : (β : Bound A) (u n m : ℕ) (tags : Tags) (outcomes : List Outcome) (j : ℕ) → u ≤ t → b ≤ n → b' ≤ m
+      → raise (again β u) (go β u n) tags labels outcomes j ≡ raise (again the_count u) (go the_count u m) tags labels' outcomes j
   pub handlers : (j : ℕ) → caught_at labels j ≡ caught_at labels' j
 
 -- both of what stands behind a construct or an item

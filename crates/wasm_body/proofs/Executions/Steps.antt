@@ -4,24 +4,24 @@ use Rattle.wasm_body.specs.Control.{Action, Nop, Plain, Branch, ConditionalBranc
 use Rattle.wasm_body.specs.NormalForm.{fate, Cuts}
 use Rattle.wasm_body.specs.TextLaws.{Stops}
 use Rattle.wasm_body.specs.Machine.{Outcome, Go, Trap, Raise, Way, Entry, Executed, Mismatch, Run, ends, then, Tags, behind_closer, Label, Response, branch, raise, caught_at, rethrow, ask, ask_way, ask_entry, act, step, leave, has, target, arrive, react, responds}
-use Rattle.wasm_body.proofs.Executions.Same.{again, go, Same, SameOutside}
+use Rattle.wasm_body.proofs.Executions.Same.{Bound, the_count, again, go, Same, SameOutside}
 
 pub weaken : {A : Type 0} → (t v b b' c c' : ℕ) (labels labels' : List (Label A)) → v ≤ t → b ≤ c → b' ≤ c'
     → SameOutside t b b' labels labels' → SameOutside v c c' labels labels'
 weaken t v b b' c c' ls ls' lt lb lb' e = record {
-  branches = λ u n m j o hu hn hm. e.branches u n m j o (omega arith) (omega arith) (omega arith);
-  raises = λ u n m s o k hu hn hm. e.raises u n m s o k (omega arith) (omega arith) (omega arith);
+  branches = λ β u n m j o hu hn hm. e.branches β u n m j o (omega arith) (omega arith) (omega arith);
+  raises = λ β u n m s o k hu hn hm. e.raises β u n m s o k (omega arith) (omega arith) (omega arith);
   handlers = e.handlers;
 }
 
 -- the same step from two operators
 pub step_same : {A : Type 0} → (x x' : Marked A) (t : ℕ) (r r' : List (Marked A)) (labels labels' : List (Label A))
-    → ((u n m : ℕ) (outcomes : List Outcome) → u ≤ t → length r ≤ n → length r' ≤ m
-    → step (again u) (go u n) x.control x.shown r labels outcomes ≡ step (again u) (go u m) x'.control x'.shown r' labels' outcomes)
+    → ((β : Bound A) (u n m : ℕ) (outcomes : List Outcome) → u ≤ t → length r ≤ n → length r' ≤ m
+    → step (again β u) (go β u n) x.control x.shown r labels outcomes ≡ step (again the_count u) (go the_count u m) x'.control x'.shown r' labels' outcomes)
     → Same t (x ∷ r) labels (x' ∷ r') labels'
-step_same x x' t r r' ls ls' h u zero m o hu hn hm = absurd (omega arith)
-step_same x x' t r r' ls ls' h u (suc n) zero o hu hn hm = absurd (omega arith)
-step_same x x' t r r' ls ls' h u (suc n) (suc m) o hu hn hm = h u n m o hu (omega arith) (omega arith)
+step_same x x' t r r' ls ls' h β u zero m o hu hn hm = absurd (omega arith)
+step_same x x' t r r' ls ls' h β u (suc n) zero o hu hn hm = absurd (omega arith)
+step_same x x' t r r' ls ls' h β u (suc n) (suc m) o hu hn hm = h β u n m o hu (omega arith) (omega arith)
 
 -- ---- the ways to ask
 
@@ -70,39 +70,39 @@ rethrow_same f f' (Some s) h = h s
 -- one that cuts, whatever stands behind it
 cut_same : {A : Type 0} → (action : Action) (a : A) (t : ℕ) (r r' : List (Marked A)) (labels labels' : List (Label A))
     → SameOutside t (length r) (length r') labels labels' → fate action ≡ Cuts
-    → (u n m : ℕ) (outcomes : List Outcome) → u ≤ t → length r ≤ n → length r' ≤ m
-    → act (again u) (go u n) action a r labels outcomes ≡ act (again u) (go u m) action a r' labels' outcomes
-cut_same (Branch j) a t r r' ls ls' e c u n m o hu hn hm = ap (then (Executed a)) (e.branches u n m j o hu hn hm)
-cut_same (TableBranch ts d) a t r r' ls ls' e c u n m o hu hn hm = entry_same a _ _ (λ k o. e.branches u n m (target ts d k) o hu hn hm) o
-cut_same Return a t r r' ls ls' e c u n m o hu hn hm = refl
-cut_same Unreachable a t r r' ls ls' e c u n m o hu hn hm = refl
-cut_same (Throw g) a t r r' ls ls' e c u n m o hu hn hm =
-    ask_same (λ s. has s g) false a _ _ _ _ (λ o. refl) (λ s o. e.raises u n m s o 0 hu hn hm) o
-cut_same ThrowRef a t r r' ls ls' e c u n m o hu hn hm = ask_same (λ s. true) true a _ _ _ _ (λ o. refl) (λ s o. e.raises u n m s o 0 hu hn hm) o
-cut_same (Rethrow j) a t r r' ls ls' e c u n m o hu hn hm =
+    → (β : Bound A) (u n m : ℕ) (outcomes : List Outcome) → u ≤ t → length r ≤ n → length r' ≤ m
+    → act (again β u) (go β u n) action a r labels outcomes ≡ act (again the_count u) (go the_count u m) action a r' labels' outcomes
+cut_same (Branch j) a t r r' ls ls' e c β u n m o hu hn hm = ap (then (Executed a)) (e.branches β u n m j o hu hn hm)
+cut_same (TableBranch ts d) a t r r' ls ls' e c β u n m o hu hn hm = entry_same a _ _ (λ k o. e.branches β u n m (target ts d k) o hu hn hm) o
+cut_same Return a t r r' ls ls' e c β u n m o hu hn hm = refl
+cut_same Unreachable a t r r' ls ls' e c β u n m o hu hn hm = refl
+cut_same (Throw g) a t r r' ls ls' e c β u n m o hu hn hm =
+    ask_same (λ s. has s g) false a _ _ _ _ (λ o. refl) (λ s o. e.raises β u n m s o 0 hu hn hm) o
+cut_same ThrowRef a t r r' ls ls' e c β u n m o hu hn hm = ask_same (λ s. true) true a _ _ _ _ (λ o. refl) (λ s o. e.raises β u n m s o 0 hu hn hm) o
+cut_same (Rethrow j) a t r r' ls ls' e c β u n m o hu hn hm =
     ap (then (Executed a))
-    (ap (rethrow (λ s. raise (again u) (go u n) s ls o 0)) (e.handlers j)
-    ∙ rethrow_same (λ s. raise (again u) (go u n) s ls o 0) (λ s. raise (again u) (go u m) s ls' o 0) (caught_at ls' j)
-    (λ s. e.raises u n m s o 0 hu hn hm))
-cut_same _ a t r r' ls ls' e c u n m o hu hn hm = absurd (cc c)
+    (ap (rethrow (λ s. raise (again β u) (go β u n) s ls o 0)) (e.handlers j)
+    ∙ rethrow_same (λ s. raise (again β u) (go β u n) s ls o 0) (λ s. raise (again the_count u) (go the_count u m) s ls' o 0) (caught_at ls' j)
+    (λ s. e.raises β u n m s o 0 hu hn hm))
+cut_same _ a t r r' ls ls' e c β u n m o hu hn hm = absurd (cc c)
 
 -- one behind which the same follows
 act_same : {A : Type 0} → (action : Action) (a : A) (t : ℕ) (r r' : List (Marked A)) (labels labels' : List (Label A))
     → SameOutside t (length r) (length r') labels labels' → Same t r labels r' labels'
-    → (u n m : ℕ) (outcomes : List Outcome) → u ≤ t → length r ≤ n → length r' ≤ m
-    → act (again u) (go u n) action a r labels outcomes ≡ act (again u) (go u m) action a r' labels' outcomes
-act_same Nop a t r r' ls ls' e s u n m o hu hn hm = s u n m o hu hn hm
-act_same Plain a t r r' ls ls' e s u n m o hu hn hm =
-    ask_same (λ s. true) true a _ _ _ _ (λ o. ap (then (Executed a)) (s u n m o hu hn hm)) (λ g o. e.raises u n m g o 0 hu hn hm) o
-act_same (ConditionalBranch j) a t r r' ls ls' e s u n m o hu hn hm =
-    way_same a _ _ (λ w o. cond_same w _ _ _ _ (e.branches u n m j o hu hn hm) (s u n m o hu hn hm)) o
-act_same TailCall a t r r' ls ls' e s u n m o hu hn hm = refl
-act_same action a t r r' ls ls' e s u n m o hu hn hm = cut_same action a t r r' ls ls' e refl u n m o hu hn hm
+    → (β : Bound A) (u n m : ℕ) (outcomes : List Outcome) → u ≤ t → length r ≤ n → length r' ≤ m
+    → act (again β u) (go β u n) action a r labels outcomes ≡ act (again the_count u) (go the_count u m) action a r' labels' outcomes
+act_same Nop a t r r' ls ls' e s β u n m o hu hn hm = s β u n m o hu hn hm
+act_same Plain a t r r' ls ls' e s β u n m o hu hn hm =
+    ask_same (λ s. true) true a _ _ _ _ (λ o. ap (then (Executed a)) (s β u n m o hu hn hm)) (λ g o. e.raises β u n m g o 0 hu hn hm) o
+act_same (ConditionalBranch j) a t r r' ls ls' e s β u n m o hu hn hm =
+    way_same a _ _ (λ w o. cond_same w _ _ _ _ (e.branches β u n m j o hu hn hm) (s β u n m o hu hn hm)) o
+act_same TailCall a t r r' ls ls' e s β u n m o hu hn hm = refl
+act_same action a t r r' ls ls' e s β u n m o hu hn hm = cut_same action a t r r' ls ls' e refl β u n m o hu hn hm
 
 pub nop_same : {A : Type 0} → (a : A) (t : ℕ) (r r' : List (Marked A)) (labels labels' : List (Label A))
     → Same t r labels r' labels' → Same t (marked a (Does Nop) ∷ r) labels r' labels'
-nop_same a t r r' ls ls' s u zero m o hu hn hm = absurd (omega arith)
-nop_same a t r r' ls ls' s u (suc n) m o hu hn hm = s u n m o hu (omega arith) hm
+nop_same a t r r' ls ls' s β u zero m o hu hn hm = absurd (omega arith)
+nop_same a t r r' ls ls' s β u (suc n) m o hu hn hm = s β u n m o hu (omega arith) hm
 
 pub kept_same : {A : Type 0} → (action : Action) (a : A) (t : ℕ) (r r' : List (Marked A)) (labels labels' : List (Label A))
     → SameOutside t (length r) (length r') labels labels' → Same t r labels r' labels'
@@ -119,27 +119,27 @@ last_same action a t r r' ls ls' c e =
 -- ---- a label more
 
 -- what a construct does with an exception, by its response
-abbrev pub reacts : {A : Type 0} → (turns count : ℕ) → Tags → Label A → List (Label A) → List Outcome → Response A → Run A
-reacts u n tags l ls outcomes response = react (again u) (go u n) (raise (again u) (go u n) tags ls outcomes) tags l ls outcomes response
+abbrev pub reacts : {A : Type 0} → Bound A → (turns count : ℕ) → Tags → Label A → List (Label A) → List Outcome → Response A → Run A
+reacts β u n tags l ls outcomes response = react (again β u) (go β u n) (raise (again β u) (go β u n) tags ls outcomes) tags l ls outcomes response
 
 -- where a branch to it, an exception that reaches it and a `rethrow` of it do the same
 pub push : {A : Type 0} → (t b b' : ℕ) (l l' : Label A) (labels labels' : List (Label A)) → SameOutside t b b' labels labels'
-    → ((u n m : ℕ) (outcomes : List Outcome) → u ≤ t → b ≤ n → b' ≤ m
-    → arrive (again u) (go u n) l.construct l labels outcomes ≡ arrive (again u) (go u m) l'.construct l' labels' outcomes)
-    → ((u n m : ℕ) (tags : Tags) (outcomes : List Outcome) → u ≤ t → b ≤ n → b' ≤ m
-    → reacts u n tags l labels outcomes (responds tags l) ≡ reacts u m tags l' labels' outcomes (responds tags l'))
+    → ((β : Bound A) (u n m : ℕ) (outcomes : List Outcome) → u ≤ t → b ≤ n → b' ≤ m
+    → arrive (again β u) (go β u n) l.construct l labels outcomes ≡ arrive (again the_count u) (go the_count u m) l'.construct l' labels' outcomes)
+    → ((β : Bound A) (u n m : ℕ) (tags : Tags) (outcomes : List Outcome) → u ≤ t → b ≤ n → b' ≤ m
+    → reacts β u n tags l labels outcomes (responds tags l) ≡ reacts the_count u m tags l' labels' outcomes (responds tags l'))
     → l.caught ≡ l'.caught → SameOutside t b b' (l ∷ labels) (l' ∷ labels')
-push t b b' l l' ls ls' e own_branch own_raise own_caught = record { branches = branches; raises = raises; handlers = handlers }
+push {A = A} t b b' l l' ls ls' e own_branch own_raise own_caught = record { branches = branches; raises = raises; handlers = handlers }
   where
-    branches : (u n m j : ℕ) (o : List Outcome) → u ≤ t → b ≤ n → b' ≤ m
-        → branch (again u) (go u n) j (l ∷ ls) o ≡ branch (again u) (go u m) j (l' ∷ ls') o
-    branches u n m zero o hu hn hm = own_branch u n m o hu hn hm
-    branches u n m (suc j) o hu hn hm = e.branches u n m j o hu hn hm
+    branches : (β : Bound A) (u n m j : ℕ) (o : List Outcome) → u ≤ t → b ≤ n → b' ≤ m
+        → branch (again β u) (go β u n) j (l ∷ ls) o ≡ branch (again the_count u) (go the_count u m) j (l' ∷ ls') o
+    branches β u n m zero o hu hn hm = own_branch β u n m o hu hn hm
+    branches β u n m (suc j) o hu hn hm = e.branches β u n m j o hu hn hm
 
-    raises : (u n m : ℕ) (s : Tags) (o : List Outcome) (k : ℕ) → u ≤ t → b ≤ n → b' ≤ m
-        → raise (again u) (go u n) s (l ∷ ls) o k ≡ raise (again u) (go u m) s (l' ∷ ls') o k
-    raises u n m s o zero hu hn hm = own_raise u n m s o hu hn hm
-    raises u n m s o (suc k) hu hn hm = e.raises u n m s o k hu hn hm
+    raises : (β : Bound A) (u n m : ℕ) (s : Tags) (o : List Outcome) (k : ℕ) → u ≤ t → b ≤ n → b' ≤ m
+        → raise (again β u) (go β u n) s (l ∷ ls) o k ≡ raise (again the_count u) (go the_count u m) s (l' ∷ ls') o k
+    raises β u n m s o zero hu hn hm = own_raise β u n m s o hu hn hm
+    raises β u n m s o (suc k) hu hn hm = e.raises β u n m s o k hu hn hm
 
     handlers : (j : ℕ) → caught_at (l ∷ ls) j ≡ caught_at (l' ∷ ls') j
     handlers zero = own_caught
@@ -148,11 +148,11 @@ push t b b' l l' ls ls' e own_branch own_raise own_caught = record { branches = 
 -- ---- the end of a sequence
 
 step_stops : {A : Type 0} → (c : Control) → Stops c
-    → (u n : ℕ) (a : A) (r : List (Marked A)) (labels : List (Label A)) (outcomes : List Outcome)
-    → step (again u) (go u n) c a r labels outcomes ≡ leave (go u n) labels outcomes
-step_stops (Does action) h u n a r ls o = absurd h
-step_stops (Opens construct) h u n a r ls o = absurd h
-step_stops _ h u n a r ls o = refl
+    → (β : Bound A) (u n : ℕ) (a : A) (r : List (Marked A)) (labels : List (Label A)) (outcomes : List Outcome)
+    → step (again β u) (go β u n) c a r labels outcomes ≡ leave (go β u n) labels outcomes
+step_stops (Does action) h β u n a r ls o = absurd h
+step_stops (Opens construct) h β u n a r ls o = absurd h
+step_stops _ h β u n a r ls o = refl
 
 pub stop_same : {A : Type 0}
     → (c c' : Control) (a a' : A) (t : ℕ) (x x' r r' : List (Marked A)) (l l' : Label A) (labels labels' : List (Label A))
@@ -160,16 +160,16 @@ pub stop_same : {A : Type 0}
     → behind_closer l.behind ≡ r → behind_closer l'.behind ≡ r' → length r ≤ length x → length r' ≤ length x' → Same t r labels r' labels'
     → Same t (marked a c ∷ x) (l ∷ labels) (marked a' c' ∷ x') (l' ∷ labels')
 stop_same c c' a a' t x x' r r' l l' ls ls' h h' e e' lx lx' s =
-    step_same (marked a c) (marked a' c') t x x' (l ∷ ls) (l' ∷ ls') λ u n m o hu hn hm.
-    step_stops c h u n a x (l ∷ ls) o
-    ∙ (ap (λ k. go u n k ls o) e
-    ∙ (s u n m o hu (omega arith) (omega arith)
-    ∙ (ap (λ k. go u m k ls' o) (sym e')
-    ∙ sym (step_stops c' h' u m a' x' (l' ∷ ls') o))))
+    step_same (marked a c) (marked a' c') t x x' (l ∷ ls) (l' ∷ ls') λ β u n m o hu hn hm.
+    step_stops c h β u n a x (l ∷ ls) o
+    ∙ (ap (λ k. go β u n k ls o) e
+    ∙ (s β u n m o hu (omega arith) (omega arith)
+    ∙ (ap (λ k. go the_count u m k ls' o) (sym e')
+    ∙ sym (step_stops c' h' the_count u m a' x' (l' ∷ ls') o))))
 
 -- the last `end` of a body
 pub last_end : {A : Type 0} → (a a' : A) (t : ℕ) → Same t (marked a End ∷ []) [] (marked a' End ∷ []) []
-last_end a a' t = step_same (marked a End) (marked a' End) t [] [] [] [] (λ u n m o hu hn hm. refl)
+last_end a a' t = step_same (marked a End) (marked a' End) t [] [] [] [] (λ β u n m o hu hn hm. refl)
 
 pub no_labels : {A : Type 0} → (t b b' : ℕ) → SameOutside {A = A} t b b' [] []
-no_labels t b b' = record { branches = λ u n m j o hu hn hm. refl; raises = λ u n m s o k hu hn hm. refl; handlers = λ j. refl }
+no_labels t b b' = record { branches = λ β u n m j o hu hn hm. refl; raises = λ β u n m s o k hu hn hm. refl; handlers = λ j. refl }

@@ -61,6 +61,7 @@ all_lead m t = record {
   labels = label_leads m;
   handlers = number_leads;
   outers = number_leads;
+  numbers = number_leads;
   alignments = exponent_of-pow;
   counts = λ n u e. refl;
 }

@@ -27,6 +27,7 @@ kept_raw env = record {
   label = λ n. Ok (Depth n);
   handler = λ n. Ok n;
   outer = λ n. Ok n;
+  number = λ n. Ok n;
   block = λ b. Ok tt;
   alignment = λ e. 2 ^ e;
   count = λ n. Ok tt;
@@ -56,6 +57,7 @@ module _ {A : Type 0} (env : Environment) (fs : List (Frame A)) where
     labels = λ n q e. ap (λ k. Ok (Depth k)) (open_same fs n q e);
     handlers = λ n q e. same_leads n q (handler_same fs n q e);
     outers = λ n q e. same_leads n q (open_same (outside fs) n q e);
+    numbers = λ n q e. let same : n ≡ q = cc e in same_leads n q (sym same);
     alignments = λ n. refl;
     counts = λ n u e. refl;
   }

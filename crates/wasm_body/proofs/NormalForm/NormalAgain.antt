@@ -8,7 +8,8 @@ use Rattle.wasm_body.specs.Naming.{NamedOperation}
 use Rattle.wasm_body.specs.FunctionTree.{handles, delegates, Bare, bare, bare_items, bare_sequences}
 use Rattle.wasm_body.specs.NormalForm.{Typing, Fate, Drops, Stays, Cuts, fate, instruction, kept_operation, with_fate, type_of, handler_type, legacy_clauses, normal, handlers}
 use Rattle.wasm_body.specs.TextLaws.{NormalAgain}
-use Rattle.wasm_body.proofs.NormalForm.Rewritten.{Named, single_with_fate, rewritten, rewritten_clauses, rewritten_body, text_is_body}
+use Rattle.wasm_body.proofs.NormalForm.Rewritten.{Named, single_with_fate, rewritten, rewritten_clauses, rewritten_body}
+use Rattle.wasm_body.proofs.NormalForm.NamedTexts.{text_is_body}
 use Rattle.wasm_body.proofs.Structure.ReadingTrees.{one_body}
 
 single_again : (m : Typing) (a : Named) (action : Action) (f : Fate) → fate action ≡ f → (r r' : Sequence Named)
@@ -25,14 +26,14 @@ clauses_again (Catches a t b cs) = ap (λ l. handles t ∷ l) (clauses_again cs)
 clauses_again (CatchesAll a b e) = refl
 
 -- an item, by its first sequence, those beside it, and what follows
-item_again : (i : Bare) (t : InstrSeqType) {b b' r r' : Items InstrSeqType Bare} {k k' : Sequences InstrSeqType Bare} → b ≡ b'
+pub item_again : (i : Bare) (t : InstrSeqType) {b b' r r' : Items InstrSeqType Bare} {k k' : Sequences InstrSeqType Bare} → b ≡ b'
     → k ≡ k' → r ≡ r'
     → item i (sequence t b k) r ≡ item i (sequence t b' k') r'
 item_again i t {b = b} {b' = b'} {r = r} {r' = r'} {k = k} {k' = k'} e d c =
     ap (λ x. item i (sequence t x k) r) e ∙ (ap (λ x. item i (sequence t b' x) r) d ∙ ap (λ x. item i (sequence t b' k') x) c)
 
 mutual
-  again : (m : Typing) (s : Sequence Named) → bare_items (normal m (rewritten s)) ≡ bare_items (normal m s)
+  pub again : (m : Typing) (s : Sequence Named) → bare_items (normal m (rewritten s)) ≡ bare_items (normal m s)
   again m Empty = refl
   again m (Single a action r) = single_again m a action (fate action) refl r (rewritten r) (again m r)
   again m (Wrapped a w b e r) = item_again (bare (instruction a [])) (type_of m a.op) (again m b) refl (again m r)

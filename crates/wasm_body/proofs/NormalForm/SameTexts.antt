@@ -1,17 +1,22 @@
 -- Trees that are the same have the same operators in their text, or the same fault.
 use Rattle.std.proofs.Common.{◌≡◌, ℕ, List, [], ◌∷◌, map, Bool, true, false, None, Result, Ok, Err, refl, sym, ap, ◌∙◌}
-use Rattle.std.specs.Prelude.{if◌then◌else◌}
+use Rattle.std.specs.Prelude.{if◌then◌else◌, ◌++◌}
+use Rattle.std.specs.List.{flat_map}
 use Rattle.walrus_ir.specs.declared.val_type.InstrSeqType.{InstrSeqType}
 use Rattle.walrus_ir.specs.declared.val_type.InstrSeqType.TheVariants.{Simple}
 use Rattle.walrus_ir.specs.Tree.{Items, no_items, item, Sequences, no_sequences, sequence, alone}
-use Rattle.wasm_ops.specs.Operations.{Operation}
+use Rattle.wasm_ops.specs.declared.types.BlockType.{BlockType}
+use Rattle.wasm_ops.specs.Operations.{Operation, RawOperation}
+use Rattle.wasm_ops.specs.Shortest.{short}
 use Rattle.wasm_body.specs.declared.error.EmitError.{EmitError}
 use Rattle.wasm_body.specs.declared.error.EmitError.TheVariants.{BadClauses}
 use Rattle.wasm_body.specs.Results.{◌>>=◌, gathered}
 use Rattle.wasm_body.specs.Control.{Role, an_if, role_of, end_operation}
 use Rattle.wasm_body.specs.Translation.{translate, Located, located}
 use Rattle.wasm_body.specs.FunctionTree.{Head, LegacyClause, Instruction, Bare, bare, bare_items, bare_sequences}
-use Rattle.wasm_body.specs.FlatText.{Writing, TextOperation, are_lawful, closers, if_closers, written, typed, first_type, text, texts}
+use Rattle.wasm_body.specs.FlatText.{Writing, TextOperation, are_lawful, closers, if_closers, written, typed, first_type, text, texts, then_by}
+use Rattle.wasm_body.specs.Bytes.{numbering, numbered_text, bytes_of}
+use Rattle.wasm_body.specs.ReadBack.{SameBytes}
 use Rattle.wasm_body.specs.TextLaws.{without_locations, SameTexts}
 use Rattle.wasm_body.proofs.Translation.Steps.{after_one}
 
@@ -100,10 +105,28 @@ gathered_bare {X = X} (Ok x ∷ rs) =
     rest (Err e) = refl
 gathered_bare {X = X} (Err e ∷ rs) = refl
 
-pub same_texts : SameTexts
-same_texts w t u h =
+pub same_texts : (M C : Type 0) → SameTexts M C
+same_texts M C w t u h =
     gathered_bare (texts w (end_operation ∷ []) (alone t) [])
     ∙ (ap gathered (texts_bare w (end_operation ∷ []) (alone t) [])
     ∙ (ap (λ s. gathered (bare_texts w (end_operation ∷ []) s [])) h
     ∙ (sym (ap gathered (texts_bare w (end_operation ∷ []) (alone u) []))
     ∙ sym (gathered_bare (texts w (end_operation ∷ []) (alone u) [])))))
+
+-- ---- and the same bytes, or the same fault
+
+bytes_bare : (r : Result (List (Located RawOperation)) EmitError)
+    → (r >>= λ xs. Ok (bytes_of xs)) ≡ (without_locations r >>= λ os. Ok (flat_map short os))
+bytes_bare (Ok xs) = ap Ok (each_short xs)
+  where
+    each_short : (xs : List (Located RawOperation)) → bytes_of xs ≡ flat_map short (map (λ (x : Located RawOperation). x.op) xs)
+    each_short [] = refl
+    each_short (x ∷ xs) = ap (λ l. short x.op ++ l) (each_short xs)
+bytes_bare (Err e) = refl
+
+pub same_bytes : SameBytes
+same_bytes to t u h =
+    bytes_bare (numbered_text to t)
+    ∙ (after_one (without_locations (numbered_text to t)) (without_locations (numbered_text to u)) (λ os. Ok (flat_map short os))
+    (same_texts ℕ BlockType (then_by (numbering to)) t u h)
+    ∙ sym (bytes_bare (numbered_text to u)))

@@ -11,7 +11,7 @@ use Rattle.wasm_body.proofs.Structure.ReadFrames.{may_move}
 use Rattle.wasm_body.proofs.Translation.ResultLemmas.{bind_ok, unless_ok, ok_same}
 
 -- whether an operator may stand somewhere is said by its opcode alone
-same_stand : {A B C : Type 0} (fs : List (Frame A)) (r : Role) (is : List (Immediate ℕ B)) (js : List (Immediate ℕ C)) → may_stand fs (control_by r is) ≡ may_stand fs (control_by r js)
+pub same_stand : {A B C : Type 0} (fs : List (Frame A)) (r : Role) (is : List (Immediate ℕ B)) (js : List (Immediate ℕ C)) → may_stand fs (control_by r is) ≡ may_stand fs (control_by r js)
 same_stand [] r is js = refl
 same_stand (f ∷ fs) a_plain is js = refl
 same_stand (f ∷ fs) _ is js = refl

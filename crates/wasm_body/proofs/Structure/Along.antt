@@ -73,6 +73,23 @@ mutual
   all_of_clauses P (Catches a t b cs) k h g = (h.0, all_of_each P b _ h.1 (all_of_clauses P cs k h.2 g))
   all_of_clauses P (CatchesAll a b e) k h g = (h.0, all_of_each P b _ h.1 (h.2, g))
 
+-- ---- what follows from it at each operator
+
+mutual
+  pub weaker : {A : Type 0} → (P Q : A → Control → Type 0) → ((a : A) (c : Control) → P a c → Q a c) → (s : Sequence A) → Each P s → Each Q s
+  weaker P Q f Empty h = tt
+  weaker P Q f (Single a action r) h = (f a _ h.0, weaker P Q f r h.1)
+  weaker P Q f (Wrapped a w b e r) h = (f a _ h.0, weaker P Q f b h.1, f e _ h.2, weaker P Q f r h.3)
+  weaker P Q f (IfThen a b e r) h = (f a _ h.0, weaker P Q f b h.1, f e _ h.2, weaker P Q f r h.3)
+  weaker P Q f (IfElse a b l c e r) h = (f a _ h.0, weaker P Q f b h.1, f l _ h.2, weaker P Q f c h.3, f e _ h.4, weaker P Q f r h.5)
+  weaker P Q f (TryCatch a b cs r) h = (f a _ h.0, weaker P Q f b h.1, weaker_in P Q f cs h.2, weaker P Q f r h.3)
+  weaker P Q f (TryDelegate a b e n r) h = (f a _ h.0, weaker P Q f b h.1, f e _ h.2, weaker P Q f r h.3)
+
+  weaker_in : {A : Type 0} → (P Q : A → Control → Type 0) → ((a : A) (c : Control) → P a c → Q a c) → (cs : Clauses A) → EachIn P cs → EachIn Q cs
+  weaker_in P Q f (Ended e) h = f e _ h
+  weaker_in P Q f (Catches a t b cs) h = (f a _ h.0, weaker P Q f b h.1, weaker_in P Q f cs h.2)
+  weaker_in P Q f (CatchesAll a b e) h = (f a _ h.0, weaker P Q f b h.1, f e _ h.2)
+
 -- ---- the same of a tree with something else shown
 
 mutual

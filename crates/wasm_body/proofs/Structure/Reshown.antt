@@ -11,7 +11,7 @@ abbrev pub remarked : {A B : Type 0} → (A → B) → Marked A → Marked B
 remarked f x = marked (f x.shown) x.control
 
 mutual
-  text_reshown : {A B : Type 0} → (g : A → B) (s : Sequence A) (k : List (Marked A))
+  pub text_reshown : {A B : Type 0} → (g : A → B) (s : Sequence A) (k : List (Marked A))
       → text (reshown g s) (map (remarked g) k) ≡ map (remarked g) (text s k)
   text_reshown g Empty k = refl
   text_reshown g (Single a action r) k = ap (λ l. marked (g a) (Does action) ∷ l) (text_reshown g r k)

@@ -48,6 +48,7 @@ module _ {L B M C N D E : Type 0} (f : Translation L B M C E) (g : Translation L
     pub labels : (l : L) → Alike (f.label l) (g.label l)
     pub handlers : (n : ℕ) → Alike (f.handler n) (g.handler n)
     pub outers : (n : ℕ) → Alike (f.outer n) (g.outer n)
+    pub numbers : (n : ℕ) → Alike (f.number n) (g.number n)
     pub blocks : (b : B) → Alike (f.block b) (g.block b)
     pub counts : (n : ℕ) → Alike (f.count n) (g.count n)
 
@@ -101,7 +102,7 @@ module _ {L B M C N D E : Type 0} (f : Translation L B M C E) (g : Translation L
   immediate_alike a (label l) = alike_last (f.label l) (g.label l) label label (a.labels l)
   immediate_alike a (handler n) = alike_last (f.handler n) (g.handler n) handler handler (a.handlers n)
   immediate_alike a (outer n) = alike_last (f.outer n) (g.outer n) outer outer (a.outers n)
-  immediate_alike a (number n) = refl
+  immediate_alike a (number n) = alike_last (f.number n) (g.number n) number number (a.numbers n)
   immediate_alike a (access x) = alike_last (translate_access f x) (translate_access g x) access access (access_alike a x)
   immediate_alike a (branch_table ts d) =
       alike_then (f.count (length ts)) (g.count (length ts))

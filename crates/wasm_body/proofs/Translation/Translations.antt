@@ -16,15 +16,15 @@ use Rattle.wasm_body.proofs.Translation.Steps.{bound, after_one, after_two, afte
 -- ---- types and tags, which hold indices
 
 module _ {E F : Type 0} (f : Space → ℕ → Result ℕ E) (g h : Space → ℕ → Result ℕ F) where
-  abbrev LeadsHeap : HeapType ℕ → Type 0
+  abbrev pub LeadsHeap : HeapType ℕ → Type 0
   LeadsHeap (Abstract a) = Unit {0}
   LeadsHeap (Concrete n) = Leads (f Types) (g Types) (h Types) n
 
-  abbrev LeadsValue : ValType ℕ → Type 0
+  abbrev pub LeadsValue : ValType ℕ → Type 0
   LeadsValue (Ref r) = LeadsHeap r.heap_type
   LeadsValue _ = Unit {0}
 
-  abbrev LeadsTag : Option ℕ → Type 0
+  abbrev pub LeadsTag : Option ℕ → Type 0
   LeadsTag None = Unit {0}
   LeadsTag (Some n) = Leads (f Tags) (g Tags) (h Tags) n
 
@@ -57,25 +57,26 @@ module _ {E F : Type 0} (f : Space → ℕ → Result ℕ E) (g h : Space → �
 -- ---- immediates
 
 module _ {L B M C N D E F : Type 0} (f : Translation L B M C E) (g : Translation M C N D F) (h : Translation L B N D F) where
-  abbrev LeadsIndex : Space → ℕ → Type 0
+  abbrev pub LeadsIndex : Space → ℕ → Type 0
   LeadsIndex space n = Leads (f.index space) (g.index space) (h.index space) n
 
-  abbrev LeadsLabel : L → Type 0
+  abbrev pub LeadsLabel : L → Type 0
   LeadsLabel l = Leads f.label g.label h.label l
 
-  abbrev LeadsCount : ℕ → Type 0
+  abbrev pub LeadsCount : ℕ → Type 0
   LeadsCount n = (u : Unit {0}) → f.count n ≡ Ok u → g.count n ≡ h.count n
 
-  abbrev LeadsClause : CatchClause L → Type 0
+  abbrev pub LeadsClause : CatchClause L → Type 0
   LeadsClause c = LeadsTag f.index g.index h.index c.tag × LeadsLabel c.label
 
   -- What f makes of the parts of the immediate, g reads as h reads them.
-  abbrev LeadsAt : Immediate L B → Type 0
+  abbrev pub LeadsAt : Immediate L B → Type 0
   LeadsAt (index space n) = LeadsIndex space n
   LeadsAt (local n) = Leads f.local g.local h.local n
   LeadsAt (label l) = LeadsLabel l
   LeadsAt (handler depth) = Leads f.handler g.handler h.handler depth
   LeadsAt (outer depth) = Leads f.outer g.outer h.outer depth
+  LeadsAt (number n) = Leads f.number g.number h.number n
   LeadsAt (access a) = LeadsIndex Memories a.memory × (g.alignment (f.alignment a.alignment) ≡ h.alignment a.alignment)
   LeadsAt (branch_table ts d) = LeadsCount (length ts) × AllByRecursion LeadsLabel ts × LeadsLabel d
   LeadsAt (clauses cs) = LeadsCount (length cs) × AllByRecursion LeadsClause cs
@@ -126,7 +127,7 @@ module _ {L B M C N D E F : Type 0} (f : Translation L B M C E) (g : Translation
       ∙ (ap (λ k. g.index Memories m.0 >>= λ y. Ok (at k y)) l.1
       ∙ after_one (g.index Memories m.0) (h.index Memories a.memory) (λ y. Ok (at (h.alignment a.alignment) y)) (l.0 m.0 m.1))
 
-  abbrev LeadsOn : Immediate L B → Type 0
+  abbrev pub LeadsOn : Immediate L B → Type 0
   LeadsOn i = Leads (translate_immediate f) (translate_immediate g) (translate_immediate h) i
 
   -- an immediate of one part, and one that stays
@@ -182,7 +183,7 @@ module _ {L B M C N D E F : Type 0} (f : Translation L B M C E) (g : Translation
       (value_leads f.index g.index h.index v l)
   immediate_leads (cast c) l =
       part_leads (translate_cast f) (translate_cast g) (translate_cast h) c (cast c) cast cast refl (λ y. refl) refl (cast_leads c l)
-  immediate_leads (number n) l = stays (number n) (number n) refl refl
+  immediate_leads (number n) l = part_leads f.number g.number h.number n (number n) number number refl (λ y. refl) refl l
   immediate_leads (i32 z) l = stays (i32 z) (i32 z) refl refl
   immediate_leads (i64 z) l = stays (i64 z) (i64 z) refl refl
   immediate_leads (f32 bits) l = stays (f32 bits) (f32 bits) refl refl
@@ -209,6 +210,7 @@ module _ {L B M C N D E F : Type 0} (f : Translation L B M C E) (g : Translation
     pub labels : (l : L) → LeadsLabel l
     pub handlers : (n : ℕ) → Leads f.handler g.handler h.handler n
     pub outers : (n : ℕ) → Leads f.outer g.outer h.outer n
+    pub numbers : (n : ℕ) → Leads f.number g.number h.number n
     pub alignments : (n : ℕ) → g.alignment (f.alignment n) ≡ h.alignment n
     pub counts : (n : ℕ) → LeadsCount n
 
@@ -232,6 +234,7 @@ module _ {L B M C N D E F : Type 0} (f : Translation L B M C E) (g : Translation
   lead_all all (label l ∷ is) b = (all.labels l, lead_all all is b)
   lead_all all (handler n ∷ is) b = (all.handlers n, lead_all all is b)
   lead_all all (outer n ∷ is) b = (all.outers n, lead_all all is b)
+  lead_all all (number n ∷ is) b = (all.numbers n, lead_all all is b)
   lead_all all (access a ∷ is) b = ((all.indices Memories a.memory, all.alignments a.alignment), lead_all all is b)
   lead_all all (branch_table ts d ∷ is) b = ((all.counts (length ts), all_of _ all.labels ts, all.labels d), lead_all all is b)
   lead_all all (clauses cs ∷ is) b = ((all.counts (length cs), all_of _ (λ c. (tag_all all c.tag, all.labels c.label)) cs), lead_all all is b)
@@ -249,6 +252,7 @@ same = record {
   label = λ l. Ok l;
   handler = λ n. Ok n;
   outer = λ n. Ok n;
+  number = λ n. Ok n;
   block = λ b. Ok b;
   alignment = λ n. n;
   count = λ n. Ok tt;

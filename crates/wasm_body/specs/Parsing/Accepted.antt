@@ -2,7 +2,7 @@
 use Rattle.std.specs.Prelude.{◌≡◌, ℕ, ◌+◌, List, [], ◌∷◌, ◌++◌, length, map, replicate, nat_lt, Bool, true, Option, None, Some, IsOk, Result, Ok, Err}
 use Rattle.std.specs.List.{AllByRecursion}
 use Rattle.wasm_ops.specs.OperatorList.{Placed, Lists}
-use Rattle.wasm_ops.specs.Spelling.{read_operation}
+use Rattle.wasm_ops.specs.Spelling.{Spells, read_operation}
 use Rattle.wasm_body.specs.declared.error.ParseError.{ParseError}
 use Rattle.wasm_body.specs.declared.error.ParseError.TheVariants.{Read, PlaceTooGreat, Checked, Trailing, MissingEnd}
 use Rattle.wasm_body.specs.declared.error.ParseFailure.{ParseFailure}
@@ -16,6 +16,10 @@ use Rattle.wasm_body.specs.Naming.{Environment, Occurrence, named_in, entry_of}
 
 abbrev pub placed : Occurrence → Placed
 placed x = record { spelt = x.spelt; place = x.place }
+
+-- The operator has a spelling.
+abbrev pub HasSpelling : Occurrence → Type 0
+HasSpelling x = (text : List ℕ) × Spells x.spelt text
 
 abbrev pub mark : Occurrence → Marked Occurrence
 mark x = marked x (control_of x.named)

@@ -1,0 +1,13 @@
+-- Examples that pin the definitions: what they answer for bodies that are given by hand, computed.
+pub mod Operators
+pub mod Modules
+pub mod Rows
+pub mod Runs
+pub mod Naming
+pub mod NormalForms
+pub mod Texts
+pub mod Instructions
+pub mod Parses
+pub mod Rewritings
+pub mod Pairs
+pub mod Premises

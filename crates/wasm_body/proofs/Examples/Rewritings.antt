@@ -1,0 +1,116 @@
+-- Bodies from bytes to bytes: parsed, and the bytes of their normal forms; and read back.
+use Rattle.std.specs.Prelude.{◌≡◌, ℕ, zero, suc, List, [], ◌∷◌, Option, Some, None, Result, Ok, Err, slice_get, refl}
+use Rattle.std.proofs.Common.{ap, subst}
+use Rattle.walrus_ir.specs.declared.val_type.ValType.{ValType}
+use Rattle.walrus_ir.specs.Types.{Signature, signature, Func, Entry}
+use Rattle.wasm_ops.specs.declared.types.Space.{Space}
+use Rattle.wasm_ops.specs.declared.types.Space.TheVariants.{Globals}
+use Rattle.wasm_ops.specs.Numbers.{integer}
+use Rattle.wasm_ops.specs.Opcodes.{kinds_of_byte, opcode}
+use Rattle.wasm_ops.specs.Shortest.{short_unsigned, short_signed}
+use Rattle.wasm_ops.specs.Spelling.{read_operation}
+use Rattle.wasm_ops.specs.Types.{value_at, nullable_at}
+use Rattle.wasm_body.specs.declared.error.EmitError.{EmitError}
+use Rattle.wasm_body.specs.declared.error.EmitError.TheVariants.{Index, UnnumberedLocal}
+use Rattle.wasm_body.specs.declared.error.IndexError.TheVariants.{Unnumbered}
+use Rattle.wasm_body.specs.declared.error.ParseFailure.{ParseFailure}
+use Rattle.wasm_body.specs.Results.{some_or}
+use Rattle.wasm_body.specs.SourceTree.{Body}
+use Rattle.wasm_body.specs.Naming.{Environment, Occurrence}
+use Rattle.wasm_body.specs.Parsing.Accepted.{Setting}
+use Rattle.wasm_body.specs.Parsing.Lists.{parsed}
+use Rattle.wasm_body.specs.NormalForm.{typing_of, normal_form, named_body}
+use Rattle.wasm_body.specs.Bytes.{Numbers, tree_bytes}
+use Rattle.wasm_body.specs.ReadBack.{IsUndone, IsInverse, GivesNoReference}
+use Rattle.wasm_body.proofs.Examples.Modules.{nothing, environment, demo, demo_numbers}
+
+abbrev anything : Environment → Setting (Unit {0})
+anything env = record { environment = env; start = 0; locations = None; check = λ v x. Ok tt; first = tt }
+
+abbrev bytes_of_body : Environment → Numbers → Result (Body Occurrence) ParseFailure → Option (Result (List ℕ) EmitError)
+bytes_of_body env to (Ok b) = Some (tree_bytes to (normal_form (typing_of env) (named_body b)))
+bytes_of_body env to (Err f) = None
+
+-- what is written for bytes, where they are accepted
+abbrev rewriting : Environment → Numbers → List ℕ → Option (Result (List ℕ) EmitError)
+rewriting env to bytes = bytes_of_body env to (parsed (anything env) bytes)
+
+-- over the module of the worked rows
+abbrev IsRewrittenAs : List ℕ → List ℕ → Type 0
+IsRewrittenAs source target = rewriting demo demo_numbers source ≡ Some (Ok target)
+
+-- 01 0b
+dropped_nop : IsRewrittenAs (0x01 ∷ 0x0b ∷ []) (0x0b ∷ [])
+unfolding read_operation opcode kinds_of_byte
+dropped_nop = refl
+
+-- 0f 41 07 1a 0b
+dropped_dead : IsRewrittenAs (0x0f ∷ 0x41 ∷ 0x07 ∷ 0x1a ∷ 0x0b ∷ []) (0x0f ∷ 0x0b ∷ [])
+unfolding read_operation opcode kinds_of_byte integer
+dropped_dead = refl
+
+-- 41 81 00 1a 0b: the shortest spelling
+shortest : IsRewrittenAs (0x41 ∷ 0x81 ∷ 0x00 ∷ 0x1a ∷ 0x0b ∷ []) (0x41 ∷ 0x01 ∷ 0x1a ∷ 0x0b ∷ [])
+unfolding read_operation opcode kinds_of_byte integer short_signed
+shortest = refl
+
+-- 41 01 02 03 1a 0b 0b: the pick
+picked : IsRewrittenAs (0x41 ∷ 0x01 ∷ 0x02 ∷ 0x03 ∷ 0x1a ∷ 0x0b ∷ 0x0b ∷ []) (0x41 ∷ 0x01 ∷ 0x02 ∷ 0x01 ∷ 0x1a ∷ 0x0b ∷ 0x0b ∷ [])
+unfolding read_operation opcode kinds_of_byte integer value_at nullable_at short_signed
+picked = refl
+
+-- 02 40 0c 00 41 07 1a 0b 41 05 1a 0b
+behind_dead_block : IsRewrittenAs (0x02 ∷ 0x40 ∷ 0x0c ∷ 0x00 ∷ 0x41 ∷ 0x07 ∷ 0x1a ∷ 0x0b ∷ 0x41 ∷ 0x05 ∷ 0x1a ∷ 0x0b ∷ [])
+    (0x02 ∷ 0x40 ∷ 0x0c ∷ 0x00 ∷ 0x0b ∷ 0x41 ∷ 0x05 ∷ 0x1a ∷ 0x0b ∷ [])
+unfolding read_operation opcode kinds_of_byte integer short_unsigned short_signed
+behind_dead_block = refl
+
+-- ---- reading back: two globals that change places
+
+abbrev two_globals : Space → List ℕ
+two_globals Globals = 0 ∷ 1 ∷ []
+two_globals _ = []
+
+abbrev with_globals : Environment
+with_globals = environment (Func [] [] ∷ Entry [] ∷ []) [] two_globals [] 0
+
+abbrev places : Space → List ℕ
+places Globals = 1 ∷ 0 ∷ []
+places _ = []
+
+-- the numbers, and the module that is read by them
+abbrev swapped : Numbers
+swapped = record { number_of = λ space id. some_or (slice_get (places space) id) (Index (Unnumbered space)); local_number = λ id. Err UnnumberedLocal }
+
+abbrev back : Environment
+back = environment (Func [] [] ∷ Entry [] ∷ []) [] places [] 0
+
+-- they undo the numbers
+is_undone : (space : Space) (id : ℕ) → IsUndone swapped back space id
+is_undone Globals zero n e = let at : 1 ≡ n = cc e in subst (λ k. back.id_of Globals k ≡ Ok 0) at refl
+is_undone Globals (suc zero) n e = let at : 0 ≡ n = cc e in subst (λ k. back.id_of Globals k ≡ Ok 1) at refl
+is_undone Globals (suc (suc id)) n e = absurd (cc e)
+is_undone _ id n e = absurd (cc e)
+
+inverse : IsInverse swapped back
+inverse = record { indices = is_undone; locals = λ id n e. absurd (cc e) }
+
+-- no type of the module takes nothing and gives one reference
+nothing_given : (v : ValType ℕ) → Some nothing ≡ Some (signature [] (v ∷ [])) → ⊥
+nothing_given v e =
+    let same : nothing ≡ signature [] (v ∷ []) = cc e in
+    let results : [] ≡ v ∷ [] = ap (λ (s : Signature). s.results) same in cc results
+
+no_reference : GivesNoReference back.types
+no_reference zero v e = absurd (nothing_given v e)
+no_reference (suc zero) v e = absurd (nothing_given v e)
+no_reference (suc (suc id)) v e = absurd (cc e)
+
+-- 23 00 24 01 0b is written as 23 01 24 00 0b, and that, read by them, as it stands
+exchanged : rewriting with_globals swapped (0x23 ∷ 0x00 ∷ 0x24 ∷ 0x01 ∷ 0x0b ∷ []) ≡ Some (Ok (0x23 ∷ 0x01 ∷ 0x24 ∷ 0x00 ∷ 0x0b ∷ []))
+unfolding read_operation opcode kinds_of_byte integer short_unsigned
+exchanged = refl
+
+unchanged : rewriting back swapped (0x23 ∷ 0x01 ∷ 0x24 ∷ 0x00 ∷ 0x0b ∷ []) ≡ Some (Ok (0x23 ∷ 0x01 ∷ 0x24 ∷ 0x00 ∷ 0x0b ∷ []))
+unfolding read_operation opcode kinds_of_byte integer short_unsigned
+unchanged = refl

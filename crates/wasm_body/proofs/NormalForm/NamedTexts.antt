@@ -1,0 +1,73 @@
+-- The text of a normal form with names is the text of a source tree, the rewritten one.
+use Rattle.std.proofs.Common.{◌≡◌, List, [], ◌∷◌, map, Ok, refl, sym, ap, ◌∙◌, subst}
+use Rattle.walrus_ir.specs.declared.val_type.InstrSeqType.{InstrSeqType}
+use Rattle.wasm_body.specs.Results.{◌>>=◌, gathered}
+use Rattle.wasm_body.specs.Control.{role_of, Control, Does, Opens, Else, Catch, CatchAll, End, Delegate, Marked, marked}
+use Rattle.wasm_body.specs.SourceTree.{Body, body_text}
+use Rattle.wasm_body.specs.Translation.{translate, located}
+use Rattle.wasm_body.specs.Naming.{NamedOperation, block_types}
+use Rattle.wasm_body.specs.NormalForm.{Typing, normal_form}
+use Rattle.wasm_body.specs.FlatText.{with_names}
+use Rattle.wasm_body.specs.Typed.{StandsFor, IsTypedAs, AreTyped}
+use Rattle.wasm_body.specs.TextLaws.{IsNamedBody, IsTextOf, HaveTexts, mark_named}
+use Rattle.wasm_body.proofs.NormalForm.Kept.{kept_written}
+use Rattle.wasm_body.proofs.Translation.Steps.{after_one, after_two}
+use Rattle.wasm_body.proofs.Structure.Along.{Each, AllMarked, Tells, weaker, along, all_of_each, is_body}
+use Rattle.wasm_body.proofs.NormalForm.Rewritten.{Named, IsTypedBy, typed_told, Sourced, end_at, rewritten, each_rewritten, rewritten_body, rewritten_list}
+use Rattle.wasm_body.proofs.NormalForm.WrittenTexts.{type_at, answer, named_by, named_written, tree_text_by}
+
+-- the type that an operator is written with stands for its block type
+pub stands_at : (m : Typing) (c : Control) (o : NamedOperation) → IsTypedBy m c o → StandsFor m (type_at m c o) (block_types o.immediates)
+stands_at m (Opens construct) o h = h
+stands_at m (Does action) o h = subst (λ bs. StandsFor m (type_at m (Does action) o) bs) (sym h) tt
+stands_at m Else o h = subst (λ bs. StandsFor m (type_at m Else o) bs) (sym h) tt
+stands_at m (Catch t) o h = subst (λ bs. StandsFor m (type_at m (Catch t) o) bs) (sym h) tt
+stands_at m CatchAll o h = subst (λ bs. StandsFor m (type_at m CatchAll o) bs) (sym h) tt
+stands_at m End o h = subst (λ bs. StandsFor m (type_at m End o) bs) (sym h) tt
+stands_at m (Delegate n) o h = subst (λ bs. StandsFor m (type_at m (Delegate n) o) bs) (sym h) tt
+
+module _ (m : Typing) where
+  abbrev IsTold : Named → Control → Type 0
+  IsTold a c = Tells a c × StandsFor m (type_at m c a.op) (block_types a.op.immediates)
+
+  told : (a : Named) (c : Control) → Sourced m a c → IsTold a c
+  told a c h = (h.0, stands_at m c a.op (typed_told m a c h))
+
+  -- an operator is written with names as itself
+  answered : (a : Named) (t : InstrSeqType) → StandsFor m t (block_types a.op.immediates) → (translate (named_by (with_names m) t) a.op >>= λ x. Ok (located x a.location)) ≡ Ok a
+  answered a t h = after_one (translate (named_by (with_names m) t) a.op) (Ok a.op) (λ x. Ok (located x a.location)) (sym (named_written (with_names m) t a.op) ∙ kept_written m t a.op h)
+
+  all_answered : (xs : List (Marked Named)) → AllMarked IsTold xs → gathered (map (answer (with_names m) m) xs) ≡ Ok (map (λ x. x.shown) xs)
+  all_answered [] h = refl
+  all_answered (x ∷ xs) h =
+      after_two (answer (with_names m) m x) (Ok x.shown) (gathered (map (answer (with_names m) m) xs)) (Ok (map (λ (y : Marked Named). y.shown) xs)) (λ y ys. Ok (y ∷ ys))
+      (answered x.shown (type_at m x.control x.shown.op) h.0.1) (all_answered xs h.1)
+
+module _ (m : Typing) (xs : List Named) (b : Body Named) (hx : IsNamedBody xs b) (h : AreTyped m xs) where
+  sourced : Each (Sourced m) b.sequence
+  sourced = along (λ x. IsTypedAs m (role_of x.op.opcode) x.op) xs b hx h
+
+  pub source_tells : Each Tells b.sequence
+  source_tells = weaker (Sourced m) Tells (λ a c g. g.0) b.sequence sourced
+
+  rewritten_told : Each (IsTold m) (rewritten b.sequence)
+  rewritten_told =
+      each_rewritten (Sourced m) (IsTold m) (λ a action g. told m a (Does action) g) (λ a construct g. told m a (Opens construct) g)
+      (λ l. (refl, tt)) (λ l. (refl, tt)) (λ a t l g. (refl, tt)) (λ l. (refl, tt)) (λ e n l g. (refl, tt)) b.sequence sourced
+
+  pub has_text : IsTextOf m (normal_form m b) (rewritten_list b)
+  has_text =
+      tree_text_by (with_names m) m b source_tells
+      ∙ all_answered m (body_text (rewritten_body b)) (all_of_each (IsTold m) (rewritten b.sequence) (marked (end_at b.close.location) End ∷ []) rewritten_told ((refl, tt), tt))
+
+  pub text_body : IsNamedBody (rewritten_list b) (rewritten_body b)
+  text_body = is_body (rewritten_body b) (weaker (IsTold m) Tells (λ a c g. g.0) (rewritten b.sequence) rewritten_told) refl
+
+  -- the text of the normal form is the rewritten body
+  pub text_is_body : (ys : List Named) → IsTextOf m (normal_form m b) ys → IsNamedBody ys (rewritten_body b)
+  text_is_body ys hy =
+      let same : Ok (rewritten_list b) ≡ Ok ys = sym has_text ∙ hy in
+      let e : rewritten_list b ≡ ys = cc in ap (map mark_named) (sym e) ∙ text_body
+
+pub have_texts : HaveTexts
+have_texts m xs b hx h = record { text = rewritten_list b; body = rewritten_body b; is_text = has_text m xs b hx h; is_body = text_body m xs b hx h }

@@ -1,0 +1,301 @@
+-- The text of a normal form in any way of writing: each operator of the rewritten body, written by itself.
+use Rattle.std.proofs.Common.{◌≡◌, ℕ, List, [], ◌∷◌, map, Option, Some, None, Result, Ok, Err, true, refl, sym, ap, ◌∙◌}
+use Rattle.std.specs.Prelude.{◌++◌, ◌^◌, if◌then◌else◌}
+use Rattle.std.specs.List.{AllByRecursion, flat_map}
+use Rattle.walrus_ir.specs.declared.val_type.InstrSeqType.{InstrSeqType}
+use Rattle.walrus_ir.specs.declared.val_type.InstrSeqType.TheVariants.{Simple}
+use Rattle.walrus_ir.specs.declared.val_type.HeapType.{HeapType}
+use Rattle.walrus_ir.specs.declared.val_type.HeapType.TheVariants.{Abstract, Concrete}
+use Rattle.walrus_ir.specs.declared.val_type.ValType.{ValType}
+use Rattle.walrus_ir.specs.declared.val_type.ValType.TheVariants.{I32, I64, F32, F64, V128, Ref}
+use Rattle.walrus_ir.specs.Types.{Signature}
+use Rattle.walrus_ir.specs.Tree.{Items, no_items, item, Sequences, no_sequences, sequence}
+use Rattle.wasm_ops.specs.Operations.{Immediate, index, local, label, handler, outer, number, access, branch_table, clauses, block, heap, value, cast, i32, i64, f32, f64, v128, lane, lanes, zero_byte, CatchClause, Cast, Operation, operation, RawOperation}
+use Rattle.wasm_ops.specs.declared.types.BlockType.{BlockType}
+use Rattle.wasm_ops.specs.Shortest.{short}
+use Rattle.wasm_body.specs.declared.error.EmitError.{EmitError}
+use Rattle.wasm_body.specs.declared.error.EmitError.TheVariants.{BadClauses}
+use Rattle.wasm_body.specs.Results.{◌>>=◌, gathered, each}
+use Rattle.wasm_body.specs.Control.{Action, If, Try, Control, Does, Opens, Else, Catch, CatchAll, End, Delegate, Marked, marked, end_operation}
+use Rattle.wasm_body.specs.SourceTree.{Sequence, Empty, Single, Wrapped, IfThen, IfElse, TryCatch, TryDelegate, Clauses, Ended, Catches, CatchesAll, construct_of, text, clauses_text, Body, body_text}
+use Rattle.wasm_body.specs.Translation.{Translation, translate, translate_immediate, translate_immediates, translate_clause, translate_heap, translate_value, translate_tag, translate_cast, Located, located}
+use Rattle.wasm_body.specs.Naming.{NamedOperation, block_types}
+use Rattle.wasm_body.specs.FunctionTree.{Target, Depth, Head, LegacyClause, delegates, Instruction, default_location}
+use Rattle.wasm_body.specs.NormalForm.{Typing, kept, Fate, Drops, Stays, Cuts, fate, instruction, with_fate, head, type_of, handler_type, legacy_clauses, closed_at, normal, handlers, normal_form, kept_operation}
+use Rattle.wasm_body.specs.FlatText.{Writing, TextOperation, are_lawful, try_closers, typed, opened, first_type, texts, tree_text, with_ids, then_by, text as items_text}
+use Rattle.wasm_body.specs.Bytes.{Numbers, numbering, numbered_text, bytes_of, tree_bytes}
+use Rattle.wasm_body.proofs.NormalForm.Kept.{exponent_of-pow}
+use Rattle.wasm_body.proofs.Structure.Along.{Each, EachIn, Tells}
+use Rattle.wasm_body.proofs.Translation.Steps.{Leads, after_one, after_two, all_of, each-ok, ok-sure, bound}
+use Rattle.wasm_body.proofs.Translation.Translations.{LeadAll, lead_all, translate_leads}
+use Rattle.wasm_body.proofs.NormalForm.Rewritten.{Named, closers_by, closers_told, wrapper_closers, clauses_lawful, end_at, else_at, catch_at, catch_all_at, delegate_at, single_with_fate, rewritten, rewritten_clauses, rewritten_body}
+
+-- ---- what is written of a named operator that the tree keeps
+
+module _ {M C : Type 0} (w : Writing M C) where
+  -- in a sequence of the type
+  abbrev pub named_by : InstrSeqType → Translation ℕ Signature M C EmitError
+  named_by t = record {
+    index = w.index;
+    local = w.local;
+    label = λ n. w.label (Depth n);
+    handler = w.handler;
+    outer = w.outer;
+    number = w.number;
+    block = λ s. w.block t;
+    alignment = λ e. w.alignment (2 ^ e);
+    count = w.count;
+  }
+
+  kept_number : (f : ℕ → Result ℕ EmitError) (n q : ℕ) → (let s : Result ℕ ⊥ = Ok n in s) ≡ Ok q → f q ≡ f n
+  kept_number f n q e = let same : n ≡ q = cc e in ap f (sym same)
+
+  kept_label : (n : ℕ) (q : Target) → (let s : Result Target ⊥ = Ok (Depth n) in s) ≡ Ok q → w.label q ≡ w.label (Depth n)
+  kept_label n q e = let same : Depth n ≡ q = cc e in ap w.label (sym same)
+
+  kept_lead : (t : InstrSeqType) → LeadAll kept (typed w t) (named_by t)
+  kept_lead t = record {
+    indices = λ space n. kept_number (w.index space) n;
+    locals = kept_number w.local;
+    labels = kept_label;
+    handlers = kept_number w.handler;
+    outers = kept_number w.outer;
+    numbers = kept_number w.number;
+    alignments = λ e. refl;
+    counts = λ n u e. refl;
+  }
+
+  pub named_written : (t : InstrSeqType) (o : NamedOperation) → translate (typed w t) (kept_operation o) ≡ translate (named_by t) o
+  named_written t o =
+      after_one (translate_immediates (typed w t) (kept_operation o).immediates) (translate_immediates (named_by t) o.immediates)
+      (λ is. Ok (record { opcode = o.opcode; immediates = is }))
+      (translate_leads kept (typed w t) (named_by t) o.immediates
+      (lead_all kept (typed w t) (named_by t) (kept_lead t) o.immediates (all_of (Leads kept.block (typed w t).block (named_by t).block) (λ b c h. refl) (block_types o.immediates)))
+      (kept_operation o).immediates (ok-sure (translate_immediates kept o.immediates)))
+
+-- the type that an operator is written with
+abbrev pub type_at : Typing → Control → NamedOperation → InstrSeqType
+type_at m (Opens construct) o = type_of m o
+type_at m _ o = Simple None
+
+module _ {M C : Type 0} (w : Writing M C) (m : Typing) where
+  abbrev Answer : Type 0
+  Answer = Result (Located (Operation M C)) EmitError
+
+  abbrev pub answer_at : InstrSeqType → Named → Answer
+  answer_at t a = translate (named_by w t) a.op >>= λ x. Ok (located x a.location)
+
+  abbrev pub answer : Marked Named → Answer
+  answer x = answer_at (type_at m x.control x.shown.op) x.shown
+
+  abbrev flat : Items Head Instruction → List Answer → List Answer
+  flat is k = items_text w is k
+
+  abbrev flat_each : List TextOperation → Sequences Head Instruction → List Answer → List Answer
+  flat_each cs ss k = texts w cs ss k
+
+  opened_by : (a : Named) (cs : List LegacyClause) (t : InstrSeqType) → are_lawful cs ≡ true → opened w (instruction a cs) t ≡ answer_at t a
+  opened_by a cs t h =
+      ap (λ b. if b then (translate (typed w t) (kept_operation a.op) >>= λ x. Ok (located x a.location)) else Err BadClauses) h
+      ∙ after_one (translate (typed w t) (kept_operation a.op)) (translate (named_by w t) a.op) (λ x. Ok (located x a.location)) (named_written w t a.op)
+
+  item_by : (a : Named) (cs : List LegacyClause) (c : Control) (ss : Sequences Head Instruction) (r : Items Head Instruction) (k : List Answer) → are_lawful cs ≡ true → Tells a c →
+      flat (item (instruction a cs) ss r) k ≡ answer_at (first_type ss) a ∷ flat_each (closers_by c cs ss) ss (flat r k)
+  item_by a cs c ss r k lawful h =
+      ap (λ d. opened w (instruction a cs) (first_type ss) ∷ flat_each d ss (flat r k)) (closers_told a c h cs ss)
+      ∙ ap (λ x. x ∷ flat_each (closers_by c cs ss) ss (flat r k)) (opened_by a cs (first_type ss) lawful)
+
+  fate_by : (f : Fate) (a : Named) (action : Action) (n : Items Head Instruction) (r : Sequence Named) (k : List (Marked Named)) → Tells a (Does action) →
+      flat n (map answer k) ≡ map answer (text r k) → flat (with_fate f (instruction a []) n) (map answer k) ≡ map answer (text (single_with_fate f a action r) k)
+  fate_by Drops a action n r k h e = e
+  fate_by Stays a action n r k h e = item_by a [] (Does action) no_sequences n (map answer k) refl h ∙ ap (λ l. answer_at (Simple None) a ∷ l) e
+  fate_by Cuts a action n r k h e = item_by a [] (Does action) no_sequences no_items (map answer k) refl h
+
+  -- what is written of an opener
+  abbrev first_of : Named → Answer
+  first_of a = answer_at (type_of m a.op) a
+
+  mutual
+    pub text_by : (s : Sequence Named) (k : List (Marked Named)) → Each Tells s → flat (normal m s) (map answer k) ≡ map answer (text (rewritten s) k)
+    text_by Empty k h = refl
+    text_by (Single a action r) k h = fate_by (fate action) a action (normal m r) (rewritten r) k h.0 (text_by r k h.1)
+    text_by (Wrapped a v b e r) k h =
+        let first = head (type_of m a.op) e.location in
+        item_by a [] (Opens (construct_of v)) (sequence first (normal m b) no_sequences) (normal m r) (map answer k) refl h.0
+        ∙ (ap (λ l. first_of a ∷ flat_each l (sequence first (normal m b) no_sequences) (flat (normal m r) (map answer k))) (wrapper_closers v first (normal m b))
+        ∙ (ap (λ l. first_of a ∷ flat (normal m b) (answer (marked (end_at e.location) End) ∷ l)) (text_by r k h.3)
+        ∙ ap (λ l. first_of a ∷ l) (text_by b (marked (end_at e.location) End ∷ text (rewritten r) k) h.1)))
+    text_by (IfThen a b e r) k h =
+        let added = head (type_of m a.op) default_location in
+        item_by a [] (Opens If) (sequence (head (type_of m a.op) e.location) (normal m b) (sequence added no_items no_sequences)) (normal m r) (map answer k) refl h.0
+        ∙ (ap (λ l. first_of a ∷ flat (normal m b) (answer (marked (else_at e.location) Else) ∷ answer (marked (end_at default_location) End) ∷ l)) (text_by r k h.3)
+        ∙ ap (λ l. first_of a ∷ l) (text_by b (marked (else_at e.location) Else ∷ marked (end_at default_location) End ∷ text (rewritten r) k) h.1))
+    text_by (IfElse a b l c e r) k h =
+        let k' = marked (end_at e.location) End ∷ text (rewritten r) k in
+        item_by a [] (Opens If) (sequence (head (type_of m a.op) l.location) (normal m b) (sequence (head (type_of m a.op) e.location) (normal m c) no_sequences)) (normal m r) (map answer k) refl h.0
+        ∙ (ap (λ x. first_of a ∷ flat (normal m b) (answer (marked (else_at l.location) Else) ∷ flat (normal m c) (answer (marked (end_at e.location) End) ∷ x))) (text_by r k h.5)
+        ∙ (ap (λ x. first_of a ∷ flat (normal m b) (answer (marked (else_at l.location) Else) ∷ x)) (text_by c k' h.3)
+        ∙ ap (λ x. first_of a ∷ x) (text_by b (marked (else_at l.location) Else ∷ text (rewritten c) k') h.1)))
+    text_by (TryCatch a b cs r) k h =
+        let first = head (type_of m a.op) (closed_at cs) in
+        item_by a (legacy_clauses cs) (Opens Try) (sequence first (normal m b) (handlers m a.op cs)) (normal m r) (map answer k) (clauses_lawful cs) h.0
+        ∙ (ap (λ x. first_of a ∷ flat_each (try_closers (legacy_clauses cs)) (sequence first (normal m b) (handlers m a.op cs)) x) (text_by r k h.3)
+        ∙ ap (λ x. first_of a ∷ x) (clauses_by a.op (type_of m a.op) b (λ l. text_by b l h.1) cs (text (rewritten r) k) h.2))
+    text_by (TryDelegate a b e n r) k h =
+        item_by a (delegates n ∷ []) (Opens Try) (sequence (head (type_of m a.op) default_location) (normal m b) no_sequences) (normal m r) (map answer k) refl h.0
+        ∙ (ap (λ l. first_of a ∷ flat (normal m b) (answer (marked (delegate_at n default_location) (Delegate n)) ∷ l)) (text_by r k h.3)
+        ∙ ap (λ l. first_of a ∷ l) (text_by b (marked (delegate_at n default_location) (Delegate n) ∷ text (rewritten r) k) h.1))
+
+    clauses_by : (o : NamedOperation) (t : InstrSeqType) (b : Sequence Named) →
+        ((k : List (Marked Named)) → flat (normal m b) (map answer k) ≡ map answer (text (rewritten b) k)) →
+        (cs : Clauses Named) (k : List (Marked Named)) → EachIn Tells cs →
+        flat_each (try_closers (legacy_clauses cs)) (sequence (head t (closed_at cs)) (normal m b) (handlers m o cs)) (map answer k) ≡ map answer (text (rewritten b) (clauses_text (rewritten_clauses cs) k))
+    clauses_by o t b body (Ended e) k g = body (marked (end_at e.location) End ∷ k)
+    clauses_by o t b body (Catches a tag c cs) k g =
+        let type = handler_type m o (m.tag_parameters tag) in
+        ap (λ x. flat (normal m b) (answer (marked (catch_at tag a.location) (Catch tag)) ∷ x)) (clauses_by o type c (λ l. text_by c l g.1) cs k g.2)
+        ∙ body (marked (catch_at tag a.location) (Catch tag) ∷ text (rewritten c) (clauses_text (rewritten_clauses cs) k))
+    clauses_by o t b body (CatchesAll a c e) k g =
+        ap (λ x. flat (normal m b) (answer (marked (catch_all_at a.location) CatchAll) ∷ x)) (text_by c (marked (end_at e.location) End ∷ k) g.1)
+        ∙ body (marked (catch_all_at a.location) CatchAll ∷ text (rewritten c) (marked (end_at e.location) End ∷ k))
+
+  -- the text of the normal form
+  pub tree_text_by : (b : Body Named) → Each Tells b.sequence → tree_text w (normal_form m b) ≡ gathered (map answer (body_text (rewritten_body b)))
+  tree_text_by b h = ap gathered (text_by b.sequence (marked (end_at b.close.location) End ∷ []) h)
+
+-- ---- written with ids, an operator has the type in the place of its block type
+
+abbrev pub with_type : InstrSeqType → Immediate ℕ Signature → Immediate ℕ InstrSeqType
+with_type t (block s) = block t
+with_type t (index space n) = index space n
+with_type t (local n) = local n
+with_type t (label l) = label l
+with_type t (handler n) = handler n
+with_type t (outer n) = outer n
+with_type t (number n) = number n
+with_type t (access a) = access a
+with_type t (branch_table ts d) = branch_table ts d
+with_type t (clauses cs) = clauses cs
+with_type t (heap h) = heap h
+with_type t (value v) = value v
+with_type t (cast c) = cast c
+with_type t (i32 z) = i32 z
+with_type t (i64 z) = i64 z
+with_type t (f32 bits) = f32 bits
+with_type t (f64 bits) = f64 bits
+with_type t (v128 bits) = v128 bits
+with_type t (lane n) = lane n
+with_type t (lanes ns) = lanes ns
+with_type t zero_byte = zero_byte
+
+ids_heap : (h : HeapType ℕ) → translate_heap with_ids.index h ≡ Ok h
+ids_heap (Abstract a) = refl
+ids_heap (Concrete n) = refl
+
+ids_value : (v : ValType ℕ) → translate_value with_ids.index v ≡ Ok v
+ids_value (Ref r) = after_one (translate_heap with_ids.index r.heap_type) (Ok r.heap_type) (λ h. Ok (Ref (record { nullable = r.nullable; heap_type = h }))) (ids_heap r.heap_type)
+ids_value I32 = refl
+ids_value I64 = refl
+ids_value F32 = refl
+ids_value F64 = refl
+ids_value V128 = refl
+
+ids_tag : (t : Option ℕ) → translate_tag with_ids.index t ≡ Ok t
+ids_tag None = refl
+ids_tag (Some n) = refl
+
+ids_clause : (t : InstrSeqType) (c : CatchClause ℕ) → translate_clause (named_by with_ids t) c ≡ Ok c
+ids_clause t c =
+    after_one (translate_tag with_ids.index c.tag) (Ok c.tag)
+    (λ g. Ok (record { by_reference = c.by_reference; tag = g; label = c.label })) (ids_tag c.tag)
+
+ids_cast : (t : InstrSeqType) (c : Cast ℕ) → translate_cast (named_by with_ids t) c ≡ Ok c
+ids_cast t c =
+    after_two (translate_heap with_ids.index c.source) (Ok c.source) (translate_heap with_ids.index c.target) (Ok c.target)
+    (λ s g. Ok (record { from_nullable = c.from_nullable; to_nullable = c.to_nullable; label = c.label; source = s; target = g }))
+    (ids_heap c.source) (ids_heap c.target)
+
+ids_written : (t : InstrSeqType) (i : Immediate ℕ Signature) → translate_immediate (named_by with_ids t) i ≡ Ok (with_type t i)
+ids_written t (access a) = ap (λ e. Ok (access (record { alignment = e; memory = a.memory; offset = a.offset }))) (exponent_of-pow a.alignment)
+ids_written t (branch_table ts d) = after_one (each (named_by with_ids t).label ts) (Ok ts) (λ us. Ok (branch_table us d)) (each-ok (named_by with_ids t).label (λ l. refl) ts)
+ids_written t (clauses cs) = after_one (each (translate_clause (named_by with_ids t)) cs) (Ok cs) (λ ds. Ok (clauses ds)) (each-ok (translate_clause (named_by with_ids t)) (ids_clause t) cs)
+ids_written t (heap h) = after_one (translate_heap with_ids.index h) (Ok h) (λ g. Ok (heap g)) (ids_heap h)
+ids_written t (value v) = after_one (translate_value with_ids.index v) (Ok v) (λ u. Ok (value u)) (ids_value v)
+ids_written t (cast c) = after_one (translate_cast (named_by with_ids t) c) (Ok c) (λ d. Ok (cast d)) (ids_cast t c)
+ids_written t _ = refl
+
+each_ids : (t : InstrSeqType) (is : List (Immediate ℕ Signature)) → translate_immediates (named_by with_ids t) is ≡ Ok (map (with_type t) is)
+each_ids t [] = refl
+each_ids t (i ∷ is) =
+    after_two (translate_immediate (named_by with_ids t) i) (Ok (with_type t i)) (translate_immediates (named_by with_ids t) is) (Ok (map (with_type t) is))
+    (λ j js. Ok (j ∷ js)) (ids_written t i) (each_ids t is)
+
+module _ (m : Typing) where
+  -- an operator of the rewritten body, with ids
+  abbrev pub ids_at : Marked Named → Located (Operation ℕ InstrSeqType)
+  ids_at x = located (operation x.shown.op.opcode (map (with_type (type_at m x.control x.shown.op)) x.shown.op.immediates)) x.shown.location
+
+  answer_ids : (x : Marked Named) → answer with_ids m x ≡ Ok (ids_at x)
+  answer_ids x =
+      let t = type_at m x.control x.shown.op in
+      ap (λ (r : Result (List (Immediate ℕ InstrSeqType)) EmitError).
+      (r >>= λ is. Ok (operation {L = ℕ} {B = InstrSeqType} x.shown.op.opcode is)) >>= λ o. Ok (located o x.shown.location))
+      (each_ids t x.shown.op.immediates)
+
+  gathered_ids : (xs : List (Marked Named)) → gathered (map (answer with_ids m) xs) ≡ Ok (map ids_at xs)
+  gathered_ids [] = refl
+  gathered_ids (x ∷ xs) =
+      after_two (answer with_ids m x) (Ok (ids_at x)) (gathered (map (answer with_ids m) xs)) (Ok (map ids_at xs)) (λ y ys. Ok (y ∷ ys))
+      (answer_ids x) (gathered_ids xs)
+
+  pub ids_text : (b : Body Named) → Each Tells b.sequence → tree_text with_ids (normal_form m b) ≡ Ok (map ids_at (body_text (rewritten_body b)))
+  ids_text b h = tree_text_by with_ids m b h ∙ gathered_ids (body_text (rewritten_body b))
+
+-- ---- written with numbers, an operator is spelt
+
+abbrev op_or : Result RawOperation EmitError → RawOperation
+op_or (Ok o) = o
+op_or (Err e) = end_operation
+
+module _ (to : Numbers) (m : Typing) where
+  abbrev pub numbering_at : Marked Named → Translation ℕ Signature ℕ BlockType EmitError
+  numbering_at x = named_by (then_by (numbering to)) (type_at m x.control x.shown.op)
+
+  -- how an operator of the rewritten body is spelt
+  abbrev pub spelt_as : Marked Named → RawOperation
+  spelt_as x = op_or (translate (numbering_at x) x.shown.op)
+
+  abbrev pub IsNumbered : Marked Named → Type 0
+  IsNumbered x = translate (numbering_at x) x.shown.op ≡ Ok (spelt_as x)
+
+  abbrev pub bytes_as : List (Marked Named) → List ℕ
+  bytes_as xs = flat_map (λ x. short (spelt_as x)) xs
+
+  op_found : (r : Result RawOperation EmitError) (o : RawOperation) → r ≡ Ok o → (r ≡ Ok (op_or r)) × (op_or r ≡ o)
+  op_found (Ok p) o e = (refl, cc)
+  op_found (Err f) o e = absurd cc
+
+  numbered_by : (xs : List (Marked Named)) (zs : List (Located RawOperation)) → gathered (map (answer (then_by (numbering to)) m) xs) ≡ Ok zs → AllByRecursion IsNumbered xs × (bytes_of zs ≡ bytes_as xs)
+  numbered_by [] zs e = let same : [] ≡ zs = cc e in (tt, ap bytes_of (sym same))
+  numbered_by (x ∷ xs) zs e =
+      let others = gathered (map (answer (then_by (numbering to)) m) xs) in
+      let first = bound (answer (then_by (numbering to)) m x) (λ y. others >>= λ ys. Ok (y ∷ ys)) zs e in
+      let rest = bound others (λ ys. Ok (first.0 ∷ ys)) zs first.2 in
+      let made = bound (translate (numbering_at x) x.shown.op) (λ o. Ok (located o x.shown.location)) first.0 first.1 in
+      let is : located made.0 x.shown.location ≡ first.0 = cc made.2 in
+      let whole : first.0 ∷ rest.0 ≡ zs = cc rest.2 in
+      let found = op_found (translate (numbering_at x) x.shown.op) made.0 made.1 in
+      let more = numbered_by xs rest.0 rest.1 in (
+        (found.0, more.0),
+        ap bytes_of (sym whole)
+            ∙ (ap (λ (z : Located RawOperation). short z.op ++ bytes_of rest.0) (sym is)
+            ∙ (ap (λ o. short o ++ bytes_of rest.0) (sym found.1) ∙ ap (λ l. short (spelt_as x) ++ l) more.1)),
+      )
+
+  pub numbered_bytes : (b : Body Named) (bytes : List ℕ) → Each Tells b.sequence → tree_bytes to (normal_form m b) ≡ Ok bytes →
+      AllByRecursion IsNumbered (body_text (rewritten_body b)) × (bytes ≡ bytes_as (body_text (rewritten_body b)))
+  numbered_bytes b bytes h e =
+      let texts = bound (numbered_text to (normal_form m b)) (λ xs. Ok (bytes_of xs)) bytes e in
+      let is : bytes_of texts.0 ≡ bytes = cc texts.2 in
+      let all = numbered_by (body_text (rewritten_body b)) texts.0 (sym (tree_text_by (then_by (numbering to)) m b h) ∙ texts.1) in
+      (all.0, sym is ∙ all.1)

@@ -1,0 +1,313 @@
+-- What was spelt, once it is named, has a spelling again with numbers for its ids.
+use Rattle.std.proofs.Common.{◌≡◌, ℕ, ◌<◌, List, [], ◌∷◌, map, length, true, Option, Some, None, Result, Ok, refl, sym, ap, ◌∙◌, subst, inl, inr}
+use Rattle.std.specs.Prelude.{◌^◌, ◌++◌}
+use Rattle.std.specs.List.{AllByRecursion}
+use Rattle.walrus_ir.specs.declared.val_type.HeapType.{HeapType}
+use Rattle.walrus_ir.specs.declared.val_type.HeapType.TheVariants.{Abstract, Concrete}
+use Rattle.walrus_ir.specs.declared.val_type.ValType.{ValType}
+use Rattle.walrus_ir.specs.declared.val_type.ValType.TheVariants.{I32, I64, F32, F64, V128, Ref}
+use Rattle.walrus_ir.specs.declared.val_type.InstrSeqType.{InstrSeqType}
+use Rattle.walrus_ir.specs.declared.val_type.InstrSeqType.TheVariants.{Simple, MultiValue}
+use Rattle.walrus_ir.specs.Types.{Signature}
+use Rattle.wasm_ops.specs.declared.types.BlockType.{BlockType}
+use Rattle.wasm_ops.specs.declared.types.BlockType.TheVariants.{Empty, Value, FuncType}
+use Rattle.wasm_ops.specs.declared.types.Space.{Space}
+use Rattle.wasm_ops.specs.declared.types.Space.TheVariants.{Types, Memories, Tags}
+use Rattle.wasm_ops.specs.Reading.{starts, Many}
+use Rattle.wasm_ops.specs.Numbers.{IsU32, IsU64, IsS32, IsS64, IsByte, AreBits}
+use Rattle.wasm_ops.specs.Types.{is_listed, nullable_at, value_at, value_rows, IsValueType, IsBlockType}
+use Rattle.wasm_ops.specs.Operations.{Access, CatchClause, Cast, Immediate, index, local, label, handler, outer, number, access, branch_table, clauses, block, heap, value, cast, i32, i64, f32, f64, v128, lane, lanes, zero_byte, RawImmediate}
+use Rattle.wasm_ops.specs.Immediates.{Kind, an_index, a_local, a_label, a_handler, an_outer, a_number, an_access, a_branch_table, some_clauses, a_block, a_heap, a_value, a_cast, an_i32, an_i64, an_f32, an_f64, a_v128, a_lane, sixteen_lanes, a_zero_byte, kind_of, IsAccess, IsClause, IsSelected, SpellsImmediate, SpellsImmediates}
+use Rattle.wasm_ops.proofs.ShortestTypes.{row_holds, listed_ok}
+use Rattle.wasm_ops.proofs.ShortestImmediates.{flags_are}
+use Rattle.wasm_body.specs.declared.error.EmitError.{EmitError}
+use Rattle.wasm_body.specs.Results.{◌>>=◌, each}
+use Rattle.wasm_body.specs.Frames.{Frame}
+use Rattle.wasm_body.specs.Translation.{Translation, translate_heap, translate_value, translate_tag, translate_clause, translate_cast, translate_access, translate_immediate, translate_immediates}
+use Rattle.wasm_body.specs.Naming.{Environment, naming, id_at}
+use Rattle.wasm_body.specs.FlatText.{then_by, exponent_of}
+use Rattle.wasm_body.proofs.NormalForm.Kept.{exponent_of-pow}
+use Rattle.wasm_body.specs.Bytes.{Numbers, fitting, fitting_numbers, numbered_block, numbering}
+use Rattle.wasm_body.specs.ReadBack.{EachInHeap, EachInTag, EachIn, IsUndone, IsUndoneLocal, IsCarriedValue, IsUndoneType}
+use Rattle.wasm_body.proofs.Bytes.Fitting.{fitting_is, fitting_answer}
+use Rattle.wasm_body.proofs.Translation.Steps.{bound, length-each}
+use Rattle.wasm_body.proofs.NormalForm.WrittenTexts.{named_by}
+use Rattle.wasm_body.proofs.ReadBack.Spellings.{IsSpellable, u32_spelt, FitsHeap, heap_spelt, empty_block_spelt, value_block_spelt, index_block_spelt, access_spelt, table_spelt, FitsTag, clause_spelt, clauses_spelt, cast_spelt, selected_spelt}
+
+-- ---- the kind of an immediate on any level
+
+abbrev pub kind_in : {L B : Type 0} → Immediate L B → Kind
+kind_in (index space n) = an_index space
+kind_in (local n) = a_local
+kind_in (label l) = a_label
+kind_in (handler n) = a_handler
+kind_in (outer n) = an_outer
+kind_in (number n) = a_number
+kind_in (access a) = an_access
+kind_in (branch_table ts d) = a_branch_table
+kind_in (clauses cs) = some_clauses
+kind_in (block b) = a_block
+kind_in (heap h) = a_heap
+kind_in (value v) = a_value
+kind_in (cast c) = a_cast
+kind_in (i32 z) = an_i32
+kind_in (i64 z) = an_i64
+kind_in (f32 bits) = an_f32
+kind_in (f64 bits) = an_f64
+kind_in (v128 bits) = a_v128
+kind_in (lane n) = a_lane
+kind_in (lanes ns) = sixteen_lanes
+kind_in zero_byte = a_zero_byte
+
+raw_kind : (i : RawImmediate) → kind_in i ≡ kind_of i
+raw_kind (index space n) = refl
+raw_kind _ = refl
+
+pub raw_kinds : (is : List RawImmediate) → map kind_in is ≡ map kind_of is
+raw_kinds [] = refl
+raw_kinds (i ∷ is) = ap (λ k. k ∷ map kind_in is) (raw_kind i) ∙ ap (λ ks. kind_of i ∷ ks) (raw_kinds is)
+
+-- what holds of all that the last step makes holds of the answer
+pub through : {X Y E : Type 0} → (r : Result Y E) (from : Y → X) (P : X → Type 0) → ((y : Y) → r ≡ Ok y → P (from y)) → (x : X) → (r >>= λ y. Ok (from y)) ≡ Ok x → P x
+through r from P h x e =
+    let y = bound r (λ y. Ok (from y)) x e in
+    let made : from y.0 ≡ x = cc y.2 in subst P made (h y.0 y.1)
+
+pub at_once : {X E : Type 0} → (y : X) (P : X → Type 0) → P y → (x : X) → (let r : Result X E = Ok y in r) ≡ Ok x → P x
+at_once y P h x e = let made : y ≡ x = cc e in subst P made h
+
+module _ {L B M C E : Type 0} (t : Translation L B M C E) where
+  abbrev KeepsKind : Immediate L B → Immediate M C → Type 0
+  KeepsKind i j = kind_in j ≡ kind_in i
+
+  kind_kept : (i : Immediate L B) (j : Immediate M C) → translate_immediate t i ≡ Ok j → KeepsKind i j
+  kind_kept (index space n) j e = through (t.index space n) (index space) (KeepsKind (index space n)) (λ y h. refl) j e
+  kind_kept (local n) j e = through (t.local n) local (KeepsKind (local n)) (λ y h. refl) j e
+  kind_kept (label l) j e = through (t.label l) label (KeepsKind (label l)) (λ y h. refl) j e
+  kind_kept (handler n) j e = through (t.handler n) handler (KeepsKind (handler n)) (λ y h. refl) j e
+  kind_kept (outer n) j e = through (t.outer n) outer (KeepsKind (outer n)) (λ y h. refl) j e
+  kind_kept (number n) j e = through (t.number n) number (KeepsKind (number n)) (λ y h. refl) j e
+  kind_kept (access a) j e = through (translate_access t a) access (KeepsKind (access a)) (λ y h. refl) j e
+  kind_kept (branch_table ts d) j e =
+      let u = bound (t.count (length ts)) (λ u. each t.label ts >>= λ us. t.label d >>= λ c. Ok (branch_table us c)) j e in
+      let us = bound (each t.label ts) (λ us. t.label d >>= λ c. Ok (branch_table us c)) j u.2 in
+      through (t.label d) (λ c. branch_table us.0 c) (KeepsKind (branch_table ts d)) (λ y h. refl) j us.2
+  kind_kept (clauses cs) j e =
+      let u = bound (t.count (length cs)) (λ u. each (translate_clause t) cs >>= λ ds. Ok (clauses ds)) j e in
+      through (each (translate_clause t) cs) clauses (KeepsKind (clauses cs)) (λ y h. refl) j u.2
+  kind_kept (block b) j e = through (t.block b) block (KeepsKind (block b)) (λ y h. refl) j e
+  kind_kept (heap h) j e = through (translate_heap t.index h) heap (KeepsKind (heap h)) (λ y g. refl) j e
+  kind_kept (value v) j e = through (translate_value t.index v) value (KeepsKind (value v)) (λ y h. refl) j e
+  kind_kept (cast c) j e = through (translate_cast t c) cast (KeepsKind (cast c)) (λ y h. refl) j e
+  kind_kept (i32 z) j e = at_once (i32 z) (KeepsKind (i32 z)) refl j e
+  kind_kept (i64 z) j e = at_once (i64 z) (KeepsKind (i64 z)) refl j e
+  kind_kept (f32 bits) j e = at_once (f32 bits) (KeepsKind (f32 bits)) refl j e
+  kind_kept (f64 bits) j e = at_once (f64 bits) (KeepsKind (f64 bits)) refl j e
+  kind_kept (v128 bits) j e = at_once (v128 bits) (KeepsKind (v128 bits)) refl j e
+  kind_kept (lane n) j e = at_once (lane n) (KeepsKind (lane n)) refl j e
+  kind_kept (lanes ns) j e = at_once (lanes ns) (KeepsKind (lanes ns)) refl j e
+  kind_kept zero_byte j e = at_once zero_byte (KeepsKind zero_byte) refl j e
+
+  pub kinds_kept : (is : List (Immediate L B)) (js : List (Immediate M C)) → translate_immediates t is ≡ Ok js → map kind_in js ≡ map kind_in is
+  kinds_kept [] js e = at_once [] (λ ks. map kind_in ks ≡ []) refl js e
+  kinds_kept (i ∷ is) js e =
+      let first = bound (translate_immediate t i) (λ k. each (translate_immediate t) is >>= λ ks. Ok (k ∷ ks)) js e in
+      through (each (translate_immediate t) is) (λ ks. first.0 ∷ ks) (λ ks. map kind_in ks ≡ map kind_in (i ∷ is))
+      (λ ks h. ap (λ k. k ∷ map kind_in ks) (kind_kept i first.0 first.1) ∙ ap (λ l. kind_in i ∷ l) (kinds_kept is ks h)) js first.2
+
+-- ---- what has to be known of a named immediate, its ids, labels and numbers aside
+
+abbrev pub IsRanged : {L B : Type 0} → Immediate L B → Type 0
+IsRanged (access a) = (a.alignment < 32) × IsSpellable IsU64 a.offset
+IsRanged (value v) = IsCarriedValue v
+IsRanged (i32 z) = IsSpellable IsS32 z
+IsRanged (i64 z) = IsSpellable IsS64 z
+IsRanged (f32 bits) = IsSpellable (AreBits 4) bits
+IsRanged (f64 bits) = IsSpellable (AreBits 8) bits
+IsRanged (v128 bits) = IsSpellable (AreBits 16) bits
+IsRanged (lane n) = IsSpellable IsByte n
+IsRanged (lanes ns) = IsSpellable (Many IsByte 16) ns
+IsRanged _ = Unit {0}
+
+-- what was spelt is in range
+
+access_ranged : (a : Access) (text : List ℕ) → IsAccess a text → (a.alignment < 32) × IsSpellable IsU64 a.offset
+access_ranged a text s =
+    let is : record { alignment = s.0.0.0; memory = s.0.1.0; offset = s.0.1.1 } ≡ a = cc s.1 in
+    let flags = s.2.3 in
+    let rest = s.2.4 in
+    subst (λ (b : Access). (b.alignment < 32) × IsSpellable IsU64 b.offset) is ((flags_are flags.0 s.0.0 flags.1).small, (rest.1, rest.4))
+
+never_nullable : (text : List ℕ) → starts (λ b. is_listed (nullable_at b)) text ≡ true → ⊥
+unfolding nullable_at
+never_nullable [] e = cc e
+never_nullable (b ∷ text) e = cc e
+
+listed_carried : (b : ℕ) (v : ValType ℕ) → value_at b ≡ Some v → IsCarriedValue v
+unfolding value_at
+listed_carried = row_holds (λ n t. IsCarriedValue t) value_rows (tt, (tt, (tt, (tt, (tt, tt)))))
+
+pub value_carried : (v : ValType ℕ) (text : List ℕ) → IsValueType v text → IsCarriedValue v
+value_carried v text (inl h) = absurd (never_nullable text h.0)
+value_carried v text (inr h) = listed_carried h.1.0 v (listed_ok (value_at h.1.0) v h.1.1)
+
+selected_carried : (v : ValType ℕ) (text : List ℕ) → IsSelected v text → IsCarriedValue v
+selected_carried v text s = let is : s.0.1 ≡ v = cc s.1 in subst IsCarriedValue is (value_carried s.0.1 s.2.1 s.2.4)
+
+-- a carried value type names no index
+pub carried_same : {E : Type 0} → (f : Space → ℕ → Result ℕ E) (v w : ValType ℕ) → IsCarriedValue v → translate_value f v ≡ Ok w → v ≡ w
+carried_same f I32 w h e = cc e
+carried_same f I64 w h e = cc e
+carried_same f F32 w h e = cc e
+carried_same f F64 w h e = cc e
+carried_same f V128 w h e = cc e
+carried_same f (Ref r) w h e = absurd h
+
+module _ {A : Type 0} (env : Environment) (fs : List (Frame A)) where
+  abbrev Ranged : Immediate ℕ Signature → Type 0
+  Ranged j = IsRanged j
+
+  access_named : (a : Access) (text : List ℕ) → IsAccess a text → (b : Access) → translate_access (naming env fs) a ≡ Ok b → Ranged (access b)
+  access_named a text s b e =
+      let h = access_ranged a text s in
+      through (id_at env Memories a.memory) (λ m. record { alignment = a.alignment; memory = m; offset = a.offset })
+      (λ (c : Access). (c.alignment < 32) × IsSpellable IsU64 c.offset) (λ m g. h) b e
+
+  ranged : (i : RawImmediate) (text : List ℕ) → SpellsImmediate i text → (j : Immediate ℕ Signature) → translate_immediate (naming env fs) i ≡ Ok j → Ranged j
+  ranged (index space n) text s j e = through (id_at env space n) (index space) Ranged (λ y h. tt) j e
+  ranged (local n) text s j e = through ((naming env fs).local n) local Ranged (λ y h. tt) j e
+  ranged (label l) text s j e = through ((naming env fs).label l) label Ranged (λ y h. tt) j e
+  ranged (handler n) text s j e = through ((naming env fs).handler n) handler Ranged (λ y h. tt) j e
+  ranged (outer n) text s j e = through ((naming env fs).outer n) outer Ranged (λ y h. tt) j e
+  ranged (number n) text s j e = at_once (number n) Ranged tt j e
+  ranged (access a) text s j e = through (translate_access (naming env fs) a) access Ranged (λ b h. access_named a text s b h) j e
+  ranged (branch_table ts d) text s j e =
+      let t = naming env fs in
+      let us = bound (each t.label ts) (λ us. t.label d >>= λ c. Ok (branch_table us c)) j e in
+      through (t.label d) (λ c. branch_table us.0 c) Ranged (λ y h. tt) j us.2
+  ranged (clauses cs) text s j e = through (each (translate_clause (naming env fs)) cs) clauses Ranged (λ y h. tt) j e
+  ranged (block b) text s j e = through ((naming env fs).block b) block Ranged (λ y h. tt) j e
+  ranged (heap h) text s j e = through (translate_heap (naming env fs).index h) heap Ranged (λ y g. tt) j e
+  ranged (value v) text s j e =
+      through (translate_value (naming env fs).index v) value Ranged
+      (λ w h. let c = selected_carried v text s in subst IsCarriedValue (carried_same (naming env fs).index v w c h) c) j e
+  ranged (cast c) text s j e = through (translate_cast (naming env fs) c) cast Ranged (λ y h. tt) j e
+  ranged (i32 z) text s j e = at_once (i32 z) Ranged (text, s) j e
+  ranged (i64 z) text s j e = at_once (i64 z) Ranged (text, s) j e
+  ranged (f32 bits) text s j e = at_once (f32 bits) Ranged (text, s) j e
+  ranged (f64 bits) text s j e = at_once (f64 bits) Ranged (text, s) j e
+  ranged (v128 bits) text s j e = at_once (v128 bits) Ranged (text, s) j e
+  ranged (lane n) text s j e = at_once (lane n) Ranged (text, s) j e
+  ranged (lanes ns) text s j e = at_once (lanes ns) Ranged (text, s) j e
+  ranged zero_byte text s j e = at_once zero_byte Ranged tt j e
+
+  pub all_ranged : (is : List RawImmediate) (text : List ℕ) → SpellsImmediates is text → (js : List (Immediate ℕ Signature)) → translate_immediates (naming env fs) is ≡ Ok js → AllByRecursion Ranged js
+  all_ranged [] text s js e = at_once [] (AllByRecursion Ranged) tt js e
+  all_ranged (i ∷ is) text s js e =
+      let first = bound (translate_immediate (naming env fs) i) (λ k. each (translate_immediate (naming env fs)) is >>= λ ks. Ok (k ∷ ks)) js e in
+      through (each (translate_immediate (naming env fs)) is) (λ ks. first.0 ∷ ks) (AllByRecursion Ranged)
+      (λ ks h. (ranged i s.0 s.3 first.0 first.1, all_ranged is s.1 s.4 ks h)) js first.2
+
+-- ---- with numbers for its ids it is spelt
+
+each_made : {X Y E : Type 0} → (f : X → Result Y E) (P : X → Type 0) (Q : Y → Type 0) → ((x : X) (y : Y) → P x → f x ≡ Ok y → Q y) →
+    (xs : List X) (ys : List Y) → AllByRecursion P xs → each f xs ≡ Ok ys → AllByRecursion Q ys
+each_made f P Q h [] ys p e = at_once [] (AllByRecursion Q) tt ys e
+each_made f P Q h (x ∷ xs) ys p e =
+    let first = bound (f x) (λ y. each f xs >>= λ zs. Ok (y ∷ zs)) ys e in
+    through (each f xs) (λ zs. first.0 ∷ zs) (AllByRecursion Q) (λ zs g. (h x first.0 p.0 first.1, each_made f P Q h xs zs p.1 g)) ys first.2
+
+trivially : {X : Type 0} → (xs : List X) → AllByRecursion (λ x. Unit {0}) xs
+trivially [] = tt
+trivially (x ∷ xs) = (tt, trivially xs)
+
+module _ (to : Numbers) (env : Environment) (t : InstrSeqType) where
+  abbrev onward : Translation ℕ Signature ℕ BlockType EmitError
+  onward = named_by (then_by (numbering to)) t
+
+  abbrev Undone : Immediate ℕ Signature → Type 0
+  Undone j = EachIn (IsUndone to env) (IsUndoneLocal to env) (λ s. IsUndoneType to env t) j
+
+  abbrev IsSpelt : RawImmediate → Type 0
+  IsSpelt k = IsSpellable SpellsImmediate k
+
+  heap_fits : (h : HeapType ℕ) → EachInHeap (IsUndone to env) h → (g : HeapType ℕ) → translate_heap (fitting_numbers to).number_of h ≡ Ok g → FitsHeap g
+  heap_fits (Abstract a) u g e = at_once (Abstract a) FitsHeap tt g e
+  heap_fits (Concrete n) u g e = through ((fitting_numbers to).number_of Types n) Concrete FitsHeap (λ m h. (fitting_answer (to.number_of Types n) m h).below) g e
+
+  tag_fits : (g : Option ℕ) → EachInTag (IsUndone to env) g → (q : Option ℕ) → translate_tag (fitting_numbers to).number_of g ≡ Ok q → FitsTag q
+  tag_fits None u q e = at_once None FitsTag tt q e
+  tag_fits (Some n) u q e = through ((fitting_numbers to).number_of Tags n) (λ m. Some m) FitsTag (λ m h. (fitting_answer (to.number_of Tags n) m h).below) q e
+
+  clause_again : (c d : CatchClause ℕ) → EachInTag (IsUndone to env) c.tag → translate_clause onward c ≡ Ok d → IsSpellable IsClause d
+  clause_again c d u e =
+      let tag = bound (translate_tag (fitting_numbers to).number_of c.tag) (λ g. fitting c.label >>= λ l. Ok (record { by_reference = c.by_reference; tag = g; label = l })) d e in
+      through (fitting c.label) (λ l. record { by_reference = c.by_reference; tag = tag.0; label = l }) (IsSpellable IsClause)
+      (λ l h. clause_spelt c.by_reference tag.0 l (tag_fits c.tag u tag.0 tag.1) (fitting_is c.label l h).below) d tag.2
+
+  counted_is : (n : ℕ) (u : Unit {0}) → (fitting n >>= λ _. Ok tt) ≡ Ok u → n < 2 ^ 32
+  counted_is n u e = let q = bound (fitting n) (λ _. Ok tt) u e in let fit = fitting_is n q.0 q.1 in subst (λ k. k < 2 ^ 32) fit.same fit.below
+
+  block_again : (s : InstrSeqType) (c : BlockType) → IsUndoneType to env s → numbered_block to s ≡ Ok c → IsSpellable IsBlockType c
+  block_again (Simple None) c u e = at_once Empty (IsSpellable IsBlockType) empty_block_spelt c e
+  block_again (Simple (Some v)) c u e =
+      through (translate_value (fitting_numbers to).number_of v) Value (IsSpellable IsBlockType)
+      (λ w h. value_block_spelt w (subst IsCarriedValue (carried_same (fitting_numbers to).number_of v w u.0 h) u.0)) c e
+  block_again (MultiValue id) c u e = through ((fitting_numbers to).number_of Types id) FuncType (IsSpellable IsBlockType) (λ n h. index_block_spelt n (fitting_answer (to.number_of Types id) n h).below) c e
+
+  cast_again : (c : Cast ℕ) → Undone (cast c) → (k : RawImmediate) → translate_immediate onward (cast c) ≡ Ok k → IsSpelt k
+  cast_again c u k e =
+      let from : ℕ → HeapType ℕ → HeapType ℕ → Cast ℕ = λ l s g. record { from_nullable = c.from_nullable; to_nullable = c.to_nullable; label = l; source = s; target = g } in
+      through (translate_cast onward c) cast IsSpelt (λ d made.
+      let l = bound (fitting c.label) (λ l. translate_heap (fitting_numbers to).number_of c.source >>= λ s. translate_heap (fitting_numbers to).number_of c.target >>= λ g. Ok (from l s g)) d made in
+      let s = bound (translate_heap (fitting_numbers to).number_of c.source) (λ s. translate_heap (fitting_numbers to).number_of c.target >>= λ g. Ok (from l.0 s g)) d l.2 in
+      through (translate_heap (fitting_numbers to).number_of c.target) (from l.0 s.0) (λ d. IsSpelt (cast d)) (λ g h.
+      cast_spelt l.0 s.0 g (fitting_is c.label l.0 l.1).below (heap_fits c.source u.0 s.0 s.1) (heap_fits c.target u.1 g h) c.from_nullable c.to_nullable) d s.2) k e
+
+  access_again : (a : Access) → (a.alignment < 32) × IsSpellable IsU64 a.offset → IsUndone to env Memories a.memory → (b : Access) → translate_access onward a ≡ Ok b → IsSpellable IsAccess b
+  access_again a r u b e =
+      through ((fitting_numbers to).number_of Memories a.memory) (λ m. record { alignment = exponent_of (2 ^ a.alignment); memory = m; offset = a.offset }) (IsSpellable IsAccess)
+      (λ m h. access_spelt (record { alignment = exponent_of (2 ^ a.alignment); memory = m; offset = a.offset }) (subst (λ n. n < 32) (sym (exponent_of-pow a.alignment)) r.0) (fitting_answer (to.number_of Memories a.memory) m h).below r.1) b e
+
+  again : (j : Immediate ℕ Signature) → IsRanged j → Undone j → (k : RawImmediate) → translate_immediate onward j ≡ Ok k → IsSpelt k
+  again (index space n) r u k e = through ((fitting_numbers to).number_of space n) (index space) IsSpelt (λ m h. u32_spelt m (fitting_answer (to.number_of space n) m h).below) k e
+  again (local n) r u k e = through ((fitting_numbers to).local_number n) local IsSpelt (λ m h. u32_spelt m (fitting_answer (to.local_number n) m h).below) k e
+  again (label l) r u k e = through (fitting l) label IsSpelt (λ m h. u32_spelt m (fitting_is l m h).below) k e
+  again (handler n) r u k e = through (fitting n) handler IsSpelt (λ m h. u32_spelt m (fitting_is n m h).below) k e
+  again (outer n) r u k e = through (fitting n) outer IsSpelt (λ m h. u32_spelt m (fitting_is n m h).below) k e
+  again (number n) r u k e = through (fitting n) number IsSpelt (λ m h. u32_spelt m (fitting_is n m h).below) k e
+  again (access a) r u k e = through (translate_access onward a) access IsSpelt (λ b h. access_again a r u b h) k e
+  again (branch_table ts d) r u k e =
+      let c = bound (onward.count (length ts)) (λ c. each fitting ts >>= λ us. fitting d >>= λ g. Ok (branch_table us g)) k e in
+      let us = bound (each fitting ts) (λ us. fitting d >>= λ g. Ok (branch_table us g)) k c.2 in
+      let count = subst (λ n. n < 2 ^ 32) (sym (length-each fitting ts us.0 us.1)) (counted_is (length ts) c.0 c.1) in
+      let all = each_made fitting (λ n. Unit {0}) (IsSpellable IsU32) (λ n m p h. u32_spelt m (fitting_is n m h).below) ts us.0 (trivially ts) us.1 in
+      through (fitting d) (λ g. branch_table us.0 g) IsSpelt (λ g h. table_spelt us.0 g count all (fitting_is d g h).below) k us.2
+  again (clauses cs) r u k e =
+      let c = bound (onward.count (length cs)) (λ c. each (translate_clause onward) cs >>= λ ds. Ok (clauses ds)) k e in
+      through (each (translate_clause onward) cs) clauses IsSpelt (λ ds h.
+      let count = subst (λ n. n < 2 ^ 32) (sym (length-each (translate_clause onward) cs ds h)) (counted_is (length cs) c.0 c.1) in
+      clauses_spelt ds count (each_made (translate_clause onward) (λ (x : CatchClause ℕ). EachInTag (IsUndone to env) x.tag) (IsSpellable IsClause) (λ x y p g. clause_again x y p g) cs ds u h)) k c.2
+  again (block s) r u k e = through (numbered_block to t) block IsSpelt (λ c h. block_again t c u h) k e
+  again (heap h) r u k e = through (translate_heap (fitting_numbers to).number_of h) heap IsSpelt (λ g made. heap_spelt g (heap_fits h u g made)) k e
+  again (value v) r u k e =
+      through (translate_value (fitting_numbers to).number_of v) value IsSpelt (λ w h. selected_spelt w (subst IsCarriedValue (carried_same (fitting_numbers to).number_of v w r h) r)) k e
+  again (cast c) r u k e = cast_again c u k e
+  again (i32 z) r u k e = at_once (i32 z) IsSpelt r k e
+  again (i64 z) r u k e = at_once (i64 z) IsSpelt r k e
+  again (f32 bits) r u k e = at_once (f32 bits) IsSpelt r k e
+  again (f64 bits) r u k e = at_once (f64 bits) IsSpelt r k e
+  again (v128 bits) r u k e = at_once (v128 bits) IsSpelt r k e
+  again (lane n) r u k e = at_once (lane n) IsSpelt r k e
+  again (lanes ns) r u k e = at_once (lanes ns) IsSpelt r k e
+  again zero_byte r u k e = at_once zero_byte IsSpelt (0 ∷ [], refl) k e
+
+  pub all_again : (js : List (Immediate ℕ Signature)) → AllByRecursion (λ j. IsRanged j) js → AllByRecursion Undone js → (ks : List RawImmediate) → translate_immediates onward js ≡ Ok ks →
+      IsSpellable SpellsImmediates ks
+  all_again [] r u ks e = at_once [] (IsSpellable SpellsImmediates) ([], refl) ks e
+  all_again (j ∷ js) r u ks e =
+      let first = bound (translate_immediate onward j) (λ k. each (translate_immediate onward) js >>= λ ks. Ok (k ∷ ks)) ks e in
+      through (each (translate_immediate onward) js) (λ ks. first.0 ∷ ks) (IsSpellable SpellsImmediates) (λ ks h.
+      let one = again j r.0 u.0 first.0 first.1 in
+      let others = all_again js r.1 u.1 ks h in
+      (one.0 ++ others.0, (one.0, others.0, refl, one.1, others.1))) ks first.2

@@ -1,0 +1,223 @@
+-- Operators that keep the rules where they stand, by their names, and that can be spelt: those of a lawful body that has
+-- been spelt, and those of the rewritten body.
+use Rattle.std.proofs.Common.{◌≡◌, ℕ, List, [], ◌∷◌, map, true, Some, Ok, refl, sym, ap, ◌∙◌, subst, arith}
+use Rattle.std.specs.List.{AllByRecursion}
+use Rattle.walrus_ir.specs.Types.{Signature}
+use Rattle.wasm_ops.specs.declared.types.Opcode.TheVariants.{Byte}
+use Rattle.wasm_ops.specs.Operations.{Immediate, outer, RawOperation}
+use Rattle.wasm_ops.specs.Immediates.{an_outer}
+use Rattle.wasm_ops.specs.Opcodes.{IsOpcode, kinds_of, kinds_of_byte}
+use Rattle.wasm_ops.specs.Spelling.{Spells}
+use Rattle.wasm_body.specs.Control.{Role, an_if, a_catch, a_catch_all, a_delegate, role_of, Control, Does, Opens, Else, Catch, CatchAll, End, Delegate, If, control_of, control_by, Action, Marked, marked}
+use Rattle.wasm_body.specs.SourceTree.{Sequence, Empty, Single, Wrapped, IfThen, IfElse, TryCatch, TryDelegate, Clauses, Ended, Catches, CatchesAll}
+use Rattle.wasm_body.specs.Frames.{Frame, OfWrapper, Consequent, Alternative, TryBody, Handler, HandlerOfAll, Follows, FollowsIn, may_stand}
+use Rattle.wasm_body.specs.Translation.{translate, translate_immediates}
+use Rattle.wasm_body.specs.Naming.{Environment, NamedOperation, Occurrence, naming, block_types}
+use Rattle.wasm_body.specs.Parsing.Accepted.{IsNamed}
+use Rattle.wasm_body.specs.NormalForm.{typing_of, name_at, Fate, Drops, Stays, Cuts, fate}
+use Rattle.wasm_body.specs.FunctionTree.{default_location}
+use Rattle.wasm_body.specs.Typed.{StandsFor}
+use Rattle.wasm_body.proofs.Structure.Along.{Tells}
+use Rattle.wasm_body.proofs.Parsing.NamingLemmas.{same_opcode, named_parts}
+use Rattle.wasm_body.proofs.Bytes.NumberedBodies.{HasText}
+use Rattle.wasm_body.proofs.Bytes.LawfulTyped.{named_typed}
+use Rattle.wasm_body.proofs.NormalForm.Rewritten.{Named, typed_told, end_at, else_at, catch_at, catch_all_at, delegate_at, single_with_fate, rewritten, rewritten_clauses}
+use Rattle.wasm_body.proofs.NormalForm.WrittenTexts.{type_at}
+use Rattle.wasm_body.proofs.NormalForm.ByNames.{op_of}
+use Rattle.wasm_body.proofs.NormalForm.NamedTexts.{stands_at}
+use Rattle.wasm_body.proofs.ReadBack.FrameNames.{map_frames, named_of, results_at, types_in, ruling, IsRuled, is_ruled, named_immediates}
+use Rattle.wasm_body.proofs.ReadBack.CarriedClosers.{else_carried, catch_carried, catch_all_carried, delegate_carried, delegate_kinds}
+use Rattle.wasm_body.proofs.ReadBack.Spellings.{IsSpellable}
+use Rattle.wasm_body.proofs.ReadBack.Ranged.{kind_in, raw_kinds, kinds_kept, IsRanged, all_ranged}
+
+-- What has to be known of a named operator for it to be spelt, its ids and labels aside.
+pub record CanSpell (o : NamedOperation) : Type 0 where
+  pub opcode : IsSpellable IsOpcode o.opcode
+  pub kinds : kinds_of o.opcode ≡ Some (map kind_in o.immediates)
+  pub ranged : AllByRecursion (λ (i : Immediate ℕ Signature). IsRanged i) o.immediates
+
+-- What holds of each operator where it stands.
+pub record IsSound (env : Environment) (fs : List (Frame Named)) (x : Marked Named) : Type 0 where
+  pub ruled : IsRuled env (map_frames op_of fs) x.shown.op
+  pub tells : Tells x.shown x.control
+  pub stands_for : StandsFor (typing_of env) (type_at (typing_of env) x.control x.shown.op) (block_types x.shown.op.immediates)
+  pub spellable : CanSpell x.shown.op
+
+-- ---- an operator of a lawful body
+
+can_spell : (env : Environment) (fs : List (Frame Occurrence)) (o : RawOperation) (named : NamedOperation) (text : List ℕ) → Spells o text → translate (naming env fs) o ≡ Ok named → CanSpell named
+can_spell env fs o named text s e =
+    let opcode : named.opcode ≡ o.opcode = same_opcode (naming env fs) o named e in
+    let immediates = named_immediates env fs o named e in
+    record {
+      opcode = subst (IsSpellable IsOpcode) (sym opcode) (s.first, s.opcode);
+      kinds = ap kinds_of opcode ∙ (s.kinds ∙ ap (λ ks. Some ks) (sym (raw_kinds o.immediates) ∙ sym (kinds_kept (naming env fs) o.immediates named.immediates immediates)));
+      ranged = all_ranged env fs o.immediates s.others s.immediates named.immediates immediates;
+    }
+
+-- what is known of it beside its name
+abbrev pub IsSpeltThere : Occurrence → Control → Type 0
+IsSpeltThere x c = (control_of x.named ≡ c) × HasText x
+
+pub occurrence_sound : (env : Environment) (fs : List (Frame Occurrence)) (gs : List (Frame Named)) (x : Occurrence) (c : Control)
+    → map_frames named_of fs ≡ map_frames op_of gs → IsNamed env fs (marked x c) → IsSpeltThere x c → IsSound env gs (marked (name_at x) c)
+occurrence_sound env fs gs x c same e p =
+    let m = typing_of env in
+    let translated = (named_parts env fs x.spelt x.named e).translated in
+    record {
+      ruled = subst (λ l. IsRuled env l x.named) same (is_ruled env fs x.spelt x.named e);
+      tells = p.0;
+      stands_for = stands_at m c x.named (typed_told m (name_at x) c (p.0, named_typed env fs x.spelt x.named p.1.1.kinds e));
+      spellable = can_spell env fs x.spelt x.named p.1.0 p.1.1 translated;
+    }
+
+-- ---- the operators that part and close constructs
+
+if_role : (r : Role) (is : List (Immediate ℕ Signature)) → control_by r is ≡ Opens If → r ≡ an_if
+if_role an_if is e = refl
+if_role _ is e = absurd cc
+
+catch_role : (r : Role) (is : List (Immediate ℕ Signature)) (t : ℕ) → control_by r is ≡ Catch t → r ≡ a_catch
+catch_role a_catch is t e = refl
+catch_role _ is t e = absurd cc
+
+catch_all_role : (r : Role) (is : List (Immediate ℕ Signature)) → control_by r is ≡ CatchAll → r ≡ a_catch_all
+catch_all_role a_catch_all is e = refl
+catch_all_role _ is e = absurd cc
+
+delegate_role : (r : Role) (is : List (Immediate ℕ Signature)) (n : ℕ) → control_by r is ≡ Delegate n → r ≡ a_delegate
+delegate_role a_delegate is n e = refl
+delegate_role _ is n e = absurd cc
+
+only_outer : (is : List (Immediate ℕ Signature)) → map kind_in is ≡ an_outer ∷ [] → (d : ℕ) × (is ≡ outer d ∷ [])
+only_outer [] e = absurd cc
+only_outer (outer d ∷ []) e = (d, refl)
+only_outer (outer d ∷ j ∷ js) e = absurd cc
+only_outer (_ ∷ is) e = absurd cc
+
+one_byte : (b : ℕ) → IsOpcode (Byte b) (b ∷ []) → IsSpellable IsOpcode (Byte b)
+one_byte b h = (b ∷ [], h)
+
+module _ (env : Environment) where
+  end_sound : (f : Frame Named) (fs : List (Frame Named)) (l : ℕ) → IsSound env (f ∷ fs) (marked (end_at l) End)
+  unfolding kinds_of_byte
+  end_sound f fs l = record {
+    ruled = record { stands = refl; keeps = refl; typed = refl };
+    tells = refl;
+    stands_for = tt;
+    spellable = record { opcode = one_byte 0x0b (refl, omega arith, refl); kinds = refl; ranged = tt };
+  }
+
+  else_sound : (a : Named) (fs : List (Frame Named)) (l : ℕ) → IsSound env fs (marked a (Opens If)) → IsSound env (Consequent a ∷ fs) (marked (else_at l) Else)
+  else_sound a fs l s = record {
+    ruled = record { stands = refl; keeps = refl; typed = refl };
+    tells = refl;
+    stands_for = tt;
+    spellable = record {
+      opcode = one_byte 0x05 (refl, omega arith, refl);
+      kinds = else_carried a.op.opcode (map kind_in a.op.immediates) s.spellable.kinds (if_role (role_of a.op.opcode) a.op.immediates s.tells);
+      ranged = tt;
+    };
+  }
+
+  catch_sound : (fs : List (Frame Named)) (h : Named) (t l : ℕ) → IsSound env fs (marked h (Catch t)) → IsSound env fs (marked (catch_at t l) (Catch t))
+  catch_sound fs h t l s = record {
+    ruled = record {
+      stands = subst (λ c. may_stand (map_frames op_of fs) c ≡ true) s.tells s.ruled.stands;
+      keeps = refl;
+      typed = subst (λ c. types_in env (results_at (map_frames op_of fs)) c h.op ≡ Ok tt) s.tells s.ruled.typed;
+    };
+    tells = refl;
+    stands_for = tt;
+    spellable = record {
+      opcode = one_byte 0x07 (refl, omega arith, refl);
+      kinds = catch_carried h.op.opcode (map kind_in h.op.immediates) s.spellable.kinds (catch_role (role_of h.op.opcode) h.op.immediates t s.tells);
+      ranged = (tt, tt);
+    };
+  }
+
+  catch_all_sound : (fs : List (Frame Named)) (h : Named) (l : ℕ) → IsSound env fs (marked h CatchAll) → IsSound env fs (marked (catch_all_at l) CatchAll)
+  catch_all_sound fs h l s = record {
+    ruled = record {
+      stands = subst (λ c. may_stand (map_frames op_of fs) c ≡ true) s.tells s.ruled.stands;
+      keeps = refl;
+      typed = subst (λ c. types_in env (results_at (map_frames op_of fs)) c h.op ≡ Ok tt) s.tells s.ruled.typed;
+    };
+    tells = refl;
+    stands_for = tt;
+    spellable = record {
+      opcode = one_byte 0x19 (refl, omega arith, refl);
+      kinds = catch_all_carried h.op.opcode (map kind_in h.op.immediates) s.spellable.kinds (catch_all_role (role_of h.op.opcode) h.op.immediates s.tells);
+      ranged = tt;
+    };
+  }
+
+  -- a `delegate` has its depth alone
+  delegate_depth : (fs : List (Frame Named)) (e : Named) (n : ℕ) → IsSound env fs (marked e (Delegate n)) → e.op.immediates ≡ outer n ∷ []
+  delegate_depth fs e n s =
+      let role = delegate_role (role_of e.op.opcode) e.op.immediates n s.tells in
+      let kinds = delegate_kinds e.op.opcode (map kind_in e.op.immediates) s.spellable.kinds role in
+      let depth = only_outer e.op.immediates kinds in
+      let alone : List (Immediate ℕ Signature) = outer depth.0 ∷ [] in
+      let control : control_by a_delegate alone ≡ Delegate n =
+      ap (control_by a_delegate) (sym depth.1) ∙ (ap (λ r. control_by r e.op.immediates) (sym role) ∙ s.tells) in
+      let same : depth.0 ≡ n = cc control in
+      depth.1 ∙ ap (λ k. outer k ∷ []) same
+
+  delegate_sound : (fs : List (Frame Named)) (e : Named) (n l : ℕ) → IsSound env fs (marked e (Delegate n)) → IsSound env fs (marked (delegate_at n l) (Delegate n))
+  delegate_sound fs e n l s =
+      let role = delegate_role (role_of e.op.opcode) e.op.immediates n s.tells in
+      let depth = delegate_depth fs e n s in
+      record {
+        ruled = record {
+          stands = subst (λ c. may_stand (map_frames op_of fs) c ≡ true) s.tells s.ruled.stands;
+          keeps = subst (λ is. translate_immediates (ruling (map_frames op_of fs)) is ≡ Ok is) depth s.ruled.keeps;
+          typed = refl;
+        };
+        tells = refl;
+        stands_for = tt;
+        spellable = record {
+          opcode = one_byte 0x18 (refl, omega arith, refl);
+          kinds = delegate_carried e.op.opcode (map kind_in e.op.immediates) s.spellable.kinds role;
+          ranged = subst (λ is. AllByRecursion (λ (i : Immediate ℕ Signature). IsRanged i) is) depth s.spellable.ranged;
+        };
+      }
+
+  -- ---- the rewritten body
+
+  fate_sound : (f : Fate) (fs : List (Frame Named)) (a : Named) (action : Action) (r : Sequence Named) → IsSound env fs (marked a (Does action)) → Follows (IsSound env) fs r → Follows (IsSound env) fs (single_with_fate f a action r)
+  fate_sound Drops fs a action r h g = g
+  fate_sound Stays fs a action r h g = (h, g)
+  fate_sound Cuts fs a action r h g = (h, tt)
+
+  mutual
+    pub rewritten_sound : (fs : List (Frame Named)) (s : Sequence Named) → Follows (IsSound env) fs s → Follows (IsSound env) fs (rewritten s)
+    rewritten_sound fs Empty h = tt
+    rewritten_sound fs (Single a action r) h = fate_sound (fate action) fs a action (rewritten r) h.0 (rewritten_sound fs r h.1)
+    rewritten_sound fs (Wrapped a w b e r) h = (h.0, rewritten_sound (OfWrapper a ∷ fs) b h.1, end_sound (OfWrapper a) fs e.location, rewritten_sound fs r h.3)
+    rewritten_sound fs (IfThen a b e r) h = (
+      h.0,
+      rewritten_sound (Consequent a ∷ fs) b h.1,
+      else_sound a fs e.location h.0,
+      tt,
+      end_sound (Alternative a) fs default_location,
+      rewritten_sound fs r h.3,
+    )
+    rewritten_sound fs (IfElse a b l c e r) h = (
+      h.0,
+      rewritten_sound (Consequent a ∷ fs) b h.1,
+      else_sound a fs l.location h.0,
+      rewritten_sound (Alternative a ∷ fs) c h.3,
+      end_sound (Alternative a) fs e.location,
+      rewritten_sound fs r h.5,
+    )
+    rewritten_sound fs (TryCatch a b cs r) h = (h.0, rewritten_sound (TryBody a ∷ fs) b h.1, clauses_sound fs a (TryBody a) cs h.2, rewritten_sound fs r h.3)
+    rewritten_sound fs (TryDelegate a b e n r) h = (h.0, rewritten_sound (TryBody a ∷ fs) b h.1, delegate_sound (TryBody a ∷ fs) e n default_location h.2, rewritten_sound fs r h.3)
+
+    clauses_sound : (fs : List (Frame Named)) (a : Named) (f : Frame Named) (cs : Clauses Named) → FollowsIn (IsSound env) fs a f cs → FollowsIn (IsSound env) fs a f (rewritten_clauses cs)
+    clauses_sound fs a f (Ended e) h = end_sound f fs e.location
+    clauses_sound fs a f (Catches i t b cs) h = (catch_sound (f ∷ fs) i t i.location h.0, rewritten_sound (Handler a ∷ fs) b h.1, clauses_sound fs a (Handler a) cs h.2)
+    clauses_sound fs a f (CatchesAll i b e) h = (catch_all_sound (f ∷ fs) i i.location h.0, rewritten_sound (HandlerOfAll a ∷ fs) b h.1, end_sound (HandlerOfAll a) fs e.location)
+
+  pub close_sound : (fs : List (Frame Named)) (f : Frame Named) (l : ℕ) → IsSound env (f ∷ fs) (marked (end_at l) End)
+  close_sound fs f l = end_sound f fs l

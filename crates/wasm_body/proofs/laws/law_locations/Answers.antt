@@ -1,0 +1,5 @@
+use Rattle.wasm_body.proofs.Executions.Locations.{places_increase, pairs_located, say_locations, locations_honest}
+use Rattle.wasm_body.proofs.laws.law_locations.Goals as goal
+
+pub returns : goal.returns
+returns c = record { increase = places_increase; of_text = pairs_located; named = say_locations; accepted = locations_honest }

@@ -1,0 +1,62 @@
+-- The laws of locations: the pairs that are written for a body's normal form say of each event of a run where in the source
+-- its operator stood.
+use Rattle.std.specs.Prelude.{◌≡◌, ℕ, List, map, Option, option_and_then, Ok}
+use Rattle.std.specs.List.{AllByRecursion}
+use Rattle.std.specs.List.Sorted.{IsStrictlyIncreasing}
+use Rattle.wasm_body.specs.SourceTree.{Body}
+use Rattle.wasm_body.specs.Translation.{Located}
+use Rattle.wasm_body.specs.Naming.{Environment, NamedOperation, Occurrence}
+use Rattle.wasm_body.specs.Parsing.Accepted.{HasSpelling, Lawful}
+use Rattle.wasm_body.specs.FunctionTree.{FunctionTree}
+use Rattle.wasm_body.specs.NormalForm.{Typing, typing_of, normal_form, name_at, body_tree}
+use Rattle.wasm_body.specs.Bytes.{Numbers}
+use Rattle.wasm_body.specs.Typed.{AreTyped}
+use Rattle.wasm_body.specs.TextLaws.{IsNamedBody, IsTextOf}
+use Rattle.wasm_body.specs.Machine.{Outcome, Run}
+use Rattle.wasm_body.specs.Places.{run_by_place, show_run, shown_by}
+use Rattle.wasm_body.specs.ExecutionLaws.{controls, locations_of}
+use Rattle.wasm_body.specs.Pairs.{Pair, tree_pairs, location_in}
+
+-- The places of a tree's pairs strictly increase.
+abbrev pub PlacesIncrease : Type 0
+PlacesIncrease =
+    (to : Numbers) (t : FunctionTree) (before : ℕ) (ps : List Pair) → tree_pairs to t before ≡ Ok ps →
+    IsStrictlyIncreasing (map (λ (p : Pair). p.1) ps)
+
+-- The pairs of the normal form of a body of named operators are those of its text's operators: one for each, at its location.
+abbrev pub PairsMatchText : Type 0
+PairsMatchText =
+    (m : Typing) (xs : List (Located NamedOperation)) (b : Body (Located NamedOperation)) → IsNamedBody xs b → AreTyped m xs →
+    (ys : List (Located NamedOperation)) → IsTextOf m (normal_form m b) ys →
+    (to : Numbers) (before : ℕ) (ps : List Pair) → tree_pairs to (normal_form m b) before ≡ Ok ps →
+    map (λ (p : Pair). p.0) ps ≡ map (λ y. y.location) ys
+
+-- ---- runs of what was written
+
+-- a run of named operators, each event at the place where its operator was written
+abbrev pub written_run : List (Located NamedOperation) → List Pair → List Outcome → (turns : ℕ) → Run (Option ℕ)
+written_run ys ps outcomes turns = shown_by (map (λ (p : Pair). p.1) ps) (run_by_place (controls ys) outcomes turns)
+
+-- a run by places, each looked up in the pairs
+abbrev pub locations_along : List Pair → Run (Option ℕ) → Run (Option ℕ)
+locations_along ps r = show_run (option_and_then (location_in ps)) r
+
+-- Looked up in the pairs, the run of the text that is written is the run of these operators at their locations: event by
+-- event, for all outcomes and turns.
+abbrev pub SayLocations : List Pair → (ys xs : List (Located NamedOperation)) → Type 0
+SayLocations ps ys xs = (outcomes : List Outcome) (turns : ℕ) → locations_along ps (written_run ys ps outcomes turns) ≡ locations_of xs outcomes turns
+
+-- The pairs of the normal form of a body of named operators say the locations of its operators: of every construct, and
+-- whatever stands before the bytes.
+abbrev pub NamedLocationsAreHonest : Type 0
+NamedLocationsAreHonest =
+    (m : Typing) (xs : List (Located NamedOperation)) (b : Body (Located NamedOperation)) → IsNamedBody xs b → AreTyped m xs →
+    (ys : List (Located NamedOperation)) → IsTextOf m (normal_form m b) ys →
+    (to : Numbers) (before : ℕ) (ps : List Pair) → tree_pairs to (normal_form m b) before ≡ Ok ps → SayLocations ps ys xs
+
+-- The pairs of the normal form of an accepted body say the locations of its operators.
+abbrev pub LocationsAreHonest : Type 0
+LocationsAreHonest =
+    (env : Environment) (xs : List Occurrence) (b : Body Occurrence) → AllByRecursion HasSpelling xs → Lawful env xs b →
+    (ys : List (Located NamedOperation)) → IsTextOf (typing_of env) (body_tree env b) ys →
+    (to : Numbers) (before : ℕ) (ps : List Pair) → tree_pairs to (body_tree env b) before ≡ Ok ps → SayLocations ps ys (map name_at xs)
