@@ -38,6 +38,7 @@ module _ {A : Type 0} (env : Environment) (fs : List (Frame A)) (ps : List ℕ) 
     labels = λ n q e. place_leads f n q e;
     handlers = λ n q e. same_leads n q (handler_same fs n q e);
     outers = λ n q e. same_leads n q (open_same (outside fs) n q e);
+    numbers = λ n q e. let same : n ≡ q = cc e in same_leads n q (sym same);
     alignments = λ n. refl;
     counts = λ n u e. refl;
   }
@@ -69,6 +70,7 @@ module _ {A : Type 0} (env : Environment) (fs : List (Frame A)) (ps : List ℕ) 
     labels = label_alike e;
     handlers = λ n. refl;
     outers = λ n. refl;
+    numbers = λ n. refl;
     blocks = λ b. made_alike (name_block env b);
     counts = λ n. refl;
   }

@@ -19,5 +19,6 @@ placing env fs places = record {
   outer = open_label (outside fs);
   block = λ b. name_block env b >>= λ s. Ok tt;
   alignment = λ e. 2 ^ e;
+  number = λ n. Ok n;
   count = λ n. Ok tt;
 }
