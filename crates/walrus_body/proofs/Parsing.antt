@@ -3,6 +3,7 @@ pub mod Closing
 pub mod Frames
 pub mod Constructs
 pub mod Labels
+pub mod Rules
 pub mod Placements
 pub mod FrameLists
 pub mod TreeChanges
