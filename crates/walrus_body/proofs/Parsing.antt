@@ -4,6 +4,7 @@ pub mod Frames
 pub mod Constructs
 pub mod Labels
 pub mod Rules
+pub mod Steps
 pub mod Placements
 pub mod FrameLists
 pub mod TreeChanges

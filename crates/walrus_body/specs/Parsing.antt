@@ -8,3 +8,4 @@ pub mod OpenTrees
 pub mod OwnLists
 pub mod Keeping
 pub mod Placing
+pub mod Advancing

@@ -1,0 +1,124 @@
+-- How each kind of operator advances a parse.
+use Rattle.std.specs.Prelude.{◌≡◌, ℕ, suc, ◌+◌, ◌≤◌, List, [], ◌∷◌, ◌++◌, length, Bool, true, false, Option, Some, None, Result, Ok, Err}
+use Rattle.std.proofs.Common.{refl, ap, sym, subst, ◌∙◌, arith}
+use Rattle.walrus_ir.specs.declared.seq.InstrSeq.{InstrSeq}
+use Rattle.walrus_ir.specs.declared.instr.Instr.{Instr}
+use Rattle.walrus_ir.specs.declared.instr.Instr.TheVariants as instr
+use Rattle.walrus_ir.specs.declared.control.Try.{Try}
+use Rattle.walrus_ir.specs.Tree.{Items, no_items, item, Sequences, no_sequences, sequence}
+use Rattle.walrus_ir.specs.Unfolding.{Placed, Located as LocatedInstr, places_in, AreItems, AreSequences, are_no_items, are_items, are_no_sequences}
+use Rattle.wasm_ops.specs.declared.types.Opcode.TheVariants.{Byte}
+use Rattle.wasm_ops.specs.Operations.{operation, RawOperation}
+use Rattle.wasm_body.specs.Control.{Action, Construct, Does, Opens, If, control_of}
+use Rattle.wasm_body.specs.SourceTree.{Sequence, Empty, Single, Wrapper, OfBlock, OfLoop, OfTryTable, construct_of}
+use Rattle.wasm_body.specs.Naming.{Environment, NamedOperation, Occurrence, named_in}
+use Rattle.wasm_body.specs.NormalForm.{Fate, Drops, Stays, Cuts, fate, with_fate, typing_of, kept_operation, instruction, name_at}
+use Rattle.wasm_body.specs.FunctionTree.{Instruction}
+use Rattle.wasm_body.specs.Keeping.{dead_behind, is_dead}
+use Rattle.wasm_body.specs.InstructionTable.{operation_of, legacy_clauses}
+use Rattle.wasm_body.specs.TreeOfFunction.{aimed, instruction_in}
+use Rattle.wasm_body.specs.Parsing.Accepted.{mark}
+use Rattle.wasm_body.specs.Parsing.Progress.{append, opened, OpenConstruct, InWrapper, InThen, InElse, InTry, InCatch, InCatchAll, Layer, layer, Within, frames_of, further_within}
+use Rattle.walrus_body.specs.declared.local_function.frame.IfElseState.{IfElseState}
+use Rattle.walrus_body.specs.Parsing.OpenFrames.{OpenFrame, changed_at, with_instr}
+use Rattle.walrus_body.specs.Parsing.Keeping.{slots, the_if, IsAny, IsTry, IsAppended, OpensWith, Holds}
+use Rattle.walrus_body.specs.Parsing.OpenConstructs.{opener_in, clauses_in, closed_in, reshown_construct}
+use Rattle.walrus_body.specs.Parsing.Advancing.{IsFate, IsCut, ParseState, Keeps, KeepsProgress, occurrence, Advances}
+use Rattle.walrus_body.proofs.Parsing.Frames.{slots_changed, AreNormal, taken, holds_takes, holds_passes}
+use Rattle.walrus_body.proofs.Parsing.Constructs.{IsOpened, holds_opened}
+
+module _ (env : Environment) (old : ParseState) (ls : List (Layer Occurrence)) (s : Sequence Occurrence) (o : RawOperation) (place location : ℕ) (keeps : Keeps env old ls s) where
+  abbrev at : NamedOperation → Occurrence
+  at named = occurrence o place location named
+
+  -- what one operator further is, by its control
+  keeps_as : (new : ParseState) (named : NamedOperation) (c : _) → control_of named ≡ c → KeepsProgress env new (further_within c (at named) ls s) → KeepsProgress env new (further_within (control_of named) (at named) ls s)
+  keeps_as new named c e h = subst (λ d. KeepsProgress env new (further_within d (at named) ls s)) (sym e) h
+
+  -- ---- operators by themselves
+
+  -- an operator that is dropped changes nothing
+  pub steps_dropped : (f : OpenFrame) (fs : List OpenFrame) (named : NamedOperation) (action : Action) → old.frames ≡ f ∷ fs → named_in env (frames_of ls) o ≡ Ok named → control_of named ≡ Does action → fate action ≡ Drops →
+      Advances env old ls s o place location
+  steps_dropped f fs named action frames is control drops = record {
+    named = named;
+    is_named = is;
+    keeps = keeps_as old named (Does action) control
+        (subst (λ gs. Holds env old.arena ls (append s (Single (at named) action Empty)) (length old.arena) gs old.ifs) (sym frames)
+        (holds_passes env old.arena ls s (Single (at named) action Empty) (length old.arena) f fs old.ifs
+        (ap (λ t. dead_behind t false) drops) (ap (λ t. with_fate t (instruction (name_at (at named)) []) no_items) drops)
+        (subst (λ gs. Holds env old.arena ls s (length old.arena) gs old.ifs) frames keeps)));
+  }
+
+  -- one more instruction
+  pub steps_alone : (new : ParseState) (f : OpenFrame) (fs : List OpenFrame) (named : NamedOperation) (action : Action) (i : Instr) (cut : Bool) → old.frames ≡ f ∷ fs → named_in env (frames_of ls) o ≡ Ok named → control_of named ≡ Does action → IsCut action cut →
+      places_in i ≡ [] → legacy_clauses i ≡ [] → aimed (slots old.frames) (operation_of i) ≡ kept_operation named →
+      new ≡ record old { frames = taken (i, location) cut f ∷ fs } → Advances env new ls s o place location
+  steps_alone new f fs named action i cut frames is control cuts alone no_clauses aims is_new = record {
+    named = named;
+    is_named = is;
+    keeps = subst (λ q. KeepsProgress env q (further_within (control_of named) (at named) ls s)) (sym is_new)
+        (keeps_as (record old { frames = taken (i, location) cut f ∷ fs }) named (Does action) control
+        (holds_takes env old.arena ls s (Single (at named) action Empty) (length old.arena) (length old.arena) f fs old.ifs (i, location) cut (omega arith) (dead_as (fate action) cut cuts)
+        (record {
+      items = item (i, location) no_sequences no_items;
+      are_items = are_items (subst (λ ps. AreSequences old.arena ps no_sequences) (sym alone) are_no_sequences) are_no_items;
+      rise = (length old.arena, (let n : length old.arena ≤ length old.arena = omega arith in n), (let n : length old.arena ≤ length old.arena = omega arith in n));
+      is_normal = (λ k. item (record { op = subst (λ gs. aimed (slots gs) (operation_of i) ≡ kept_operation named) frames aims k; clauses = no_clauses k; location = location }) no_sequences no_items)
+          ∙ sym (kept_as (fate action) cut (instruction (name_at (at named)) []) cuts);
+    })
+        (subst (λ gs. Holds env old.arena ls s (length old.arena) gs old.ifs) frames keeps)));
+  }
+    where
+      dead_as : (t : Fate) (c : Bool) → IsFate t c → dead_behind t false ≡ c
+      dead_as Drops c h = absurd h
+      dead_as Stays c h = sym h
+      dead_as Cuts c h = sym h
+
+      kept_as : (t : Fate) (c : Bool) (x : Instruction) → IsFate t c → with_fate t x no_items ≡ item x no_sequences no_items
+      kept_as Drops c x h = absurd h
+      kept_as Stays c x h = refl
+      kept_as Cuts c x h = refl
+
+  -- ---- a construct is opened
+
+  opened_as : (a : Occurrence) (w : Wrapper) → opened a (construct_of w) ≡ InWrapper a w
+  opened_as a OfBlock = refl
+  opened_as a OfLoop = refl
+  opened_as a (OfTryTable cs) = refl
+
+  -- a construct whose instruction is appended to the frame around, which then holds no sequence of it but this
+  pub steps_opened : (new : ParseState) (named : NamedOperation) (c : Construct) (IsOpener : Instr → Type 0) (g : OpenFrame) (seq : InstrSeq) (x : LocatedInstr) →
+      named_in env (frames_of ls) o ≡ Ok named → control_of named ≡ Opens c → IsOpened env (length old.arena) (opened (at named) c) g seq →
+      closed_in (typing_of env) (reshown_construct name_at (opened (at named) c)) ≡ no_sequences →
+      ((around : List OpenFrame) → IsAppended (slots around) [] g.sequence (opened (at named) c) IsOpener around old.frames → OpensWith (slots around) [] g.sequence (opened (at named) c) around old.frames old.ifs old.ifs) →
+      places_in x.0 ≡ g.sequence ∷ [] → instruction_in (slots old.frames) x ≡ instruction (name_at (opener_in (opened (at named) c))) (clauses_in (opened (at named) c)) → IsOpener x.0 →
+      new ≡ record { arena = old.arena ++ seq ∷ []; frames = g ∷ changed_at 0 (with_instr x) old.frames; ifs = old.ifs } → Advances env new ls s o place location
+  steps_opened new named c IsOpener g seq x is control opens none with_opener places instr is_opener is_new =
+      let around = changed_at 0 (with_instr x) old.frames in
+      record {
+        named = named;
+        is_named = is;
+        keeps = subst (λ q. KeepsProgress env q (further_within (control_of named) (at named) ls s)) (sym is_new)
+            (keeps_as _ named (Opens c) control
+            (holds_opened env old.arena seq ls s (opened (at named) c) g around old.frames old.ifs old.ifs opens none
+            (with_opener around (record {
+          opener = x;
+          places = places;
+          is_instruction = ap (λ ps. instruction_in ps x) (slots_changed x 0 old.frames) ∙ instr;
+          is_opener = is_opener;
+          frames = refl;
+        }))
+            keeps));
+      }
+
+  pub steps_if : (new : ParseState) (named : NamedOperation) (g : OpenFrame) (seq : InstrSeq) →
+      named_in env (frames_of ls) o ≡ Ok named → control_of named ≡ Opens If → IsOpened env (length old.arena) (InThen (at named)) g seq → the_if (at named) →
+      new ≡ record { arena = old.arena ++ seq ∷ []; frames = g ∷ old.frames; ifs = record { start = location; consequent = g.sequence; alternative = None } ∷ old.ifs } → Advances env new ls s o place location
+  steps_if new named g seq is control opens is_if is_new = record {
+    named = named;
+    is_named = is;
+    keeps = subst (λ q. KeepsProgress env q (further_within (control_of named) (at named) ls s)) (sym is_new)
+        (keeps_as _ named (Opens If) control
+        (holds_opened env old.arena seq ls s (InThen (at named)) g old.frames old.frames (record { start = location; consequent = g.sequence; alternative = None } ∷ old.ifs) old.ifs opens refl (refl, refl, refl, is_if) keeps));
+  }
