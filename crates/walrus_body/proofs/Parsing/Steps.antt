@@ -1,10 +1,11 @@
 -- How each kind of operator advances a parse.
-use Rattle.std.specs.Prelude.{◌≡◌, ℕ, suc, ◌+◌, ◌≤◌, List, [], ◌∷◌, ◌++◌, length, Bool, true, false, Option, Some, None, Result, Ok, Err}
+use Rattle.std.specs.Prelude.{◌≡◌, ◌≢◌, slice_get, unwrap_or, ℕ, suc, ◌+◌, ◌≤◌, List, [], ◌∷◌, ◌++◌, length, Bool, true, false, Option, Some, None, Result, Ok, Err}
 use Rattle.std.proofs.Common.{refl, ap, sym, subst, ◌∙◌, arith}
 use Rattle.walrus_ir.specs.declared.seq.InstrSeq.{InstrSeq}
 use Rattle.walrus_ir.specs.declared.instr.Instr.{Instr}
 use Rattle.walrus_ir.specs.declared.instr.Instr.TheVariants as instr
 use Rattle.walrus_ir.specs.declared.control.Try.{Try}
+use Rattle.walrus_ir.specs.declared.control.BlockKind.TheVariants as kind
 use Rattle.walrus_ir.specs.Tree.{Items, no_items, item, Sequences, no_sequences, sequence}
 use Rattle.walrus_ir.specs.Unfolding.{Placed, Located as LocatedInstr, places_in, AreItems, AreSequences, are_no_items, are_items, are_no_sequences}
 use Rattle.wasm_ops.specs.declared.types.Opcode.TheVariants.{Byte}
@@ -13,19 +14,19 @@ use Rattle.wasm_body.specs.Control.{Action, Construct, Does, Opens, If, control_
 use Rattle.wasm_body.specs.SourceTree.{Sequence, Empty, Single, Wrapper, OfBlock, OfLoop, OfTryTable, construct_of}
 use Rattle.wasm_body.specs.Naming.{Environment, NamedOperation, Occurrence, named_in}
 use Rattle.wasm_body.specs.NormalForm.{Fate, Drops, Stays, Cuts, fate, with_fate, typing_of, kept_operation, instruction, name_at}
-use Rattle.wasm_body.specs.FunctionTree.{Instruction}
+use Rattle.wasm_body.specs.FunctionTree.{Instruction, default_location}
 use Rattle.wasm_body.specs.Keeping.{dead_behind, is_dead}
 use Rattle.wasm_body.specs.InstructionTable.{operation_of, legacy_clauses}
 use Rattle.wasm_body.specs.TreeOfFunction.{aimed, instruction_in}
 use Rattle.wasm_body.specs.Parsing.Accepted.{mark}
-use Rattle.wasm_body.specs.Parsing.Progress.{append, opened, OpenConstruct, InWrapper, InThen, InElse, InTry, InCatch, InCatchAll, Layer, layer, Within, frames_of, further_within}
+use Rattle.wasm_body.specs.Parsing.Progress.{append, closed, opened, OpenConstruct, InWrapper, InThen, InElse, InTry, InCatch, InCatchAll, Layer, layer, Within, frames_of, further_within}
 use Rattle.walrus_body.specs.declared.local_function.frame.IfElseState.{IfElseState}
 use Rattle.walrus_body.specs.Parsing.OpenFrames.{OpenFrame, changed_at, with_instr}
-use Rattle.walrus_body.specs.Parsing.Keeping.{slots, the_if, IsAny, IsTry, IsAppended, OpensWith, Holds}
-use Rattle.walrus_body.specs.Parsing.OpenConstructs.{opener_in, clauses_in, closed_in, reshown_construct}
+use Rattle.walrus_body.specs.Parsing.Keeping.{slots, the_if, IsAny, IsTry, Encloses, IsAppended, OpensWith, IsWithin, Holds}
+use Rattle.walrus_body.specs.Parsing.OpenConstructs.{wrapper_kind, added_in, opener_in, clauses_in, closed_in, reshown_construct}
 use Rattle.walrus_body.specs.Parsing.Advancing.{IsFate, IsCut, ParseState, Keeps, KeepsProgress, occurrence, Advances}
 use Rattle.walrus_body.proofs.Parsing.Frames.{slots_changed, AreNormal, taken, holds_takes, holds_passes}
-use Rattle.walrus_body.proofs.Parsing.Constructs.{IsOpened, holds_opened}
+use Rattle.walrus_body.proofs.Parsing.Constructs.{IsWritten, IsSealed, IsOpened, holds_opened, holds_ended, holds_chosen, holds_chosen_alone, holds_parted, if_else}
 
 module _ (env : Environment) (old : ParseState) (ls : List (Layer Occurrence)) (s : Sequence Occurrence) (o : RawOperation) (place location : ℕ) (keeps : Keeps env old ls s) where
   abbrev at : NamedOperation → Occurrence
@@ -122,3 +123,85 @@ module _ (env : Environment) (old : ParseState) (ls : List (Layer Occurrence)) (
         (keeps_as _ named (Opens If) control
         (holds_opened env old.arena seq ls s (InThen (at named)) g old.frames old.frames (record { start = location; consequent = g.sequence; alternative = None } ∷ old.ifs) old.ifs opens refl (refl, refl, refl, is_if) keeps));
   }
+
+-- ---- the innermost frame is closed
+
+-- Its sequence owns its instructions and ends at the location, or where none is given as before; the others are as before.
+pub record Seals (b c : List InstrSeq) (f : OpenFrame) (closing : Option ℕ) : Type 0 where
+  pub was : InstrSeq
+  pub seq : InstrSeq
+  pub before : slice_get b f.sequence ≡ Some was
+  pub written : IsWritten b f.sequence seq c
+  pub same_type : seq.ty ≡ was.ty
+  pub instrs : seq.instrs.items ≡ f.instrs
+  pub end_is : seq.end ≡ unwrap_or closing was.end
+
+pub sealed : (env : Environment) (b c : List InstrSeq) (low : ℕ) (f : OpenFrame) (around before : List ℕ) (p : OpenConstruct Occurrence) (closing : Option ℕ) → Encloses env b low f around p before → Seals b c f closing → IsSealed env b c f p (unwrap_or closing default_location)
+sealed env b c low f around before p closing o h =
+    let found : Some o.reserved.seq ≡ Some h.was = sym o.reserved.stands ∙ h.before in
+    let same : o.reserved.seq ≡ h.was = cc found in
+    record {
+      seq = h.seq;
+      written = h.written;
+      instrs = h.instrs;
+      end_is = h.end_is ∙ ap (λ e. unwrap_or closing e) (ap (λ (q : InstrSeq). q.end) (sym same) ∙ o.reserved.has_no_end);
+      type = h.same_type ∙ ap (λ (q : InstrSeq). q.ty) (sym same) ∙ o.reserved.has_type;
+    }
+
+module _ (env : Environment) (old : ParseState) (l : Layer Occurrence) (ls : List (Layer Occurrence)) (s : Sequence Occurrence) (f : OpenFrame) (fs : List OpenFrame) (frames : old.frames ≡ f ∷ fs) (keeps : Keeps env old (l ∷ ls) s) where
+  abbrev innermost : IsWithin env old.arena (length old.arena) f fs old.ifs l.construct s (Holds env old.arena ls l.before)
+  innermost = subst (λ gs. Holds env old.arena (l ∷ ls) s (length old.arena) gs old.ifs) frames keeps
+
+  abbrev Outside : ℕ → List OpenFrame → List IfElseState → Type 0
+  Outside = Holds env old.arena ls l.before
+
+  abbrev Inside : OpenConstruct Occurrence → Type 0
+  Inside p = IsWithin env old.arena (length old.arena) f fs old.ifs p s Outside
+
+  -- a construct whose instruction stands there already
+  ended_as : (p : OpenConstruct Occurrence) (IsOpener : Instr → Type 0) (new : ParseState) (e : Occurrence) (h : Inside p) → added_in (typing_of env) (reshown_construct name_at p) ≡ no_sequences →
+      IsAppended (slots fs) h.before f.sequence p IsOpener fs h.outside → old.ifs ≡ h.other_ifs → Seals old.arena new.arena f (Some e.location) → new.frames ≡ fs → new.ifs ≡ old.ifs → Keeps env new ls (append l.before (closed p s e))
+  ended_as p IsOpener new e h none a same_outside seals same_frames same_ifs =
+      let whole = holds_ended env old.arena new.arena ls l.before s p IsOpener f fs h.outside h.other_ifs h.low h.before e none h.kept h.encloses a
+      (sealed env old.arena new.arena h.low f (slots fs) h.before p (Some e.location) h.encloses seals) h.outer in
+      subst (λ gs. Holds env new.arena ls (append l.before (closed p s e)) (length new.arena) gs new.ifs) (sym same_frames)
+      (subst (λ is. Holds env new.arena ls (append l.before (closed p s e)) (length new.arena) fs is) (sym (same_ifs ∙ same_outside)) whole)
+
+  ended : (p : OpenConstruct Occurrence) (new : ParseState) (e : Occurrence) → f.kind ≢ kind.If → f.kind ≢ kind.Else → Seals old.arena new.arena f (Some e.location) → new.frames ≡ fs → new.ifs ≡ old.ifs →
+      Inside p → Keeps env new ls (append l.before (closed p s e))
+  ended (InWrapper a w) new e not_if not_else seals gs is h = ended_as (InWrapper a w) IsAny new e h refl h.opens.0 h.opens.1 seals gs is
+  ended (InThen a) new e not_if not_else seals gs is h = absurd (not_if h.encloses.kind)
+  ended (InElse a b m) new e not_if not_else seals gs is h = absurd (not_else h.encloses.kind)
+  ended (InTry a) new e not_if not_else seals gs is h = ended_as (InTry a) IsTry new e h refl h.opens.0 h.opens.1 seals gs is
+  ended (InCatch a b cs i t) new e not_if not_else seals gs is h = ended_as (InCatch a b cs i t) IsTry new e h refl h.opens.0 h.opens.1 seals gs is
+  ended (InCatchAll a b cs i) new e not_if not_else seals gs is h = ended_as (InCatchAll a b cs i) IsTry new e h refl h.opens.0 h.opens.1 seals gs is
+
+  -- `end` behind an alternative: the instruction of the `if` is appended
+  pub chosen : (p : OpenConstruct Occurrence) (new : ParseState) (e : Occurrence) (top : IfElseState) (others : List IfElseState) (alternative : ℕ) → f.kind ≡ kind.Else → old.ifs ≡ top ∷ others → top.alternative ≡ Some alternative → Seals old.arena new.arena f (Some e.location) →
+      new.frames ≡ changed_at 0 (with_instr (if_else top.consequent alternative top.start)) fs → new.ifs ≡ others → Inside p → Keeps env new ls (append l.before (closed p s e))
+  chosen (InElse a b m) new e top others alternative is_else ifs has seals gs is h =
+      let c = h.opens.1 in
+      let made : IfElseState = record { start = a.location; consequent = c.0; alternative = Some f.sequence } in
+      let both : top ∷ others ≡ made ∷ h.other_ifs = sym ifs ∙ c.2 in
+      let first : top ≡ made = cc both in
+      let rest : others ≡ h.other_ifs = cc both in
+      let there : Some alternative ≡ Some f.sequence = sym has ∙ ap (λ (t : IfElseState). t.alternative) first in
+      let same : alternative ≡ f.sequence = cc there in
+      let outer : Holds env old.arena ls l.before h.low fs h.other_ifs = subst (λ gs. Holds env old.arena ls l.before h.low gs h.other_ifs) (sym h.opens.0) h.outer in
+      let inside = subst (Encloses env old.arena h.low f (slots fs) (InElse a b m)) c.1 h.encloses in
+      let whole = holds_chosen env old.arena new.arena ls l.before b s a m e f fs h.other_ifs h.low c.0 h.opens.2 h.kept inside
+      (sealed env old.arena new.arena h.low f (slots fs) (c.0 ∷ []) (InElse a b m) (Some e.location) inside seals) outer in
+      let instr : if_else c.0 f.sequence a.location ≡ if_else top.consequent alternative top.start =
+      λ i. if_else ((sym first) i).consequent (sym same i) ((sym first) i).start in
+      subst (λ qs. Holds env new.arena ls (append l.before (closed (InElse a b m) s e)) (length new.arena) qs new.ifs) (ap (λ x. changed_at 0 (with_instr x) fs) instr ∙ sym gs)
+      (subst (λ qs. Holds env new.arena ls (append l.before (closed (InElse a b m) s e)) (length new.arena) (changed_at 0 (with_instr (if_else c.0 f.sequence a.location)) fs) qs) (sym (is ∙ rest)) whole)
+  chosen (InWrapper a w) new e top others alternative is_else ifs has seals gs is h = absurd (no_wrapper w (sym h.encloses.kind ∙ is_else))
+    where
+      no_wrapper : (v : Wrapper) → wrapper_kind v ≡ kind.Else → ⊥
+      no_wrapper OfBlock e = cc
+      no_wrapper OfLoop e = cc
+      no_wrapper (OfTryTable cs) e = cc
+  chosen (InThen a) new e top others alternative is_else ifs has seals gs is h = absurd (let q : kind.If ≡ kind.Else = sym h.encloses.kind ∙ is_else in cc q)
+  chosen (InTry a) new e top others alternative is_else ifs has seals gs is h = absurd (let q : kind.Try ≡ kind.Else = sym h.encloses.kind ∙ is_else in cc q)
+  chosen (InCatch a b cs i t) new e top others alternative is_else ifs has seals gs is h = absurd (let q : kind.Catch ≡ kind.Else = sym h.encloses.kind ∙ is_else in cc q)
+  chosen (InCatchAll a b cs i) new e top others alternative is_else ifs has seals gs is h = absurd (let q : kind.CatchAll ≡ kind.Else = sym h.encloses.kind ∙ is_else in cc q)
