@@ -11,9 +11,11 @@ use Rattle.walrus_ir.specs.Unfolding.{Placed, Located as LocatedInstr, places_in
 use Rattle.wasm_ops.specs.declared.types.Opcode.TheVariants.{Byte}
 use Rattle.wasm_ops.specs.Operations.{operation, RawOperation}
 use Rattle.wasm_body.specs.Control.{Action, Construct, Does, Opens, If, control_of}
-use Rattle.wasm_body.specs.SourceTree.{Sequence, Empty, Single, Wrapper, OfBlock, OfLoop, OfTryTable, construct_of}
-use Rattle.wasm_body.specs.Naming.{Environment, NamedOperation, Occurrence, named_in}
-use Rattle.wasm_body.specs.NormalForm.{Fate, Drops, Stays, Cuts, fate, with_fate, typing_of, kept_operation, instruction, name_at}
+use Rattle.wasm_body.specs.SourceTree.{Sequence, Empty, Single, Wrapper, OfBlock, OfLoop, OfTryTable, construct_of, reshown}
+use Rattle.wasm_body.specs.Naming.{Environment, NamedOperation, Occurrence, block_signature, named_in}
+use Rattle.walrus_ir.specs.Types.{signature, pick}
+use Rattle.walrus_ir.specs.declared.val_type.InstrSeqType.TheVariants.{Simple}
+use Rattle.wasm_body.specs.NormalForm.{Fate, Drops, Stays, Cuts, fate, with_fate, type_of, normal, typing_of, kept_operation, instruction, name_at}
 use Rattle.wasm_body.specs.FunctionTree.{Instruction, default_location}
 use Rattle.wasm_body.specs.Keeping.{dead_behind, is_dead}
 use Rattle.wasm_body.specs.InstructionTable.{operation_of, legacy_clauses}
@@ -23,7 +25,7 @@ use Rattle.wasm_body.specs.Parsing.Progress.{append, closed, opened, OpenConstru
 use Rattle.walrus_body.specs.declared.local_function.frame.IfElseState.{IfElseState}
 use Rattle.walrus_body.specs.Parsing.OpenFrames.{OpenFrame, changed_at, with_instr}
 use Rattle.walrus_body.specs.Parsing.Keeping.{slots, the_if, IsAny, IsTry, Encloses, IsAppended, OpensWith, IsWithin, Holds}
-use Rattle.walrus_body.specs.Parsing.OpenConstructs.{wrapper_kind, added_in, opener_in, clauses_in, closed_in, reshown_construct}
+use Rattle.walrus_body.specs.Parsing.OpenConstructs.{wrapper_kind, sequences_closed, added_in, opener_in, clauses_in, closed_in, reshown_construct}
 use Rattle.walrus_body.specs.Parsing.Advancing.{IsFate, IsCut, ParseState, Keeps, KeepsProgress, occurrence, Advances}
 use Rattle.walrus_body.proofs.Parsing.Frames.{slots_changed, AreNormal, taken, holds_takes, holds_passes}
 use Rattle.walrus_body.proofs.Parsing.Constructs.{IsWritten, IsSealed, IsOpened, holds_opened, holds_ended, holds_chosen, holds_chosen_alone, holds_parted, if_else}
@@ -205,3 +207,52 @@ module _ (env : Environment) (old : ParseState) (l : Layer Occurrence) (ls : Lis
   chosen (InTry a) new e top others alternative is_else ifs has seals gs is h = absurd (let q : kind.Try ≡ kind.Else = sym h.encloses.kind ∙ is_else in cc q)
   chosen (InCatch a b cs i t) new e top others alternative is_else ifs has seals gs is h = absurd (let q : kind.Catch ≡ kind.Else = sym h.encloses.kind ∙ is_else in cc q)
   chosen (InCatchAll a b cs i) new e top others alternative is_else ifs has seals gs is h = absurd (let q : kind.CatchAll ≡ kind.Else = sym h.encloses.kind ∙ is_else in cc q)
+
+  -- `end` behind a consequent: an empty alternative is made, and the instruction of the `if` is appended
+  pub chosen_alone : (p : OpenConstruct Occurrence) (new : ParseState) (c : List InstrSeq) (other : InstrSeq) (e : Occurrence) (top : IfElseState) (others : List IfElseState) → f.kind ≡ kind.If → old.ifs ≡ top ∷ others → Seals old.arena c f (Some e.location) →
+      pick env.types (signature f.start_types f.end_types) ≡ Some other.ty → other.instrs.items ≡ [] → other.end ≡ default_location → new.arena ≡ c ++ other ∷ [] →
+      new.frames ≡ changed_at 0 (with_instr (if_else f.sequence (length c) top.start)) fs → new.ifs ≡ others → Inside p → Keeps env new ls (append l.before (closed p s e))
+  chosen_alone (InThen a) new c other e top others is_if ifs seals picks empty no_end arena gs is h =
+      let made : IfElseState = record { start = a.location; consequent = f.sequence; alternative = None } in
+      let both : top ∷ others ≡ made ∷ h.other_ifs = sym ifs ∙ h.opens.1 in
+      let first : top ≡ made = cc both in
+      let rest : others ≡ h.other_ifs = cc both in
+      let outer : Holds env old.arena ls l.before h.low fs h.other_ifs = subst (λ gs. Holds env old.arena ls l.before h.low gs h.other_ifs) (sym h.opens.0) h.outer in
+      let inside = subst (Encloses env old.arena h.low f (slots fs) (InThen a)) h.opens.2 h.encloses in
+      let sig : signature f.start_types f.end_types ≡ block_signature a.named = λ i. signature (h.encloses.takes i) (h.encloses.gives i) in
+      let typed : other.ty ≡ type_of (typing_of env) a.named = sym (ap (λ t. unwrap_or t (Simple None)) (sym (ap (pick env.types) sig) ∙ picks)) in
+      let whole = holds_chosen_alone env old.arena c other ls l.before s a e f fs h.other_ifs h.low h.opens.3 h.kept inside
+      (sealed env old.arena c h.low f (slots fs) [] (InThen a) (Some e.location) inside seals) typed empty no_end outer in
+      let made_of = λ (d : List InstrSeq) (qs : List OpenFrame) (js : List IfElseState). Holds env d ls (append l.before (closed (InThen a) s e)) (length d) qs js in
+      let instr : if_else f.sequence (length c) a.location ≡ if_else f.sequence (length c) top.start = λ i. if_else f.sequence (length c) ((sym first) i).start in
+      subst (λ d. made_of d new.frames new.ifs) (sym arena)
+      (subst (λ qs. made_of (c ++ other ∷ []) qs new.ifs) (ap (λ x. changed_at 0 (with_instr x) fs) instr ∙ sym gs)
+      (subst (made_of (c ++ other ∷ []) (changed_at 0 (with_instr (if_else f.sequence (length c) a.location)) fs)) (sym (is ∙ rest)) whole))
+  chosen_alone (InWrapper a w) new c other e top others is_if ifs seals picks empty no_end arena gs is h = absurd (no_wrapper w (sym h.encloses.kind ∙ is_if))
+    where
+      no_wrapper : (v : Wrapper) → wrapper_kind v ≡ kind.If → ⊥
+      no_wrapper OfBlock e = cc
+      no_wrapper OfLoop e = cc
+      no_wrapper (OfTryTable cs) e = cc
+  chosen_alone (InElse a b m) new c other e top others is_if ifs seals picks empty no_end arena gs is h = absurd (let q : kind.Else ≡ kind.If = sym h.encloses.kind ∙ is_if in cc q)
+  chosen_alone (InTry a) new c other e top others is_if ifs seals picks empty no_end arena gs is h = absurd (let q : kind.Try ≡ kind.If = sym h.encloses.kind ∙ is_if in cc q)
+  chosen_alone (InCatch a b cs i t) new c other e top others is_if ifs seals picks empty no_end arena gs is h = absurd (let q : kind.Catch ≡ kind.If = sym h.encloses.kind ∙ is_if in cc q)
+  chosen_alone (InCatchAll a b cs i) new c other e top others is_if ifs seals picks empty no_end arena gs is h = absurd (let q : kind.CatchAll ≡ kind.If = sym h.encloses.kind ∙ is_if in cc q)
+
+  -- ---- the next sequence of a construct
+
+  -- a new sequence in a construct that was open before
+  record Parts (c d : List InstrSeq) (p q : OpenConstruct Occurrence) (g : OpenFrame) (location : ℕ) : Type 0 where
+    pub seals : Seals old.arena c f (Some location)
+    pub seq : InstrSeq
+    pub grows : d ≡ c ++ seq ∷ []
+    pub opens : IsOpened env (length c) q g seq
+    pub same : closed_in (typing_of env) (reshown_construct name_at q) ≡ sequences_closed (typing_of env) (reshown_construct name_at p) (normal (typing_of env) (reshown name_at s)) location no_sequences
+
+  parted : (p q : OpenConstruct Occurrence) (new : ParseState) (c : List InstrSeq) (g : OpenFrame) (gs : List OpenFrame) (location : ℕ) (h : Inside p) → Parts c new.arena p q g location → new.frames ≡ g ∷ gs → slots gs ≡ slots fs →
+      OpensWith (slots gs) (h.before ++ f.sequence ∷ []) g.sequence q gs h.outside new.ifs h.other_ifs → Keeps env new (layer l.before q ∷ ls) Empty
+  parted p q new c g gs location h m is same opens =
+      let whole = holds_parted env old.arena c m.seq ls l.before s p q f g fs gs h.outside new.ifs h.other_ifs h.low h.before location h.kept h.encloses
+      (sealed env old.arena c h.low f (slots fs) h.before p (Some location) h.encloses m.seals) m.opens same m.same opens h.outer in
+      subst (λ d. Holds env d (layer l.before q ∷ ls) Empty (length d) new.frames new.ifs) (sym m.grows)
+      (subst (λ ks. Holds env (c ++ m.seq ∷ []) (layer l.before q ∷ ls) Empty (length (c ++ m.seq ∷ [])) ks new.ifs) (sym is) whole)
