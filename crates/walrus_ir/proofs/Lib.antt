@@ -6,6 +6,7 @@ pub mod Marks
 pub mod Planning
 pub mod TreeOrFault
 pub mod Telling
+pub mod Stretches
 pub mod Handlers
 pub mod Next
 pub mod Pending
