@@ -1,12 +1,17 @@
+-- types: equality, and the first place that passes
 pub mod SameTypes
 pub mod Positions
+-- the laws of trees, faults and walks
 pub mod WalkLaws
+pub mod TreeOrFault
+-- a walk is planned
 pub mod Tasks
 pub mod Marks
-pub mod Planning
-pub mod TreeOrFault
-pub mod Telling
 pub mod Handlers
+pub mod Planning
+-- a walk is told
+pub mod Telling
+pub mod Stretches
 pub mod Next
 pub mod Pending
 pub mod Stage

@@ -1,5 +1,5 @@
 -- What the open sequences and the places to come stand for: what is left of a tree.
-use Rattle.std.proofs.Common.{◌≡◌, ◌<◌, ◌+◌, ℕ, suc, List, [], ◌∷◌, ◌++◌, Option, Some, None, length, reverse, slice_index, refl, sym, ap, ◌∙◌, subst, append_assoc, arith}
+use Rattle.std.proofs.Common.{◌≡◌, ◌<◌, ◌≤◌, ◌+◌, ℕ, suc, List, [], ◌∷◌, ◌++◌, Option, Some, None, length, reverse, slice_index, refl, sym, ap, ◌∙◌, subst, append_assoc, arith}
 use Rattle.std.proofs.lemmas.List.{reverse-append, append-nil}
 use Rattle.std.proofs.lemmas.Option.{slice_get_within}
 use Rattle.std.specs.Prelude.{slice_get}
@@ -8,7 +8,7 @@ use Rattle.walrus_ir.specs.Tree.{Items, no_items, item, Sequences, no_sequences,
 use Rattle.walrus_ir.specs.Unfolding.{Placed, Located, places_in, AreItems, are_no_items, are_items, AreSequences, are_no_sequences, are_sequences, reached, reached_each}
 use Rattle.walrus_ir.specs.Events.{Event, StartSequence, EndSequence, VisitInstruction, names, item_events, sequence_events, events}
 use Rattle.walrus_ir.specs.Planning.{IsOrder}
-use Rattle.walrus_ir.specs.Telling.{Frame, started, Next, starts, visits, ends}
+use Rattle.walrus_ir.specs.Telling.{Frame, started, IsStretch, no_stretch, goes_on, Next, starts, visits, ends}
 
 -- the places of the sequences, in walk order, and then these
 abbrev mutual
@@ -143,11 +143,33 @@ end_pending : {b : List InstrSeq} (fs : List Frame) (seq : InstrSeq) (coming : L
 end_pending fs seq coming left h places inside items none (are_sequences k a r) are_rest coming_is left_is = absurd (omega arith)
 end_pending fs seq coming left h places inside items none are_no_sequences are_no_items coming_is left_is = record { more = h.after; left_is = left_is; pending = rw coming_is h.below }
 
+-- a stretch of instructions is visited
+stretch_pending : {b : List InstrSeq} (fs : List Frame) (seq : InstrSeq) {all left : List Located} {n : ℕ} {es : List Event} (coming : List ℕ) (events : List Event) → IsStretch all left n es
+    → Pending b (record { seq = seq; rest = all; inside = 0 } ∷ fs) coming events → Behind b (record { seq = seq; rest = left; inside = n } ∷ fs) coming es events
+stretch_pending fs seq coming events no_stretch h = record { more = events; left_is = refl; pending = h }
+stretch_pending fs seq coming events (goes_on {x = x} {left = left} {es = es} s) h =
+    let before = stretch_pending fs seq coming events s h in
+    let p = before.pending in
+    let visited = visit_pending fs seq x left coming before.more p p.places p.inside p.items p.many p.are_inside p.are_rest p.coming_is p.left_is in
+    record {
+      more = visited.more;
+      left_is = before.left_is ∙ (ap (λ ds. es ++ ds) visited.left_is ∙ sym (append_assoc es (VisitInstruction x.0 x.1 ∷ names x.0) visited.more));
+      pending = visited.pending;
+    }
+
 pub next_pending : {b : List InstrSeq} {f : Frame} {coming : List ℕ} {es : List Event} {opened : List Frame} {coming' : List ℕ} (fs : List Frame) (left : List Event)
     → Next b f coming es opened coming' → Pending b (f ∷ fs) coming left → Behind b (opened ++ fs) coming' es left
 next_pending fs left (starts known) h = start_pending fs _ _ _ _ _ _ left h h.places h.inside known h.many h.are_inside h.coming_is h.left_is
-next_pending fs left visits h = visit_pending fs _ _ _ _ left h h.places h.inside h.items h.many h.are_inside h.are_rest h.coming_is h.left_is
-next_pending fs left ends h = end_pending fs _ _ left h h.places h.inside h.items h.many h.are_inside h.are_rest h.coming_is h.left_is
+next_pending fs left (visits s) h = stretch_pending fs _ _ left (goes_on s) h
+next_pending fs left (ends {seq = seq} {es = es} {coming = coming} s) h =
+    let before = stretch_pending fs seq coming left s h in
+    let p = before.pending in
+    let ended = end_pending fs seq coming before.more p p.places p.inside p.items p.many p.are_inside p.are_rest p.coming_is p.left_is in
+    record {
+      more = ended.more;
+      left_is = before.left_is ∙ (ap (λ ds. es ++ ds) ended.left_is ∙ sym (append_assoc es (EndSequence seq ∷ []) ended.more));
+      pending = ended.pending;
+    }
 
 next_within : {b : List InstrSeq} (places : List ℕ) (inside : Sequences Placed Located) (coming later : List ℕ) → AreSequences b places inside → 0 < length places
     → coming ≡ sequence_places inside later → (0 < length coming) × (slice_index coming 0 < length b)
@@ -199,8 +221,12 @@ abbrev pub work_open : List Frame → ℕ
 work_open [] = 0
 work_open (f ∷ fs) = 1 + (length f.rest + work_open fs)
 
+stretch_within : {all left : List Located} {n : ℕ} {es : List Event} → IsStretch all left n es → length left ≤ length all
+stretch_within no_stretch = omega arith
+stretch_within (goes_on s) = let before = stretch_within s in omega (arith, before)
+
 pub next_falls : {b : List InstrSeq} {f : Frame} {coming : List ℕ} {es : List Event} {opened : List Frame} {coming' : List ℕ} (fs : List Frame)
     → Next b f coming es opened coming' → work_to_come b coming' + work_open (opened ++ fs) < work_to_come b coming + work_open (f ∷ fs)
 next_falls {b = b} fs (starts {p = p} known) = rw known (omega arith)
-next_falls fs visits = omega arith
-next_falls fs ends = omega arith
+next_falls fs (visits s) = let within = stretch_within s in omega (arith, within)
+next_falls fs (ends s) = omega arith

@@ -1,15 +1,20 @@
+-- types: of values and of a module, and the pick
 pub mod Types
 pub mod TypeOrder
-pub mod Tree
-pub mod Locations
 pub mod TypeEntries
+-- locations, and what contracts see of a function's builder
+pub mod Locations
 pub mod Arena
 pub mod Lending
+-- the tree of a function, or its first fault
+pub mod Tree
 pub mod Unfolding
 pub mod Faults
+-- walks: what a visitor is told, and how a walk ends
 pub mod Events
 pub mod Sameness
 pub mod Walk
 pub mod WalkLaws
+-- what is kept while a walk is planned and told
 pub mod Planning
 pub mod Telling

@@ -11,7 +11,7 @@ use Rattle.walrus_ir.specs.declared.plan.Plan.{Plan}
 use Rattle.walrus_ir.specs.declared.plan.Task.{Task}
 use Rattle.walrus_ir.specs.declared.plan.Task.TheVariants.{Enter, Resume, Clauses}
 use Rattle.walrus_ir.specs.Tree.{Tree, alone}
-use Rattle.walrus_ir.specs.Unfolding.{Placed, Located, handlers, places_in_all, reached_each, IsTree}
+use Rattle.walrus_ir.specs.Unfolding.{Placed, Located, handlers, places_in, places_in_all, reached_each, IsTree}
 
 -- the places that a task goes on to, and those that the tasks on a stack go on to, the top first
 abbrev pub goes_to : Task → List ℕ
@@ -48,6 +48,11 @@ work tasks = sum_by work_of_task tasks
 pub record Adds (old new : List Task) (places : List ℕ) (more : ℕ) : Type 0 where
   pub goes : agenda new ≡ places ++ agenda old
   pub falls : work new ≤ more + work old
+
+-- the first of the instructions that holds sequences, and those behind it
+pub record IsNextHolder (all : List Located) (holder : Instr) (behind : List Located) : Type 0 where
+  pub goes : places_in_all all ≡ places_in holder ++ places_in_all behind
+  pub falls : 1 + (work_of holder + work_of_all behind) ≤ work_of_all all
 
 -- why a sequence is not reached
 abbrev pub IsRefusedAt : List InstrSeq → List Bool → ℕ → WalkError → Type 0

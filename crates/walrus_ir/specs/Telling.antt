@@ -21,18 +21,39 @@ frames stack = map frame (reverse stack)
 abbrev pub started : InstrSeq → Frame
 started seq = record { seq = seq; rest = seq.instrs.items; inside = 0 }
 
+-- A stretch of instructions, from the front of these to those that are left: the events that visit them. Only the last may
+-- hold sequences, this many.
+pub data IsStretch (all : List Located) : (left : List Located) (inside : ℕ) → List Event → Type 0 where
+  no_stretch : IsStretch all all 0 []
+  goes_on : {x : Located} {left : List Located} {es : List Event} → IsStretch all (x ∷ left) 0 es
+      → IsStretch all left (length (places_in x.0)) (es ++ VisitInstruction x.0 x.1 ∷ names x.0)
+
 -- What comes next at the innermost open sequence: the events that are told, the sequences that are open in its place then,
--- and the places that are to come then. A sequence inside the last instruction starts; else the next instruction is
--- visited; else the sequence ends.
+-- and the places that are to come then. A sequence inside the last instruction starts; else a stretch of instructions is
+-- visited, behind which the sequence ends if none is left.
 pub data Next (b : List InstrSeq) : Frame → (coming : List ℕ) → List Event → (opened : List Frame) → (coming' : List ℕ) → Type 0 where
   starts : {seq inner : InstrSeq} {rest : List Located} {n p : ℕ} {coming : List ℕ} → slice_get b p ≡ Some inner
       → Next b (record { seq = seq; rest = rest; inside = suc n }) (p ∷ coming)
       (StartSequence inner ∷ []) (started inner ∷ record { seq = seq; rest = rest; inside = n } ∷ []) coming
-  visits : {seq : InstrSeq} {x : Located} {rest : List Located} {coming : List ℕ}
-      → Next b (record { seq = seq; rest = x ∷ rest; inside = 0 }) coming
-      (VisitInstruction x.0 x.1 ∷ names x.0) (record { seq = seq; rest = rest; inside = length (places_in x.0) } ∷ []) coming
-  ends : {seq : InstrSeq} {coming : List ℕ}
-      → Next b (record { seq = seq; rest = []; inside = 0 }) coming (EndSequence seq ∷ []) [] coming
+  visits : {seq : InstrSeq} {x : Located} {rest left : List Located} {es : List Event} {coming : List ℕ} → IsStretch rest (x ∷ left) 0 es
+      → Next b (record { seq = seq; rest = rest; inside = 0 }) coming
+      (es ++ VisitInstruction x.0 x.1 ∷ names x.0) (record { seq = seq; rest = left; inside = length (places_in x.0) } ∷ []) coming
+  ends : {seq : InstrSeq} {rest : List Located} {es : List Event} {coming : List ℕ} → IsStretch rest [] 0 es
+      → Next b (record { seq = seq; rest = rest; inside = 0 }) coming (es ++ EndSequence seq ∷ []) [] coming
+
+-- a stretch was told
+pub record IsToldStretch (all left : List Located) (inside : ℕ) (Told : List Event → Type 0) : Type 0 where
+  pub events : List Event
+  pub stretch : IsStretch all left inside events
+  pub told : Told events
+
+-- a stretch was told up to an event that was refused, which is of its last instruction
+pub record IsRefusedStretch (all : List Located) (Stopped : List Event → Type 0) : Type 0 where
+  pub before : List Event
+  pub last : Located
+  pub left : List Located
+  pub stretch : IsStretch all (last ∷ left) 0 before
+  pub stopped : Stopped (before ++ VisitInstruction last.0 last.1 ∷ names last.0)
 
 -- what comes next was told
 pub record IsToldNext (b : List InstrSeq) (f : Frame) (coming : List ℕ) (fs : List Frame)

@@ -1,10 +1,10 @@
 //! The plan of a walk: which sequences it enters, one after the other, if they are a tree.
-ghost use Rattle.std.specs.Prelude.{◌≡◌, ◌⊎◌, ◌+◌, ◌*◌, length, OnOk, MatchResult, vec_len};
+ghost use Rattle.std.specs.Prelude.{◌≡◌, ◌⊎◌, ◌+◌, ◌*◌, [], length, OnOk, MatchOption, MatchResult, vec_len};
 ghost use Rattle.walrus_ir.specs.Arena.{arena};
 ghost use Rattle.walrus_ir.specs.Unfolding.{handlers, places_in, places_in_all};
 ghost use Rattle.walrus_ir.specs.Walk.{HasNoWalk};
 ghost use Rattle.walrus_ir.specs.Planning.{work_of, work_of_all, Adds, IsRefusedAt, IsReached};
-ghost use Rattle.walrus_ir.specs.Planning.{IsEntered, IsDone, IsNotDone, IsOrder};
+ghost use Rattle.walrus_ir.specs.Planning.{IsEntered, IsDone, IsNotDone, IsOrder, IsNextHolder};
 ghost use Rattle.walrus_ir.specs.declared.error.WalkError.TheVariants.{Memory};
 
 use crate::builder::FunctionBuilder;
@@ -38,6 +38,43 @@ pub(crate) struct Plan<'a> {
     tasks: Vec<Task<'a>>,
 }
 
+// How many clauses of a legacy `try` have a handler.
+fn count_handlers(clauses: &[LegacyCatch]) -> usize
+    ensures { result ≡ length (handlers clauses.now) }
+{
+    clauses
+        .iter()
+        .filter(|clause| !matches!(clause, LegacyCatch::Delegate { .. }))
+        .count()
+}
+
+/// How many sequences are inside an instruction.
+pub(crate) fn count_inside(instr: &Instr) -> usize
+    ensures { result ≡ length (places_in instr.now) }
+{
+    match instr {
+        Instr::Block(_) | Instr::Loop(_) | Instr::TryTable(_) => 1,
+        Instr::IfElse(_) => 2,
+        Instr::Try(x) => 1 + count_handlers(&x.catches),
+        _ => 0,
+    }
+}
+
+// The first instruction that sequences are in, and the instructions behind it.
+fn next_holder(instrs: &[(Instr, InstrLocId)]) -> Option<(&Instr, &[(Instr, InstrLocId)])>
+    ensures { MatchOption result (places_in_all instrs.now ≡ [])
+        (λ found. IsNextHolder instrs.now found.0.now found.1.now) }
+{
+    let mut left = instrs;
+    'plain: while let Some((located, behind)) = left.split_first() {
+        if count_inside(&located.0) > 0 {
+            return Some((&located.0, behind));
+        }
+        left = behind;
+    }
+    None
+}
+
 // Puts what is inside an instruction on the stack, the first on top.
 fn push_inside<'a>(tasks: &mut Vec<Task<'a>>, instr: &'a Instr) -> Result<(), AllocError>
     ensures { OnOk result
@@ -68,9 +105,9 @@ fn resume<'a>(
     ensures { OnOk result
         (Adds tasks.old.items tasks.new.items (places_in_all instrs.now) (work_of_all instrs.now)) }
 {
-    if let Some((first, others)) = instrs.split_first() {
-        tasks.push(Task::Resume(others))?;
-        push_inside(tasks, &first.0)?;
+    if let Some((holder, behind)) = next_holder(instrs) {
+        tasks.push(Task::Resume(behind))?;
+        push_inside(tasks, holder)?;
     }
     Ok(())
 }

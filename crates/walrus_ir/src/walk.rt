@@ -2,22 +2,21 @@
 ghost use Rattle.std.specs.Prelude.{◌≡◌, ◌⊎◌, ◌+◌, ◌≤◌, ◌<◌, [], ◌∷◌, length, slice_index, vec_len, vec_capacity};
 ghost use Rattle.std.specs.Prelude.{IfOk, OnOk, IfErr, MatchResult};
 ghost use Rattle.walrus_ir.specs.Arena.{arena};
-ghost use Rattle.walrus_ir.specs.Unfolding.{handlers, places_in};
 ghost use Rattle.walrus_ir.specs.Events.{StartSequence, VisitInstruction, names, Hears, Tells, Folds, Stops};
 ghost use Rattle.walrus_ir.specs.Walk.{HasNoWalk, Finishes, IsRefused, IsUnwalked};
 ghost use Rattle.walrus_ir.specs.Planning.{IsOrder};
-ghost use Rattle.walrus_ir.specs.Telling.{frame, frames, started, IsToldNext, IsRefusedNext};
+ghost use Rattle.walrus_ir.specs.Telling.{frame, frames, started};
+ghost use Rattle.walrus_ir.specs.Telling.{IsToldStretch, IsRefusedStretch, IsToldNext, IsRefusedNext};
 
 use crate::access::{DataDrop, MemoryInit};
 use crate::aggregate::{ArrayInitData, ArrayNewData};
 use crate::builder::FunctionBuilder;
-use crate::control::LegacyCatch;
 use crate::error::WalkError;
 use crate::id::InstrSeqId;
 use crate::instr::Instr;
 use crate::location::InstrLocId;
 use crate::plain::{LocalGet, LocalSet, LocalTee};
-use crate::plan::walk_order;
+use crate::plan::{count_inside, walk_order};
 use crate::seq::InstrSeq;
 use crate::visitor::Visitor;
 
@@ -29,28 +28,6 @@ pub(crate) struct Open<'a> {
     rest: &'a [(Instr, InstrLocId)],
     /// How many sequences inside the last instruction are still to come.
     inside: usize,
-}
-
-// How many clauses of a legacy `try` have a handler.
-fn count_handlers(clauses: &[LegacyCatch]) -> usize
-    ensures { result ≡ length (handlers clauses.now) }
-{
-    clauses
-        .iter()
-        .filter(|clause| !matches!(clause, LegacyCatch::Delegate { .. }))
-        .count()
-}
-
-// How many sequences are inside an instruction.
-fn count_inside(instr: &Instr) -> usize
-    ensures { result ≡ length (places_in instr.now) }
-{
-    match instr {
-        Instr::Block(_) | Instr::Loop(_) | Instr::TryTable(_) => 1,
-        Instr::IfElse(_) => 2,
-        Instr::Try(x) => 1 + count_handlers(&x.catches),
-        _ => 0,
-    }
 }
 
 // Tells a visitor what an instruction names.
@@ -102,6 +79,62 @@ fn start_seq<'a, V: Visitor>(
     Ok(())
 }
 
+// Tells a visitor instructions, up to the first that holds sequences, and answers those behind it and how many it holds:
+// none where no instruction is left.
+fn tell_stretch<'a, V: Visitor>(
+    visitor: &mut V,
+    instrs: &'a [(Instr, InstrLocId)],
+) -> Result<(&'a [(Instr, InstrLocId)], usize), V::Fault>
+    ensures told { MatchResult result
+        (λ told. IsToldStretch instrs.now told.0.now told.1 (λ es. Folds V.steps visitor.old es visitor.new))
+        (λ f. IsRefusedStretch instrs.now
+        (λ es. Stops V.steps V.refuses V.same visitor.old es visitor.new f)) }
+    ensures all { IfOk result (λ told. told.1 ≡ 0 → told.0.now ≡ []) }
+{
+    let mut left = instrs;
+    'stretch: while let Some((located, behind)) = left.split_first() {
+        tell_instr(visitor, located)?;
+        let inside = count_inside(&located.0);
+        if inside > 0 {
+            return Ok((behind, inside));
+        }
+        left = behind;
+    }
+    Ok((left, 0))
+}
+
+// Starts the next sequence inside the last instruction of an open one, which is taken off the stack, and answers what is
+// then to come.
+fn start_inside<'a, 'b, V: Visitor>(
+    visitor: &mut V,
+    builder: &'a FunctionBuilder,
+    top: Open<'a>,
+    coming: &'b [InstrSeqId],
+    stack: &mut Vec<Open<'a>>,
+) -> Result<&'b [InstrSeqId], V::Fault>
+    requires inside { 0 < top.inside }
+    requires comes { 0 < length coming.now }
+    requires known { slice_index coming.now 0 < length (arena builder.now) }
+    requires room { vec_len stack.old + length coming.now < vec_capacity stack.old }
+    ensures told { MatchResult result
+        (λ left. IsToldNext (arena builder.now) (frame top.entry) coming.now (frames stack.old.items)
+        (λ es. Folds V.steps visitor.old es visitor.new) (frames stack.new.items) left.now)
+        (λ f. IsRefusedNext (arena builder.now) (frame top.entry) coming.now
+        (λ es. Stops V.steps V.refuses V.same visitor.old es visitor.new f)) }
+    ensures room { IfOk result (λ left. vec_len stack.new + length left.now ≤ vec_capacity stack.new) }
+{
+    let (next, left) = coming.split_first().unwrap();
+    stack
+        .push(Open {
+            seq: top.seq,
+            rest: top.rest,
+            inside: top.inside - 1,
+        })
+        .unwrap();
+    start_seq(visitor, builder.seq(*next), stack)?;
+    Ok(left)
+}
+
 // Tells what comes next at the innermost open sequence, which is taken off the stack, and answers what is then to come.
 fn tell_next<'a, 'b, V: Visitor>(
     visitor: &mut V,
@@ -121,34 +154,21 @@ fn tell_next<'a, 'b, V: Visitor>(
     ensures room { IfOk result (λ left. vec_len stack.new + length left.now ≤ vec_capacity stack.new) }
 {
     if top.inside > 0 {
-        let (next, left) = coming.split_first().unwrap();
-        stack
-            .push(Open {
-                seq: top.seq,
-                rest: top.rest,
-                inside: top.inside - 1,
-            })
-            .unwrap();
-        start_seq(visitor, builder.seq(*next), stack)?;
-        return Ok(left);
+        return start_inside(visitor, builder, top, coming, stack);
     }
-    match top.rest.split_first() {
-        Some((located, rest)) => {
-            tell_instr(visitor, located)?;
-            stack
-                .push(Open {
-                    seq: top.seq,
-                    rest,
-                    inside: count_inside(&located.0),
-                })
-                .unwrap();
-            Ok(coming)
-        }
-        None => {
-            visitor.end_instr_seq(top.seq)?;
-            Ok(coming)
-        }
+    let (rest, inside) = tell_stretch(visitor, top.rest)?;
+    if inside == 0 {
+        visitor.end_instr_seq(top.seq)?;
+        return Ok(coming);
     }
+    stack
+        .push(Open {
+            seq: top.seq,
+            rest,
+            inside,
+        })
+        .unwrap();
+    Ok(coming)
 }
 
 // The sequences that a walk enters, and room for those that are open at once.

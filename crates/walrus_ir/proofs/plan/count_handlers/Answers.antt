@@ -1,6 +1,6 @@
 use Rattle.std.proofs.Common.{◌≡◌, count_by, rules, sym, ◌∙◌}
 use Rattle.walrus_ir.proofs.Handlers.{has_handler, length-handlers}
-use Rattle.walrus_ir.proofs.walk.count_handlers.Goals as goal
+use Rattle.walrus_ir.proofs.plan.count_handlers.Goals as goal
 
 pub returns : goal.returns
 returns c =

@@ -1,7 +1,7 @@
 use Rattle.std.proofs.Common.{◌≤◌, length, arith}
 use Rattle.walrus_ir.specs.Unfolding.{handlers}
 use Rattle.walrus_ir.proofs.Handlers.{length-handlers-le}
-use Rattle.walrus_ir.proofs.walk.count_inside.Goals as goal
+use Rattle.walrus_ir.proofs.plan.count_inside.Goals as goal
 
 pub overflow_add-result : goal.overflow_add-result
 overflow_add-result c =

@@ -1,0 +1,31 @@
+-- A stretch of instructions is told, one more at a time.
+use Rattle.std.proofs.Common.{◌≡◌, ℕ, List, ◌∷◌, length, subst}
+use Rattle.walrus_ir.specs.Unfolding.{Located, places_in}
+use Rattle.walrus_ir.specs.Events.{Event, VisitInstruction, names, Folds, Stops}
+use Rattle.walrus_ir.specs.Telling.{IsStretch, goes_on, IsToldStretch, IsRefusedStretch}
+use Rattle.walrus_ir.proofs.Telling.{Folds-append, Stops_behind}
+
+module _ {V F : Type 0} (steps : V → Event → V → Type 0) (refuses : V → Event → F → Type 0) (same : V → V → Type 0) where
+  -- the next instruction is told
+  pub stretch_told : {v w u : V} {all rest left : List Located} {x : Located} (n : ℕ) → rest ≡ x ∷ left → n ≡ length (places_in x.0)
+      → IsToldStretch all rest 0 (λ es. Folds steps v es w) → Folds steps w (VisitInstruction x.0 x.1 ∷ names x.0) u → IsToldStretch all left n (λ es. Folds steps v es u)
+  stretch_told {all = all} {x = x} n e many h told =
+      let P : List Located → Type 0 = λ xs. IsStretch all xs 0 h.events in
+      record {
+        events = _;
+        stretch = rw many (goes_on (subst P e h.stretch));
+        told = Folds-append steps refuses same (VisitInstruction x.0 x.1 ∷ names x.0) h.told told;
+      }
+
+  -- the next instruction is refused, or what it names
+  pub stretch_refused : {v w u : V} {f : F} {all rest left : List Located} {x : Located} → rest ≡ x ∷ left
+      → IsToldStretch all rest 0 (λ es. Folds steps v es w) → Stops steps refuses same w (VisitInstruction x.0 x.1 ∷ names x.0) u f → IsRefusedStretch all (λ es. Stops steps refuses same v es u f)
+  stretch_refused {all = all} {left = left} {x = x} e h stopped =
+      let P : List Located → Type 0 = λ xs. IsStretch all xs 0 h.events in
+      record {
+        before = h.events;
+        last = x;
+        left = left;
+        stretch = subst P e h.stretch;
+        stopped = Stops_behind steps refuses same (VisitInstruction x.0 x.1 ∷ names x.0) h.told stopped;
+      }
