@@ -21,9 +21,9 @@ use Rattle.wasm_body.specs.Keeping.{dead_behind, is_dead}
 use Rattle.wasm_body.specs.InstructionTable.{operation_of, legacy_clauses}
 use Rattle.wasm_body.specs.TreeOfFunction.{aimed, instruction_in}
 use Rattle.wasm_body.specs.Parsing.Accepted.{mark}
-use Rattle.wasm_body.specs.Parsing.Progress.{append, closed, opened, OpenConstruct, InWrapper, InThen, InElse, InTry, InCatch, InCatchAll, Layer, layer, Within, frames_of, further_within}
+use Rattle.wasm_body.specs.Parsing.Progress.{append, closed, parted_by_else, opened, OpenConstruct, InWrapper, InThen, InElse, InTry, InCatch, InCatchAll, Layer, layer, Within, frames_of, further_within}
 use Rattle.walrus_body.specs.declared.local_function.frame.IfElseState.{IfElseState}
-use Rattle.walrus_body.specs.Parsing.OpenFrames.{OpenFrame, changed_at, with_instr}
+use Rattle.walrus_body.specs.Parsing.OpenFrames.{OpenFrame, new_frame, changed_at, with_instr}
 use Rattle.walrus_body.specs.Parsing.Keeping.{slots, the_if, IsAny, IsTry, Encloses, IsAppended, OpensWith, IsWithin, Holds}
 use Rattle.walrus_body.specs.Parsing.OpenConstructs.{wrapper_kind, sequences_closed, added_in, opener_in, clauses_in, closed_in, reshown_construct}
 use Rattle.walrus_body.specs.Parsing.Advancing.{IsFate, IsCut, ParseState, Keeps, KeepsProgress, occurrence, Advances}
@@ -256,3 +256,47 @@ module _ (env : Environment) (old : ParseState) (l : Layer Occurrence) (ls : Lis
       (sealed env old.arena c h.low f (slots fs) h.before p (Some location) h.encloses m.seals) m.opens same m.same opens h.outer in
       subst (λ d. Holds env d (layer l.before q ∷ ls) Empty (length d) new.frames new.ifs) (sym m.grows)
       (subst (λ ks. Holds env (c ++ m.seq ∷ []) (layer l.before q ∷ ls) Empty (length (c ++ m.seq ∷ [])) ks new.ifs) (sym is) whole)
+
+  -- `else` behind a consequent
+  pub else_parts : (p : OpenConstruct Occurrence) (new : ParseState) (c : List InstrSeq) (seq : InstrSeq) (g : OpenFrame) (x : Occurrence) (top : IfElseState) (others : List IfElseState) → f.kind ≡ kind.If → old.ifs ≡ top ∷ others → Seals old.arena c f (Some x.location) →
+      pick env.types (signature f.start_types f.end_types) ≡ Some seq.ty → seq.end ≡ default_location → new.arena ≡ c ++ seq ∷ [] → g ≡ new_frame kind.Else f.start_types f.end_types (length c) →
+      new.frames ≡ g ∷ fs → new.ifs ≡ record top { alternative = Some g.sequence } ∷ others → Inside p →
+      (q : OpenConstruct Occurrence) × (parted_by_else p s x ≡ Some q) × Keeps env new (layer l.before q ∷ ls) Empty
+  else_parts (InThen a) new c seq g x top others is_if ifs seals picks no_end arena frame gs is h =
+      let made : IfElseState = record { start = a.location; consequent = f.sequence; alternative = None } in
+      let both : top ∷ others ≡ made ∷ h.other_ifs = sym ifs ∙ h.opens.1 in
+      let first : top ≡ made = cc both in
+      let rest : others ≡ h.other_ifs = cc both in
+      let sig : signature f.start_types f.end_types ≡ block_signature a.named = λ i. signature (h.encloses.takes i) (h.encloses.gives i) in
+      let typed : seq.ty ≡ type_of (typing_of env) a.named = sym (ap (λ t. unwrap_or t (Simple None)) (sym (ap (pick env.types) sig) ∙ picks)) in
+      let states : new.ifs ≡ record { start = a.location; consequent = f.sequence; alternative = Some g.sequence } ∷ h.other_ifs =
+      is ∙ (λ i. record { start = (first i).start; consequent = (first i).consequent; alternative = Some g.sequence } ∷ rest i) in
+      let here : g.sequence ≡ length c = ap (λ (k : OpenFrame). k.sequence) frame in
+      (InElse a s x, refl, parted (InThen a) (InElse a s x) new c g fs x.location h
+      (record {
+      seals = seals;
+      seq = seq;
+      grows = arena;
+      opens = record {
+        here = here;
+        is_empty = ap (λ (k : OpenFrame). k.instrs) frame;
+        is_alive = ap (λ (k : OpenFrame). k.dead) frame;
+        kind = ap (λ (k : OpenFrame). k.kind) frame;
+        takes = tt;
+        gives = ap (λ (k : OpenFrame). k.end_types) frame ∙ h.encloses.gives;
+        has_type = typed;
+        has_no_end = no_end;
+      };
+      same = refl;
+    })
+      gs refl (h.opens.0, (f.sequence, ap (λ ps. ps ++ f.sequence ∷ []) h.opens.2, states), h.opens.3))
+  else_parts (InWrapper a w) new c seq g x top others is_if ifs seals picks no_end arena frame gs is h = absurd (no_wrapper w (sym h.encloses.kind ∙ is_if))
+    where
+      no_wrapper : (v : Wrapper) → wrapper_kind v ≡ kind.If → ⊥
+      no_wrapper OfBlock e = cc
+      no_wrapper OfLoop e = cc
+      no_wrapper (OfTryTable cs) e = cc
+  else_parts (InElse a b m) new c seq g x top others is_if ifs seals picks no_end arena frame gs is h = absurd (let q : kind.Else ≡ kind.If = sym h.encloses.kind ∙ is_if in cc q)
+  else_parts (InTry a) new c seq g x top others is_if ifs seals picks no_end arena frame gs is h = absurd (let q : kind.Try ≡ kind.If = sym h.encloses.kind ∙ is_if in cc q)
+  else_parts (InCatch a b cs i t) new c seq g x top others is_if ifs seals picks no_end arena frame gs is h = absurd (let q : kind.Catch ≡ kind.If = sym h.encloses.kind ∙ is_if in cc q)
+  else_parts (InCatchAll a b cs i) new c seq g x top others is_if ifs seals picks no_end arena frame gs is h = absurd (let q : kind.CatchAll ≡ kind.If = sym h.encloses.kind ∙ is_if in cc q)
