@@ -7,7 +7,7 @@ use Rattle.walrus_ir.specs.declared.instr.Instr.TheVariants as instr
 use Rattle.walrus_ir.specs.declared.control.Try.{Try}
 use Rattle.walrus_ir.specs.declared.control.BlockKind.TheVariants as kind
 use Rattle.walrus_ir.specs.Tree.{Items, no_items, item, Sequences, no_sequences, sequence}
-use Rattle.walrus_ir.specs.Unfolding.{Placed, Located as LocatedInstr, places_in, AreItems, AreSequences, are_no_items, are_items, are_no_sequences}
+use Rattle.walrus_ir.specs.Unfolding.{Placed, Located as LocatedInstr, places_in, AreItems, AreSequences, are_no_items, are_items, are_no_sequences, are_sequences}
 use Rattle.wasm_ops.specs.declared.types.Opcode.TheVariants.{Byte}
 use Rattle.wasm_ops.specs.Operations.{operation, RawOperation}
 use Rattle.wasm_body.specs.Control.{Action, Construct, Does, Opens, If, control_of}
@@ -15,13 +15,15 @@ use Rattle.wasm_body.specs.SourceTree.{Sequence, Empty, Single, Wrapper, OfBlock
 use Rattle.wasm_body.specs.Naming.{Environment, NamedOperation, Occurrence, block_signature, named_in}
 use Rattle.walrus_ir.specs.Types.{signature, pick}
 use Rattle.walrus_ir.specs.declared.val_type.InstrSeqType.TheVariants.{Simple}
-use Rattle.wasm_body.specs.NormalForm.{Fate, Drops, Stays, Cuts, fate, with_fate, type_of, normal, typing_of, kept_operation, instruction, name_at}
+use Rattle.wasm_body.specs.NormalForm.{Fate, Drops, Stays, Cuts, fate, with_fate, type_of, normal, typing_of, kept_operation, instruction, name_at, normal_form, named_body}
 use Rattle.wasm_body.specs.FunctionTree.{Instruction, default_location}
 use Rattle.wasm_body.specs.Keeping.{dead_behind, is_dead}
 use Rattle.wasm_body.specs.InstructionTable.{operation_of, legacy_clauses}
-use Rattle.wasm_body.specs.TreeOfFunction.{aimed, instruction_in}
+use Rattle.wasm_body.specs.TreeOfFunction.{aimed, instruction_in, items_in, HasTree}
+use Rattle.wasm_body.specs.Intervals.{RiseIn}
 use Rattle.wasm_body.specs.Parsing.Accepted.{mark}
 use Rattle.wasm_body.specs.Parsing.Progress.{append, closed, parted_by_else, opened, OpenConstruct, InWrapper, InThen, InElse, InTry, InCatch, InCatchAll, Layer, layer, Within, frames_of, further_within}
+use Rattle.wasm_body.proofs.NormalForm.ArenaLemmas.{items-same, all_reached-fresh}
 use Rattle.walrus_body.specs.declared.local_function.frame.IfElseState.{IfElseState}
 use Rattle.walrus_body.specs.Parsing.OpenFrames.{OpenFrame, new_frame, changed_at, with_instr}
 use Rattle.walrus_body.specs.Parsing.Keeping.{slots, the_if, IsAny, IsTry, Encloses, IsAppended, OpensWith, IsWithin, Holds}
@@ -300,3 +302,31 @@ module _ (env : Environment) (old : ParseState) (l : Layer Occurrence) (ls : Lis
   else_parts (InTry a) new c seq g x top others is_if ifs seals picks no_end arena frame gs is h = absurd (let q : kind.Try ≡ kind.If = sym h.encloses.kind ∙ is_if in cc q)
   else_parts (InCatch a b cs i t) new c seq g x top others is_if ifs seals picks no_end arena frame gs is h = absurd (let q : kind.Catch ≡ kind.If = sym h.encloses.kind ∙ is_if in cc q)
   else_parts (InCatchAll a b cs i) new c seq g x top others is_if ifs seals picks no_end arena frame gs is h = absurd (let q : kind.CatchAll ≡ kind.If = sym h.encloses.kind ∙ is_if in cc q)
+
+-- ---- the function's own sequence is closed
+
+pub ends_body : (env : Environment) (b c : List InstrSeq) (f : OpenFrame) (fs : List OpenFrame) (ifs : List IfElseState) (s : Sequence Occurrence) (e : Occurrence) → Seals b c f (Some e.location) →
+    Holds env b [] s (length b) (f ∷ fs) ifs → HasTree c 0 (normal_form (typing_of env) (named_body (record { sequence = s; close = e })))
+ends_body env b c f fs ifs s e w h =
+    let k = h.kept in
+    let at_first : f.sequence ≡ 0 = h.first in
+    let inside : AreItems c w.seq.instrs.items k.items = subst (λ xs. AreItems c xs k.items) (sym w.instrs)
+    (items-same c (suc f.sequence) (length b) (λ q l m. w.written.elsewhere q (λ e. let d : q ≡ f.sequence = e in omega arith)) k.rise k.are_items) in
+    let wide : RiseIn (suc f.sequence) k.items (length c) = subst (RiseIn (suc f.sequence) k.items) (sym w.written.as_many) k.rise in
+    let stands : slice_get c 0 ≡ Some w.seq = subst (λ p. slice_get c p ≡ Some w.seq) at_first w.written.here in
+    let rises : RiseIn 1 k.items (length c) = subst (λ p. RiseIn (suc p) k.items (length c)) at_first wide in
+    let found : Some h.reserved.seq ≡ Some w.was = sym h.reserved.stands ∙ ap (slice_get b) (sym at_first) ∙ w.before in
+    let same : h.reserved.seq ≡ w.was = cc found in
+    let type : w.seq.ty ≡ (typing_of env).entry = w.same_type ∙ ap (λ (q : InstrSeq). q.ty) (sym same) ∙ h.reserved.has_type in
+    let alone : slots fs ≡ [] = ap slots h.alone in
+    let normal_is : items_in (0 ∷ []) k.items ≡ normal (typing_of env) (reshown name_at s) =
+    ap (λ p. items_in (p ∷ []) k.items) (sym at_first) ∙ ap (λ ps. items_in (f.sequence ∷ ps) k.items) (sym alone) ∙ k.is_normal in
+    let top : Placed = record { place = 0; seq = w.seq } in
+    record {
+      unfolded = record { head = top; items = k.items };
+      is_tree = record {
+        unfolds = are_sequences stands inside are_no_sequences;
+        apart = (all_reached-fresh 0 (sequence top k.items no_sequences) (length c) [] (length c, (let n : 0 ≤ 0 = omega arith in n), rises, (let n : length c ≤ length c = omega arith in n)) (record { apart = tt; below = tt })).apart;
+      };
+      is = λ i. record { head = record { type = type i; end_location = w.end_is i }; items = normal_is i };
+    }
