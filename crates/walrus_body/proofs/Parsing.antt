@@ -4,6 +4,7 @@ pub mod Frames
 pub mod Constructs
 pub mod Labels
 pub mod Rules
+pub mod Clauses
 pub mod Steps
 pub mod Placements
 pub mod FrameLists
