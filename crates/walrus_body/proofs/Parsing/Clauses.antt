@@ -61,3 +61,16 @@ gains around before slot next p q x y clause fs gs outside a e h handler same cl
   is_opener = (h.new, h.is);
   frames = frames;
 }
+
+-- What adding a clause makes of frames, the innermost of which ends with a legacy `try` or is dead.
+abbrev pub AddsClause : (fs gs : List OpenFrame) → LegacyCatch → Type 0
+AddsClause fs gs clause =
+    (x : LocatedInstr) (outside : List OpenFrame) → fs ≡ changed_at 0 (with_instr x) outside → IsTry x.0 →
+    (y : LocatedInstr) × GainsClause x y clause × (gs ≡ changed_at 0 (with_instr y) outside)
+
+pub adds_within : (around before : List ℕ) (slot next : ℕ) (p q : OpenConstruct Occurrence) (clause : LegacyCatch) (fs gs outside : List OpenFrame) →
+    IsAppended around before slot p IsTry fs outside → AddsClause fs gs clause → handler_of clause ≡ next ∷ [] → opener_in q ≡ opener_in p → clauses_in q ≡ clauses_in p ++ legacy_clause clause ∷ [] →
+    IsAppended around (before ++ slot ∷ []) next q IsTry gs outside
+adds_within around before slot next p q clause fs gs outside a adds handler same clauses =
+    let added = adds a.opener outside a.frames a.is_opener in
+    gains around before slot next p q a.opener added.0 clause fs gs outside a refl added.1 handler same clauses added.2

@@ -5,9 +5,12 @@ use Rattle.walrus_ir.specs.declared.seq.InstrSeq.{InstrSeq}
 use Rattle.walrus_ir.specs.declared.instr.Instr.{Instr}
 use Rattle.walrus_ir.specs.declared.instr.Instr.TheVariants as instr
 use Rattle.walrus_ir.specs.declared.control.Try.{Try}
+use Rattle.walrus_ir.specs.declared.control.BlockKind.{BlockKind}
 use Rattle.walrus_ir.specs.declared.control.BlockKind.TheVariants as kind
+use Rattle.walrus_ir.specs.declared.control.LegacyCatch.{LegacyCatch}
+use Rattle.walrus_ir.specs.declared.val_type.ValType.{ValType}
 use Rattle.walrus_ir.specs.Tree.{Items, no_items, item, Sequences, no_sequences, sequence}
-use Rattle.walrus_ir.specs.Unfolding.{Placed, Located as LocatedInstr, places_in, AreItems, AreSequences, are_no_items, are_items, are_no_sequences, are_sequences}
+use Rattle.walrus_ir.specs.Unfolding.{Placed, Located as LocatedInstr, handler_of, places_in, AreItems, AreSequences, are_no_items, are_items, are_no_sequences, are_sequences}
 use Rattle.wasm_ops.specs.declared.types.Opcode.TheVariants.{Byte}
 use Rattle.wasm_ops.specs.Operations.{operation, RawOperation}
 use Rattle.wasm_body.specs.Control.{Action, Construct, Does, Opens, If, control_of}
@@ -15,10 +18,10 @@ use Rattle.wasm_body.specs.SourceTree.{Sequence, Empty, Single, Wrapper, OfBlock
 use Rattle.wasm_body.specs.Naming.{Environment, NamedOperation, Occurrence, block_signature, named_in}
 use Rattle.walrus_ir.specs.Types.{signature, pick}
 use Rattle.walrus_ir.specs.declared.val_type.InstrSeqType.TheVariants.{Simple}
-use Rattle.wasm_body.specs.NormalForm.{Fate, Drops, Stays, Cuts, fate, with_fate, type_of, normal, typing_of, kept_operation, instruction, name_at, normal_form, named_body}
+use Rattle.wasm_body.specs.NormalForm.{Fate, Drops, Stays, Cuts, fate, with_fate, type_of, handler_type, normal, typing_of, kept_operation, instruction, name_at, normal_form, named_body}
 use Rattle.wasm_body.specs.FunctionTree.{Instruction, default_location}
 use Rattle.wasm_body.specs.Keeping.{dead_behind, is_dead}
-use Rattle.wasm_body.specs.InstructionTable.{operation_of, legacy_clauses}
+use Rattle.wasm_body.specs.InstructionTable.{operation_of, legacy_clause, legacy_clauses}
 use Rattle.wasm_body.specs.TreeOfFunction.{aimed, instruction_in, items_in, HasTree}
 use Rattle.wasm_body.specs.Intervals.{RiseIn}
 use Rattle.wasm_body.specs.Parsing.Accepted.{mark}
@@ -26,10 +29,11 @@ use Rattle.wasm_body.specs.Parsing.Progress.{append, closed, parted_by_else, ope
 use Rattle.wasm_body.proofs.NormalForm.ArenaLemmas.{items-same, all_reached-fresh}
 use Rattle.walrus_body.specs.declared.local_function.frame.IfElseState.{IfElseState}
 use Rattle.walrus_body.specs.Parsing.OpenFrames.{OpenFrame, new_frame, changed_at, with_instr}
-use Rattle.walrus_body.specs.Parsing.Keeping.{slots, the_if, IsAny, IsTry, Encloses, IsAppended, OpensWith, IsWithin, Holds}
-use Rattle.walrus_body.specs.Parsing.OpenConstructs.{wrapper_kind, sequences_closed, added_in, opener_in, clauses_in, closed_in, reshown_construct}
+use Rattle.walrus_body.specs.Parsing.Keeping.{slots, TakesParameters, the_if, IsAny, IsTry, Encloses, IsAppended, OpensWith, IsWithin, Holds}
+use Rattle.walrus_body.specs.Parsing.OpenConstructs.{kind_in, type_in, wrapper_kind, sequences_closed, added_in, opener_in, clauses_in, closed_in, reshown_construct}
 use Rattle.walrus_body.specs.Parsing.Advancing.{IsFate, IsCut, ParseState, Keeps, KeepsProgress, occurrence, Advances}
 use Rattle.walrus_body.proofs.Parsing.Frames.{slots_changed, AreNormal, taken, holds_takes, holds_passes}
+use Rattle.walrus_body.proofs.Parsing.Clauses.{AddsClause, adds_within}
 use Rattle.walrus_body.proofs.Parsing.Constructs.{IsWritten, IsSealed, IsOpened, holds_opened, holds_ended, holds_chosen, holds_chosen_alone, holds_parted, if_else}
 
 module _ (env : Environment) (old : ParseState) (ls : List (Layer Occurrence)) (s : Sequence Occurrence) (o : RawOperation) (place location : ℕ) (keeps : Keeps env old ls s) where
@@ -302,6 +306,41 @@ module _ (env : Environment) (old : ParseState) (l : Layer Occurrence) (ls : Lis
   else_parts (InTry a) new c seq g x top others is_if ifs seals picks no_end arena frame gs is h = absurd (let q : kind.Try ≡ kind.If = sym h.encloses.kind ∙ is_if in cc q)
   else_parts (InCatch a b cs i t) new c seq g x top others is_if ifs seals picks no_end arena frame gs is h = absurd (let q : kind.Catch ≡ kind.If = sym h.encloses.kind ∙ is_if in cc q)
   else_parts (InCatchAll a b cs i) new c seq g x top others is_if ifs seals picks no_end arena frame gs is h = absurd (let q : kind.CatchAll ≡ kind.If = sym h.encloses.kind ∙ is_if in cc q)
+
+  -- `catch` and `catch_all` behind the body of a legacy `try` or a handler
+  handler_parts : (p q : OpenConstruct Occurrence) (new : ParseState) (c : List InstrSeq) (seq : InstrSeq) (g : OpenFrame) (gs : List OpenFrame) (location : ℕ) (kind : BlockKind) (parameters : List (ValType ℕ)) (clause : LegacyCatch) → Seals old.arena c f (Some location) →
+      pick env.types (signature parameters f.end_types) ≡ Some seq.ty → seq.end ≡ default_location → new.arena ≡ c ++ seq ∷ [] → g ≡ new_frame kind parameters f.end_types (length c) →
+      new.frames ≡ g ∷ gs → new.ifs ≡ old.ifs → slots gs ≡ slots fs → AddsClause fs gs clause → handler_of clause ≡ length c ∷ [] → (h : Inside p) → IsAppended (slots fs) h.before f.sequence p IsTry fs h.outside → old.ifs ≡ h.other_ifs →
+      opener_in q ≡ opener_in p → clauses_in q ≡ clauses_in p ++ legacy_clause clause ∷ [] → kind ≡ kind_in q → ((ts : _) → TakesParameters q ts) →
+      type_in (typing_of env) (reshown_construct name_at q) ≡ handler_type (typing_of env) (name_at (opener_in p)).op parameters →
+      closed_in (typing_of env) (reshown_construct name_at q) ≡ sequences_closed (typing_of env) (reshown_construct name_at p) (normal (typing_of env) (reshown name_at s)) location no_sequences →
+      ((around before : List ℕ) (slot : ℕ) (hs outside : List OpenFrame) (is js : List IfElseState) → IsAppended around before slot q IsTry hs outside × (is ≡ js) → OpensWith around before slot q hs outside is js) →
+      Keeps env new (layer l.before q ∷ ls) Empty
+  handler_parts p q new c seq g gs location kind parameters clause seals picks no_end arena frame gs_are is same_slots adds handler h appended others same clauses is_kind takes type closed_same opens =
+      let here : g.sequence ≡ length c = ap (λ (k : OpenFrame). k.sequence) frame in
+      let typed : seq.ty ≡ handler_type (typing_of env) (name_at (opener_in p)).op parameters =
+      sym (ap (λ r. unwrap_or (pick env.types (signature parameters r)) (Simple None)) (sym h.encloses.gives) ∙ ap (λ t. unwrap_or t (Simple None)) picks) in
+      parted p q new c g gs location h
+      (record {
+    seals = seals;
+    seq = seq;
+    grows = arena;
+    opens = record {
+      here = here;
+      is_empty = ap (λ (k : OpenFrame). k.instrs) frame;
+      is_alive = ap (λ (k : OpenFrame). k.dead) frame;
+      kind = ap (λ (k : OpenFrame). k.kind) frame ∙ is_kind;
+      takes = takes g.start_types;
+      gives = ap (λ (k : OpenFrame). k.end_types) frame ∙ h.encloses.gives ∙ ap (λ (a : Occurrence). (block_signature a.named).results) (sym same);
+      has_type = typed ∙ sym type;
+      has_no_end = no_end;
+    };
+    same = closed_same;
+  })
+      gs_are same_slots
+      (opens (slots gs) (h.before ++ f.sequence ∷ []) g.sequence gs h.outside new.ifs h.other_ifs
+      (subst (λ ps. IsAppended ps (h.before ++ f.sequence ∷ []) g.sequence q IsTry gs h.outside) (sym same_slots)
+      (adds_within (slots fs) h.before f.sequence g.sequence p q clause fs gs h.outside appended adds (handler ∙ ap (λ n. n ∷ []) (sym here)) same clauses), is ∙ others))
 
 -- ---- the function's own sequence is closed
 
