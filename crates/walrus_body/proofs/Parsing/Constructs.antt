@@ -169,7 +169,7 @@ none_holds env b [] s high ifs h = h
 none_holds env b (l ∷ ls) s high ifs h = h
 
 -- the frame around takes the construct
-holds_behind : (env : Environment) (c : List InstrSeq) (ls : List (Layer Occurrence)) (s t : Sequence Occurrence) (low high : ℕ) (fs : List OpenFrame) (ifs : List IfElseState) (x : LocatedInstr) → low ≤ high → is_dead t ≡ false →
+pub holds_behind : (env : Environment) (c : List InstrSeq) (ls : List (Layer Occurrence)) (s t : Sequence Occurrence) (low high : ℕ) (fs : List OpenFrame) (ifs : List IfElseState) (x : LocatedInstr) → low ≤ high → is_dead t ≡ false →
     AreNormal env c low high (slots fs) (x ∷ []) t → Holds env c ls s low fs ifs → Holds env c ls (append s t) high (changed_at 0 (with_instr x) fs) ifs
 holds_behind env c ls s t low high [] ifs x wider alive a h = absurd (none_holds env c ls s low ifs h)
 holds_behind env c ls s t low high (f ∷ fs) ifs x wider alive a h =
@@ -183,7 +183,7 @@ closed_alive (InTry a) s e = refl
 closed_alive (InCatch a b gs h t) s e = refl
 closed_alive (InCatchAll a b gs h) s e = refl
 
-closed_range : {env : Environment} {c : List InstrSeq} {low high : ℕ} {around places : List ℕ} {p : OpenConstruct Occurrence} {s : Sequence Occurrence} {location : ℕ} {rest : Sequences Head Instruction} → AreClosed env c low high around places p s location rest → low ≤ high
+pub closed_range : {env : Environment} {c : List InstrSeq} {low high : ℕ} {around places : List ℕ} {p : OpenConstruct Occurrence} {s : Sequence Occurrence} {location : ℕ} {rest : Sequences Head Instruction} → AreClosed env c low high around places p s location rest → low ≤ high
 closed_range {low = low} {high = high} a = all_rise-range low a.inside high a.rise
 
 -- ---- closers

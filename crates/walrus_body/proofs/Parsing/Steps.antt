@@ -1,5 +1,6 @@
 -- How each kind of operator advances a parse.
 use Rattle.std.specs.Prelude.{◌≡◌, ◌≢◌, slice_get, unwrap_or, ℕ, suc, ◌+◌, ◌≤◌, List, [], ◌∷◌, ◌++◌, length, Bool, true, false, Option, Some, None, Result, Ok, Err}
+use Rattle.std.proofs.lemmas.List.{append-nil}
 use Rattle.std.proofs.Common.{refl, ap, sym, subst, ◌∙◌, arith}
 use Rattle.walrus_ir.specs.declared.seq.InstrSeq.{InstrSeq}
 use Rattle.walrus_ir.specs.declared.instr.Instr.{Instr}
@@ -8,33 +9,35 @@ use Rattle.walrus_ir.specs.declared.control.Try.{Try}
 use Rattle.walrus_ir.specs.declared.control.BlockKind.{BlockKind}
 use Rattle.walrus_ir.specs.declared.control.BlockKind.TheVariants as kind
 use Rattle.walrus_ir.specs.declared.control.LegacyCatch.{LegacyCatch}
+use Rattle.walrus_ir.specs.declared.control.LegacyCatch.TheVariants.{Catch, CatchAll, Delegate}
 use Rattle.walrus_ir.specs.declared.val_type.ValType.{ValType}
 use Rattle.walrus_ir.specs.Tree.{Items, no_items, item, Sequences, no_sequences, sequence}
 use Rattle.walrus_ir.specs.Unfolding.{Placed, Located as LocatedInstr, handler_of, places_in, AreItems, AreSequences, are_no_items, are_items, are_no_sequences, are_sequences}
 use Rattle.wasm_ops.specs.declared.types.Opcode.TheVariants.{Byte}
 use Rattle.wasm_ops.specs.Operations.{operation, RawOperation}
 use Rattle.wasm_body.specs.Control.{Action, Construct, Does, Opens, If, control_of}
-use Rattle.wasm_body.specs.SourceTree.{Sequence, Empty, Single, Wrapper, OfBlock, OfLoop, OfTryTable, construct_of, reshown}
+use Rattle.wasm_body.specs.SourceTree.{Sequence, Empty, Single, TryDelegate, Wrapper, OfBlock, OfLoop, OfTryTable, construct_of, reshown}
 use Rattle.wasm_body.specs.Naming.{Environment, NamedOperation, Occurrence, block_signature, named_in}
 use Rattle.walrus_ir.specs.Types.{signature, pick}
 use Rattle.walrus_ir.specs.declared.val_type.InstrSeqType.TheVariants.{Simple}
 use Rattle.wasm_body.specs.NormalForm.{Fate, Drops, Stays, Cuts, fate, with_fate, type_of, handler_type, normal, typing_of, kept_operation, instruction, name_at, normal_form, named_body}
-use Rattle.wasm_body.specs.FunctionTree.{Instruction, default_location}
+use Rattle.wasm_body.specs.FunctionTree.{Instruction, handles, handles_all, delegates, default_location}
 use Rattle.wasm_body.specs.Keeping.{dead_behind, is_dead}
 use Rattle.wasm_body.specs.InstructionTable.{operation_of, legacy_clause, legacy_clauses}
 use Rattle.wasm_body.specs.TreeOfFunction.{aimed, instruction_in, items_in, HasTree}
 use Rattle.wasm_body.specs.Intervals.{RiseIn}
 use Rattle.wasm_body.specs.Parsing.Accepted.{mark}
-use Rattle.wasm_body.specs.Parsing.Progress.{append, closed, parted_by_else, opened, OpenConstruct, InWrapper, InThen, InElse, InTry, InCatch, InCatchAll, Layer, layer, Within, frames_of, further_within}
-use Rattle.wasm_body.proofs.NormalForm.ArenaLemmas.{items-same, all_reached-fresh}
+use Rattle.wasm_body.specs.Parsing.Progress.{append, closed, closed_clause, parted_by_catch, parted_by_catch_all, delegated, parted_by_else, opened, OpenConstruct, InWrapper, InThen, InElse, InTry, InCatch, InCatchAll, Layer, layer, Within, frames_of, further_within}
+use Rattle.wasm_body.proofs.NormalForm.ArenaLemmas.{all_rise-range, items-same, all_reached-fresh}
 use Rattle.walrus_body.specs.declared.local_function.frame.IfElseState.{IfElseState}
 use Rattle.walrus_body.specs.Parsing.OpenFrames.{OpenFrame, new_frame, changed_at, with_instr}
 use Rattle.walrus_body.specs.Parsing.Keeping.{slots, TakesParameters, the_if, IsAny, IsTry, Encloses, IsAppended, OpensWith, IsWithin, Holds}
-use Rattle.walrus_body.specs.Parsing.OpenConstructs.{kind_in, type_in, wrapper_kind, sequences_closed, added_in, opener_in, clauses_in, closed_in, reshown_construct}
+use Rattle.walrus_body.specs.Parsing.OpenConstructs.{reshown_closed, kind_in, type_in, wrapper_kind, sequences_closed, added_in, opener_in, clauses_in, closed_in, reshown_construct}
 use Rattle.walrus_body.specs.Parsing.Advancing.{IsFate, IsCut, ParseState, Keeps, KeepsProgress, occurrence, Advances}
-use Rattle.walrus_body.proofs.Parsing.Frames.{slots_changed, AreNormal, taken, holds_takes, holds_passes}
-use Rattle.walrus_body.proofs.Parsing.Clauses.{AddsClause, adds_within}
-use Rattle.walrus_body.proofs.Parsing.Constructs.{IsWritten, IsSealed, IsOpened, holds_opened, holds_ended, holds_chosen, holds_chosen_alone, holds_parted, if_else}
+use Rattle.walrus_body.proofs.Parsing.Frames.{holds_same, slots_changed, AreNormal, taken, holds_takes, holds_passes}
+use Rattle.walrus_body.proofs.Parsing.Closing.{clauses_more, closed_by_catch}
+use Rattle.walrus_body.proofs.Parsing.Clauses.{gained_places, gained_instruction, AddsClause, adds_within}
+use Rattle.walrus_body.proofs.Parsing.Constructs.{closed_range, holds_behind, sequence_closed, IsWritten, IsSealed, IsOpened, holds_opened, holds_ended, holds_chosen, holds_chosen_alone, holds_parted, if_else}
 
 module _ (env : Environment) (old : ParseState) (ls : List (Layer Occurrence)) (s : Sequence Occurrence) (o : RawOperation) (place location : ℕ) (keeps : Keeps env old ls s) where
   abbrev at : NamedOperation → Occurrence
@@ -70,12 +73,12 @@ module _ (env : Environment) (old : ParseState) (ls : List (Layer Occurrence)) (
         (keeps_as (record old { frames = taken (i, location) cut f ∷ fs }) named (Does action) control
         (holds_takes env old.arena ls s (Single (at named) action Empty) (length old.arena) (length old.arena) f fs old.ifs (i, location) cut (omega arith) (dead_as (fate action) cut cuts)
         (record {
-      items = item (i, location) no_sequences no_items;
-      are_items = are_items (subst (λ ps. AreSequences old.arena ps no_sequences) (sym alone) are_no_sequences) are_no_items;
-      rise = (length old.arena, (let n : length old.arena ≤ length old.arena = omega arith in n), (let n : length old.arena ≤ length old.arena = omega arith in n));
-      is_normal = (λ k. item (record { op = subst (λ gs. aimed (slots gs) (operation_of i) ≡ kept_operation named) frames aims k; clauses = no_clauses k; location = location }) no_sequences no_items)
-          ∙ sym (kept_as (fate action) cut (instruction (name_at (at named)) []) cuts);
-    })
+          items = item (i, location) no_sequences no_items;
+          are_items = are_items (subst (λ ps. AreSequences old.arena ps no_sequences) (sym alone) are_no_sequences) are_no_items;
+          rise = (length old.arena, (let n : length old.arena ≤ length old.arena = omega arith in n), (let n : length old.arena ≤ length old.arena = omega arith in n));
+          is_normal = (λ k. item (record { op = subst (λ gs. aimed (slots gs) (operation_of i) ≡ kept_operation named) frames aims k; clauses = no_clauses k; location = location }) no_sequences no_items)
+              ∙ sym (kept_as (fate action) cut (instruction (name_at (at named)) []) cuts);
+        })
         (subst (λ gs. Holds env old.arena ls s (length old.arena) gs old.ifs) frames keeps)));
   }
     where
@@ -112,12 +115,12 @@ module _ (env : Environment) (old : ParseState) (ls : List (Layer Occurrence)) (
             (keeps_as _ named (Opens c) control
             (holds_opened env old.arena seq ls s (opened (at named) c) g around old.frames old.ifs old.ifs opens none
             (with_opener around (record {
-          opener = x;
-          places = places;
-          is_instruction = ap (λ ps. instruction_in ps x) (slots_changed x 0 old.frames) ∙ instr;
-          is_opener = is_opener;
-          frames = refl;
-        }))
+              opener = x;
+              places = places;
+              is_instruction = ap (λ ps. instruction_in ps x) (slots_changed x 0 old.frames) ∙ instr;
+              is_opener = is_opener;
+              frames = refl;
+            }))
             keeps));
       }
 
@@ -277,25 +280,28 @@ module _ (env : Environment) (old : ParseState) (l : Layer Occurrence) (ls : Lis
       let typed : seq.ty ≡ type_of (typing_of env) a.named = sym (ap (λ t. unwrap_or t (Simple None)) (sym (ap (pick env.types) sig) ∙ picks)) in
       let states : new.ifs ≡ record { start = a.location; consequent = f.sequence; alternative = Some g.sequence } ∷ h.other_ifs =
       is ∙ (λ i. record { start = (first i).start; consequent = (first i).consequent; alternative = Some g.sequence } ∷ rest i) in
-      let here : g.sequence ≡ length c = ap (λ (k : OpenFrame). k.sequence) frame in
-      (InElse a s x, refl, parted (InThen a) (InElse a s x) new c g fs x.location h
-      (record {
-      seals = seals;
-      seq = seq;
-      grows = arena;
-      opens = record {
-        here = here;
-        is_empty = ap (λ (k : OpenFrame). k.instrs) frame;
-        is_alive = ap (λ (k : OpenFrame). k.dead) frame;
-        kind = ap (λ (k : OpenFrame). k.kind) frame;
-        takes = tt;
-        gives = ap (λ (k : OpenFrame). k.end_types) frame ∙ h.encloses.gives;
-        has_type = typed;
-        has_no_end = no_end;
-      };
-      same = refl;
-    })
-      gs refl (h.opens.0, (f.sequence, ap (λ ps. ps ++ f.sequence ∷ []) h.opens.2, states), h.opens.3))
+      let here : g.sequence ≡ length c = ap (λ (k : OpenFrame). k.sequence) frame in (
+        InElse a s x,
+        refl,
+        parted (InThen a) (InElse a s x) new c g fs x.location h
+            (record {
+              seals = seals;
+              seq = seq;
+              grows = arena;
+              opens = record {
+                here = here;
+                is_empty = ap (λ (k : OpenFrame). k.instrs) frame;
+                is_alive = ap (λ (k : OpenFrame). k.dead) frame;
+                kind = ap (λ (k : OpenFrame). k.kind) frame;
+                takes = tt;
+                gives = ap (λ (k : OpenFrame). k.end_types) frame ∙ h.encloses.gives;
+                has_type = typed;
+                has_no_end = no_end;
+              };
+              same = refl;
+            })
+            gs refl (h.opens.0, (f.sequence, ap (λ ps. ps ++ f.sequence ∷ []) h.opens.2, states), h.opens.3),
+      )
   else_parts (InWrapper a w) new c seq g x top others is_if ifs seals picks no_end arena frame gs is h = absurd (no_wrapper w (sym h.encloses.kind ∙ is_if))
     where
       no_wrapper : (v : Wrapper) → wrapper_kind v ≡ kind.If → ⊥
@@ -322,25 +328,128 @@ module _ (env : Environment) (old : ParseState) (l : Layer Occurrence) (ls : Lis
       sym (ap (λ r. unwrap_or (pick env.types (signature parameters r)) (Simple None)) (sym h.encloses.gives) ∙ ap (λ t. unwrap_or t (Simple None)) picks) in
       parted p q new c g gs location h
       (record {
-    seals = seals;
-    seq = seq;
-    grows = arena;
-    opens = record {
-      here = here;
-      is_empty = ap (λ (k : OpenFrame). k.instrs) frame;
-      is_alive = ap (λ (k : OpenFrame). k.dead) frame;
-      kind = ap (λ (k : OpenFrame). k.kind) frame ∙ is_kind;
-      takes = takes g.start_types;
-      gives = ap (λ (k : OpenFrame). k.end_types) frame ∙ h.encloses.gives ∙ ap (λ (a : Occurrence). (block_signature a.named).results) (sym same);
-      has_type = typed ∙ sym type;
-      has_no_end = no_end;
-    };
-    same = closed_same;
-  })
+        seals = seals;
+        seq = seq;
+        grows = arena;
+        opens = record {
+          here = here;
+          is_empty = ap (λ (k : OpenFrame). k.instrs) frame;
+          is_alive = ap (λ (k : OpenFrame). k.dead) frame;
+          kind = ap (λ (k : OpenFrame). k.kind) frame ∙ is_kind;
+          takes = takes g.start_types;
+          gives = ap (λ (k : OpenFrame). k.end_types) frame ∙ h.encloses.gives ∙ ap (λ (a : Occurrence). (block_signature a.named).results) (sym same);
+          has_type = typed ∙ sym type;
+          has_no_end = no_end;
+        };
+        same = closed_same;
+      })
       gs_are same_slots
-      (opens (slots gs) (h.before ++ f.sequence ∷ []) g.sequence gs h.outside new.ifs h.other_ifs
-      (subst (λ ps. IsAppended ps (h.before ++ f.sequence ∷ []) g.sequence q IsTry gs h.outside) (sym same_slots)
-      (adds_within (slots fs) h.before f.sequence g.sequence p q clause fs gs h.outside appended adds (handler ∙ ap (λ n. n ∷ []) (sym here)) same clauses), is ∙ others))
+      (opens (slots gs) (h.before ++ f.sequence ∷ []) g.sequence gs h.outside new.ifs h.other_ifs (
+        subst (λ ps. IsAppended ps (h.before ++ f.sequence ∷ []) g.sequence q IsTry gs h.outside) (sym same_slots)
+            (adds_within (slots fs) h.before f.sequence g.sequence p q clause fs gs h.outside appended adds (handler ∙ ap (λ n. n ∷ []) (sym here)) same clauses),
+        is ∙ others,
+      ))
+
+  -- whether a clause may stand behind the frame
+  abbrev pub IsBehindTry : BlockKind → Type 0
+  IsBehindTry kind.Try = Unit {0}
+  IsBehindTry kind.Catch = Unit {0}
+  IsBehindTry _ = ⊥
+
+  pub catch_parts : (p : OpenConstruct Occurrence) (new : ParseState) (c : List InstrSeq) (seq : InstrSeq) (g : OpenFrame) (gs : List OpenFrame) (x : Occurrence) (tag : ℕ) (parameters : List (ValType ℕ)) → IsBehindTry f.kind → Seals old.arena c f (Some x.location) →
+      (typing_of env).tag_parameters tag ≡ parameters → pick env.types (signature parameters f.end_types) ≡ Some seq.ty → seq.end ≡ default_location → new.arena ≡ c ++ seq ∷ [] → g ≡ new_frame kind.Catch parameters f.end_types (length c) →
+      new.frames ≡ g ∷ gs → new.ifs ≡ old.ifs → slots gs ≡ slots fs → AddsClause fs gs (Catch tag (length c)) → Inside p →
+      (q : OpenConstruct Occurrence) × (parted_by_catch p s x tag ≡ Some q) × Keeps env new (layer l.before q ∷ ls) Empty
+  catch_parts (InTry a) new c seq g gs x tag parameters may seals tagged picks no_end arena frame gs_are is same_slots adds h =
+      let q = InCatch a s [] x tag in (
+        q,
+        refl,
+        handler_parts (InTry a) q new c seq g gs x.location kind.Catch parameters (Catch tag (length c)) seals picks no_end arena frame gs_are is same_slots adds refl h h.opens.0 h.opens.1
+            refl refl refl (λ ts. tt) (ap (handler_type (typing_of env) a.named) tagged) refl (λ around before slot hs outside is js o. o),
+      )
+  catch_parts (InCatch a b cs i u) new c seq g gs x tag parameters may seals tagged picks no_end arena frame gs_are is same_slots adds h =
+      let q = InCatch a b (closed_clause i u s ∷ cs) x tag in (
+        q,
+        refl,
+        handler_parts (InCatch a b cs i u) q new c seq g gs x.location kind.Catch parameters (Catch tag (length c)) seals picks no_end arena frame gs_are is same_slots adds refl h h.opens.0 h.opens.1
+            refl (clauses_more cs (handles u ∷ []) (handles tag ∷ [])) refl (λ ts. tt) (ap (handler_type (typing_of env) a.named) tagged)
+            (closed_by_catch (typing_of env) (name_at a) (reshown name_at b) (reshown name_at s) (reshown_closed name_at cs) (name_at i) (name_at x) tag u) (λ around before slot hs outside is js o. o),
+      )
+  catch_parts (InWrapper a w) new c seq g gs x tag parameters may seals tagged picks no_end arena frame gs_are is same_slots adds h = absurd (wrapper_may w (subst IsBehindTry h.encloses.kind may))
+    where
+      wrapper_may : (v : Wrapper) → IsBehindTry (wrapper_kind v) → ⊥
+      wrapper_may OfBlock m = m
+      wrapper_may OfLoop m = m
+      wrapper_may (OfTryTable cs) m = m
+  catch_parts (InThen a) new c seq g gs x tag parameters may seals tagged picks no_end arena frame gs_are is same_slots adds h = absurd (subst IsBehindTry h.encloses.kind may)
+  catch_parts (InElse a b m) new c seq g gs x tag parameters may seals tagged picks no_end arena frame gs_are is same_slots adds h = absurd (subst IsBehindTry h.encloses.kind may)
+  catch_parts (InCatchAll a b cs i) new c seq g gs x tag parameters may seals tagged picks no_end arena frame gs_are is same_slots adds h = absurd (subst IsBehindTry h.encloses.kind may)
+
+  pub catch_all_parts : (p : OpenConstruct Occurrence) (new : ParseState) (c : List InstrSeq) (seq : InstrSeq) (g : OpenFrame) (gs : List OpenFrame) (x : Occurrence) → IsBehindTry f.kind → Seals old.arena c f (Some x.location) →
+      pick env.types (signature [] f.end_types) ≡ Some seq.ty → seq.end ≡ default_location → new.arena ≡ c ++ seq ∷ [] → g ≡ new_frame kind.CatchAll [] f.end_types (length c) →
+      new.frames ≡ g ∷ gs → new.ifs ≡ old.ifs → slots gs ≡ slots fs → AddsClause fs gs (CatchAll (length c)) → Inside p →
+      (q : OpenConstruct Occurrence) × (parted_by_catch_all p s x ≡ Some q) × Keeps env new (layer l.before q ∷ ls) Empty
+  catch_all_parts (InTry a) new c seq g gs x may seals picks no_end arena frame gs_are is same_slots adds h =
+      let q = InCatchAll a s [] x in (
+        q,
+        refl,
+        handler_parts (InTry a) q new c seq g gs x.location kind.CatchAll [] (CatchAll (length c)) seals picks no_end arena frame gs_are is same_slots adds refl h h.opens.0 h.opens.1
+            refl refl refl (λ ts. tt) refl refl (λ around before slot hs outside is js o. o),
+      )
+  catch_all_parts (InCatch a b cs i u) new c seq g gs x may seals picks no_end arena frame gs_are is same_slots adds h =
+      let q = InCatchAll a b (closed_clause i u s ∷ cs) x in (
+        q,
+        refl,
+        handler_parts (InCatch a b cs i u) q new c seq g gs x.location kind.CatchAll [] (CatchAll (length c)) seals picks no_end arena frame gs_are is same_slots adds refl h h.opens.0 h.opens.1
+            refl (clauses_more cs (handles u ∷ []) (handles_all ∷ [])) refl (λ ts. tt) refl
+            (closed_by_catch (typing_of env) (name_at a) (reshown name_at b) (reshown name_at s) (reshown_closed name_at cs) (name_at i) (name_at x) 0 u) (λ around before slot hs outside is js o. o),
+      )
+  catch_all_parts (InWrapper a w) new c seq g gs x may seals picks no_end arena frame gs_are is same_slots adds h = absurd (wrapper_may w (subst IsBehindTry h.encloses.kind may))
+    where
+      wrapper_may : (v : Wrapper) → IsBehindTry (wrapper_kind v) → ⊥
+      wrapper_may OfBlock m = m
+      wrapper_may OfLoop m = m
+      wrapper_may (OfTryTable cs) m = m
+  catch_all_parts (InThen a) new c seq g gs x may seals picks no_end arena frame gs_are is same_slots adds h = absurd (subst IsBehindTry h.encloses.kind may)
+  catch_all_parts (InElse a b m) new c seq g gs x may seals picks no_end arena frame gs_are is same_slots adds h = absurd (subst IsBehindTry h.encloses.kind may)
+  catch_all_parts (InCatchAll a b cs i) new c seq g gs x may seals picks no_end arena frame gs_are is same_slots adds h = absurd (subst IsBehindTry h.encloses.kind may)
+
+  -- `delegate` behind the body of a legacy `try`
+  pub delegate_ends : (p : OpenConstruct Occurrence) (new : ParseState) (gs : List OpenFrame) (x : Occurrence) (n : ℕ) → f.kind ≡ kind.Try → Seals old.arena new.arena f None → new.frames ≡ gs → new.ifs ≡ old.ifs → AddsClause fs gs (Delegate n) → Inside p →
+      (made : Sequence Occurrence) × (delegated p s x n ≡ Some made) × Keeps env new ls (append l.before made)
+  delegate_ends (InTry a) new gs x n is_try seals gs_are is adds h =
+      let appended : IsAppended (slots fs) h.before f.sequence (InTry a) IsTry fs h.outside = h.opens.0 in
+      let added = adds appended.opener h.outside appended.frames appended.is_opener in
+      let same_slots : slots fs ≡ slots h.outside = ap slots appended.frames ∙ slots_changed appended.opener 0 h.outside in
+      let closes = sequence_closed env old.arena new.arena h.low f (slots fs) h.before (InTry a) s default_location h.kept h.encloses
+      (sealed env old.arena new.arena h.low f (slots fs) h.before (InTry a) None h.encloses seals) in
+      let range = all_rise-range h.low h.encloses.inside f.sequence h.encloses.rise in
+      let places : places_in added.0.0 ≡ h.before ++ f.sequence ∷ [] = gained_places appended.opener added.0 (Delegate n) added.1 ∙ append-nil (places_in appended.opener.0) ∙ appended.places in
+      let made : instruction_in (slots fs) added.0 ≡ instruction (name_at a) (delegates n ∷ []) = gained_instruction (slots fs) appended.opener added.0 (Delegate n) a [] added.1 appended.is_instruction in
+      let more : AreNormal env new.arena h.low (length new.arena) (slots fs) (added.0 ∷ []) (TryDelegate a s x n Empty) = record {
+        items = item added.0 closes.inside no_items;
+        are_items = are_items (subst (λ ps. AreSequences new.arena ps closes.inside) (sym places) closes.are_sequences) are_no_items;
+        rise = (length new.arena, closes.rise, (let m : length new.arena ≤ length new.arena = omega arith in m));
+        is_normal = λ i. item (made i) (closes.is_normal i) no_items;
+      } in
+      let whole = holds_behind env new.arena ls l.before (TryDelegate a s x n Empty) h.low (length new.arena) h.outside h.other_ifs added.0 (closed_range closes) refl
+      (subst (λ ps. AreNormal env new.arena h.low (length new.arena) ps (added.0 ∷ []) (TryDelegate a s x n Empty)) same_slots more)
+      (holds_same env old.arena new.arena ls l.before h.low h.outside h.other_ifs (λ q m k. seals.written.elsewhere q (λ d. let at : q ≡ f.sequence = d in omega arith)) h.outer) in (
+        TryDelegate a s x n Empty,
+        refl,
+        subst (λ qs. Holds env new.arena ls (append l.before (TryDelegate a s x n Empty)) (length new.arena) qs new.ifs) (sym (gs_are ∙ added.2))
+            (subst (λ js. Holds env new.arena ls (append l.before (TryDelegate a s x n Empty)) (length new.arena) (changed_at 0 (with_instr added.0) h.outside) js) (sym (is ∙ h.opens.1)) whole),
+      )
+  delegate_ends (InWrapper a w) new gs x n is_try seals gs_are is adds h = absurd (no_wrapper w (sym h.encloses.kind ∙ is_try))
+    where
+      no_wrapper : (v : Wrapper) → wrapper_kind v ≡ kind.Try → ⊥
+      no_wrapper OfBlock e = cc
+      no_wrapper OfLoop e = cc
+      no_wrapper (OfTryTable cs) e = cc
+  delegate_ends (InThen a) new gs x n is_try seals gs_are is adds h = absurd (let q : kind.If ≡ kind.Try = sym h.encloses.kind ∙ is_try in cc q)
+  delegate_ends (InElse a b m) new gs x n is_try seals gs_are is adds h = absurd (let q : kind.Else ≡ kind.Try = sym h.encloses.kind ∙ is_try in cc q)
+  delegate_ends (InCatch a b cs i t) new gs x n is_try seals gs_are is adds h = absurd (let q : kind.Catch ≡ kind.Try = sym h.encloses.kind ∙ is_try in cc q)
+  delegate_ends (InCatchAll a b cs i) new gs x n is_try seals gs_are is adds h = absurd (let q : kind.CatchAll ≡ kind.Try = sym h.encloses.kind ∙ is_try in cc q)
 
 -- ---- the function's own sequence is closed
 
