@@ -5,7 +5,6 @@ use Rattle.walrus_ir.specs.declared.instr.Instr.{Instr}
 use Rattle.walrus_ir.specs.declared.instr.Instr.TheVariants as instr
 use Rattle.walrus_ir.specs.declared.error.WalkError.{WalkError}
 use Rattle.walrus_ir.specs.declared.error.WalkError.TheVariants.{TooLarge, Memory}
-use Rattle.walrus_ir.specs.Arena.{id_of}
 use Rattle.walrus_ir.specs.Events.{Event, StartSequence, EndSequence, VisitInstruction, NameFunction, NameLocal, NameData}
 use Rattle.walrus_ir.specs.Events.{AreStepsAlike, AreRefusalsAlike}
 use Rattle.tests.specs.declared.recorder.Word.{Word}
@@ -23,8 +22,8 @@ word_of _ = word.Other
 
 -- a sequence's id where it starts, and its length where it ends; an instruction's location; the number of what is named
 abbrev pub note_of : Event → Note
-note_of (StartSequence seq) = record { word = word.Start; number = id_of seq }
-note_of (EndSequence seq) = record { word = word.End; number = length seq.instrs.items }
+note_of (StartSequence seq) = record { word = word.Start; number = seq.id }
+note_of (EndSequence seq) = record { word = word.End; number = length seq.instrs }
 note_of (VisitInstruction i location) = record { word = word_of i; number = location }
 note_of (NameFunction f) = record { word = word.Func; number = f }
 note_of (NameLocal l) = record { word = word.Local; number = l }

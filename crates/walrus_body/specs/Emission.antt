@@ -32,7 +32,7 @@ closers_in (Block x) = end_operation ∷ []
 closers_in (Loop x) = end_operation ∷ []
 closers_in (IfElse x) = else_operation ∷ end_operation ∷ []
 closers_in (TryTable x) = end_operation ∷ []
-closers_in (Try x) = try_closers (map legacy_clause x.catches.items)
+closers_in (Try x) = try_closers (map legacy_clause x.catches)
 closers_in _ = []
 
 -- each of these sequences ends with its closer, at the location of its end

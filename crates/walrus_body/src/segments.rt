@@ -1,7 +1,6 @@
 //! The data segments that a function uses.
 ghost use Rattle.std.specs.Prelude.{◌≡◌, ◌==◌, ℕ, false, IfOk, IfErr};
 ghost use Rattle.std.specs.HashSet.{contains};
-ghost use Rattle.walrus_ir.specs.Arena.{arena};
 ghost use Rattle.walrus_ir.specs.Unfolding.{among};
 ghost use Rattle.walrus_ir.specs.Walk.{HasNoWalk};
 ghost use Rattle.walrus_body.specs.Facts.{segments, TreeHas};
@@ -92,9 +91,9 @@ pub(crate) fn used_data_segments(
     builder: &FunctionBuilder,
     start: InstrSeqId,
 ) -> Result<IdHashSet<DataId>, WalkError>
-    ensures ok { IfOk result (λ found. TreeHas (arena builder.now) start
+    ensures ok { IfOk result (λ found. TreeHas builder.now.sequences start
         (λ t. (d : ℕ) → contains (λ x y. x == y) found d ≡ among d (segments t.items))) }
-    ensures err { IfErr result (HasNoWalk (arena builder.now) start) }
+    ensures err { IfErr result (HasNoWalk builder.now.sequences start) }
 {
     let mut visitor = DataSegmentsVisitor::new(builder.allocator());
     dfs_in_order(&mut visitor, builder, start)?;

@@ -1,6 +1,5 @@
 //! How large a function is.
 ghost use Rattle.std.specs.Prelude.{◌≡◌, ◌⊎◌, IfOk, IfErr};
-ghost use Rattle.walrus_ir.specs.Arena.{arena};
 ghost use Rattle.walrus_ir.specs.Walk.{HasNoWalk};
 ghost use Rattle.walrus_body.specs.Facts.{count, TreeHas};
 ghost use Rattle.walrus_body.specs.Sizes.{IsTooLarge};
@@ -87,8 +86,8 @@ impl Visitor for SizeVisitor {
 /// `WalkError::UnknownSequence` or `WalkError::SharedSequence` where the sequences are no tree, the first in walk order;
 /// `WalkError::TooLarge` where the number doesn't fit 64 bits; `WalkError::Memory` where none was left for the walk.
 pub(crate) fn size(builder: &FunctionBuilder, start: InstrSeqId) -> Result<u64, WalkError>
-    ensures ok { IfOk result (λ n. TreeHas (arena builder.now) start (λ t. n ≡ count t.items)) }
-    ensures err { IfErr result (λ e. HasNoWalk (arena builder.now) start e ⊎ IsTooLarge (arena builder.now) start e) }
+    ensures ok { IfOk result (λ n. TreeHas builder.now.sequences start (λ t. n ≡ count t.items)) }
+    ensures err { IfErr result (λ e. HasNoWalk builder.now.sequences start e ⊎ IsTooLarge builder.now.sequences start e) }
 {
     let mut visitor = SizeVisitor::new();
     dfs_in_order(&mut visitor, builder, start)?;

@@ -25,10 +25,10 @@ abbrev pub unreached : List Bool → List InstrSeq → ℕ
 unreached [] b = 0
 unreached (m ∷ ms) [] = 0
 unreached (true ∷ ms) (s ∷ b) = unreached ms b
-unreached (false ∷ ms) (s ∷ b) = 1 + (work_of_all s.instrs.items + unreached ms b)
+unreached (false ∷ ms) (s ∷ b) = 1 + (work_of_all s.instrs + unreached ms b)
 
 pub unreached-set : (marks : List Bool) (b : List InstrSeq) (p : ℕ) (s : InstrSeq) → p < length marks → slice_get b p ≡ Some s → get_or marks p false ≡ false
-    → unreached (set marks p true) b + (1 + work_of_all s.instrs.items) ≡ unreached marks b
+    → unreached (set marks p true) b + (1 + work_of_all s.instrs) ≡ unreached marks b
 unreached-set [] b p s lt k n = absurd (omega arith)
 unreached-set (m ∷ ms) [] p s lt k n = cc
 unreached-set (true ∷ ms) (r ∷ b) zero s lt k n = cc
@@ -37,5 +37,5 @@ unreached-set (false ∷ ms) (r ∷ b) zero s lt k n =
     rw same (omega arith)
 unreached-set (true ∷ ms) (r ∷ b) (suc p) s lt k n = unreached-set ms b p s (omega arith) k n
 unreached-set (false ∷ ms) (r ∷ b) (suc p) s lt k n =
-    let h : unreached (set ms p true) b + (1 + work_of_all s.instrs.items) ≡ unreached ms b = unreached-set ms b p s (omega arith) k n in
+    let h : unreached (set ms p true) b + (1 + work_of_all s.instrs) ≡ unreached ms b = unreached-set ms b p s (omega arith) k n in
     omega (arith, h)

@@ -57,7 +57,7 @@ Pending b (f ∷ fs) coming left = Top b f (Pending b fs) coming left
 
 -- a sequence that has just started
 abbrev pub just_started : (b : List InstrSeq) (seq : InstrSeq) (fs : List Frame) (items : Items Placed Located) (later : List ℕ) (after : List Event)
-    → AreItems b seq.instrs.items items → Pending b fs later after → Pending b (started seq ∷ fs) (item_places items later) (item_events items (EndSequence seq ∷ after))
+    → AreItems b seq.instrs items → Pending b fs later after → Pending b (started seq ∷ fs) (item_places items later) (item_events items (EndSequence seq ∷ after))
 just_started b seq fs items later after a below = record {
   places = [];
   inside = no_sequences;
@@ -88,7 +88,7 @@ start_pending fs seq next rest n p coming left h places inside known many are_no
 start_pending {b = b} fs seq next rest n p coming left h places inside known many (are_sequences {p = q} {ps = ps} {seq = s} {items = is} {rest = ss} k a r) coming_is left_is =
     let same_place : q ≡ p = cc in
     let same : s ≡ next = (let found : slice_get b p ≡ Some s = rw (← same_place) k in cc) in
-    let P : InstrSeq → Type 0 = λ z. AreItems b z.instrs.items is in
+    let P : InstrSeq → Type 0 = λ z. AreItems b z.instrs is in
     let below : Pending b (record { seq = seq; rest = rest; inside = n } ∷ fs) (sequence_places ss (item_places h.items h.later)) (sequence_events ss (item_events h.items (EndSequence seq ∷ h.after))) = record {
       places = ps;
       inside = ss;
@@ -186,7 +186,7 @@ pub record Begins (b : List InstrSeq) (first : ℕ) (coming : List ℕ) (es : Li
   pub seq : InstrSeq
   pub items : Items Placed Located
   pub known : slice_get b first ≡ Some seq
-  pub are : AreItems b seq.instrs.items items
+  pub are : AreItems b seq.instrs items
   pub coming_are : coming ≡ item_places items []
   pub events_are : es ≡ StartSequence seq ∷ item_events items (EndSequence seq ∷ [])
 
@@ -211,7 +211,7 @@ some_order h = rw (order_places h) (some_first (alone h.tree) h.is_tree.unfolds)
 -- the work that the places to come take, and those that the open sequences take
 abbrev pub work_in : Option InstrSeq → ℕ
 work_in None = 0
-work_in (Some seq) = 2 + length seq.instrs.items
+work_in (Some seq) = 2 + length seq.instrs
 
 abbrev pub work_to_come : List InstrSeq → List ℕ → ℕ
 work_to_come b [] = 0

@@ -34,7 +34,7 @@ pub reach_within : {b : List InstrSeq} {start : ℕ} {marks : List Bool} {order 
 reach_within p seq h known = rw h.as_long (slice_get_within _ p seq known)
 
 pub stands_enter : {b : List InstrSeq} {start : ℕ} {marks : List Bool} {order next : List ℕ} (p : ℕ) (seq : InstrSeq) (marks' : List Bool) → IsReached b p seq marks marks'
-    → Stands b start marks order (p ∷ next) → Stands b start marks' (order ++ p ∷ []) (places_in_all seq.instrs.items ++ next)
+    → Stands b start marks order (p ∷ next) → Stands b start marks' (order ++ p ∷ []) (places_in_all seq.instrs ++ next)
 stands_enter {b = b} {marks = marks} p seq marks' r h = record {
   seen = p ∷ h.seen;
   walks = onward h.walks r.known (sym (h.marks_are p) ∙ r.fresh);

@@ -28,7 +28,7 @@ module _ {V F : Type 0} (b : List InstrSeq) (start : ℕ) (steps : V → Event �
   stage_first {coming = coming} {first = first} {next = next} h e known step opened =
       let begun = begins first coming h e in
       let same : begun.seq ≡ next = (let found = begun.known in cc) in
-      let P : InstrSeq → Type 0 = λ z. AreItems b z.instrs.items begun.items in
+      let P : InstrSeq → Type 0 = λ z. AreItems b z.instrs begun.items in
       let Q : List ℕ → Type 0 = λ ps. Pending b (started next ∷ []) ps (item_events begun.items (EndSequence next ∷ [])) in
       record {
         tree = h.tree;

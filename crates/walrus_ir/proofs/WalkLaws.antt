@@ -21,7 +21,7 @@ mutual
   one_sequences are_no_sequences are_no_sequences = refl
   one_sequences {b = b} (are_sequences {seq = s} k a r) (are_sequences {seq = s'} {items = js} k' a' r') =
       let same : s' ≡ s = cc in
-      let P : InstrSeq → Type 0 = λ z. AreItems b z.instrs.items js in
+      let P : InstrSeq → Type 0 = λ z. AreItems b z.instrs js in
       let items = one_items a (subst P same a') in
       let rest = one_sequences r r' in
       cc
@@ -69,7 +69,7 @@ tree_is_walked b start t h = sequences_walked [] [] h.unfolds h.apart begun
 -- Q holds of the places that are reached, whatever unfolds at these
 abbrev Completes : List InstrSeq → List ℕ → (List ℕ → Type 0) → List ℕ → Type 0
 Completes b [] Q seen = Q seen
-Completes b (p ∷ ps) Q seen = (seq : InstrSeq) (items : Items Placed Located) → slice_get b p ≡ Some seq → AreItems b seq.instrs.items items → Completes b ps Q (reached items (p ∷ seen))
+Completes b (p ∷ ps) Q seen = (seq : InstrSeq) (items : Items Placed Located) → slice_get b p ≡ Some seq → AreItems b seq.instrs items → Completes b ps Q (reached items (p ∷ seen))
 
 sequences_complete : (b : List InstrSeq) (ps qs : List ℕ) (Q : List ℕ → Type 0) (seen : List ℕ)
     → ((ss : Sequences Placed Located) → AreSequences b ps ss → Completes b qs Q (reached_each ss seen)) → Completes b (ps ++ qs) Q seen
@@ -94,7 +94,7 @@ walk_completes : {b : List InstrSeq} {start : ℕ} {seen next : List ℕ} → Wa
 walk_completes {start = start} begun = λ seq items k a. record { tree = record { head = record { place = start; seq = seq }; items = items }; unfolds = are_sequences k a are_no_sequences; places = refl }
 walk_completes {b = b} (onward {seen = seen} {p = p} {next = next} {seq = seq} w k m) =
     let before = walk_completes w in
-    items_complete b seq.instrs.items next _ (p ∷ seen) (λ items a. before seq items k a)
+    items_complete b seq.instrs next _ (p ∷ seen) (λ items a. before seq items k a)
 
 walks_apart : {b : List InstrSeq} {start : ℕ} {seen next : List ℕ} → Walks b start seen next → Apart seen
 walks_apart begun = tt
@@ -117,9 +117,9 @@ data Ends (b : List InstrSeq) : (seen next : List ℕ) → Option WalkError → 
 data Leads (b : List InstrSeq) : (seen next seen' next' : List ℕ) → Type 0 where
   stays : {seen next : List ℕ} → Leads b seen next seen next
   goes : {seen next seen' next' : List ℕ} {p : ℕ} {seq : InstrSeq} → slice_get b p ≡ Some seq → among p seen ≡ false
-      → Leads b (p ∷ seen) (places_in_all seq.instrs.items ++ next) seen' next' → Leads b seen (p ∷ next) seen' next'
+      → Leads b (p ∷ seen) (places_in_all seq.instrs ++ next) seen' next' → Leads b seen (p ∷ next) seen' next'
 
-leads_more : {b : List InstrSeq} {s n s' n' : List ℕ} {p : ℕ} (seq : InstrSeq) → Leads b s n s' (p ∷ n') → slice_get b p ≡ Some seq → among p s' ≡ false → Leads b s n (p ∷ s') (places_in_all seq.instrs.items ++ n')
+leads_more : {b : List InstrSeq} {s n s' n' : List ℕ} {p : ℕ} (seq : InstrSeq) → Leads b s n s' (p ∷ n') → slice_get b p ≡ Some seq → among p s' ≡ false → Leads b s n (p ∷ s') (places_in_all seq.instrs ++ n')
 leads_more seq stays k m = goes k m stays
 leads_more seq (goes k' m' l) k m = goes k' m' (leads_more seq l k m)
 
@@ -165,7 +165,7 @@ one_end h stays (goes k m l) e f = absurd (no_way k m e)
 one_end h (goes k m l) stays e f = absurd (no_way k m f)
 one_end {b = b} {s = s} {s'' = s''} {n'' = n''} h (goes {next = next} {p = p} {seq = seq} k m l) (goes {seq = other} k' m' l') e f =
     let same : other ≡ seq = cc in
-    let P : InstrSeq → Type 0 = λ z. Leads b (p ∷ s) (places_in_all z.instrs.items ++ next) s'' n'' in
+    let P : InstrSeq → Type 0 = λ z. Leads b (p ∷ s) (places_in_all z.instrs ++ next) s'' n'' in
     one_end (known_more b s p seq k h) l (subst P same l') e f
 
 -- a state that the walk comes to, and how it ends there

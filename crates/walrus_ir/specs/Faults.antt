@@ -11,7 +11,7 @@ pub data Walks (b : List InstrSeq) (start : ℕ) : (seen next : List ℕ) → Ty
   begun : Walks b start [] (start ∷ [])
   onward : {seen : List ℕ} {p : ℕ} {next : List ℕ} {seq : InstrSeq}
       → Walks b start seen (p ∷ next) → slice_get b p ≡ Some seq → among p seen ≡ false
-      → Walks b start (p ∷ seen) (places_in_all seq.instrs.items ++ next)
+      → Walks b start (p ∷ seen) (places_in_all seq.instrs ++ next)
 
 -- the first place in walk order that isn't known or was reached before, and which of both it is
 pub data FirstFault (b : List InstrSeq) (start : ℕ) : WalkError → Type 0 where

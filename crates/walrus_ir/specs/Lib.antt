@@ -2,9 +2,11 @@
 pub mod Types
 pub mod TypeOrder
 pub mod TypeEntries
--- locations, and what contracts see of a function's builder
+-- locations, and what contracts see of instructions with lists, of a sequence and of a function's builder
 pub mod Locations
-pub mod Arena
+pub mod Clauses
+pub mod InstructionSequence
+pub mod Function
 pub mod Lending
 -- the tree of a function, or its first fault
 pub mod Tree

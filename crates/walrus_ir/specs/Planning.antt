@@ -29,7 +29,7 @@ work_of (Block x) = 1
 work_of (Loop x) = 1
 work_of (IfElse x) = 2
 work_of (TryTable x) = 1
-work_of (Try x) = 2 + 2 * length x.catches.items
+work_of (Try x) = 2 + 2 * length x.catches
 work_of _ = 0
 
 abbrev pub work_of_all : List Located → ℕ
@@ -71,7 +71,7 @@ pub record IsEntered (b : List InstrSeq) (p : ℕ) (old new : Plan) : Type 0 whe
   pub seq : InstrSeq
   pub reached : IsReached b p seq old.reached.items new.reached.items
   pub ordered : new.order.items ≡ old.order.items ++ p ∷ []
-  pub adds : Adds old.tasks.items new.tasks.items (places_in_all seq.instrs.items) (1 + work_of_all seq.instrs.items)
+  pub adds : Adds old.tasks.items new.tasks.items (places_in_all seq.instrs) (1 + work_of_all seq.instrs)
 
 -- nothing is reached, and the tasks go on to the same places
 pub record IsGoneOn (task : Task) (old new : Plan) : Type 0 where

@@ -19,7 +19,7 @@ abbrev pub frames : List Open → List Frame
 frames stack = map frame (reverse stack)
 
 abbrev pub started : InstrSeq → Frame
-started seq = record { seq = seq; rest = seq.instrs.items; inside = 0 }
+started seq = record { seq = seq; rest = seq.instrs; inside = 0 }
 
 -- A stretch of instructions, from the front of these to those that are left: the events that visit them. Only the last may
 -- hold sequences, this many.

@@ -32,7 +32,7 @@ places_in (Block x) = x.seq ∷ []
 places_in (Loop x) = x.seq ∷ []
 places_in (IfElse x) = x.consequent ∷ x.alternative ∷ []
 places_in (TryTable x) = x.seq ∷ []
-places_in (Try x) = x.seq ∷ handlers x.catches.items
+places_in (Try x) = x.seq ∷ handlers x.catches
 places_in _ = []
 
 abbrev pub places_in_all : List Located → List ℕ
@@ -49,7 +49,7 @@ mutual
   pub data AreSequences (b : List InstrSeq) : List ℕ → Sequences Placed Located → Type 0 where
     are_no_sequences : AreSequences b [] no_sequences
     are_sequences : {p : ℕ} {ps : List ℕ} {seq : InstrSeq} {items : Items Placed Located} {rest : Sequences Placed Located}
-        → slice_get b p ≡ Some seq → AreItems b seq.instrs.items items → AreSequences b ps rest
+        → slice_get b p ≡ Some seq → AreItems b seq.instrs items → AreSequences b ps rest
         → AreSequences b (p ∷ ps) (sequence (record { place = p; seq = seq }) items rest)
 
 -- the places of the sequences, the last in walk order first, on top of those reached before

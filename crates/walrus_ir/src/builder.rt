@@ -1,14 +1,15 @@
 //! The arena of a function's sequences.
-ghost use Rattle.std.specs.Prelude.{◌≡◌, ◌<◌, ◌↔◌, [], length, IsTrue, IfOk, OnErr, slice_get, Some, None};
+ghost use Rattle.std.specs.Prelude.{◌≡◌, ◌<◌, ◌↔◌, length, IsTrue, IfOk, OnErr, slice_get, Some};
 ghost use Rattle.std.specs.Borrow.{sem};
 ghost use Rattle.walrus_ir.specs.Lending.{LendsSequence};
-ghost use Rattle.walrus_ir.specs.Arena.{arena, entry_of, type_of, Grown};
+ghost use Rattle.walrus_ir.specs.Function.{empty_function, with_new_sequence};
 
 use crate::id::{InstrSeqId, TypeId};
 use crate::location::InstrLocId;
 use crate::seq::InstrSeq;
 use crate::val_type::InstrSeqType;
 use std::alloc::{AllocError, Global};
+use std::marker::Model;
 
 /// The sequences of a function. Instructions name them by their places here.
 #[derive(Drop)]
@@ -18,12 +19,18 @@ pub struct FunctionBuilder {
     entry: Option<InstrSeqId>,
 }
 
+impl Model for FunctionBuilder {
+    ghost use Rattle.walrus_ir.specs.Function.{Function};
+
+    ghost Value = { Function };
+
+    ghost view = { λ b. record { type = b.ty; sequences = b.seqs.items; entry = b.entry } };
+}
+
 impl FunctionBuilder {
     /// A function of this type, without sequences. It takes no memory.
     pub fn without_entry(alloc: Global, ty: TypeId) -> FunctionBuilder
-        ensures ty { type_of result ≡ ty }
-        ensures sequences { arena result ≡ [] }
-        ensures entry { entry_of result ≡ None }
+        ensures { result ≡ empty_function ty }
     {
         FunctionBuilder {
             ty,
@@ -34,20 +41,16 @@ impl FunctionBuilder {
 
     /// The type of the function.
     pub fn ty(&self) -> TypeId
-        ensures { result ≡ type_of self.now }
+        ensures { result ≡ self.now.type }
     {
         self.ty
     }
 
     /// A new empty sequence of this type, behind all others. Its end has the default location.
     pub fn alloc(&mut self, ty: InstrSeqType) -> Result<InstrSeqId, AllocError>
-        ensures id { IfOk result (λ id. id ≡ length (arena self.old)) }
-        ensures ok { IfOk result (λ id. Grown (arena self.old) (arena self.new) id ty) }
-        ensures err { OnErr result (arena self.new ≡ arena self.old) }
-
-        // The function's type and its entry stay.
-        ensures ty { type_of self.new ≡ type_of self.old }
-        ensures entry { entry_of self.new ≡ entry_of self.old }
+        ensures id { IfOk result (λ id. id ≡ length self.old.sequences) }
+        ensures ok { IfOk result (λ _. self.new ≡ with_new_sequence self.old ty) }
+        ensures err { OnErr result (self.new ≡ self.old) }
     {
         let id = InstrSeqId::new(self.seqs.len());
         let alloc = self.allocator();
@@ -62,40 +65,38 @@ impl FunctionBuilder {
 
     /// The sequence that the function begins with, if one was set. It need not be there.
     pub fn entry(&self) -> Option<InstrSeqId>
-        ensures { result ≡ entry_of self.now }
+        ensures { result ≡ self.now.entry }
     {
         self.entry
     }
 
     /// Sets the sequence that the function begins with.
     pub fn set_entry(&mut self, id: InstrSeqId)
-        ensures entry { entry_of self.new ≡ Some id }
-        ensures sequences { arena self.new ≡ arena self.old }
-        ensures ty { type_of self.new ≡ type_of self.old }
+        ensures { self.new ≡ record self.old { entry = Some id } }
     {
         self.entry = Some(id);
     }
 
     /// Whether a sequence stands at this place.
     pub fn has(&self, id: InstrSeqId) -> bool
-        ensures { IsTrue result ↔ (id < length (arena self.now)) }
+        ensures { IsTrue result ↔ (id < length self.now.sequences) }
     {
         id.index() < self.seqs.len()
     }
 
     /// The sequence at this place.
     pub fn seq(&self, id: InstrSeqId) -> &InstrSeq
-        requires { id < length (arena self.now) }
-        ensures { slice_get (arena self.now) id ≡ Some result.now }
+        requires { id < length self.now.sequences }
+        ensures { slice_get self.now.sequences id ≡ Some result.now }
     {
         &self.seqs[id.index()]
     }
 
     /// The sequence at this place, to be changed. Every other sequence stays.
     pub fn seq_mut(&mut self, id: InstrSeqId) -> &mut InstrSeq
-        requires { id < length (arena self.old) }
+        requires { id < length self.old.sequences }
         ensures* writes_back { sem 𝓛 (LendsSequence self.entry id result) }
-        ensures value { slice_get (arena self.old) id ≡ Some result.now }
+        ensures value { slice_get self.old.sequences id ≡ Some result.now }
     {
         let index = id.index();
         &mut self.seqs[index]
@@ -103,7 +104,7 @@ impl FunctionBuilder {
 
     /// The number of sequences.
     pub fn count(&self) -> usize
-        ensures { result ≡ length (arena self.now) }
+        ensures { result ≡ length self.now.sequences }
     {
         self.seqs.len()
     }

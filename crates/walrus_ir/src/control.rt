@@ -2,6 +2,7 @@
 
 use crate::id::{InstrSeqId, TagId};
 use crate::val_type::HeapType;
+use std::marker::Model;
 
 /// What a sequence of instructions is to the construct that holds it.
 #[derive(Clone, Copy, Debug, PartialEq, Eq)]
@@ -57,6 +58,15 @@ pub struct TryTable {
     pub catches: Vec<TryTableCatch>,
 }
 
+impl Model for TryTable {
+    ghost use Rattle.walrus_ir.specs.declared.control.TryTableCatch.{TryTableCatch};
+    ghost use Rattle.walrus_ir.specs.Clauses.{Guarded};
+
+    ghost Value = { Guarded TryTableCatch };
+
+    ghost view = { λ x. record { seq = x.seq; catches = x.catches.items } };
+}
+
 /// A clause of a legacy `try`: which exceptions it takes, and the sequence that handles them; or, for `Delegate`, the
 /// number of constructs between the `try` and the one that the exception is handed to.
 #[derive(Clone, Copy)]
@@ -71,6 +81,15 @@ pub enum LegacyCatch {
 pub struct Try {
     pub seq: InstrSeqId,
     pub catches: Vec<LegacyCatch>,
+}
+
+impl Model for Try {
+    ghost use Rattle.walrus_ir.specs.declared.control.LegacyCatch.{LegacyCatch};
+    ghost use Rattle.walrus_ir.specs.Clauses.{Guarded};
+
+    ghost Value = { Guarded LegacyCatch };
+
+    ghost view = { λ x. record { seq = x.seq; catches = x.catches.items } };
 }
 
 /// `br`: goes to a sequence around it.
@@ -90,6 +109,14 @@ pub struct BrIf {
 pub struct BrTable {
     pub blocks: Vec<InstrSeqId>,
     pub default: InstrSeqId,
+}
+
+impl Model for BrTable {
+    ghost use Rattle.walrus_ir.specs.Clauses.{Targets};
+
+    ghost Value = { Targets };
+
+    ghost view = { λ x. record { blocks = x.blocks.items; default = x.default } };
 }
 
 /// `br_on_null`: goes to a sequence around it, if its operand is null.

@@ -1,6 +1,5 @@
 //! The plan of a walk: which sequences it enters, one after the other, if they are a tree.
 ghost use Rattle.std.specs.Prelude.{◌≡◌, ◌⊎◌, ◌+◌, ◌*◌, [], length, OnOk, MatchOption, MatchResult, vec_len};
-ghost use Rattle.walrus_ir.specs.Arena.{arena};
 ghost use Rattle.walrus_ir.specs.Unfolding.{handlers, places_in, places_in_all};
 ghost use Rattle.walrus_ir.specs.Walk.{HasNoWalk};
 ghost use Rattle.walrus_ir.specs.Planning.{work_of, work_of_all, Adds, IsRefusedAt, IsReached};
@@ -134,10 +133,10 @@ fn reach<'a>(
     builder: &'a FunctionBuilder,
     place: usize,
 ) -> Result<&'a InstrSeq, WalkError>
-    requires { vec_len reached.old ≡ length (arena builder.now) }
+    requires { vec_len reached.old ≡ length builder.now.sequences }
     ensures { MatchResult result
-        (λ seq. IsReached (arena builder.now) place seq.now reached.old.items reached.new.items)
-        (IsRefusedAt (arena builder.now) reached.old.items place) }
+        (λ seq. IsReached builder.now.sequences place seq.now reached.old.items reached.new.items)
+        (IsRefusedAt builder.now.sequences reached.old.items place) }
 {
     let id = InstrSeqId::new(place);
     if !builder.has(id) {
@@ -153,10 +152,10 @@ fn reach<'a>(
 impl<'a> Plan<'a> {
     // Enters a sequence.
     fn enter(&mut self, builder: &'a FunctionBuilder, place: usize) -> Result<(), WalkError>
-        requires { vec_len self.old.reached ≡ length (arena builder.now) }
+        requires { vec_len self.old.reached ≡ length builder.now.sequences }
         ensures { MatchResult result
-            (λ _. IsEntered (arena builder.now) place self.old self.new)
-            (λ e. (e ≡ Memory) ⊎ IsRefusedAt (arena builder.now) self.old.reached.items place e) }
+            (λ _. IsEntered builder.now.sequences place self.old self.new)
+            (λ e. (e ≡ Memory) ⊎ IsRefusedAt builder.now.sequences self.old.reached.items place e) }
     {
         let seq = reach(&mut self.reached, builder, place)?;
         self.order.push(InstrSeqId::new(place))?;
@@ -166,10 +165,10 @@ impl<'a> Plan<'a> {
 
     // Does one task, which was taken off the stack.
     fn advance(&mut self, builder: &'a FunctionBuilder, task: Task<'a>) -> Result<(), WalkError>
-        requires { vec_len self.old.reached ≡ length (arena builder.now) }
+        requires { vec_len self.old.reached ≡ length builder.now.sequences }
         ensures { MatchResult result
-            (λ _. IsDone (arena builder.now) task.entry self.old self.new)
-            (λ e. (e ≡ Memory) ⊎ IsNotDone (arena builder.now) self.old.reached.items task.entry e) }
+            (λ _. IsDone builder.now.sequences task.entry self.old self.new)
+            (λ e. (e ≡ Memory) ⊎ IsNotDone builder.now.sequences self.old.reached.items task.entry e) }
     {
         match task {
             Task::Enter(place) => self.enter(builder, place)?,
@@ -187,8 +186,8 @@ pub(crate) fn walk_order(
     start: InstrSeqId,
 ) -> Result<Vec<InstrSeqId>, WalkError>
     ensures { MatchResult result
-        (λ order. IsOrder (arena builder.now) start order.items)
-        (HasNoWalk (arena builder.now) start) }
+        (λ order. IsOrder builder.now.sequences start order.items)
+        (HasNoWalk builder.now.sequences start) }
 {
     let alloc = builder.allocator();
     let reached = vec![in alloc; false; builder.count()]?;

@@ -1,11 +1,11 @@
 //! Sequences of instructions.
-ghost use Rattle.std.specs.Prelude.{◌≡◌, ◌==◌, vec_len};
-ghost use Rattle.walrus_ir.specs.Arena.{id_of};
+ghost use Rattle.std.specs.Prelude.{◌≡◌, ◌==◌, length};
 
 use crate::id::InstrSeqId;
 use crate::instr::Instr;
 use crate::location::InstrLocId;
 use crate::val_type::InstrSeqType;
+use std::marker::Model;
 
 /// A sequence of instructions. It is known by its place in its function's builder.
 #[derive(Drop)]
@@ -19,25 +19,34 @@ pub struct InstrSeq {
     pub end: InstrLocId,
 }
 
+impl Model for InstrSeq {
+    ghost use Rattle.walrus_ir.specs.InstructionSequence.{InstructionSequence};
+
+    ghost Value = { InstructionSequence };
+
+    ghost view = {
+        λ seq. record { id = seq.id; ty = seq.ty; instrs = seq.instrs.items; end = seq.end } };
+}
+
 impl InstrSeq {
     /// The id that `FunctionBuilder::alloc` gave it. It moves with the sequence where two are swapped, so it need not
     /// be the place where the sequence stands.
     pub fn id(&self) -> InstrSeqId
-        ensures { result ≡ id_of self.now }
+        ensures { result ≡ self.now.id }
     {
         self.id
     }
 
     /// The number of its instructions.
     pub fn len(&self) -> usize
-        ensures { result ≡ vec_len self.now.instrs }
+        ensures { result ≡ length self.now.instrs }
     {
         self.instrs.len()
     }
 
     /// Whether it has no instructions.
     pub fn is_empty(&self) -> bool
-        ensures { result ≡ (vec_len self.now.instrs == 0) }
+        ensures { result ≡ (length self.now.instrs == 0) }
     {
         self.instrs.is_empty()
     }

@@ -1,7 +1,6 @@
 //! The walk over the sequences of a function, in order.
 ghost use Rattle.std.specs.Prelude.{◌≡◌, ◌⊎◌, ◌+◌, ◌≤◌, ◌<◌, [], ◌∷◌, length, slice_index, vec_len, vec_capacity};
 ghost use Rattle.std.specs.Prelude.{IfOk, OnOk, IfErr, MatchResult};
-ghost use Rattle.walrus_ir.specs.Arena.{arena};
 ghost use Rattle.walrus_ir.specs.Events.{StartSequence, VisitInstruction, names, Hears, Tells, Folds, Stops};
 ghost use Rattle.walrus_ir.specs.Walk.{HasNoWalk, Finishes, IsRefused, IsUnwalked};
 ghost use Rattle.walrus_ir.specs.Planning.{IsOrder};
@@ -114,12 +113,12 @@ fn start_inside<'a, 'b, V: Visitor>(
 ) -> Result<&'b [InstrSeqId], V::Fault>
     requires inside { 0 < top.inside }
     requires comes { 0 < length coming.now }
-    requires known { slice_index coming.now 0 < length (arena builder.now) }
+    requires known { slice_index coming.now 0 < length builder.now.sequences }
     requires room { vec_len stack.old + length coming.now < vec_capacity stack.old }
     ensures told { MatchResult result
-        (λ left. IsToldNext (arena builder.now) (frame top.entry) coming.now (frames stack.old.items)
+        (λ left. IsToldNext builder.now.sequences (frame top.entry) coming.now (frames stack.old.items)
         (λ es. Folds V.steps visitor.old es visitor.new) (frames stack.new.items) left.now)
-        (λ f. IsRefusedNext (arena builder.now) (frame top.entry) coming.now
+        (λ f. IsRefusedNext builder.now.sequences (frame top.entry) coming.now
         (λ es. Stops V.steps V.refuses V.same visitor.old es visitor.new f)) }
     ensures room { IfOk result (λ left. vec_len stack.new + length left.now ≤ vec_capacity stack.new) }
 {
@@ -144,12 +143,12 @@ fn tell_next<'a, 'b, V: Visitor>(
     stack: &mut Vec<Open<'a>>,
 ) -> Result<&'b [InstrSeqId], V::Fault>
     requires comes { 0 < top.inside → 0 < length coming.now }
-    requires known { 0 < top.inside → slice_index coming.now 0 < length (arena builder.now) }
+    requires known { 0 < top.inside → slice_index coming.now 0 < length builder.now.sequences }
     requires room { vec_len stack.old + length coming.now < vec_capacity stack.old }
     ensures told { MatchResult result
-        (λ left. IsToldNext (arena builder.now) (frame top.entry) coming.now (frames stack.old.items)
+        (λ left. IsToldNext builder.now.sequences (frame top.entry) coming.now (frames stack.old.items)
         (λ es. Folds V.steps visitor.old es visitor.new) (frames stack.new.items) left.now)
-        (λ f. IsRefusedNext (arena builder.now) (frame top.entry) coming.now
+        (λ f. IsRefusedNext builder.now.sequences (frame top.entry) coming.now
         (λ es. Stops V.steps V.refuses V.same visitor.old es visitor.new f)) }
     ensures room { IfOk result (λ left. vec_len stack.new + length left.now ≤ vec_capacity stack.new) }
 {
@@ -177,8 +176,8 @@ fn plan<'a>(
     start: InstrSeqId,
 ) -> Result<(Vec<InstrSeqId>, Vec<Open<'a>>), WalkError>
     ensures order { MatchResult result
-        (λ p. IsOrder (arena builder.now) start p.0.items)
-        (HasNoWalk (arena builder.now) start) }
+        (λ p. IsOrder builder.now.sequences start p.0.items)
+        (HasNoWalk builder.now.sequences start) }
     ensures empty { IfOk result (λ p. p.1.items ≡ []) }
     ensures room { IfOk result (λ p. vec_len p.0 ≤ vec_capacity p.1) }
 {
@@ -200,10 +199,10 @@ pub fn dfs_in_order<V: Visitor>(
     builder: &FunctionBuilder,
     start: InstrSeqId,
 ) -> Result<(), V::Fault>
-    ensures ok { OnOk result (Finishes (arena builder.now) start V.steps visitor.old visitor.new) }
+    ensures ok { OnOk result (Finishes builder.now.sequences start V.steps visitor.old visitor.new) }
     ensures err { IfErr result (λ f.
-        IsRefused (arena builder.now) start V.steps V.refuses V.same visitor.old visitor.new f
-        ⊎ IsUnwalked (arena builder.now) start V.Fault.from_gives visitor.old visitor.new f) }
+        IsRefused builder.now.sequences start V.steps V.refuses V.same visitor.old visitor.new f
+        ⊎ IsUnwalked builder.now.sequences start V.Fault.from_gives visitor.old visitor.new f) }
 {
     let (order, mut stack) = plan(builder, start)?;
     let (first, mut coming) = order.split_first().unwrap();

@@ -7,7 +7,8 @@ use Rattle.walrus_ir.specs.declared.seq.InstrSeq.{InstrSeq}
 use Rattle.walrus_ir.specs.declared.val_type.InstrSeqType.{InstrSeqType}
 use Rattle.walrus_ir.specs.declared.val_type.InstrSeqType.TheVariants.{Simple}
 use Rattle.walrus_ir.specs.declared.builder.FunctionBuilder.{FunctionBuilder}
-use Rattle.walrus_ir.specs.Arena.{arena}
+use Rattle.walrus_ir.specs.InstructionSequence.{empty_sequence}
+use Rattle.walrus_ir.specs.Function.{Function}
 use Rattle.walrus_ir.specs.Types.{Signature, pick}
 use Rattle.wasm_ops.specs.declared.types.BlockType.{BlockType}
 use Rattle.wasm_ops.specs.declared.types.BlockType.TheVariants as block_type
@@ -38,7 +39,7 @@ pub steps_nop : (p : Parser) (ls : List (Layer Occurrence)) (s : Sequence Occurr
 steps_nop p ls s place location keeps = record {
   named = operation (Byte 0x01) [];
   is_named = by_layers ls;
-  keeps = keeps_nothing (env_of p) (arena p.builder) (length (arena p.builder)) p.current (reverse p.outer.items) ls s (occurrence (operation (Byte 0x01) []) place location (operation (Byte 0x01) [])) Nop refl keeps;
+  keeps = keeps_nothing (env_of p) p.builder.sequences (length p.builder.sequences) p.current (reverse p.outer.items) ls s (occurrence (operation (Byte 0x01) []) place location (operation (Byte 0x01) [])) Nop refl keeps;
 }
   where
     by_layers : (ks : List (Layer Occurrence)) → named_in (env_of p) (frames_of ks) (operation (Byte 0x01) []) ≡ Ok (operation (Byte 0x01) [])
@@ -100,14 +101,15 @@ steps_block old new ls s b t place location keeps is_type enters =
     let h = has_type env b t is_type in
     let x = occurrence (operation (Byte 0x02) (block b ∷ [])) place location (block_of h.signature) in
     let typed : t ≡ type_of (typing_of env) x.named = sym (ap (λ o. unwrap_or o (Simple None)) h.is_pick) in
-    let opened = opens_block env (arena old.builder) enters.grows.seq new.current (opens old) ls s x
-    enters.place enters.is_empty enters.is_alive enters.opened_at (enters.grows.has_type ∙ typed) enters.grows.has_no_end refl keeps in
+    let fresh : InstrSeq = empty_sequence (length old.builder.sequences) t in
+    let opened = opens_block env old.builder.sequences fresh new.current (opens old) ls s x
+    enters.place enters.is_empty enters.is_alive enters.opened_at typed refl refl keeps in
     let around : new.current ∷ opens old ≡ opens new = ap (λ fs. new.current ∷ fs) (sym (ap reverse enters.around ∙ reverse-append old.outer.items (old.current ∷ []))) in
     record {
       named = block_of h.signature;
       is_named = named_block env ls b t h;
-      keeps = kept_as env (env_of new) (arena old.builder ++ enters.grows.seq ∷ []) (arena new.builder) (new.current ∷ opens old) (opens new) (layer s (InWrapper x OfBlock) ∷ ls) Empty
-          (sym (same_env old new enters.rest)) (sym enters.grows.grows) around opened;
+      keeps = kept_as env (env_of new) (old.builder.sequences ++ fresh ∷ []) new.builder.sequences (new.current ∷ opens old) (opens new) (layer s (InWrapper x OfBlock) ∷ ls) Empty
+          (sym (same_env old new enters.rest)) (ap (λ (f : Function). f.sequences) (sym enters.grows)) around opened;
     }
 
 pub refuses_block : (env : Environment) (ls : List (Layer Occurrence)) (b : BlockType) (f : ParseError) → sequence_type env.types (id_at env) b ≡ Err f → named_in env (frames_of ls) (operation (Byte 0x02) (block b ∷ [])) ≡ Err f
@@ -145,35 +147,35 @@ pub steps_end : (old new : Parser) (ls : List (Layer Occurrence)) (s : Sequence 
     Keeps old ls s → LeavesBlock old new location → Advances old new ls s end_operation place location
 steps_end old new ls s place location keeps leaves =
     let env = env_of old in
-    let b = arena old.builder in
+    let b = old.builder.sequences in
     let outer = reverse new.outer.items in
     let x = occurrence end_operation place location end_operation in
     let around : opens old ≡ old.current ∷ leaves.parent ∷ outer = ap (λ fs. old.current ∷ fs) (ap reverse leaves.around ∙ reverse-append new.outer.items (leaves.parent ∷ [])) in
     let inside = in_construct env b (length b) old.current leaves.parent outer ls s (subst (λ fs. Holds env b (length b) fs ls s) around keeps) in
-    let closes = closes_block env b (arena new.builder) leaves.sealed.seq old.current leaves.parent new.current outer inside.others inside.first.before s inside.first.construct x
+    let closes = closes_block env b new.builder.sequences leaves.sealed.seq old.current leaves.parent new.current outer inside.others inside.first.before s inside.first.construct x
     leaves.sealed.written (λ t r. leaves.sealed.same_type r.seq r.stands ∙ r.has_type) leaves.sealed.instrs leaves.sealed.end_is leaves.takes inside.kept inside.is_open inside.around in
     record {
       named = end_operation;
       is_named = named_end env ls;
       keeps = subst (λ ks. KeepsProgress new (further (Within ks s) (mark x))) (sym inside.are)
-          (subst (λ e. Holds e (arena new.builder) (length (arena new.builder)) (opens new) inside.others (append inside.first.before (closed inside.first.construct s x))) (sym (same_env old new leaves.rest)) closes);
+          (subst (λ e. Holds e new.builder.sequences (length new.builder.sequences) (opens new) inside.others (append inside.first.before (closed inside.first.construct s x))) (sym (same_env old new leaves.rest)) closes);
     }
 
 -- ---- the function's own `end`
 
 -- with no sequence around the innermost one, nothing is open but the function's own
 pub no_layers : (p : Parser) (ls : List (Layer Occurrence)) (s : Sequence Occurrence) → p.outer.items ≡ [] → Keeps p ls s → ls ≡ []
-no_layers p ls s none keeps = at_top ls (subst (λ fs. Holds (env_of p) (arena p.builder) (length (arena p.builder)) (p.current ∷ reverse fs) ls s) none keeps)
+no_layers p ls s none keeps = at_top ls (subst (λ fs. Holds (env_of p) p.builder.sequences (length p.builder.sequences) (p.current ∷ reverse fs) ls s) none keeps)
   where
-    at_top : (ks : List (Layer Occurrence)) → Holds (env_of p) (arena p.builder) (length (arena p.builder)) (p.current ∷ []) ks s → ks ≡ []
+    at_top : (ks : List (Layer Occurrence)) → Holds (env_of p) p.builder.sequences (length p.builder.sequences) (p.current ∷ []) ks s → ks ≡ []
     at_top [] h = refl
     at_top (k ∷ ks) h = absurd h.2
 
 pub ends_body : (p : Parser) (builder : FunctionBuilder) (ls : List (Layer Occurrence)) (s : Sequence Occurrence) (x : Occurrence) → p.outer.items ≡ [] →
-    Keeps p ls s → Seals p.builder builder p.current x.location → HasTree (arena builder) 0 (normal_form (typing_of (env_of p)) (named_body (record { sequence = s; close = x })))
+    Keeps p ls s → Seals p.builder builder p.current x.location → HasTree builder.sequences 0 (normal_form (typing_of (env_of p)) (named_body (record { sequence = s; close = x })))
 ends_body p builder ls s x none keeps seals =
     let env = env_of p in
-    let b = arena p.builder in
+    let b = p.builder.sequences in
     let alone : Holds env b (length b) (p.current ∷ []) [] s =
     subst (λ ks. Holds env b (length b) (p.current ∷ []) ks s) (no_layers p ls s none keeps) (subst (λ fs. Holds env b (length b) (p.current ∷ reverse fs) ls s) none keeps) in
-    closes_body env b (arena builder) seals.seq p.current s x seals.written (λ t r. seals.same_type r.seq r.stands ∙ r.has_type) seals.instrs seals.end_is alone
+    closes_body env b builder.sequences seals.seq p.current s x seals.written (λ t r. seals.same_type r.seq r.stands ∙ r.has_type) seals.instrs seals.end_is alone

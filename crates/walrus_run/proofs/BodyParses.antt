@@ -1,7 +1,6 @@
 -- A parse so far: what is left, read from here on, is what the whole is read from its beginning.
 use Rattle.std.specs.Prelude.{◌≡◌, ℕ, zero, suc, ◌+◌, ◌-◌, ◌<◌, ◌≤◌, List, [], ◌∷◌, length, Bool, true, false, Some, None, Result, Ok, Err}
 use Rattle.std.proofs.Common.{refl, ap, sym, ◌∙◌, arith}
-use Rattle.walrus_ir.specs.Arena.{entry_of}
 use Rattle.wasm_ops.specs.declared.fault.ReadFault.{ReadFault}
 use Rattle.wasm_ops.specs.Operations.{RawOperation}
 use Rattle.wasm_ops.specs.Spelling.{read_operation}
@@ -27,7 +26,7 @@ pub record SoFar (env : Environment) (start : ℕ) (bytes : List ℕ) (p : Parse
   pub enough : length rest ≤ turns
   pub env_is : env_of p ≡ env
   pub keeps : Keeps p layers sequence
-  pub entry : entry_of p.builder ≡ Some 0
+  pub entry : p.builder.entry ≡ Some 0
   pub goes_on : parsed_from (accepting env start) turns (Within layers sequence) tt place rest ≡ parsed_operators env start bytes
 
 -- ---- one operator
@@ -111,7 +110,7 @@ module _ (env : Environment) (start : ℕ) where
   -- ---- the parser
 
   module _ (bytes : List ℕ) where
-    pub begins : (p : Parser) → env_of p ≡ env → Keeps p [] Empty → entry_of p.builder ≡ Some 0 → SoFar env start bytes p start bytes
+    pub begins : (p : Parser) → env_of p ≡ env → Keeps p [] Empty → p.builder.entry ≡ Some 0 → SoFar env start bytes p start bytes
     begins p e keeps entry = record { turns = length bytes; layers = []; sequence = Empty; enough = omega arith; env_is = e; keeps = keeps; entry = entry; goes_on = refl }
 
     -- the parser keeps what it has so far
@@ -122,7 +121,7 @@ module _ (env : Environment) (start : ℕ) where
 
     pub advances : (p q : Parser) (place next : ℕ) (rest after : List ℕ) (o : RawOperation) (named : NamedOperation) (f : SoFar env start bytes p place rest) →
         0 < length rest → read_next place rest ≡ Ok (o, after) → named_in env (frames_of f.layers) o ≡ Ok named → next + length after ≡ place + length rest → length after < length rest →
-        env_of q ≡ env_of p → entry_of q.builder ≡ entry_of p.builder → KeepsProgress q (further (Within f.layers f.sequence) (mark (occurrence o place place named))) → SoFar env start bytes q next after
+        env_of q ≡ env_of p → q.builder.entry ≡ p.builder.entry → KeepsProgress q (further (Within f.layers f.sequence) (mark (occurrence o place place named))) → SoFar env start bytes q next after
     advances p q place next rest after o named f some read is moved shorter same entry keeps =
         let n = on_named f.turns f.layers f.sequence place next rest after o named some f.enough read is moved shorter in
         let w = within q (further (Within f.layers f.sequence) (mark (occurrence o place place named))) keeps in

@@ -11,7 +11,6 @@ use Rattle.walrus_ir.specs.declared.control.Loop.{Loop}
 use Rattle.walrus_ir.specs.declared.control.IfElse.{IfElse}
 use Rattle.walrus_ir.specs.declared.control.Try.{Try}
 use Rattle.walrus_ir.specs.declared.control.TryTable.{TryTable}
-use Rattle.walrus_ir.specs.Arena.{arena}
 use Rattle.walrus_ir.specs.Unfolding.{places_in}
 use Rattle.walrus_ir.specs.Events.{Event, StartSequence, Hears}
 use Rattle.wasm_ops.specs.declared.operator.Operator.{Operator}
@@ -101,7 +100,7 @@ abbrev Answers : EmitVisitor → InstrSeqType → Instr → Result Operator Writ
 Answers v type i r = (count : ℕ) (around : List ℕ) → IsOpen v.scopes count around → IsOperatorOf (numbers_of v.indices.now) around type i r
 
 pub visited : (v : EmitVisitor) (i : Instr) (l : ℕ) (found : InstrSeqType × Option ℕ) (op : Operator) (encoder : List ℕ)
-    → IsFirst (arena v.builder.now) i (Ok found) → Answers v found.0 i (Ok op) → encoder ≡ v.encoder ++ short (meaning op)
+    → IsFirst v.builder.now.sequences i (Ok found) → Answers v found.0 i (Ok op) → encoder ≡ v.encoder ++ short (meaning op)
     → (b : List InstrSeq) (to : Numbers) (around : List ℕ) → Stands b to None around v → Opens b to around (i, l) v (record v { encoder = encoder; coming = found.1 })
 visited v i l found op encoder first answers bytes b to around stands =
     let answer = subst (λ to. (instruction_operator to around found.0 i ≡ Ok (meaning op))) stands.numbers (answers (length b) around stands.are_open).0 in record {
@@ -115,7 +114,7 @@ visited v i l found op encoder first answers bytes b to around stands =
     }
 
 pub not_visited : (v : EmitVisitor) (i : Instr) (l : ℕ) (found : InstrSeqType × Option ℕ) (f : WriteFault)
-    → IsFirst (arena v.builder.now) i (Ok found) → Answers v found.0 i (Err f)
+    → IsFirst v.builder.now.sequences i (Ok found) → Answers v found.0 i (Err f)
     → (b : List InstrSeq) (to : Numbers) (around : List ℕ) → Stands b to None around v → IsUnwritten b to around (i, l) f
 not_visited v i l found (Emit e) first answers b to around stands = inr (λ type t.
     let answer = subst (λ to. (instruction_operator to around found.0 i ≡ Err e)) stands.numbers (answers (length b) around stands.are_open) in

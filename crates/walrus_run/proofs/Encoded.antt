@@ -3,7 +3,6 @@ use Rattle.std.specs.Prelude.{◌≡◌, ◌⊎◌, ◌++◌, ℕ, List, [], ◌
 use Rattle.std.proofs.Common.{refl, sym, ap, subst, ◌∙◌, inl, inr, append-nil}
 use Rattle.walrus_ir.specs.declared.seq.InstrSeq.{InstrSeq}
 use Rattle.walrus_ir.specs.declared.error.WalkError.{WalkError}
-use Rattle.walrus_ir.specs.Arena.{arena}
 use Rattle.walrus_ir.specs.Tree.{Tree, alone}
 use Rattle.walrus_ir.specs.Unfolding.{Placed, Located, IsTree}
 use Rattle.walrus_ir.specs.Events.{events, through, Stops}
@@ -29,7 +28,7 @@ pub record Begins (b : List InstrSeq) (entry : ℕ) (to : Numbers) (v : EmitVisi
   pub stands : Stands b to (Some entry) [] v
   pub empty : v.encoder ≡ declarations []
 
-pub writes_nothing : (b : List InstrSeq) (entry : ℕ) (to : Numbers) (v : EmitVisitor) (count : ℕ) → arena v.builder.now ≡ b → numbers_of v.indices.now ≡ to → v.coming ≡ Some entry → count ≡ length b →
+pub writes_nothing : (b : List InstrSeq) (entry : ℕ) (to : Numbers) (v : EmitVisitor) (count : ℕ) → v.builder.now.sequences ≡ b → numbers_of v.indices.now ≡ to → v.coming ≡ Some entry → count ≡ length b →
     IsOpen v.scopes count [] → v.encoder ≡ declarations [] → Begins b entry to v
 writes_nothing b entry to v count s n c l o e = record {
   stands = record { sequences = s; numbers = n; next = c; are_open = subst (λ k. IsOpen v.scopes k []) l o };

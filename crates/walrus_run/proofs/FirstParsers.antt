@@ -4,7 +4,7 @@ use Rattle.std.proofs.Common.{refl, inl, inr, ap, sym, subst, ◌∙◌, arith}
 use Rattle.walrus_ir.specs.declared.seq.InstrSeq.{InstrSeq}
 use Rattle.walrus_ir.specs.declared.val_type.ValType.{ValType}
 use Rattle.walrus_ir.specs.declared.val_type.InstrSeqType.TheVariants.{MultiValue}
-use Rattle.walrus_ir.specs.Arena.{arena, Grown}
+use Rattle.walrus_ir.specs.InstructionSequence.{empty_sequence}
 use Rattle.walrus_ir.specs.Types.{Signature, signature_of, find_entry}
 use Rattle.walrus_ir.specs.Unfolding.{AreItems, are_no_items}
 use Rattle.walrus_ir.specs.Tree.{no_items}
@@ -23,18 +23,16 @@ use Rattle.walrus_run.specs.Parsers.{env_of, Keeps}
 
 -- ---- a parser
 
-pub begun : (p : Parser) (old : List InstrSeq) (entry : ℕ) → entry_of (env_of p) ≡ Ok entry → old ≡ [] → Grown old (arena p.builder) p.current.place (MultiValue entry) → p.current.place ≡ length old →
+pub begun : (p : Parser) (entry : ℕ) → entry_of (env_of p) ≡ Ok entry → p.builder.sequences ≡ empty_sequence 0 (MultiValue entry) ∷ [] → p.current.place ≡ 0 →
     p.current.instrs.items ≡ [] → p.current.unreachable ≡ false → p.outer.items ≡ [] → Keeps p [] Empty
-begun p old entry is none grown at empty alive alone =
-    let place : p.current.place ≡ 0 = at ∙ ap length none in
-    let one : arena p.builder ≡ grown.seq ∷ [] = grown.grows ∙ ap (λ b. b ++ grown.seq ∷ []) none in
-    let within : length (arena p.builder) ≡ 1 = ap length one in (
-      record { items = no_items; are_items = subst (λ xs. AreItems (arena p.builder) xs no_items) (sym empty) are_no_items; rise = omega arith; is_normal = refl; is_dead = alive },
+begun p entry is one place empty alive alone =
+    let within : length p.builder.sequences ≡ 1 = ap length one in (
+      record { items = no_items; are_items = subst (λ xs. AreItems p.builder.sequences xs no_items) (sym empty) are_no_items; rise = omega arith; is_normal = refl; is_dead = alive },
       record {
-        seq = grown.seq;
-        stands = ap (slice_get (arena p.builder)) place ∙ ap (λ b. slice_get b 0) one;
-        has_type = grown.has_type ∙ sym (ap entry_type is);
-        has_no_end = grown.has_no_end;
+        seq = empty_sequence 0 (MultiValue entry);
+        stands = ap (slice_get p.builder.sequences) place ∙ ap (λ b. slice_get b 0) one;
+        has_type = sym (ap entry_type is);
+        has_no_end = refl;
       },
       place,
       ap reverse alone,

@@ -249,11 +249,11 @@ opens_block env b seq f fs ls s a at_end empty alive location type no_end operat
 -- the closed construct as an item of the sequence around it
 closed_block : (env : Environment) (b c : List InstrSeq) (seq : InstrSeq) (f : OpenSequence) (around : List ℕ) (s : Sequence Occurrence) (a e : Occurrence) →
     IsKept env b (length b) f around s → IsOpenedBy env b f a → IsWritten b f.place seq c →
-    seq.ty ≡ type_of (typing_of env) a.named → seq.instrs.items ≡ f.instrs.items → seq.end ≡ e.location →
+    seq.ty ≡ type_of (typing_of env) a.named → seq.instrs ≡ f.instrs.items → seq.end ≡ e.location →
     AreNormal env c f.place (length c) around ((the_block f.place, f.opened_at) ∷ []) (Wrapped a OfBlock s e Empty)
 closed_block env b c seq f around s a e k o w type instrs end_is =
     let wide : RiseIn (suc f.place) k.items (length c) = subst (RiseIn (suc f.place) k.items) (sym w.as_many) k.rise in
-    let inside : AreItems c seq.instrs.items k.items = subst (λ xs. AreItems c xs k.items) (sym instrs) (items-same c (suc f.place) (length b) (λ p l h. w.elsewhere p (λ q. let d : p ≡ f.place = q in omega arith)) k.rise k.are_items) in
+    let inside : AreItems c seq.instrs k.items = subst (λ xs. AreItems c xs k.items) (sym instrs) (items-same c (suc f.place) (length b) (λ p l h. w.elsewhere p (λ q. let d : p ≡ f.place = q in omega arith)) k.rise k.are_items) in
     let below = rise-range (suc f.place) k.items (length c) wide in
     let op : instruction_in around (the_block f.place, f.opened_at) ≡ instruction (name_at a) [] =
     λ i. record { op = sym o.operator i; clauses = []; location = o.location i } in
@@ -271,7 +271,7 @@ outside_same : (env : Environment) (b c : List InstrSeq) (seq : InstrSeq) (place
 outside_same env b c seq place fs ls s w h = holds_same env b c place fs ls s (λ p l m. w.elsewhere p (λ q. let d : p ≡ place = q in omega arith)) h
 
 pub closes_block : (env : Environment) (b c : List InstrSeq) (seq : InstrSeq) (f g h : OpenSequence) (gs : List OpenSequence) (ls : List (Layer Occurrence)) (before s : Sequence Occurrence) (p : OpenConstruct Occurrence) (e : Occurrence) →
-    IsWritten b f.place seq c → ((t : InstrSeqType) → IsReserved b f.place t → seq.ty ≡ t) → seq.instrs.items ≡ f.instrs.items → seq.end ≡ e.location → Takes g h ((the_block f.place, f.opened_at) ∷ []) false →
+    IsWritten b f.place seq c → ((t : InstrSeqType) → IsReserved b f.place t → seq.ty ≡ t) → seq.instrs ≡ f.instrs.items → seq.end ≡ e.location → Takes g h ((the_block f.place, f.opened_at) ∷ []) false →
     IsKept env b (length b) f (places (g ∷ gs)) s → IsOpenIn env b f p → Holds env b f.place (g ∷ gs) ls before →
     Holds env c (length c) (h ∷ gs) ls (append before (closed p s e))
 closes_block env b c seq f g h gs ls before s (InWrapper a OfBlock) e w type instrs end_is t k o out =
@@ -290,12 +290,12 @@ closes_block env b c seq f g h gs ls before s (InCatchAll a x cs i) e w type ins
 -- ---- the function's own sequence is closed
 
 pub closes_body : (env : Environment) (b c : List InstrSeq) (seq : InstrSeq) (f : OpenSequence) (s : Sequence Occurrence) (e : Occurrence) →
-    IsWritten b f.place seq c → ((t : InstrSeqType) → IsReserved b f.place t → seq.ty ≡ t) → seq.instrs.items ≡ f.instrs.items → seq.end ≡ e.location →
+    IsWritten b f.place seq c → ((t : InstrSeqType) → IsReserved b f.place t → seq.ty ≡ t) → seq.instrs ≡ f.instrs.items → seq.end ≡ e.location →
     Holds env b (length b) (f ∷ []) [] s → HasTree c 0 (normal_form (typing_of env) (named_body (record { sequence = s; close = e })))
 closes_body env b c seq f s e w type instrs end_is h =
     let k = h.0 in
     let wide : RiseIn (suc f.place) k.items (length c) = subst (RiseIn (suc f.place) k.items) (sym w.as_many) k.rise in
-    let inside : AreItems c seq.instrs.items k.items = subst (λ xs. AreItems c xs k.items) (sym instrs) (items-same c (suc f.place) (length b) (λ p l m. w.elsewhere p (λ q. let d : p ≡ f.place = q in omega arith)) k.rise k.are_items) in
+    let inside : AreItems c seq.instrs k.items = subst (λ xs. AreItems c xs k.items) (sym instrs) (items-same c (suc f.place) (length b) (λ p l m. w.elsewhere p (λ q. let d : p ≡ f.place = q in omega arith)) k.rise k.are_items) in
     let stands : slice_get c 0 ≡ Some seq = subst (λ p. slice_get c p ≡ Some seq) h.2 w.here in
     let at_first : RiseIn 1 k.items (length c) = subst (λ p. RiseIn (suc p) k.items (length c)) h.2 wide in
     let top : Placed = record { place = 0; seq = seq } in

@@ -3,7 +3,6 @@ use Rattle.std.specs.Prelude.{◌≡◌, ◌≢◌, ℕ, List, [], ◌∷◌, le
 use Rattle.std.proofs.lemmas.List.{length-map}
 use Rattle.std.proofs.Common.{refl, inl, inr, ap, sym, subst, ◌∙◌}
 use Rattle.walrus_ir.specs.declared.instr.Instr.{Instr}
-use Rattle.walrus_ir.specs.Arena.{arena}
 use Rattle.walrus_ir.specs.Unfolding.{places_in}
 use Rattle.wasm_ops.specs.declared.operator.Operator.{Operator}
 use Rattle.wasm_ops.specs.Operations.{RawOperation}
@@ -73,9 +72,9 @@ pub steps_instruction : (old new : Parser) (ls : List (Layer Occurrence)) (s : S
 steps_instruction old new ls s op i place location keeps is placed no_places no_clauses takes rest =
     let fs = opens old in
     let env = env_of old in
-    let high = length (arena old.builder) in
-    let fall = holds_fall env (arena old.builder) high fs ls s keeps in
-    let long = length-map fs (λ (f : OpenSequence). f.place) ∙ holds_length env (arena old.builder) high fs ls s keeps in
+    let high = length old.builder.sequences in
+    let fall = holds_fall env old.builder.sequences high fs ls s keeps in
+    let long = length-map fs (λ (f : OpenSequence). f.place) ∙ holds_length env old.builder.sequences high fs ls s keeps in
     let n = placed_named env (frames_of ls) (open_places old) fall long (meaning op) (operation_of i) placed in
     let t = fate_by (is_cut op) in
     let role = fate_of_operator op is in
@@ -84,7 +83,7 @@ steps_instruction old new ls s op i place location keeps is placed no_places no_
     let x = occurrence (meaning op) place location n.named in
     let same : instruction_in (open_places old) (i, location) ≡ instruction (name_at x) [] = λ j. record { op = n.kept j; clauses = no_clauses j; location = location } in
     let cut : dead_behind (fate behind.action) false ≡ is_cut op = ap (λ u. dead_behind u false) behind.has_fate ∙ no_cut (is_cut op) in
-    let kept = keeps_instruction env (arena old.builder) high old.current new.current (reverse old.outer.items) ls s (i, location) x behind.action
+    let kept = keeps_instruction env old.builder.sequences high old.current new.current (reverse old.outer.items) ls s (i, location) x behind.action
     (λ e. is_kept (is_cut op) (sym behind.has_fate ∙ e)) no_places same
     (subst (λ d. Takes old.current new.current ((i, location) ∷ []) d) (sym cut) takes) keeps in
     record {
@@ -99,7 +98,7 @@ pub refuses_instruction : (old : Parser) (ls : List (Layer Occurrence)) (s : Seq
 refuses_instruction old ls s op f keeps is placed =
     let fs = opens old in
     let env = env_of old in
-    let long = length-map fs (λ (f : OpenSequence). f.place) ∙ holds_length env (arena old.builder) (length (arena old.builder)) fs ls s keeps in
+    let long = length-map fs (λ (f : OpenSequence). f.place) ∙ holds_length env old.builder.sequences (length old.builder.sequences) fs ls s keeps in
     let t = fate_by (is_cut op) in
     let before = does_as (role_of (meaning op).opcode) t (meaning op).immediates (fate_of_operator op is) in
     refused_by_itself env ls (meaning op) f before.action before.does (placed_refused env (frames_of ls) (open_places old) long (meaning op) f placed)
@@ -117,9 +116,9 @@ steps_refused old new ls s o place location (Ok u) f is e = absurd is
 steps_refused old new ls s o place location (Err g) f is e = inr (e ∙ ap Err (sym is))
 
 -- a place of the innermost sequence is one of the builder
-pub current_within : (p : Parser) (ls : List (Layer Occurrence)) (s : Sequence Occurrence) → Keeps p ls s → p.current.place < length (arena p.builder)
-current_within p [] s keeps = kept_below (env_of p) (arena p.builder) (length (arena p.builder)) p.current [] s keeps.0
-current_within p (l ∷ ls) s keeps = kept_below (env_of p) (arena p.builder) (length (arena p.builder)) p.current (places (reverse p.outer.items)) s keeps.0
+pub current_within : (p : Parser) (ls : List (Layer Occurrence)) (s : Sequence Occurrence) → Keeps p ls s → p.current.place < length p.builder.sequences
+current_within p [] s keeps = kept_below (env_of p) p.builder.sequences (length p.builder.sequences) p.current [] s keeps.0
+current_within p (l ∷ ls) s keeps = kept_below (env_of p) p.builder.sequences (length p.builder.sequences) p.current (places (reverse p.outer.items)) s keeps.0
 
 pub no_ok : (r : Result (Unit {0}) ParseError) (f : ParseError) (Q : Type 0) → IsErrAnd r (λ e. e ≡ f) → OnOk r Q
 no_ok (Ok u) f Q is = absurd is

@@ -4,7 +4,6 @@ use Rattle.std.specs.List.{AllByRecursion}
 use Rattle.std.proofs.Common.{inl, inr, refl, sym, ap, subst, ◌∙◌, arith}
 use Rattle.walrus_ir.specs.declared.seq.InstrSeq.{InstrSeq}
 use Rattle.walrus_ir.specs.declared.builder.FunctionBuilder.{FunctionBuilder}
-use Rattle.walrus_ir.specs.Arena.{arena, entry_of}
 use Rattle.walrus_ir.proofs.WalkLaws.{one_tree, tree_has_no_fault}
 use Rattle.wasm_ops.specs.Shortest.{short_unsigned}
 use Rattle.wasm_encode.specs.Declarations.{declarations}
@@ -94,16 +93,16 @@ module _ (b : List InstrSeq) (start : ℕ) (to : Numbers) (t : FunctionTree) (ha
   encodes_writes (Err NotCarried) x = let same = one_function b start x.0 t x.1 has in x.2 (subst (λ (u : FunctionTree). AreCarried u.items) (sym same) are_carried)
 
 -- of a function that begins with its tree
-pub function_writes : (builder : FunctionBuilder) (entry : ℕ) (to : Numbers) (t : FunctionTree) → entry_of builder ≡ Some entry → IsFunction builder t → IsOk (tree_bytes to t) → AreCarried t.items → (r : Result (List ℕ) WriteFault)
-    → Encodes (arena builder) entry to r → Writes to t r
+pub function_writes : (builder : FunctionBuilder) (entry : ℕ) (to : Numbers) (t : FunctionTree) → builder.entry ≡ Some entry → IsFunction builder t → IsOk (tree_bytes to t) → AreCarried t.items → (r : Result (List ℕ) WriteFault)
+    → Encodes builder.sequences entry to r → Writes to t r
 function_writes builder entry to t at has ok carried r x =
     let both : Some entry ≡ Some 0 = sym at ∙ has.entry in
     let first : entry ≡ 0 = cc in
-    encodes_writes (arena builder) entry to t (subst (λ n. HasTree (arena builder) n t) (sym first) has.holds) ok carried r x
+    encodes_writes builder.sequences entry to t (subst (λ n. HasTree builder.sequences n t) (sym first) has.holds) ok carried r x
 
 -- a function has one tree
 pub one_tree_of : (builder : FunctionBuilder) (t u : FunctionTree) → IsFunction builder t → IsFunction builder u → t ≡ u
-one_tree_of builder t u h k = one_function (arena builder) 0 t u h.holds k.holds
+one_tree_of builder t u h k = one_function builder.sequences 0 t u h.holds k.holds
 
 -- ---- over the demo module
 

@@ -1,6 +1,5 @@
 -- Parsing the operators of a body, without a location function and with a validator that accepts everything.
 use Rattle.std.specs.Prelude.{◌≡◌, ◌⊎◌, ℕ, List, length, Some, None, Result, Ok, Err}
-use Rattle.walrus_ir.specs.Arena.{arena, entry_of}
 use Rattle.walrus_ir.specs.declared.builder.FunctionBuilder.{FunctionBuilder}
 use Rattle.wasm_ops.specs.Operations.{RawOperation}
 use Rattle.wasm_ops.specs.Spelling.{read_operation}
@@ -32,8 +31,8 @@ parsed_operators env start bytes = parsed_from (accepting env start) (length byt
 
 -- From its entry on the builder holds the tree.
 pub record IsFunction (builder : FunctionBuilder) (tree : FunctionTree) : Type 0 where
-  pub entry : entry_of builder ≡ Some 0
-  pub holds : HasTree (arena builder) 0 tree
+  pub entry : builder.entry ≡ Some 0
+  pub holds : HasTree builder.sequences 0 tree
 
 -- A parse answers a builder that holds the normal form of the body, from its entry on; or memory ran out, or the fault.
 abbrev pub Parses : Environment → (start : ℕ) → List ℕ → Result FunctionBuilder ParseFailure → Type 0

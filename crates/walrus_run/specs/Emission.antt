@@ -6,7 +6,6 @@ use Rattle.walrus_ir.specs.declared.val_type.InstrSeqType.TheVariants.{Simple}
 use Rattle.walrus_ir.specs.declared.instr.Instr.{Instr}
 use Rattle.walrus_ir.specs.declared.instr.Instr.TheVariants as instr
 use Rattle.walrus_ir.specs.declared.control.Block.{Block}
-use Rattle.walrus_ir.specs.Arena.{arena}
 use Rattle.walrus_ir.specs.Unfolding.{Located, places_in}
 use Rattle.walrus_ir.specs.Events.{Event, StartSequence, EndSequence, VisitInstruction}
 use Rattle.wasm_ops.specs.Opcodes.{kinds_of}
@@ -53,7 +52,7 @@ IsFirst b i (Err NotCarried) = kinds_of (operation_of i).opcode ≡ None
 -- It writes the function of these sequences with these numbers, the sequence at one place is to begin or none is, and those
 -- at other places are open, innermost first.
 pub record Stands (b : List InstrSeq) (to : Numbers) (coming : Option ℕ) (around : List ℕ) (v : EmitVisitor) : Type 0 where
-  pub sequences : arena v.builder.now ≡ b
+  pub sequences : v.builder.now.sequences ≡ b
   pub numbers : numbers_of v.indices.now ≡ to
   pub next : v.coming ≡ coming
   pub are_open : IsOpen v.scopes (length b) around

@@ -3,7 +3,7 @@ use Rattle.std.specs.Prelude.{◌≡◌, ◌⊎◌, ℕ, false, List, [], ◌∷
 use Rattle.walrus_ir.specs.declared.builder.FunctionBuilder.{FunctionBuilder}
 use Rattle.walrus_ir.specs.declared.seq.InstrSeq.{InstrSeq}
 use Rattle.walrus_ir.specs.declared.val_type.InstrSeqType.{InstrSeqType}
-use Rattle.walrus_ir.specs.Arena.{type_of, entry_of, arena, Grown}
+use Rattle.walrus_ir.specs.Function.{with_new_sequence}
 use Rattle.wasm_ops.specs.Operations.{RawOperation}
 use Rattle.walrus_body.specs.Environments.{environment_of}
 use Rattle.wasm_body.specs.SourceTree.{Sequence}
@@ -18,7 +18,7 @@ use Rattle.walrus_run.specs.OpenSequences.{places, Holds, Takes, IsWritten, the_
 
 -- what the body is named by
 abbrev pub env_of : Parser → Environment
-env_of p = environment_of p.module.now p.indices.now p.function (type_of p.builder)
+env_of p = environment_of p.module.now p.indices.now p.function p.builder.type
 
 -- the open sequences, innermost first
 abbrev pub opens : Parser → List OpenSequence
@@ -29,7 +29,7 @@ open_places p = places (opens p)
 
 -- what is read so far is kept
 abbrev pub Keeps : Parser → List (Layer Occurrence) → Sequence Occurrence → Type 0
-Keeps p ls s = Holds (env_of p) (arena p.builder) (length (arena p.builder)) (opens p) ls s
+Keeps p ls s = Holds (env_of p) p.builder.sequences (length p.builder.sequences) (opens p) ls s
 
 abbrev pub KeepsProgress : Parser → Progress Occurrence → Type 0
 KeepsProgress p (Within ls s) = Keeps p ls s
@@ -42,14 +42,14 @@ pub record KeepsRest (old new : Parser) : Type 0 where
   pub module_is : new.module.now ≡ old.module.now
   pub indices_are : new.indices.now ≡ old.indices.now
   pub function_is : new.function ≡ old.function
-  pub type_is : type_of new.builder ≡ type_of old.builder
-  pub entry_is : entry_of new.builder ≡ entry_of old.builder
+  pub type_is : new.builder.type ≡ old.builder.type
+  pub entry_is : new.builder.entry ≡ old.builder.entry
 
 -- a new sequence of this type is open, within the one that was innermost
 pub record Enters (old new : Parser) (type : InstrSeqType) (location : ℕ) : Type 0 where
   pub rest : KeepsRest old new
-  pub grows : Grown (arena old.builder) (arena new.builder) new.current.place type
-  pub place : new.current.place ≡ length (arena old.builder)
+  pub grows : new.builder ≡ with_new_sequence old.builder type
+  pub place : new.current.place ≡ length old.builder.sequences
   pub opened_at : new.current.opened_at ≡ location
   pub is_empty : new.current.instrs.items ≡ []
   pub is_alive : new.current.unreachable ≡ false
@@ -58,12 +58,12 @@ pub record Enters (old new : Parser) (type : InstrSeqType) (location : ℕ) : Ty
 -- the closed sequence stands at its place
 pub record Seals (old new : FunctionBuilder) (closed : OpenSequence) (location : ℕ) : Type 0 where
   pub seq : InstrSeq
-  pub written : IsWritten (arena old) closed.place seq (arena new)
-  pub same_type : (was : InstrSeq) → slice_get (arena old) closed.place ≡ Some was → seq.ty ≡ was.ty
-  pub instrs : seq.instrs.items ≡ closed.instrs.items
+  pub written : IsWritten old.sequences closed.place seq new.sequences
+  pub same_type : (was : InstrSeq) → slice_get old.sequences closed.place ≡ Some was → seq.ty ≡ was.ty
+  pub instrs : seq.instrs ≡ closed.instrs.items
   pub end_is : seq.end ≡ location
-  pub type_is : type_of new ≡ type_of old
-  pub entry_is : entry_of new ≡ entry_of old
+  pub type_is : new.type ≡ old.type
+  pub entry_is : new.entry ≡ old.entry
 
 -- the innermost sequence is closed, and the one around it takes the block
 pub record LeavesBlock (old new : Parser) (location : ℕ) : Type 0 where

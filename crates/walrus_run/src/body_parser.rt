@@ -1,6 +1,5 @@
 //! Parsing the operators of a body.
 ghost use Rattle.std.specs.Prelude.{◌≡◌, ◌⊎◌, ◌<◌, ◌+◌, ◌^◌, ℕ, length, true, false, Some, None, MatchOption, [], ◌∷◌, IfOk, IfErr, OnErr, Ok, Err};
-ghost use Rattle.walrus_ir.specs.Arena.{entry_of};
 ghost use Rattle.wasm_ops.specs.Meaning.{meaning};
 ghost use Rattle.wasm_encode.specs.Writable.{IsWritable};
 ghost use Rattle.walrus_body.specs.Environments.{environment_of};
@@ -53,7 +52,7 @@ pub(crate) fn parse_operators(
     reader: &mut Reader<'_>,
 ) -> Result<FunctionBuilder, ParseFailure>
     requires fresh { Keeps parser [] Empty }
-    requires entry { entry_of parser.builder ≡ Some 0 }
+    requires entry { parser.builder.entry ≡ Some 0 }
     ensures { Parses (env_of parser.entry) reader.old.place reader.old.rest result }
 {
     while !reader.eof() {

@@ -1,6 +1,5 @@
 //! How a body is parsed: each operator carries on what is kept of the sequences that are open.
 ghost use Rattle.std.specs.Prelude.{◌≡◌, ◌<◌, length, vec_len, OnOk, ◌⊎◌, ℕ, true, List, [], IfOk, IfErr, OnErr, Some, slice_get, Ok, Err};
-ghost use Rattle.walrus_ir.specs.Arena.{arena, entry_of};
 ghost use Rattle.wasm_ops.specs.declared.operator.Operator.TheVariants as op;
 ghost use Rattle.wasm_ops.specs.Meaning.{meaning};
 ghost use Rattle.wasm_encode.specs.Writable.{IsWritable};
@@ -46,7 +45,7 @@ impl<'a> Parser<'a> {
         entry: TypeId,
     ) -> Result<Parser<'a>, ParseError>
         requires { entry_type_of (environment_of «module».now indices.now function ty) ≡ Ok entry }
-        ensures ok { IfOk result (λ p. (env_of p ≡ environment_of «module».now indices.now function ty) × Keeps p [] Empty × (entry_of p.builder ≡ Some 0)) }
+        ensures ok { IfOk result (λ p. (env_of p ≡ environment_of «module».now indices.now function ty) × Keeps p [] Empty × (p.builder.entry ≡ Some 0)) }
         ensures err { IfErr result (λ e. e ≡ ParseFault.Memory) }
     {
         let mut builder = FunctionBuilder::without_entry(alloc, ty);
@@ -92,7 +91,7 @@ impl Parser<'_> {
 
     /// Writes a sequence, which is closed, to its place.
     fn seal(builder: &mut FunctionBuilder, closed: OpenSequence, location: InstrLocId)
-        requires { closed.place < length (arena builder.old) }
+        requires { closed.place < length builder.old.sequences }
         ensures { Seals builder.old builder.new closed location }
     {
         let seq = builder.seq_mut(closed.place);
@@ -103,7 +102,7 @@ impl Parser<'_> {
     /// Closes the innermost sequence, that of a block.
     fn leave_block(&mut self, location: InstrLocId) -> Result<(), ParseError>
         requires inside { 0 < vec_len self.old.outer }
-        requires stands { self.old.current.place < length (arena self.old.builder) }
+        requires stands { self.old.current.place < length self.old.builder.sequences }
         ensures ok { OnOk result (LeavesBlock self.old self.new location) }
         ensures err { IfErr result (λ e. e ≡ ParseFault.Memory) }
     {
@@ -139,7 +138,7 @@ impl Parser<'_> {
 
     /// Closes the function's own sequence.
     pub fn finish(self, location: InstrLocId) -> FunctionBuilder
-        requires { self.current.place < length (arena self.builder) }
+        requires { self.current.place < length self.builder.sequences }
         ensures { Seals self.entry.builder result self.entry.current location }
     {
         let mut builder = self.builder;

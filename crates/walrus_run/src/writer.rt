@@ -1,5 +1,4 @@
 //! Writing the operators of a function's tree.
-ghost use Rattle.walrus_ir.specs.Arena.{arena};
 ghost use Rattle.walrus_run.specs.Writing.{numbers_of};
 ghost use Rattle.walrus_run.specs.Encoding.{Encodes};
 ghost use Rattle.walrus_run.specs.Emission.{IsFirst};
@@ -31,7 +30,7 @@ fn first_sequence(
     builder: &FunctionBuilder,
     instr: &Instr,
 ) -> Result<(InstrSeqType, Option<InstrSeqId>), WriteFault>
-    ensures { IsFirst (arena builder.now) instr.now result }
+    ensures { IsFirst builder.now.sequences instr.now result }
 {
     match instr {
         Instr::Block(block) => {
@@ -126,7 +125,7 @@ pub(crate) fn encode(
     entry: InstrSeqId,
     indices: &IdsToIndices,
 ) -> Result<FunctionEncoder, WriteFault>
-    ensures { Encodes (arena builder.now) entry (numbers_of indices.now) result }
+    ensures { Encodes builder.now.sequences entry (numbers_of indices.now) result }
 {
     let mut visitor = EmitVisitor {
         builder,

@@ -151,13 +151,13 @@ operation_of (instr.Block x) = operation (Byte 0x02) (a_block ∷ [])
 operation_of (instr.Loop x) = operation (Byte 0x03) (a_block ∷ [])
 operation_of (instr.IfElse x) = operation (Byte 0x04) (a_block ∷ [])
 operation_of (instr.Try x) = operation (Byte 0x06) (a_block ∷ [])
-operation_of (instr.TryTable x) = operation (Byte 0x1f) (a_block ∷ clauses (map table_clause x.catches.items) ∷ [])
+operation_of (instr.TryTable x) = operation (Byte 0x1f) (a_block ∷ clauses (map table_clause x.catches) ∷ [])
 operation_of (instr.Throw x) = operation (Byte 0x08) (index Tags x.tag ∷ [])
 operation_of (instr.Rethrow x) = operation (Byte 0x09) (handler x.relative_depth ∷ [])
 operation_of instr.ThrowRef = operation (Byte 0x0a) []
 operation_of (instr.Br x) = operation (Byte 0x0c) (label x.block ∷ [])
 operation_of (instr.BrIf x) = operation (Byte 0x0d) (label x.block ∷ [])
-operation_of (instr.BrTable x) = operation (Byte 0x0e) (branch_table x.blocks.items x.default ∷ [])
+operation_of (instr.BrTable x) = operation (Byte 0x0e) (branch_table x.blocks x.default ∷ [])
 operation_of (instr.BrOnNull x) = operation (Byte 0xd5) (label x.block ∷ [])
 operation_of (instr.BrOnNonNull x) = operation (Byte 0xd6) (label x.block ∷ [])
 operation_of (instr.BrOnCast x) = operation (Prefixed 0xfb 24) (cast (record { from_nullable = x.from_nullable; to_nullable = x.to_nullable; label = x.block; source = x.from_heap_type; target = x.to_heap_type }) ∷ [])
@@ -197,5 +197,5 @@ legacy_clause (legacy_catch.CatchAll place) = handles_all
 legacy_clause (legacy_catch.Delegate depth) = delegates depth
 
 abbrev pub legacy_clauses : Instr → List LegacyClause
-legacy_clauses (instr.Try x) = map legacy_clause x.catches.items
+legacy_clauses (instr.Try x) = map legacy_clause x.catches
 legacy_clauses _ = []

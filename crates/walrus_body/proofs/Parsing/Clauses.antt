@@ -26,23 +26,23 @@ pub record GainsClause (x y : LocatedInstr) (clause : LegacyCatch) : Type 0 wher
   pub was : x.0 ≡ instr.Try old
   pub is : y.0 ≡ instr.Try new
   pub same_body : new.seq ≡ old.seq
-  pub clauses : new.catches.items ≡ old.catches.items ++ clause ∷ []
+  pub clauses : new.catches ≡ old.catches ++ clause ∷ []
   pub same_location : y.1 ≡ x.1
 
 -- what it is as an instruction of the tree, and the sequences in it
 pub gained_places : (x y : LocatedInstr) (clause : LegacyCatch) → GainsClause x y clause → places_in y.0 ≡ places_in x.0 ++ handler_of clause
 gained_places x y clause h =
     ap places_in h.is
-    ∙ (λ i. h.same_body i ∷ (ap handlers h.clauses ∙ flat_map-append handler_of h.old.catches.items (clause ∷ []) ∙ ap (λ ps. handlers h.old.catches.items ++ ps) (append-nil (handler_of clause))) i)
+    ∙ (λ i. h.same_body i ∷ (ap handlers h.clauses ∙ flat_map-append handler_of h.old.catches (clause ∷ []) ∙ ap (λ ps. handlers h.old.catches ++ ps) (append-nil (handler_of clause))) i)
     ∙ ap (λ i. places_in i ++ handler_of clause) (sym h.was)
 
 pub gained_instruction : (around : List ℕ) (x y : LocatedInstr) (clause : LegacyCatch) (a : Occurrence) (cs : List LegacyClause) → GainsClause x y clause → instruction_in around x ≡ instruction (name_at a) cs →
     instruction_in around y ≡ instruction (name_at a) (cs ++ legacy_clause clause ∷ [])
 gained_instruction around x y clause a cs h is =
     let opcode : aimed around (operation_of y.0) ≡ aimed around (operation_of x.0) = ap (λ i. aimed around (operation_of i)) h.is ∙ ap (λ i. aimed around (operation_of i)) (sym h.was) in
-    let before : map legacy_clause h.old.catches.items ≡ cs = ap legacy_clauses (sym h.was) ∙ ap (λ (i : Instruction). i.clauses) is in
+    let before : map legacy_clause h.old.catches ≡ cs = ap legacy_clauses (sym h.was) ∙ ap (λ (i : Instruction). i.clauses) is in
     let clauses : legacy_clauses y.0 ≡ cs ++ legacy_clause clause ∷ [] =
-    ap legacy_clauses h.is ∙ ap (map legacy_clause) h.clauses ∙ map-append legacy_clause h.old.catches.items (clause ∷ []) ∙ ap (λ ds. ds ++ legacy_clause clause ∷ []) before in
+    ap legacy_clauses h.is ∙ ap (map legacy_clause) h.clauses ∙ map-append legacy_clause h.old.catches (clause ∷ []) ∙ ap (λ ds. ds ++ legacy_clause clause ∷ []) before in
     λ i. record {
       op = (opcode ∙ ap (λ (j : Instruction). j.op) is) i;
       clauses = clauses i;

@@ -114,7 +114,7 @@ pub record AreClosed (env : Environment) (c : List InstrSeq) (low high : ℕ) (a
 pub record IsSealed (env : Environment) (b c : List InstrSeq) (f : OpenFrame) (p : OpenConstruct Occurrence) (location : ℕ) : Type 0 where
   pub seq : InstrSeq
   pub written : IsWritten b f.sequence seq c
-  pub instrs : seq.instrs.items ≡ f.instrs
+  pub instrs : seq.instrs ≡ f.instrs
   pub end_is : seq.end ≡ location
   pub type : seq.ty ≡ type_in (typing_of env) (reshown_construct name_at p)
 
@@ -122,7 +122,7 @@ pub sequence_closed : (env : Environment) (b c : List InstrSeq) (low : ℕ) (f :
     IsKept env b (length b) f around s → Encloses env b low f around p before → IsSealed env b c f p location →
     AreClosed env c low (length c) around (before ++ f.sequence ∷ []) p s location no_sequences
 sequence_closed env b c low f around before p s location k o w =
-    let inside : AreItems c w.seq.instrs.items k.items =
+    let inside : AreItems c w.seq.instrs k.items =
     subst (λ xs. AreItems c xs k.items) (sym w.instrs)
     (items-same c (suc f.sequence) (length b) (λ q l h. w.written.elsewhere q (λ e. let d : q ≡ f.sequence = e in omega arith)) k.rise k.are_items) in
     let others : AreSequences c before o.inside = sequences-same c low f.sequence (λ q l h. w.written.elsewhere q (λ e. let d : q ≡ f.sequence = e in omega arith)) o.rise o.are_sequences in
@@ -225,7 +225,7 @@ holds_chosen env b c ls before s t a l e f fs ifs low consequent is k o w h =
 
 -- an empty alternative is made for a consequent that `end` closes
 with_alternative : (env : Environment) (c : List InstrSeq) (other : InstrSeq) (low : ℕ) (around places : List ℕ) (a : Occurrence) (s : Sequence Occurrence) (location : ℕ) →
-    other.ty ≡ type_in (typing_of env) (InThen (name_at a)) → other.instrs.items ≡ [] → other.end ≡ default_location →
+    other.ty ≡ type_in (typing_of env) (InThen (name_at a)) → other.instrs ≡ [] → other.end ≡ default_location →
     AreClosed env c low (length c) around places (InThen a) s location no_sequences →
     AreClosed env (c ++ other ∷ []) low (length (c ++ other ∷ [])) around (places ++ length c ∷ []) (InThen a) s location (added_in (typing_of env) (InThen (name_at a)))
 with_alternative env c other low around places a s location type empty no_end k =
@@ -245,7 +245,7 @@ with_alternative env c other low around places a s location type empty no_end k 
 
 pub holds_chosen_alone : (env : Environment) (b c : List InstrSeq) (other : InstrSeq) (ls : List (Layer Occurrence)) (before s : Sequence Occurrence) (a e : Occurrence) (f : OpenFrame) (fs : List OpenFrame) (ifs : List IfElseState) (low : ℕ) → the_if a →
     IsKept env b (length b) f (slots fs) s → Encloses env b low f (slots fs) (InThen a) [] → IsSealed env b c f (InThen a) e.location →
-    other.ty ≡ type_in (typing_of env) (InThen (name_at a)) → other.instrs.items ≡ [] → other.end ≡ default_location →
+    other.ty ≡ type_in (typing_of env) (InThen (name_at a)) → other.instrs ≡ [] → other.end ≡ default_location →
     Holds env b ls before low fs ifs →
     Holds env (c ++ other ∷ []) ls (append before (closed (InThen a) s e)) (length (c ++ other ∷ [])) (changed_at 0 (with_instr (if_else f.sequence (length c) a.location)) fs) ifs
 holds_chosen_alone env b c other ls before s a e f fs ifs low is k o w type empty no_end h =

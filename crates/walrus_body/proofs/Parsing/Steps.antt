@@ -144,7 +144,7 @@ pub record Seals (b c : List InstrSeq) (f : OpenFrame) (closing : Option ℕ) : 
   pub before : slice_get b f.sequence ≡ Some was
   pub written : IsWritten b f.sequence seq c
   pub same_type : seq.ty ≡ was.ty
-  pub instrs : seq.instrs.items ≡ f.instrs
+  pub instrs : seq.instrs ≡ f.instrs
   pub end_is : seq.end ≡ unwrap_or closing was.end
 
 pub sealed : (env : Environment) (b c : List InstrSeq) (low : ℕ) (f : OpenFrame) (around before : List ℕ) (p : OpenConstruct Occurrence) (closing : Option ℕ) → Encloses env b low f around p before → Seals b c f closing → IsSealed env b c f p (unwrap_or closing default_location)
@@ -219,7 +219,7 @@ module _ (env : Environment) (old : ParseState) (l : Layer Occurrence) (ls : Lis
 
   -- `end` behind a consequent: an empty alternative is made, and the instruction of the `if` is appended
   pub chosen_alone : (p : OpenConstruct Occurrence) (new : ParseState) (c : List InstrSeq) (other : InstrSeq) (e : Occurrence) (top : IfElseState) (others : List IfElseState) → f.kind ≡ kind.If → old.ifs ≡ top ∷ others → Seals old.arena c f (Some e.location) →
-      pick env.types (signature f.start_types f.end_types) ≡ Some other.ty → other.instrs.items ≡ [] → other.end ≡ default_location → new.arena ≡ c ++ other ∷ [] →
+      pick env.types (signature f.start_types f.end_types) ≡ Some other.ty → other.instrs ≡ [] → other.end ≡ default_location → new.arena ≡ c ++ other ∷ [] →
       new.frames ≡ changed_at 0 (with_instr (if_else f.sequence (length c) top.start)) fs → new.ifs ≡ others → Inside p → Keeps env new ls (append l.before (closed p s e))
   chosen_alone (InThen a) new c other e top others is_if ifs seals picks empty no_end arena gs is h =
       let made : IfElseState = record { start = a.location; consequent = f.sequence; alternative = None } in
@@ -458,7 +458,7 @@ pub ends_body : (env : Environment) (b c : List InstrSeq) (f : OpenFrame) (fs : 
 ends_body env b c f fs ifs s e w h =
     let k = h.kept in
     let at_first : f.sequence ≡ 0 = h.first in
-    let inside : AreItems c w.seq.instrs.items k.items = subst (λ xs. AreItems c xs k.items) (sym w.instrs)
+    let inside : AreItems c w.seq.instrs k.items = subst (λ xs. AreItems c xs k.items) (sym w.instrs)
     (items-same c (suc f.sequence) (length b) (λ q l m. w.written.elsewhere q (λ e. let d : q ≡ f.sequence = e in omega arith)) k.rise k.are_items) in
     let wide : RiseIn (suc f.sequence) k.items (length c) = subst (RiseIn (suc f.sequence) k.items) (sym w.written.as_many) k.rise in
     let stands : slice_get c 0 ≡ Some w.seq = subst (λ p. slice_get c p ≡ Some w.seq) at_first w.written.here in

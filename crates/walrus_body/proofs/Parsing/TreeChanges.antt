@@ -38,7 +38,7 @@ set_length (y ∷ b) zero x = refl
 set_length (y ∷ b) (suc place) x = ap suc (set_length b place x)
 
 pub closes : (old : OpenTrees) (rest : List OpenFrame) (frame : OpenFrame) (was seq : InstrSeq) → slice_get old.arena frame.sequence ≡ Some was → frame.sequence < length old.arena → old.frames ≡ frame ∷ rest →
-    seq.instrs.items ≡ frame.instrs → seq.ty ≡ was.ty → seq.end ≡ was.end → Closes old (record old { arena = slice_set old.arena frame.sequence seq; frames = rest }) frame
+    seq.instrs ≡ frame.instrs → seq.ty ≡ was.ty → seq.end ≡ was.end → Closes old (record old { arena = slice_set old.arena frame.sequence seq; frames = rest }) frame
 closes old rest frame was seq before within frames owns type end_is = record {
   seq = seq;
   was = was;

@@ -1,12 +1,12 @@
 -- What contracts see of a validation context, and what its calls do.
-use Rattle.std.specs.Prelude.{◌≡◌, ◌≢◌, ◌<◌, ℕ, List, ◌∷◌, length, Option, Some, slice_get}
+use Rattle.std.specs.Prelude.{◌≡◌, ◌≢◌, ◌<◌, ℕ, List, [], ◌∷◌, ◌++◌, length, Option, Some, slice_get}
 use Rattle.std.specs.List.{AllByRecursion}
 use Rattle.walrus_ir.specs.declared.control.BlockKind.{BlockKind}
 use Rattle.walrus_ir.specs.declared.module.Module.{Module}
 use Rattle.walrus_ir.specs.declared.seq.InstrSeq.{InstrSeq}
 use Rattle.walrus_ir.specs.declared.val_type.InstrSeqType.{InstrSeqType}
 use Rattle.walrus_ir.specs.declared.val_type.ValType.{ValType}
-use Rattle.walrus_ir.specs.Arena.{Grown}
+use Rattle.walrus_ir.specs.InstructionSequence.{empty_sequence}
 use Rattle.walrus_body.specs.declared.indices_to_ids.IndicesToIds.{IndicesToIds}
 use Rattle.walrus_body.specs.Parsing.OpenFrames.{OpenFrame, new_frame}
 
@@ -27,7 +27,7 @@ StandIn arena fs = AllByRecursion (λ f. f.sequence < length arena) fs
 -- An empty frame is open with a new sequence of this type; nothing else changed.
 pub record Opens (old new : OpenTrees) (kind : BlockKind) (type : InstrSeqType) (takes gives : List (ValType ℕ)) (id : ℕ) : Type 0 where
   pub is_next : id ≡ length old.arena
-  pub grows : Grown old.arena new.arena id type
+  pub grows : new.arena ≡ old.arena ++ empty_sequence id type ∷ []
   pub is : new ≡ record old { arena = new.arena; frames = new_frame kind takes gives id ∷ old.frames }
 
 -- The innermost frame is closed, and its sequence has its instructions; nothing else changed.
@@ -36,7 +36,7 @@ pub record Closes (old new : OpenTrees) (frame : OpenFrame) : Type 0 where
   pub was : InstrSeq
   pub before : slice_get old.arena frame.sequence ≡ Some was
   pub here : slice_get new.arena frame.sequence ≡ Some seq
-  pub owns : seq.instrs.items ≡ frame.instrs
+  pub owns : seq.instrs ≡ frame.instrs
   pub same_type : seq.ty ≡ was.ty
   pub same_end : seq.end ≡ was.end
   pub elsewhere : (p : ℕ) → p ≢ frame.sequence → slice_get new.arena p ≡ slice_get old.arena p

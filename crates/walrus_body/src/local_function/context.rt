@@ -1,6 +1,5 @@
 //! The sequences of a function that is parsed, some of which are open.
 ghost use Rattle.std.specs.Prelude.{reverse, ◌≡◌, ◌⊎◌, ◌≤◌, ◌<◌, [], ◌∷◌, length, slice_get, is_some, IsSome, IsSomeAnd, false, None, Some, IfOk, IfErr, OnOk, OnErr, MatchResult};
-ghost use Rattle.walrus_ir.specs.Arena.{arena, entry_of, type_of};
 ghost use Rattle.walrus_ir.specs.Types.{existing, signature_of};
 ghost use Rattle.walrus_ir.specs.declared.val_type.InstrSeqType.TheVariants.{MultiValue};
 ghost use Rattle.wasm_body.specs.declared.error.ParseError.{ParseError as Fault};
@@ -29,7 +28,6 @@ pub struct ValidationContext<'a> {
 }
 
 impl<'a> Model for ValidationContext<'a> {
-    ghost use Rattle.walrus_ir.specs.Arena.{arena, entry_of, type_of};
     ghost use Rattle.walrus_body.specs.Parsing.OpenTrees.{OpenTrees, StandIn};
     ghost use Rattle.std.specs.Coded.{codes};
     ghost use Rattle.walrus_body.specs.contracts.indices_to_ids.IndicesToIds as indices_to_ids;
@@ -42,13 +40,13 @@ impl<'a> Model for ValidationContext<'a> {
       «module» = c.module.now;
       indices = c.indices.now;
       function = c.func_id;
-      type = type_of c.func;
-      entry = entry_of c.func;
-      arena = arena c.func;
+      type = c.func.type;
+      entry = c.func.entry;
+      arena = c.func.sequences;
       frames = c.stack;
     } };
 
-    ghost invariant = { λ c. StandIn (arena c.func) c.stack };
+    ghost invariant = { λ c. StandIn c.func.sequences c.stack };
 }
 
 fn copied(alloc: Global, types: &[ValType]) -> Result<Vec<ValType>, ParseError>
@@ -73,7 +71,7 @@ impl<'a> ValidationContext<'a> {
     ) -> ValidationContext<'a>
         requires none { controls.items ≡ [] }
         requires empty { instrs.items ≡ [] }
-        ensures { result ≡ record { «module» = «module».now; indices = indices.now; function = func_id; type = type_of func; entry = entry_of func; arena = arena func; frames = [] } }
+        ensures { result ≡ record { «module» = «module».now; indices = indices.now; function = func_id; type = func.type; entry = func.entry; arena = func.sequences; frames = [] } }
     {
         ValidationContext {
             module,
@@ -214,9 +212,9 @@ impl<'a> ValidationContext<'a> {
     /// The function, the open frames as they are shown, the innermost last, and the list of instructions, which is empty
     /// where no frame is open.
     pub fn into_parts(self) -> (FunctionBuilder, ControlStack, Vec<(Instr, InstrLocId)>)
-        ensures type_is { type_of result.0 ≡ self.entry.type }
-        ensures entry { entry_of result.0 ≡ self.entry.entry }
-        ensures sequences { arena result.0 ≡ self.entry.arena }
+        ensures type_is { result.0.type ≡ self.entry.type }
+        ensures entry { result.0.entry ≡ self.entry.entry }
+        ensures sequences { result.0.sequences ≡ self.entry.arena }
         ensures frames { AreShown (reverse result.1.items) self.entry.frames }
         ensures empty { self.entry.frames ≡ [] → result.2.items ≡ [] }
     {

@@ -1,6 +1,5 @@
 use Rattle.std.proofs.Common.{[], ap, ◌∙◌, ◌≡◌, false, length, replicate, rules, vec_len}
 use Rattle.std.proofs.lemmas.List.{nil_from_length}
-use Rattle.walrus_ir.specs.Arena.{arena}
 use Rattle.walrus_ir.specs.Planning.{work}
 use Rattle.std.proofs.lemmas.Result.{err_from_is_err_and}
 use Rattle.walrus_ir.proofs.Tasks.{work_push}
@@ -12,9 +11,9 @@ pub walk-init : goal.walk-init
 walk-init c =
     let k : length c.in_ok-reached.reached.items ≡ vec_len c.in_ok-reached.reached = search rules in
     let m : c.in_ok-reached.reached.items ≡ replicate c.count.result false = c.in_ok-reached.ensures.items_if_clones_equal (λ y e. e) in
-    let l : length c.in_ok-reached.reached.items ≡ length (arena c.args.builder.now) = k ∙ (c.in_ok-reached.ensures.len ∙ c.count.ensures) in
+    let l : length c.in_ok-reached.reached.items ≡ length c.args.builder.now.sequences = k ∙ (c.in_ok-reached.ensures.len ∙ c.count.ensures) in
     rw (c.in_ok-push.ensures.items, c.new-tasks.ensures.items, c.new-order.ensures.items, c.index.ensures)
-    (stands_first (arena c.args.builder.now) c.args.start c.in_ok-reached.reached.items l (all_unmarked c.count.result c.in_ok-reached.reached.items m))
+    (stands_first c.args.builder.now.sequences c.args.start c.in_ok-reached.reached.items l (all_unmarked c.count.result c.in_ok-reached.reached.items m))
 
 pub walk-smaller : goal.walk-smaller
 walk-smaller c =

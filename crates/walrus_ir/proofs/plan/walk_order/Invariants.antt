@@ -1,13 +1,12 @@
 -- The walk stands where the tasks go on; each task takes from the work that is left.
 use Rattle.std.proofs.Common.{◌+◌}
-use Rattle.walrus_ir.specs.Arena.{arena}
 use Rattle.walrus_ir.specs.Planning.{agenda, work}
 use Rattle.walrus_ir.proofs.Marks.{unreached}
 use Rattle.walrus_ir.proofs.Planning.{Stands}
 use Rattle.walrus_ir.proofs.plan.walk_order.Given as goal
 
 abbrev pub invariant-walk : goal.invariant-walk
-invariant-walk l = Stands (arena l.builder) l.fn.start l.plan.reached.items l.plan.order.items (agenda l.plan.tasks.items)
+invariant-walk l = Stands l.builder.sequences l.fn.start l.plan.reached.items l.plan.order.items (agenda l.plan.tasks.items)
 
 abbrev pub decreases-walk : goal.decreases-walk
-decreases-walk l = unreached l.plan.reached.items (arena l.builder) + work l.plan.tasks.items
+decreases-walk l = unreached l.plan.reached.items l.builder.sequences + work l.plan.tasks.items

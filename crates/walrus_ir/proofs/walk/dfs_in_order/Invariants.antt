@@ -1,6 +1,5 @@
 -- What was told, and what is open and to come, make up the tree; for what is to come there is room.
 use Rattle.std.proofs.Common.{◌+◌, ◌≤◌, length, vec_len, vec_capacity}
-use Rattle.walrus_ir.specs.Arena.{arena}
 use Rattle.walrus_ir.specs.Telling.{frames}
 use Rattle.walrus_ir.proofs.Pending.{work_to_come, work_open}
 use Rattle.walrus_ir.proofs.Stage.{Stage}
@@ -8,9 +7,9 @@ use Rattle.walrus_ir.proofs.walk.dfs_in_order.Given as goal
 
 abbrev pub invariant-walk : goal.invariant-walk
 invariant-walk g l = record {
-  stage : Stage (arena l.builder) l.fn.start g.V.Visitor.steps g.V.Visitor.refuses g.V.Visitor.same l.fn.visitor l.visitor (frames l.stack.items) l.coming;
+  stage : Stage l.builder.sequences l.fn.start g.V.Visitor.steps g.V.Visitor.refuses g.V.Visitor.same l.fn.visitor l.visitor (frames l.stack.items) l.coming;
   room : vec_len l.stack + length l.coming ≤ vec_capacity l.stack;
 }
 
 abbrev pub decreases-walk : goal.decreases-walk
-decreases-walk g l = work_to_come (arena l.builder) l.coming + work_open (frames l.stack.items)
+decreases-walk g l = work_to_come l.builder.sequences l.coming + work_open (frames l.stack.items)

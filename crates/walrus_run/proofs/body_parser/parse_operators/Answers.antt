@@ -1,6 +1,5 @@
 use Rattle.std.proofs.Common.{◌≡◌, ◌<◌, ◌⊎◌, length, List, [], ◌∷◌, refl, rules, arith, inl, inr, sym, ap, subst, ◌∙◌, Ok, Err}
 use Rattle.std.specs.Vec.{vec_len}
-use Rattle.walrus_ir.specs.Arena.{arena}
 use Rattle.wasm_ops.specs.declared.operator.Operator.TheVariants.{End}
 use Rattle.wasm_ops.specs.Meaning.{meaning}
 use Rattle.wasm_body.specs.declared.error.ParseError.TheVariants.{Trailing, MissingEnd}
@@ -77,7 +76,7 @@ returns-then-is_empty c =
     let tree = ends_body p c.finish.result f.layers f.sequence b.close none f.keeps seals in (
       b,
       whole (env_of c.args.parser) start.place start.rest p now.place next.place now.rest next.rest f top some read c.in-Ok.ensures.moves.0 c.in-Ok.ensures.moves.1 last,
-      record { entry = seals.entry_is ∙ f.entry; holds = subst (λ e. HasTree (arena c.finish.result) 0 (normal_form (typing_of e) (named_body b))) f.env_is tree },
+      record { entry = seals.entry_is ∙ f.entry; holds = subst (λ e. HasTree c.finish.result.sequences 0 (normal_form (typing_of e) (named_body b))) f.env_is tree },
     )
 
 pub step-requires-clause-known : goal.step-requires-clause-known
