@@ -13,10 +13,8 @@ pub(crate) fn put(
     loc: u32,
 ) -> Result<(), AllocError> {
     if builder.has(seq) && loc != u32::MAX {
-        builder
-            .seq_mut(seq)
-            .instrs
-            .push((instr, InstrLocId::new(loc)))?;
+        let sequence = builder.seq_mut(seq);
+        sequence.instrs.push((instr, InstrLocId::new(loc)))?;
     }
     Ok(())
 }
