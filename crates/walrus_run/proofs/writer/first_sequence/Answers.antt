@@ -1,8 +1,12 @@
+use Rattle.std.proofs.Common.{ap}
+use Rattle.walrus_ir.specs.declared.seq.InstrSeq.{InstrSeq}
 use Rattle.walrus_run.proofs.EmitSteps.{first_of_block, first_of_none, holds_none, opens_more}
 use Rattle.walrus_run.proofs.writer.first_sequence.Goals as goal
 
 pub returns-else-not-has : goal.returns-else-not-has
-returns-else-not-has c = first_of_block _ c.args.instr.now c.in-Block.block _ c.in-Block.is c.seq.ensures
+returns-else-not-has c =
+    rw (ap (λ (s : InstrSeq). s.ty) c.behind-builder.view_is)
+    (first_of_block _ c.args.instr.now c.in-Block.block _ c.in-Block.is c.seq.ensures)
 
 pub returns-in_default : goal.returns-in_default
 returns-in_default c =
