@@ -1,4 +1,4 @@
--- types: equality, and the first place that passes
+-- types: equality, and the first position that passes
 pub mod SameTypes
 pub mod Positions
 -- the laws of trees, faults and walks

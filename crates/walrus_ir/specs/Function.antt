@@ -4,7 +4,7 @@ use Rattle.walrus_ir.specs.declared.seq.InstrSeq.{InstrSeq}
 use Rattle.walrus_ir.specs.declared.val_type.InstrSeqType.{InstrSeqType}
 use Rattle.walrus_ir.specs.InstructionSequence.{empty_sequence}
 
--- the function's type, its sequences by their places, and the place of the one that it begins with
+-- the function's type, its sequences by their slots, and the slot of the one that it begins with
 pub record Function : Type 0 where
   pub type : ℕ
   pub sequences : List InstrSeq
@@ -18,6 +18,6 @@ empty_function type = record { type = type; sequences = []; entry = None }
 abbrev pub with_new_sequence : Function → InstrSeqType → Function
 with_new_sequence b ty = record b { sequences = b.sequences ++ empty_sequence (length b.sequences) ty ∷ [] }
 
--- the sequence at a place replaced
-abbrev pub with_sequence : Function → (place : ℕ) → InstrSeq → Function
-with_sequence b place seq = record b { sequences = slice_set b.sequences place seq }
+-- the sequence at a slot replaced
+abbrev pub with_sequence : Function → (slot : ℕ) → InstrSeq → Function
+with_sequence b slot seq = record b { sequences = slice_set b.sequences slot seq }

@@ -11,7 +11,7 @@ use crate::val_type::InstrSeqType;
 use std::alloc::{AllocError, Global};
 use std::marker::Model;
 
-/// The sequences of a function. Instructions name them by their places here.
+/// The sequences of a function. Instructions name them by their slots here.
 #[derive(Drop)]
 pub struct FunctionBuilder {
     ty: TypeId,
@@ -77,14 +77,14 @@ impl FunctionBuilder {
         self.entry = Some(id);
     }
 
-    /// Whether a sequence stands at this place.
+    /// Whether a sequence stands at this slot.
     pub fn has(&self, id: InstrSeqId) -> bool
         ensures { IsTrue result ↔ (id < length self.now.sequences) }
     {
         id.index() < self.seqs.len()
     }
 
-    /// The sequence at this place.
+    /// The sequence at this slot.
     pub fn seq(&self, id: InstrSeqId) -> &InstrSeq
         requires { id < length self.now.sequences }
         ensures { slice_get self.now.sequences id ≡ Some result.now }
@@ -92,7 +92,7 @@ impl FunctionBuilder {
         &self.seqs[id.index()]
     }
 
-    /// The sequence at this place, to be changed. Every other sequence stays.
+    /// The sequence at this slot, to be changed. Every other sequence stays.
     pub fn seq_mut(&mut self, id: InstrSeqId) -> &mut InstrSeq
         requires { id < length self.old.sequences }
         ensures* writes_back { sem 𝓛 (LendsSequence self.entry id result) }

@@ -7,7 +7,7 @@ use crate::location::InstrLocId;
 use crate::val_type::InstrSeqType;
 use std::marker::Model;
 
-/// A sequence of instructions. It is known by its place in its function's builder.
+/// A sequence of instructions. It is known by its slot in its function's builder.
 #[derive(Drop)]
 pub struct InstrSeq {
     pub(crate) id: InstrSeqId,
@@ -30,7 +30,7 @@ impl Model for InstrSeq {
 
 impl InstrSeq {
     /// The id that `FunctionBuilder::alloc` gave it. It moves with the sequence where two are swapped, so it need not
-    /// be the place where the sequence stands.
+    /// be the slot where the sequence stands.
     pub fn id(&self) -> InstrSeqId
         ensures { result ≡ self.now.id }
     {

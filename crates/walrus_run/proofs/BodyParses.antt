@@ -7,16 +7,16 @@ use Rattle.wasm_ops.specs.Spelling.{read_operation}
 use Rattle.wasm_body.specs.declared.error.ParseError.{ParseError}
 use Rattle.wasm_body.specs.declared.error.ParseError.TheVariants.{Read, PlaceTooGreat, Trailing, MissingEnd}
 use Rattle.wasm_body.specs.declared.error.ParseFailure.{ParseFailure}
-use Rattle.wasm_body.specs.Results.{◌>>=◌, unless, faulting}
+use Rattle.walrus_ir.specs.Results.{◌>>=◌, unless, with_fault}
 use Rattle.wasm_body.specs.Control.{end_operation}
 use Rattle.wasm_body.specs.SourceTree.{Sequence, Empty, Body}
 use Rattle.wasm_body.specs.Frames.{Frame}
 use Rattle.wasm_body.specs.Naming.{Environment, NamedOperation, Occurrence, named_in}
-use Rattle.wasm_body.specs.Parsing.Accepted.{mark, has_location, Handled, handled}
+use Rattle.wasm_body.specs.Parsing.Accepted.{mark, has_location, Handled, handled, accepting}
 use Rattle.wasm_body.specs.Parsing.Lists.{failure, behind, parsed_from}
 use Rattle.wasm_body.specs.Parsing.Progress.{Layer, Progress, Within, Whole, NoBody, frames_of, further}
 use Rattle.walrus_run.specs.declared.parser.Parser.{Parser}
-use Rattle.walrus_run.specs.BodyParsing.{accepting, read_next, parsed_operators}
+use Rattle.walrus_run.specs.BodyParsing.{read_next, parsed_operators}
 use Rattle.walrus_run.specs.Parsers.{env_of, Keeps, KeepsProgress, occurrence}
 
 pub record SoFar (env : Environment) (start : ℕ) (bytes : List ℕ) (p : Parser) (place : ℕ) (rest : List ℕ) : Type 0 where
@@ -41,8 +41,8 @@ handled_next env start fs place bytes = by_answers (read_operation bytes) (has_l
   where
     by_answers : (r : Result (RawOperation × List ℕ) ReadFault) (b : Bool) →
         ◌≡◌ {A = Result (Handled (Unit {0})) ParseError}
-        (faulting (λ fault. Read (record { fault = fault; at = place })) r >>= λ x. unless b PlaceTooGreat >>= λ _. named_in env fs x.0 >>= λ named. Ok (done place x.0 x.1 named))
-        ((faulting (λ fault. Read (record { fault = fault; at = place })) r >>= λ x. unless b PlaceTooGreat >>= λ _. Ok x) >>= λ x. named_in env fs x.0 >>= λ named. Ok (done place x.0 x.1 named))
+        (with_fault (λ fault. Read (record { fault = fault; at = place })) r >>= λ x. unless b PlaceTooGreat >>= λ _. named_in env fs x.0 >>= λ named. Ok (done place x.0 x.1 named))
+        ((with_fault (λ fault. Read (record { fault = fault; at = place })) r >>= λ x. unless b PlaceTooGreat >>= λ _. Ok x) >>= λ x. named_in env fs x.0 >>= λ named. Ok (done place x.0 x.1 named))
     by_answers (Err e) b = refl
     by_answers (Ok x) true = refl
     by_answers (Ok x) false = refl

@@ -2,7 +2,7 @@ use Rattle.std.proofs.Common.{◌≡◌, length, Some, ap, sym, subst, ◌∙◌
 use Rattle.walrus_ir.specs.declared.val_type.InstrSeqType.TheVariants.{MultiValue}
 use Rattle.walrus_ir.specs.Function.{Function, empty_function, with_new_sequence}
 use Rattle.walrus_body.specs.Environments.{environment_of}
-use Rattle.wasm_body.specs.Naming.{entry_of}
+use Rattle.wasm_body.specs.Naming.{entry_type_id}
 use Rattle.walrus_run.specs.Parsers.{env_of}
 use Rattle.walrus_run.specs.declared.parser.Parser.{Parser}
 use Rattle.walrus_run.proofs.FirstParsers.{begun}
@@ -20,6 +20,6 @@ returns-clause-ok c =
     let is : env_of p ≡ environment_of a.module.now a.indices.now a.function a.ty =
     ap (λ (f : Function). environment_of a.module.now a.indices.now a.function f.type) made in (
       is,
-      begun p a.entry (ap entry_of is ∙ c.requires) (ap (λ (f : Function). f.sequences) made) (c.new.ensures.0 ∙ first) c.new.ensures.2 c.new.ensures.3 c.new-2.ensures.items,
+      begun p a.entry (ap entry_type_id is ∙ c.requires) (ap (λ (f : Function). f.sequences) made) (c.new.ensures.0 ∙ first) c.new.ensures.2 c.new.ensures.3 c.new-2.ensures.items,
       ap (λ (f : Function). f.entry) made ∙ ap Some first,
     )
