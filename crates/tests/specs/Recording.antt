@@ -6,7 +6,7 @@ use Rattle.walrus_ir.specs.declared.instr.Instr.TheVariants as instr
 use Rattle.walrus_ir.specs.declared.error.WalkError.{WalkError}
 use Rattle.walrus_ir.specs.declared.error.WalkError.TheVariants.{TooLarge, Memory}
 use Rattle.walrus_ir.specs.Arena.{id_of}
-use Rattle.walrus_ir.specs.Events.{Event, StartSequence, EndSequence, VisitInstruction, NameFunction, NameLocal, NameData}
+use Rattle.walrus_ir.specs.Events.{WalkEvent, StartSequence, EndSequence, VisitInstruction, NameFunction, NameLocal, NameData}
 use Rattle.walrus_ir.specs.Events.{AreStepsAlike, AreRefusalsAlike}
 use Rattle.tests.specs.declared.recorder.Word.{Word}
 use Rattle.tests.specs.declared.recorder.Word.TheVariants as word
@@ -22,7 +22,7 @@ word_of (instr.Try x) = word.Try
 word_of _ = word.Other
 
 -- a sequence's id where it starts, and its length where it ends; an instruction's location; the number of what is named
-abbrev pub note_of : Event → Note
+abbrev pub note_of : WalkEvent → Note
 note_of (StartSequence seq) = record { word = word.Start; number = id_of seq }
 note_of (EndSequence seq) = record { word = word.End; number = length seq.instrs.items }
 note_of (VisitInstruction i location) = record { word = word_of i; number = location }
@@ -35,14 +35,14 @@ pub record Adds (s : Recorder) (note : Note) (t : Recorder) : Type 0 where
   pub told : t.told.items ≡ s.told.items ++ note ∷ []
   pub calls_left : s.calls_left ≡ t.calls_left + 1
 
-abbrev pub Notes : Recorder → Event → Recorder → Type 0
+abbrev pub Notes : Recorder → WalkEvent → Recorder → Type 0
 Notes s e t = Adds s (note_of e) t
 
 -- it was called often enough, or no memory was left
 abbrev pub IsUnable : Recorder → WalkError → Type 0
 IsUnable s f = ((f ≡ TooLarge) × (s.calls_left ≡ 0)) ⊎ ((f ≡ Memory) × (0 < s.calls_left))
 
-abbrev pub Declines : Recorder → Event → WalkError → Type 0
+abbrev pub Declines : Recorder → WalkEvent → WalkError → Type 0
 Declines s e f = IsUnable s f
 
 pub record HasSameNotes (s t : Recorder) : Type 0 where

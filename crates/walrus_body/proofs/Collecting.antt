@@ -12,8 +12,8 @@ use Rattle.walrus_ir.specs.declared.instr.Instr.TheVariants.{RefFunc, LocalGet, 
 use Rattle.walrus_ir.specs.declared.error.WalkError.{WalkError}
 use Rattle.walrus_ir.specs.declared.error.WalkError.TheVariants.{Memory}
 use Rattle.walrus_ir.specs.Tree.{Items, no_items, item, Sequences, no_sequences, sequence, Tree}
-use Rattle.walrus_ir.specs.Unfolding.{Placed, Located, among}
-use Rattle.walrus_ir.specs.Events.{Event, StartSequence, EndSequence, VisitInstruction, NameData, names, item_events, sequence_events, events, Folds, through, after, Stops, refused, later}
+use Rattle.walrus_ir.specs.Unfolding.{SequenceAt, LocatedInstr, among}
+use Rattle.walrus_ir.specs.Events.{WalkEvent, StartSequence, EndSequence, VisitInstruction, NameData, names, item_events, sequence_events, events, Folds, through, after, Stops, refused, later}
 use Rattle.walrus_ir.specs.Walk.{Finishes, IsRefused, IsUnwalked, HasNoWalk}
 use Rattle.walrus_body.specs.Facts.{instructions, instructions_inside, segment_of, segments, TreeHas}
 use Rattle.walrus_body.specs.Segments.{holds, named, Collects, WantsMemory, HoldsSame}
@@ -21,27 +21,27 @@ use Rattle.walrus_body.specs.declared.segments.DataSegmentsVisitor.{DataSegments
 use Rattle.walrus_body.proofs.EntryMaps.{same_id}
 
 -- Nothing is collected where a sequence starts or ends, and at an instruction what it has.
-pub record IsByInstruction {A : Type 0} (at_event : Event → List A) (at_instruction : Located → List A) : Type 0 where
+pub record IsByInstruction {A : Type 0} (at_event : WalkEvent → List A) (at_instruction : LocatedInstr → List A) : Type 0 where
   pub starts : (seq : InstrSeq) → at_event (StartSequence seq) ≡ []
   pub ends : (seq : InstrSeq) → at_event (EndSequence seq) ≡ []
-  pub visits : (x : Located) → flat_map at_event (VisitInstruction x.0 x.1 ∷ names x.0) ≡ at_instruction x
+  pub visits : (x : LocatedInstr) → flat_map at_event (VisitInstruction x.0 x.1 ∷ names x.0) ≡ at_instruction x
 
-module _ {A : Type 0} {g : Event → List A} {f : Located → List A} (h : IsByInstruction g f) where
+module _ {A : Type 0} {g : WalkEvent → List A} {f : LocatedInstr → List A} (h : IsByInstruction g f) where
   mutual
-    items_collected : (is : Items Placed Located) (k : List Event) → flat_map g (item_events is k) ≡ flat_map f (instructions is) ++ flat_map g k
+    items_collected : (is : Items SequenceAt LocatedInstr) (k : List WalkEvent) → flat_map g (item_events is k) ≡ flat_map f (instructions is) ++ flat_map g k
     items_collected no_items k = refl
     items_collected (item x inside rest) k =
         let before = flat_map-append g (VisitInstruction x.0 x.1 ∷ names x.0) (sequence_events inside (item_events rest k)) in
         let behind = sequences_collected inside (item_events rest k) in
         rw (before, h.visits x, behind, items_collected rest k, flat_map-append f (instructions_inside inside) (instructions rest), append_assoc (f x), append_assoc (flat_map f (instructions_inside inside))) refl
 
-    sequences_collected : (ss : Sequences Placed Located) (k : List Event) → flat_map g (sequence_events ss k) ≡ flat_map f (instructions_inside ss) ++ flat_map g k
+    sequences_collected : (ss : Sequences SequenceAt LocatedInstr) (k : List WalkEvent) → flat_map g (sequence_events ss k) ≡ flat_map f (instructions_inside ss) ++ flat_map g k
     sequences_collected no_sequences k = refl
     sequences_collected (sequence head is rest) k =
         let first = items_collected is (EndSequence head.seq ∷ sequence_events rest k) in
         rw (h.starts head.seq, first, h.ends head.seq, sequences_collected rest k, flat_map-append f (instructions is) (instructions_inside rest), append_assoc (flat_map f (instructions is))) refl
 
-  pub tree_collected : (t : Tree Placed Located) → flat_map g (events t) ≡ flat_map f (instructions t.items)
+  pub tree_collected : (t : Tree SequenceAt LocatedInstr) → flat_map g (events t) ≡ flat_map f (instructions t.items)
   tree_collected t =
       let all = items_collected t.items (EndSequence t.head.seq ∷ []) in
       rw (h.starts t.head.seq, all, h.ends t.head.seq) (append-nil (flat_map f (instructions t.items)))
@@ -59,7 +59,7 @@ named_by (ArrayNewData x) location = refl
 named_by (ArrayInitData x) location = refl
 named_by _ location = refl
 
-named_by_instruction : IsByInstruction named (λ (x : Located). segment_of x.0)
+named_by_instruction : IsByInstruction named (λ (x : LocatedInstr). segment_of x.0)
 named_by_instruction = record { starts = λ seq. refl; ends = λ seq. refl; visits = λ x. named_by x.0 x.1 }
 
 or_swap : (a b c : Bool) → a || (b || c) ≡ (b || a) || c
@@ -83,18 +83,18 @@ put_named s t k d h =
     let now : contains (λ x y. x == y) t d ≡ cond (same_id k d) true (contains (λ x y. x == y) s d) = rw (sym (by_number t d), h, by_number s d) refl in
     rw (now, and-true (k == d), nat_eq_equiv.symm k d) (put_or (d == k) (contains (λ x y. x == y) s d))
 
-folds_named : {v w : DataSegmentsVisitor} {es : List Event} → Folds Collects v es w → (d : ℕ) → holds w d ≡ among d (flat_map named es) || holds v d
+folds_named : {v w : DataSegmentsVisitor} {es : List WalkEvent} → Folds Collects v es w → (d : ℕ) → holds w d ≡ among d (flat_map named es) || holds v d
 folds_named through d = refl
 folds_named (after {v = v} {e = e} {es = es} s f) d =
     let joined = list_any-append (λ q. d == q) (named e) (flat_map named es) in
     rw (folds_named f d, s d, joined) (or_swap (among d (flat_map named es)) (among d (named e)) (holds v d))
 
-stops_for_memory : {v w : DataSegmentsVisitor} {es : List Event} {f : WalkError} → Stops Collects WantsMemory HoldsSame v es w f → f ≡ Memory
+stops_for_memory : {v w : DataSegmentsVisitor} {es : List WalkEvent} {f : WalkError} → Stops Collects WantsMemory HoldsSame v es w f → f ≡ Memory
 stops_for_memory (refused {e = NameData d} r s) = r
 stops_for_memory (refused r s) = absurd r
 stops_for_memory (later s f) = stops_for_memory f
 
-tree_named : (t : Tree Placed Located) → flat_map named (events t) ≡ segments t.items
+tree_named : (t : Tree SequenceAt LocatedInstr) → flat_map named (events t) ≡ segments t.items
 tree_named t = tree_collected named_by_instruction t
 
 pub collected : {b : List InstrSeq} {start : ℕ} {v w : DataSegmentsVisitor} → ((d : ℕ) → holds v d ≡ false) → Finishes b start Collects v w

@@ -9,8 +9,8 @@ use Rattle.walrus_ir.specs.declared.instr.Instr.TheVariants.{RefFunc, LocalGet, 
 use Rattle.walrus_ir.specs.declared.error.WalkError.{WalkError}
 use Rattle.walrus_ir.specs.declared.error.WalkError.TheVariants.{TooLarge}
 use Rattle.walrus_ir.specs.Tree.{Tree}
-use Rattle.walrus_ir.specs.Unfolding.{Placed, Located}
-use Rattle.walrus_ir.specs.Events.{Event, VisitInstruction, names, events, Folds, through, after, Stops, refused, later}
+use Rattle.walrus_ir.specs.Unfolding.{SequenceAt, LocatedInstr}
+use Rattle.walrus_ir.specs.Events.{WalkEvent, VisitInstruction, names, events, Folds, through, after, Stops, refused, later}
 use Rattle.walrus_ir.specs.Walk.{Finishes, IsRefused, IsUnwalked, HasNoWalk}
 use Rattle.walrus_body.specs.Facts.{instructions, count, TreeHas}
 use Rattle.walrus_body.specs.Sizes.{visited, Counts, Overflows, IsTooLarge}
@@ -31,17 +31,17 @@ visited_by _ location = refl
 one_an_instruction : IsByInstruction visited (λ x. x ∷ [])
 one_an_instruction = record { starts = λ seq. refl; ends = λ seq. refl; visits = λ x. visited_by x.0 x.1 }
 
-tree_visited : (t : Tree Placed Located) → length (flat_map visited (events t)) ≡ count t.items
+tree_visited : (t : Tree SequenceAt LocatedInstr) → length (flat_map visited (events t)) ≡ count t.items
 tree_visited t = ap (λ xs. length xs) (tree_collected one_an_instruction t ∙ flat_map_single (λ x. x) (instructions t.items)) ∙ length-map (instructions t.items) (λ x. x)
 
-folds_visited : {v w : SizeVisitor} {es : List Event} → Folds Counts v es w → w.size ≡ v.size + length (flat_map visited es)
+folds_visited : {v w : SizeVisitor} {es : List WalkEvent} → Folds Counts v es w → w.size ≡ v.size + length (flat_map visited es)
 folds_visited through = omega arith
 folds_visited (after {e = e} {es = es} s f) =
     let rest = folds_visited f in
     let all = length-append (visited e) (flat_map visited es) in
     omega (arith, s, rest, all)
 
-stops_visited : {same : SizeVisitor → SizeVisitor → Type 0} {v w : SizeVisitor} {es : List Event} {f : WalkError} → Stops Counts Overflows same v es w f
+stops_visited : {same : SizeVisitor → SizeVisitor → Type 0} {v w : SizeVisitor} {es : List WalkEvent} {f : WalkError} → Stops Counts Overflows same v es w f
     → (f ≡ TooLarge) × (2 ^ 64 ≤ v.size + length (flat_map visited es))
 stops_visited (refused {e = e} {es = es} r s) =
     let all = length-append (visited e) (flat_map visited es) in

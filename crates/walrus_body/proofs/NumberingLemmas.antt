@@ -14,8 +14,8 @@ use Rattle.wasm_ops.specs.declared.types.Space.TheVariants.{Tables, Types, Funcs
 use Rattle.walrus_body.specs.declared.ids_to_indices.IdsToIndices.{IdsToIndices}
 use Rattle.walrus_body.specs.IndexMaps.{numbers_in, with_numbers, with_next_number, numbered, number_of}
 use Rattle.wasm_body.specs.declared.error.IndexError.TheVariants.{Unnumbered}
-use Rattle.wasm_body.specs.Results.{some_or}
-use Rattle.wasm_body.proofs.Translation.ResultLemmas.{some_or_ok}
+use Rattle.walrus_ir.specs.Results.{some_or}
+use Rattle.walrus_ir.proofs.ResultLemmas.{some_or_ok}
 use Rattle.walrus_body.specs.Numbering.{pushed, AreNumberedInOrder, PushesNumberInOrder}
 
 -- what is read after one more item

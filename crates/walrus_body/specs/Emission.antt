@@ -5,15 +5,15 @@ use Rattle.walrus_ir.specs.declared.val_type.InstrSeqType.{InstrSeqType}
 use Rattle.walrus_ir.specs.declared.val_type.InstrSeqType.TheVariants.{Simple}
 use Rattle.walrus_ir.specs.declared.instr.Instr.{Instr}
 use Rattle.walrus_ir.specs.declared.instr.Instr.TheVariants.{Block, Loop, IfElse, TryTable, Try}
-use Rattle.walrus_ir.specs.Unfolding.{Located as LocatedInstr, places_in}
-use Rattle.walrus_ir.specs.Events.{Event, StartSequence, EndSequence, VisitInstruction}
+use Rattle.walrus_ir.specs.Unfolding.{LocatedInstr as LocatedInstr, slots_in}
+use Rattle.walrus_ir.specs.Events.{WalkEvent, StartSequence, EndSequence, VisitInstruction}
 use Rattle.wasm_ops.specs.Operations.{RawOperation}
 use Rattle.wasm_ops.specs.Shortest.{short}
 use Rattle.wasm_body.specs.declared.error.EmitError.{EmitError}
 use Rattle.wasm_body.specs.declared.error.EmitError.TheVariants.{UnknownSequence}
-use Rattle.wasm_body.specs.Results.{◌>>=◌, some_or}
+use Rattle.walrus_ir.specs.Results.{◌>>=◌, some_or}
 use Rattle.wasm_body.specs.Control.{end_operation, else_operation}
-use Rattle.wasm_body.specs.Translation.{translate, Located, located}
+use Rattle.wasm_body.specs.Translation.{translate, Located, at_location}
 use Rattle.wasm_body.specs.InstructionTable.{legacy_clause}
 use Rattle.wasm_body.specs.TreeOfFunction.{instruction_in}
 use Rattle.wasm_body.specs.FlatText.{TextOperation, Writing, then_by, try_closers, opened, written}
@@ -38,7 +38,7 @@ closers_in _ = []
 -- each of these sequences ends with its closer, at the location of its end
 abbrev pub scope_at : List InstrSeq → ℕ → TextOperation → Result Scope EmitError
 scope_at b slot closer =
-    some_or (slice_get b slot) UnknownSequence >>= λ seq. Ok (record { slot = slot; closer = Some (located closer seq.end) })
+    some_or (slice_get b slot) UnknownSequence >>= λ seq. Ok (record { slot = slot; closer = Some (at_location closer seq.end) })
 
 abbrev pub scopes_at : List InstrSeq → List ℕ → List TextOperation → Result (List Scope) EmitError
 scopes_at b [] cs = Ok []
@@ -88,9 +88,9 @@ with_closer s (Some c) = written (then_by (numbering s.numbers)) c.op c.location
 -- An instruction's own operator is written, and the sequences in it are to begin.
 abbrev pub with_instruction : Emitter → LocatedInstr → Result Emitter EmitError
 with_instruction s x =
-    first_type_at s.sequences (places_in x.0) >>= λ type.
+    first_type_at s.sequences (slots_in x.0) >>= λ type.
     opened (then_by (numbering s.numbers)) (instruction_in (slots_of s.open_scopes) x) type >>= λ op.
-    scopes_at s.sequences (places_in x.0) (closers_in x.0) >>= λ scopes.
+    scopes_at s.sequences (slots_in x.0) (closers_in x.0) >>= λ scopes.
     Ok (with_operator (record s { coming = scopes ++ s.coming }) op)
 
 -- The next scope is open; the innermost is closed. (A walk starts no sequence that isn't to begin, and ends none that isn't
@@ -103,14 +103,14 @@ abbrev pub with_end : Emitter → List Scope → Result Emitter EmitError
 with_end s [] = Err UnknownSequence
 with_end s (c ∷ cs) = with_closer s c.closer >>= λ t. Ok (record t { open_scopes = cs })
 
-abbrev pub emitter_behind : Emitter → Event → Result Emitter EmitError
+abbrev pub emitter_behind : Emitter → WalkEvent → Result Emitter EmitError
 emitter_behind s (VisitInstruction i location) = with_instruction s (i, location)
 emitter_behind s (StartSequence seq) = with_start s s.coming
 emitter_behind s (EndSequence seq) = with_end s s.open_scopes
 emitter_behind s _ = Ok s
 
 -- behind so many events
-abbrev pub emitter_behind_all : Emitter → List Event → Result Emitter EmitError
+abbrev pub emitter_behind_all : Emitter → List WalkEvent → Result Emitter EmitError
 emitter_behind_all s [] = Ok s
 emitter_behind_all s (e ∷ es) = emitter_behind s e >>= λ t. emitter_behind_all t es
 

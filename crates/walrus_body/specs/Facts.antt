@@ -5,7 +5,7 @@ use Rattle.walrus_ir.specs.declared.seq.InstrSeq.{InstrSeq}
 use Rattle.walrus_ir.specs.declared.instr.Instr.{Instr}
 use Rattle.walrus_ir.specs.declared.instr.Instr.TheVariants.{MemoryInit, DataDrop, ArrayNewData, ArrayInitData}
 use Rattle.walrus_ir.specs.Tree.{Items, no_items, item, Sequences, no_sequences, sequence, Tree}
-use Rattle.walrus_ir.specs.Unfolding.{Placed, Located, IsTree}
+use Rattle.walrus_ir.specs.Unfolding.{SequenceAt, LocatedInstr, IsTree}
 
 -- the instructions, in walk order
 abbrev mutual
@@ -30,11 +30,11 @@ segment_of (ArrayInitData x) = x.data_id ∷ []
 segment_of _ = []
 
 -- the data segments that they name, repeats kept
-abbrev pub segments : Items Placed Located → List ℕ
-segments items = flat_map (λ (x : Located). segment_of x.0) (instructions items)
+abbrev pub segments : Items SequenceAt LocatedInstr → List ℕ
+segments items = flat_map (λ (x : LocatedInstr). segment_of x.0) (instructions items)
 
 -- From this sequence on there is a tree, and this holds of it.
-pub record TreeHas (b : List InstrSeq) (start : ℕ) (Holds : Tree Placed Located → Type 0) : Type 0 where
-  pub tree : Tree Placed Located
+pub record TreeHas (b : List InstrSeq) (start : ℕ) (Holds : Tree SequenceAt LocatedInstr → Type 0) : Type 0 where
+  pub tree : Tree SequenceAt LocatedInstr
   pub is_tree : IsTree b start tree
   pub holds : Holds tree

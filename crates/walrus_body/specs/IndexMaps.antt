@@ -9,7 +9,7 @@ use Rattle.wasm_body.specs.declared.error.IndexError.{IndexError}
 use Rattle.wasm_body.specs.declared.error.IndexError.TheVariants.{OutOfRange, Unnumbered}
 use Rattle.walrus_body.specs.declared.indices_to_ids.IndicesToIds.{IndicesToIds}
 use Rattle.walrus_body.specs.declared.ids_to_indices.IdsToIndices.{IdsToIndices}
-use Rattle.wasm_body.specs.Results.{some_or}
+use Rattle.walrus_ir.specs.Results.{some_or}
 use Rattle.walrus_body.specs.Locals.{list_of, local_in}
 
 -- ---- from old indices to ids
@@ -30,15 +30,15 @@ ids_in m Data = m.data
 ids_in m Tags = m.tags
 
 -- the same maps, with these ids in a space
-abbrev pub with_ids : Space → List ℕ → IndicesToIds → IndicesToIds
-with_ids Tables ids m = record m { tables = ids }
-with_ids Types ids m = record m { types = ids }
-with_ids Funcs ids m = record m { funcs = ids }
-with_ids Globals ids m = record m { globals = ids }
-with_ids Memories ids m = record m { memories = ids }
-with_ids Elements ids m = record m { elements = ids }
-with_ids Data ids m = record m { «data» = ids }
-with_ids Tags ids m = record m { tags = ids }
+abbrev pub with_ids_in : Space → List ℕ → IndicesToIds → IndicesToIds
+with_ids_in Tables ids m = record m { tables = ids }
+with_ids_in Types ids m = record m { types = ids }
+with_ids_in Funcs ids m = record m { funcs = ids }
+with_ids_in Globals ids m = record m { globals = ids }
+with_ids_in Memories ids m = record m { memories = ids }
+with_ids_in Elements ids m = record m { elements = ids }
+with_ids_in Data ids m = record m { «data» = ids }
+with_ids_in Tags ids m = record m { tags = ids }
 
 -- the id that an old index stands for
 abbrev pub id_of : IndicesToIds → Space → ℕ → Result ℕ IndexError

@@ -5,7 +5,7 @@ use Rattle.std.proofs.Common.{sym, ap, ◌∙◌}
 use Rattle.walrus_ir.specs.declared.error.WalkError.{WalkError}
 use Rattle.walrus_ir.specs.declared.error.WalkError.TheVariants.{Memory}
 use Rattle.walrus_ir.specs.Unfolding.{among}
-use Rattle.walrus_ir.specs.Events.{Event, StartSequence, EndSequence, VisitInstruction, NameFunction, NameLocal, NameData}
+use Rattle.walrus_ir.specs.Events.{WalkEvent, StartSequence, EndSequence, VisitInstruction, NameFunction, NameLocal, NameData}
 use Rattle.walrus_ir.specs.Events.{AreStepsAlike, AreRefusalsAlike}
 use Rattle.walrus_body.specs.declared.segments.DataSegmentsVisitor.{DataSegmentsVisitor}
 
@@ -14,15 +14,15 @@ abbrev pub holds : DataSegmentsVisitor → ℕ → Bool
 holds s d = contains (λ x y. x == y) s.segments d
 
 -- the data segment that an event names
-abbrev pub named : Event → List ℕ
+abbrev pub named : WalkEvent → List ℕ
 named (NameData d) = d ∷ []
 named _ = []
 
-abbrev pub Collects : DataSegmentsVisitor → Event → DataSegmentsVisitor → Type 0
+abbrev pub Collects : DataSegmentsVisitor → WalkEvent → DataSegmentsVisitor → Type 0
 Collects s e t = (d : ℕ) → holds t d ≡ (among d (named e) || holds s d)
 
 -- no memory was left for the data segment that is named
-abbrev pub WantsMemory : DataSegmentsVisitor → Event → WalkError → Type 0
+abbrev pub WantsMemory : DataSegmentsVisitor → WalkEvent → WalkError → Type 0
 WantsMemory s (NameData d) f = f ≡ Memory
 WantsMemory s _ f = ⊥
 

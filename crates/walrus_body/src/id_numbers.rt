@@ -3,7 +3,7 @@ ghost use Rattle.std.specs.Prelude.{◌≡◌, ℕ, OnOk, OnErr, IsOkUnless, Non
 ghost use Rattle.std.specs.Ordering.{nat_cmp};
 ghost use Rattle.std.specs.FinMap as map;
 ghost use Rattle.std.specs.Coded.{coded_ℕ};
-ghost use Rattle.wasm_body.specs.Results.{some_or};
+ghost use Rattle.walrus_ir.specs.Results.{some_or};
 ghost use Rattle.walrus_body.specs.Growth.{GrowsFrom};
 
 use crate::IndexError;

@@ -1,4 +1,6 @@
--- types: equality, and the first place that passes
+-- answers that may be faults, in every crate
+pub mod ResultLemmas
+-- types: equality, and the first position that passes
 pub mod SameTypes
 pub mod Positions
 -- the laws of trees, faults and walks

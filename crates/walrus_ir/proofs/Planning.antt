@@ -10,15 +10,15 @@ use Rattle.walrus_ir.specs.declared.error.WalkError.TheVariants.{UnknownSequence
 use Rattle.walrus_ir.specs.declared.plan.Plan.{Plan}
 use Rattle.walrus_ir.specs.declared.plan.Task.{Task}
 use Rattle.walrus_ir.specs.declared.plan.Task.TheVariants.{Enter, Resume, Clauses}
-use Rattle.walrus_ir.specs.Unfolding.{places_in_all, among}
-use Rattle.walrus_ir.specs.Faults.{Walks, begun, onward, FirstFault, unknown, shared}
+use Rattle.walrus_ir.specs.Unfolding.{slots_in_all, among}
+use Rattle.walrus_ir.specs.Faults.{Walks, begun, onward, FirstWalkFault, unknown, shared}
 use Rattle.walrus_ir.specs.Walk.{HasNoWalk}
 use Rattle.walrus_ir.specs.Planning.{goes_to, agenda, work_of_task, work, IsRefusedAt, IsReached, IsGoneOn, IsDone, IsNotDone, IsOrder}
 use Rattle.walrus_ir.proofs.WalkLaws.{walk_makes_tree}
 use Rattle.walrus_ir.proofs.Marks.{marked, unreached, unreached-set}
 use Rattle.walrus_ir.proofs.Tasks.{agenda_push}
 
--- the walk has reached the marked sequences, in this order, and goes on to these places
+-- the walk has reached the marked sequences, in this order, and goes on to these slots
 pub record Stands (b : List InstrSeq) (start : ℕ) (marks : List Bool) (order next : List ℕ) : Type 0 where
   pub seen : List ℕ
   pub walks : Walks b start seen next
@@ -34,7 +34,7 @@ pub reach_within : {b : List InstrSeq} {start : ℕ} {marks : List Bool} {order 
 reach_within p seq h known = rw h.as_long (slice_get_within _ p seq known)
 
 pub stands_enter : {b : List InstrSeq} {start : ℕ} {marks : List Bool} {order next : List ℕ} (p : ℕ) (seq : InstrSeq) (marks' : List Bool) → IsReached b p seq marks marks'
-    → Stands b start marks order (p ∷ next) → Stands b start marks' (order ++ p ∷ []) (places_in_all seq.instrs.items ++ next)
+    → Stands b start marks order (p ∷ next) → Stands b start marks' (order ++ p ∷ []) (slots_in_all seq.instrs.items ++ next)
 stands_enter {b = b} {marks = marks} p seq marks' r h = record {
   seen = p ∷ h.seen;
   walks = onward h.walks r.known (sym (h.marks_are p) ∙ r.fresh);
@@ -71,7 +71,7 @@ done_falls {b = b} (Resume rest) old new d h = gone_falls b (Resume rest) old ne
 done_falls {b = b} (Clauses rest) old new d h = gone_falls b (Clauses rest) old new d
 
 pub refused_fault : {b : List InstrSeq} {start : ℕ} {marks : List Bool} {order next : List ℕ} (p : ℕ) (e : WalkError)
-    → Stands b start marks order (p ∷ next) → IsRefusedAt b marks p e → FirstFault b start e
+    → Stands b start marks order (p ∷ next) → IsRefusedAt b marks p e → FirstWalkFault b start e
 refused_fault p UnknownSequence h r = unknown h.walks r
 refused_fault p SharedSequence h r = shared h.walks (sym (h.marks_are p) ∙ r)
 refused_fault p Memory h r = absurd r
@@ -88,4 +88,4 @@ not_done (Clauses rest) ts e h (inr r) = absurd r
 pub stands_last : {b : List InstrSeq} {start : ℕ} {marks : List Bool} {order : List ℕ} → Stands b start marks order [] → IsOrder b start order
 stands_last {b = b} {start = start} h =
     let whole = walk_makes_tree b start h.seen h.walks in
-    record { tree = whole.tree; is_tree = whole.is_tree; places = h.order_is ∙ ap reverse (sym whole.places) }
+    record { tree = whole.tree; is_tree = whole.is_tree; slots = h.order_is ∙ ap reverse (sym whole.slots) }

@@ -4,21 +4,21 @@ use Rattle.std.proofs.lemmas.List.{append-nil}
 use Rattle.std.specs.Prelude.{slice_get}
 use Rattle.walrus_ir.specs.declared.seq.InstrSeq.{InstrSeq}
 use Rattle.walrus_ir.specs.Tree.{Tree}
-use Rattle.walrus_ir.specs.Unfolding.{Placed, Located, AreItems, IsTree}
-use Rattle.walrus_ir.specs.Events.{Event, StartSequence, EndSequence, item_events, events, Folds, through, after, Stops, refused}
+use Rattle.walrus_ir.specs.Unfolding.{SequenceAt, LocatedInstr, AreItems, IsTree}
+use Rattle.walrus_ir.specs.Events.{WalkEvent, StartSequence, EndSequence, item_events, events, Folds, through, after, Stops, refused}
 use Rattle.walrus_ir.specs.Walk.{Finishes, IsRefused}
 use Rattle.walrus_ir.specs.Planning.{IsOrder}
 use Rattle.walrus_ir.specs.Telling.{Frame, started, IsToldNext, IsRefusedNext}
 use Rattle.walrus_ir.proofs.Telling.{Folds-append, Stops-append, Stops_behind}
 use Rattle.walrus_ir.proofs.Pending.{Pending, just_started, next_pending, begins}
 
-module _ {V F : Type 0} (b : List InstrSeq) (start : ℕ) (steps : V → Event → V → Type 0) (refuses : V → Event → F → Type 0) (same : V → V → Type 0) where
+module _ {V F : Type 0} (b : List InstrSeq) (start : ℕ) (steps : V → WalkEvent → V → Type 0) (refuses : V → WalkEvent → F → Type 0) (same : V → V → Type 0) where
   -- the visitor was told the first events of the tree, and what is open and to come stands for the others
   pub record Stage (v w : V) (fs : List Frame) (coming : List ℕ) : Type 0 where
-    pub tree : Tree Placed Located
+    pub tree : Tree SequenceAt LocatedInstr
     pub is_tree : IsTree b start tree
-    pub told : List Event
-    pub left : List Event
+    pub told : List WalkEvent
+    pub left : List WalkEvent
     pub all : events tree ≡ told ++ left
     pub folds : Folds steps v told w
     pub pending : Pending b fs coming left

@@ -1,16 +1,16 @@
 -- A stretch of instructions is told, one more at a time.
 use Rattle.std.proofs.Common.{◌≡◌, ℕ, List, ◌∷◌, length, subst}
-use Rattle.walrus_ir.specs.Unfolding.{Located, places_in}
-use Rattle.walrus_ir.specs.Events.{Event, VisitInstruction, names, Folds, Stops}
+use Rattle.walrus_ir.specs.Unfolding.{LocatedInstr, slots_in}
+use Rattle.walrus_ir.specs.Events.{WalkEvent, VisitInstruction, names, Folds, Stops}
 use Rattle.walrus_ir.specs.Telling.{IsStretch, goes_on, IsToldStretch, IsRefusedStretch}
 use Rattle.walrus_ir.proofs.Telling.{Folds-append, Stops_behind}
 
-module _ {V F : Type 0} (steps : V → Event → V → Type 0) (refuses : V → Event → F → Type 0) (same : V → V → Type 0) where
+module _ {V F : Type 0} (steps : V → WalkEvent → V → Type 0) (refuses : V → WalkEvent → F → Type 0) (same : V → V → Type 0) where
   -- the next instruction is told
-  pub stretch_told : {v w u : V} {all rest left : List Located} {x : Located} (n : ℕ) → rest ≡ x ∷ left → n ≡ length (places_in x.0)
+  pub stretch_told : {v w u : V} {all rest left : List LocatedInstr} {x : LocatedInstr} (n : ℕ) → rest ≡ x ∷ left → n ≡ length (slots_in x.0)
       → IsToldStretch all rest 0 (λ es. Folds steps v es w) → Folds steps w (VisitInstruction x.0 x.1 ∷ names x.0) u → IsToldStretch all left n (λ es. Folds steps v es u)
   stretch_told {all = all} {x = x} n e many h told =
-      let P : List Located → Type 0 = λ xs. IsStretch all xs 0 h.events in
+      let P : List LocatedInstr → Type 0 = λ xs. IsStretch all xs 0 h.events in
       record {
         events = _;
         stretch = rw many (goes_on (subst P e h.stretch));
@@ -18,10 +18,10 @@ module _ {V F : Type 0} (steps : V → Event → V → Type 0) (refuses : V → 
       }
 
   -- the next instruction is refused, or what it names
-  pub stretch_refused : {v w u : V} {f : F} {all rest left : List Located} {x : Located} → rest ≡ x ∷ left
+  pub stretch_refused : {v w u : V} {f : F} {all rest left : List LocatedInstr} {x : LocatedInstr} → rest ≡ x ∷ left
       → IsToldStretch all rest 0 (λ es. Folds steps v es w) → Stops steps refuses same w (VisitInstruction x.0 x.1 ∷ names x.0) u f → IsRefusedStretch all (λ es. Stops steps refuses same v es u f)
   stretch_refused {all = all} {left = left} {x = x} e h stopped =
-      let P : List Located → Type 0 = λ xs. IsStretch all xs 0 h.events in
+      let P : List LocatedInstr → Type 0 = λ xs. IsStretch all xs 0 h.events in
       record {
         before = h.events;
         last = x;

@@ -1,27 +1,27 @@
 -- What a visitor was told, one event after the other.
 use Rattle.std.proofs.Common.{◌≡◌, List, [], ◌∷◌, ◌++◌, Result, Ok, Err}
-use Rattle.walrus_ir.specs.Events.{Event, Folds, through, after, Stops, refused, later, Hears, Tells}
+use Rattle.walrus_ir.specs.Events.{WalkEvent, Folds, through, after, Stops, refused, later, Hears, Tells}
 
-module _ {V F : Type 0} (steps : V → Event → V → Type 0) (refuses : V → Event → F → Type 0) (same : V → V → Type 0) where
-  pub Folds-append : {v w x : V} {xs : List Event} (ys : List Event) → Folds steps v xs w → Folds steps w ys x → Folds steps v (xs ++ ys) x
+module _ {V F : Type 0} (steps : V → WalkEvent → V → Type 0) (refuses : V → WalkEvent → F → Type 0) (same : V → V → Type 0) where
+  pub Folds-append : {v w x : V} {xs : List WalkEvent} (ys : List WalkEvent) → Folds steps v xs w → Folds steps w ys x → Folds steps v (xs ++ ys) x
   Folds-append ys through g = g
   Folds-append ys (after s f) g = after s (Folds-append ys f g)
 
-  pub Stops-append : {v w : V} {f : F} {xs : List Event} (ys : List Event) → Stops steps refuses same v xs w f → Stops steps refuses same v (xs ++ ys) w f
+  pub Stops-append : {v w : V} {f : F} {xs : List WalkEvent} (ys : List WalkEvent) → Stops steps refuses same v xs w f → Stops steps refuses same v (xs ++ ys) w f
   Stops-append ys (refused r s) = refused r s
   Stops-append ys (later s h) = later s (Stops-append ys h)
 
-  pub Stops_behind : {v w x : V} {f : F} {xs : List Event} (ys : List Event) → Folds steps v xs w → Stops steps refuses same w ys x f → Stops steps refuses same v (xs ++ ys) x f
+  pub Stops_behind : {v w x : V} {f : F} {xs : List WalkEvent} (ys : List WalkEvent) → Folds steps v xs w → Stops steps refuses same w ys x f → Stops steps refuses same v (xs ++ ys) x f
   Stops_behind ys through h = h
   Stops_behind ys (after s f) h = later s (Stops_behind ys f h)
 
-  tells_one : {U : Type 0} (v w : V) (e : Event) (r : Result U F) → Hears steps refuses same v e r w → Tells steps refuses same v (e ∷ []) r w
+  tells_one : {U : Type 0} (v w : V) (e : WalkEvent) (r : Result U F) → Hears steps refuses same v e r w → Tells steps refuses same v (e ∷ []) r w
   tells_one v w e (Ok u) h = after h through
   tells_one v w e (Err f) h = refused h.0 h.1
 
-  pub tells_named : {U : Type 0} (v w : V) (e : Event) (es : List Event) (r : Result U F) → Hears steps refuses same v e r w → es ≡ e ∷ [] → Tells steps refuses same v es r w
+  pub tells_named : {U : Type 0} (v w : V) (e : WalkEvent) (es : List WalkEvent) (r : Result U F) → Hears steps refuses same v e r w → es ≡ e ∷ [] → Tells steps refuses same v es r w
   tells_named v w e es r h one = rw one (tells_one v w e r h)
 
-  pub tells_after : {U : Type 0} (v w x : V) (e : Event) (es : List Event) (r : Result U F) → steps v e w → Tells steps refuses same w es r x → Tells steps refuses same v (e ∷ es) r x
+  pub tells_after : {U : Type 0} (v w x : V) (e : WalkEvent) (es : List WalkEvent) (r : Result U F) → steps v e w → Tells steps refuses same w es r x → Tells steps refuses same v (e ∷ es) r x
   tells_after v w x e es (Ok u) s h = after s h
   tells_after v w x e es (Err f) s h = later s h

@@ -6,17 +6,17 @@ use Rattle.walrus_ir.specs.declared.seq.InstrSeq.{InstrSeq}
 use Rattle.walrus_ir.specs.declared.error.WalkError.{WalkError}
 use Rattle.walrus_ir.specs.declared.error.WalkError.TheVariants.{UnknownSequence, SharedSequence}
 use Rattle.walrus_ir.specs.Tree.{Tree}
-use Rattle.walrus_ir.specs.Unfolding.{Placed, Located, IsTree}
-use Rattle.walrus_ir.specs.Faults.{FirstFault}
+use Rattle.walrus_ir.specs.Unfolding.{SequenceAt, LocatedInstr, IsTree}
+use Rattle.walrus_ir.specs.Faults.{FirstWalkFault}
 use Rattle.walrus_ir.specs.WalkLaws.{TreeOrFault}
 use Rattle.walrus_ir.specs.Planning.{IsReached}
 use Rattle.walrus_ir.proofs.Marks.{all_unmarked, unreached, unreached-set}
 use Rattle.walrus_ir.proofs.Planning.{Stands, stands_first, stands_enter, stands_last, reach_within, refused_fault}
 
 abbrev Ends : List InstrSeq → ℕ → Type 0
-Ends b start = ((t : Tree Placed Located) × IsTree b start t) ⊎ ((e : WalkError) × FirstFault b start e)
+Ends b start = ((t : Tree SequenceAt LocatedInstr) × IsTree b start t) ⊎ ((e : WalkError) × FirstWalkFault b start e)
 
--- the walk ends at the next place, or goes on from there
+-- the walk ends at the next slot, or goes on from there
 ends_at : {b : List InstrSeq} {start : ℕ} {marks : List Bool} {order : List ℕ} (p : ℕ) (next : List ℕ) → Stands b start marks order (p ∷ next)
     → (found : Option InstrSeq) (mark : Bool) → slice_get b p ≡ found → get_or marks p false ≡ mark
     → ((seq : InstrSeq) → slice_get b p ≡ Some seq → get_or marks p false ≡ false → Ends b start) → Ends b start

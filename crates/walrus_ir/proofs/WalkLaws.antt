@@ -6,18 +6,18 @@ use Rattle.walrus_ir.specs.declared.seq.InstrSeq.{InstrSeq}
 use Rattle.walrus_ir.specs.declared.error.WalkError.{WalkError}
 use Rattle.walrus_ir.specs.declared.error.WalkError.TheVariants.{UnknownSequence, SharedSequence}
 use Rattle.walrus_ir.specs.Tree.{Items, no_items, item, Sequences, no_sequences, sequence, Tree, alone}
-use Rattle.walrus_ir.specs.Unfolding.{Placed, Located, places_in, places_in_all, AreItems, are_no_items, are_items, AreSequences, are_no_sequences, are_sequences, reached, reached_each, among, Apart}
-use Rattle.walrus_ir.specs.Faults.{Walks, begun, onward, FirstFault, unknown, shared}
+use Rattle.walrus_ir.specs.Unfolding.{SequenceAt, LocatedInstr, slots_in, slots_in_all, AreItems, are_no_items, are_items, AreSequences, are_no_sequences, are_sequences, slots_reached, slots_reached_each, among, Apart}
+use Rattle.walrus_ir.specs.Faults.{Walks, begun, onward, FirstWalkFault, unknown, shared}
 use Rattle.walrus_ir.specs.WalkLaws.{OneTree, TreeHasNoFault, OneFault, TreeIsWalked, WalkMakesTree}
 
 -- ---- one tree
 
 mutual
-  one_items : {b : List InstrSeq} {xs : List Located} {is js : Items Placed Located} → AreItems b xs is → AreItems b xs js → is ≡ js
+  one_items : {b : List InstrSeq} {xs : List LocatedInstr} {is js : Items SequenceAt LocatedInstr} → AreItems b xs is → AreItems b xs js → is ≡ js
   one_items are_no_items are_no_items = refl
   one_items (are_items a r) (are_items a' r') = let inside = one_sequences a a' in let rest = one_items r r' in cc
 
-  one_sequences : {b : List InstrSeq} {ps : List ℕ} {ss ts : Sequences Placed Located} → AreSequences b ps ss → AreSequences b ps ts → ss ≡ ts
+  one_sequences : {b : List InstrSeq} {ps : List ℕ} {ss ts : Sequences SequenceAt LocatedInstr} → AreSequences b ps ss → AreSequences b ps ts → ss ≡ ts
   one_sequences are_no_sequences are_no_sequences = refl
   one_sequences {b = b} (are_sequences {seq = s} k a r) (are_sequences {seq = s'} {items = js} k' a' r') =
       let same : s' ≡ s = cc in
@@ -26,7 +26,7 @@ mutual
       let rest = one_sequences r r' in
       cc
 
-first_of_all : Tree Placed Located → Sequences Placed Located → Tree Placed Located
+first_of_all : Tree SequenceAt LocatedInstr → Sequences SequenceAt LocatedInstr → Tree SequenceAt LocatedInstr
 first_of_all t no_sequences = t
 first_of_all t (sequence head items rest) = record { head = head; items = items }
 
@@ -37,61 +37,61 @@ one_tree b start t u h k = ap (first_of_all t) (one_sequences h.unfolds k.unfold
 -- ---- a tree is walked
 
 mutual
-  apart_before : (is : Items Placed Located) (seen : List ℕ) → Apart (reached is seen) → Apart seen
+  apart_before : (is : Items SequenceAt LocatedInstr) (seen : List ℕ) → Apart (slots_reached is seen) → Apart seen
   apart_before no_items seen h = h
-  apart_before (item x ss rest) seen h = apart_before_each ss seen (apart_before rest (reached_each ss seen) h)
+  apart_before (item x ss rest) seen h = apart_before_each ss seen (apart_before rest (slots_reached_each ss seen) h)
 
-  apart_before_each : (ss : Sequences Placed Located) (seen : List ℕ) → Apart (reached_each ss seen) → Apart seen
+  apart_before_each : (ss : Sequences SequenceAt LocatedInstr) (seen : List ℕ) → Apart (slots_reached_each ss seen) → Apart seen
   apart_before_each no_sequences seen h = h
-  apart_before_each (sequence head is rest) seen h = (apart_before is (head.place ∷ seen) (apart_before_each rest (reached is (head.place ∷ seen)) h)).1
+  apart_before_each (sequence head is rest) seen h = (apart_before is (head.slot ∷ seen) (apart_before_each rest (slots_reached is (head.slot ∷ seen)) h)).1
 
 mutual
-  items_walked : {b : List InstrSeq} {start : ℕ} {xs : List Located} {is : Items Placed Located} (seen next : List ℕ) → AreItems b xs is → Apart (reached is seen)
-      → Walks b start seen (places_in_all xs ++ next) → Walks b start (reached is seen) next
+  items_walked : {b : List InstrSeq} {start : ℕ} {xs : List LocatedInstr} {is : Items SequenceAt LocatedInstr} (seen next : List ℕ) → AreItems b xs is → Apart (slots_reached is seen)
+      → Walks b start seen (slots_in_all xs ++ next) → Walks b start (slots_reached is seen) next
   items_walked seen next are_no_items h w = w
   items_walked {b = b} {start = start} seen next (are_items {x = x} {xs = xs} {inside = ss} {rest = rest} a r) h w =
       let P : List ℕ → Type 0 = λ ns. Walks b start seen ns in
-      let inside_first = subst P (append_assoc (places_in x.0) (places_in_all xs) next) w in
-      items_walked (reached_each ss seen) next r h (sequences_walked seen (places_in_all xs ++ next) a (apart_before rest (reached_each ss seen) h) inside_first)
+      let inside_first = subst P (append_assoc (slots_in x.0) (slots_in_all xs) next) w in
+      items_walked (slots_reached_each ss seen) next r h (sequences_walked seen (slots_in_all xs ++ next) a (apart_before rest (slots_reached_each ss seen) h) inside_first)
 
-  sequences_walked : {b : List InstrSeq} {start : ℕ} {ps : List ℕ} {ss : Sequences Placed Located} (seen next : List ℕ) → AreSequences b ps ss → Apart (reached_each ss seen)
-      → Walks b start seen (ps ++ next) → Walks b start (reached_each ss seen) next
+  sequences_walked : {b : List InstrSeq} {start : ℕ} {ps : List ℕ} {ss : Sequences SequenceAt LocatedInstr} (seen next : List ℕ) → AreSequences b ps ss → Apart (slots_reached_each ss seen)
+      → Walks b start seen (ps ++ next) → Walks b start (slots_reached_each ss seen) next
   sequences_walked seen next are_no_sequences h w = w
   sequences_walked seen next (are_sequences {p = p} {ps = ps} {items = is} {rest = rest} k a r) h w =
-      let inside = apart_before_each rest (reached is (p ∷ seen)) h in
-      sequences_walked (reached is (p ∷ seen)) next r h (items_walked (p ∷ seen) (ps ++ next) a inside (onward w k (apart_before is (p ∷ seen) inside).0))
+      let inside = apart_before_each rest (slots_reached is (p ∷ seen)) h in
+      sequences_walked (slots_reached is (p ∷ seen)) next r h (items_walked (p ∷ seen) (ps ++ next) a inside (onward w k (apart_before is (p ∷ seen) inside).0))
 
 pub tree_is_walked : TreeIsWalked
 tree_is_walked b start t h = sequences_walked [] [] h.unfolds h.apart begun
 
 -- ---- a walk that ends is a tree's
 
--- Q holds of the places that are reached, whatever unfolds at these
+-- Q holds of the slots that are reached, whatever unfolds at these
 abbrev Completes : List InstrSeq → List ℕ → (List ℕ → Type 0) → List ℕ → Type 0
 Completes b [] Q seen = Q seen
-Completes b (p ∷ ps) Q seen = (seq : InstrSeq) (items : Items Placed Located) → slice_get b p ≡ Some seq → AreItems b seq.instrs.items items → Completes b ps Q (reached items (p ∷ seen))
+Completes b (p ∷ ps) Q seen = (seq : InstrSeq) (items : Items SequenceAt LocatedInstr) → slice_get b p ≡ Some seq → AreItems b seq.instrs.items items → Completes b ps Q (slots_reached items (p ∷ seen))
 
 sequences_complete : (b : List InstrSeq) (ps qs : List ℕ) (Q : List ℕ → Type 0) (seen : List ℕ)
-    → ((ss : Sequences Placed Located) → AreSequences b ps ss → Completes b qs Q (reached_each ss seen)) → Completes b (ps ++ qs) Q seen
+    → ((ss : Sequences SequenceAt LocatedInstr) → AreSequences b ps ss → Completes b qs Q (slots_reached_each ss seen)) → Completes b (ps ++ qs) Q seen
 sequences_complete b [] qs Q seen h = h no_sequences are_no_sequences
-sequences_complete b (p ∷ ps) qs Q seen h = λ seq items k a. sequences_complete b ps qs Q (reached items (p ∷ seen)) (λ ss r. h (sequence (record { place = p; seq = seq }) items ss) (are_sequences k a r))
+sequences_complete b (p ∷ ps) qs Q seen h = λ seq items k a. sequences_complete b ps qs Q (slots_reached items (p ∷ seen)) (λ ss r. h (sequence (record { slot = p; seq = seq }) items ss) (are_sequences k a r))
 
-items_complete : (b : List InstrSeq) (xs : List Located) (qs : List ℕ) (Q : List ℕ → Type 0) (seen : List ℕ)
-    → ((is : Items Placed Located) → AreItems b xs is → Completes b qs Q (reached is seen)) → Completes b (places_in_all xs ++ qs) Q seen
+items_complete : (b : List InstrSeq) (xs : List LocatedInstr) (qs : List ℕ) (Q : List ℕ → Type 0) (seen : List ℕ)
+    → ((is : Items SequenceAt LocatedInstr) → AreItems b xs is → Completes b qs Q (slots_reached is seen)) → Completes b (slots_in_all xs ++ qs) Q seen
 items_complete b [] qs Q seen h = h no_items are_no_items
 items_complete b (x ∷ xs) qs Q seen h =
     let P : List ℕ → Type 0 = λ ps. Completes b ps Q seen in
-    subst P (sym (append_assoc (places_in x.0) (places_in_all xs) qs))
-    (sequences_complete b (places_in x.0) (places_in_all xs ++ qs) Q seen (λ ss a. items_complete b xs qs Q (reached_each ss seen) (λ rest r. h (item x ss rest) (are_items a r))))
+    subst P (sym (append_assoc (slots_in x.0) (slots_in_all xs) qs))
+    (sequences_complete b (slots_in x.0) (slots_in_all xs ++ qs) Q seen (λ ss a. items_complete b xs qs Q (slots_reached_each ss seen) (λ rest r. h (item x ss rest) (are_items a r))))
 
--- what unfolds from the start, and reaches these places
+-- what unfolds from the start, and reaches these slots
 record Unfolds (b : List InstrSeq) (start : ℕ) (seen : List ℕ) : Type 0 where
-  pub tree : Tree Placed Located
+  pub tree : Tree SequenceAt LocatedInstr
   pub unfolds : AreSequences b (start ∷ []) (alone tree)
-  pub places : reached_each (alone tree) [] ≡ seen
+  pub slots : slots_reached_each (alone tree) [] ≡ seen
 
 walk_completes : {b : List InstrSeq} {start : ℕ} {seen next : List ℕ} → Walks b start seen next → Completes b next (Unfolds b start) seen
-walk_completes {start = start} begun = λ seq items k a. record { tree = record { head = record { place = start; seq = seq }; items = items }; unfolds = are_sequences k a are_no_sequences; places = refl }
+walk_completes {start = start} begun = λ seq items k a. record { tree = record { head = record { slot = start; seq = seq }; items = items }; unfolds = are_sequences k a are_no_sequences; slots = refl }
 walk_completes {b = b} (onward {seen = seen} {p = p} {next = next} {seq = seq} w k m) =
     let before = walk_completes w in
     items_complete b seq.instrs.items next _ (p ∷ seen) (λ items a. before seq items k a)
@@ -103,7 +103,7 @@ walks_apart (onward w k m) = (m, walks_apart w)
 pub walk_makes_tree : WalkMakesTree
 walk_makes_tree b start seen w =
     let whole = walk_completes w in
-    record { tree = whole.tree; is_tree = record { unfolds = whole.unfolds; apart = subst Apart (sym whole.places) (walks_apart w) }; places = whole.places }
+    record { tree = whole.tree; is_tree = record { unfolds = whole.unfolds; apart = subst Apart (sym whole.slots) (walks_apart w) }; slots = whole.slots }
 
 -- ---- one end
 
@@ -117,9 +117,9 @@ data Ends (b : List InstrSeq) : (seen next : List ℕ) → Option WalkError → 
 data Leads (b : List InstrSeq) : (seen next seen' next' : List ℕ) → Type 0 where
   stays : {seen next : List ℕ} → Leads b seen next seen next
   goes : {seen next seen' next' : List ℕ} {p : ℕ} {seq : InstrSeq} → slice_get b p ≡ Some seq → among p seen ≡ false
-      → Leads b (p ∷ seen) (places_in_all seq.instrs.items ++ next) seen' next' → Leads b seen (p ∷ next) seen' next'
+      → Leads b (p ∷ seen) (slots_in_all seq.instrs.items ++ next) seen' next' → Leads b seen (p ∷ next) seen' next'
 
-leads_more : {b : List InstrSeq} {s n s' n' : List ℕ} {p : ℕ} (seq : InstrSeq) → Leads b s n s' (p ∷ n') → slice_get b p ≡ Some seq → among p s' ≡ false → Leads b s n (p ∷ s') (places_in_all seq.instrs.items ++ n')
+leads_more : {b : List InstrSeq} {s n s' n' : List ℕ} {p : ℕ} (seq : InstrSeq) → Leads b s n s' (p ∷ n') → slice_get b p ≡ Some seq → among p s' ≡ false → Leads b s n (p ∷ s') (slots_in_all seq.instrs.items ++ n')
 leads_more seq stays k m = goes k m stays
 leads_more seq (goes k' m' l) k m = goes k' m' (leads_more seq l k m)
 
@@ -127,7 +127,7 @@ leads_to : {b : List InstrSeq} {start : ℕ} {seen next : List ℕ} → Walks b 
 leads_to begun = stays
 leads_to (onward {seq = seq} w k m) = leads_more seq (leads_to w) k m
 
--- every place that was reached is known
+-- every slot that was reached is known
 Known : List InstrSeq → List ℕ → Type 0
 Known b seen = (q : ℕ) → among q seen ≡ true → slice_get b q ≡ None → ⊥
 
@@ -165,7 +165,7 @@ one_end h stays (goes k m l) e f = absurd (no_way k m e)
 one_end h (goes k m l) stays e f = absurd (no_way k m f)
 one_end {b = b} {s = s} {s'' = s''} {n'' = n''} h (goes {next = next} {p = p} {seq = seq} k m l) (goes {seq = other} k' m' l') e f =
     let same : other ≡ seq = cc in
-    let P : InstrSeq → Type 0 = λ z. Leads b (p ∷ s) (places_in_all z.instrs.items ++ next) s'' n'' in
+    let P : InstrSeq → Type 0 = λ z. Leads b (p ∷ s) (slots_in_all z.instrs.items ++ next) s'' n'' in
     one_end (known_more b s p seq k h) l (subst P same l') e f
 
 -- a state that the walk comes to, and how it ends there
@@ -178,7 +178,7 @@ record ComesTo (b : List InstrSeq) (start : ℕ) (x : Option WalkError) : Type 0
 comes_to : {b : List InstrSeq} {start : ℕ} {seen next : List ℕ} {x : Option WalkError} → Walks b start seen next → Ends b seen next x → ComesTo b start x
 comes_to {seen = seen} {next = next} w e = record { seen = seen; next = next; leads = leads_to w; ends = e }
 
-fault_ends : {b : List InstrSeq} {start : ℕ} {e : WalkError} → FirstFault b start e → ComesTo b start (Some e)
+fault_ends : {b : List InstrSeq} {start : ℕ} {e : WalkError} → FirstWalkFault b start e → ComesTo b start (Some e)
 fault_ends (unknown w n) = comes_to w (is_unknown n)
 fault_ends (shared w m) = comes_to w (is_shared m)
 

@@ -5,7 +5,7 @@ use Rattle.walrus_ir.specs.declared.seq.InstrSeq.{InstrSeq}
 use Rattle.walrus_ir.specs.declared.val_type.InstrSeqType.{InstrSeqType}
 use Rattle.walrus_ir.specs.Locations.{default_location}
 
--- the function's type, its sequences by their places, and its entry
+-- the function's type, its sequences by their slots, and its entry
 abbrev pub type_of : FunctionBuilder → ℕ
 type_of b = b.ty
 

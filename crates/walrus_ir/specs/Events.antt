@@ -5,18 +5,18 @@ use Rattle.walrus_ir.specs.declared.instr.Instr.{Instr}
 use Rattle.walrus_ir.specs.declared.instr.Instr.TheVariants.{RefFunc, LocalGet, LocalSet, LocalTee}
 use Rattle.walrus_ir.specs.declared.instr.Instr.TheVariants.{MemoryInit, DataDrop, ArrayNewData, ArrayInitData}
 use Rattle.walrus_ir.specs.Tree.{Items, no_items, item, Sequences, no_sequences, sequence, Tree, alone}
-use Rattle.walrus_ir.specs.Unfolding.{Placed, Located}
+use Rattle.walrus_ir.specs.Unfolding.{SequenceAt, LocatedInstr}
 
-pub data Event : Type 0 where
-  StartSequence : InstrSeq → Event
-  EndSequence : InstrSeq → Event
-  VisitInstruction : Instr → (location : ℕ) → Event
-  NameFunction : ℕ → Event
-  NameLocal : ℕ → Event
-  NameData : ℕ → Event
+pub data WalkEvent : Type 0 where
+  StartSequence : InstrSeq → WalkEvent
+  EndSequence : InstrSeq → WalkEvent
+  VisitInstruction : Instr → (location : ℕ) → WalkEvent
+  NameFunction : ℕ → WalkEvent
+  NameLocal : ℕ → WalkEvent
+  NameData : ℕ → WalkEvent
 
 -- what an instruction names: the function of a `ref.func`, a local or a data segment
-abbrev pub names : Instr → List Event
+abbrev pub names : Instr → List WalkEvent
 names (RefFunc x) = NameFunction x.func ∷ []
 names (LocalGet x) = NameLocal x.local ∷ []
 names (LocalSet x) = NameLocal x.local ∷ []
@@ -29,47 +29,47 @@ names _ = []
 
 -- the events, and then these: an instruction is visited before what it names, and that before what is inside it
 abbrev mutual
-  pub item_events : Items Placed Located → List Event → List Event
+  pub item_events : Items SequenceAt LocatedInstr → List WalkEvent → List WalkEvent
   item_events no_items later = later
   item_events (item x inside rest) later =
       VisitInstruction x.0 x.1 ∷ (names x.0 ++ sequence_events inside (item_events rest later))
 
-  pub sequence_events : Sequences Placed Located → List Event → List Event
+  pub sequence_events : Sequences SequenceAt LocatedInstr → List WalkEvent → List WalkEvent
   sequence_events no_sequences later = later
   sequence_events (sequence head items rest) later =
       StartSequence head.seq ∷ item_events items (EndSequence head.seq ∷ sequence_events rest later)
 
-abbrev pub events : Tree Placed Located → List Event
+abbrev pub events : Tree SequenceAt LocatedInstr → List WalkEvent
 events t = sequence_events (alone t) []
 
 -- What a visitor means: `steps s e t`, at the state s it may take the event e, and is then at t; `refuses s e f`, at s it
 -- may refuse e with the fault f; `same s t`, at t it is as it was at s.
 
 -- states that are the same take the same steps, and refuse the same events with the same faults
-abbrev pub AreStepsAlike : {V : Type 0} → (V → V → Type 0) → (V → Event → V → Type 0) → Type 0
-AreStepsAlike {V = V} same steps = (s s' t t' : V) (e : Event) → same s s' → same t t' → steps s e t → steps s' e t'
+abbrev pub AreStepsAlike : {V : Type 0} → (V → V → Type 0) → (V → WalkEvent → V → Type 0) → Type 0
+AreStepsAlike {V = V} same steps = (s s' t t' : V) (e : WalkEvent) → same s s' → same t t' → steps s e t → steps s' e t'
 
-abbrev pub AreRefusalsAlike : {V F : Type 0} → (V → V → Type 0) → (V → Event → F → Type 0) → Type 0
-AreRefusalsAlike {V = V} {F = F} same refuses = (s s' : V) (e : Event) (f : F) → same s s' → refuses s e f → refuses s' e f
+abbrev pub AreRefusalsAlike : {V F : Type 0} → (V → V → Type 0) → (V → WalkEvent → F → Type 0) → Type 0
+AreRefusalsAlike {V = V} {F = F} same refuses = (s s' : V) (e : WalkEvent) (f : F) → same s s' → refuses s e f → refuses s' e f
 
 -- from one state to another through these events
-pub data Folds {V : Type 0} (steps : V → Event → V → Type 0) : V → List Event → V → Type 0 where
+pub data Folds {V : Type 0} (steps : V → WalkEvent → V → Type 0) : V → List WalkEvent → V → Type 0 where
   through : {v : V} → Folds steps v [] v
-  after : {v w x : V} {e : Event} {es : List Event} → steps v e w → Folds steps w es x → Folds steps v (e ∷ es) x
+  after : {v w x : V} {e : WalkEvent} {es : List WalkEvent} → steps v e w → Folds steps w es x → Folds steps v (e ∷ es) x
 
 -- from one state to another through some of these events, where the next one is refused with a fault
-pub data Stops {V F : Type 0} (steps : V → Event → V → Type 0) (refuses : V → Event → F → Type 0) (same : V → V → Type 0)
-    : V → List Event → V → F → Type 0 where
-  refused : {v w : V} {e : Event} {es : List Event} {f : F} → refuses v e f → same v w → Stops steps refuses same v (e ∷ es) w f
-  later : {v w x : V} {e : Event} {es : List Event} {f : F}
+pub data Stops {V F : Type 0} (steps : V → WalkEvent → V → Type 0) (refuses : V → WalkEvent → F → Type 0) (same : V → V → Type 0)
+    : V → List WalkEvent → V → F → Type 0 where
+  refused : {v w : V} {e : WalkEvent} {es : List WalkEvent} {f : F} → refuses v e f → same v w → Stops steps refuses same v (e ∷ es) w f
+  later : {v w x : V} {e : WalkEvent} {es : List WalkEvent} {f : F}
       → steps v e w → Stops steps refuses same w es x f → Stops steps refuses same v (e ∷ es) x f
 
 -- a visitor's answer to one event: it took it, or it refused it and is as it was
-abbrev pub Hears : {V F U : Type 0} → (V → Event → V → Type 0) → (V → Event → F → Type 0) → (V → V → Type 0)
-    → V → Event → Result U F → V → Type 0
+abbrev pub Hears : {V F U : Type 0} → (V → WalkEvent → V → Type 0) → (V → WalkEvent → F → Type 0) → (V → V → Type 0)
+    → V → WalkEvent → Result U F → V → Type 0
 Hears steps refuses same v e r w = MatchResult r (λ _. steps v e w) (λ f. refuses v e f × same v w)
 
 -- a visitor's answer to some events
-abbrev pub Tells : {V F U : Type 0} → (V → Event → V → Type 0) → (V → Event → F → Type 0) → (V → V → Type 0)
-    → V → List Event → Result U F → V → Type 0
+abbrev pub Tells : {V F U : Type 0} → (V → WalkEvent → V → Type 0) → (V → WalkEvent → F → Type 0) → (V → V → Type 0)
+    → V → List WalkEvent → Result U F → V → Type 0
 Tells steps refuses same v es r w = MatchResult r (λ _. Folds steps v es w) (λ f. Stops steps refuses same v es w f)

@@ -3,19 +3,19 @@ use Rattle.std.specs.Prelude.{◌≡◌, ℕ, List, [], ◌∷◌, ◌++◌, tru
 use Rattle.walrus_ir.specs.declared.seq.InstrSeq.{InstrSeq}
 use Rattle.walrus_ir.specs.declared.error.WalkError.{WalkError}
 use Rattle.walrus_ir.specs.declared.error.WalkError.TheVariants.{UnknownSequence, SharedSequence}
-use Rattle.walrus_ir.specs.Unfolding.{places_in_all, among}
+use Rattle.walrus_ir.specs.Unfolding.{slots_in_all, among}
 
 -- The walk in its order, without a tree: it has reached the sequences `seen`, the last first, which are all known and
--- apart, and goes on to the places `next`. Those in a sequence come behind it, before what stood behind it.
+-- apart, and goes on to the slots `next`. Those in a sequence come behind it, before what stood behind it.
 pub data Walks (b : List InstrSeq) (start : ℕ) : (seen next : List ℕ) → Type 0 where
   begun : Walks b start [] (start ∷ [])
   onward : {seen : List ℕ} {p : ℕ} {next : List ℕ} {seq : InstrSeq}
       → Walks b start seen (p ∷ next) → slice_get b p ≡ Some seq → among p seen ≡ false
-      → Walks b start (p ∷ seen) (places_in_all seq.instrs.items ++ next)
+      → Walks b start (p ∷ seen) (slots_in_all seq.instrs.items ++ next)
 
--- the first place in walk order that isn't known or was reached before, and which of both it is
-pub data FirstFault (b : List InstrSeq) (start : ℕ) : WalkError → Type 0 where
+-- the first slot in walk order that isn't known or was reached before, and which of both it is
+pub data FirstWalkFault (b : List InstrSeq) (start : ℕ) : WalkError → Type 0 where
   unknown : {seen : List ℕ} {p : ℕ} {next : List ℕ}
-      → Walks b start seen (p ∷ next) → slice_get b p ≡ None → FirstFault b start UnknownSequence
+      → Walks b start seen (p ∷ next) → slice_get b p ≡ None → FirstWalkFault b start UnknownSequence
   shared : {seen : List ℕ} {p : ℕ} {next : List ℕ}
-      → Walks b start seen (p ∷ next) → among p seen ≡ true → FirstFault b start SharedSequence
+      → Walks b start seen (p ∷ next) → among p seen ≡ true → FirstWalkFault b start SharedSequence

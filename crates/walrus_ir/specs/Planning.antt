@@ -11,12 +11,12 @@ use Rattle.walrus_ir.specs.declared.plan.Plan.{Plan}
 use Rattle.walrus_ir.specs.declared.plan.Task.{Task}
 use Rattle.walrus_ir.specs.declared.plan.Task.TheVariants.{Enter, Resume, Clauses}
 use Rattle.walrus_ir.specs.Tree.{Tree, alone}
-use Rattle.walrus_ir.specs.Unfolding.{Placed, Located, handlers, places_in, places_in_all, reached_each, IsTree}
+use Rattle.walrus_ir.specs.Unfolding.{SequenceAt, LocatedInstr, handlers, slots_in, slots_in_all, slots_reached_each, IsTree}
 
--- the places that a task goes on to, and those that the tasks on a stack go on to, the top first
+-- the slots that a task goes on to, and those that the tasks on a stack go on to, the top first
 abbrev pub goes_to : Task → List ℕ
 goes_to (Enter p) = p ∷ []
-goes_to (Resume rest) = places_in_all rest.now
+goes_to (Resume rest) = slots_in_all rest.now
 goes_to (Clauses rest) = handlers rest.now
 
 abbrev pub agenda : List Task → List ℕ
@@ -32,7 +32,7 @@ work_of (TryTable x) = 1
 work_of (Try x) = 2 + 2 * length x.catches.items
 work_of _ = 0
 
-abbrev pub work_of_all : List Located → ℕ
+abbrev pub work_of_all : List LocatedInstr → ℕ
 work_of_all [] = 0
 work_of_all (x ∷ xs) = 1 + (work_of x.0 + work_of_all xs)
 
@@ -44,14 +44,14 @@ work_of_task (Clauses rest) = 1 + 2 * length rest.now
 abbrev pub work : List Task → ℕ
 work tasks = sum_by work_of_task tasks
 
--- the tasks on a stack go on to these places first, and take no more work than these more
-pub record Adds (old new : List Task) (places : List ℕ) (more : ℕ) : Type 0 where
-  pub goes : agenda new ≡ places ++ agenda old
+-- the tasks on a stack go on to these slots first, and take no more work than these more
+pub record Adds (old new : List Task) (slots : List ℕ) (more : ℕ) : Type 0 where
+  pub goes : agenda new ≡ slots ++ agenda old
   pub falls : work new ≤ more + work old
 
 -- the first of the instructions that holds sequences, and those behind it
-pub record IsNextHolder (all : List Located) (holder : Instr) (behind : List Located) : Type 0 where
-  pub goes : places_in_all all ≡ places_in holder ++ places_in_all behind
+pub record IsNextHolder (all : List LocatedInstr) (holder : Instr) (behind : List LocatedInstr) : Type 0 where
+  pub goes : slots_in_all all ≡ slots_in holder ++ slots_in_all behind
   pub falls : 1 + (work_of holder + work_of_all behind) ≤ work_of_all all
 
 -- why a sequence is not reached
@@ -71,9 +71,9 @@ pub record IsEntered (b : List InstrSeq) (p : ℕ) (old new : Plan) : Type 0 whe
   pub seq : InstrSeq
   pub reached : IsReached b p seq old.reached.items new.reached.items
   pub ordered : new.order.items ≡ old.order.items ++ p ∷ []
-  pub adds : Adds old.tasks.items new.tasks.items (places_in_all seq.instrs.items) (1 + work_of_all seq.instrs.items)
+  pub adds : Adds old.tasks.items new.tasks.items (slots_in_all seq.instrs.items) (1 + work_of_all seq.instrs.items)
 
--- nothing is reached, and the tasks go on to the same places
+-- nothing is reached, and the tasks go on to the same slots
 pub record IsGoneOn (task : Task) (old new : Plan) : Type 0 where
   pub same_marks : new.reached.items ≡ old.reached.items
   pub same_order : new.order.items ≡ old.order.items
@@ -90,8 +90,8 @@ abbrev pub IsNotDone : List InstrSeq → List Bool → Task → WalkError → Ty
 IsNotDone b marks (Enter p) e = IsRefusedAt b marks p e
 IsNotDone b marks _ e = ⊥
 
--- these are the places of the tree from a sequence on, in walk order
+-- these are the slots of the tree from a sequence on, in walk order
 pub record IsOrder (b : List InstrSeq) (start : ℕ) (order : List ℕ) : Type 0 where
-  pub tree : Tree Placed Located
+  pub tree : Tree SequenceAt LocatedInstr
   pub is_tree : IsTree b start tree
-  pub places : order ≡ reverse (reached_each (alone tree) [])
+  pub slots : order ≡ reverse (slots_reached_each (alone tree) [])

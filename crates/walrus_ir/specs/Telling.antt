@@ -1,14 +1,14 @@
--- What is kept while a walk is told: the sequences that are open, and the places of those that are to come.
+-- What is kept while a walk is told: the sequences that are open, and the slots of those that are to come.
 use Rattle.std.specs.Prelude.{◌≡◌, ℕ, suc, List, [], ◌∷◌, ◌++◌, Some, length, map, reverse, slice_get}
 use Rattle.walrus_ir.specs.declared.seq.InstrSeq.{InstrSeq}
 use Rattle.walrus_ir.specs.declared.walk.Open.{Open}
-use Rattle.walrus_ir.specs.Unfolding.{Located, places_in}
-use Rattle.walrus_ir.specs.Events.{Event, StartSequence, EndSequence, VisitInstruction, names}
+use Rattle.walrus_ir.specs.Unfolding.{LocatedInstr, slots_in}
+use Rattle.walrus_ir.specs.Events.{WalkEvent, StartSequence, EndSequence, VisitInstruction, names}
 
 -- an open sequence: the instructions that are left of it, and how many of the sequences inside the last one are to come
 pub record Frame : Type 0 where
   pub seq : InstrSeq
-  pub rest : List Located
+  pub rest : List LocatedInstr
   pub inside : ℕ
 
 abbrev pub frame : Open → Frame
@@ -23,50 +23,50 @@ started seq = record { seq = seq; rest = seq.instrs.items; inside = 0 }
 
 -- A stretch of instructions, from the front of these to those that are left: the events that visit them. Only the last may
 -- hold sequences, this many.
-pub data IsStretch (all : List Located) : (left : List Located) (inside : ℕ) → List Event → Type 0 where
+pub data IsStretch (all : List LocatedInstr) : (left : List LocatedInstr) (inside : ℕ) → List WalkEvent → Type 0 where
   no_stretch : IsStretch all all 0 []
-  goes_on : {x : Located} {left : List Located} {es : List Event} → IsStretch all (x ∷ left) 0 es
-      → IsStretch all left (length (places_in x.0)) (es ++ VisitInstruction x.0 x.1 ∷ names x.0)
+  goes_on : {x : LocatedInstr} {left : List LocatedInstr} {es : List WalkEvent} → IsStretch all (x ∷ left) 0 es
+      → IsStretch all left (length (slots_in x.0)) (es ++ VisitInstruction x.0 x.1 ∷ names x.0)
 
--- What comes next at the innermost open sequence: the events that are told, the sequences that are open in its place then,
--- and the places that are to come then. A sequence inside the last instruction starts; else a stretch of instructions is
+-- What comes next at the innermost open sequence: the events that are told, the sequences that are open in its slot then,
+-- and the slots that are to come then. A sequence inside the last instruction starts; else a stretch of instructions is
 -- visited, behind which the sequence ends if none is left.
-pub data Next (b : List InstrSeq) : Frame → (coming : List ℕ) → List Event → (opened : List Frame) → (coming' : List ℕ) → Type 0 where
-  starts : {seq inner : InstrSeq} {rest : List Located} {n p : ℕ} {coming : List ℕ} → slice_get b p ≡ Some inner
+pub data Next (b : List InstrSeq) : Frame → (coming : List ℕ) → List WalkEvent → (opened : List Frame) → (coming' : List ℕ) → Type 0 where
+  starts : {seq inner : InstrSeq} {rest : List LocatedInstr} {n p : ℕ} {coming : List ℕ} → slice_get b p ≡ Some inner
       → Next b (record { seq = seq; rest = rest; inside = suc n }) (p ∷ coming)
       (StartSequence inner ∷ []) (started inner ∷ record { seq = seq; rest = rest; inside = n } ∷ []) coming
-  visits : {seq : InstrSeq} {x : Located} {rest left : List Located} {es : List Event} {coming : List ℕ} → IsStretch rest (x ∷ left) 0 es
+  visits : {seq : InstrSeq} {x : LocatedInstr} {rest left : List LocatedInstr} {es : List WalkEvent} {coming : List ℕ} → IsStretch rest (x ∷ left) 0 es
       → Next b (record { seq = seq; rest = rest; inside = 0 }) coming
-      (es ++ VisitInstruction x.0 x.1 ∷ names x.0) (record { seq = seq; rest = left; inside = length (places_in x.0) } ∷ []) coming
-  ends : {seq : InstrSeq} {rest : List Located} {es : List Event} {coming : List ℕ} → IsStretch rest [] 0 es
+      (es ++ VisitInstruction x.0 x.1 ∷ names x.0) (record { seq = seq; rest = left; inside = length (slots_in x.0) } ∷ []) coming
+  ends : {seq : InstrSeq} {rest : List LocatedInstr} {es : List WalkEvent} {coming : List ℕ} → IsStretch rest [] 0 es
       → Next b (record { seq = seq; rest = rest; inside = 0 }) coming (es ++ EndSequence seq ∷ []) [] coming
 
 -- a stretch was told
-pub record IsToldStretch (all left : List Located) (inside : ℕ) (Told : List Event → Type 0) : Type 0 where
-  pub events : List Event
+pub record IsToldStretch (all left : List LocatedInstr) (inside : ℕ) (Told : List WalkEvent → Type 0) : Type 0 where
+  pub events : List WalkEvent
   pub stretch : IsStretch all left inside events
   pub told : Told events
 
 -- a stretch was told up to an event that was refused, which is of its last instruction
-pub record IsRefusedStretch (all : List Located) (Stopped : List Event → Type 0) : Type 0 where
-  pub before : List Event
-  pub last : Located
-  pub left : List Located
+pub record IsRefusedStretch (all : List LocatedInstr) (Stopped : List WalkEvent → Type 0) : Type 0 where
+  pub before : List WalkEvent
+  pub last : LocatedInstr
+  pub left : List LocatedInstr
   pub stretch : IsStretch all (last ∷ left) 0 before
   pub stopped : Stopped (before ++ VisitInstruction last.0 last.1 ∷ names last.0)
 
 -- what comes next was told
 pub record IsToldNext (b : List InstrSeq) (f : Frame) (coming : List ℕ) (fs : List Frame)
-    (Told : List Event → Type 0) (fs' : List Frame) (coming' : List ℕ) : Type 0 where
-  pub events : List Event
+    (Told : List WalkEvent → Type 0) (fs' : List Frame) (coming' : List ℕ) : Type 0 where
+  pub events : List WalkEvent
   pub opened : List Frame
   pub next : Next b f coming events opened coming'
   pub told : Told events
   pub stack : fs' ≡ opened ++ fs
 
 -- what comes next was told up to an event that was refused
-pub record IsRefusedNext (b : List InstrSeq) (f : Frame) (coming : List ℕ) (Stopped : List Event → Type 0) : Type 0 where
-  pub events : List Event
+pub record IsRefusedNext (b : List InstrSeq) (f : Frame) (coming : List ℕ) (Stopped : List WalkEvent → Type 0) : Type 0 where
+  pub events : List WalkEvent
   pub opened : List Frame
   pub coming' : List ℕ
   pub next : Next b f coming events opened coming'

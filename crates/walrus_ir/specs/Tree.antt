@@ -21,10 +21,10 @@ alone t = sequence t.head t.items no_sequences
 
 -- the same shape with something else at each sequence and instruction
 abbrev mutual
-  pub mapped : {S I T J : Type 0} → (S → T) → (I → J) → Items S I → Items T J
-  mapped f g no_items = no_items
-  mapped f g (item i ss r) = item (g i) (mapped_each f g ss) (mapped f g r)
+  pub map_items : {S I T J : Type 0} → (S → T) → (I → J) → Items S I → Items T J
+  map_items f g no_items = no_items
+  map_items f g (item i ss r) = item (g i) (map_sequences f g ss) (map_items f g r)
 
-  pub mapped_each : {S I T J : Type 0} → (S → T) → (I → J) → Sequences S I → Sequences T J
-  mapped_each f g no_sequences = no_sequences
-  mapped_each f g (sequence h is r) = sequence (f h) (mapped f g is) (mapped_each f g r)
+  pub map_sequences : {S I T J : Type 0} → (S → T) → (I → J) → Sequences S I → Sequences T J
+  map_sequences f g no_sequences = no_sequences
+  map_sequences f g (sequence h is r) = sequence (f h) (map_items f g is) (map_sequences f g r)

@@ -10,7 +10,7 @@ use crate::seq::InstrSeq;
 use crate::val_type::InstrSeqType;
 use std::alloc::{AllocError, Global};
 
-/// The sequences of a function. Instructions name them by their places here.
+/// The sequences of a function. Instructions name them by their slots here.
 #[derive(Drop)]
 pub struct FunctionBuilder {
     ty: TypeId,
@@ -76,14 +76,14 @@ impl FunctionBuilder {
         self.entry = Some(id);
     }
 
-    /// Whether a sequence stands at this place.
+    /// Whether a sequence stands at this slot.
     pub fn has(&self, id: InstrSeqId) -> bool
         ensures { IsTrue result ↔ (id < length (arena self.now)) }
     {
         id.index() < self.seqs.len()
     }
 
-    /// The sequence at this place.
+    /// The sequence at this slot.
     pub fn seq(&self, id: InstrSeqId) -> &InstrSeq
         requires { id < length (arena self.now) }
         ensures { slice_get (arena self.now) id ≡ Some result.now }
@@ -91,7 +91,7 @@ impl FunctionBuilder {
         &self.seqs[id.index()]
     }
 
-    /// The sequence at this place, to be changed. Every other sequence stays.
+    /// The sequence at this slot, to be changed. Every other sequence stays.
     pub fn seq_mut(&mut self, id: InstrSeqId) -> &mut InstrSeq
         requires { id < length (arena self.old) }
         ensures* writes_back { sem 𝓛 (LendsSequence self.entry id result) }

@@ -79,7 +79,7 @@ pub type DataId = Id<kind::Data>;
 pub type TagId = Id<kind::Tag>;
 /// A local of the module; each function has its own.
 pub type LocalId = Id<kind::Local>;
-/// A sequence of instructions, by its place in its builder.
+/// A sequence of instructions, by its slot in its builder.
 pub type InstrSeqId = Id<kind::InstrSeq>;
 
 /// A hashed map from ids.

@@ -1,7 +1,7 @@
 //! The plan of a walk: which sequences it enters, one after the other, if they are a tree.
 ghost use Rattle.std.specs.Prelude.{◌≡◌, ◌⊎◌, ◌+◌, ◌*◌, [], length, OnOk, MatchOption, MatchResult, vec_len};
 ghost use Rattle.walrus_ir.specs.Arena.{arena};
-ghost use Rattle.walrus_ir.specs.Unfolding.{handlers, places_in, places_in_all};
+ghost use Rattle.walrus_ir.specs.Unfolding.{handlers, slots_in, slots_in_all};
 ghost use Rattle.walrus_ir.specs.Walk.{HasNoWalk};
 ghost use Rattle.walrus_ir.specs.Planning.{work_of, work_of_all, Adds, IsRefusedAt, IsReached};
 ghost use Rattle.walrus_ir.specs.Planning.{IsEntered, IsDone, IsNotDone, IsOrder, IsNextHolder};
@@ -19,7 +19,7 @@ use std::alloc::AllocError;
 /// What is left to be looked at.
 #[derive(Clone, Copy)]
 pub(crate) enum Task<'a> {
-    /// The sequence at this place.
+    /// The sequence at this slot.
     Enter(usize),
     /// These instructions of a sequence.
     Resume(&'a [(Instr, InstrLocId)]),
@@ -30,7 +30,7 @@ pub(crate) enum Task<'a> {
 /// What is kept while the plan is made.
 #[derive(Drop)]
 pub(crate) struct Plan<'a> {
-    /// Whether a sequence was reached, by its place.
+    /// Whether a sequence was reached, by its slot.
     reached: Vec<bool>,
     /// The sequences that were reached, in walk order.
     order: Vec<InstrSeqId>,
@@ -50,7 +50,7 @@ fn count_handlers(clauses: &[LegacyCatch]) -> usize
 
 /// How many sequences are inside an instruction.
 pub(crate) fn count_inside(instr: &Instr) -> usize
-    ensures { result ≡ length (places_in instr.now) }
+    ensures { result ≡ length (slots_in instr.now) }
 {
     match instr {
         Instr::Block(_) | Instr::Loop(_) | Instr::TryTable(_) => 1,
@@ -62,7 +62,7 @@ pub(crate) fn count_inside(instr: &Instr) -> usize
 
 // The first instruction that sequences are in, and the instructions behind it.
 fn next_holder(instrs: &[(Instr, InstrLocId)]) -> Option<(&Instr, &[(Instr, InstrLocId)])>
-    ensures { MatchOption result (places_in_all instrs.now ≡ [])
+    ensures { MatchOption result (slots_in_all instrs.now ≡ [])
         (λ found. IsNextHolder instrs.now found.0.now found.1.now) }
 {
     let mut left = instrs;
@@ -78,7 +78,7 @@ fn next_holder(instrs: &[(Instr, InstrLocId)]) -> Option<(&Instr, &[(Instr, Inst
 // Puts what is inside an instruction on the stack, the first on top.
 fn push_inside<'a>(tasks: &mut Vec<Task<'a>>, instr: &'a Instr) -> Result<(), AllocError>
     ensures { OnOk result
-        (Adds tasks.old.items tasks.new.items (places_in instr.now) (work_of instr.now)) }
+        (Adds tasks.old.items tasks.new.items (slots_in instr.now) (work_of instr.now)) }
 {
     match instr {
         Instr::Block(x) => tasks.push(Task::Enter(x.seq.index()))?,
@@ -103,7 +103,7 @@ fn resume<'a>(
     instrs: &'a [(Instr, InstrLocId)],
 ) -> Result<(), AllocError>
     ensures { OnOk result
-        (Adds tasks.old.items tasks.new.items (places_in_all instrs.now) (work_of_all instrs.now)) }
+        (Adds tasks.old.items tasks.new.items (slots_in_all instrs.now) (work_of_all instrs.now)) }
 {
     if let Some((holder, behind)) = next_holder(instrs) {
         tasks.push(Task::Resume(behind))?;
@@ -128,38 +128,38 @@ fn handle<'a>(tasks: &mut Vec<Task<'a>>, clauses: &'a [LegacyCatch]) -> Result<(
     Ok(())
 }
 
-// The sequence at a place, which is marked, if it is known and was not reached before.
+// The sequence at a slot, which is marked, if it is known and was not reached before.
 fn reach<'a>(
     reached: &mut Vec<bool>,
     builder: &'a FunctionBuilder,
-    place: usize,
+    slot: usize,
 ) -> Result<&'a InstrSeq, WalkError>
     requires { vec_len reached.old ≡ length (arena builder.now) }
     ensures { MatchResult result
-        (λ seq. IsReached (arena builder.now) place seq.now reached.old.items reached.new.items)
-        (IsRefusedAt (arena builder.now) reached.old.items place) }
+        (λ seq. IsReached (arena builder.now) slot seq.now reached.old.items reached.new.items)
+        (IsRefusedAt (arena builder.now) reached.old.items slot) }
 {
-    let id = InstrSeqId::new(place);
+    let id = InstrSeqId::new(slot);
     if !builder.has(id) {
         return Err(WalkError::UnknownSequence);
     }
-    if reached[place] {
+    if reached[slot] {
         return Err(WalkError::SharedSequence);
     }
-    reached[place] = true;
+    reached[slot] = true;
     Ok(builder.seq(id))
 }
 
 impl<'a> Plan<'a> {
     // Enters a sequence.
-    fn enter(&mut self, builder: &'a FunctionBuilder, place: usize) -> Result<(), WalkError>
+    fn enter(&mut self, builder: &'a FunctionBuilder, slot: usize) -> Result<(), WalkError>
         requires { vec_len self.old.reached ≡ length (arena builder.now) }
         ensures { MatchResult result
-            (λ _. IsEntered (arena builder.now) place self.old self.new)
-            (λ e. (e ≡ Memory) ⊎ IsRefusedAt (arena builder.now) self.old.reached.items place e) }
+            (λ _. IsEntered (arena builder.now) slot self.old self.new)
+            (λ e. (e ≡ Memory) ⊎ IsRefusedAt (arena builder.now) self.old.reached.items slot e) }
     {
-        let seq = reach(&mut self.reached, builder, place)?;
-        self.order.push(InstrSeqId::new(place))?;
+        let seq = reach(&mut self.reached, builder, slot)?;
+        self.order.push(InstrSeqId::new(slot))?;
         self.tasks.push(Task::Resume(seq.instrs.as_slice()))?;
         Ok(())
     }
@@ -172,7 +172,7 @@ impl<'a> Plan<'a> {
             (λ e. (e ≡ Memory) ⊎ IsNotDone (arena builder.now) self.old.reached.items task.entry e) }
     {
         match task {
-            Task::Enter(place) => self.enter(builder, place)?,
+            Task::Enter(slot) => self.enter(builder, slot)?,
             Task::Resume(instrs) => resume(&mut self.tasks, instrs)?,
             Task::Clauses(clauses) => handle(&mut self.tasks, clauses)?,
         }
@@ -180,7 +180,7 @@ impl<'a> Plan<'a> {
     }
 }
 
-/// The sequences from one on, each by its place, in the order in which a walk enters them, if they are a tree. Beside the
+/// The sequences from one on, each by its slot, in the order in which a walk enters them, if they are a tree. Beside the
 /// result it takes memory for a mark a sequence of the builder, and for the sequences that are open at once.
 pub(crate) fn walk_order(
     builder: &FunctionBuilder,

@@ -7,7 +7,7 @@ use crate::instr::Instr;
 use crate::location::InstrLocId;
 use crate::val_type::InstrSeqType;
 
-/// A sequence of instructions. It is known by its place in its function's builder.
+/// A sequence of instructions. It is known by its slot in its function's builder.
 #[derive(Drop)]
 pub struct InstrSeq {
     pub(crate) id: InstrSeqId,
@@ -21,7 +21,7 @@ pub struct InstrSeq {
 
 impl InstrSeq {
     /// The id that `FunctionBuilder::alloc` gave it. It moves with the sequence where two are swapped, so it need not
-    /// be the place where the sequence stands.
+    /// be the slot where the sequence stands.
     pub fn id(&self) -> InstrSeqId
         ensures { result ≡ id_of self.now }
     {

@@ -17,13 +17,13 @@ pub trait Visitor {
     type Fault: From<WalkError>;
 
     ghost use Rattle.std.specs.Prelude.{◌≡◌};
-    ghost use Rattle.walrus_ir.specs.Events.{Event, StartSequence, EndSequence, VisitInstruction, Hears};
+    ghost use Rattle.walrus_ir.specs.Events.{WalkEvent, StartSequence, EndSequence, VisitInstruction, Hears};
     ghost use Rattle.walrus_ir.specs.Events.{NameFunction, NameLocal, NameData};
     ghost use Rattle.walrus_ir.specs.Events.{AreStepsAlike, AreRefusalsAlike};
 
-    ghost steps: { Self → Event → Self → Type 0 };
+    ghost steps: { Self → WalkEvent → Self → Type 0 };
 
-    ghost refuses: { Self → Event → Self.Fault → Type 0 };
+    ghost refuses: { Self → WalkEvent → Self.Fault → Type 0 };
 
     ghost same: { Self → Self → Type 0 } = { λ s t. s ≡ t };
 

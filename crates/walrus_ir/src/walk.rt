@@ -188,7 +188,7 @@ fn plan<'a>(
 }
 
 /// Walks over the sequences from one on, in order. Whether they are a tree is found out before the visitor is called, and
-/// all memory that the walk itself needs is taken before: a place and a mark a sequence, and what is kept of those that
+/// all memory that the walk itself needs is taken before: a slot and a mark a sequence, and what is kept of those that
 /// are open.
 ///
 /// # Errors

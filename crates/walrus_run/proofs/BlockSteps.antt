@@ -15,13 +15,13 @@ use Rattle.wasm_ops.specs.declared.types.Opcode.TheVariants.{Byte}
 use Rattle.wasm_ops.specs.Operations.{block, operation}
 use Rattle.wasm_body.specs.declared.error.ParseError.{ParseError}
 use Rattle.wasm_body.specs.declared.error.ParseError.TheVariants.{TypeMissing}
-use Rattle.wasm_body.specs.Results.{◌>>=◌, some_or, unless}
+use Rattle.walrus_ir.specs.Results.{◌>>=◌, some_or, unless}
 use Rattle.wasm_body.specs.Control.{Nop, control_of, end_operation}
 use Rattle.wasm_body.specs.SourceTree.{Sequence, Empty, OfBlock}
 use Rattle.walrus_body.specs.Environments.{environment_of}
 use Rattle.wasm_body.specs.Naming.{Environment, NamedOperation, Occurrence, id_at, name_block, has_types, named_in}
 use Rattle.wasm_body.specs.Parsing.Accepted.{mark}
-use Rattle.wasm_body.specs.NormalForm.{typing_of, type_of, normal_form, named_body}
+use Rattle.wasm_body.specs.NormalForm.{typing_of, construct_type, normal_form, named_body}
 use Rattle.wasm_body.specs.TreeOfFunction.{HasTree}
 use Rattle.wasm_body.specs.Parsing.Progress.{InWrapper, Layer, layer, Within, append, closed, frames_of, further}
 use Rattle.walrus_run.specs.declared.open_sequence.OpenSequence.{OpenSequence}
@@ -99,7 +99,7 @@ steps_block old new ls s b t place location keeps is_type enters =
     let env = env_of old in
     let h = has_type env b t is_type in
     let x = occurrence (operation (Byte 0x02) (block b ∷ [])) place location (block_of h.signature) in
-    let typed : t ≡ type_of (typing_of env) x.named = sym (ap (λ o. unwrap_or o (Simple None)) h.is_pick) in
+    let typed : t ≡ construct_type (typing_of env) x.named = sym (ap (λ o. unwrap_or o (Simple None)) h.is_pick) in
     let opened = opens_block env (arena old.builder) enters.grows.seq new.current (opens old) ls s x
     enters.place enters.is_empty enters.is_alive enters.opened_at (enters.grows.has_type ∙ typed) enters.grows.has_no_end refl keeps in
     let around : new.current ∷ opens old ≡ opens new = ap (λ fs. new.current ∷ fs) (sym (ap reverse enters.around ∙ reverse-append old.outer.items (old.current ∷ []))) in

@@ -8,7 +8,7 @@ use Rattle.wasm_ops.specs.Spelling.{read_operation}
 use Rattle.wasm_body.specs.declared.error.ParseError.{ParseError}
 use Rattle.wasm_body.specs.declared.error.ParseError.TheVariants.{Read, PlaceTooGreat, Trailing, MissingEnd}
 use Rattle.wasm_body.specs.declared.error.ParseFailure.{ParseFailure}
-use Rattle.wasm_body.specs.Results.{◌>>=◌, unless, faulting}
+use Rattle.walrus_ir.specs.Results.{◌>>=◌, unless, with_fault}
 use Rattle.wasm_body.specs.Control.{end_operation}
 use Rattle.wasm_body.specs.SourceTree.{Sequence, Empty, Body}
 use Rattle.wasm_body.specs.Frames.{Frame}
@@ -42,8 +42,8 @@ handled_next env start fs place bytes = by_answers (read_operation bytes) (has_l
   where
     by_answers : (r : Result (RawOperation × List ℕ) ReadFault) (b : Bool) →
         ◌≡◌ {A = Result (Handled (Unit {0})) ParseError}
-        (faulting (λ fault. Read (record { fault = fault; at = place })) r >>= λ x. unless b PlaceTooGreat >>= λ _. named_in env fs x.0 >>= λ named. Ok (done place x.0 x.1 named))
-        ((faulting (λ fault. Read (record { fault = fault; at = place })) r >>= λ x. unless b PlaceTooGreat >>= λ _. Ok x) >>= λ x. named_in env fs x.0 >>= λ named. Ok (done place x.0 x.1 named))
+        (with_fault (λ fault. Read (record { fault = fault; at = place })) r >>= λ x. unless b PlaceTooGreat >>= λ _. named_in env fs x.0 >>= λ named. Ok (done place x.0 x.1 named))
+        ((with_fault (λ fault. Read (record { fault = fault; at = place })) r >>= λ x. unless b PlaceTooGreat >>= λ _. Ok x) >>= λ x. named_in env fs x.0 >>= λ named. Ok (done place x.0 x.1 named))
     by_answers (Err e) b = refl
     by_answers (Ok x) true = refl
     by_answers (Ok x) false = refl

@@ -7,7 +7,7 @@ use Rattle.wasm_ops.specs.declared.types.Opcode.{Opcode}
 use Rattle.wasm_ops.specs.Immediates.{Kind, kind_of}
 use Rattle.wasm_ops.specs.Opcodes.{kinds_of}
 use Rattle.wasm_ops.specs.OperatorList.{Lists}
-use Rattle.wasm_body.specs.Control.{Control, End, marked}
+use Rattle.wasm_body.specs.Control.{Control, End, with_control}
 use Rattle.wasm_body.specs.Frames.{Frame}
 use Rattle.wasm_body.specs.SourceTree.{Sequence, Empty, Single, Wrapped, IfThen, IfElse, TryCatch, TryDelegate, Clauses, Ended, Catches, CatchesAll, Body}
 use Rattle.wasm_body.specs.Translation.{Located}
@@ -80,5 +80,5 @@ module _ (env : Environment) (to : Numbers) (has : HasNumbers env to) where
   body_carried xs b texts lawful =
       let named = named_somewhere env xs b lawful in
       let marks = subst (AllMarked IsCarried) lawful.is_body (all_carried xs texts named) in
-      let each = (each_of IsCarried b.sequence (marked b.close End ∷ []) marks).0 in
+      let each = (each_of IsCarried b.sequence (with_control b.close End ∷ []) marks).0 in
       normal_carried (typing_of env) (named_body b).sequence (each_reshown Carries name_at b.sequence each)

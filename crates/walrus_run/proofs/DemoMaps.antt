@@ -13,7 +13,7 @@ use Rattle.wasm_body.specs.declared.error.EmitError.TheVariants.{Index, Unnumber
 use Rattle.wasm_body.specs.declared.error.IndexError.TheVariants.{Unnumbered}
 use Rattle.walrus_body.specs.declared.indices_to_ids.IndicesToIds.{IndicesToIds}
 use Rattle.walrus_body.specs.declared.ids_to_indices.IdsToIndices.{IdsToIndices}
-use Rattle.wasm_body.specs.Results.{faulting, some_or}
+use Rattle.walrus_ir.specs.Results.{with_fault, some_or}
 use Rattle.walrus_body.specs.IndexMaps.{ids_in, locals_in, with_locals, numbers_in, with_numbers, numbered, number_of}
 use Rattle.walrus_body.specs.Numbering.{pushed}
 use Rattle.walrus_body.proofs.NumberingLemmas.{get-numbered}
@@ -85,15 +85,15 @@ space_numbered m h Elements = ap (λ e. in_turn e 1) (h Elements)
 space_numbered m h Data = ap (λ e. insert e 0 0) (h Data) ∙ ap (λ n. insert empty 0 n) (sym (len-empty nat_cmp ℕ))
 space_numbered m h Tags = ap (λ e. in_turn e 2) (h Tags)
 
-by_test : (space : Space) (id : ℕ) (below : Bool) → faulting Index (some_or (if below then Some id else None) (Unnumbered space)) ≡ (if below then Ok id else Err (Index (Unnumbered space)))
+by_test : (space : Space) (id : ℕ) (below : Bool) → with_fault Index (some_or (if below then Some id else None) (Unnumbered space)) ≡ (if below then Ok id else Err (Index (Unnumbered space)))
 by_test space id true = refl
 by_test space id false = refl
 
-number_is : (m : IdsToIndices) → IsEmptyMap m → (space : Space) (id : ℕ) → faulting Index (number_of (all_numbered m) space id) ≡ demo_numbers.number_of space id
+number_is : (m : IdsToIndices) → IsEmptyMap m → (space : Space) (id : ℕ) → with_fault Index (number_of (all_numbered m) space id) ≡ demo_numbers.number_of space id
 number_is m h space id =
     let count = length (ids_in demo_indices space) in
-    ap (λ e. faulting Index (some_or (get e id) (Unnumbered space))) (space_numbered m h space)
-    ∙ (ap (λ o. faulting Index (some_or o (Unnumbered space))) ((itself count).gets_itself id) ∙ by_test space id (nat_lt id count))
+    ap (λ e. with_fault Index (some_or (get e id) (Unnumbered space))) (space_numbered m h space)
+    ∙ (ap (λ o. with_fault Index (some_or o (Unnumbered space))) ((itself count).gets_itself id) ∙ by_test space id (nat_lt id count))
 
 same_numbers : (f g : Space → ℕ → Result ℕ EmitError) → ((space : Space) (id : ℕ) → f space id ≡ g space id) → f ≡ g
 same_numbers f g h = fun_ext (λ space. fun_ext (λ id. h space id))

@@ -13,11 +13,11 @@ use Rattle.wasm_ops.specs.declared.types.BlockType.{BlockType}
 use Rattle.wasm_ops.specs.declared.types.BlockType.TheVariants.{Empty, Value, FuncType}
 use Rattle.wasm_ops.specs.declared.types.Space.{Space}
 use Rattle.wasm_ops.specs.declared.types.Space.TheVariants.{Tables, Types, Funcs, Globals, Memories, Elements, Data, Tags}
-use Rattle.wasm_body.specs.Results.{◌>>=◌, some_or, faulting}
+use Rattle.walrus_ir.specs.Results.{◌>>=◌, some_or, with_fault}
 use Rattle.walrus_body.specs.IndexMaps.{ids_in}
 use Rattle.wasm_body.specs.Translation.{translate_heap, translate_value}
 use Rattle.wasm_body.specs.Naming.{id_at, name_block, function_type}
-use Rattle.wasm_body.specs.Bytes.{fitting_numbers, numbered_block}
+use Rattle.wasm_body.specs.Bytes.{numbers_in_32_bits, numbered_block}
 use Rattle.wasm_body.proofs.Translation.Steps.{bound}
 use Rattle.wasm_body.proofs.Bytes.NumberedBodies.{HasNumbers}
 use Rattle.walrus_run.specs.Demo.{demo_types, demo_indices, demo_environment, demo_numbers}
@@ -31,7 +31,7 @@ within P (i ∷ ids) (suc n) id all at = within P ids n id all.1 at
 
 -- the number of an id is its own
 abbrev IsNumbered : Space → ℕ → Type 0
-IsNumbered space id = (fitting_numbers demo_numbers).number_of space id ≡ Ok id
+IsNumbered space id = (numbers_in_32_bits demo_numbers).number_of space id ≡ Ok id
 
 all_numbered : (space : Space) → AllByRecursion (IsNumbered space) (ids_in demo_indices space)
 all_numbered Tables = (refl, tt)
@@ -52,12 +52,12 @@ has_index space n id at = within (IsNumbered space) (ids_in demo_indices space) 
 
 -- ---- types of sequences
 
-unfaulted : {A E F : Type 0} (f : E → F) (r : Result A E) (x : A) → faulting f r ≡ Ok x → r ≡ Ok x
+unfaulted : {A E F : Type 0} (f : E → F) (r : Result A E) (x : A) → with_fault f r ≡ Ok x → r ≡ Ok x
 unfaulted f (Ok y) x h = let same : y ≡ x = cc in ap Ok same
 unfaulted f (Err e) x h = absurd cc
 
 abbrev HeapNumbered : HeapType ℕ → Type 0
-HeapNumbered h = IsOk (translate_heap (fitting_numbers demo_numbers).number_of h)
+HeapNumbered h = IsOk (translate_heap (numbers_in_32_bits demo_numbers).number_of h)
 
 has_heap : (h g : HeapType ℕ) → translate_heap (id_at demo_environment) h ≡ Ok g → HeapNumbered g
 has_heap (Abstract a) g e = let same : Abstract a ≡ g = cc in subst HeapNumbered same refl
@@ -68,7 +68,7 @@ has_heap (Concrete n) g e =
     subst HeapNumbered same (ap (λ r. is_ok (r >>= λ m. Ok (Concrete m))) at)
 
 abbrev ValueNumbered : ValType ℕ → Type 0
-ValueNumbered t = IsOk (translate_value (fitting_numbers demo_numbers).number_of t)
+ValueNumbered t = IsOk (translate_value (numbers_in_32_bits demo_numbers).number_of t)
 
 abbrev reference : (nullable : Bool) (h : HeapType ℕ) → ValType ℕ
 reference nullable h = Ref (record { nullable = nullable; heap_type = h })
@@ -86,7 +86,7 @@ has_value V128 u e = let same : V128 ≡ u = cc in subst ValueNumbered same refl
 has_value (Ref r) u e =
     let h = bound (translate_heap (id_at demo_environment) r.heap_type) (λ h. Ok (reference r.nullable h)) u e in
     let same : reference r.nullable h.0 ≡ u = cc in
-    subst ValueNumbered same (then_ok (translate_heap (fitting_numbers demo_numbers).number_of h.0) (reference r.nullable) (has_heap r.heap_type h.0 h.1))
+    subst ValueNumbered same (then_ok (translate_heap (numbers_in_32_bits demo_numbers).number_of h.0) (reference r.nullable) (has_heap r.heap_type h.0 h.1))
 
 abbrev BlockNumbered : InstrSeqType → Type 0
 BlockNumbered t = IsOk (numbered_block demo_numbers t)
@@ -111,7 +111,7 @@ has_block Empty s e = let same : signature [] [] ≡ s = cc in subst PickNumbere
 has_block (Value t) s e =
     let u = bound (translate_value (id_at demo_environment) t) (λ u. Ok (signature [] (u ∷ []))) s e in
     let same : signature [] (u.0 ∷ []) ≡ s = cc in
-    subst PickNumbered same (picked (signature [] (u.0 ∷ [])) (Simple (Some u.0)) refl (then_ok (translate_value (fitting_numbers demo_numbers).number_of u.0) Value (has_value t u.0 u.1)))
+    subst PickNumbered same (picked (signature [] (u.0 ∷ [])) (Simple (Some u.0)) refl (then_ok (translate_value (numbers_in_32_bits demo_numbers).number_of u.0) Value (has_value t u.0 u.1)))
 has_block (FuncType n) s e = let id = bound (id_at demo_environment Types n) (function_type demo_environment) s e in has_type id.0 s id.2
 
 pub demo_has_numbers : HasNumbers demo_environment demo_numbers

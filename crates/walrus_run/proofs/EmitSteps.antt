@@ -12,8 +12,8 @@ use Rattle.walrus_ir.specs.declared.control.IfElse.{IfElse}
 use Rattle.walrus_ir.specs.declared.control.Try.{Try}
 use Rattle.walrus_ir.specs.declared.control.TryTable.{TryTable}
 use Rattle.walrus_ir.specs.Arena.{arena}
-use Rattle.walrus_ir.specs.Unfolding.{places_in}
-use Rattle.walrus_ir.specs.Events.{Event, StartSequence, Hears}
+use Rattle.walrus_ir.specs.Unfolding.{slots_in}
+use Rattle.walrus_ir.specs.Events.{WalkEvent, StartSequence, Hears}
 use Rattle.wasm_ops.specs.declared.operator.Operator.{Operator}
 use Rattle.wasm_ops.specs.Meaning.{meaning}
 use Rattle.wasm_ops.specs.Operations.{RawOperation}
@@ -21,9 +21,9 @@ use Rattle.wasm_ops.specs.Opcodes.{kinds_of_byte, kinds_of}
 use Rattle.wasm_ops.specs.Shortest.{short}
 use Rattle.wasm_body.specs.declared.error.EmitError.{EmitError}
 use Rattle.wasm_body.specs.declared.error.EmitError.TheVariants.{Memory, BadClauses, UnknownSequence}
-use Rattle.wasm_body.specs.Results.{◌>>=◌}
-use Rattle.wasm_body.specs.Translation.{Located, located}
-use Rattle.wasm_body.specs.InstructionTable.{operation_of, legacy_clauses}
+use Rattle.walrus_ir.specs.Results.{◌>>=◌}
+use Rattle.wasm_body.specs.Translation.{Located, at_location}
+use Rattle.wasm_body.specs.InstructionTable.{operation_of, clauses_of_try}
 use Rattle.wasm_body.specs.FunctionTree.{LegacyClause}
 use Rattle.wasm_body.specs.FlatText.{are_lawful}
 use Rattle.wasm_body.specs.Bytes.{Numbers}
@@ -42,7 +42,7 @@ pub first_of_block : (b : List InstrSeq) (i : Instr) (x : Block) (seq : InstrSeq
 first_of_block b i x seq e h = subst (λ j. IsFirst b j (Ok (seq.ty, Some x.seq))) (sym e) (a_block, ap (option_map (λ s. s.ty)) h, refl)
 
 pub holds_none : (i : Instr) → ((x : Block) → i ≢ instr.Block x) → ((x : Loop) → i ≢ instr.Loop x) → ((x : IfElse) → i ≢ instr.IfElse x) → ((x : TryTable) → i ≢ instr.TryTable x) →
-    ((x : Try) → i ≢ instr.Try x) → places_in i ≡ []
+    ((x : Try) → i ≢ instr.Try x) → slots_in i ≡ []
 holds_none (instr.Block x) a b c d e = absurd (a x refl)
 holds_none (instr.Loop x) a b c d e = absurd (b x refl)
 holds_none (instr.IfElse x) a b c d e = absurd (c x refl)
@@ -50,7 +50,7 @@ holds_none (instr.TryTable x) a b c d e = absurd (d x refl)
 holds_none (instr.Try x) a b c d e = absurd (e x refl)
 holds_none _ a b c d e = refl
 
-pub first_of_none : (b : List InstrSeq) (i : Instr) → places_in i ≡ [] → IsFirst b i (Ok (Simple None, None))
+pub first_of_none : (b : List InstrSeq) (i : Instr) → slots_in i ≡ [] → IsFirst b i (Ok (Simple None, None))
 first_of_none b i e = (straight e, ap (type_at b) e, ap first_place e)
 
 pub opens_more : (i : Instr) → ((x : Loop) × (i ≡ instr.Loop x)) ⊎ (((x : IfElse) × (i ≡ instr.IfElse x)) ⊎ (((x : Try) × (i ≡ instr.Try x)) ⊎ ((x : TryTable) × (i ≡ instr.TryTable x))))
@@ -81,11 +81,11 @@ not_entered v place e is (inr past) b to p around stands within =
 
 -- ---- an instruction's operator
 
-plain_clauses : (i : Instr) → places_in i ≡ [] → legacy_clauses i ≡ []
+plain_clauses : (i : Instr) → slots_in i ≡ [] → clauses_of_try i ≡ []
 plain_clauses (instr.Try x) e = absurd cc
 plain_clauses _ e = refl
 
-no_clauses : (i : Instr) → ClosesByEnd i → legacy_clauses i ≡ []
+no_clauses : (i : Instr) → ClosesByEnd i → clauses_of_try i ≡ []
 no_clauses i (straight none) = plain_clauses i none
 no_clauses _ a_block = refl
 
@@ -93,8 +93,8 @@ without_clauses : (cs : List LegacyClause) (r : Result (Located RawOperation) Em
 without_clauses cs r e = ap (λ ds. if are_lawful ds then r else Err BadClauses) e
 
 own_is : (to : Numbers) (around : List ℕ) (type : InstrSeqType) (i : Instr) (l : ℕ) (r : Result RawOperation EmitError) → ClosesByEnd i → instruction_operator to around type i ≡ r →
-    own_operator to around type (i, l) ≡ (r >>= λ x. Ok (located x l))
-own_is to around type i l r closes h = without_clauses _ _ (no_clauses i closes) ∙ ap (λ s. s >>= λ x. Ok (located x l)) h
+    own_operator to around type (i, l) ≡ (r >>= λ x. Ok (at_location x l))
+own_is to around type i l r closes h = without_clauses _ _ (no_clauses i closes) ∙ ap (λ s. s >>= λ x. Ok (at_location x l)) h
 
 -- what its answer says where sequences are open
 abbrev Answers : EmitVisitor → InstrSeqType → Instr → Result Operator WriteFault → Type 0
@@ -107,8 +107,8 @@ visited v i l found op encoder first answers bytes b to around stands =
     let answer = subst (λ to. (instruction_operator to around found.0 i ≡ Ok (meaning op))) stands.numbers (answers (length b) around stands.are_open).0 in record {
       closes = first.0;
       type = found.0;
-      is_type = subst (λ s. type_at s (places_in i) ≡ Some found.0) stands.sequences first.1;
-      op = located (meaning op) l;
+      is_type = subst (λ s. type_at s (slots_in i) ≡ Some found.0) stands.sequences first.1;
+      op = at_location (meaning op) l;
       is_op = own_is to around found.0 i l (Ok (meaning op)) first.0 answer;
       bytes = bytes;
       stands = record { sequences = stands.sequences; numbers = stands.numbers; next = sym first.2; are_open = stands.are_open };
@@ -119,14 +119,14 @@ pub not_visited : (v : EmitVisitor) (i : Instr) (l : ℕ) (found : InstrSeqType 
     → (b : List InstrSeq) (to : Numbers) (around : List ℕ) → Stands b to None around v → IsUnwritten b to around (i, l) f
 not_visited v i l found (Emit e) first answers b to around stands = inr (λ type t.
     let answer = subst (λ to. (instruction_operator to around found.0 i ≡ Err e)) stands.numbers (answers (length b) around stands.are_open) in
-    let there = subst (λ s. type_at s (places_in i) ≡ Some found.0) stands.sequences first.1 in
+    let there = subst (λ s. type_at s (slots_in i) ≡ Some found.0) stands.sequences first.1 in
     let same : found.0 ≡ type = cc (there, t) in
     own_is to around type i l (Err e) first.0 (subst (λ s. instruction_operator to around s i ≡ Err e) same answer))
 not_visited v i l found NotCarried first answers b to around stands = answers (length b) around stands.are_open
 
 -- ---- refusals
 
-pub refuses_event : {U : Type 0} (v : EmitVisitor) (e : Event) (r : Result U WriteFault) (f : WriteFault) → IsErrAnd r (λ g. g ≡ f) → Refuses v e f → Hears Steps Refuses Same v e r v
+pub refuses_event : {U : Type 0} (v : EmitVisitor) (e : WalkEvent) (r : Result U WriteFault) (f : WriteFault) → IsErrAnd r (λ g. g ≡ f) → Refuses v e f → Hears Steps Refuses Same v e r v
 refuses_event v e (Ok x) f h n = absurd h
 refuses_event v e (Err g) f h n = (subst (λ k. Refuses v e k) (sym h) n, same_itself v)
 

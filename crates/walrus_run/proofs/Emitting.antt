@@ -7,17 +7,17 @@ use Rattle.walrus_ir.specs.declared.val_type.InstrSeqType.{InstrSeqType}
 use Rattle.walrus_ir.specs.declared.instr.Instr.{Instr}
 use Rattle.walrus_ir.specs.declared.instr.Instr.TheVariants.{RefFunc, LocalGet, LocalSet, LocalTee, MemoryInit, DataDrop, ArrayNewData, ArrayInitData}
 use Rattle.walrus_ir.specs.Tree.{Items, Sequences}
-use Rattle.walrus_ir.specs.Unfolding.{Placed, Located, places_in, AreItems, are_no_items, are_items, AreSequences, are_no_sequences, are_sequences}
-use Rattle.walrus_ir.specs.Events.{Event, StartSequence, EndSequence, VisitInstruction, NameFunction, NameLocal, NameData, names, item_events, sequence_events, Folds, after, Stops, refused, later}
+use Rattle.walrus_ir.specs.Unfolding.{SequenceAt, LocatedInstr, slots_in, AreItems, are_no_items, are_items, AreSequences, are_no_sequences, are_sequences}
+use Rattle.walrus_ir.specs.Events.{WalkEvent, StartSequence, EndSequence, VisitInstruction, NameFunction, NameLocal, NameData, names, item_events, sequence_events, Folds, after, Stops, refused, later}
 use Rattle.wasm_ops.specs.Operations.{RawOperation}
 use Rattle.wasm_ops.specs.Opcodes.{kinds_of}
 use Rattle.wasm_ops.specs.Shortest.{short}
 use Rattle.wasm_body.specs.declared.error.EmitError.{EmitError}
 use Rattle.wasm_body.specs.declared.error.EmitError.TheVariants.{Memory}
-use Rattle.wasm_body.specs.Results.{◌>>=◌, gathered}
+use Rattle.walrus_ir.specs.Results.{◌>>=◌, gather}
 use Rattle.wasm_body.specs.Control.{role_of, end_operation}
-use Rattle.wasm_body.specs.Translation.{Located as LocatedOperation, located}
-use Rattle.wasm_body.specs.InstructionTable.{operation_of, legacy_clauses}
+use Rattle.wasm_body.specs.Translation.{LocatedInstr as LocatedOperation, at_location}
+use Rattle.wasm_body.specs.InstructionTable.{operation_of, clauses_of_try}
 use Rattle.wasm_body.specs.TreeOfFunction.{items_in, sequences_in}
 use Rattle.wasm_body.specs.Bytes.{Numbers, numbering, bytes_of}
 use Rattle.wasm_body.specs.FlatText.{then_by, first_type, closers, TextOperation, text, texts}
@@ -30,34 +30,34 @@ use Rattle.walrus_run.specs.Emission.{type_at, first_place, ClosesByEnd, straigh
 
 -- ---- the events, to the end or up to a refusal
 
-abbrev pub Runs : EmitVisitor → List Event → Result EmitVisitor WriteFault → Type 0
+abbrev pub Runs : EmitVisitor → List WalkEvent → Result EmitVisitor WriteFault → Type 0
 Runs v es (Ok w) = Folds Steps v es w
 Runs v es (Err f) = (w : EmitVisitor) × Stops Steps Refuses Same v es w f
 
-data Next (v : EmitVisitor) (e : Event) (es : List Event) (r : Result EmitVisitor WriteFault) : Type 0 where
+data Next (v : EmitVisitor) (e : WalkEvent) (es : List WalkEvent) (r : Result EmitVisitor WriteFault) : Type 0 where
   steps : (w : EmitVisitor) → Steps v e w → Runs w es r → Next v e es r
   refuses : (f : WriteFault) → Refuses v e f → r ≡ Err f → Next v e es r
 
-stopped : {v w : EmitVisitor} {e : Event} {es : List Event} {f : WriteFault} → Stops Steps Refuses Same v (e ∷ es) w f → Next v e es (Err f)
+stopped : {v w : EmitVisitor} {e : WalkEvent} {es : List WalkEvent} {f : WriteFault} → Stops Steps Refuses Same v (e ∷ es) w f → Next v e es (Err f)
 stopped {f = f} (refused r s) = refuses f r refl
 stopped {w = w} (later {w = v} s g) = steps v s (w, g)
 
-next : {v : EmitVisitor} {e : Event} {es : List Event} (r : Result EmitVisitor WriteFault) → Runs v (e ∷ es) r → Next v e es r
+next : {v : EmitVisitor} {e : WalkEvent} {es : List WalkEvent} (r : Result EmitVisitor WriteFault) → Runs v (e ∷ es) r → Next v e es r
 next (Ok w) (after {w = v} s f) = steps v s f
 next (Err f) h = stopped h.1
 
 -- ---- what an instruction names writes nothing
 
 -- these events run from a visitor that is the same
-abbrev RunsAlike : EmitVisitor → List Event → Result EmitVisitor WriteFault → Type 0
+abbrev RunsAlike : EmitVisitor → List WalkEvent → Result EmitVisitor WriteFault → Type 0
 RunsAlike v es r = (w : EmitVisitor) × Same v w × Runs w es r
 
-passed : {v : EmitVisitor} {e : Event} {es : List Event} {r : Result EmitVisitor WriteFault}
+passed : {v : EmitVisitor} {e : WalkEvent} {es : List WalkEvent} {r : Result EmitVisitor WriteFault}
     → ((w : EmitVisitor) → Steps v e w → Same v w) → ((f : WriteFault) → Refuses v e f → ⊥) → Next v e es r → RunsAlike v es r
 passed same never (steps w s g) = (w, same w s, g)
 passed same never (refuses f n h) = absurd (never f n)
 
-names_passed : (v : EmitVisitor) (i : Instr) (es : List Event) (r : Result EmitVisitor WriteFault) → Runs v (names i ++ es) r → RunsAlike v es r
+names_passed : (v : EmitVisitor) (i : Instr) (es : List WalkEvent) (r : Result EmitVisitor WriteFault) → Runs v (names i ++ es) r → RunsAlike v es r
 names_passed v (RefFunc x) es r h = passed {e = NameFunction x.func} (λ w s. s) (λ f n. n) (next r h)
 names_passed v (LocalGet x) es r h = passed {e = NameLocal x.local} (λ w s. s) (λ f n. n) (next r h)
 names_passed v (LocalSet x) es r h = passed {e = NameLocal x.local} (λ w s. s) (λ f n. n) (next r h)
@@ -76,9 +76,9 @@ Text = List (Result (LocatedOperation RawOperation) EmitError)
 -- The bytes of the text are behind those before; or memory ran out, or the text has the fault; or not all that `carried`
 -- asks for is carried.
 pub data Writes (carried : Type 0) (rs : Text) (before : List ℕ) : Result EmitVisitor WriteFault → Type 0 where
-  whole : {w : EmitVisitor} (xs : List (LocatedOperation RawOperation)) → gathered rs ≡ Ok xs → w.encoder ≡ before ++ bytes_of xs → Writes carried rs before (Ok w)
+  whole : {w : EmitVisitor} (xs : List (LocatedOperation RawOperation)) → gather rs ≡ Ok xs → w.encoder ≡ before ++ bytes_of xs → Writes carried rs before (Ok w)
   no_memory : Writes carried rs before (Err (Emit Memory))
-  faulty : {e : EmitError} → gathered rs ≡ Err e → Writes carried rs before (Err (Emit e))
+  faulty : {e : EmitError} → gather rs ≡ Err e → Writes carried rs before (Err (Emit e))
   uncarried : (carried → ⊥) → Writes carried rs before (Err NotCarried)
 
 written_more : {C : Type 0} {rs : Text} {before : List ℕ} {r : Result EmitVisitor WriteFault} (x : LocatedOperation RawOperation)
@@ -102,24 +102,24 @@ out_of_memory {C = C} {rs = rs} {before = before} e m = subst (Writes C rs befor
 
 -- ---- an instruction's operator
 
-type_first : {b : List InstrSeq} {ps : List ℕ} {ss : Sequences Placed Located} (around : List ℕ) → AreSequences b ps ss → type_at b ps ≡ Some (first_type (sequences_in around ss))
+type_first : {b : List InstrSeq} {ps : List ℕ} {ss : Sequences SequenceAt LocatedInstr} (around : List ℕ) → AreSequences b ps ss → type_at b ps ≡ Some (first_type (sequences_in around ss))
 type_first around are_no_sequences = refl
 type_first around (are_sequences n a r) = ap (option_map (λ seq. seq.ty)) n
 
 none_is_none : {A : Type 0} (o : Option A) → o ≡ None → IsSome o → ⊥
 none_is_none o e h = absurd cc
 
-unwritten : {C : Type 0} {rs : Text} {before : List ℕ} (b : List InstrSeq) (to : Numbers) (around : List ℕ) (x : Located) (type : InstrSeqType) (f : WriteFault)
-    → type_at b (places_in x.0) ≡ Some type → IsUnwritten b to around x f
+unwritten : {C : Type 0} {rs : Text} {before : List ℕ} (b : List InstrSeq) (to : Numbers) (around : List ℕ) (x : LocatedInstr) (type : InstrSeqType) (f : WriteFault)
+    → type_at b (slots_in x.0) ≡ Some type → IsUnwritten b to around x f
     → Writes (IsSome (kinds_of (operation_of x.0).opcode) × C) (own_operator to around type x ∷ rs) before (Err f)
 unwritten b to around x type (Emit e) t (inl m) = out_of_memory refl (ap Emit m)
-unwritten {rs = rs} b to around x type (Emit e) t (inr h) = faulty (ap (λ g. g >>= λ y. gathered rs >>= λ ys. Ok (y ∷ ys)) (h type t))
+unwritten {rs = rs} b to around x type (Emit e) t (inr h) = faulty (ap (λ g. g >>= λ y. gather rs >>= λ ys. Ok (y ∷ ys)) (h type t))
 unwritten b to around x type NotCarried t h = uncarried (λ c. none_is_none _ h c.0)
 
 -- ---- along the tree
 
 -- what follows where sequences at these places are open, and the one at one place is to begin, or none is
-abbrev Follows : List InstrSeq → Numbers → Option ℕ → List ℕ → List Event → (carried : Type 0) → Text → Result EmitVisitor WriteFault → Type 0
+abbrev Follows : List InstrSeq → Numbers → Option ℕ → List ℕ → List WalkEvent → (carried : Type 0) → Text → Result EmitVisitor WriteFault → Type 0
 Follows b to coming around es C ks r = (w : EmitVisitor) → Stands b to coming around w → Runs w es r → Writes C ks w.encoder r
 
 -- the operators that close the sequences at these places: none or one, which `end` closes
@@ -127,27 +127,27 @@ pub data AreClosed : List ℕ → List TextOperation → Type 0 where
   none_to_close : {cs : List TextOperation} → AreClosed [] cs
   one_to_close : {p : ℕ} → AreClosed (p ∷ []) (end_operation ∷ [])
 
-are_closed : {S I : Type 0} (i : Instr) (ss : Sequences S I) → ClosesByEnd i → AreClosed (places_in i) (closers (role_of (operation_of i).opcode) (legacy_clauses i) ss)
-are_closed i ss (straight none) = subst (λ ps. AreClosed ps (closers (role_of (operation_of i).opcode) (legacy_clauses i) ss)) (sym none) none_to_close
+are_closed : {S I : Type 0} (i : Instr) (ss : Sequences S I) → ClosesByEnd i → AreClosed (slots_in i) (closers (role_of (operation_of i).opcode) (clauses_of_try i) ss)
+are_closed i ss (straight none) = subst (λ ps. AreClosed ps (closers (role_of (operation_of i).opcode) (clauses_of_try i) ss)) (sym none) none_to_close
 are_closed _ ss a_block = one_to_close
 
 -- the `end` of a sequence
 abbrev closer : InstrSeq → LocatedOperation RawOperation
-closer seq = located end_operation seq.end
+closer seq = at_location end_operation seq.end
 
-ended : {C : Type 0} {ks : Text} (b : List InstrSeq) (to : Numbers) (around : List ℕ) (p : ℕ) (seq : InstrSeq) (es : List Event) (r : Result EmitVisitor WriteFault) (v : EmitVisitor)
+ended : {C : Type 0} {ks : Text} (b : List InstrSeq) (to : Numbers) (around : List ℕ) (p : ℕ) (seq : InstrSeq) (es : List WalkEvent) (r : Result EmitVisitor WriteFault) (v : EmitVisitor)
     → Stands b to None (p ∷ around) v → Follows b to None around es C ks r → Next v (EndSequence seq) es r → Writes C (Ok (closer seq) ∷ ks) v.encoder r
 ended b to around p seq es r v stands k (steps w s g) = let stepped = s b to p around stands in written_more (closer seq) (behind_these (k w stepped.0 g) stepped.1)
 ended b to around p seq es r v stands k (refuses f n e) = out_of_memory e n
 
-begun : {C : Type 0} {ks : Text} (b : List InstrSeq) (to : Numbers) (around : List ℕ) (p : ℕ) (seq : InstrSeq) (es : List Event) (r : Result EmitVisitor WriteFault) (v : EmitVisitor)
+begun : {C : Type 0} {ks : Text} (b : List InstrSeq) (to : Numbers) (around : List ℕ) (p : ℕ) (seq : InstrSeq) (es : List WalkEvent) (r : Result EmitVisitor WriteFault) (v : EmitVisitor)
     → slice_get b p ≡ Some seq → Stands b to (Some p) around v → Follows b to None (p ∷ around) es C ks r → Next v (StartSequence seq) es r → Writes C ks v.encoder r
 begun b to around p seq es r v n stands k (steps w s g) = let stepped = s b to p around stands in behind_these (k w stepped.0 g) stepped.1
 begun b to around p seq es r v n stands k (refuses f never e) = out_of_memory e (never b to p around stands (slice_get_within _ _ _ n))
 
 -- what is written for an instruction, if that for the sequences in it and for what is behind it follows
-opened_by : {C : Type 0} {rs : Text} (b : List InstrSeq) (to : Numbers) (around : List ℕ) (x : Located) (type : InstrSeqType) (es : List Event) (r : Result EmitVisitor WriteFault) (v : EmitVisitor)
-    → type_at b (places_in x.0) ≡ Some type → Stands b to None around v → (ClosesByEnd x.0 → Follows b to (first_place (places_in x.0)) around es C rs r)
+opened_by : {C : Type 0} {rs : Text} (b : List InstrSeq) (to : Numbers) (around : List ℕ) (x : LocatedInstr) (type : InstrSeqType) (es : List WalkEvent) (r : Result EmitVisitor WriteFault) (v : EmitVisitor)
+    → type_at b (slots_in x.0) ≡ Some type → Stands b to None around v → (ClosesByEnd x.0 → Follows b to (first_place (slots_in x.0)) around es C rs r)
     → Next v (VisitInstruction x.0 x.1) (names x.0 ++ es) r
     → Writes (IsSome (kinds_of (operation_of x.0).opcode) × C) (own_operator to around type x ∷ rs) v.encoder r
 opened_by {C = C} {rs = rs} b to around x type es r v t stands k (steps w s g) =
@@ -162,7 +162,7 @@ opened_by {C = C} {rs = rs} b to around x type es r v t stands k (steps w s g) =
 opened_by b to around x type es r v t stands k (refuses f n e) = subst (Writes _ _ _) (sym e) (unwritten b to around x type f t (n b to around stands))
 
 mutual
-  items_run : {C : Type 0} {b : List InstrSeq} {xs : List Located} {is : Items Placed Located} {ks : Text} (to : Numbers) (around : List ℕ) (es : List Event)
+  items_run : {C : Type 0} {b : List InstrSeq} {xs : List LocatedInstr} {is : Items SequenceAt LocatedInstr} {ks : Text} (to : Numbers) (around : List ℕ) (es : List WalkEvent)
       (r : Result EmitVisitor WriteFault) (v : EmitVisitor)
       → AreItems b xs is → Stands b to None around v → Follows b to None around es C ks r → Runs v (item_events is es) r
       → Writes (AreCarried (items_in around is) × C) (text (then_by (numbering to)) (items_in around is) ks) v.encoder r
@@ -173,7 +173,7 @@ mutual
       (λ closes w inside f. sequences_run to around _ r w (are_closed x.0 _ closes) a inside (λ u behind f. items_run to around es r u h behind k f) f) (next r g))
       (λ c. (c.0.0, (c.0.1, (c.0.2, c.1))))
 
-  pub sequences_run : {C : Type 0} {b : List InstrSeq} {ps : List ℕ} {cs : List TextOperation} {ss : Sequences Placed Located} {ks : Text} (to : Numbers) (around : List ℕ) (es : List Event)
+  pub sequences_run : {C : Type 0} {b : List InstrSeq} {ps : List ℕ} {cs : List TextOperation} {ss : Sequences SequenceAt LocatedInstr} {ks : Text} (to : Numbers) (around : List ℕ) (es : List WalkEvent)
       (r : Result EmitVisitor WriteFault) (v : EmitVisitor)
       → AreClosed ps cs → AreSequences b ps ss → Stands b to (first_place ps) around v → Follows b to None around es C ks r → Runs v (sequence_events ss es) r
       → Writes (AreCarriedIn (sequences_in around ss) × C) (texts (then_by (numbering to)) cs (sequences_in around ss) ks) v.encoder r

@@ -5,11 +5,11 @@ use Rattle.walrus_ir.specs.declared.seq.InstrSeq.{InstrSeq}
 use Rattle.walrus_ir.specs.declared.error.WalkError.{WalkError}
 use Rattle.walrus_ir.specs.Arena.{arena}
 use Rattle.walrus_ir.specs.Tree.{Tree, alone}
-use Rattle.walrus_ir.specs.Unfolding.{Placed, Located, IsTree}
+use Rattle.walrus_ir.specs.Unfolding.{SequenceAt, LocatedInstr, IsTree}
 use Rattle.walrus_ir.specs.Events.{events, through, Stops}
 use Rattle.walrus_ir.specs.Walk.{HasNoWalk, Finishes, IsRefused, IsUnwalked}
 use Rattle.wasm_encode.specs.Declarations.{declarations}
-use Rattle.wasm_body.specs.Results.{◌>>=◌}
+use Rattle.walrus_ir.specs.Results.{◌>>=◌}
 use Rattle.wasm_body.specs.Control.{end_operation}
 use Rattle.wasm_body.specs.TreeOfFunction.{tree_of, HasTree, sequences_in}
 use Rattle.wasm_body.specs.Bytes.{Numbers, numbering, bytes_of}
@@ -48,7 +48,7 @@ abbrev encoder_of : Result EmitVisitor WriteFault → Result (List ℕ) WriteFau
 encoder_of (Ok w) = Ok w.encoder
 encoder_of (Err f) = Err f
 
-encoded : (b : List InstrSeq) (entry : ℕ) (to : Numbers) (before : List ℕ) (t : Tree Placed Located) (r : Result EmitVisitor WriteFault)
+encoded : (b : List InstrSeq) (entry : ℕ) (to : Numbers) (before : List ℕ) (t : Tree SequenceAt LocatedInstr) (r : Result EmitVisitor WriteFault)
     → HasTree b entry (tree_of t) → before ≡ declarations []
     → Writes (AreCarriedIn (sequences_in [] (alone t)) × Unit {0}) (texts (then_by (numbering to)) (end_operation ∷ []) (sequences_in [] (alone t)) []) before r
     → Encodes b entry to (encoder_of r)
@@ -57,7 +57,7 @@ encoded b entry to before t _ has empty no_memory = inl refl
 encoded b entry to before t _ has empty (faulty e) = inr (inr (tree_of t, has, ap (λ g. g >>= λ xs. Ok (bytes_of xs)) e))
 encoded b entry to before t _ has empty (uncarried never) = (tree_of t, has, λ c. never ((c, tt), tt))
 
-encodes_as : (b : List InstrSeq) (entry : ℕ) (to : Numbers) (v : EmitVisitor) (t : Tree Placed Located) (r : Result EmitVisitor WriteFault)
+encodes_as : (b : List InstrSeq) (entry : ℕ) (to : Numbers) (v : EmitVisitor) (t : Tree SequenceAt LocatedInstr) (r : Result EmitVisitor WriteFault)
     → Begins b entry to v → IsTree b entry t → Runs v (events t) r → Encodes b entry to (encoder_of r)
 encodes_as b entry to v t r begins is runs =
     let has : HasTree b entry (tree_of t) = record { unfolded = t; is_tree = is; is = refl } in

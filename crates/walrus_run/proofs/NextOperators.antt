@@ -12,7 +12,7 @@ use Rattle.wasm_ops.specs.Spelling.{Spells, read_operation}
 use Rattle.wasm_ops.proofs.OperationLaws.{operations_agree}
 use Rattle.wasm_body.specs.declared.error.ParseError.{ParseError}
 use Rattle.wasm_body.specs.declared.error.ParseError.TheVariants.{Read, PlaceTooGreat}
-use Rattle.wasm_body.specs.Results.{◌>>=◌, unless, faulting}
+use Rattle.walrus_ir.specs.Results.{◌>>=◌, unless, with_fault}
 use Rattle.wasm_body.specs.Parsing.Accepted.{has_location}
 use Rattle.walrus_run.specs.BodyParsing.{read_next}
 
@@ -20,7 +20,7 @@ abbrev Next : Type 0
 Next = Result (RawOperation × List ℕ) ParseError
 
 abbrev with_read : ℕ → Result (RawOperation × List ℕ) ReadFault → Next
-with_read place r = faulting (λ fault. Read (record { fault = fault; at = place })) r >>= λ x. unless (has_location None place) PlaceTooGreat >>= λ _. Ok x
+with_read place r = with_fault (λ fault. Read (record { fault = fault; at = place })) r >>= λ x. unless (has_location None place) PlaceTooGreat >>= λ _. Ok x
 
 read_moved : (old new : Position) (o : RawOperation) (text : List ℕ) → Moves old text new → Spells o text → read_operation old.rest ≡ Ok (o, new.rest)
 read_moved old new o text m s = ap read_operation m.parts ∙ operations_agree.again o text new.rest s

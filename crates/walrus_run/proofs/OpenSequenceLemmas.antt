@@ -5,13 +5,13 @@ use Rattle.std.proofs.Common.{refl, ap, sym, subst, ◌∙◌, arith}
 use Rattle.walrus_ir.specs.declared.seq.InstrSeq.{InstrSeq}
 use Rattle.walrus_ir.specs.declared.val_type.InstrSeqType.{InstrSeqType}
 use Rattle.walrus_ir.specs.Tree.{Items, no_items, item, no_sequences, sequence}
-use Rattle.walrus_ir.specs.Unfolding.{Placed, Located, places_in, AreItems, AreSequences, are_no_items, are_items, are_no_sequences, are_sequences}
+use Rattle.walrus_ir.specs.Unfolding.{SequenceAt, LocatedInstr, slots_in, AreItems, AreSequences, are_no_items, are_items, are_no_sequences, are_sequences}
 use Rattle.wasm_ops.specs.declared.types.Opcode.TheVariants.{Byte}
 use Rattle.wasm_ops.specs.Operations.{block, operation}
 use Rattle.wasm_body.specs.Control.{Action}
-use Rattle.wasm_body.specs.SourceTree.{Sequence, Empty, Single, Wrapped, OfBlock, OfLoop, OfTryTable, reshown}
+use Rattle.wasm_body.specs.SourceTree.{Sequence, Empty, Single, Wrapped, OfBlock, OfLoop, OfTryTable, map_sequence}
 use Rattle.wasm_body.specs.Naming.{Occurrence, Environment}
-use Rattle.wasm_body.specs.NormalForm.{Fate, Drops, Stays, Cuts, fate, with_fate, typing_of, type_of, kept_operation, instruction, head, normal, normal_form, name_at, named_body}
+use Rattle.wasm_body.specs.NormalForm.{Fate, Drops, Stays, Cuts, fate, with_fate, typing_of, construct_type, kept_operation, instruction, head, normal, normal_form, name_at, named_body}
 use Rattle.wasm_body.specs.FunctionTree.{Head, Instruction, default_location}
 use Rattle.wasm_body.specs.Keeping.{dead_behind, is_dead, joined, joined_alive}
 use Rattle.wasm_body.specs.TreeOfFunction.{items_in, instruction_in, head_of, HasTree}
@@ -73,18 +73,18 @@ holds_same env b c high (f ∷ fs) (l ∷ ls) s same h =
 -- ---- a sequence with something more
 
 abbrev Kept : Environment → Sequence Occurrence → Items Head Instruction
-Kept env s = normal (typing_of env) (reshown name_at s)
+Kept env s = normal (typing_of env) (map_sequence name_at s)
 
 kept_append : (env : Environment) (s t : Sequence Occurrence) → Kept env (append s t) ≡ joined_alive (is_dead s) (Kept env s) (Kept env t)
 kept_append env s t =
     ap (normal (typing_of env)) (reshown_append name_at s t)
-    ∙ normal_append (typing_of env) (reshown name_at s) (reshown name_at t)
+    ∙ normal_append (typing_of env) (map_sequence name_at s) (map_sequence name_at t)
     ∙ ap (λ d. joined_alive d (Kept env s) (Kept env t)) (dead_reshown name_at s)
 
 -- instructions behind those of a sequence that goes on
 pub record Adds (env : Environment) (b : List InstrSeq) (low high : ℕ) (f g : OpenSequence) (around : List ℕ) (t : Sequence Occurrence) : Type 0 where
-  pub more : List Located
-  pub items : Items Placed Located
+  pub more : List LocatedInstr
+  pub items : Items SequenceAt LocatedInstr
   pub are_items : AreItems b more items
   pub rise : RiseIn low items high
   pub is_normal : items_in (f.place ∷ around) items ≡ Kept env t
@@ -126,7 +126,7 @@ kept_drop env b middle high f around s t k dead wider =
 
 open_changed : (env : Environment) (b : List InstrSeq) (f g : OpenSequence) (p : OpenConstruct Occurrence) → g.place ≡ f.place → g.opened_at ≡ f.opened_at → IsOpenIn env b f p → IsOpenIn env b g p
 open_changed env b f g (InWrapper a OfBlock) e l o = record {
-  reserved = subst (λ q. IsReserved b q (type_of (typing_of env) a.named)) (sym e) o.reserved;
+  reserved = subst (λ q. IsReserved b q (construct_type (typing_of env) a.named)) (sym e) o.reserved;
   location = l ∙ o.location;
   operator = o.operator;
 }
@@ -151,13 +151,13 @@ holds_changed env b middle high f g fs (k ∷ ls) s t e l change h =
 -- ---- an operator by itself
 
 -- items that are the normal form of what is added
-pub record AreNormal (env : Environment) (b : List InstrSeq) (low high : ℕ) (around : List ℕ) (more : List Located) (t : Sequence Occurrence) : Type 0 where
-  pub items : Items Placed Located
+pub record AreNormal (env : Environment) (b : List InstrSeq) (low high : ℕ) (around : List ℕ) (more : List LocatedInstr) (t : Sequence Occurrence) : Type 0 where
+  pub items : Items SequenceAt LocatedInstr
   pub are_items : AreItems b more items
   pub rise : RiseIn low items high
   pub is_normal : items_in around items ≡ Kept env t
 
-kept_takes : (env : Environment) (b : List InstrSeq) (middle high : ℕ) (f g : OpenSequence) (around : List ℕ) (s t : Sequence Occurrence) (more : List Located) (dead : Bool) →
+kept_takes : (env : Environment) (b : List InstrSeq) (middle high : ℕ) (f g : OpenSequence) (around : List ℕ) (s t : Sequence Occurrence) (more : List LocatedInstr) (dead : Bool) →
     middle ≤ high → Takes f g more dead → dead ≡ is_dead t → AreNormal env b middle high (f.place ∷ around) more t → (d : Bool) → f.unreachable ≡ d →
     IsKept env b middle f around s → IsKept env b high g around (append s t)
 kept_takes env b middle high f g around s t more dead wider takes flag n true is k =
@@ -175,7 +175,7 @@ kept_takes env b middle high f g around s t more dead wider takes flag n false i
       is_dead = (takes.alive is).1 ∙ flag;
     })
 
-pub holds_takes : (env : Environment) (b : List InstrSeq) (middle high : ℕ) (f g : OpenSequence) (fs : List OpenSequence) (ls : List (Layer Occurrence)) (s t : Sequence Occurrence) (more : List Located) (dead : Bool) →
+pub holds_takes : (env : Environment) (b : List InstrSeq) (middle high : ℕ) (f g : OpenSequence) (fs : List OpenSequence) (ls : List (Layer Occurrence)) (s t : Sequence Occurrence) (more : List LocatedInstr) (dead : Bool) →
     middle ≤ high → Takes f g more dead → dead ≡ is_dead t → AreNormal env b middle high (f.place ∷ places fs) more t →
     Holds env b middle (f ∷ fs) ls s → Holds env b high (g ∷ fs) ls (append s t)
 holds_takes env b middle high f g fs ls s t more dead wider takes flag n h =
@@ -183,8 +183,8 @@ holds_takes env b middle high f g fs ls s t more dead wider takes flag n h =
     (kept_takes env b middle high f g (places fs) s t more dead wider takes flag n f.unreachable refl) h
 
 -- an instruction without sequences
-single_normal : (env : Environment) (b : List InstrSeq) (high : ℕ) (around : List ℕ) (i : Located) (x : Occurrence) (action : Action) (t : Fate) →
-    fate action ≡ t → t ≢ Drops → places_in i.0 ≡ [] → instruction_in around i ≡ instruction (name_at x) [] →
+single_normal : (env : Environment) (b : List InstrSeq) (high : ℕ) (around : List ℕ) (i : LocatedInstr) (x : Occurrence) (action : Action) (t : Fate) →
+    fate action ≡ t → t ≢ Drops → slots_in i.0 ≡ [] → instruction_in around i ≡ instruction (name_at x) [] →
     AreNormal env b high high around (i ∷ []) (Single x action Empty)
 single_normal env b high around i x action t is stays none op = record {
   items = item i no_sequences no_items;
@@ -197,8 +197,8 @@ single_normal env b high around i x action t is stays none op = record {
   kept_fate Stays n o = refl
   kept_fate Cuts n o = refl
 
-pub keeps_instruction : (env : Environment) (b : List InstrSeq) (high : ℕ) (f g : OpenSequence) (fs : List OpenSequence) (ls : List (Layer Occurrence)) (s : Sequence Occurrence) (i : Located) (x : Occurrence) (action : Action) →
-    fate action ≢ Drops → places_in i.0 ≡ [] → instruction_in (f.place ∷ places fs) i ≡ instruction (name_at x) [] → Takes f g (i ∷ []) (dead_behind (fate action) false) →
+pub keeps_instruction : (env : Environment) (b : List InstrSeq) (high : ℕ) (f g : OpenSequence) (fs : List OpenSequence) (ls : List (Layer Occurrence)) (s : Sequence Occurrence) (i : LocatedInstr) (x : Occurrence) (action : Action) →
+    fate action ≢ Drops → slots_in i.0 ≡ [] → instruction_in (f.place ∷ places fs) i ≡ instruction (name_at x) [] → Takes f g (i ∷ []) (dead_behind (fate action) false) →
     Holds env b high (f ∷ fs) ls s → Holds env b high (g ∷ fs) ls (append s (Single x action Empty))
 keeps_instruction env b high f g fs ls s i x action stays none op takes h =
     holds_takes env b high high f g fs ls s (Single x action Empty) (i ∷ []) (dead_behind (fate action) false) (omega arith) takes refl
@@ -233,7 +233,7 @@ grown_at (y ∷ b) x = grown_at b x
 
 pub opens_block : (env : Environment) (b : List InstrSeq) (seq : InstrSeq) (f : OpenSequence) (fs : List OpenSequence) (ls : List (Layer Occurrence)) (s : Sequence Occurrence) (a : Occurrence) →
     f.place ≡ length b → f.instrs.items ≡ [] → f.unreachable ≡ false → f.opened_at ≡ a.location →
-    seq.ty ≡ type_of (typing_of env) a.named → seq.end ≡ default_location → kept_operation a.named ≡ operation (Byte 0x02) (block tt ∷ []) →
+    seq.ty ≡ construct_type (typing_of env) a.named → seq.end ≡ default_location → kept_operation a.named ≡ operation (Byte 0x02) (block tt ∷ []) →
     Holds env b (length b) fs ls s → Holds env (b ++ seq ∷ []) (length (b ++ seq ∷ [])) (f ∷ fs) (layer s (InWrapper a OfBlock) ∷ ls) Empty
 opens_block env b seq f fs ls s a at_end empty alive location type no_end operator h =
     let more : length (b ++ seq ∷ []) ≡ length b + 1 = length_push b seq in
@@ -249,7 +249,7 @@ opens_block env b seq f fs ls s a at_end empty alive location type no_end operat
 -- the closed construct as an item of the sequence around it
 closed_block : (env : Environment) (b c : List InstrSeq) (seq : InstrSeq) (f : OpenSequence) (around : List ℕ) (s : Sequence Occurrence) (a e : Occurrence) →
     IsKept env b (length b) f around s → IsOpenedBy env b f a → IsWritten b f.place seq c →
-    seq.ty ≡ type_of (typing_of env) a.named → seq.instrs.items ≡ f.instrs.items → seq.end ≡ e.location →
+    seq.ty ≡ construct_type (typing_of env) a.named → seq.instrs.items ≡ f.instrs.items → seq.end ≡ e.location →
     AreNormal env c f.place (length c) around ((the_block f.place, f.opened_at) ∷ []) (Wrapped a OfBlock s e Empty)
 closed_block env b c seq f around s a e k o w type instrs end_is =
     let wide : RiseIn (suc f.place) k.items (length c) = subst (RiseIn (suc f.place) k.items) (sym w.as_many) k.rise in
@@ -257,7 +257,7 @@ closed_block env b c seq f around s a e k o w type instrs end_is =
     let below = rise-range (suc f.place) k.items (length c) wide in
     let op : instruction_in around (the_block f.place, f.opened_at) ≡ instruction (name_at a) [] =
     λ i. record { op = sym o.operator i; clauses = []; location = o.location i } in
-    let top : head_of seq ≡ head (type_of (typing_of env) a.named) e.location = λ i. record { type = type i; end_location = end_is i } in
+    let top : head_of seq ≡ head (construct_type (typing_of env) a.named) e.location = λ i. record { type = type i; end_location = end_is i } in
     record {
       items = item (the_block f.place, f.opened_at) (sequence (record { place = f.place; seq = seq }) k.items no_sequences) no_items;
       are_items = are_items (are_sequences w.here inside are_no_sequences) are_no_items;
@@ -277,7 +277,7 @@ pub closes_block : (env : Environment) (b c : List InstrSeq) (seq : InstrSeq) (f
 closes_block env b c seq f g h gs ls before s (InWrapper a OfBlock) e w type instrs end_is t k o out =
     let below = kept_below env b (length b) f (places (g ∷ gs)) s k in
     holds_takes env c f.place (length c) g h gs ls before (Wrapped a OfBlock s e Empty) ((the_block f.place, f.opened_at) ∷ []) false (let m = w.as_many in omega arith) t refl
-    (closed_block env b c seq f (places (g ∷ gs)) s a e k o w (type (type_of (typing_of env) a.named) o.reserved) instrs end_is)
+    (closed_block env b c seq f (places (g ∷ gs)) s a e k o w (type (construct_type (typing_of env) a.named) o.reserved) instrs end_is)
     (outside_same env b c seq f.place (g ∷ gs) ls before w out)
 closes_block env b c seq f g h gs ls before s (InWrapper a OfLoop) e w type instrs end_is t k o out = absurd o
 closes_block env b c seq f g h gs ls before s (InWrapper a (OfTryTable cs)) e w type instrs end_is t k o out = absurd o
@@ -298,7 +298,7 @@ closes_body env b c seq f s e w type instrs end_is h =
     let inside : AreItems c seq.instrs.items k.items = subst (λ xs. AreItems c xs k.items) (sym instrs) (items-same c (suc f.place) (length b) (λ p l m. w.elsewhere p (λ q. let d : p ≡ f.place = q in omega arith)) k.rise k.are_items) in
     let stands : slice_get c 0 ≡ Some seq = subst (λ p. slice_get c p ≡ Some seq) h.2 w.here in
     let at_first : RiseIn 1 k.items (length c) = subst (λ p. RiseIn (suc p) k.items (length c)) h.2 wide in
-    let top : Placed = record { place = 0; seq = seq } in
+    let top : SequenceAt = record { place = 0; seq = seq } in
     record {
       unfolded = record { head = top; items = k.items };
       is_tree = record {

@@ -4,13 +4,13 @@ use Rattle.std.proofs.lemmas.List.{length-map}
 use Rattle.std.proofs.Common.{refl, inl, inr, ap, sym, subst, ◌∙◌}
 use Rattle.walrus_ir.specs.declared.instr.Instr.{Instr}
 use Rattle.walrus_ir.specs.Arena.{arena}
-use Rattle.walrus_ir.specs.Unfolding.{places_in}
+use Rattle.walrus_ir.specs.Unfolding.{slots_in}
 use Rattle.wasm_ops.specs.declared.operator.Operator.{Operator}
 use Rattle.wasm_ops.specs.Operations.{RawOperation}
 use Rattle.wasm_ops.specs.Meaning.{meaning}
 use Rattle.wasm_body.specs.declared.error.ParseError.{ParseError}
 use Rattle.wasm_body.specs.declared.error.ParseError.TheVariants.{Memory}
-use Rattle.wasm_body.specs.Results.{◌>>=◌}
+use Rattle.walrus_ir.specs.Results.{◌>>=◌}
 use Rattle.wasm_body.specs.Control.{Action, Control, Does, role_of, control_of}
 use Rattle.wasm_body.specs.SourceTree.{Sequence, Empty, Single}
 use Rattle.wasm_body.specs.Translation.{translate}
@@ -18,7 +18,7 @@ use Rattle.wasm_body.specs.Naming.{Environment, NamedOperation, Occurrence, stan
 use Rattle.wasm_body.specs.Parsing.Accepted.{mark}
 use Rattle.wasm_body.specs.NormalForm.{Drops, fate, instruction, name_at}
 use Rattle.wasm_body.specs.Keeping.{dead_behind}
-use Rattle.wasm_body.specs.InstructionTable.{operation_of, legacy_clauses}
+use Rattle.wasm_body.specs.InstructionTable.{operation_of, clauses_of_try}
 use Rattle.wasm_body.specs.TreeOfFunction.{instruction_in}
 use Rattle.wasm_body.specs.Parsing.Progress.{Layer, Within, append, frames_of, further, further_within}
 use Rattle.walrus_run.specs.declared.open_sequence.OpenSequence.{OpenSequence}
@@ -67,7 +67,7 @@ is_kept false e = absurd cc
 
 pub steps_instruction : (old new : Parser) (ls : List (Layer Occurrence)) (s : Sequence Occurrence) (op : Operator) (i : Instr) (place location : ℕ) →
     Keeps old ls s → is_instruction op ≡ true →
-    translate (placing (env_of old) (frames_of ls) (open_places old)) (meaning op) ≡ Ok (operation_of i) → places_in i ≡ [] → legacy_clauses i ≡ [] →
+    translate (placing (env_of old) (frames_of ls) (open_places old)) (meaning op) ≡ Ok (operation_of i) → slots_in i ≡ [] → clauses_of_try i ≡ [] →
     Takes old.current new.current ((i, location) ∷ []) (is_cut op) → new ≡ record old { current = new.current } →
     Advances old new ls s (meaning op) place location
 steps_instruction old new ls s op i place location keeps is placed no_places no_clauses takes rest =

@@ -4,8 +4,8 @@ use Rattle.std.specs.Option.{option_flatten}
 use Rattle.std.proofs.Common.{refl, ap, sym, ◌∙◌, arith}
 use Rattle.std.proofs.lemmas.List.{length-append}
 use Rattle.wasm_body.specs.declared.error.EmitError.TheVariants.{BranchOutside}
-use Rattle.wasm_body.specs.Results.{◌>>=◌}
-use Rattle.wasm_body.specs.Bytes.{fitting}
+use Rattle.walrus_ir.specs.Results.{◌>>=◌}
+use Rattle.wasm_body.specs.Bytes.{in_32_bits}
 use Rattle.wasm_body.specs.FunctionTree.{Target, Depth, Outside}
 use Rattle.wasm_body.specs.FlatText.{depth_of}
 use Rattle.wasm_body.specs.TreeOfFunction.{deeper, target_in}
@@ -57,15 +57,15 @@ flattened None = refl
 flattened (Some level) = refl
 
 pub depth_found : (s : Scopes) (count : ℕ) (around : List ℕ) (place level : ℕ) → IsOpen s count around → slice_index_or s.levels.items place None ≡ Some level
-    → depth_in around place ≡ fitting (length s.entered.items - level - 1)
+    → depth_in around place ≡ in_32_bits (length s.entered.items - level - 1)
 depth_found s count around place level h e =
     let many : length around ≡ length s.entered.items = sym (ap length h.entered ∙ entered_length around) in
     let is : target_in around place ≡ target_at (length s.entered.items) (Some level) =
     target_by_level around place ∙ (ap (target_at (length around)) (sym (h.levels place) ∙ e) ∙ ap (λ n. target_at n (Some level)) many) in
-    ap (λ t. depth_of t >>= fitting) is
+    ap (λ t. depth_of t >>= in_32_bits) is
 
 pub depth_missing : (s : Scopes) (count : ℕ) (around : List ℕ) (place : ℕ) → IsOpen s count around → slice_index_or s.levels.items place None ≡ None
     → depth_in around place ≡ Err BranchOutside
 depth_missing s count around place h e =
     let is : target_in around place ≡ Outside = target_by_level around place ∙ ap (target_at (length around)) (sym (h.levels place) ∙ e) in
-    ap (λ t. depth_of t >>= fitting) is
+    ap (λ t. depth_of t >>= in_32_bits) is

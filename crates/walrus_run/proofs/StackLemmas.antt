@@ -6,7 +6,7 @@ use Rattle.std.proofs.Common.{refl, ap, sym, ◌∙◌, arith}
 use Rattle.walrus_ir.specs.declared.seq.InstrSeq.{InstrSeq}
 use Rattle.wasm_body.specs.declared.error.ParseError.{ParseError}
 use Rattle.wasm_body.specs.declared.error.ParseError.TheVariants.{NoSuchLabel}
-use Rattle.wasm_body.specs.Results.{some_or}
+use Rattle.walrus_ir.specs.Results.{some_or}
 use Rattle.walrus_run.specs.declared.open_sequence.OpenSequence.{OpenSequence}
 use Rattle.walrus_run.specs.OpenSequences.{places, IsWritten}
 

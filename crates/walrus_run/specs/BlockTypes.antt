@@ -9,13 +9,13 @@ use Rattle.wasm_ops.specs.declared.types.Space.TheVariants.{Types}
 use Rattle.wasm_body.specs.declared.error.ParseError.{ParseError}
 use Rattle.wasm_body.specs.declared.error.ParseError.TheVariants.{Index, NotAFunctionType, TypeMissing}
 use Rattle.walrus_body.specs.declared.indices_to_ids.IndicesToIds.{IndicesToIds}
-use Rattle.wasm_body.specs.Results.{◌>>=◌, some_or, faulting}
+use Rattle.walrus_ir.specs.Results.{◌>>=◌, some_or, with_fault}
 use Rattle.wasm_body.specs.Translation.{translate_value}
 use Rattle.walrus_body.specs.IndexMaps.{id_of}
 
 -- the id of an old index
 abbrev pub ids_at : IndicesToIds → Space → ℕ → Result ℕ ParseError
-ids_at indices space n = faulting Index (id_of indices space n)
+ids_at indices space n = with_fault Index (id_of indices space n)
 
 -- what a block type takes and gives
 abbrev pub block_signature : List ModuleType → (Space → ℕ → Result ℕ ParseError) → BlockType → Result Signature ParseError

@@ -7,7 +7,7 @@ use Rattle.wasm_ops.specs.Spelling.{read_operation}
 use Rattle.wasm_body.specs.declared.error.ParseError.{ParseError}
 use Rattle.wasm_body.specs.declared.error.ParseError.TheVariants.{Read, PlaceTooGreat, Memory}
 use Rattle.wasm_body.specs.declared.error.ParseFailure.{ParseFailure}
-use Rattle.wasm_body.specs.Results.{◌>>=◌, unless, faulting}
+use Rattle.walrus_ir.specs.Results.{◌>>=◌, unless, with_fault}
 use Rattle.wasm_body.specs.SourceTree.{Body}
 use Rattle.wasm_body.specs.Naming.{Environment, Occurrence}
 use Rattle.wasm_body.specs.Parsing.Accepted.{has_location, Setting}
@@ -24,7 +24,7 @@ accepting env start = record { environment = env; start = start; locations = Non
 -- the operator at the front and the bytes behind it, if its place is a location
 abbrev pub read_next : (place : ℕ) → List ℕ → Result (RawOperation × List ℕ) ParseError
 read_next place bytes =
-    faulting (λ fault. Read (record { fault = fault; at = place })) (read_operation bytes) >>= λ x. unless (has_location None place) PlaceTooGreat >>= λ _. Ok x
+    with_fault (λ fault. Read (record { fault = fault; at = place })) (read_operation bytes) >>= λ x. unless (has_location None place) PlaceTooGreat >>= λ _. Ok x
 
 -- the body that the operators are, where nothing of it is read yet
 abbrev pub parsed_operators : Environment → (start : ℕ) → List ℕ → Result (Body Occurrence) ParseFailure

@@ -3,7 +3,7 @@ use Rattle.std.specs.Prelude.{◌≡◌, ◌⊎◌, ◌++◌, ℕ, List, [], IsS
 use Rattle.walrus_ir.specs.declared.seq.InstrSeq.{InstrSeq}
 use Rattle.walrus_ir.specs.declared.error.WalkError.{WalkError}
 use Rattle.walrus_ir.specs.Tree.{Items, no_items, item, Sequences, no_sequences, sequence}
-use Rattle.walrus_ir.specs.Faults.{FirstFault}
+use Rattle.walrus_ir.specs.Faults.{FirstWalkFault}
 use Rattle.wasm_ops.specs.Opcodes.{kinds_of}
 use Rattle.wasm_encode.specs.Declarations.{declarations}
 use Rattle.wasm_body.specs.declared.error.EmitError.TheVariants.{Memory}
@@ -29,5 +29,5 @@ abbrev mutual
 abbrev pub Encodes : List InstrSeq → (entry : ℕ) → Numbers → Result (List ℕ) WriteFault → Type 0
 Encodes b entry to (Ok encoder) = (t : FunctionTree) × HasTree b entry t × ((bytes : List ℕ) × (tree_bytes to t ≡ Ok bytes) × (encoder ≡ declarations [] ++ bytes))
 Encodes b entry to (Err (Emit e)) =
-    (e ≡ Memory) ⊎ (((walk : WalkError) × FirstFault b entry walk × (e ≡ walk_fault walk)) ⊎ ((t : FunctionTree) × HasTree b entry t × (tree_bytes to t ≡ Err e)))
+    (e ≡ Memory) ⊎ (((walk : WalkError) × FirstWalkFault b entry walk × (e ≡ walk_fault walk)) ⊎ ((t : FunctionTree) × HasTree b entry t × (tree_bytes to t ≡ Err e)))
 Encodes b entry to (Err NotCarried) = (t : FunctionTree) × HasTree b entry t × (AreCarried t.items → ⊥)

@@ -5,13 +5,13 @@ use Rattle.walrus_ir.specs.declared.instr.Instr.{Instr}
 use Rattle.walrus_ir.specs.declared.instr.Instr.TheVariants.{Block}
 use Rattle.walrus_ir.specs.declared.val_type.InstrSeqType.{InstrSeqType}
 use Rattle.walrus_ir.specs.Tree.{Items}
-use Rattle.walrus_ir.specs.Unfolding.{Placed, Located, AreItems}
+use Rattle.walrus_ir.specs.Unfolding.{SequenceAt, LocatedInstr, AreItems}
 use Rattle.wasm_ops.specs.declared.types.Opcode.TheVariants.{Byte}
 use Rattle.wasm_ops.specs.Operations.{block, operation}
-use Rattle.wasm_body.specs.SourceTree.{Sequence, OfBlock, reshown}
+use Rattle.wasm_body.specs.SourceTree.{Sequence, OfBlock, map_sequence}
 use Rattle.wasm_body.specs.FunctionTree.{default_location}
 use Rattle.wasm_body.specs.Naming.{Occurrence, Environment}
-use Rattle.wasm_body.specs.NormalForm.{typing_of, type_of, kept_operation, normal, name_at}
+use Rattle.wasm_body.specs.NormalForm.{typing_of, construct_type, kept_operation, normal, name_at}
 use Rattle.wasm_body.specs.Keeping.{is_dead}
 use Rattle.wasm_body.specs.TreeOfFunction.{items_in}
 use Rattle.wasm_body.specs.Intervals.{RiseIn}
@@ -24,10 +24,10 @@ places fs = map (λ f. f.place) fs
 -- Of the sequence so far the instructions are the normal form; the sequences inside stand behind its own place, in rising
 -- order and below `high`.
 pub record IsKept (env : Environment) (arena : List InstrSeq) (high : ℕ) (f : OpenSequence) (around : List ℕ) (s : Sequence Occurrence) : Type 0 where
-  pub items : Items Placed Located
+  pub items : Items SequenceAt LocatedInstr
   pub are_items : AreItems arena f.instrs.items items
   pub rise : RiseIn (suc f.place) items high
-  pub is_normal : items_in (f.place ∷ around) items ≡ normal (typing_of env) (reshown name_at s)
+  pub is_normal : items_in (f.place ∷ around) items ≡ normal (typing_of env) (map_sequence name_at s)
   pub is_dead : f.unreachable ≡ is_dead s
 
 -- an empty sequence of the type stands in the arena
@@ -39,7 +39,7 @@ pub record IsReserved (arena : List InstrSeq) (place : ℕ) (type : InstrSeqType
 
 -- The sequence is that of the construct which this operator opened. (Of the constructs `block` is carried so far.)
 pub record IsOpenedBy (env : Environment) (arena : List InstrSeq) (f : OpenSequence) (a : Occurrence) : Type 0 where
-  pub reserved : IsReserved arena f.place (type_of (typing_of env) a.named)
+  pub reserved : IsReserved arena f.place (construct_type (typing_of env) a.named)
   pub location : f.opened_at ≡ a.location
   pub operator : kept_operation a.named ≡ operation (Byte 0x02) (block tt ∷ [])
 
@@ -58,7 +58,7 @@ Holds env arena high (f ∷ fs) (l ∷ ls) s =
 -- ---- what single steps of the code do
 
 -- The instructions stand behind those of the sequence, which is then dead or not; where it was dead, all is as it was.
-pub record Takes (f g : OpenSequence) (more : List Located) (dead : Bool) : Type 0 where
+pub record Takes (f g : OpenSequence) (more : List LocatedInstr) (dead : Bool) : Type 0 where
   pub place : g.place ≡ f.place
   pub opened_at : g.opened_at ≡ f.opened_at
   pub cut : f.unreachable ≡ true → g ≡ f

@@ -4,7 +4,7 @@ use Rattle.std.specs.Prelude.{ℕ, ◌^◌, List, slice_get, Ok}
 use Rattle.wasm_ops.specs.declared.types.BlockType.{BlockType}
 use Rattle.wasm_body.specs.declared.error.ParseError.{ParseError}
 use Rattle.wasm_body.specs.declared.error.ParseError.TheVariants.{NoSuchLabel}
-use Rattle.wasm_body.specs.Results.{◌>>=◌, some_or}
+use Rattle.walrus_ir.specs.Results.{◌>>=◌, some_or}
 use Rattle.wasm_body.specs.Frames.{Frame, outside}
 use Rattle.wasm_body.specs.Translation.{Translation}
 use Rattle.wasm_body.specs.Naming.{Environment, id_at, name_block, handler_label, open_label, naming}

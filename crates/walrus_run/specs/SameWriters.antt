@@ -1,7 +1,7 @@
 -- Visitors of a writer that are the same take and refuse the same events.
 use Rattle.std.specs.Prelude.{◌++◌, ℕ, List, ◌∷◌}
 use Rattle.std.proofs.Common.{refl, sym, ap, ◌∙◌}
-use Rattle.walrus_ir.specs.Events.{Event, StartSequence, EndSequence, VisitInstruction, NameFunction, NameLocal, NameData}
+use Rattle.walrus_ir.specs.Events.{WalkEvent, StartSequence, EndSequence, VisitInstruction, NameFunction, NameLocal, NameData}
 use Rattle.walrus_ir.specs.Events.{AreStepsAlike, AreRefusalsAlike}
 use Rattle.wasm_ops.specs.Shortest.{short}
 use Rattle.wasm_body.specs.Control.{end_operation}

@@ -1,8 +1,8 @@
 -- The open sequences of a writer, and the table of their levels.
 use Rattle.std.specs.Prelude.{◌≡◌, ℕ, List, [], ◌∷◌, ◌++◌, length, Option, None, Some, ◌==◌, if◌then◌else◌, slice_index_or, Result}
 use Rattle.wasm_body.specs.declared.error.EmitError.{EmitError}
-use Rattle.wasm_body.specs.Results.{◌>>=◌}
-use Rattle.wasm_body.specs.Bytes.{fitting}
+use Rattle.walrus_ir.specs.Results.{◌>>=◌}
+use Rattle.wasm_body.specs.Bytes.{in_32_bits}
 use Rattle.wasm_body.specs.FlatText.{depth_of}
 use Rattle.wasm_body.specs.TreeOfFunction.{target_in}
 use Rattle.walrus_run.specs.declared.scopes.Entered.{Entered}
@@ -27,4 +27,4 @@ pub record IsOpen (s : Scopes) (count : ℕ) (around : List ℕ) : Type 0 where
 
 -- what is written for the depth of a place
 abbrev pub depth_in : List ℕ → ℕ → Result ℕ EmitError
-depth_in around place = depth_of (target_in around place) >>= fitting
+depth_in around place = depth_of (target_in around place) >>= in_32_bits

@@ -11,7 +11,7 @@ use Rattle.wasm_body.specs.declared.error.EmitError.{EmitError}
 use Rattle.wasm_body.specs.declared.error.EmitError.TheVariants.{Index, UnnumberedLocal}
 use Rattle.walrus_body.specs.declared.ids_to_indices.IdsToIndices.{IdsToIndices}
 use Rattle.walrus_body.specs.IndexMaps.{number_of}
-use Rattle.wasm_body.specs.Results.{faulting}
+use Rattle.walrus_ir.specs.Results.{with_fault}
 use Rattle.wasm_body.specs.Translation.{translate}
 use Rattle.wasm_body.specs.Bytes.{Numbers, numbering}
 use Rattle.wasm_body.specs.FlatText.{then_by, typed}
@@ -23,7 +23,7 @@ use Rattle.walrus_run.specs.declared.write_fault.WriteFault.TheVariants.{Emit, N
 -- The numbers that index maps give. (Locals have none: no operator on them is carried yet.)
 abbrev pub numbers_of : IdsToIndices → Numbers
 numbers_of m = record {
-  number_of = λ space id. faulting Index (number_of m space id);
+  number_of = λ space id. with_fault Index (number_of m space id);
   local_number = λ id. Err UnnumberedLocal;
 }
 

@@ -3,7 +3,7 @@ ghost use Rattle.std.specs.Prelude.{◌≡◌, [], ◌∷◌, None, IfOk, IfErr,
 ghost use Rattle.std.specs.FinMap as map;
 ghost use Rattle.wasm_body.specs.declared.error.IndexError.TheVariants.{Memory};
 ghost use Rattle.wasm_ops.specs.declared.types.Space.TheVariants.{Tables, Types, Funcs, Globals, Memories, Elements, Data, Tags};
-ghost use Rattle.walrus_body.specs.IndexMaps.{no_ids, ids_in, with_ids, with_locals, numbers_in, with_numbers};
+ghost use Rattle.walrus_body.specs.IndexMaps.{no_ids, ids_in, with_ids_in, with_locals, numbers_in, with_numbers};
 ghost use Rattle.walrus_body.specs.Numbering.{pushed};
 ghost use Rattle.walrus_run.specs.Demo.{demo_module, demo_indices, demo_numbers};
 ghost use Rattle.walrus_run.specs.Writing.{numbers_of};
@@ -44,7 +44,7 @@ pub(crate) fn module(alloc: Global) -> Result<Module, AllocError>
 /// Gives old indices to the types of an index map without any.
 fn push_types(indices: &mut IndicesToIds) -> Result<(), IndexError>
     requires { ids_in indices.old Types ≡ [] }
-    ensures ok { OnOk result (indices.new ≡ with_ids Types (0 ∷ 1 ∷ 2 ∷ 3 ∷ []) indices.old) }
+    ensures ok { OnOk result (indices.new ≡ with_ids_in Types (0 ∷ 1 ∷ 2 ∷ 3 ∷ []) indices.old) }
     ensures err { IfErr result (λ e. e ≡ Memory) }
 {
     indices.push_type(TypeId::new(0))?;
@@ -58,7 +58,7 @@ fn push_types(indices: &mut IndicesToIds) -> Result<(), IndexError>
 fn push_funcs_and_tags(indices: &mut IndicesToIds) -> Result<(), IndexError>
     requires funcs { ids_in indices.old Funcs ≡ [] }
     requires tags { ids_in indices.old Tags ≡ [] }
-    ensures ok { OnOk result (indices.new ≡ with_ids Tags (0 ∷ 1 ∷ []) (with_ids Funcs (0 ∷ 1 ∷ []) indices.old)) }
+    ensures ok { OnOk result (indices.new ≡ with_ids_in Tags (0 ∷ 1 ∷ []) (with_ids_in Funcs (0 ∷ 1 ∷ []) indices.old)) }
     ensures err { IfErr result (λ e. e ≡ Memory) }
 {
     indices.push_func(FunctionId::new(0))?;
@@ -75,7 +75,7 @@ fn push_storage(indices: &mut IndicesToIds) -> Result<(), IndexError>
     requires globals { ids_in indices.old Globals ≡ [] }
     requires data_segments { ids_in indices.old Data ≡ [] }
     requires elements { ids_in indices.old Elements ≡ [] }
-    ensures ok { OnOk result (indices.new ≡ with_ids Elements (0 ∷ []) (with_ids Data (0 ∷ []) (with_ids Globals (0 ∷ []) (with_ids Memories (0 ∷ []) (with_ids Tables (0 ∷ []) indices.old))))) }
+    ensures ok { OnOk result (indices.new ≡ with_ids_in Elements (0 ∷ []) (with_ids_in Data (0 ∷ []) (with_ids_in Globals (0 ∷ []) (with_ids_in Memories (0 ∷ []) (with_ids_in Tables (0 ∷ []) indices.old))))) }
     ensures err { IfErr result (λ e. e ≡ Memory) }
 {
     indices.push_table(TableId::new(0))?;

@@ -1,14 +1,14 @@
 //! The instructions that operators become: indices are looked up in the order in which they are written.
 ghost use Rattle.std.specs.Prelude.{◌≡◌, ◌<◌, ◌^◌, List, [], true, IfOk};
 ghost use Rattle.walrus_ir.specs.declared.instr.Instr.TheVariants as instr;
-ghost use Rattle.walrus_ir.specs.Unfolding.{places_in};
+ghost use Rattle.walrus_ir.specs.Unfolding.{slots_in};
 ghost use Rattle.wasm_ops.specs.Meaning.{meaning};
 ghost use Rattle.wasm_encode.specs.Writable.{IsWritable};
-ghost use Rattle.wasm_body.specs.Results.{Gives};
+ghost use Rattle.walrus_ir.specs.Results.{Gives};
 ghost use Rattle.wasm_body.specs.Translation.{translate};
 ghost use Rattle.wasm_body.specs.Frames.{Frame};
 ghost use Rattle.wasm_body.specs.Naming.{Occurrence};
-ghost use Rattle.wasm_body.specs.InstructionTable.{operation_of, legacy_clauses};
+ghost use Rattle.wasm_body.specs.InstructionTable.{operation_of, clauses_of_try};
 ghost use Rattle.walrus_run.specs.Parsers.{env_of, open_places};
 ghost use Rattle.walrus_run.specs.Placing.{placing};
 ghost use Rattle.walrus_run.specs.OperatorKinds.{is_instruction, is_memory, is_table};
@@ -46,7 +46,7 @@ impl Parser<'_> {
         requires memory { is_memory operator.now ≡ true }
         requires writable { IsWritable (meaning operator.now) }
         ensures placed { (fs : List (Frame Occurrence)) → Gives operation_of result (translate (placing (env_of self.now) fs (open_places self.now)) (meaning operator.now)) }
-        ensures plain { IfOk result (λ i. (places_in i ≡ []) × (legacy_clauses i ≡ [])) }
+        ensures plain { IfOk result (λ i. (slots_in i ≡ []) × (clauses_of_try i ≡ [])) }
     {
         let indices = self.indices;
         Ok(match *operator {
@@ -88,7 +88,7 @@ impl Parser<'_> {
     fn table_instruction(&self, operator: &Operator) -> Result<Instr, ParseError>
         requires { is_table operator.now ≡ true }
         ensures placed { (fs : List (Frame Occurrence)) → Gives operation_of result (translate (placing (env_of self.now) fs (open_places self.now)) (meaning operator.now)) }
-        ensures plain { IfOk result (λ i. (places_in i ≡ []) × (legacy_clauses i ≡ [])) }
+        ensures plain { IfOk result (λ i. (slots_in i ≡ []) × (clauses_of_try i ≡ [])) }
     {
         let indices = self.indices;
         Ok(match *operator {
@@ -127,7 +127,7 @@ impl Parser<'_> {
         requires kind { is_instruction operator.now ≡ true }
         requires writable { IsWritable (meaning operator.now) }
         ensures placed { (fs : List (Frame Occurrence)) → Gives operation_of result (translate (placing (env_of self.now) fs (open_places self.now)) (meaning operator.now)) }
-        ensures plain { IfOk result (λ i. (places_in i ≡ []) × (legacy_clauses i ≡ [])) }
+        ensures plain { IfOk result (λ i. (slots_in i ≡ []) × (clauses_of_try i ≡ [])) }
     {
         let indices = self.indices;
         Ok(match *operator {

@@ -1,7 +1,7 @@
 //! The sequences that are open while a tree is written.
 ghost use Rattle.std.specs.Prelude.{◌≡◌, ◌≤◌, ◌⊎◌, ◌↔◌, ◌∷◌, [], ℕ, List, OnOk, OnErr, IfOk, IfErr};
 ghost use Rattle.wasm_body.specs.declared.error.EmitError.TheVariants as emit;
-ghost use Rattle.wasm_body.specs.Bytes.{fitting};
+ghost use Rattle.wasm_body.specs.Bytes.{in_32_bits};
 ghost use Rattle.walrus_run.specs.Scopes.{IsOpen, depth_in};
 
 use std::alloc::{AllocError, Global};
@@ -26,8 +26,8 @@ struct Entered {
 }
 
 /// A depth as it is written.
-fn fitting(depth: usize) -> Result<u32, EmitError>
-    ensures { result ≡ fitting depth }
+fn in_32_bits(depth: usize) -> Result<u32, EmitError>
+    ensures { result ≡ in_32_bits depth }
 {
     u32::try_from(depth).map_err(|_| EmitError::TooLarge)
 }
@@ -53,7 +53,7 @@ impl Scopes {
         let Some(level) = level else {
             return Err(EmitError::BranchOutside);
         };
-        fitting(self.entered.len().saturating_sub(level).saturating_sub(1))
+        in_32_bits(self.entered.len().saturating_sub(level).saturating_sub(1))
     }
 
     /// Opens the sequence at a place.

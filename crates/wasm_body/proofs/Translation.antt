@@ -1,6 +1,5 @@
 -- Translations of operators, one after the other and refused alike.
 pub mod Steps
-pub mod ResultLemmas
 pub mod Translations
 pub mod Outcomes
 pub mod Answering

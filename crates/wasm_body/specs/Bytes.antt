@@ -11,7 +11,7 @@ use Rattle.wasm_ops.specs.Operations.{RawOperation}
 use Rattle.wasm_ops.specs.Shortest.{short}
 use Rattle.wasm_body.specs.declared.error.EmitError.{EmitError}
 use Rattle.wasm_body.specs.declared.error.EmitError.TheVariants.{TooLarge}
-use Rattle.wasm_body.specs.Results.{◌>>=◌, unless}
+use Rattle.walrus_ir.specs.Results.{◌>>=◌, unless}
 use Rattle.wasm_body.specs.Translation.{Translation, translate_value, Located}
 use Rattle.wasm_body.specs.FunctionTree.{FunctionTree}
 use Rattle.wasm_body.specs.FlatText.{then_by, tree_text}
@@ -22,31 +22,31 @@ pub record Numbers : Type 0 where
   pub local_number : ℕ → Result ℕ EmitError
 
 -- what is written in 32 bits
-abbrev pub fitting : ℕ → Result ℕ EmitError
-fitting n = unless (nat_lt n (2 ^ 32)) TooLarge >>= λ _. Ok n
+abbrev pub in_32_bits : ℕ → Result ℕ EmitError
+in_32_bits n = unless (nat_lt n (2 ^ 32)) TooLarge >>= λ _. Ok n
 
 -- numbers that are written: those of 32 bits
-abbrev pub fitting_numbers : Numbers → Numbers
-fitting_numbers to = record { number_of = λ space id. to.number_of space id >>= fitting; local_number = λ id. to.local_number id >>= fitting }
+abbrev pub numbers_in_32_bits : Numbers → Numbers
+numbers_in_32_bits to = record { number_of = λ space id. to.number_of space id >>= in_32_bits; local_number = λ id. to.local_number id >>= in_32_bits }
 
 abbrev pub numbered_block : Numbers → InstrSeqType → Result BlockType EmitError
 numbered_block to (Simple None) = Ok Empty
-numbered_block to (Simple (Some t)) = translate_value (fitting_numbers to).number_of t >>= λ u. Ok (Value u)
-numbered_block to (MultiValue id) = (fitting_numbers to).number_of Types id >>= λ n. Ok (FuncType n)
+numbered_block to (Simple (Some t)) = translate_value (numbers_in_32_bits to).number_of t >>= λ u. Ok (Value u)
+numbered_block to (MultiValue id) = (numbers_in_32_bits to).number_of Types id >>= λ n. Ok (FuncType n)
 
 -- Numbering: a number for each id, and the number of its type for a block type. Each number, depth and count is one of 32
 -- bits.
 abbrev pub numbering : Numbers → Translation ℕ InstrSeqType ℕ BlockType EmitError
 numbering to = record {
-  index = (fitting_numbers to).number_of;
-  local = (fitting_numbers to).local_number;
-  label = fitting;
-  handler = fitting;
-  outer = fitting;
-  number = fitting;
+  index = (numbers_in_32_bits to).number_of;
+  local = (numbers_in_32_bits to).local_number;
+  label = in_32_bits;
+  handler = in_32_bits;
+  outer = in_32_bits;
+  number = in_32_bits;
   block = numbered_block to;
   alignment = λ e. e;
-  count = λ n. fitting n >>= λ _. Ok tt;
+  count = λ n. in_32_bits n >>= λ _. Ok tt;
 }
 
 -- the operators of a tree as they are spelt, each at its location

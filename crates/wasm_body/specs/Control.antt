@@ -168,8 +168,8 @@ pub record Marked (A : Type 0) : Type 0 where
   pub shown : A
   pub control : Control
 
-abbrev pub marked : {A : Type 0} → A → Control → Marked A
-marked shown control = record { shown = shown; control = control }
+abbrev pub with_control : {A : Type 0} → A → Control → Marked A
+with_control shown control = record { shown = shown; control = control }
 
 -- ---- the operators that part and close constructs
 

@@ -10,9 +10,9 @@ use Rattle.wasm_ops.specs.Operations.{index, Operation, operation}
 use Rattle.wasm_body.specs.declared.error.EmitError.{EmitError}
 use Rattle.wasm_body.specs.declared.error.EmitError.TheVariants.{Index, BranchOutside, BadClauses}
 use Rattle.wasm_body.specs.declared.error.IndexError.TheVariants.{Unnumbered}
-use Rattle.wasm_body.specs.Results.{◌>>=◌, some_or, gathered}
+use Rattle.walrus_ir.specs.Results.{◌>>=◌, some_or, gather}
 use Rattle.wasm_body.specs.Control.{Role, an_if, a_try, a_block, a_loop, a_try_table, role_of, end_operation, else_operation, catch_opcode, catch_all_operation, delegate_operation}
-use Rattle.wasm_body.specs.Translation.{Translation, translate, Located, located}
+use Rattle.wasm_body.specs.Translation.{Translation, translate, Located, at_location}
 use Rattle.wasm_body.specs.FunctionTree.{Target, Depth, Outside, Head, LegacyClause, handles, handles_all, delegates, Instruction, FunctionTree}
 use Rattle.wasm_body.specs.NormalForm.{Typing}
 
@@ -67,7 +67,7 @@ closers _ cs ss = []
 -- ---- the text
 
 abbrev pub written : {M C : Type 0} → Writing M C → TextOperation → ℕ → Result (Located (Operation M C)) EmitError
-written w o l = translate w o >>= λ x. Ok (located x l)
+written w o l = translate w o >>= λ x. Ok (at_location x l)
 
 -- where each block type is this one
 abbrev pub typed : {M C : Type 0} → Writing M C → InstrSeqType → Translation Target (Unit {0}) M C EmitError
@@ -89,7 +89,7 @@ first_type (sequence h is r) = h.type
 
 -- an instruction's own operator
 abbrev pub opened : {M C : Type 0} → Writing M C → Instruction → InstrSeqType → Result (Located (Operation M C)) EmitError
-opened w i t = if are_lawful i.clauses then (translate (typed w t) i.op >>= λ x. Ok (located x i.location)) else Err BadClauses
+opened w i t = if are_lawful i.clauses then (translate (typed w t) i.op >>= λ x. Ok (at_location x i.location)) else Err BadClauses
 
 -- each sequence, and the operator that closes it at its end location
 abbrev mutual
@@ -104,7 +104,7 @@ abbrev mutual
 
 -- the operators of the tree, or the first fault in order of writing
 abbrev pub tree_text : {M C : Type 0} → Writing M C → FunctionTree → Result (List (Located (Operation M C))) EmitError
-tree_text w t = gathered (texts w (end_operation ∷ []) (alone t) [])
+tree_text w t = gather (texts w (end_operation ∷ []) (alone t) [])
 
 -- ---- ways of writing
 

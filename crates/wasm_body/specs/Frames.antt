@@ -1,6 +1,6 @@
 -- The sequences around an operator, innermost first: the control frames of the standard's validation algorithm.
 use Rattle.std.specs.Prelude.{ℕ, zero, suc, List, [], ◌∷◌, Bool, true, false, Option, Some, None, is_some}
-use Rattle.wasm_body.specs.Control.{Construct, Block, Loop, TryTable, If, Try, Control, Does, Opens, Else, Catch, CatchAll, End, Delegate, Marked, marked}
+use Rattle.wasm_body.specs.Control.{Construct, Block, Loop, TryTable, If, Try, Control, Does, Opens, Else, Catch, CatchAll, End, Delegate, Marked, with_control}
 use Rattle.wasm_body.specs.SourceTree.{construct_of, Sequence, Empty, Single, Wrapped, IfThen, IfElse, TryCatch, TryDelegate, Clauses, Ended, Catches, CatchesAll, Body}
 
 -- an open sequence, with what is shown of the operator that opened its construct
@@ -23,36 +23,36 @@ Rule A = List (Frame A) → Marked A → Type 0
 abbrev mutual
   pub Follows : {A : Type 0} → Rule A → List (Frame A) → Sequence A → Type 0
   Follows R fs Empty = Unit {0}
-  Follows R fs (Single a action r) = R fs (marked a (Does action)) × Follows R fs r
+  Follows R fs (Single a action r) = R fs (with_control a (Does action)) × Follows R fs r
   Follows R fs (Wrapped a w b e r) =
-      R fs (marked a (Opens (construct_of w))) × Follows R (OfWrapper a ∷ fs) b × R (OfWrapper a ∷ fs) (marked e End) × Follows R fs r
+      R fs (with_control a (Opens (construct_of w))) × Follows R (OfWrapper a ∷ fs) b × R (OfWrapper a ∷ fs) (with_control e End) × Follows R fs r
   Follows R fs (IfThen a b e r) =
-      R fs (marked a (Opens If)) × Follows R (Consequent a ∷ fs) b × R (Consequent a ∷ fs) (marked e End) × Follows R fs r
+      R fs (with_control a (Opens If)) × Follows R (Consequent a ∷ fs) b × R (Consequent a ∷ fs) (with_control e End) × Follows R fs r
   Follows R fs (IfElse a b l c e r) =
-      R fs (marked a (Opens If))
+      R fs (with_control a (Opens If))
       × Follows R (Consequent a ∷ fs) b
-      × R (Consequent a ∷ fs) (marked l Else)
+      × R (Consequent a ∷ fs) (with_control l Else)
       × Follows R (Alternative a ∷ fs) c
-      × R (Alternative a ∷ fs) (marked e End)
+      × R (Alternative a ∷ fs) (with_control e End)
       × Follows R fs r
   Follows R fs (TryCatch a b cs r) =
-      R fs (marked a (Opens Try)) × Follows R (TryBody a ∷ fs) b × FollowsIn R fs a (TryBody a) cs × Follows R fs r
+      R fs (with_control a (Opens Try)) × Follows R (TryBody a ∷ fs) b × FollowsIn R fs a (TryBody a) cs × Follows R fs r
   Follows R fs (TryDelegate a b e n r) =
-      R fs (marked a (Opens Try)) × Follows R (TryBody a ∷ fs) b × R (TryBody a ∷ fs) (marked e (Delegate n)) × Follows R fs r
+      R fs (with_control a (Opens Try)) × Follows R (TryBody a ∷ fs) b × R (TryBody a ∷ fs) (with_control e (Delegate n)) × Follows R fs r
 
   -- the clauses behind the sequence f of the `try` that a opens
   pub FollowsIn : {A : Type 0} → Rule A → List (Frame A) → A → Frame A → Clauses A → Type 0
-  FollowsIn R fs a f (Ended e) = R (f ∷ fs) (marked e End)
-  FollowsIn R fs a f (Catches h t b cs) = R (f ∷ fs) (marked h (Catch t)) × Follows R (Handler a ∷ fs) b × FollowsIn R fs a (Handler a) cs
+  FollowsIn R fs a f (Ended e) = R (f ∷ fs) (with_control e End)
+  FollowsIn R fs a f (Catches h t b cs) = R (f ∷ fs) (with_control h (Catch t)) × Follows R (Handler a ∷ fs) b × FollowsIn R fs a (Handler a) cs
   FollowsIn R fs a f (CatchesAll h b e) =
-      R (f ∷ fs) (marked h CatchAll) × Follows R (HandlerOfAll a ∷ fs) b × R (HandlerOfAll a ∷ fs) (marked e End)
+      R (f ∷ fs) (with_control h CatchAll) × Follows R (HandlerOfAll a ∷ fs) b × R (HandlerOfAll a ∷ fs) (with_control e End)
 
 abbrev pub function_frames : {A : Type 0} → List (Frame A)
 function_frames = OfFunction ∷ []
 
 -- The rule holds at each operator of the body.
 abbrev pub BodyFollows : {A : Type 0} → Rule A → Body A → Type 0
-BodyFollows R b = Follows R function_frames b.sequence × R function_frames (marked b.close End)
+BodyFollows R b = Follows R function_frames b.sequence × R function_frames (with_control b.close End)
 
 -- ---- the frames behind an operator
 

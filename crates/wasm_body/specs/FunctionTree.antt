@@ -2,7 +2,7 @@
 -- its location and with the sequences in it.
 use Rattle.std.specs.Prelude.{◌≡◌, ℕ, List}
 use Rattle.walrus_ir.specs.declared.val_type.InstrSeqType.{InstrSeqType}
-use Rattle.walrus_ir.specs.Tree.{Items, Sequences, Tree, alone, mapped, mapped_each}
+use Rattle.walrus_ir.specs.Tree.{Items, Sequences, Tree, alone, map_items, map_sequences}
 use Rattle.wasm_ops.specs.Operations.{Operation}
 
 -- what a branch goes to: a sequence around it, by the number of sequences between, or none of them
@@ -48,10 +48,10 @@ abbrev pub bare : Instruction → Bare
 bare i = (i.op, i.clauses)
 
 abbrev pub bare_items : Items Head Instruction → Items InstrSeqType Bare
-bare_items is = mapped (λ h. h.type) bare is
+bare_items is = map_items (λ h. h.type) bare is
 
 abbrev pub bare_sequences : Sequences Head Instruction → Sequences InstrSeqType Bare
-bare_sequences ss = mapped_each (λ h. h.type) bare ss
+bare_sequences ss = map_sequences (λ h. h.type) bare ss
 
 abbrev pub IsSameTree : FunctionTree → FunctionTree → Type 0
 IsSameTree t u = bare_sequences (alone t) ≡ bare_sequences (alone u)

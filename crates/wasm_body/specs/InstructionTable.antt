@@ -33,8 +33,8 @@ PlacedOperation = Operation ℕ (Unit {0})
 
 -- ---- immediates
 
-abbrev pub a_block : PlacedImmediate
-a_block = block tt
+abbrev pub block_immediate : PlacedImmediate
+block_immediate = block tt
 
 abbrev pub table_clause : TryTableCatch → CatchClause ℕ
 table_clause (table_catch.Catch tag place) = record { by_reference = false; tag = Some tag; label = place }
@@ -147,11 +147,11 @@ storage_operation i = reference_operation i
 -- control, calls, operands, locals, globals and vectors
 abbrev pub operation_of : Instr → PlacedOperation
 operation_of instr.Unreachable = operation (Byte 0x00) []
-operation_of (instr.Block x) = operation (Byte 0x02) (a_block ∷ [])
-operation_of (instr.Loop x) = operation (Byte 0x03) (a_block ∷ [])
-operation_of (instr.IfElse x) = operation (Byte 0x04) (a_block ∷ [])
-operation_of (instr.Try x) = operation (Byte 0x06) (a_block ∷ [])
-operation_of (instr.TryTable x) = operation (Byte 0x1f) (a_block ∷ clauses (map table_clause x.catches.items) ∷ [])
+operation_of (instr.Block x) = operation (Byte 0x02) (block_immediate ∷ [])
+operation_of (instr.Loop x) = operation (Byte 0x03) (block_immediate ∷ [])
+operation_of (instr.IfElse x) = operation (Byte 0x04) (block_immediate ∷ [])
+operation_of (instr.Try x) = operation (Byte 0x06) (block_immediate ∷ [])
+operation_of (instr.TryTable x) = operation (Byte 0x1f) (block_immediate ∷ clauses (map table_clause x.catches.items) ∷ [])
 operation_of (instr.Throw x) = operation (Byte 0x08) (index Tags x.tag ∷ [])
 operation_of (instr.Rethrow x) = operation (Byte 0x09) (handler x.relative_depth ∷ [])
 operation_of instr.ThrowRef = operation (Byte 0x0a) []
@@ -196,6 +196,6 @@ legacy_clause (legacy_catch.Catch tag place) = handles tag
 legacy_clause (legacy_catch.CatchAll place) = handles_all
 legacy_clause (legacy_catch.Delegate depth) = delegates depth
 
-abbrev pub legacy_clauses : Instr → List LegacyClause
-legacy_clauses (instr.Try x) = map legacy_clause x.catches.items
-legacy_clauses _ = []
+abbrev pub clauses_of_try : Instr → List LegacyClause
+clauses_of_try (instr.Try x) = map legacy_clause x.catches.items
+clauses_of_try _ = []

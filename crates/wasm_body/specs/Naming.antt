@@ -12,7 +12,7 @@ use Rattle.wasm_ops.specs.Operations.{Immediate, block, Operation, RawOperation}
 use Rattle.wasm_body.specs.declared.error.IndexError.{IndexError}
 use Rattle.wasm_body.specs.declared.error.ParseError.{ParseError}
 use Rattle.wasm_body.specs.declared.error.ParseError.TheVariants.{Index, NoSuchLabel, NotAFunctionType, TypeMissing, EntryTypeMissing, ElseOutsideIf, CatchOutsideTry, DelegateOutsideTry, RethrowOutsideHandler, UnknownId}
-use Rattle.wasm_body.specs.Results.{◌>>=◌, unless, some_or, faulting}
+use Rattle.walrus_ir.specs.Results.{◌>>=◌, unless, some_or, with_fault}
 use Rattle.wasm_body.specs.Control.{Control, Does, Opens, Else, Catch, CatchAll, End, Delegate, control_of}
 use Rattle.wasm_body.specs.Frames.{Frame, handler_at, outside, opener_of, may_stand}
 use Rattle.wasm_body.specs.Translation.{Translation, translate, translate_value}
@@ -50,7 +50,7 @@ stands fs c = unless (may_stand fs c) (position_fault c)
 -- ---- 2: the immediates, in the order in which they are written
 
 abbrev pub id_at : Environment → Space → ℕ → Result ℕ ParseError
-id_at env space n = faulting Index (env.id_of space n)
+id_at env space n = with_fault Index (env.id_of space n)
 
 -- a function type or an entry type
 abbrev pub function_type : Environment → ℕ → Result Signature ParseError
@@ -71,7 +71,7 @@ handler_label fs n = open_label fs n >>= λ m. unless (handler_at fs n) RethrowO
 abbrev pub naming : {A : Type 0} → Environment → List (Frame A) → Translation ℕ BlockType ℕ Signature ParseError
 naming env fs = record {
   index = id_at env;
-  local = λ n. faulting Index (env.local_of n);
+  local = λ n. with_fault Index (env.local_of n);
   label = open_label fs;
   handler = handler_label fs;
   outer = open_label (outside fs);
@@ -135,5 +135,5 @@ named_in env fs o =
 -- ---- the function's own type
 
 -- it is a function type, and the module holds an entry type for its results
-abbrev pub entry_of : Environment → Result ℕ ParseError
-entry_of env = function_type env env.type >>= λ s. some_or (find_entry env.types s.results) EntryTypeMissing
+abbrev pub entry_type_id : Environment → Result ℕ ParseError
+entry_type_id env = function_type env env.type >>= λ s. some_or (find_entry env.types s.results) EntryTypeMissing

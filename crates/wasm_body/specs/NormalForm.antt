@@ -6,11 +6,11 @@ use Rattle.walrus_ir.specs.declared.val_type.InstrSeqType.TheVariants.{Simple, M
 use Rattle.walrus_ir.specs.Types.{Signature, signature, signature_of, signature_of_type, pick}
 use Rattle.walrus_ir.specs.Tree.{Items, no_items, item, Sequences, no_sequences, sequence}
 use Rattle.wasm_body.specs.declared.error.ParseError.{ParseError}
-use Rattle.wasm_body.specs.Results.{sure}
+use Rattle.walrus_ir.specs.Results.{sure}
 use Rattle.wasm_body.specs.Control.{Action, Nop, Plain, Branch, ConditionalBranch, TableBranch, Return, Unreachable, Throw, ThrowRef, Rethrow, TailCall}
-use Rattle.wasm_body.specs.SourceTree.{Sequence, Empty, Single, Wrapped, IfThen, IfElse, TryCatch, TryDelegate, Clauses, Ended, Catches, CatchesAll, Body, reshown_body}
-use Rattle.wasm_body.specs.Translation.{Translation, translate_immediates, Located, located}
-use Rattle.wasm_body.specs.Naming.{NamedOperation, Occurrence, Environment, block_signature, entry_of}
+use Rattle.wasm_body.specs.SourceTree.{Sequence, Empty, Single, Wrapped, IfThen, IfElse, TryCatch, TryDelegate, Clauses, Ended, Catches, CatchesAll, Body, map_body}
+use Rattle.wasm_body.specs.Translation.{Translation, translate_immediates, Located, at_location}
+use Rattle.wasm_body.specs.Naming.{NamedOperation, Occurrence, Environment, block_signature, entry_type_id}
 use Rattle.wasm_body.specs.FunctionTree.{Target, Depth, TreeOperation, Head, LegacyClause, handles, handles_all, delegates, Instruction, FunctionTree, default_location}
 
 -- ---- types of sequences
@@ -36,11 +36,11 @@ typing_of env = record {
   picked = λ s. unwrap_or (pick env.types s) (Simple None);
   signature_of = signature_of_type env.types;
   tag_parameters = λ tag. parameters_of (option_and_then (signature_of env.types) (slice_get env.tags tag));
-  entry = entry_type (entry_of env);
+  entry = entry_type (entry_type_id env);
 }
 
-abbrev pub type_of : Typing → NamedOperation → InstrSeqType
-type_of m o = m.picked (block_signature o)
+abbrev pub construct_type : Typing → NamedOperation → InstrSeqType
+construct_type m o = m.picked (block_signature o)
 
 -- a handler gives what its `try` does
 abbrev pub handler_type : Typing → NamedOperation → List (ValType ℕ) → InstrSeqType
@@ -117,21 +117,21 @@ abbrev mutual
   pub normal : Typing → Sequence (Located NamedOperation) → Items Head Instruction
   normal m Empty = no_items
   normal m (Single a action r) = with_fate (fate action) (instruction a []) (normal m r)
-  normal m (Wrapped a w b e r) = item (instruction a []) (sequence (head (type_of m a.op) e.location) (normal m b) no_sequences) (normal m r)
+  normal m (Wrapped a w b e r) = item (instruction a []) (sequence (head (construct_type m a.op) e.location) (normal m b) no_sequences) (normal m r)
   normal m (IfThen a b e r) =
       item (instruction a [])
-      (sequence (head (type_of m a.op) e.location) (normal m b)
-      (sequence (head (type_of m a.op) default_location) no_items no_sequences))
+      (sequence (head (construct_type m a.op) e.location) (normal m b)
+      (sequence (head (construct_type m a.op) default_location) no_items no_sequences))
       (normal m r)
   normal m (IfElse a b l c e r) =
       item (instruction a [])
-      (sequence (head (type_of m a.op) l.location) (normal m b)
-      (sequence (head (type_of m a.op) e.location) (normal m c) no_sequences))
+      (sequence (head (construct_type m a.op) l.location) (normal m b)
+      (sequence (head (construct_type m a.op) e.location) (normal m c) no_sequences))
       (normal m r)
   normal m (TryCatch a b cs r) =
-      item (instruction a (legacy_clauses cs)) (sequence (head (type_of m a.op) (closed_at cs)) (normal m b) (handlers m a.op cs)) (normal m r)
+      item (instruction a (legacy_clauses cs)) (sequence (head (construct_type m a.op) (closed_at cs)) (normal m b) (handlers m a.op cs)) (normal m r)
   normal m (TryDelegate a b e n r) =
-      item (instruction a (delegates n ∷ [])) (sequence (head (type_of m a.op) default_location) (normal m b) no_sequences) (normal m r)
+      item (instruction a (delegates n ∷ [])) (sequence (head (construct_type m a.op) default_location) (normal m b) no_sequences) (normal m r)
 
   -- the handlers of the `try` that o opens
   pub handlers : Typing → NamedOperation → Clauses (Located NamedOperation) → Sequences Head Instruction
@@ -144,10 +144,10 @@ normal_form m b = record { head = head m.entry b.close.location; items = normal 
 
 -- an operator as it occurs, by its name and its location
 abbrev pub name_at : Occurrence → Located NamedOperation
-name_at x = located x.named x.location
+name_at x = at_location x.named x.location
 
 abbrev pub named_body : Body Occurrence → Body (Located NamedOperation)
-named_body b = reshown_body name_at b
+named_body b = map_body name_at b
 
 -- the tree that a parse makes of a body in an environment
 abbrev pub body_tree : Environment → Body Occurrence → FunctionTree

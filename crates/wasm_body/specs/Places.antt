@@ -1,6 +1,6 @@
 -- Runs by place, and what is shown of them.
 use Rattle.std.specs.Prelude.{ℕ, suc, List, [], ◌∷◌, map, Option, slice_get}
-use Rattle.wasm_body.specs.Control.{Control, Marked, marked}
+use Rattle.wasm_body.specs.Control.{Control, Marked, with_control}
 use Rattle.wasm_body.specs.Machine.{Event, Executed, Taken, Run, Outcome, run}
 
 -- a run whose operators are shown in another way
@@ -14,7 +14,7 @@ show_run f r = record { events = map (show_event f) r.events; ending = r.ending 
 -- the operators of a list, each shown by its place there
 abbrev pub placed_from : ℕ → List Control → List (Marked ℕ)
 placed_from i [] = []
-placed_from i (c ∷ cs) = marked i c ∷ placed_from (suc i) cs
+placed_from i (c ∷ cs) = with_control i c ∷ placed_from (suc i) cs
 
 -- the run of a list: an event names its operator by the place
 abbrev pub run_by_place : List Control → List Outcome → (turns : ℕ) → Run ℕ

@@ -2,7 +2,7 @@
 -- control instructions; legacy exception handling). A tree is a value, and its text a list of operators: a list is a body
 -- where it is the text of one.
 use Rattle.std.specs.Prelude.{ℕ, List, [], ◌∷◌}
-use Rattle.wasm_body.specs.Control.{Action, Clause, Construct, Block, Loop, TryTable, If, Try, Does, Opens, Else, Catch, CatchAll, End, Delegate, Marked, marked}
+use Rattle.wasm_body.specs.Control.{Action, Clause, Construct, Block, Loop, TryTable, If, Try, Does, Opens, Else, Catch, CatchAll, End, Delegate, Marked, with_control}
 
 -- the openers of constructs with one sequence
 pub data Wrapper : Type 0 where
@@ -37,17 +37,17 @@ mutual
 abbrev mutual
   pub text : {A : Type 0} → Sequence A → List (Marked A) → List (Marked A)
   text Empty k = k
-  text (Single a action r) k = marked a (Does action) ∷ text r k
-  text (Wrapped a w b e r) k = marked a (Opens (construct_of w)) ∷ text b (marked e End ∷ text r k)
-  text (IfThen a b e r) k = marked a (Opens If) ∷ text b (marked e End ∷ text r k)
-  text (IfElse a b l c e r) k = marked a (Opens If) ∷ text b (marked l Else ∷ text c (marked e End ∷ text r k))
-  text (TryCatch a b cs r) k = marked a (Opens Try) ∷ text b (clauses_text cs (text r k))
-  text (TryDelegate a b e n r) k = marked a (Opens Try) ∷ text b (marked e (Delegate n) ∷ text r k)
+  text (Single a action r) k = with_control a (Does action) ∷ text r k
+  text (Wrapped a w b e r) k = with_control a (Opens (construct_of w)) ∷ text b (with_control e End ∷ text r k)
+  text (IfThen a b e r) k = with_control a (Opens If) ∷ text b (with_control e End ∷ text r k)
+  text (IfElse a b l c e r) k = with_control a (Opens If) ∷ text b (with_control l Else ∷ text c (with_control e End ∷ text r k))
+  text (TryCatch a b cs r) k = with_control a (Opens Try) ∷ text b (clauses_text cs (text r k))
+  text (TryDelegate a b e n r) k = with_control a (Opens Try) ∷ text b (with_control e (Delegate n) ∷ text r k)
 
   pub clauses_text : {A : Type 0} → Clauses A → List (Marked A) → List (Marked A)
-  clauses_text (Ended e) k = marked e End ∷ k
-  clauses_text (Catches a t b cs) k = marked a (Catch t) ∷ text b (clauses_text cs k)
-  clauses_text (CatchesAll a b e) k = marked a CatchAll ∷ text b (marked e End ∷ k)
+  clauses_text (Ended e) k = with_control e End ∷ k
+  clauses_text (Catches a t b cs) k = with_control a (Catch t) ∷ text b (clauses_text cs k)
+  clauses_text (CatchesAll a b e) k = with_control a CatchAll ∷ text b (with_control e End ∷ k)
 
 -- A body is a sequence and the `end` that closes it.
 pub record Body (A : Type 0) : Type 0 where
@@ -55,24 +55,24 @@ pub record Body (A : Type 0) : Type 0 where
   pub close : A
 
 abbrev pub body_text : {A : Type 0} → Body A → List (Marked A)
-body_text b = text b.sequence (marked b.close End ∷ [])
+body_text b = text b.sequence (with_control b.close End ∷ [])
 
 -- ---- the same tree with something else shown
 
 abbrev mutual
-  pub reshown : {A B : Type 0} → (A → B) → Sequence A → Sequence B
-  reshown g Empty = Empty
-  reshown g (Single a action r) = Single (g a) action (reshown g r)
-  reshown g (Wrapped a w b e r) = Wrapped (g a) w (reshown g b) (g e) (reshown g r)
-  reshown g (IfThen a b e r) = IfThen (g a) (reshown g b) (g e) (reshown g r)
-  reshown g (IfElse a b l c e r) = IfElse (g a) (reshown g b) (g l) (reshown g c) (g e) (reshown g r)
-  reshown g (TryCatch a b cs r) = TryCatch (g a) (reshown g b) (reshown_clauses g cs) (reshown g r)
-  reshown g (TryDelegate a b e n r) = TryDelegate (g a) (reshown g b) (g e) n (reshown g r)
+  pub map_sequence : {A B : Type 0} → (A → B) → Sequence A → Sequence B
+  map_sequence g Empty = Empty
+  map_sequence g (Single a action r) = Single (g a) action (map_sequence g r)
+  map_sequence g (Wrapped a w b e r) = Wrapped (g a) w (map_sequence g b) (g e) (map_sequence g r)
+  map_sequence g (IfThen a b e r) = IfThen (g a) (map_sequence g b) (g e) (map_sequence g r)
+  map_sequence g (IfElse a b l c e r) = IfElse (g a) (map_sequence g b) (g l) (map_sequence g c) (g e) (map_sequence g r)
+  map_sequence g (TryCatch a b cs r) = TryCatch (g a) (map_sequence g b) (map_clauses g cs) (map_sequence g r)
+  map_sequence g (TryDelegate a b e n r) = TryDelegate (g a) (map_sequence g b) (g e) n (map_sequence g r)
 
-  pub reshown_clauses : {A B : Type 0} → (A → B) → Clauses A → Clauses B
-  reshown_clauses g (Ended e) = Ended (g e)
-  reshown_clauses g (Catches a t b cs) = Catches (g a) t (reshown g b) (reshown_clauses g cs)
-  reshown_clauses g (CatchesAll a b e) = CatchesAll (g a) (reshown g b) (g e)
+  pub map_clauses : {A B : Type 0} → (A → B) → Clauses A → Clauses B
+  map_clauses g (Ended e) = Ended (g e)
+  map_clauses g (Catches a t b cs) = Catches (g a) t (map_sequence g b) (map_clauses g cs)
+  map_clauses g (CatchesAll a b e) = CatchesAll (g a) (map_sequence g b) (g e)
 
-abbrev pub reshown_body : {A B : Type 0} → (A → B) → Body A → Body B
-reshown_body g b = record { sequence = reshown g b.sequence; close = g b.close }
+abbrev pub map_body : {A B : Type 0} → (A → B) → Body A → Body B
+map_body g b = record { sequence = map_sequence g b.sequence; close = g b.close }

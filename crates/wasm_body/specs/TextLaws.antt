@@ -2,8 +2,8 @@
 use Rattle.std.specs.Prelude.{◌≡◌, List, ◌∷◌, map, Result, Ok}
 use Rattle.std.specs.List.{AllByRecursion}
 use Rattle.wasm_body.specs.declared.error.EmitError.{EmitError}
-use Rattle.wasm_body.specs.Results.{◌>>=◌}
-use Rattle.wasm_body.specs.Control.{Marked, marked, Control, Else, Catch, CatchAll, End, Delegate, control_of}
+use Rattle.walrus_ir.specs.Results.{◌>>=◌}
+use Rattle.wasm_body.specs.Control.{Marked, with_control, Control, Else, Catch, CatchAll, End, Delegate, control_of}
 use Rattle.wasm_body.specs.SourceTree.{Sequence, text, Body, body_text}
 use Rattle.wasm_body.specs.Translation.{Located}
 use Rattle.wasm_body.specs.Naming.{Environment, NamedOperation, Occurrence}
@@ -16,13 +16,13 @@ use Rattle.wasm_body.specs.Typed.{AreTyped}
 -- ---- reading a tree is unique
 
 -- an operator that ends the sequence that it stands in
-abbrev pub Stops : Control → Type 0
-Stops Else = Unit {0}
-Stops (Catch t) = Unit {0}
-Stops CatchAll = Unit {0}
-Stops End = Unit {0}
-Stops (Delegate n) = Unit {0}
-Stops _ = ⊥
+abbrev pub EndsSequence : Control → Type 0
+EndsSequence Else = Unit {0}
+EndsSequence (Catch t) = Unit {0}
+EndsSequence CatchAll = Unit {0}
+EndsSequence End = Unit {0}
+EndsSequence (Delegate n) = Unit {0}
+EndsSequence _ = ⊥
 
 -- A list is the text of one body at most.
 abbrev pub OneBody : Type 0 → Type 0
@@ -31,13 +31,13 @@ OneBody A = (b c : Body A) → body_text b ≡ body_text c → b ≡ c
 -- A list begins in one way with a sequence and an operator that ends it.
 abbrev pub OneSequence : Type 0 → Type 0
 OneSequence A =
-    (s t : Sequence A) (x y : Marked A) (k l : List (Marked A)) → Stops x.control → Stops y.control →
+    (s t : Sequence A) (x y : Marked A) (k l : List (Marked A)) → EndsSequence x.control → EndsSequence y.control →
     text s (x ∷ k) ≡ text t (y ∷ l) → (s ≡ t) × (x ≡ y) × (k ≡ l)
 
 -- ---- the text of a normal form
 
 abbrev pub mark_named : Located NamedOperation → Marked (Located NamedOperation)
-mark_named x = marked x (control_of x.op)
+mark_named x = with_control x (control_of x.op)
 
 -- Named operators are this body.
 abbrev pub IsNamedBody : List (Located NamedOperation) → Body (Located NamedOperation) → Type 0

@@ -8,7 +8,7 @@ use Rattle.walrus_ir.specs.declared.val_type.ValType.TheVariants.{I32, I64, F32,
 use Rattle.wasm_ops.specs.declared.types.Space.{Space}
 use Rattle.wasm_ops.specs.declared.types.Space.TheVariants.{Types, Memories, Tags}
 use Rattle.wasm_ops.specs.Operations.{Access, CatchClause, Cast, Immediate, index, local, label, handler, outer, number, access, branch_table, clauses, block, heap, value, cast, i32, i64, f32, f64, v128, lane, lanes, zero_byte, Operation}
-use Rattle.wasm_body.specs.Results.{◌>>=◌, each}
+use Rattle.walrus_ir.specs.Results.{◌>>=◌, each}
 
 -- What becomes of each part; labels go from L to M, block types from B to C.
 pub record Translation (L B M C E : Type 0) : Type 0 where
@@ -83,5 +83,5 @@ pub record Located (X : Type 0) : Type 0 where
   pub op : X
   pub location : ℕ
 
-abbrev pub located : {X : Type 0} → X → ℕ → Located X
-located x l = record { op = x; location = l }
+abbrev pub at_location : {X : Type 0} → X → ℕ → Located X
+at_location x l = record { op = x; location = l }

@@ -3,11 +3,11 @@
 use Rattle.std.specs.Prelude.{◌≡◌, ℕ, suc, List, [], ◌∷◌, ◌==◌, if◌then◌else◌, Ok}
 use Rattle.walrus_ir.specs.declared.seq.InstrSeq.{InstrSeq}
 use Rattle.walrus_ir.specs.Tree.{Items, no_items, item, Sequences, no_sequences, sequence, Tree}
-use Rattle.walrus_ir.specs.Unfolding.{Placed, Located, IsTree}
-use Rattle.wasm_body.specs.Results.{sure}
+use Rattle.walrus_ir.specs.Unfolding.{SequenceAt, LocatedInstr, IsTree}
+use Rattle.walrus_ir.specs.Results.{sure}
 use Rattle.wasm_body.specs.Translation.{Translation, translate_immediates}
 use Rattle.wasm_body.specs.FunctionTree.{Target, Depth, Outside, TreeOperation, Head, Instruction, FunctionTree}
-use Rattle.wasm_body.specs.InstructionTable.{PlacedOperation, operation_of, legacy_clauses}
+use Rattle.wasm_body.specs.InstructionTable.{PlacedOperation, operation_of, clauses_of_try}
 
 abbrev pub deeper : Target → Target
 deeper (Depth n) = Depth (suc n)
@@ -35,27 +35,27 @@ aiming around = record {
 abbrev pub aimed : List ℕ → PlacedOperation → TreeOperation
 aimed around o = record { opcode = o.opcode; immediates = sure (translate_immediates (aiming around) o.immediates) }
 
-abbrev pub instruction_in : List ℕ → Located → Instruction
-instruction_in around x = record { op = aimed around (operation_of x.0); clauses = legacy_clauses x.0; location = x.1 }
+abbrev pub instruction_in : List ℕ → LocatedInstr → Instruction
+instruction_in around x = record { op = aimed around (operation_of x.0); clauses = clauses_of_try x.0; location = x.1 }
 
 abbrev pub head_of : InstrSeq → Head
 head_of seq = record { type = seq.ty; end_location = seq.end }
 
 -- within the sequences at these places, innermost first
 abbrev mutual
-  pub items_in : List ℕ → Items Placed Located → Items Head Instruction
+  pub items_in : List ℕ → Items SequenceAt LocatedInstr → Items Head Instruction
   items_in around no_items = no_items
   items_in around (item x inside rest) = item (instruction_in around x) (sequences_in around inside) (items_in around rest)
 
-  pub sequences_in : List ℕ → Sequences Placed Located → Sequences Head Instruction
+  pub sequences_in : List ℕ → Sequences SequenceAt LocatedInstr → Sequences Head Instruction
   sequences_in around no_sequences = no_sequences
-  sequences_in around (sequence h items rest) = sequence (head_of h.seq) (items_in (h.place ∷ around) items) (sequences_in around rest)
+  sequences_in around (sequence h items rest) = sequence (head_of h.seq) (items_in (h.slot ∷ around) items) (sequences_in around rest)
 
-abbrev pub tree_of : Tree Placed Located → FunctionTree
-tree_of t = record { head = head_of t.head.seq; items = items_in (t.head.place ∷ []) t.items }
+abbrev pub tree_of : Tree SequenceAt LocatedInstr → FunctionTree
+tree_of t = record { head = head_of t.head.seq; items = items_in (t.head.slot ∷ []) t.items }
 
 -- From this sequence on the builder holds this tree.
 pub record HasTree (sequences : List InstrSeq) (start : ℕ) (tree : FunctionTree) : Type 0 where
-  pub unfolded : Tree Placed Located
+  pub unfolded : Tree SequenceAt LocatedInstr
   pub is_tree : IsTree sequences start unfolded
   pub is : tree_of unfolded ≡ tree

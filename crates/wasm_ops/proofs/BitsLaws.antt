@@ -1,10 +1,11 @@
 -- Reading bits a byte at a time.
 use Rattle.std.proofs.Common.{◌≡◌, ℕ, zero, suc, ◌+◌, ◌-◌, ◌*◌, ◌<◌, List, ◌∷◌, Result, Ok, Err, refl, ap, arith}
 use Rattle.wasm_ops.specs.declared.fault.ReadFault.{ReadFault}
-use Rattle.wasm_ops.specs.Reading.{◌>>=◌, many}
+use Rattle.wasm_ops.specs.Reading.{many}
 use Rattle.wasm_ops.specs.Numbers.{byte, joined, bits}
 use Rattle.wasm_ops.proofs.Agreement.{ok_is}
 use Rattle.wasm_ops.proofs.Powers.{bytes}
+use Rattle.walrus_ir.specs.Results.{◌>>=◌}
 
 pub bits_none : (text : List ℕ) → bits 0 text ≡ Ok (0, text)
 unfolding many

@@ -5,7 +5,7 @@ use Rattle.std.specs.Prelude.{IfOk, IsOkAnd}
 use Rattle.wasm_ops.specs.declared.fault.ReadFault.{ReadFault}
 use Rattle.wasm_ops.specs.Operations.{RawOperation}
 use Rattle.wasm_ops.specs.Position.{Position, Moves}
-use Rattle.wasm_ops.specs.Reading.{Gives}
+use Rattle.walrus_ir.specs.Results.{Gives}
 use Rattle.wasm_ops.specs.Spelling.{Spells, read_operation}
 use Rattle.wasm_ops.proofs.Agreement.{IsBytes, ok_is}
 use Rattle.wasm_ops.proofs.OperationLaws.{operations_agree}

@@ -3,14 +3,16 @@ use Rattle.std.proofs.Common.{◌≡◌, ℕ, eqb, Bool, true, false, List, [], 
 use Rattle.std.proofs.lemmas.Bool.{eqb-true}
 use Rattle.wasm_ops.specs.declared.fault.ReadFault.{ReadFault}
 use Rattle.wasm_ops.specs.declared.fault.ReadFault.TheVariants.{BadFence}
-use Rattle.wasm_ops.specs.Reading.{◌>>=◌, Made}
+use Rattle.wasm_ops.specs.Reading.{Made}
 use Rattle.wasm_ops.specs.Numbers.{unsigned, signed, IsByte}
 use Rattle.wasm_ops.specs.Operations.{RawImmediate, index, local, label, handler, outer, number, access, branch_table, clauses, block, heap, value, cast, i32, i64, f32, f64, v128, lane, lanes, zero_byte}
 use Rattle.wasm_ops.specs.Immediates.{memory_flags, IsMemory, memory, made_access, IsAccess, memory_access, made_table, IsTable, label_table, catch_kind, some_tag, IsTag, tag, made_clause, IsClause, clause, made_clauses, AreClauses, catch_clauses, cast_flags, made_cast, IsCast, cast_parts, one_type, made_selected, IsSelected, selected, fence_byte}
 use Rattle.wasm_ops.specs.Immediates.{Kind, an_index, a_local, a_label, a_handler, an_outer, a_number, an_access, a_branch_table, some_clauses, a_block, a_heap, a_value, a_cast, an_i32, an_i64, an_f32, an_f64, a_v128, a_lane, sixteen_lanes, a_zero_byte, kind_of, SpellsImmediate, SpellsImmediates, as_immediate, immediate, immediates}
-use Rattle.wasm_ops.proofs.Agreement.{IsBytes, bind_ok, ok_is, chosen, Takes, Agrees, joined, parted, nothing_agrees, agrees_then, agrees_made, agrees_many}
+use Rattle.wasm_ops.proofs.Agreement.{IsBytes, ok_is, chosen, Takes, Agrees, joined, parted, nothing_agrees, agrees_then, agrees_made, agrees_many}
 use Rattle.wasm_ops.proofs.NumberLaws.{integers_agree, bytes_agree, bits_agree}
 use Rattle.wasm_ops.proofs.TypeLaws.{heap_types_agree, value_types_agree, block_types_agree}
+use Rattle.walrus_ir.specs.Results.{◌>>=◌}
+use Rattle.walrus_ir.proofs.ResultLemmas.{bind_ok}
 
 memory_agrees : (flags : ℕ × Bool) → Agrees (IsMemory flags) (memory flags)
 memory_agrees (exponent, false) = nothing_agrees 0

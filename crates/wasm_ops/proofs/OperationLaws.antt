@@ -3,15 +3,16 @@ use Rattle.std.proofs.Common.{◌≡◌, ℕ, Bool, true, false, cond, List, [],
 use Rattle.wasm_ops.specs.declared.fault.ReadFault.{ReadFault}
 use Rattle.wasm_ops.specs.declared.types.Opcode.{Opcode}
 use Rattle.wasm_ops.specs.declared.types.Opcode.TheVariants.{Byte, Prefixed}
-use Rattle.wasm_ops.specs.Reading.{◌>>=◌}
+use Rattle.walrus_ir.specs.Results.{◌>>=◌}
 use Rattle.wasm_ops.specs.Numbers.{unsigned, u32}
 use Rattle.wasm_ops.specs.Operations.{RawImmediate, RawOperation, operation}
 use Rattle.wasm_ops.specs.Immediates.{Kind, immediates}
 use Rattle.wasm_ops.specs.Opcodes.{is_prefix, kinds_of, IsOpcode, opcode}
 use Rattle.wasm_ops.specs.Spelling.{Spells, operands_of, operands, read_operation}
-use Rattle.wasm_ops.proofs.Agreement.{IsBytes, IsBytes-rest, bind_ok, ok_is, chosen, Takes, Agrees, joined, parted}
+use Rattle.wasm_ops.proofs.Agreement.{IsBytes, IsBytes-rest, ok_is, chosen, Takes, Agrees, joined, parted}
 use Rattle.wasm_ops.proofs.NumberLaws.{integers_agree}
 use Rattle.wasm_ops.proofs.ImmediateLaws.{immediates_agree, immediates_again}
+use Rattle.walrus_ir.proofs.ResultLemmas.{bind_ok}
 
 -- ---- opcodes
 

@@ -13,8 +13,9 @@ use Rattle.wasm_ops.specs.Reading.{starts, Then, Made}
 use Rattle.wasm_ops.specs.Numbers.{IsByte, IsS33}
 use Rattle.wasm_ops.specs.Types.{row_at, is_listed, listed, type_index, heap_rows, heap_at, IsHeapType, value_rows, value_at, nullable_rows, nullable_at, IsValueType, starts_value_type, IsBlockType}
 use Rattle.wasm_ops.specs.Shortest.{IsLeast, short_signed, short_integer, heap_byte, short_heap, short_reference, short_value, short_block}
-use Rattle.wasm_ops.proofs.Agreement.{bind_ok, chosen}
+use Rattle.wasm_ops.proofs.Agreement.{chosen}
 use Rattle.wasm_ops.proofs.Shortness.{Least, least_only, least_then, least_same, least_s33}
+use Rattle.walrus_ir.proofs.ResultLemmas.{bind_ok}
 
 -- ---- tables
 

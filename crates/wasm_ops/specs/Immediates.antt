@@ -6,10 +6,11 @@ use Rattle.walrus_ir.specs.declared.val_type.ValType.{ValType}
 use Rattle.wasm_ops.specs.declared.fault.ReadFault.{ReadFault}
 use Rattle.wasm_ops.specs.declared.fault.ReadFault.TheVariants.{BadMemArg, BadCatchKind, BadCastFlags, BadFence, BadSelect}
 use Rattle.wasm_ops.specs.declared.types.Space.{Space}
-use Rattle.wasm_ops.specs.Reading.{◌>>=◌, Spelling, Reader, Then, then_read, Made, made, Many, many}
+use Rattle.wasm_ops.specs.Reading.{Spelling, Reader, Then, then_read, Made, made, Many, many}
 use Rattle.wasm_ops.specs.Numbers.{IsU32, IsU64, IsS32, IsS64, u32, u64, s32, s64, IsByte, byte, AreBits, bits}
 use Rattle.wasm_ops.specs.Types.{IsHeapType, heap_type, IsValueType, value_type, IsBlockType, block_type}
 use Rattle.wasm_ops.specs.Operations.{Access, CatchClause, Cast, RawImmediate, index, local, label, handler, outer, number, access, branch_table, clauses, block, heap, value, cast, i32, i64, f32, f64, v128, lane, lanes, zero_byte}
+use Rattle.walrus_ir.specs.Results.{◌>>=◌}
 
 -- ---- memory accesses: flags, the memory's index where the flags say so, and the offset
 

@@ -3,7 +3,8 @@
 use Rattle.std.specs.Prelude.{◌≡◌, ℕ, ◌+◌, ◌-◌, ◌*◌, ◌^◌, ◌<◌, ◌≤◌, List, [], ◌∷◌, Option, Some, None, Ok, Err, Result, nat_lt, nat_le, if◌then◌else◌, ℤ, pos, ◌+ℤ◌, ◌-ℤ◌, ◌*ℤ◌}
 use Rattle.wasm_ops.specs.declared.fault.ReadFault.{ReadFault}
 use Rattle.wasm_ops.specs.declared.fault.ReadFault.TheVariants.{Truncated, BadNumber}
-use Rattle.wasm_ops.specs.Reading.{◌>>=◌, Spelling, Reader, Many, many, Made, made}
+use Rattle.wasm_ops.specs.Reading.{Spelling, Reader, Many, many, Made, made}
+use Rattle.walrus_ir.specs.Results.{◌>>=◌}
 
 -- How bytes make a number: what a last byte below 128 stands for, where so many bits are left for it, if it may stand
 -- there; and what the low seven bits of a byte from 128 on make of the number that is spelt behind it.

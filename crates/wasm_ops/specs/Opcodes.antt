@@ -5,10 +5,11 @@ use Rattle.wasm_ops.specs.declared.fault.ReadFault.TheVariants.{Truncated}
 use Rattle.wasm_ops.specs.declared.types.Opcode.{Opcode}
 use Rattle.wasm_ops.specs.declared.types.Opcode.TheVariants.{Byte, Prefixed}
 use Rattle.wasm_ops.specs.declared.types.Space.TheVariants.{Tables, Globals, Memories, Elements, Data}
-use Rattle.wasm_ops.specs.Reading.{◌>>=◌, Spelling, Reader}
+use Rattle.wasm_ops.specs.Reading.{Spelling, Reader}
 use Rattle.wasm_ops.specs.Numbers.{IsU32, u32}
 use Rattle.wasm_ops.specs.Types.{row_at}
 use Rattle.wasm_ops.specs.Immediates.{Kind, an_index, a_label, an_access, a_block, a_value, an_i32, an_i64, an_f32, an_f64}
+use Rattle.walrus_ir.specs.Results.{◌>>=◌}
 
 -- ---- opcodes of one byte
 

@@ -2,6 +2,7 @@
 -- A spelling is a relation between a value and the bytes that spell it. Reading is a function from the bytes that are
 -- there to a value and the bytes behind its spelling. Each pair of definitions below is one way to put them together.
 use Rattle.std.specs.Prelude.{◌≡◌, ℕ, zero, suc, List, [], ◌∷◌, ◌++◌, Bool, true, false, if◌then◌else◌, ◌⊎◌, Result, Ok, Err}
+use Rattle.walrus_ir.specs.Results.{◌>>=◌}
 use Rattle.wasm_ops.specs.declared.fault.ReadFault.{ReadFault}
 
 -- the bytes that spell a value
@@ -11,16 +12,6 @@ Spelling A = A → List ℕ → Type 0
 -- the value at the front and what follows it, or why there is none
 abbrev pub Reader : Type 0 → Type 0
 Reader A = List ℕ → Result (A × List ℕ) ReadFault
-
-infixl 10 ◌>>=◌
-abbrev pub ◌>>=◌ : {A B : Type 0} → Result A ReadFault → (A → Result B ReadFault) → Result B ReadFault
-(Ok x) >>= f = f x
-(Err e) >>= f = Err e
-
--- What a function answered, seen by `view`, is what reading gives.
-abbrev pub Gives : {X Y : Type 0} → (X → Y) → Result X ReadFault → Result Y ReadFault → Type 0
-Gives view (Ok x) read = read ≡ Ok (view x)
-Gives view (Err e) read = read ≡ Err e
 
 -- ---- one behind the other, where the second may depend on what the first spells
 

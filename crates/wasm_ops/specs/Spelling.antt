@@ -2,10 +2,11 @@
 use Rattle.std.specs.Prelude.{◌≡◌, ℕ, List, ◌++◌, map, Option, Some, None, Ok, Err}
 use Rattle.wasm_ops.specs.declared.fault.ReadFault.TheVariants.{UnknownOperator}
 use Rattle.wasm_ops.specs.declared.types.Opcode.{Opcode}
-use Rattle.wasm_ops.specs.Reading.{◌>>=◌, Reader}
+use Rattle.wasm_ops.specs.Reading.{Reader}
 use Rattle.wasm_ops.specs.Operations.{RawOperation, operation}
 use Rattle.wasm_ops.specs.Immediates.{Kind, kind_of, SpellsImmediates, immediates}
 use Rattle.wasm_ops.specs.Opcodes.{kinds_of, IsOpcode, opcode}
+use Rattle.walrus_ir.specs.Results.{◌>>=◌}
 
 -- The bytes are a spelling of the operator: its opcode, and then each of its immediates, which are those that its opcode
 -- asks for.

@@ -10,8 +10,9 @@ use Rattle.wasm_ops.specs.declared.fault.ReadFault.{ReadFault}
 use Rattle.wasm_ops.specs.declared.fault.ReadFault.TheVariants.{BadType}
 use Rattle.wasm_ops.specs.declared.types.BlockType.{BlockType}
 use Rattle.wasm_ops.specs.declared.types.BlockType.TheVariants.{Empty, Value, FuncType}
-use Rattle.wasm_ops.specs.Reading.{◌>>=◌, Spelling, Reader, Then, then_read, Made, made, Switch, switch}
+use Rattle.wasm_ops.specs.Reading.{Spelling, Reader, Then, then_read, Made, made, Switch, switch}
 use Rattle.wasm_ops.specs.Numbers.{IsS33, s33, IsByte, byte}
+use Rattle.walrus_ir.specs.Results.{◌>>=◌}
 
 -- what a table has at a number
 abbrev pub row_at : {V : Type 0} → List (ℕ × V) → ℕ → Option V

@@ -1,7 +1,7 @@
 //! Reading loads and stores: their memory arguments, and the kinds of their opcodes.
 
 ghost use Rattle.std.specs.Prelude.{◌≡◌, ◌≤◌};
-ghost use Rattle.wasm_ops.specs.Reading.{Gives};
+ghost use Rattle.walrus_ir.specs.Results.{Gives};
 ghost use Rattle.wasm_ops.specs.Immediates.{memory_flags, memory as memory_behind, memory_access};
 ghost use Rattle.wasm_ops.specs.AccessOperations.{load_opcode, store_opcode, access_of};
 

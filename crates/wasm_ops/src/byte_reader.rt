@@ -1,7 +1,7 @@
 //! Reading an operator whose opcode is one byte: a row an operator.
 
 ghost use Rattle.std.specs.Prelude.{◌≡◌, ◌≤◌};
-ghost use Rattle.wasm_ops.specs.Reading.{Gives};
+ghost use Rattle.walrus_ir.specs.Results.{Gives};
 ghost use Rattle.wasm_ops.specs.Spelling.{operands};
 ghost use Rattle.wasm_ops.specs.Meaning.{meaning};
 

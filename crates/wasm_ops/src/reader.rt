@@ -2,7 +2,7 @@
 
 ghost use Rattle.std.specs.Prelude.{◌≡◌, List, ℕ, ◌++◌, IfOk, IfErr, IsOkAnd, Err};
 ghost use Rattle.wasm_ops.specs.Operations.{RawOperation};
-ghost use Rattle.wasm_ops.specs.Reading.{Gives};
+ghost use Rattle.walrus_ir.specs.Results.{Gives};
 ghost use Rattle.wasm_ops.specs.Spelling.{Spells, read_operation};
 ghost use Rattle.wasm_ops.specs.Meaning.{meaning};
 

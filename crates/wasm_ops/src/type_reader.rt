@@ -1,7 +1,7 @@
 //! Reading types (WebAssembly core specification 3.0, binary format, types).
 
 ghost use Rattle.std.specs.Prelude.{◌≡◌, ◌||◌, ◌^◌, ◌<ℤ◌, pos};
-ghost use Rattle.wasm_ops.specs.Reading.{Gives};
+ghost use Rattle.walrus_ir.specs.Results.{Gives};
 ghost use Rattle.wasm_ops.specs.Immediates.{selected};
 ghost use Rattle.wasm_ops.specs.Types.{value_at, type_index as type_index_of, starts_value_type as is_value_byte, value_type, block_type};
 

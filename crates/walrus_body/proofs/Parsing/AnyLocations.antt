@@ -14,7 +14,7 @@ use Rattle.wasm_ops.specs.Spelling.{read_operation}
 use Rattle.wasm_body.specs.declared.error.ParseError.{ParseError}
 use Rattle.wasm_body.specs.declared.error.ParseError.TheVariants.{Read, PlaceTooGreat, Checked, NoSuchLabel, RethrowOutsideHandler}
 use Rattle.wasm_body.specs.declared.error.ParseFailure.{ParseFailure}
-use Rattle.wasm_body.specs.Results.{◌>>=◌, unless, faulting}
+use Rattle.walrus_ir.specs.Results.{◌>>=◌, unless, with_fault}
 use Rattle.wasm_body.specs.Control.{Block, Loop, TryTable, If, Try, Control, Does, Opens, Else, Catch, CatchAll, End, Delegate, control_of}
 use Rattle.wasm_body.specs.SourceTree.{Sequence, Body}
 use Rattle.wasm_body.specs.Frames.{Frame, OfFunction, OfWrapper, Consequent, Alternative, TryBody, Handler, HandlerOfAll, moves, may_stand, handler_at, outside}
@@ -214,22 +214,22 @@ module _ {S : Type 0} (env : Environment) (start : ℕ) (check : S → Placed �
       by_name x w (Err e) = refl
 
       by_check : (x : RawOperation × List ℕ) (c : Result S ℕ) → ◌≡◌ {A = Result (Handled S) ParseError}
-          (faulting Checked c >>= λ w. named_in env fs x.0 >>= λ named. Ok (record { operator = occurrence x.0 place (location_at locations place) named; rest = x.1; state = w }))
-          (((faulting Checked c >>= λ t. Ok (record { spelt = x.0; rest = x.1; state = t })) >>= λ t. named_in env fs t.spelt >>= λ named. Ok (named, t)) >>= λ k. Ok (put locations place k))
+          (with_fault Checked c >>= λ w. named_in env fs x.0 >>= λ named. Ok (record { operator = occurrence x.0 place (location_at locations place) named; rest = x.1; state = w }))
+          (((with_fault Checked c >>= λ t. Ok (record { spelt = x.0; rest = x.1; state = t })) >>= λ t. named_in env fs t.spelt >>= λ named. Ok (named, t)) >>= λ k. Ok (put locations place k))
       by_check x (Ok w) = by_name x w (named_in env fs x.0)
       by_check x (Err n) = refl
 
       by_place : (x : RawOperation × List ℕ) (b : Bool) → ◌≡◌ {A = Result (Handled S) ParseError}
-          (unless b PlaceTooGreat >>= λ _. faulting Checked (check v (placed_at x.0 place)) >>= λ w. named_in env fs x.0 >>= λ named. Ok (record { operator = occurrence x.0 place (location_at locations place) named; rest = x.1; state = w }))
-          (((unless b PlaceTooGreat >>= λ _. faulting Checked (check v (placed_at x.0 place)) >>= λ t. Ok (record { spelt = x.0; rest = x.1; state = t })) >>= λ t. named_in env fs t.spelt >>= λ named. Ok (named, t)) >>= λ k. Ok (put locations place k))
+          (unless b PlaceTooGreat >>= λ _. with_fault Checked (check v (placed_at x.0 place)) >>= λ w. named_in env fs x.0 >>= λ named. Ok (record { operator = occurrence x.0 place (location_at locations place) named; rest = x.1; state = w }))
+          (((unless b PlaceTooGreat >>= λ _. with_fault Checked (check v (placed_at x.0 place)) >>= λ t. Ok (record { spelt = x.0; rest = x.1; state = t })) >>= λ t. named_in env fs t.spelt >>= λ named. Ok (named, t)) >>= λ k. Ok (put locations place k))
       by_place x true = by_check x (check v (placed_at x.0 place))
       by_place x false = refl
 
       by_read : (r : Result (RawOperation × List ℕ) ReadFault) → ◌≡◌ {A = Result (Handled S) ParseError}
-          (faulting (λ fault. Read (record { fault = fault; at = place })) r >>= λ x.
-          unless (has_location locations place) PlaceTooGreat >>= λ _. faulting Checked (check v (placed_at x.0 place)) >>= λ w. named_in env fs x.0 >>= λ named. Ok (record { operator = occurrence x.0 place (location_at locations place) named; rest = x.1; state = w }))
-          (((faulting (λ fault. Read (record { fault = fault; at = place })) r >>= λ x.
-          unless (has_location locations place) PlaceTooGreat >>= λ _. faulting Checked (check v (placed_at x.0 place)) >>= λ t. Ok (record { spelt = x.0; rest = x.1; state = t })) >>= λ t. named_in env fs t.spelt >>= λ named. Ok (named, t)) >>= λ k. Ok (put locations place k))
+          (with_fault (λ fault. Read (record { fault = fault; at = place })) r >>= λ x.
+          unless (has_location locations place) PlaceTooGreat >>= λ _. with_fault Checked (check v (placed_at x.0 place)) >>= λ w. named_in env fs x.0 >>= λ named. Ok (record { operator = occurrence x.0 place (location_at locations place) named; rest = x.1; state = w }))
+          (((with_fault (λ fault. Read (record { fault = fault; at = place })) r >>= λ x.
+          unless (has_location locations place) PlaceTooGreat >>= λ _. with_fault Checked (check v (placed_at x.0 place)) >>= λ t. Ok (record { spelt = x.0; rest = x.1; state = t })) >>= λ t. named_in env fs t.spelt >>= λ named. Ok (named, t)) >>= λ k. Ok (put locations place k))
       by_read (Ok x) = by_place x (has_location locations place)
       by_read (Err e) = refl
 

@@ -6,11 +6,11 @@ use Rattle.std.proofs.lemmas.Grind.{flat_map-append}
 use Rattle.walrus_ir.specs.declared.instr.Instr.TheVariants as instr
 use Rattle.walrus_ir.specs.declared.control.Try.{Try}
 use Rattle.walrus_ir.specs.declared.control.LegacyCatch.{LegacyCatch}
-use Rattle.walrus_ir.specs.Unfolding.{Located as LocatedInstr, handler_of, handlers, places_in}
+use Rattle.walrus_ir.specs.Unfolding.{LocatedInstr as LocatedInstr, handler_of, handlers, slots_in}
 use Rattle.wasm_body.specs.Naming.{Occurrence}
 use Rattle.wasm_body.specs.FunctionTree.{LegacyClause, Instruction}
 use Rattle.wasm_body.specs.NormalForm.{instruction, name_at}
-use Rattle.wasm_body.specs.InstructionTable.{operation_of, legacy_clause, legacy_clauses}
+use Rattle.wasm_body.specs.InstructionTable.{operation_of, legacy_clause, clauses_of_try}
 use Rattle.wasm_body.specs.TreeOfFunction.{aimed, instruction_in}
 use Rattle.wasm_body.specs.Parsing.Progress.{OpenConstruct}
 use Rattle.walrus_body.specs.Parsing.OpenConstructs.{opener_in, clauses_in}
@@ -30,19 +30,19 @@ pub record GainsClause (x y : LocatedInstr) (clause : LegacyCatch) : Type 0 wher
   pub same_location : y.1 ≡ x.1
 
 -- what it is as an instruction of the tree, and the sequences in it
-pub gained_places : (x y : LocatedInstr) (clause : LegacyCatch) → GainsClause x y clause → places_in y.0 ≡ places_in x.0 ++ handler_of clause
+pub gained_places : (x y : LocatedInstr) (clause : LegacyCatch) → GainsClause x y clause → slots_in y.0 ≡ slots_in x.0 ++ handler_of clause
 gained_places x y clause h =
-    ap places_in h.is
+    ap slots_in h.is
     ∙ (λ i. h.same_body i ∷ (ap handlers h.clauses ∙ flat_map-append handler_of h.old.catches.items (clause ∷ []) ∙ ap (λ ps. handlers h.old.catches.items ++ ps) (append-nil (handler_of clause))) i)
-    ∙ ap (λ i. places_in i ++ handler_of clause) (sym h.was)
+    ∙ ap (λ i. slots_in i ++ handler_of clause) (sym h.was)
 
 pub gained_instruction : (around : List ℕ) (x y : LocatedInstr) (clause : LegacyCatch) (a : Occurrence) (cs : List LegacyClause) → GainsClause x y clause → instruction_in around x ≡ instruction (name_at a) cs →
     instruction_in around y ≡ instruction (name_at a) (cs ++ legacy_clause clause ∷ [])
 gained_instruction around x y clause a cs h is =
     let opcode : aimed around (operation_of y.0) ≡ aimed around (operation_of x.0) = ap (λ i. aimed around (operation_of i)) h.is ∙ ap (λ i. aimed around (operation_of i)) (sym h.was) in
-    let before : map legacy_clause h.old.catches.items ≡ cs = ap legacy_clauses (sym h.was) ∙ ap (λ (i : Instruction). i.clauses) is in
-    let clauses : legacy_clauses y.0 ≡ cs ++ legacy_clause clause ∷ [] =
-    ap legacy_clauses h.is ∙ ap (map legacy_clause) h.clauses ∙ map-append legacy_clause h.old.catches.items (clause ∷ []) ∙ ap (λ ds. ds ++ legacy_clause clause ∷ []) before in
+    let before : map legacy_clause h.old.catches.items ≡ cs = ap clauses_of_try (sym h.was) ∙ ap (λ (i : Instruction). i.clauses) is in
+    let clauses : clauses_of_try y.0 ≡ cs ++ legacy_clause clause ∷ [] =
+    ap clauses_of_try h.is ∙ ap (map legacy_clause) h.clauses ∙ map-append legacy_clause h.old.catches.items (clause ∷ []) ∙ ap (λ ds. ds ++ legacy_clause clause ∷ []) before in
     λ i. record {
       op = (opcode ∙ ap (λ (j : Instruction). j.op) is) i;
       clauses = clauses i;
@@ -55,7 +55,7 @@ pub gains : (around before : List ℕ) (slot next : ℕ) (p q : OpenConstruct Oc
     gs ≡ changed_at 0 (with_instr y) outside → IsAppended around (before ++ slot ∷ []) next q IsTry gs outside
 gains around before slot next p q x y clause fs gs outside a e h handler same clauses frames = record {
   opener = y;
-  places = gained_places x y clause h ∙ ap (λ z. places_in z ++ handler_of clause) (ap (λ (z : LocatedInstr). z.0) (sym e)) ∙ ap (λ ps. ps ++ handler_of clause) a.places ∙ ap (λ ps. (before ++ slot ∷ []) ++ ps) handler;
+  places = gained_places x y clause h ∙ ap (λ z. slots_in z ++ handler_of clause) (ap (λ (z : LocatedInstr). z.0) (sym e)) ∙ ap (λ ps. ps ++ handler_of clause) a.places ∙ ap (λ ps. (before ++ slot ∷ []) ++ ps) handler;
   is_instruction = gained_instruction around x y clause (opener_in p) (clauses_in p) h (subst (λ z. instruction_in around z ≡ instruction (name_at (opener_in p)) (clauses_in p)) e a.is_instruction)
       ∙ (λ i. instruction (name_at ((sym same) i)) ((sym clauses) i));
   is_opener = (h.new, h.is);

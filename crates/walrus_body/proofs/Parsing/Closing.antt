@@ -2,10 +2,10 @@
 use Rattle.std.specs.Prelude.{◌≡◌, ℕ, List, [], ◌∷◌, ◌++◌}
 use Rattle.std.proofs.Common.{refl, sym, ap, ◌∙◌}
 use Rattle.walrus_ir.specs.Tree.{Items, no_items, item, Sequences, no_sequences, sequence}
-use Rattle.wasm_body.specs.SourceTree.{Sequence, Empty, TryCatch, TryDelegate, Clauses, Ended, Catches, CatchesAll, reshown, reshown_clauses}
+use Rattle.wasm_body.specs.SourceTree.{Sequence, Empty, TryCatch, TryDelegate, Clauses, Ended, Catches, CatchesAll, map_sequence, map_clauses}
 use Rattle.wasm_body.specs.FunctionTree.{Head, LegacyClause, handles, handles_all, delegates, Instruction, default_location}
 use Rattle.wasm_body.specs.Naming.{NamedOperation, Occurrence}
-use Rattle.wasm_body.specs.NormalForm.{Typing, type_of, handler_type, instruction, head, legacy_clauses, closed_at, normal, handlers, name_at}
+use Rattle.wasm_body.specs.NormalForm.{Typing, construct_type, handler_type, instruction, head, legacy_clauses, closed_at, normal, handlers, name_at}
 use Rattle.wasm_body.specs.Parsing.Progress.{ClosedClause, closed_clause, behind_closed, OpenConstruct, InWrapper, InThen, InElse, InTry, InCatch, InCatchAll, closed}
 use Rattle.walrus_body.specs.Parsing.OpenConstructs.{opener_in, clauses_behind, clauses_in, Named, sequences_joined, handlers_behind, first_clause_at, try_sequences, closed_in, type_in, added_in, sequences_closed, reshown_clause, reshown_closed, reshown_construct}
 
@@ -40,7 +40,7 @@ try_closed : (m : Typing) (a : Named) (b : Sequence Named) (gs : List (ClosedCla
     ≡ item (instruction a (clauses_behind gs (legacy_clauses cs))) (sequences_joined (try_sequences m a.op b gs (closed_at cs)) (handlers m a.op cs)) no_items
 try_closed m a b gs cs = λ i.
     item (instruction a (clauses_closed gs cs i))
-    (sequence (head (type_of m a.op) (first_closed gs cs i)) (normal m b) ((handlers_closed m a.op gs cs ∙ handlers_joined m a.op (closed_at cs) gs no_sequences (handlers m a.op cs)) i))
+    (sequence (head (construct_type m a.op) (first_closed gs cs i)) (normal m b) ((handlers_closed m a.op gs cs ∙ handlers_joined m a.op (closed_at cs) gs no_sequences (handlers m a.op cs)) i))
     no_items
 
 pub normal_closed : (m : Typing) (p : OpenConstruct Named) (s : Sequence Named) (e : Named) →
@@ -56,22 +56,22 @@ normal_closed m (InCatchAll a b gs h) s e = try_closed m a b gs (CatchesAll h s 
 
 pub closed_by_catch : (m : Typing) (a : Named) (b s : Sequence Named) (gs : List (ClosedClause Named)) (i h : Named) (t u : ℕ) →
     closed_in m (InCatch a b (closed_clause i u s ∷ gs) h t) ≡ sequences_closed m (InCatch a b gs i u) (normal m s) h.location no_sequences
-closed_by_catch m a b s gs i h t u = ap (sequence (head (type_of m a.op) (first_clause_at i.location gs)) (normal m b))
+closed_by_catch m a b s gs i h t u = ap (sequence (head (construct_type m a.op) (first_clause_at i.location gs)) (normal m b))
     (handlers_joined m a.op i.location gs no_sequences (sequence (head (handler_type m a.op (m.tag_parameters u)) h.location) (normal m s) no_sequences))
 
 -- ---- the same with something else shown
 
-pub reshown_behind : {A B : Type 0} → (f : A → B) (gs : List (ClosedClause A)) (cs : Clauses A) → reshown_clauses f (behind_closed gs cs) ≡ behind_closed (reshown_closed f gs) (reshown_clauses f cs)
+pub reshown_behind : {A B : Type 0} → (f : A → B) (gs : List (ClosedClause A)) (cs : Clauses A) → map_clauses f (behind_closed gs cs) ≡ behind_closed (reshown_closed f gs) (map_clauses f cs)
 reshown_behind f [] cs = refl
 reshown_behind f (g ∷ gs) cs = reshown_behind f gs (Catches g.mark g.tag g.body cs)
 
-pub reshown_in : {A B : Type 0} → (f : A → B) (p : OpenConstruct A) (s : Sequence A) (e : A) → reshown f (closed p s e) ≡ closed (reshown_construct f p) (reshown f s) (f e)
+pub reshown_in : {A B : Type 0} → (f : A → B) (p : OpenConstruct A) (s : Sequence A) (e : A) → map_sequence f (closed p s e) ≡ closed (reshown_construct f p) (map_sequence f s) (f e)
 reshown_in f (InWrapper a w) s e = refl
 reshown_in f (InThen a) s e = refl
 reshown_in f (InElse a b l) s e = refl
 reshown_in f (InTry a) s e = refl
-reshown_in f (InCatch a b gs h t) s e = ap (λ cs. TryCatch (f a) (reshown f b) cs Empty) (reshown_behind f gs (Catches h t s (Ended e)))
-reshown_in f (InCatchAll a b gs h) s e = ap (λ cs. TryCatch (f a) (reshown f b) cs Empty) (reshown_behind f gs (CatchesAll h s e))
+reshown_in f (InCatch a b gs h t) s e = ap (λ cs. TryCatch (f a) (map_sequence f b) cs Empty) (reshown_behind f gs (Catches h t s (Ended e)))
+reshown_in f (InCatchAll a b gs h) s e = ap (λ cs. TryCatch (f a) (map_sequence f b) cs Empty) (reshown_behind f gs (CatchesAll h s e))
 
 pub clauses_reshown : {A B : Type 0} → (f : A → B) (gs : List (ClosedClause A)) (cs : List LegacyClause) → clauses_behind (reshown_closed f gs) cs ≡ clauses_behind gs cs
 clauses_reshown f [] cs = refl

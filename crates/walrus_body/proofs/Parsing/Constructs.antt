@@ -6,8 +6,8 @@ use Rattle.walrus_ir.specs.declared.seq.InstrSeq.{InstrSeq}
 use Rattle.walrus_ir.specs.declared.instr.Instr.{Instr}
 use Rattle.walrus_ir.specs.declared.instr.Instr.TheVariants as instr
 use Rattle.walrus_ir.specs.Tree.{Items, no_items, item, Sequences, no_sequences, sequence}
-use Rattle.walrus_ir.specs.Unfolding.{Placed, Located as LocatedInstr, places_in, AreItems, AreSequences, are_no_items, are_items, are_no_sequences, are_sequences}
-use Rattle.wasm_body.specs.SourceTree.{Sequence, Empty, reshown}
+use Rattle.walrus_ir.specs.Unfolding.{SequenceAt, LocatedInstr as LocatedInstr, slots_in, AreItems, AreSequences, are_no_items, are_items, are_no_sequences, are_sequences}
+use Rattle.wasm_body.specs.SourceTree.{Sequence, Empty, map_sequence}
 use Rattle.wasm_body.specs.Naming.{Occurrence, Environment, block_signature}
 use Rattle.wasm_body.specs.NormalForm.{Typing, typing_of, instruction, head, normal, name_at}
 use Rattle.wasm_body.specs.FunctionTree.{Head, Instruction, default_location}
@@ -83,15 +83,15 @@ holds_opened env b seq ls s p f around outside ifs other_ifs o none opens h =
 
 -- ---- sequences beside each other, one list behind another
 
-are_joined : {b : List InstrSeq} {ps qs : List ℕ} {ss ts : Sequences Placed LocatedInstr} → AreSequences b ps ss → AreSequences b qs ts → AreSequences b (ps ++ qs) (sequences_joined ss ts)
+are_joined : {b : List InstrSeq} {ps qs : List ℕ} {ss ts : Sequences SequenceAt LocatedInstr} → AreSequences b ps ss → AreSequences b qs ts → AreSequences b (ps ++ qs) (sequences_joined ss ts)
 are_joined are_no_sequences t = t
 are_joined (are_sequences e i s) t = are_sequences e i (are_joined s t)
 
-in_joined : (around : List ℕ) (ss ts : Sequences Placed LocatedInstr) → sequences_in around (sequences_joined ss ts) ≡ sequences_joined (sequences_in around ss) (sequences_in around ts)
+in_joined : (around : List ℕ) (ss ts : Sequences SequenceAt LocatedInstr) → sequences_in around (sequences_joined ss ts) ≡ sequences_joined (sequences_in around ss) (sequences_in around ts)
 in_joined around no_sequences ts = refl
-in_joined around (sequence h is r) ts = ap (sequence (head_of h.seq) (items_in (h.place ∷ around) is)) (in_joined around r ts)
+in_joined around (sequence h is r) ts = ap (sequence (head_of h.seq) (items_in (h.slot ∷ around) is)) (in_joined around r ts)
 
-all_rise_joined : (low middle high : ℕ) (ss ts : Sequences Placed LocatedInstr) → AllRiseIn low ss middle → AllRiseIn middle ts high → AllRiseIn low (sequences_joined ss ts) high
+all_rise_joined : (low middle high : ℕ) (ss ts : Sequences SequenceAt LocatedInstr) → AllRiseIn low ss middle → AllRiseIn middle ts high → AllRiseIn low (sequences_joined ss ts) high
 all_rise_joined low middle high no_sequences ts r t = all_rise-wider middle low ts high high r (omega arith) t
 all_rise_joined low middle high (sequence h is rest) ts r t = (r.0, r.1, r.2, all_rise_joined r.0 middle high rest ts r.3 t)
 
@@ -105,10 +105,10 @@ pub record IsWritten (b : List InstrSeq) (slot : ℕ) (seq : InstrSeq) (c : List
 
 -- The construct's sequences are closed, the last at this location and then the rest.
 pub record AreClosed (env : Environment) (c : List InstrSeq) (low high : ℕ) (around places : List ℕ) (p : OpenConstruct Occurrence) (s : Sequence Occurrence) (location : ℕ) (rest : Sequences Head Instruction) : Type 0 where
-  pub inside : Sequences Placed LocatedInstr
+  pub inside : Sequences SequenceAt LocatedInstr
   pub are_sequences : AreSequences c places inside
   pub rise : AllRiseIn low inside high
-  pub is_normal : sequences_in around inside ≡ sequences_closed (typing_of env) (reshown_construct name_at p) (normal (typing_of env) (reshown name_at s)) location rest
+  pub is_normal : sequences_in around inside ≡ sequences_closed (typing_of env) (reshown_construct name_at p) (normal (typing_of env) (map_sequence name_at s)) location rest
 
 -- The frame's sequence stands in its slot, closed at this location; the others are as before.
 pub record IsSealed (env : Environment) (b c : List InstrSeq) (f : OpenFrame) (p : OpenConstruct Occurrence) (location : ℕ) : Type 0 where
@@ -127,7 +127,7 @@ sequence_closed env b c low f around before p s location k o w =
     (items-same c (suc f.sequence) (length b) (λ q l h. w.written.elsewhere q (λ e. let d : q ≡ f.sequence = e in omega arith)) k.rise k.are_items) in
     let others : AreSequences c before o.inside = sequences-same c low f.sequence (λ q l h. w.written.elsewhere q (λ e. let d : q ≡ f.sequence = e in omega arith)) o.rise o.are_sequences in
     let wide : RiseIn (suc f.sequence) k.items (length c) = subst (RiseIn (suc f.sequence) k.items) (sym w.written.as_many) k.rise in
-    let last : Sequences Placed LocatedInstr = sequence (record { place = f.sequence; seq = w.seq }) k.items no_sequences in
+    let last : Sequences SequenceAt LocatedInstr = sequence (record { place = f.sequence; seq = w.seq }) k.items no_sequences in
     let top : head_of w.seq ≡ head (type_in (typing_of env) (reshown_construct name_at p)) location = λ i. record { type = w.type i; end_location = w.end_is i } in
     record {
       inside = sequences_joined o.inside last;
@@ -142,13 +142,13 @@ sequence_closed env b c low f around before p s location k o w =
 
 -- the instruction with these sequences is the normal form of the closed construct
 pub closed_item : (env : Environment) (c : List InstrSeq) (low high : ℕ) (around places : List ℕ) (p : OpenConstruct Occurrence) (s : Sequence Occurrence) (e : Occurrence) (x : LocatedInstr) →
-    places_in x.0 ≡ places → instruction_in around x ≡ instruction (name_at (opener_in p)) (clauses_in p) →
+    slots_in x.0 ≡ places → instruction_in around x ≡ instruction (name_at (opener_in p)) (clauses_in p) →
     AreClosed env c low high around places p s e.location (added_in (typing_of env) (reshown_construct name_at p)) →
     AreNormal env c low high around (x ∷ []) (closed p s e)
 closed_item env c low high around places p s e x at is a =
     let m = typing_of env in
     let q = reshown_construct name_at p in
-    let inside : AreSequences c (places_in x.0) a.inside = subst (λ ps. AreSequences c ps a.inside) (sym at) a.are_sequences in
+    let inside : AreSequences c (slots_in x.0) a.inside = subst (λ ps. AreSequences c ps a.inside) (sym at) a.are_sequences in
     let named : instruction (name_at (opener_in p)) (clauses_in p) ≡ instruction (opener_in q) (clauses_in q) = same_opener p in
     record {
       items = item x a.inside no_items;
@@ -156,7 +156,7 @@ closed_item env c low high around places p s e x at is a =
       rise = (high, a.rise, (let n : high ≤ high = omega arith in n));
       is_normal =
           (λ i. item ((is ∙ named) i) (a.is_normal i) no_items)
-          ∙ sym (normal_closed m q (reshown name_at s) (name_at e))
+          ∙ sym (normal_closed m q (map_sequence name_at s) (name_at e))
           ∙ ap (normal m) (sym (reshown_in name_at p s e));
     }
 
@@ -231,7 +231,7 @@ with_alternative : (env : Environment) (c : List InstrSeq) (other : InstrSeq) (l
 with_alternative env c other low around places a s location type empty no_end k =
     let d = c ++ other ∷ [] in
     let more : length d ≡ length c + 1 = length_push c other in
-    let last : Sequences Placed LocatedInstr = sequence (record { place = length c; seq = other }) no_items no_sequences in
+    let last : Sequences SequenceAt LocatedInstr = sequence (record { place = length c; seq = other }) no_items no_sequences in
     let top : head_of other ≡ head (type_in (typing_of env) (InThen (name_at a))) default_location = λ i. record { type = type i; end_location = no_end i } in
     record {
       inside = sequences_joined k.inside last;
@@ -266,7 +266,7 @@ holds_chosen_alone env b c other ls before s a e f fs ifs low is k o w type empt
 pub holds_parted : (env : Environment) (b c : List InstrSeq) (seq : InstrSeq) (ls : List (Layer Occurrence)) (before s : Sequence Occurrence) (p q : OpenConstruct Occurrence) (f g : OpenFrame) (fs gs outside : List OpenFrame) (ifs other_ifs : List IfElseState)
     (low : ℕ) (places : List ℕ) (location : ℕ) →
     IsKept env b (length b) f (slots fs) s → Encloses env b low f (slots fs) p places → IsSealed env b c f p location → IsOpened env (length c) q g seq → slots gs ≡ slots fs →
-    closed_in (typing_of env) (reshown_construct name_at q) ≡ sequences_closed (typing_of env) (reshown_construct name_at p) (normal (typing_of env) (reshown name_at s)) location no_sequences →
+    closed_in (typing_of env) (reshown_construct name_at q) ≡ sequences_closed (typing_of env) (reshown_construct name_at p) (normal (typing_of env) (map_sequence name_at s)) location no_sequences →
     OpensWith (slots gs) (places ++ f.sequence ∷ []) g.sequence q gs outside ifs other_ifs →
     Holds env b ls before low outside other_ifs → Holds env (c ++ seq ∷ []) (layer before q ∷ ls) Empty (length (c ++ seq ∷ [])) (g ∷ gs) ifs
 holds_parted env b c seq ls before s p q f g fs gs outside ifs other_ifs low places location k o w n same are opens h =

@@ -5,8 +5,8 @@ use Rattle.std.proofs.Common.{refl, ap, sym, subst, ◌∙◌, arith}
 use Rattle.walrus_ir.specs.declared.seq.InstrSeq.{InstrSeq}
 use Rattle.walrus_ir.specs.declared.val_type.InstrSeqType.{InstrSeqType}
 use Rattle.walrus_ir.specs.Tree.{Items, no_items, item, no_sequences, sequence}
-use Rattle.walrus_ir.specs.Unfolding.{Placed, Located as LocatedInstr, AreItems, are_no_items}
-use Rattle.wasm_body.specs.SourceTree.{Sequence, reshown}
+use Rattle.walrus_ir.specs.Unfolding.{SequenceAt, LocatedInstr as LocatedInstr, AreItems, are_no_items}
+use Rattle.wasm_body.specs.SourceTree.{Sequence, map_sequence}
 use Rattle.wasm_body.specs.Naming.{Occurrence, Environment}
 use Rattle.wasm_body.specs.NormalForm.{typing_of, normal, name_at}
 use Rattle.wasm_body.specs.FunctionTree.{Head, Instruction}
@@ -108,7 +108,7 @@ abbrev pub with_body : OpenFrame → List LocatedInstr → Bool → OpenFrame
 with_body f instrs dead = record f { instrs = instrs; dead = dead }
 
 abbrev Kept : Environment → Sequence Occurrence → Items Head Instruction
-Kept env s = normal (typing_of env) (reshown name_at s)
+Kept env s = normal (typing_of env) (map_sequence name_at s)
 
 pub holds_changed : (env : Environment) (b : List InstrSeq) (ls : List (Layer Occurrence)) (s t : Sequence Occurrence) (middle high : ℕ) (f : OpenFrame) (fs : List OpenFrame) (ifs : List IfElseState) (instrs : List LocatedInstr) (dead : Bool) →
     (IsKept env b middle f (slots fs) s → IsKept env b high (with_body f instrs dead) (slots fs) t) →
@@ -140,12 +140,12 @@ holds_changed env b (l ∷ ls) s t middle high f fs ifs instrs dead change h = r
 kept_append : (env : Environment) (s t : Sequence Occurrence) → Kept env (append s t) ≡ joined_alive (is_dead s) (Kept env s) (Kept env t)
 kept_append env s t =
     ap (normal (typing_of env)) (reshown_append name_at s t)
-    ∙ normal_append (typing_of env) (reshown name_at s) (reshown name_at t)
+    ∙ normal_append (typing_of env) (map_sequence name_at s) (map_sequence name_at t)
     ∙ ap (λ d. joined_alive d (Kept env s) (Kept env t)) (dead_reshown name_at s)
 
 -- instructions that are the normal form of what is added, their sequences in slots from `low` on
 pub record AreNormal (env : Environment) (b : List InstrSeq) (low high : ℕ) (around : List ℕ) (more : List LocatedInstr) (t : Sequence Occurrence) : Type 0 where
-  pub items : Items Placed LocatedInstr
+  pub items : Items SequenceAt LocatedInstr
   pub are_items : AreItems b more items
   pub rise : RiseIn low items high
   pub is_normal : items_in around items ≡ Kept env t

@@ -9,7 +9,7 @@ use Rattle.wasm_ops.specs.declared.types.Space.TheVariants.{Tags}
 use Rattle.wasm_ops.specs.Operations.{CatchClause, Immediate, index, outer, block, clauses, operation, RawOperation}
 use Rattle.wasm_body.specs.declared.error.ParseError.{ParseError}
 use Rattle.wasm_body.specs.declared.error.ParseError.TheVariants.{TypeMissing, ElseOutsideIf, CatchOutsideTry, DelegateOutsideTry}
-use Rattle.wasm_body.specs.Results.{◌>>=◌, unless, some_or, each}
+use Rattle.walrus_ir.specs.Results.{◌>>=◌, unless, some_or, each}
 use Rattle.wasm_body.specs.Control.{Construct, Control, Does, Opens, Action, control_of, end_operation, else_operation, catch_opcode, catch_all_operation, delegate_operation}
 use Rattle.wasm_body.specs.Frames.{Frame, else_moves, catch_moves, catch_all_moves, delegate_moves, outside}
 use Rattle.wasm_body.specs.Translation.{translate, translate_clause}

@@ -13,7 +13,7 @@ use Rattle.wasm_ops.specs.Spelling.{read_operation}
 use Rattle.wasm_body.specs.declared.error.ParseError.{ParseError}
 use Rattle.wasm_body.specs.declared.error.ParseError.TheVariants.{Read, PlaceTooGreat, Checked, Trailing, MissingEnd}
 use Rattle.wasm_body.specs.declared.error.ParseFailure.{ParseFailure}
-use Rattle.wasm_body.specs.Results.{◌>>=◌, unless, faulting}
+use Rattle.walrus_ir.specs.Results.{◌>>=◌, unless, with_fault}
 use Rattle.wasm_body.specs.Control.{Marked}
 use Rattle.wasm_body.specs.SourceTree.{Sequence, Body, body_text}
 use Rattle.wasm_body.specs.Frames.{Frame}
@@ -89,15 +89,15 @@ module _ {S F : Type 0} (g : Shared F (Bor ℕ × Unit {0}) ℕ) (o : Option (Bo
     where
       by_check : (x : RawOperation × List ℕ) (c : Result S ℕ) →
           ◌≡◌ {A = Result (Handled S) ParseError}
-          (faulting Checked c >>= λ w. named_in env fs x.0 >>= λ named. Ok (record { operator = occurrence x.0 place (location_at locations place) named; rest = x.1; state = w }))
-          ((faulting Checked c >>= λ t. Ok (record { spelt = x.0; rest = x.1; state = t })) >>= named_taken locations fs place)
+          (with_fault Checked c >>= λ w. named_in env fs x.0 >>= λ named. Ok (record { operator = occurrence x.0 place (location_at locations place) named; rest = x.1; state = w }))
+          ((with_fault Checked c >>= λ t. Ok (record { spelt = x.0; rest = x.1; state = t })) >>= named_taken locations fs place)
       by_check x (Ok w) = refl
       by_check x (Err n) = refl
 
       by_place : (x : RawOperation × List ℕ) (a b : Bool) → a ≡ b →
           ◌≡◌ {A = Result (Handled S) ParseError}
-          (unless a PlaceTooGreat >>= λ _. faulting Checked (check s (placed_at x.0 place)) >>= λ w. named_in env fs x.0 >>= λ named. Ok (record { operator = occurrence x.0 place (location_at locations place) named; rest = x.1; state = w }))
-          ((unless b PlaceTooGreat >>= λ _. faulting Checked (check s (placed_at x.0 place)) >>= λ t. Ok (record { spelt = x.0; rest = x.1; state = t })) >>= named_taken locations fs place)
+          (unless a PlaceTooGreat >>= λ _. with_fault Checked (check s (placed_at x.0 place)) >>= λ w. named_in env fs x.0 >>= λ named. Ok (record { operator = occurrence x.0 place (location_at locations place) named; rest = x.1; state = w }))
+          ((unless b PlaceTooGreat >>= λ _. with_fault Checked (check s (placed_at x.0 place)) >>= λ t. Ok (record { spelt = x.0; rest = x.1; state = t })) >>= named_taken locations fs place)
       by_place x true true e = by_check x (check s (placed_at x.0 place))
       by_place x false false e = refl
       by_place x true false e = absurd cc
@@ -105,10 +105,10 @@ module _ {S F : Type 0} (g : Shared F (Bor ℕ × Unit {0}) ℕ) (o : Option (Bo
 
       by_read : (r : Result (RawOperation × List ℕ) ReadFault) →
           ◌≡◌ {A = Result (Handled S) ParseError}
-          (faulting (λ fault. Read (record { fault = fault; at = place })) r >>= λ x.
-          unless (has_location locations place) PlaceTooGreat >>= λ _. faulting Checked (check s (placed_at x.0 place)) >>= λ w. named_in env fs x.0 >>= λ named. Ok (record { operator = occurrence x.0 place (location_at locations place) named; rest = x.1; state = w }))
-          ((faulting (λ fault. Read (record { fault = fault; at = place })) r >>= λ x.
-          unless (has_place o place) PlaceTooGreat >>= λ _. faulting Checked (check s (placed_at x.0 place)) >>= λ t. Ok (record { spelt = x.0; rest = x.1; state = t })) >>= named_taken locations fs place)
+          (with_fault (λ fault. Read (record { fault = fault; at = place })) r >>= λ x.
+          unless (has_location locations place) PlaceTooGreat >>= λ _. with_fault Checked (check s (placed_at x.0 place)) >>= λ w. named_in env fs x.0 >>= λ named. Ok (record { operator = occurrence x.0 place (location_at locations place) named; rest = x.1; state = w }))
+          ((with_fault (λ fault. Read (record { fault = fault; at = place })) r >>= λ x.
+          unless (has_place o place) PlaceTooGreat >>= λ _. with_fault Checked (check s (placed_at x.0 place)) >>= λ t. Ok (record { spelt = x.0; rest = x.1; state = t })) >>= named_taken locations fs place)
       by_read (Err e) = refl
       by_read (Ok x) = by_place x (has_location locations place) (has_place o place) (same_places o locations place both)
 

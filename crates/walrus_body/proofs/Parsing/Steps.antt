@@ -12,18 +12,18 @@ use Rattle.walrus_ir.specs.declared.control.LegacyCatch.{LegacyCatch}
 use Rattle.walrus_ir.specs.declared.control.LegacyCatch.TheVariants.{Catch, CatchAll, Delegate}
 use Rattle.walrus_ir.specs.declared.val_type.ValType.{ValType}
 use Rattle.walrus_ir.specs.Tree.{Items, no_items, item, Sequences, no_sequences, sequence}
-use Rattle.walrus_ir.specs.Unfolding.{Placed, Located as LocatedInstr, handler_of, places_in, AreItems, AreSequences, are_no_items, are_items, are_no_sequences, are_sequences}
+use Rattle.walrus_ir.specs.Unfolding.{SequenceAt, LocatedInstr as LocatedInstr, handler_of, slots_in, AreItems, AreSequences, are_no_items, are_items, are_no_sequences, are_sequences}
 use Rattle.wasm_ops.specs.declared.types.Opcode.TheVariants.{Byte}
 use Rattle.wasm_ops.specs.Operations.{operation, RawOperation}
 use Rattle.wasm_body.specs.Control.{Action, Construct, Does, Opens, If, control_of}
-use Rattle.wasm_body.specs.SourceTree.{Sequence, Empty, Single, TryDelegate, Wrapper, OfBlock, OfLoop, OfTryTable, construct_of, reshown}
+use Rattle.wasm_body.specs.SourceTree.{Sequence, Empty, Single, TryDelegate, Wrapper, OfBlock, OfLoop, OfTryTable, construct_of, map_sequence}
 use Rattle.wasm_body.specs.Naming.{Environment, NamedOperation, Occurrence, block_signature, named_in}
 use Rattle.walrus_ir.specs.Types.{signature, pick}
 use Rattle.walrus_ir.specs.declared.val_type.InstrSeqType.TheVariants.{Simple}
-use Rattle.wasm_body.specs.NormalForm.{Fate, Drops, Stays, Cuts, fate, with_fate, type_of, handler_type, normal, typing_of, kept_operation, instruction, name_at, normal_form, named_body}
+use Rattle.wasm_body.specs.NormalForm.{Fate, Drops, Stays, Cuts, fate, with_fate, construct_type, handler_type, normal, typing_of, kept_operation, instruction, name_at, normal_form, named_body}
 use Rattle.wasm_body.specs.FunctionTree.{Instruction, handles, handles_all, delegates, default_location}
 use Rattle.wasm_body.specs.Keeping.{dead_behind, is_dead}
-use Rattle.wasm_body.specs.InstructionTable.{operation_of, legacy_clause, legacy_clauses}
+use Rattle.wasm_body.specs.InstructionTable.{operation_of, legacy_clause, clauses_of_try}
 use Rattle.wasm_body.specs.TreeOfFunction.{aimed, instruction_in, items_in, HasTree}
 use Rattle.wasm_body.specs.Intervals.{RiseIn}
 use Rattle.wasm_body.specs.Parsing.Accepted.{mark}
@@ -64,7 +64,7 @@ module _ (env : Environment) (old : ParseState) (ls : List (Layer Occurrence)) (
 
   -- one more instruction
   pub steps_alone : (new : ParseState) (f : OpenFrame) (fs : List OpenFrame) (named : NamedOperation) (action : Action) (i : Instr) (cut : Bool) → old.frames ≡ f ∷ fs → named_in env (frames_of ls) o ≡ Ok named → control_of named ≡ Does action → IsCut action cut →
-      places_in i ≡ [] → legacy_clauses i ≡ [] → aimed (slots old.frames) (operation_of i) ≡ kept_operation named →
+      slots_in i ≡ [] → clauses_of_try i ≡ [] → aimed (slots old.frames) (operation_of i) ≡ kept_operation named →
       new ≡ record old { frames = taken (i, location) cut f ∷ fs } → Advances env new ls s o place location
   steps_alone new f fs named action i cut frames is control cuts alone no_clauses aims is_new = record {
     named = named;
@@ -104,7 +104,7 @@ module _ (env : Environment) (old : ParseState) (ls : List (Layer Occurrence)) (
       named_in env (frames_of ls) o ≡ Ok named → control_of named ≡ Opens c → IsOpened env (length old.arena) (opened (at named) c) g seq →
       closed_in (typing_of env) (reshown_construct name_at (opened (at named) c)) ≡ no_sequences →
       ((around : List OpenFrame) → IsAppended (slots around) [] g.sequence (opened (at named) c) IsOpener around old.frames → OpensWith (slots around) [] g.sequence (opened (at named) c) around old.frames old.ifs old.ifs) →
-      places_in x.0 ≡ g.sequence ∷ [] → instruction_in (slots old.frames) x ≡ instruction (name_at (opener_in (opened (at named) c))) (clauses_in (opened (at named) c)) → IsOpener x.0 →
+      slots_in x.0 ≡ g.sequence ∷ [] → instruction_in (slots old.frames) x ≡ instruction (name_at (opener_in (opened (at named) c))) (clauses_in (opened (at named) c)) → IsOpener x.0 →
       new ≡ record { arena = old.arena ++ seq ∷ []; frames = g ∷ changed_at 0 (with_instr x) old.frames; ifs = old.ifs } → Advances env new ls s o place location
   steps_opened new named c IsOpener g seq x is control opens none with_opener places instr is_opener is_new =
       let around = changed_at 0 (with_instr x) old.frames in
@@ -229,7 +229,7 @@ module _ (env : Environment) (old : ParseState) (l : Layer Occurrence) (ls : Lis
       let outer : Holds env old.arena ls l.before h.low fs h.other_ifs = subst (λ gs. Holds env old.arena ls l.before h.low gs h.other_ifs) (sym h.opens.0) h.outer in
       let inside = subst (Encloses env old.arena h.low f (slots fs) (InThen a)) h.opens.2 h.encloses in
       let sig : signature f.start_types f.end_types ≡ block_signature a.named = λ i. signature (h.encloses.takes i) (h.encloses.gives i) in
-      let typed : other.ty ≡ type_of (typing_of env) a.named = sym (ap (λ t. unwrap_or t (Simple None)) (sym (ap (pick env.types) sig) ∙ picks)) in
+      let typed : other.ty ≡ construct_type (typing_of env) a.named = sym (ap (λ t. unwrap_or t (Simple None)) (sym (ap (pick env.types) sig) ∙ picks)) in
       let whole = holds_chosen_alone env old.arena c other ls l.before s a e f fs h.other_ifs h.low h.opens.3 h.kept inside
       (sealed env old.arena c h.low f (slots fs) [] (InThen a) (Some e.location) inside seals) typed empty no_end outer in
       let made_of = λ (d : List InstrSeq) (qs : List OpenFrame) (js : List IfElseState). Holds env d ls (append l.before (closed (InThen a) s e)) (length d) qs js in
@@ -256,7 +256,7 @@ module _ (env : Environment) (old : ParseState) (l : Layer Occurrence) (ls : Lis
     pub seq : InstrSeq
     pub grows : d ≡ c ++ seq ∷ []
     pub opens : IsOpened env (length c) q g seq
-    pub same : closed_in (typing_of env) (reshown_construct name_at q) ≡ sequences_closed (typing_of env) (reshown_construct name_at p) (normal (typing_of env) (reshown name_at s)) location no_sequences
+    pub same : closed_in (typing_of env) (reshown_construct name_at q) ≡ sequences_closed (typing_of env) (reshown_construct name_at p) (normal (typing_of env) (map_sequence name_at s)) location no_sequences
 
   parted : (p q : OpenConstruct Occurrence) (new : ParseState) (c : List InstrSeq) (g : OpenFrame) (gs : List OpenFrame) (location : ℕ) (h : Inside p) → Parts c new.arena p q g location → new.frames ≡ g ∷ gs → slots gs ≡ slots fs →
       OpensWith (slots gs) (h.before ++ f.sequence ∷ []) g.sequence q gs h.outside new.ifs h.other_ifs → Keeps env new (layer l.before q ∷ ls) Empty
@@ -277,7 +277,7 @@ module _ (env : Environment) (old : ParseState) (l : Layer Occurrence) (ls : Lis
       let first : top ≡ made = cc both in
       let rest : others ≡ h.other_ifs = cc both in
       let sig : signature f.start_types f.end_types ≡ block_signature a.named = λ i. signature (h.encloses.takes i) (h.encloses.gives i) in
-      let typed : seq.ty ≡ type_of (typing_of env) a.named = sym (ap (λ t. unwrap_or t (Simple None)) (sym (ap (pick env.types) sig) ∙ picks)) in
+      let typed : seq.ty ≡ construct_type (typing_of env) a.named = sym (ap (λ t. unwrap_or t (Simple None)) (sym (ap (pick env.types) sig) ∙ picks)) in
       let states : new.ifs ≡ record { start = a.location; consequent = f.sequence; alternative = Some g.sequence } ∷ h.other_ifs =
       is ∙ (λ i. record { start = (first i).start; consequent = (first i).consequent; alternative = Some g.sequence } ∷ rest i) in
       let here : g.sequence ≡ length c = ap (λ (k : OpenFrame). k.sequence) frame in (
@@ -319,7 +319,7 @@ module _ (env : Environment) (old : ParseState) (l : Layer Occurrence) (ls : Lis
       new.frames ≡ g ∷ gs → new.ifs ≡ old.ifs → slots gs ≡ slots fs → AddsClause fs gs clause → handler_of clause ≡ length c ∷ [] → (h : Inside p) → IsAppended (slots fs) h.before f.sequence p IsTry fs h.outside → old.ifs ≡ h.other_ifs →
       opener_in q ≡ opener_in p → clauses_in q ≡ clauses_in p ++ legacy_clause clause ∷ [] → kind ≡ kind_in q → ((ts : _) → TakesParameters q ts) →
       type_in (typing_of env) (reshown_construct name_at q) ≡ handler_type (typing_of env) (name_at (opener_in p)).op parameters →
-      closed_in (typing_of env) (reshown_construct name_at q) ≡ sequences_closed (typing_of env) (reshown_construct name_at p) (normal (typing_of env) (reshown name_at s)) location no_sequences →
+      closed_in (typing_of env) (reshown_construct name_at q) ≡ sequences_closed (typing_of env) (reshown_construct name_at p) (normal (typing_of env) (map_sequence name_at s)) location no_sequences →
       ((around before : List ℕ) (slot : ℕ) (hs outside : List OpenFrame) (is js : List IfElseState) → IsAppended around before slot q IsTry hs outside × (is ≡ js) → OpensWith around before slot q hs outside is js) →
       Keeps env new (layer l.before q ∷ ls) Empty
   handler_parts p q new c seq g gs location kind parameters clause seals picks no_end arena frame gs_are is same_slots adds handler h appended others same clauses is_kind takes type closed_same opens =
@@ -373,7 +373,7 @@ module _ (env : Environment) (old : ParseState) (l : Layer Occurrence) (ls : Lis
         refl,
         handler_parts (InCatch a b cs i u) q new c seq g gs x.location kind.Catch parameters (Catch tag (length c)) seals picks no_end arena frame gs_are is same_slots adds refl h h.opens.0 h.opens.1
             refl (clauses_more cs (handles u ∷ []) (handles tag ∷ [])) refl (λ ts. tt) (ap (handler_type (typing_of env) a.named) tagged)
-            (closed_by_catch (typing_of env) (name_at a) (reshown name_at b) (reshown name_at s) (reshown_closed name_at cs) (name_at i) (name_at x) tag u) (λ around before slot hs outside is js o. o),
+            (closed_by_catch (typing_of env) (name_at a) (map_sequence name_at b) (map_sequence name_at s) (reshown_closed name_at cs) (name_at i) (name_at x) tag u) (λ around before slot hs outside is js o. o),
       )
   catch_parts (InWrapper a w) new c seq g gs x tag parameters may seals tagged picks no_end arena frame gs_are is same_slots adds h = absurd (wrapper_may w (subst IsBehindTry h.encloses.kind may))
     where
@@ -402,7 +402,7 @@ module _ (env : Environment) (old : ParseState) (l : Layer Occurrence) (ls : Lis
         refl,
         handler_parts (InCatch a b cs i u) q new c seq g gs x.location kind.CatchAll [] (CatchAll (length c)) seals picks no_end arena frame gs_are is same_slots adds refl h h.opens.0 h.opens.1
             refl (clauses_more cs (handles u ∷ []) (handles_all ∷ [])) refl (λ ts. tt) refl
-            (closed_by_catch (typing_of env) (name_at a) (reshown name_at b) (reshown name_at s) (reshown_closed name_at cs) (name_at i) (name_at x) 0 u) (λ around before slot hs outside is js o. o),
+            (closed_by_catch (typing_of env) (name_at a) (map_sequence name_at b) (map_sequence name_at s) (reshown_closed name_at cs) (name_at i) (name_at x) 0 u) (λ around before slot hs outside is js o. o),
       )
   catch_all_parts (InWrapper a w) new c seq g gs x may seals picks no_end arena frame gs_are is same_slots adds h = absurd (wrapper_may w (subst IsBehindTry h.encloses.kind may))
     where
@@ -424,7 +424,7 @@ module _ (env : Environment) (old : ParseState) (l : Layer Occurrence) (ls : Lis
       let closes = sequence_closed env old.arena new.arena h.low f (slots fs) h.before (InTry a) s default_location h.kept h.encloses
       (sealed env old.arena new.arena h.low f (slots fs) h.before (InTry a) None h.encloses seals) in
       let range = all_rise-range h.low h.encloses.inside f.sequence h.encloses.rise in
-      let places : places_in added.0.0 ≡ h.before ++ f.sequence ∷ [] = gained_places appended.opener added.0 (Delegate n) added.1 ∙ append-nil (places_in appended.opener.0) ∙ appended.places in
+      let places : slots_in added.0.0 ≡ h.before ++ f.sequence ∷ [] = gained_places appended.opener added.0 (Delegate n) added.1 ∙ append-nil (slots_in appended.opener.0) ∙ appended.places in
       let made : instruction_in (slots fs) added.0 ≡ instruction (name_at a) (delegates n ∷ []) = gained_instruction (slots fs) appended.opener added.0 (Delegate n) a [] added.1 appended.is_instruction in
       let more : AreNormal env new.arena h.low (length new.arena) (slots fs) (added.0 ∷ []) (TryDelegate a s x n Empty) = record {
         items = item added.0 closes.inside no_items;
@@ -467,9 +467,9 @@ ends_body env b c f fs ifs s e w h =
     let same : h.reserved.seq ≡ w.was = cc found in
     let type : w.seq.ty ≡ (typing_of env).entry = w.same_type ∙ ap (λ (q : InstrSeq). q.ty) (sym same) ∙ h.reserved.has_type in
     let alone : slots fs ≡ [] = ap slots h.alone in
-    let normal_is : items_in (0 ∷ []) k.items ≡ normal (typing_of env) (reshown name_at s) =
+    let normal_is : items_in (0 ∷ []) k.items ≡ normal (typing_of env) (map_sequence name_at s) =
     ap (λ p. items_in (p ∷ []) k.items) (sym at_first) ∙ ap (λ ps. items_in (f.sequence ∷ ps) k.items) (sym alone) ∙ k.is_normal in
-    let top : Placed = record { place = 0; seq = w.seq } in
+    let top : SequenceAt = record { place = 0; seq = w.seq } in
     record {
       unfolded = record { head = top; items = k.items };
       is_tree = record {

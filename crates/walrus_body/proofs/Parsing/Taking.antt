@@ -15,7 +15,7 @@ use Rattle.wasm_ops.specs.Spelling.{Spells, read_operation}
 use Rattle.wasm_ops.proofs.OperationLaws.{operations_agree}
 use Rattle.wasm_body.specs.declared.error.ParseError.{ParseError}
 use Rattle.wasm_body.specs.declared.error.ParseError.TheVariants.{Read, PlaceTooGreat, Checked, Memory}
-use Rattle.wasm_body.specs.Results.{◌>>=◌, unless, faulting}
+use Rattle.walrus_ir.specs.Results.{◌>>=◌, unless, with_fault}
 use Rattle.walrus_body.specs.declared.local_function.check.CheckError.{CheckError}
 use Rattle.walrus_body.specs.declared.local_function.check.CheckError.TheVariants.{Refused, Memory as wants_memory}
 use Rattle.walrus_body.specs.Parsing.Checking.{placed_at, Checks, fault_of}
@@ -50,16 +50,16 @@ moved_on old new o text m s =
 module _ {S : Type 0} (fits : ℕ → Bool) (check : S → Placed → Result S ℕ) (s : S) (place : ℕ) where
   abbrev by_read : Result (RawOperation × List ℕ) ReadFault → Result (Taken S) ParseError
   by_read r =
-      faulting (λ fault. Read (record { fault = fault; at = place })) r >>= λ x.
+      with_fault (λ fault. Read (record { fault = fault; at = place })) r >>= λ x.
       unless (fits place) PlaceTooGreat >>= λ _.
-      faulting Checked (check s (placed_at x.0 place)) >>= λ t.
+      with_fault Checked (check s (placed_at x.0 place)) >>= λ t.
       Ok (record { spelt = x.0; rest = x.1; state = t })
 
   abbrev by_place : RawOperation → List ℕ → Bool → Result (Taken S) ParseError
-  by_place o rest b = unless b PlaceTooGreat >>= λ _. faulting Checked (check s (placed_at o place)) >>= λ t. Ok (record { spelt = o; rest = rest; state = t })
+  by_place o rest b = unless b PlaceTooGreat >>= λ _. with_fault Checked (check s (placed_at o place)) >>= λ t. Ok (record { spelt = o; rest = rest; state = t })
 
   abbrev by_check : RawOperation → List ℕ → Result S ℕ → Result (Taken S) ParseError
-  by_check o rest c = faulting Checked c >>= λ t. Ok (record { spelt = o; rest = rest; state = t })
+  by_check o rest c = with_fault Checked c >>= λ t. Ok (record { spelt = o; rest = rest; state = t })
 
   pub is_taken : (bytes rest : List ℕ) (o : RawOperation) (t : S) → read_operation bytes ≡ Ok (o, rest) → fits place ≡ true → check s (placed_at o place) ≡ Ok t →
       taken fits check s place bytes ≡ Ok (record { spelt = o; rest = rest; state = t })

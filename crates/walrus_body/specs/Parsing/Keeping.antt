@@ -8,10 +8,10 @@ use Rattle.walrus_ir.specs.declared.control.BlockKind.TheVariants as kind
 use Rattle.walrus_ir.specs.declared.val_type.InstrSeqType.{InstrSeqType}
 use Rattle.walrus_ir.specs.declared.val_type.ValType.{ValType}
 use Rattle.walrus_ir.specs.Tree.{Items, Sequences}
-use Rattle.walrus_ir.specs.Unfolding.{Placed, Located as LocatedInstr, places_in, AreItems, AreSequences}
+use Rattle.walrus_ir.specs.Unfolding.{SequenceAt, LocatedInstr as LocatedInstr, slots_in, AreItems, AreSequences}
 use Rattle.wasm_ops.specs.declared.types.Opcode.TheVariants.{Byte}
 use Rattle.wasm_ops.specs.Operations.{block, operation}
-use Rattle.wasm_body.specs.SourceTree.{Sequence, reshown}
+use Rattle.wasm_body.specs.SourceTree.{Sequence, map_sequence}
 use Rattle.wasm_body.specs.FunctionTree.{default_location, Instruction}
 use Rattle.wasm_body.specs.Naming.{Occurrence, Environment, block_signature}
 use Rattle.wasm_body.specs.NormalForm.{typing_of, kept_operation, instruction, normal, name_at}
@@ -29,10 +29,10 @@ slots fs = map (λ (f : OpenFrame). f.sequence) fs
 -- Of the sequence so far the frame's instructions are the normal form; the sequences inside stand behind the frame's own
 -- slot, in rising order and below `high`.
 pub record IsKept (env : Environment) (arena : List InstrSeq) (high : ℕ) (f : OpenFrame) (around : List ℕ) (s : Sequence Occurrence) : Type 0 where
-  pub items : Items Placed LocatedInstr
+  pub items : Items SequenceAt LocatedInstr
   pub are_items : AreItems arena f.instrs items
   pub rise : RiseIn (suc f.sequence) items high
-  pub is_normal : items_in (f.sequence ∷ around) items ≡ normal (typing_of env) (reshown name_at s)
+  pub is_normal : items_in (f.sequence ∷ around) items ≡ normal (typing_of env) (map_sequence name_at s)
   pub is_dead : f.dead ≡ is_dead s
 
 -- a sequence of the type, whose end has no location, stands in the slot
@@ -51,7 +51,7 @@ TakesParameters _ types = Unit {0}
 
 -- The frame is that of the construct, whose closed sequences stand in the slots `before`, from `low` on and below its own.
 pub record Encloses (env : Environment) (arena : List InstrSeq) (low : ℕ) (f : OpenFrame) (around : List ℕ) (p : OpenConstruct Occurrence) (before : List ℕ) : Type 0 where
-  pub inside : Sequences Placed LocatedInstr
+  pub inside : Sequences SequenceAt LocatedInstr
   pub are_sequences : AreSequences arena before inside
   pub rise : AllRiseIn low inside f.sequence
   pub is_normal : sequences_in around inside ≡ closed_in (typing_of env) (reshown_construct name_at p)
@@ -63,7 +63,7 @@ pub record Encloses (env : Environment) (arena : List InstrSeq) (low : ℕ) (f :
 -- The construct's instruction stands behind those of the frame around, where that is alive; without it they are `fs'`.
 pub record IsAppended (around before : List ℕ) (slot : ℕ) (p : OpenConstruct Occurrence) (IsOpener : Instr → Type 0) (fs fs' : List OpenFrame) : Type 0 where
   pub opener : LocatedInstr
-  pub places : places_in opener.0 ≡ before ++ slot ∷ []
+  pub places : slots_in opener.0 ≡ before ++ slot ∷ []
   pub is_instruction : instruction_in around opener ≡ instruction (name_at (opener_in p)) (clauses_in p)
   pub is_opener : IsOpener opener.0
   pub frames : fs ≡ changed_at 0 (with_instr opener) fs'

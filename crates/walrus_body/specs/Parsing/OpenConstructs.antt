@@ -5,11 +5,11 @@ use Rattle.walrus_ir.specs.declared.val_type.InstrSeqType.{InstrSeqType}
 use Rattle.walrus_ir.specs.declared.control.BlockKind.{BlockKind}
 use Rattle.walrus_ir.specs.declared.control.BlockKind.TheVariants as kind
 use Rattle.walrus_ir.specs.Tree.{Items, no_items, item, Sequences, no_sequences, sequence}
-use Rattle.wasm_body.specs.SourceTree.{Sequence, Wrapper, OfBlock, OfLoop, OfTryTable, reshown}
+use Rattle.wasm_body.specs.SourceTree.{Sequence, Wrapper, OfBlock, OfLoop, OfTryTable, map_sequence}
 use Rattle.wasm_body.specs.Translation.{Located}
 use Rattle.wasm_body.specs.FunctionTree.{Head, LegacyClause, handles, handles_all, Instruction, default_location}
 use Rattle.wasm_body.specs.Naming.{NamedOperation}
-use Rattle.wasm_body.specs.NormalForm.{Typing, type_of, handler_type, instruction, head, normal}
+use Rattle.wasm_body.specs.NormalForm.{Typing, construct_type, handler_type, instruction, head, normal}
 use Rattle.wasm_body.specs.Parsing.Progress.{ClosedClause, closed_clause, OpenConstruct, InWrapper, InThen, InElse, InTry, InCatch, InCatchAll}
 
 -- the operator that opened it
@@ -72,12 +72,12 @@ first_clause_at location [] = location
 first_clause_at location (g ∷ gs) = first_clause_at g.mark.location gs
 
 abbrev pub try_sequences : Typing → NamedOperation → Sequence Named → List (ClosedClause Named) → (location : ℕ) → Sequences Head Instruction
-try_sequences m o b gs location = sequence (head (type_of m o) (first_clause_at location gs)) (normal m b) (handlers_behind m o location gs no_sequences)
+try_sequences m o b gs location = sequence (head (construct_type m o) (first_clause_at location gs)) (normal m b) (handlers_behind m o location gs no_sequences)
 
 abbrev pub closed_in : Typing → OpenConstruct Named → Sequences Head Instruction
 closed_in m (InWrapper a w) = no_sequences
 closed_in m (InThen a) = no_sequences
-closed_in m (InElse a b l) = sequence (head (type_of m a.op) l.location) (normal m b) no_sequences
+closed_in m (InElse a b l) = sequence (head (construct_type m a.op) l.location) (normal m b) no_sequences
 closed_in m (InTry a) = no_sequences
 closed_in m (InCatch a b gs h t) = try_sequences m a.op b gs h.location
 closed_in m (InCatchAll a b gs h) = try_sequences m a.op b gs h.location
@@ -87,11 +87,11 @@ closed_in m (InCatchAll a b gs h) = try_sequences m a.op b gs h.location
 abbrev pub type_in : Typing → OpenConstruct Named → InstrSeqType
 type_in m (InCatch a b gs h t) = handler_type m a.op (m.tag_parameters t)
 type_in m (InCatchAll a b gs h) = handler_type m a.op []
-type_in m p = type_of m (opener_in p).op
+type_in m p = construct_type m (opener_in p).op
 
 -- the sequence behind an open one that is closed by `end`: an empty alternative behind a consequent
 abbrev pub added_in : Typing → OpenConstruct Named → Sequences Head Instruction
-added_in m (InThen a) = sequence (head (type_of m a.op) default_location) no_items no_sequences
+added_in m (InThen a) = sequence (head (construct_type m a.op) default_location) no_items no_sequences
 added_in m _ = no_sequences
 
 -- the sequences, where the open one holds these items and ends at this location
@@ -101,7 +101,7 @@ sequences_closed m p items location rest = sequences_joined (closed_in m p) (seq
 -- ---- the same with something else shown
 
 abbrev pub reshown_clause : {A B : Type 0} → (A → B) → ClosedClause A → ClosedClause B
-reshown_clause f g = closed_clause (f g.mark) g.tag (reshown f g.body)
+reshown_clause f g = closed_clause (f g.mark) g.tag (map_sequence f g.body)
 
 abbrev pub reshown_closed : {A B : Type 0} → (A → B) → List (ClosedClause A) → List (ClosedClause B)
 reshown_closed f [] = []
@@ -110,7 +110,7 @@ reshown_closed f (g ∷ gs) = reshown_clause f g ∷ reshown_closed f gs
 abbrev pub reshown_construct : {A B : Type 0} → (A → B) → OpenConstruct A → OpenConstruct B
 reshown_construct f (InWrapper a w) = InWrapper (f a) w
 reshown_construct f (InThen a) = InThen (f a)
-reshown_construct f (InElse a b l) = InElse (f a) (reshown f b) (f l)
+reshown_construct f (InElse a b l) = InElse (f a) (map_sequence f b) (f l)
 reshown_construct f (InTry a) = InTry (f a)
-reshown_construct f (InCatch a b gs h t) = InCatch (f a) (reshown f b) (reshown_closed f gs) (f h) t
-reshown_construct f (InCatchAll a b gs h) = InCatchAll (f a) (reshown f b) (reshown_closed f gs) (f h)
+reshown_construct f (InCatch a b gs h t) = InCatch (f a) (map_sequence f b) (reshown_closed f gs) (f h) t
+reshown_construct f (InCatchAll a b gs h) = InCatchAll (f a) (map_sequence f b) (reshown_closed f gs) (f h)

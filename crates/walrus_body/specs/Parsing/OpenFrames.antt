@@ -3,7 +3,7 @@ use Rattle.std.specs.Prelude.{◌≡◌, ℕ, zero, suc, List, [], ◌∷◌, �
 use Rattle.std.specs.List.{AllByRecursion}
 use Rattle.walrus_ir.specs.declared.control.BlockKind.{BlockKind}
 use Rattle.walrus_ir.specs.declared.val_type.ValType.{ValType}
-use Rattle.walrus_ir.specs.Unfolding.{Located}
+use Rattle.walrus_ir.specs.Unfolding.{LocatedInstr}
 use Rattle.walrus_body.specs.declared.local_function.frame.ControlFrame.{ControlFrame}
 
 -- An open frame: its kind, what it takes and gives, its sequence, whether what follows is dropped, and its instructions.
@@ -13,10 +13,10 @@ pub record OpenFrame : Type 0 where
   pub end_types : List (ValType ℕ)
   pub sequence : ℕ
   pub dead : Bool
-  pub instrs : List Located
+  pub instrs : List LocatedInstr
 
 -- what a frame of the code shows, with these instructions
-abbrev pub frame_with : ControlFrame → List Located → OpenFrame
+abbrev pub frame_with : ControlFrame → List LocatedInstr → OpenFrame
 frame_with f instrs = record { kind = f.kind; start_types = f.start_types.items; end_types = f.end_types.items; sequence = f.block; dead = f.unreachable; instrs = instrs }
 
 -- the frame as the code shows it, whatever its instructions
@@ -42,7 +42,7 @@ abbrev pub killed : OpenFrame → OpenFrame
 killed f = record f { dead = true }
 
 -- one more instruction, or where the frame is dead none
-abbrev pub with_instr : Located → OpenFrame → OpenFrame
+abbrev pub with_instr : LocatedInstr → OpenFrame → OpenFrame
 with_instr x f = record f { instrs = cond f.dead f.instrs (f.instrs ++ x ∷ []) }
 
 -- the frames inside the n-th have no instructions

@@ -8,7 +8,7 @@ use Rattle.wasm_ops.specs.OperatorList.{Placed}
 use Rattle.wasm_ops.specs.Spelling.{read_operation}
 use Rattle.wasm_body.specs.declared.error.ParseError.{ParseError}
 use Rattle.wasm_body.specs.declared.error.ParseError.TheVariants.{Read, PlaceTooGreat, Checked}
-use Rattle.wasm_body.specs.Results.{◌>>=◌, unless, faulting}
+use Rattle.walrus_ir.specs.Results.{◌>>=◌, unless, with_fault}
 use Rattle.wasm_body.specs.SourceTree.{Body, body_text}
 use Rattle.wasm_body.specs.Naming.{Environment, Occurrence}
 use Rattle.wasm_body.specs.Parsing.Accepted.{Setting, location_limit}
@@ -31,9 +31,9 @@ pub record Taken (S : Type 0) : Type 0 where
 -- The operator at the front of the bytes is read; then its place is looked at, and then the validator is asked.
 abbrev pub taken : {S : Type 0} → (ℕ → Bool) → (S → Placed → Result S ℕ) → S → (place : ℕ) → List ℕ → Result (Taken S) ParseError
 taken fits check s place bytes =
-    faulting (λ fault. Read (record { fault = fault; at = place })) (read_operation bytes) >>= λ x.
+    with_fault (λ fault. Read (record { fault = fault; at = place })) (read_operation bytes) >>= λ x.
     unless (fits place) PlaceTooGreat >>= λ _.
-    faulting Checked (check s (placed_at x.0 place)) >>= λ t.
+    with_fault Checked (check s (placed_at x.0 place)) >>= λ t.
     Ok (record { spelt = x.0; rest = x.1; state = t })
 
 -- ---- the setting

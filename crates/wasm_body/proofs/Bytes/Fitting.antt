@@ -4,12 +4,12 @@ use Rattle.std.specs.Prelude.{nat_lt, IsOk, is_ok}
 use Rattle.std.proofs.lemmas.Bool.{lt-ltb, ltb-true}
 use Rattle.wasm_body.specs.declared.error.EmitError.{EmitError}
 use Rattle.wasm_body.specs.declared.error.EmitError.TheVariants.{TooLarge}
-use Rattle.wasm_body.specs.Results.{◌>>=◌, unless}
-use Rattle.wasm_body.specs.Bytes.{fitting}
-use Rattle.wasm_body.proofs.Translation.ResultLemmas.{unless_ok}
+use Rattle.walrus_ir.specs.Results.{◌>>=◌, unless}
+use Rattle.wasm_body.specs.Bytes.{in_32_bits}
+use Rattle.walrus_ir.proofs.ResultLemmas.{unless_ok}
 use Rattle.wasm_body.proofs.Translation.Steps.{bound}
 
-pub fits : (n : ℕ) → n < 2 ^ 32 → IsOk (fitting n)
+pub fits : (n : ℕ) → n < 2 ^ 32 → IsOk (in_32_bits n)
 fits n l = ap (λ b. is_ok (unless b TooLarge >>= λ _. Ok n)) (lt-ltb n (2 ^ 32) l)
 
 -- what fits is the number itself
@@ -17,7 +17,7 @@ pub record IsFit (n q : ℕ) : Type 0 where
   pub same : q ≡ n
   pub below : q < 2 ^ 32
 
-pub fitting_is : (n q : ℕ) → fitting n ≡ Ok q → IsFit n q
+pub fitting_is : (n q : ℕ) → in_32_bits n ≡ Ok q → IsFit n q
 fitting_is n q e =
     let u = bound (unless (nat_lt n (2 ^ 32)) TooLarge) (λ _. Ok n) q e in
     let same : n ≡ q = cc u.2 in
@@ -28,8 +28,8 @@ pub record IsFitAnswer (r : Result ℕ EmitError) (q : ℕ) : Type 0 where
   pub answer : r ≡ Ok q
   pub below : q < 2 ^ 32
 
-pub fitting_answer : (r : Result ℕ EmitError) (q : ℕ) → (r >>= fitting) ≡ Ok q → IsFitAnswer r q
+pub fitting_answer : (r : Result ℕ EmitError) (q : ℕ) → (r >>= in_32_bits) ≡ Ok q → IsFitAnswer r q
 fitting_answer r q e =
-    let n = bound r fitting q e in
+    let n = bound r in_32_bits q e in
     let fit = fitting_is n.0 q n.2 in
     record { answer = subst (λ k. r ≡ Ok k) (sym fit.same) n.1; below = fit.below }

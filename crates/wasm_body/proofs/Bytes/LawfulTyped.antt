@@ -10,8 +10,8 @@ use Rattle.wasm_ops.specs.Immediates.{kind_of}
 use Rattle.wasm_ops.specs.Opcodes.{kinds_of}
 use Rattle.wasm_body.specs.declared.error.ParseError.{ParseError}
 use Rattle.wasm_body.specs.declared.error.ParseError.TheVariants.{TypeMissing}
-use Rattle.wasm_body.specs.Results.{◌>>=◌, unless}
-use Rattle.wasm_body.specs.Control.{Role, a_block, a_loop, an_if, a_try, a_try_table, role_of, Control, Does, Opens, Else, Catch, CatchAll, End, Delegate, If, Try, control_by, control_of, marked}
+use Rattle.walrus_ir.specs.Results.{◌>>=◌, unless}
+use Rattle.wasm_body.specs.Control.{Role, a_block, a_loop, an_if, a_try, a_try_table, role_of, Control, Does, Opens, Else, Catch, CatchAll, End, Delegate, If, Try, control_by, control_of, with_control}
 use Rattle.wasm_body.specs.SourceTree.{Sequence, Empty, Single, Wrapped, IfThen, IfElse, TryCatch, TryDelegate, Clauses, Ended, Catches, CatchesAll, construct_of, Body}
 use Rattle.wasm_body.specs.Frames.{Frame, OfWrapper, Consequent, Alternative, TryBody, Handler, HandlerOfAll, Rule, Follows, FollowsIn, function_frames}
 use Rattle.wasm_body.specs.Translation.{translate, translate_immediates}
@@ -95,7 +95,7 @@ named_typed env fs o named kinds e =
 -- ---- what follows from a rule at each operator of a tree
 
 module _ {A : Type 0} (R : Rule A) (P : A → Control → Type 0)
-    (given : (frames : List (Frame A)) (a : A) (c : Control) → R frames (marked a c) → P a c) where
+    (given : (frames : List (Frame A)) (a : A) (c : Control) → R frames (with_control a c) → P a c) where
   mutual
     pub each_of_follows : (fs : List (Frame A)) (s : Sequence A) → Follows R fs s → Each P s
     each_of_follows fs Empty h = tt
@@ -139,7 +139,7 @@ all_typed env (x ∷ xs) k h = (named_typed env h.0.0 x.spelt x.named k.0 h.0.1,
 pub named_somewhere : (env : Environment) (xs : List Occurrence) (b : Body Occurrence) → Lawful env xs b → AllMarked (NamedSomewhere env) (map mark xs)
 named_somewhere env xs b lawful =
     subst (AllMarked (NamedSomewhere env)) (sym lawful.is_body)
-    (all_of_each (NamedSomewhere env) b.sequence (marked b.close End ∷ [])
+    (all_of_each (NamedSomewhere env) b.sequence (with_control b.close End ∷ [])
     (each_of_follows (IsNamed env) (NamedSomewhere env) (λ frames x c h. (frames, h)) function_frames b.sequence lawful.named.0)
     ((function_frames, lawful.named.1), tt))
 

@@ -24,15 +24,15 @@ use Rattle.walrus_ir.specs.Types.{Signature, pick}
 use Rattle.wasm_body.specs.declared.error.IndexError.{IndexError}
 use Rattle.wasm_body.specs.declared.error.ParseError.TheVariants.{Index}
 use Rattle.wasm_body.specs.declared.error.ParseError.{ParseError}
-use Rattle.wasm_body.specs.Results.{◌>>=◌, faulting}
-use Rattle.wasm_body.specs.Control.{Role, a_block, a_loop, an_if, a_try, a_try_table, a_catch, a_catch_all, a_delegate, an_else, an_end, role_of, Control, End, control_by, control_of, marked}
+use Rattle.walrus_ir.specs.Results.{◌>>=◌, with_fault}
+use Rattle.wasm_body.specs.Control.{Role, a_block, a_loop, an_if, a_try, a_try_table, a_catch, a_catch_all, a_delegate, an_else, an_end, role_of, Control, End, control_by, control_of, with_control}
 use Rattle.wasm_body.specs.Frames.{Frame}
 use Rattle.wasm_body.specs.Translation.{Translation, translate, translate_immediates, Located}
 use Rattle.wasm_body.specs.Naming.{Environment, NamedOperation, Occurrence, naming, id_at, name_block, block_types, first_signature, stands, has_types, named_in}
 use Rattle.wasm_body.specs.FunctionTree.{Target, Depth}
-use Rattle.wasm_body.specs.NormalForm.{typing_of, type_of, kept_operation, name_at, named_body, normal_form}
+use Rattle.wasm_body.specs.NormalForm.{typing_of, construct_type, kept_operation, name_at, named_body, normal_form}
 use Rattle.wasm_body.specs.FlatText.{Writing, then_by, typed}
-use Rattle.wasm_body.specs.Bytes.{Numbers, fitting, fitting_numbers, numbered_block, numbering, numbered_text, bytes_of, tree_bytes}
+use Rattle.wasm_body.specs.Bytes.{Numbers, in_32_bits, numbers_in_32_bits, numbered_block, numbering, numbered_text, bytes_of, tree_bytes}
 use Rattle.wasm_body.specs.SourceTree.{Body}
 use Rattle.wasm_body.specs.Parsing.Accepted.{mark, Lawful}
 use Rattle.wasm_body.proofs.Structure.Along.{AllMarked, each_of, each_reshown}
@@ -45,20 +45,20 @@ use Rattle.wasm_body.proofs.Translation.Answering.{AnswersWhere, OthersOk, last_
 
 -- ---- what is spelt fits 32 bits
 
-pub u32_fits : (n : ℕ) (text : List ℕ) → IsU32 n text → IsOk (fitting n)
+pub u32_fits : (n : ℕ) (text : List ℕ) → IsU32 n text → IsOk (in_32_bits n)
 u32_fits n text s = fits n (unsigned_below 32 n text s)
 
-all_fit : (count : ℕ) (ns : List ℕ) (text : List ℕ) → Many IsU32 count ns text → AllByRecursion (λ n. IsOk (fitting n)) ns
+all_fit : (count : ℕ) (ns : List ℕ) (text : List ℕ) → Many IsU32 count ns text → AllByRecursion (λ n. IsOk (in_32_bits n)) ns
 all_fit zero [] text s = tt
 all_fit zero (n ∷ ns) text s = absurd s
 all_fit (suc c) [] text s = absurd s
 all_fit (suc c) (n ∷ ns) text s = (u32_fits n s.0 s.3, all_fit c ns s.1 s.4)
 
 abbrev counted : ℕ → Result (Unit {0}) EmitError
-counted n = fitting n >>= λ _. Ok tt
+counted n = in_32_bits n >>= λ _. Ok tt
 
 count_fits : (n : ℕ) (text : List ℕ) → IsU32 n text → IsOk (counted n)
-count_fits n text s = by_answer (fitting n) (u32_fits n text s)
+count_fits n text s = by_answer (in_32_bits n) (u32_fits n text s)
   where
     by_answer : (r : Result ℕ EmitError) → IsOk r → IsOk (let t : Result (Unit {0}) EmitError = r >>= (λ _. Ok tt) in t)
     by_answer (Ok m) h = refl
@@ -67,23 +67,23 @@ count_fits n text s = by_answer (fitting n) (u32_fits n text s)
 -- the labels, depths, numbers and counts of an immediate
 abbrev Fits : RawImmediate → Type 0
 Fits (local n) = ⊥
-Fits (label l) = IsOk (fitting l)
-Fits (handler n) = IsOk (fitting n)
-Fits (outer n) = IsOk (fitting n)
-Fits (number n) = IsOk (fitting n)
-Fits (branch_table ts d) = IsOk (counted (length ts)) × AllByRecursion (λ l. IsOk (fitting l)) ts × IsOk (fitting d)
-Fits (clauses cs) = IsOk (counted (length cs)) × AllByRecursion (λ (c : CatchClause ℕ). IsOk (fitting c.label)) cs
-Fits (cast c) = IsOk (fitting c.label)
+Fits (label l) = IsOk (in_32_bits l)
+Fits (handler n) = IsOk (in_32_bits n)
+Fits (outer n) = IsOk (in_32_bits n)
+Fits (number n) = IsOk (in_32_bits n)
+Fits (branch_table ts d) = IsOk (counted (length ts)) × AllByRecursion (λ l. IsOk (in_32_bits l)) ts × IsOk (in_32_bits d)
+Fits (clauses cs) = IsOk (counted (length cs)) × AllByRecursion (λ (c : CatchClause ℕ). IsOk (in_32_bits c.label)) cs
+Fits (cast c) = IsOk (in_32_bits c.label)
 Fits _ = Unit {0}
 
-clause_fits : (c : CatchClause ℕ) (text : List ℕ) → IsClause c text → IsOk (fitting c.label)
+clause_fits : (c : CatchClause ℕ) (text : List ℕ) → IsClause c text → IsOk (in_32_bits c.label)
 clause_fits c text s =
     let made : CatchClause ℕ = record { by_reference = s.0.0.1; tag = s.0.1.0; label = s.0.1.1 } in
     let is : made ≡ c = cc s.1 in
     let inner = s.2.4 in
-    subst (λ (d : CatchClause ℕ). IsOk (fitting d.label)) is (u32_fits s.0.1.1 inner.1 inner.4)
+    subst (λ (d : CatchClause ℕ). IsOk (in_32_bits d.label)) is (u32_fits s.0.1.1 inner.1 inner.4)
 
-clauses_fit : (count : ℕ) (cs : List (CatchClause ℕ)) (text : List ℕ) → Many IsClause count cs text → AllByRecursion (λ (c : CatchClause ℕ). IsOk (fitting c.label)) cs
+clauses_fit : (count : ℕ) (cs : List (CatchClause ℕ)) (text : List ℕ) → Many IsClause count cs text → AllByRecursion (λ (c : CatchClause ℕ). IsOk (in_32_bits c.label)) cs
 clauses_fit zero [] text s = tt
 clauses_fit zero (c ∷ cs) text s = absurd s
 clauses_fit (suc n) [] text s = absurd s
@@ -99,18 +99,18 @@ spelt_fits (branch_table ts d) text s k =
     let e : s.0.1 ≡ (ts, d) = cc s.1 in
     let inner = s.2.4 in
     let long : s.0.0 ≡ length s.0.1.0 = many_length IsU32 s.0.0 s.0.1.0 inner.0 inner.3 in
-    let P : List ℕ × ℕ → Type 0 = λ t. IsOk (counted (length t.0)) × AllByRecursion (λ l. IsOk (fitting l)) t.0 × IsOk (fitting t.1) in
+    let P : List ℕ × ℕ → Type 0 = λ t. IsOk (counted (length t.0)) × AllByRecursion (λ l. IsOk (in_32_bits l)) t.0 × IsOk (in_32_bits t.1) in
     subst P e (subst (λ n. IsOk (counted n)) long (count_fits s.0.0 s.2.0 s.2.3), all_fit s.0.0 s.0.1.0 inner.0 inner.3, u32_fits s.0.1.1 inner.1 inner.4)
 spelt_fits (clauses cs) text s k =
     let e : s.0.1 ≡ cs = cc s.1 in
     let long : s.0.0 ≡ length s.0.1 = many_length IsClause s.0.0 s.0.1 s.2.1 s.2.4 in
-    let P : List (CatchClause ℕ) → Type 0 = λ ds. IsOk (counted (length ds)) × AllByRecursion (λ (c : CatchClause ℕ). IsOk (fitting c.label)) ds in
+    let P : List (CatchClause ℕ) → Type 0 = λ ds. IsOk (counted (length ds)) × AllByRecursion (λ (c : CatchClause ℕ). IsOk (in_32_bits c.label)) ds in
     subst P e (subst (λ n. IsOk (counted n)) long (count_fits s.0.0 s.2.0 s.2.3), clauses_fit s.0.0 s.0.1 s.2.1 s.2.4)
 spelt_fits (cast c) text s k =
     let made : Cast ℕ = record { from_nullable = s.0.0.0; to_nullable = s.0.0.1; label = s.0.1.0; source = s.0.1.1.0; target = s.0.1.1.1 } in
     let is : made ≡ c = cc s.1 in
     let inner = s.2.4 in
-    subst (λ (d : Cast ℕ). IsOk (fitting d.label)) is (u32_fits s.0.1.0 inner.0 inner.3)
+    subst (λ (d : Cast ℕ). IsOk (in_32_bits d.label)) is (u32_fits s.0.1.0 inner.0 inner.3)
 spelt_fits (index space n) text s k = tt
 spelt_fits _ text s k = tt
 
@@ -126,7 +126,7 @@ HasText x = (text : List ℕ) × Spells x.spelt text
 
 -- There are numbers of 32 bits for the ids that old indices stand for, and for the types of sequences.
 pub record HasNumbers (env : Environment) (to : Numbers) : Type 0 where
-  pub indices : (space : Space) (n id : ℕ) → env.id_of space n ≡ Ok id → IsOk ((fitting_numbers to).number_of space id)
+  pub indices : (space : Space) (n id : ℕ) → env.id_of space n ≡ Ok id → IsOk ((numbers_in_32_bits to).number_of space id)
   pub blocks : (b : BlockType) (s : Signature) (t : InstrSeqType) → name_block env b ≡ Ok s → pick env.types s ≡ Some t → IsOk (numbered_block to t)
 
 module _ (env : Environment) (to : Numbers) (has : HasNumbers env to) where
@@ -136,12 +136,12 @@ module _ (env : Environment) (to : Numbers) (has : HasNumbers env to) where
   -- what is written of an operator as it is read, in a sequence of the type
   abbrev renumbered : InstrSeqType → Translation ℕ BlockType ℕ BlockType EmitError
   renumbered t = record {
-    index = λ space n. (fitting_numbers to).number_of space (sure_number (id_at env space n));
-    local = λ n. (fitting_numbers to).local_number (sure_number (faulting Index (env.local_of n)));
-    label = fitting;
-    handler = fitting;
-    outer = fitting;
-    number = fitting;
+    index = λ space n. (numbers_in_32_bits to).number_of space (sure_number (id_at env space n));
+    local = λ n. (numbers_in_32_bits to).local_number (sure_number (with_fault Index (env.local_of n)));
+    label = in_32_bits;
+    handler = in_32_bits;
+    outer = in_32_bits;
+    number = in_32_bits;
     block = λ b. numbered_block to t;
     alignment = λ e. e;
     count = counted;
@@ -150,17 +150,17 @@ module _ (env : Environment) (to : Numbers) (has : HasNumbers env to) where
   same_index : (f : ℕ → Result ℕ EmitError) (m q : ℕ) → (let s : Result ℕ ⊥ = Ok m in s) ≡ Ok q → f q ≡ f m
   same_index f m q e = let same : m ≡ q = cc e in ap f (sym same)
 
-  same_target : (n : ℕ) (q : Target) → (let s : Result Target ⊥ = Ok (Depth n) in s) ≡ Ok q → writing.label q ≡ fitting n
+  same_target : (n : ℕ) (q : Target) → (let s : Result Target ⊥ = Ok (Depth n) in s) ≡ Ok q → writing.label q ≡ in_32_bits n
   same_target n q e = let same : Depth n ≡ q = cc e in ap writing.label (sym same)
 
   written_lead : (t : InstrSeqType) → LeadAll (kept_raw env) (typed writing t) (renumbered t)
   written_lead t = record {
-    indices = λ space n q e. same_index ((fitting_numbers to).number_of space) (sure_number (id_at env space n)) q e;
-    locals = λ n q e. same_index (fitting_numbers to).local_number (sure_number (faulting Index (env.local_of n))) q e;
+    indices = λ space n q e. same_index ((numbers_in_32_bits to).number_of space) (sure_number (id_at env space n)) q e;
+    locals = λ n q e. same_index (numbers_in_32_bits to).local_number (sure_number (with_fault Index (env.local_of n))) q e;
     labels = same_target;
-    handlers = λ n q e. same_index fitting n q e;
-    outers = λ n q e. same_index fitting n q e;
-    numbers = λ n q e. same_index fitting n q e;
+    handlers = λ n q e. same_index in_32_bits n q e;
+    outers = λ n q e. same_index in_32_bits n q e;
+    numbers = λ n q e. same_index in_32_bits n q e;
     alignments = exponent_of-pow;
     counts = λ n u e. refl;
   }
@@ -171,8 +171,8 @@ module _ (env : Environment) (to : Numbers) (has : HasNumbers env to) where
     blocks = λ b h. typed;
   }
     where
-      numbered : (space : Space) (n : ℕ) (r : Result ℕ IndexError) → env.id_of space n ≡ r → IsOk (faulting Index r) → IsOk ((fitting_numbers to).number_of space (sure_number (id_at env space n)))
-      numbered space n (Ok id) e h = subst (λ r. IsOk ((fitting_numbers to).number_of space (sure_number (faulting Index r)))) (sym e) (has.indices space n id e)
+      numbered : (space : Space) (n : ℕ) (r : Result ℕ IndexError) → env.id_of space n ≡ r → IsOk (with_fault Index r) → IsOk ((numbers_in_32_bits to).number_of space (sure_number (id_at env space n)))
+      numbered space n (Ok id) e h = subst (λ r. IsOk ((numbers_in_32_bits to).number_of space (sure_number (with_fault Index r)))) (sym e) (has.indices space n id e)
       numbered space n (Err f) e h = absurd cc
 
   others_ok : {A : Type 0} (fs : List (Frame A)) (t : InstrSeqType) (i : RawImmediate) → Fits i → OthersOk (naming env fs) (renumbered t) i
@@ -210,11 +210,11 @@ module _ (env : Environment) (to : Numbers) (has : HasNumbers env to) where
   -- ---- an operator of a body
 
   -- the type of the sequences in a construct is that of a block type, or of none
-  type_ok : (fs : List (Frame Occurrence)) (o : RawOperation) (named : NamedOperation) → translate (naming env fs) o ≡ Ok named → IsOk (numbered_block to (type_of (typing_of env) named))
+  type_ok : (fs : List (Frame Occurrence)) (o : RawOperation) (named : NamedOperation) → translate (naming env fs) o ≡ Ok named → IsOk (numbered_block to (construct_type (typing_of env) named))
   type_ok fs o named is =
       let first = bound (translate_immediates (naming env fs) o.immediates) (λ js. Ok (record { opcode = o.opcode; immediates = js })) named is in
       let same : named ≡ record { opcode = o.opcode; immediates = first.0 } = cc first.2 in
-      subst (λ (n : NamedOperation). IsOk (numbered_block to (type_of (typing_of env) n))) (sym same) (by_blocks (block_types first.0) (blocks_from (naming env fs) o.immediates first.0 first.1))
+      subst (λ (n : NamedOperation). IsOk (numbered_block to (construct_type (typing_of env) n))) (sym same) (by_blocks (block_types first.0) (blocks_from (naming env fs) o.immediates first.0 first.1))
     where
       by_pick : (s : Signature) (b : BlockType) → name_block env b ≡ Ok s → (picked : Option InstrSeqType) → pick env.types s ≡ picked → IsOk (numbered_block to (unwrap_or (pick env.types s) (Simple None)))
       by_pick s b e (Some t) p = subst (λ r. IsOk (numbered_block to (unwrap_or r (Simple None)))) (sym p) (has.blocks b s t e p)
@@ -235,7 +235,7 @@ module _ (env : Environment) (to : Numbers) (has : HasNumbers env to) where
       found.1 ∙ ap Ok same
 
   writes_by_role : (r : Role) (is : List (Immediate ℕ Signature)) (a : Located NamedOperation) → parts_try r ≡ false →
-      IsOk (translate (typed writing (Simple None)) (kept_operation a.op)) → IsOk (translate (typed writing (type_of (typing_of env) a.op)) (kept_operation a.op)) →
+      IsOk (translate (typed writing (Simple None)) (kept_operation a.op)) → IsOk (translate (typed writing (construct_type (typing_of env) a.op)) (kept_operation a.op)) →
       Writes writing (typing_of env) a (control_by r is)
   writes_by_role a_block is a p single opener = opener
   writes_by_role a_loop is a p single opener = opener
@@ -261,7 +261,7 @@ module _ (env : Environment) (to : Numbers) (has : HasNumbers env to) where
         refl,
         writes_by_role (role_of x.named.opcode) x.named.immediates (name_at x) parts
             (written_operation fs (Simple None) x.spelt has_text.0 x.named spelt named refl)
-            (written_operation fs (type_of (typing_of env) x.named) x.spelt has_text.0 x.named spelt named (type_ok fs x.spelt x.named named)),
+            (written_operation fs (construct_type (typing_of env) x.named) x.spelt has_text.0 x.named spelt named (type_ok fs x.spelt x.named named)),
       )
 
   -- ---- a body
@@ -277,7 +277,7 @@ module _ (env : Environment) (to : Numbers) (has : HasNumbers env to) where
   body_text_ok xs b texts lawful =
       let named = named_somewhere env xs b lawful in
       let marks = subst (AllMarked Written) lawful.is_body (all_written xs texts named) in
-      let each = (each_of Written b.sequence (marked b.close End ∷ []) marks).0 in
+      let each = (each_of Written b.sequence (with_control b.close End ∷ []) marks).0 in
       normal_text writing (typing_of env) (named_body b) (each_reshown (CanWrite writing (typing_of env)) name_at b.sequence each)
 
   -- Of an accepted body the normal form has bytes.

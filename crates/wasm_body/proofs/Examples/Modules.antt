@@ -5,7 +5,7 @@ use Rattle.walrus_ir.specs.Types.{Signature, signature, ModuleType, Func, Entry,
 use Rattle.wasm_ops.specs.declared.types.Space.{Space}
 use Rattle.wasm_ops.specs.declared.types.Space.TheVariants.{Types, Funcs, Tags}
 use Rattle.wasm_body.specs.declared.error.IndexError.TheVariants.{OutOfRange, LocalOutOfRange}
-use Rattle.wasm_body.specs.Results.{some_or}
+use Rattle.walrus_ir.specs.Results.{some_or}
 use Rattle.wasm_body.specs.Naming.{Environment}
 use Rattle.wasm_body.specs.Bytes.{Numbers}
 

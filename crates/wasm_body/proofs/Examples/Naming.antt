@@ -9,7 +9,7 @@ use Rattle.wasm_ops.specs.declared.types.Space.TheVariants.{Types, Funcs, Tables
 use Rattle.wasm_ops.specs.Operations.{RawOperation}
 use Rattle.wasm_body.specs.declared.error.IndexError.TheVariants.{OutOfRange, LocalOutOfRange}
 use Rattle.wasm_body.specs.declared.error.ParseError.TheVariants.{Index, NoSuchLabel, NotAFunctionType, TypeMissing, EntryTypeMissing, ElseOutsideIf, CatchOutsideTry, DelegateOutsideTry, RethrowOutsideHandler, Trailing, UnknownId}
-use Rattle.wasm_body.specs.Naming.{NamedOperation, Environment, entry_of}
+use Rattle.wasm_body.specs.Naming.{NamedOperation, Environment, entry_type_id}
 use Rattle.wasm_body.proofs.Examples.Operators.{unreachable, block, if, else, try, catch, throw, rethrow, end, br, br_table, return, call, call_indirect, delegate, catch_all, drop, try_table, local_get, const, br_on_cast, br_on_null_cast, catches, catches_all}
 use Rattle.wasm_body.proofs.Examples.Modules.{nothing, number_to_number, demo, odd}
 use Rattle.wasm_body.proofs.Examples.Rows.{Answer, Is, Refused, names}
@@ -270,18 +270,18 @@ no_pick_of_table = refl
 abbrev of_type : ℕ → Environment → Environment
 of_type type env = record env { type = type }
 
-entry_type_is : entry_of demo ≡ Ok 4
+entry_type_is : entry_type_id demo ≡ Ok 4
 entry_type_is = refl
 
-no_entry_type : entry_of (of_type 2 demo) ≡ Err EntryTypeMissing
+no_entry_type : entry_type_id (of_type 2 demo) ≡ Err EntryTypeMissing
 no_entry_type = refl
 
-type_of_no_function : entry_of (of_type 5 odd) ≡ Err NotAFunctionType
+type_of_no_function : entry_type_id (of_type 5 odd) ≡ Err NotAFunctionType
 type_of_no_function = refl
 
-unheld_type : entry_of (of_type 9 demo) ≡ Err NotAFunctionType
+unheld_type : entry_type_id (of_type 9 demo) ≡ Err NotAFunctionType
 unheld_type = refl
 
 -- an entry type counts as a function type
-entry_type_of_entry_type : entry_of (of_type 4 demo) ≡ Ok 4
+entry_type_of_entry_type : entry_type_id (of_type 4 demo) ≡ Ok 4
 entry_type_of_entry_type = refl

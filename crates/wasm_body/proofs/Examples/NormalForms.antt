@@ -6,7 +6,7 @@ use Rattle.walrus_ir.specs.Tree.{Items, no_items, item, Sequences, no_sequences,
 use Rattle.wasm_ops.specs.declared.types.BlockType.TheVariants.{Empty, Value, FuncType}
 use Rattle.wasm_ops.specs.declared.types.Opcode.TheVariants.{Byte}
 use Rattle.wasm_ops.specs.Operations.{access, Operation, operation, RawOperation}
-use Rattle.wasm_body.specs.Translation.{located}
+use Rattle.wasm_body.specs.Translation.{at_location}
 use Rattle.wasm_body.specs.FunctionTree.{Depth, TreeOperation, Head, LegacyClause, handles, handles_all, delegates, Instruction, FunctionTree, bare_sequences, IsSameTree, default_location}
 use Rattle.wasm_body.specs.NormalForm.{head}
 use Rattle.wasm_body.proofs.Examples.Operators.{unreachable, nop, block, loop, if, else, try, catch, throw, rethrow, throw_ref, end, br, br_if, br_table, return, call, call_indirect, call_ref, return_call, return_call_indirect, return_call_ref, delegate, catch_all, drop, try_table, local_get, const, catches, catches_ref, catches_all, catches_all_ref}
@@ -122,17 +122,17 @@ without_locations = refl
 
 -- 41 07 04 40 0b 0b: the added `else` stands where the `end` stood, and its `end` nowhere
 added_else : text demo (const 7 ∷ if Empty ∷ end ∷ end ∷ [])
-    ≡ Is (located (const 7) 0 ∷ located (if nothing) 1 ∷ located else 2 ∷ located end default_location ∷ located end 3 ∷ [])
+    ≡ Is (at_location (const 7) 0 ∷ at_location (if nothing) 1 ∷ at_location else 2 ∷ at_location end default_location ∷ at_location end 3 ∷ [])
 added_else = refl
 
 -- 06 40 18 00 0b: the `delegate` stands nowhere
 moved_delegate : text demo (try Empty ∷ delegate 0 ∷ end ∷ [])
-    ≡ Is (located (try nothing) 0 ∷ located (delegate 0) default_location ∷ located end 2 ∷ [])
+    ≡ Is (at_location (try nothing) 0 ∷ at_location (delegate 0) default_location ∷ at_location end 2 ∷ [])
 moved_delegate = refl
 
 -- 06 40 08 00 01 41 07 07 00 19 0b 0b
 kept_locations : text demo (try Empty ∷ throw 0 ∷ nop ∷ const 7 ∷ catch 0 ∷ catch_all ∷ end ∷ end ∷ [])
-    ≡ Is (located (try nothing) 0 ∷ located (throw 0) 1 ∷ located (catch 0) 4 ∷ located catch_all 5 ∷ located end 6 ∷ located end 7 ∷ [])
+    ≡ Is (at_location (try nothing) 0 ∷ at_location (throw 0) 1 ∷ at_location (catch 0) 4 ∷ at_location catch_all 5 ∷ at_location end 6 ∷ at_location end 7 ∷ [])
 kept_locations = refl
 
 -- ---- what is written

@@ -10,7 +10,7 @@ use Rattle.wasm_body.specs.declared.error.ParseError.TheVariants.{Trailing, Miss
 use Rattle.wasm_body.specs.Control.{control_of, end_operation}
 use Rattle.wasm_body.specs.SourceTree.{Empty, Body}
 use Rattle.wasm_body.specs.Frames.{Frame, function_frames, moves}
-use Rattle.wasm_body.specs.Translation.{Located, located}
+use Rattle.wasm_body.specs.Translation.{Located, at_location}
 use Rattle.wasm_body.specs.Naming.{NamedOperation, Occurrence, Environment, named_in}
 use Rattle.wasm_body.specs.Parsing.Accepted.{mark}
 use Rattle.wasm_body.specs.Parsing.Progress.{Progress, Within, Whole, NoBody, nothing_read, progress_behind}
@@ -103,7 +103,7 @@ located_names env os = named_operators (occurrences env os)
 
 abbrev named_or_empty : Answer (Body Occurrence) → Body (Located NamedOperation)
 named_or_empty (Is b) = named_body b
-named_or_empty _ = record { sequence = Empty; close = located end_operation 0 }
+named_or_empty _ = record { sequence = Empty; close = at_location end_operation 0 }
 
 abbrev pub body_of_names : Environment → List RawOperation → Body (Located NamedOperation)
 body_of_names env os = named_or_empty (body env os)

@@ -9,7 +9,7 @@ use Rattle.wasm_ops.specs.Operations.{RawOperation}
 use Rattle.wasm_body.specs.declared.error.EmitError.{EmitError}
 use Rattle.wasm_body.specs.declared.error.EmitError.TheVariants.{Index, UnnumberedLocal, BranchOutside, BadClauses, TooLarge}
 use Rattle.wasm_body.specs.declared.error.IndexError.TheVariants.{Unnumbered}
-use Rattle.wasm_body.specs.Translation.{Located, located}
+use Rattle.wasm_body.specs.Translation.{Located, at_location}
 use Rattle.wasm_body.specs.FunctionTree.{Depth, Outside, TreeOperation, Head, LegacyClause, handles, handles_all, delegates, Instruction, FunctionTree}
 use Rattle.wasm_body.specs.NormalForm.{head}
 use Rattle.wasm_body.specs.FlatText.{are_lawful, exponent_of}
@@ -97,11 +97,11 @@ writes to t = numbered_text to t
 
 -- an empty block of type 3 keeps it, although type 1 is its like; the type of the entry isn't written
 own_type : writes demo_numbers (of_one (block tt) [] (empty_sequence (MultiValue 3) no_sequences))
-    ≡ Ok (located (block (FuncType 3)) 0 ∷ located end 0 ∷ located end 0 ∷ [])
+    ≡ Ok (at_location (block (FuncType 3)) 0 ∷ at_location end 0 ∷ at_location end 0 ∷ [])
 own_type = refl
 
 two_handlers : writes demo_numbers (of_one (try tt) (first ∷ []) two_sequences)
-    ≡ Ok (located (try Empty) 0 ∷ located (catch 0) 0 ∷ located end 0 ∷ located end 0 ∷ [])
+    ≡ Ok (at_location (try Empty) 0 ∷ at_location (catch 0) 0 ∷ at_location end 0 ∷ at_location end 0 ∷ [])
 two_handlers = refl
 
 bad_clauses : writes demo_numbers (of_one (try tt) (handles_all ∷ first ∷ []) two_sequences) ≡ Err BadClauses
@@ -129,7 +129,7 @@ default_outside = refl
 depth_too_large : writes demo_numbers (of_one (br (Depth (2 ^ 32))) [] no_sequences) ≡ Err TooLarge
 depth_too_large = refl
 
-greatest_depth : writes demo_numbers (of_one (br (Depth 4294967295)) [] no_sequences) ≡ Ok (located (br 4294967295) 0 ∷ located end 0 ∷ [])
+greatest_depth : writes demo_numbers (of_one (br (Depth 4294967295)) [] no_sequences) ≡ Ok (at_location (br 4294967295) 0 ∷ at_location end 0 ∷ [])
 greatest_depth = refl
 
 -- so does every other depth, and every number, field and length
@@ -157,7 +157,7 @@ tag_too_large = refl
 field_too_large : writes demo_numbers (of_one (struct_get 0 too_large) [] no_sequences) ≡ Err TooLarge
 field_too_large = refl
 
-greatest_number : writes demo_numbers (of_one (call 4294967295) [] no_sequences) ≡ Ok (located (call 4294967295) 0 ∷ located end 0 ∷ [])
+greatest_number : writes demo_numbers (of_one (call 4294967295) [] no_sequences) ≡ Ok (at_location (call 4294967295) 0 ∷ at_location end 0 ∷ [])
 greatest_number = refl
 
 unnumbered : writes no_numbers (of_one (call 0) [] no_sequences) ≡ Err (Index (Unnumbered Funcs))

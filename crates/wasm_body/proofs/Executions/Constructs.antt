@@ -1,6 +1,6 @@
 -- Constructs whose sequences do the same.
 use Rattle.std.proofs.Common.{◌≡◌, ℕ, zero, suc, ◌≤◌, List, [], ◌∷◌, length, Bool, true, false, cond, Option, None, refl, sym, ap, ◌∙◌, arith}
-use Rattle.wasm_body.specs.Control.{Clause, Construct, Block, Loop, TryTable, If, Try, Opens, Marked, marked}
+use Rattle.wasm_body.specs.Control.{Clause, Construct, Block, Loop, TryTable, If, Try, Opens, Marked, with_control}
 use Rattle.wasm_body.specs.SourceTree.{Wrapper, OfBlock, OfLoop, OfTryTable, construct_of}
 use Rattle.wasm_body.specs.Machine.{Outcome, Executed, Taken, then, Tags, seek, behind_closer, Label, label, From, Response, Passes, Jumps, arrive, branch, takes, jump, responds_as, enter, other_way, is_else}
 use Rattle.wasm_body.proofs.Executions.Same.{Bound, the_count, again, go, bounded_run-go, Same, SameOutside, Agree}
@@ -87,14 +87,14 @@ SameInside a k t x ls x' ls' = Same t x (label a k x ∷ ls) x' (label a k x' �
 
 opened_same : {A : Type 0} → (k : Construct) → AsksNothing k
     → (a : A) (t : ℕ) (x x' : List (Marked A)) (labels labels' : List (Label A)) → SameInside a k t x labels x' labels'
-    → Same t (marked a (Opens k) ∷ x) labels (marked a (Opens k) ∷ x') labels'
+    → Same t (with_control a (Opens k) ∷ x) labels (with_control a (Opens k) ∷ x') labels'
 opened_same k h a t x x' ls ls' s =
-    step_same (marked a (Opens k)) (marked a (Opens k)) t x x' ls ls' λ β u n m o hu hn hm.
+    step_same (with_control a (Opens k)) (with_control a (Opens k)) t x x' ls ls' λ β u n m o hu hn hm.
     enters k h β u n a x ls o ∙ (ap (then (Executed a)) (s β u n m o hu hn hm) ∙ sym (enters k h the_count u m a x' ls' o))
 
 pub try_same : {A : Type 0} → (a : A) (t : ℕ) (x x' : List (Marked A)) (labels labels' : List (Label A))
     → SameInside a Try t x labels x' labels'
-    → Same t (marked a (Opens Try) ∷ x) labels (marked a (Opens Try) ∷ x') labels'
+    → Same t (with_control a (Opens Try) ∷ x) labels (with_control a (Opens Try) ∷ x') labels'
 try_same = opened_same Try tt
 
 -- ---- blocks, loops and `try_table`
@@ -149,7 +149,7 @@ pub wrapped_same : {A : Type 0}
     → Closes x' c' r' → Agree t r labels r' labels'
     → ((v : ℕ) → v ≤ t → SameOutside v (length c) (length c') (label a (construct_of w) x ∷ labels) (label a (construct_of w) x' ∷ labels')
     → SameInside a (construct_of w) v x labels x' labels')
-    → Same t (marked a (Opens (construct_of w)) ∷ x) labels (marked a (Opens (construct_of w)) ∷ x') labels'
+    → Same t (with_control a (Opens (construct_of w)) ∷ x) labels (with_control a (Opens (construct_of w)) ∷ x') labels'
 wrapped_same w a t x x' c c' r r' ls ls' cl cl' agree inside =
     opened_same (construct_of w) (wrapper_asks w) a t x x' ls ls'
     (inside t (omega arith) (wrapper_outside w a t x x' c c' r r' ls ls' cl cl' agree inside))
@@ -168,7 +168,7 @@ pub if_same : {A : Type 0} → (a : A) (t : ℕ) (x x' : List (Marked A)) (label
     → ((β : Bound A) (u n m : ℕ) (outcomes : List Outcome) → u ≤ t → length x ≤ n → length x' ≤ m
     → other_way (go β u n) (label a If x) labels outcomes (seek is_else 0 0 x)
     ≡ other_way (go the_count u m) (label a If x') labels' outcomes (seek is_else 0 0 x'))
-    → Same t (marked a (Opens If) ∷ x) labels (marked a (Opens If) ∷ x') labels'
+    → Same t (with_control a (Opens If) ∷ x) labels (with_control a (Opens If) ∷ x') labels'
 if_same a t x x' ls ls' s q =
-    step_same (marked a (Opens If)) (marked a (Opens If)) t x x' ls ls' λ β u n m o hu hn hm.
+    step_same (with_control a (Opens If)) (with_control a (Opens If)) t x x' ls ls' λ β u n m o hu hn hm.
     way_same a _ _ (λ w o. cond_same w _ _ _ _ (s β u n m o hu hn hm) (q β u n m o hu hn hm)) o

@@ -1,6 +1,6 @@
 -- Legacy `try` constructs whose bodies and handlers do the same.
 use Rattle.std.proofs.Common.{◌≡◌, ℕ, suc, ◌≤◌, List, ◌∷◌, length, Bool, true, false, Some, None, refl, sym, ap, ◌∙◌, arith}
-use Rattle.wasm_body.specs.Control.{Try, Catch, CatchAll, End, Delegate, Marked, marked}
+use Rattle.wasm_body.specs.Control.{Try, Catch, CatchAll, End, Delegate, Marked, with_control}
 use Rattle.wasm_body.specs.Machine.{Outcome, Taken, Run, then, Tags, Found, seek, seek_at, Part, Label, label, handler, catches, has, try_responds}
 use Rattle.wasm_body.proofs.Executions.Same.{Bound, the_count, Same, SameOutside, Agree}
 use Rattle.wasm_body.proofs.Executions.Steps.{reacts}
@@ -38,12 +38,12 @@ handler_outside a g t x x' c c' r r' ls ls' cl cl' agree =
 
 pub ended_handled : {A : Type 0} → (a e e' : A) (t i : ℕ) (x x' r r' : List (Marked A)) (labels labels' : List (Label A))
     → SameOutside t (length r) (length r') labels labels'
-    → Handled a t i x (marked e End ∷ r) labels x' (marked e' End ∷ r') labels'
+    → Handled a t i x (with_control e End ∷ r) labels x' (with_control e' End ∷ r') labels'
 ended_handled a e e' t i x x' r r' ls ls' env β u n m g o hu hn hm = env.raises β u n m g o 0 hu (omega arith) (omega arith)
 
 pub delegate_handled : {A : Type 0} → (a e e' : A) (k t i : ℕ) (x x' r r' : List (Marked A)) (labels labels' : List (Label A))
     → SameOutside t (length r) (length r') labels labels'
-    → Handled a t i x (marked e (Delegate k) ∷ r) labels x' (marked e' (Delegate k) ∷ r') labels'
+    → Handled a t i x (with_control e (Delegate k) ∷ r) labels x' (with_control e' (Delegate k) ∷ r') labels'
 delegate_handled a e e' k t i x x' r r' ls ls' env β u n m g o hu hn hm = env.raises β u n m g o k hu (omega arith) (omega arith)
 
 -- a `catch`, whose handler begins at c, with the clauses from d on behind it
@@ -53,12 +53,12 @@ pub catch_handled : {A : Type 0} → (a h h' : A) (tag t i : ℕ) (x x' c c' d d
     → ((tags : Tags) (j : ℕ) → seek (catches tags) 0 j c' ≡ seek (catches tags) 0 j d')
     → ((tags : Tags) → Same t c (handler (label a Try x) tags ∷ labels) c' (handler (label a Try x') tags ∷ labels'))
     → Handled a t (suc i) x d labels x' d' labels'
-    → Handled a t i x (marked h (Catch tag) ∷ c) labels x' (marked h' (Catch tag) ∷ c') labels'
+    → Handled a t i x (with_control h (Catch tag) ∷ c) labels x' (with_control h' (Catch tag) ∷ c') labels'
 catch_handled {A = A} a h h' tag t i x x' c c' d d' ls ls' ld ld' q q' s next β u n m g o hu hn hm = by_tag (has g tag)
   where
     by_tag : (y : Bool)
-        → try_reacts β u n g o a x ls (seek_at Part 0 y i (marked h (Catch tag) ∷ c) (λ d j. seek (catches g) d j c))
-        ≡ try_reacts the_count u m g o a x' ls' (seek_at Part 0 y i (marked h' (Catch tag) ∷ c') (λ d j. seek (catches g) d j c'))
+        → try_reacts β u n g o a x ls (seek_at Part 0 y i (with_control h (Catch tag) ∷ c) (λ d j. seek (catches g) d j c))
+        ≡ try_reacts the_count u m g o a x' ls' (seek_at Part 0 y i (with_control h' (Catch tag) ∷ c') (λ d j. seek (catches g) d j c'))
     by_tag true = ap (then (Taken a i (Some tag))) (s g β u n m o hu (omega arith) (omega arith))
     by_tag false =
         ap (try_reacts β u n g o a x ls) (q g (suc i))
@@ -66,5 +66,5 @@ catch_handled {A = A} a h h' tag t i x x' c c' d d' ls ls' ld ld' q q' s next β
 
 pub catch_all_handled : {A : Type 0} → (a h h' : A) (t i : ℕ) (x x' c c' : List (Marked A)) (labels labels' : List (Label A))
     → ((tags : Tags) → Same t c (handler (label a Try x) tags ∷ labels) c' (handler (label a Try x') tags ∷ labels'))
-    → Handled a t i x (marked h CatchAll ∷ c) labels x' (marked h' CatchAll ∷ c') labels'
+    → Handled a t i x (with_control h CatchAll ∷ c) labels x' (with_control h' CatchAll ∷ c') labels'
 catch_all_handled a h h' t i x x' c c' ls ls' s β u n m g o hu hn hm = ap (then (Taken a i None)) (s g β u n m o hu (omega arith) (omega arith))

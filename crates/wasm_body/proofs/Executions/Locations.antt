@@ -7,10 +7,10 @@ use Rattle.wasm_ops.specs.declared.types.Opcode.{Opcode}
 use Rattle.wasm_ops.specs.declared.types.Opcode.TheVariants.{Byte, Prefixed}
 use Rattle.wasm_ops.specs.Operations.{Operation, RawOperation}
 use Rattle.wasm_ops.specs.Shortest.{short, short_opcode, short_immediates}
-use Rattle.wasm_body.specs.Results.{◌>>=◌, gathered}
+use Rattle.walrus_ir.specs.Results.{◌>>=◌, gather}
 use Rattle.wasm_body.specs.Control.{Marked}
 use Rattle.wasm_body.specs.SourceTree.{Body, body_text}
-use Rattle.wasm_body.specs.Translation.{translate, Located, located}
+use Rattle.wasm_body.specs.Translation.{translate, Located, at_location}
 use Rattle.wasm_body.specs.NormalForm.{Typing, typing_of, normal_form, name_at, named_body}
 use Rattle.wasm_body.specs.FlatText.{Writing, tree_text, then_by, with_names}
 use Rattle.wasm_body.specs.Bytes.{Numbers, numbering, numbered_text}
@@ -108,14 +108,14 @@ run_twice f g h e r = ap (λ es. record { events = es; ending = r.ending }) (sho
 -- ---- locations are the same in every way of writing
 
 module _ {M C : Type 0} (w : Writing M C) (m : Typing) where
-  answered_at : (xs : List (Marked Named)) (ys : List (Located (Operation M C))) → gathered (map (answer w m) xs) ≡ Ok ys
+  answered_at : (xs : List (Marked Named)) (ys : List (Located (Operation M C))) → gather (map (answer w m) xs) ≡ Ok ys
       → map (λ y. y.location) ys ≡ map (λ x. x.shown.location) xs
   answered_at [] ys e = let same : [] ≡ ys = cc e in ap (λ (l : List (Located (Operation M C))). map (λ y. y.location) l) (sym same)
   answered_at (x ∷ xs) ys e =
-      let first = bound (answer w m x) (λ y. gathered (map (answer w m) xs) >>= λ zs. Ok (y ∷ zs)) ys e in
-      let rest = bound (gathered (map (answer w m) xs)) (λ zs. Ok (first.0 ∷ zs)) ys first.2 in
-      let made = bound (translate (named_by w (type_at m x.control x.shown.op)) x.shown.op) (λ o. Ok (located o x.shown.location)) first.0 first.1 in
-      let is : located made.0 x.shown.location ≡ first.0 = cc made.2 in
+      let first = bound (answer w m x) (λ y. gather (map (answer w m) xs) >>= λ zs. Ok (y ∷ zs)) ys e in
+      let rest = bound (gather (map (answer w m) xs)) (λ zs. Ok (first.0 ∷ zs)) ys first.2 in
+      let made = bound (translate (named_by w (type_at m x.control x.shown.op)) x.shown.op) (λ o. Ok (at_location o x.shown.location)) first.0 first.1 in
+      let is : at_location made.0 x.shown.location ≡ first.0 = cc made.2 in
       let whole : first.0 ∷ rest.0 ≡ ys = cc rest.2 in
       ap (λ (l : List (Located (Operation M C))). map (λ y. y.location) l) (sym whole)
       ∙ (ap (λ (y : Located (Operation M C)). y.location ∷ map (λ z. z.location) rest.0) (sym is)

@@ -2,7 +2,7 @@
 -- operators that stand there.
 use Rattle.std.proofs.Common.{◌≡◌, ℕ, zero, suc, ◌+◌, List, [], ◌∷◌, length, map, Bool, true, false, cond, Option, Some, None, refl, sym, ap, ◌∙◌, arith}
 use Rattle.std.specs.Prelude.{slice_get}
-use Rattle.wasm_body.specs.Control.{Action, Nop, Plain, Branch, ConditionalBranch, TableBranch, Return, Unreachable, Throw, ThrowRef, Rethrow, TailCall, Clause, Construct, Block, Loop, TryTable, If, Try, Control, Does, Opens, Catch, Marked, marked}
+use Rattle.wasm_body.specs.Control.{Action, Nop, Plain, Branch, ConditionalBranch, TableBranch, Return, Unreachable, Throw, ThrowRef, Rethrow, TailCall, Clause, Construct, Block, Loop, TryTable, If, Try, Control, Does, Opens, Catch, Marked, with_control}
 use Rattle.wasm_body.proofs.Structure.Reshown.{remarked}
 use Rattle.wasm_body.specs.Machine.{Shape, Opener, Part, Closer, Other, shape_of, Found, found, seek_at, seek, tail, behind_closer, Tags, has, Outcome, Go, Trap, Raise, Way, Entry, Executed, Taken, TailCalled, TurnsOut, Mismatch, Run, ends, then, Label, label, handler, From, Response, Passes, Hands, Jumps, Enters, takes, jump, catches, clause_at, clause_found, try_responds, responds_as, responds, arrive, branch, react, raise, caught_at, rethrow, target, ask, ask_way, ask_entry, act, is_else, other_at, other_way, enter, leave, step, straight, bounded_run, run}
 use Rattle.wasm_body.specs.Places.{show_run, placed_from, run_by_place, shown_by}
@@ -235,25 +235,25 @@ run_moved f xs o t = from_moved _ _ f t xs [] o
 
 placed_shown : {X B : Type 0} → (c : X → Control) (v : X → B) (xs : List X) (i : ℕ) (g : ℕ → Option B)
     → ((j : ℕ) → g (i + j) ≡ slice_get (map v xs) j)
-    → map (remarked g) (placed_from i (map c xs)) ≡ map (λ x. marked (Some (v x)) (c x)) xs
+    → map (remarked g) (placed_from i (map c xs)) ≡ map (λ x. with_control (Some (v x)) (c x)) xs
 placed_shown c v [] i g h = refl
 placed_shown c v (x ∷ xs) i g h =
     let e : i ≡ i + 0 = omega arith in
     let here : g i ≡ Some (v x) = ap g e ∙ h 0 in
     let rest = placed_shown c v xs (suc i) g (λ j. let s : suc i + j ≡ i + suc j = omega arith in ap g s ∙ h (suc j)) in
-    ap (λ y. marked y (c x) ∷ map (remarked g) (placed_from (suc i) (map c xs))) here ∙ ap (λ l. marked (Some (v x)) (c x) ∷ l) rest
+    ap (λ y. with_control y (c x) ∷ map (remarked g) (placed_from (suc i) (map c xs))) here ∙ ap (λ l. with_control (Some (v x)) (c x) ∷ l) rest
 
 shown_some : {X B : Type 0} → (c : X → Control) (v : X → B) (xs : List X)
-    → map (remarked (λ a. Some (v a))) (map (λ x. marked x (c x)) xs) ≡ map (λ x. marked (Some (v x)) (c x)) xs
+    → map (remarked (λ a. Some (v a))) (map (λ x. with_control x (c x)) xs) ≡ map (λ x. with_control (Some (v x)) (c x)) xs
 shown_some c v [] = refl
-shown_some c v (x ∷ xs) = ap (λ l. marked (Some (v x)) (c x) ∷ l) (shown_some c v xs)
+shown_some c v (x ∷ xs) = ap (λ l. with_control (Some (v x)) (c x) ∷ l) (shown_some c v xs)
 
 -- what is shown at the places is what is shown of the operators themselves
 pub shown_by-run : {X B : Type 0} → (c : X → Control) (v : X → B) (xs : List X) (outcomes : List Outcome) (turns : ℕ)
     → shown_by (map v xs) (run_by_place (map c xs) outcomes turns)
-    ≡ show_run (λ a. Some (v a)) (run (map (λ x. marked x (c x)) xs) outcomes turns)
+    ≡ show_run (λ a. Some (v a)) (run (map (λ x. with_control x (c x)) xs) outcomes turns)
 shown_by-run c v xs o t =
     sym (run_moved (slice_get (map v xs)) (placed_from 0 (map c xs)) o t)
     ∙ (ap (λ l. run l o t)
     (placed_shown c v xs 0 (slice_get (map v xs)) (λ j. let e : 0 + j ≡ j = omega arith in ap (slice_get (map v xs)) e) ∙ sym (shown_some c v xs))
-    ∙ run_moved (λ a. Some (v a)) (map (λ x. marked x (c x)) xs) o t)
+    ∙ run_moved (λ a. Some (v a)) (map (λ x. with_control x (c x)) xs) o t)

@@ -1,9 +1,9 @@
 -- The rewritings of a sequence that are right: the machine does the same from it as from the sequence.
 use Rattle.std.proofs.Common.{◌≡◌, ℕ, zero, suc, ◌≤◌, List, [], ◌∷◌, length, false, refl, sym, ap, ◌∙◌, arith}
-use Rattle.wasm_body.specs.Control.{Action, Nop, Control, Construct, If, Try, Opens, Else, Catch, CatchAll, End, Delegate, Marked, marked}
+use Rattle.wasm_body.specs.Control.{Action, Nop, Control, Construct, If, Try, Opens, Else, Catch, CatchAll, End, Delegate, Marked, with_control}
 use Rattle.wasm_body.specs.SourceTree.{Sequence, Empty, Single, Wrapped, IfThen, IfElse, TryCatch, TryDelegate, Clauses, Ended, Catches, CatchesAll, Wrapper, construct_of, text, clauses_text, Body, body_text}
 use Rattle.wasm_body.specs.NormalForm.{fate, Cuts}
-use Rattle.wasm_body.specs.TextLaws.{Stops}
+use Rattle.wasm_body.specs.TextLaws.{EndsSequence}
 use Rattle.wasm_body.specs.Machine.{Outcome, bounded_run, run, Closer, shape_of, seek, seek_at, behind_closer, tail, Label, label, handler, catches, is_else, other_at}
 use Rattle.wasm_body.proofs.Executions.Same.{Bound, the_count, go, bounded_run-go, Same, Agree, seek_text, text_longer, clauses_longer}
 use Rattle.wasm_body.proofs.Executions.Steps.{weaken, nop_same, kept_same, last_same, stop_same, last_end, no_labels}
@@ -40,29 +40,29 @@ mutual
 
 -- behind a sequence comes the closer
 closes : {A : Type 0} → (s : Sequence A) (e : A) (c : Control) (r : List (Marked A)) → shape_of c ≡ Closer
-    → Closes (text s (marked e c ∷ r)) (marked e c ∷ r) r
+    → Closes (text s (with_control e c ∷ r)) (with_control e c ∷ r) r
 closes s e c r h = record {
   behind =
-      ap (λ f. tail f.rest) (seek_text s (λ c. false) 0 0 (marked e c ∷ r))
-      ∙ ap (λ y. tail (seek_at y 0 false 0 (marked e c ∷ r) (λ d j. seek (λ c. false) d j r)).rest) h;
+      ap (λ f. tail f.rest) (seek_text s (λ c. false) 0 0 (with_control e c ∷ r))
+      ∙ ap (λ y. tail (seek_at y 0 false 0 (with_control e c ∷ r) (λ d j. seek (λ c. false) d j r)).rest) h;
   shorter = omega arith;
 }
 
 -- behind the first of two sequences comes an `else`
 closes_else : {A : Type 0} → (s t : Sequence A) (l e : A) (r : List (Marked A))
-    → Closes (text s (marked l Else ∷ text t (marked e End ∷ r))) (marked l Else ∷ text t (marked e End ∷ r)) r
+    → Closes (text s (with_control l Else ∷ text t (with_control e End ∷ r))) (with_control l Else ∷ text t (with_control e End ∷ r)) r
 closes_else s t l e r = record {
   behind =
       ap (λ f. tail f.rest)
-      (seek_text s (λ c. false) 0 0 (marked l Else ∷ text t (marked e End ∷ r)) ∙ seek_text t (λ c. false) 0 1 (marked e End ∷ r));
-  shorter = omega (arith, text_longer t (marked e End ∷ r));
+      (seek_text s (λ c. false) 0 0 (with_control l Else ∷ text t (with_control e End ∷ r)) ∙ seek_text t (λ c. false) 0 1 (with_control e End ∷ r));
+  shorter = omega (arith, text_longer t (with_control e End ∷ r));
 }
 
 clauses_close : {A : Type 0} → (cs : Clauses A) (i : ℕ) (r : List (Marked A)) → tail (seek (λ c. false) 0 i (clauses_text cs r)).rest ≡ r
 clauses_close (Ended e) i r = refl
 clauses_close (Catches a t b cs) i r =
     ap (λ f. tail f.rest) (seek_text b (λ c. false) 0 (suc i) (clauses_text cs r)) ∙ clauses_close cs (suc i) r
-clauses_close (CatchesAll a b e) i r = ap (λ f. tail f.rest) (seek_text b (λ c. false) 0 (suc i) (marked e End ∷ r))
+clauses_close (CatchesAll a b e) i r = ap (λ f. tail f.rest) (seek_text b (λ c. false) 0 (suc i) (with_control e End ∷ r))
 
 closes_clauses : {A : Type 0} → (s : Sequence A) (cs : Clauses A) (r : List (Marked A))
     → Closes (text s (clauses_text cs r)) (clauses_text cs r) r
@@ -90,19 +90,19 @@ rest_agrees s s' alike t k k' ls ls' agree = record {
 module _ {A : Type 0} (t : ℕ) (r r' : List (Marked A)) (labels labels' : List (Label A)) (agree : Agree t r labels r' labels') where
   -- the same from an opener on
   abbrev SameOpened : Construct → A → (x x' : List (Marked A)) → Type 0
-  SameOpened k a x x' = Same t (marked a (Opens k) ∷ x) labels (marked a (Opens k) ∷ x') labels'
+  SameOpened k a x x' = Same t (with_control a (Opens k) ∷ x) labels (with_control a (Opens k) ∷ x') labels'
 
   -- the same from the end of a sequence on
-  stopped : (p p' : Control) (e e' : A) (z z' : List (Marked A)) (l l' : Label A) → Stops p → Stops p'
+  stopped : (p p' : Control) (e e' : A) (z z' : List (Marked A)) (l l' : Label A) → EndsSequence p → EndsSequence p'
       → behind_closer l.behind ≡ r → behind_closer l'.behind ≡ r'
-      → length r ≤ length z → length r' ≤ length z' → Same t (marked e p ∷ z) (l ∷ labels) (marked e' p' ∷ z') (l' ∷ labels')
+      → length r ≤ length z → length r' ≤ length z' → Same t (with_control e p ∷ z) (l ∷ labels) (with_control e' p' ∷ z') (l' ∷ labels')
   stopped p p' e e' z z' l l' s s' h h' lz lz' = stop_same p p' e e' t z z' r r' l l' labels labels' s s' h h' lz lz' agree.same
 
   wrapped_alike : (w : Wrapper) (a e e' : A) (b b' : Sequence A) → Alike b b'
-      → SameOpened (construct_of w) a (text b (marked e End ∷ r)) (text b' (marked e' End ∷ r'))
+      → SameOpened (construct_of w) a (text b (with_control e End ∷ r)) (text b' (with_control e' End ∷ r'))
   wrapped_alike w a e e' b b' body =
-      let c = marked e End ∷ r in
-      let c' = marked e' End ∷ r' in
+      let c = with_control e End ∷ r in
+      let c' = with_control e' End ∷ r' in
       let l = label a (construct_of w) (text b c) in
       let l' = label a (construct_of w) (text b' c') in
       let cl = closes b e End r refl in
@@ -116,17 +116,17 @@ module _ {A : Type 0} (t : ℕ) (r r' : List (Marked A)) (labels labels' : List 
       })
 
   -- an `if` whose consequent is followed by p and by p', each an `else` or the `end`, where the other way does the same
-  if_alike : (a e e' : A) (p p' : Control) → Stops p → Stops p' → (b b' : Sequence A) → Alike b b' → (z z' : List (Marked A))
-      → Closes (text b (marked e p ∷ z)) (marked e p ∷ z) r → Closes (text b' (marked e' p' ∷ z')) (marked e' p' ∷ z') r'
+  if_alike : (a e e' : A) (p p' : Control) → EndsSequence p → EndsSequence p' → (b b' : Sequence A) → Alike b b' → (z z' : List (Marked A))
+      → Closes (text b (with_control e p ∷ z)) (with_control e p ∷ z) r → Closes (text b' (with_control e' p' ∷ z')) (with_control e' p' ∷ z') r'
       → length r ≤ length z → length r' ≤ length z'
-      → (seek is_else 0 0 (marked e p ∷ z)).rest ≡ marked e p ∷ z → (seek is_else 0 0 (marked e' p' ∷ z')).rest ≡ marked e' p' ∷ z'
+      → (seek is_else 0 0 (with_control e p ∷ z)).rest ≡ with_control e p ∷ z → (seek is_else 0 0 (with_control e' p' ∷ z')).rest ≡ with_control e' p' ∷ z'
       → ((β : Bound A) (u n m : ℕ) (outcomes : List Outcome) → u ≤ t → length z ≤ n → length z' ≤ m
-      → other_at (go β u n) (label a If (text b (marked e p ∷ z))) labels outcomes (marked e p ∷ z)
-      ≡ other_at (go the_count u m) (label a If (text b' (marked e' p' ∷ z'))) labels' outcomes (marked e' p' ∷ z'))
-      → SameOpened If a (text b (marked e p ∷ z)) (text b' (marked e' p' ∷ z'))
+      → other_at (go β u n) (label a If (text b (with_control e p ∷ z))) labels outcomes (with_control e p ∷ z)
+      ≡ other_at (go the_count u m) (label a If (text b' (with_control e' p' ∷ z'))) labels' outcomes (with_control e' p' ∷ z'))
+      → SameOpened If a (text b (with_control e p ∷ z)) (text b' (with_control e' p' ∷ z'))
   if_alike a e e' p p' stops stops' b b' body z z' cl cl' lz lz' here here' other =
-      let c = marked e p ∷ z in
-      let c' = marked e' p' ∷ z' in
+      let c = with_control e p ∷ z in
+      let c' = with_control e' p' ∷ z' in
       let x = text b c in
       let x' = text b' c' in
       let l = label a If x in
@@ -141,30 +141,30 @@ module _ {A : Type 0} (t : ℕ) (r r' : List (Marked A)) (labels labels' : List 
       ∙ (other β u n m o hu (omega (arith, text_longer b c)) (omega (arith, text_longer b' c'))
       ∙ sym (ap (other_at (go the_count u m) l' labels' o) (ap (λ f. f.rest) (seek_text b' is_else 0 0 c') ∙ here'))))
 
-  if_then_alike : (a e e' : A) (b b' : Sequence A) → Alike b b' → SameOpened If a (text b (marked e End ∷ r)) (text b' (marked e' End ∷ r'))
+  if_then_alike : (a e e' : A) (b b' : Sequence A) → Alike b b' → SameOpened If a (text b (with_control e End ∷ r)) (text b' (with_control e' End ∷ r'))
   if_then_alike a e e' b b' body =
       if_alike a e e' End End tt tt b b' body r r' (closes b e End r refl) (closes b' e' End r' refl) (omega arith) (omega arith) refl refl
       (λ β u n m o hu hn hm. agree.same β u n m o hu hn hm)
 
   -- an `end` on one side alone
-  end_alone : (e : A) (l : Label A) → behind_closer l.behind ≡ r' → Same t r labels (marked e End ∷ r') (l ∷ labels')
+  end_alone : (e : A) (l : Label A) → behind_closer l.behind ≡ r' → Same t r labels (with_control e End ∷ r') (l ∷ labels')
   end_alone e l h β u n zero o hu hn hm = absurd (omega arith)
   end_alone e l h β u n (suc m) o hu hn hm = agree.same β u n m o hu hn (omega arith) ∙ ap (λ k. go the_count u m k labels' o) (sym h)
 
   add_else_alike : (a e l' e' : A) (b b' : Sequence A) → Alike b b'
-      → SameOpened If a (text b (marked e End ∷ r)) (text b' (marked l' Else ∷ marked e' End ∷ r'))
+      → SameOpened If a (text b (with_control e End ∷ r)) (text b' (with_control l' Else ∷ with_control e' End ∷ r'))
   add_else_alike a e l' e' b b' body =
       let cl' = closes_else b' Empty l' e' r' in
-      if_alike a e l' End Else tt tt b b' body r (marked e' End ∷ r') (closes b e End r refl) cl' (omega arith) (omega arith) refl refl
-      (λ β u n m o hu hn hm. end_alone e' (label a If (text b' (marked l' Else ∷ marked e' End ∷ r'))) cl'.behind β u n m o hu hn hm)
+      if_alike a e l' End Else tt tt b b' body r (with_control e' End ∷ r') (closes b e End r refl) cl' (omega arith) (omega arith) refl refl
+      (λ β u n m o hu hn hm. end_alone e' (label a If (text b' (with_control l' Else ∷ with_control e' End ∷ r'))) cl'.behind β u n m o hu hn hm)
 
   if_else_alike : (a i i' e e' : A) (b b' d d' : Sequence A) → Alike b b' → Alike d d'
-      → SameOpened If a (text b (marked i Else ∷ text d (marked e End ∷ r))) (text b' (marked i' Else ∷ text d' (marked e' End ∷ r')))
+      → SameOpened If a (text b (with_control i Else ∷ text d (with_control e End ∷ r))) (text b' (with_control i' Else ∷ text d' (with_control e' End ∷ r')))
   if_else_alike a i i' e e' b b' d d' body alternative =
-      let c = marked e End ∷ r in
-      let c' = marked e' End ∷ r' in
-      let x = text b (marked i Else ∷ text d c) in
-      let x' = text b' (marked i' Else ∷ text d' c') in
+      let c = with_control e End ∷ r in
+      let c' = with_control e' End ∷ r' in
+      let x = text b (with_control i Else ∷ text d c) in
+      let x' = text b' (with_control i' Else ∷ text d' c') in
       let l = label a If x in
       let l' = label a If x' in
       let cl = closes_else b d i e r in
@@ -179,10 +179,10 @@ module _ {A : Type 0} (t : ℕ) (r r' : List (Marked A)) (labels labels' : List 
       }))
 
   delegate_alike : (a e e' : A) (n : ℕ) (b b' : Sequence A) → Alike b b'
-      → SameOpened Try a (text b (marked e (Delegate n) ∷ r)) (text b' (marked e' (Delegate n) ∷ r'))
+      → SameOpened Try a (text b (with_control e (Delegate n) ∷ r)) (text b' (with_control e' (Delegate n) ∷ r'))
   delegate_alike a e e' n b b' body =
-      let c = marked e (Delegate n) ∷ r in
-      let c' = marked e' (Delegate n) ∷ r' in
+      let c = with_control e (Delegate n) ∷ r in
+      let c' = with_control e' (Delegate n) ∷ r' in
       let x = text b c in
       let x' = text b' c' in
       let l = label a Try x in
@@ -208,8 +208,8 @@ module _ {A : Type 0} (t : ℕ) (r r' : List (Marked A)) (labels labels' : List 
       stopped (Catch g) (Catch g) a a' (text b c) (text b' c') l l' tt tt h h'
       (omega (arith, text_longer b c, clauses_longer cs r)) (omega (arith, text_longer b' c', clauses_longer cs' r'))
   clauses_leave (catches_all {a = a} {a' = a'} {e = e} {e' = e'} {b = b} {b' = b'} f) l l' h h' =
-      let c = marked e End ∷ r in
-      let c' = marked e' End ∷ r' in
+      let c = with_control e End ∷ r in
+      let c' = with_control e' End ∷ r' in
       stopped CatchAll CatchAll a a' (text b c) (text b' c') l l' tt tt h h' (omega (arith, text_longer b c)) (omega (arith, text_longer b' c'))
 
   -- clauses that do the same with an exception
@@ -254,8 +254,8 @@ module _ {A : Type 0} (t : ℕ) (r r' : List (Marked A)) (labels labels' : List 
 
   catch_all_alike : (h h' e e' : A) (b b' : Sequence A) → Alike b b' → Catching (CatchesAll h b e) (CatchesAll h' b' e')
   catch_all_alike h h' e e' b b' body a i x x' hx hx' =
-      let d = marked e End ∷ r in
-      let d' = marked e' End ∷ r' in
+      let d = with_control e End ∷ r in
+      let d' = with_control e' End ∷ r' in
       let cl : Closes x d r = record { behind = hx; shorter = omega arith } in
       let cl' : Closes x' d' r' = record { behind = hx'; shorter = omega arith } in
       catch_all_handled a h h' t i x x' (text b d) (text b' d') labels labels' λ g.
@@ -298,11 +298,11 @@ mutual
 
 -- ---- bodies
 
-body_agrees : {A : Type 0} → (e e' : A) (t : ℕ) → Agree t (marked e End ∷ []) [] (marked e' End ∷ []) []
-body_agrees e e' t = record { outside = no_labels t (length (marked e End ∷ [])) (length (marked e' End ∷ [])); same = last_end e e' t }
+body_agrees : {A : Type 0} → (e e' : A) (t : ℕ) → Agree t (with_control e End ∷ []) [] (with_control e' End ∷ []) []
+body_agrees e e' t = record { outside = no_labels t (length (with_control e End ∷ [])) (length (with_control e' End ∷ [])); same = last_end e e' t }
 
 pub bodies_alike : {A : Type 0} → (b b' : Body A) → RewritesTo b.sequence b'.sequence → (t : ℕ) → Same t (body_text b) [] (body_text b') []
-bodies_alike b b' f t = alike f t (marked b.close End ∷ []) (marked b'.close End ∷ []) [] [] (body_agrees b.close b'.close t)
+bodies_alike b b' f t = alike f t (with_control b.close End ∷ []) (with_control b'.close End ∷ []) [] [] (body_agrees b.close b'.close t)
 
 pub runs_alike : {A : Type 0} → (b b' : Body A) → RewritesTo b.sequence b'.sequence
     → (β : Bound A) (outcomes : List Outcome) (turns : ℕ)

@@ -1,6 +1,6 @@
 -- Two places, in two lists, from which the machine does the same.
 use Rattle.std.proofs.Common.{◌≡◌, ℕ, zero, suc, ◌≤◌, List, ◌∷◌, length, Bool, refl, ◌∙◌, arith}
-use Rattle.wasm_body.specs.Control.{Control, Else, End, Delegate, Marked, marked}
+use Rattle.wasm_body.specs.Control.{Control, Else, End, Delegate, Marked, with_control}
 use Rattle.wasm_body.specs.SourceTree.{Sequence, Empty, Single, Wrapped, IfThen, IfElse, TryCatch, TryDelegate, Clauses, Ended, Catches, CatchesAll, text, clauses_text}
 use Rattle.wasm_body.specs.Machine.{Outcome, TurnsOut, ends, Tags, seek, Label, From, branch, raise, caught_at, straight, bounded_run}
 
@@ -51,34 +51,34 @@ mutual
       → seek test d i (text s k) ≡ seek test d i k
   seek_text Empty test d i k = refl
   seek_text (Single a action r) test d i k = seek_text r test d i k
-  seek_text (Wrapped a w b e r) test d i k = seek_text b test (suc d) i (marked e End ∷ text r k) ∙ seek_text r test d i k
-  seek_text (IfThen a b e r) test d i k = seek_text b test (suc d) i (marked e End ∷ text r k) ∙ seek_text r test d i k
+  seek_text (Wrapped a w b e r) test d i k = seek_text b test (suc d) i (with_control e End ∷ text r k) ∙ seek_text r test d i k
+  seek_text (IfThen a b e r) test d i k = seek_text b test (suc d) i (with_control e End ∷ text r k) ∙ seek_text r test d i k
   seek_text (IfElse a b l c e r) test d i k =
-      seek_text b test (suc d) i (marked l Else ∷ text c (marked e End ∷ text r k))
-      ∙ (seek_text c test (suc d) i (marked e End ∷ text r k) ∙ seek_text r test d i k)
+      seek_text b test (suc d) i (with_control l Else ∷ text c (with_control e End ∷ text r k))
+      ∙ (seek_text c test (suc d) i (with_control e End ∷ text r k) ∙ seek_text r test d i k)
   seek_text (TryCatch a b cs r) test d i k =
       seek_text b test (suc d) i (clauses_text cs (text r k)) ∙ (seek_clauses cs test d i (text r k) ∙ seek_text r test d i k)
-  seek_text (TryDelegate a b e n r) test d i k = seek_text b test (suc d) i (marked e (Delegate n) ∷ text r k) ∙ seek_text r test d i k
+  seek_text (TryDelegate a b e n r) test d i k = seek_text b test (suc d) i (with_control e (Delegate n) ∷ text r k) ∙ seek_text r test d i k
 
   seek_clauses : {A : Type 0} → (cs : Clauses A) (test : Control → Bool) (d i : ℕ) (k : List (Marked A))
       → seek test (suc d) i (clauses_text cs k) ≡ seek test d i k
   seek_clauses (Ended e) test d i k = refl
   seek_clauses (Catches a t b cs) test d i k = seek_text b test (suc d) i (clauses_text cs k) ∙ seek_clauses cs test d i k
-  seek_clauses (CatchesAll a b e) test d i k = seek_text b test (suc d) i (marked e End ∷ k)
+  seek_clauses (CatchesAll a b e) test d i k = seek_text b test (suc d) i (with_control e End ∷ k)
 
 -- a sequence's text is no shorter than what follows it
 mutual
   pub text_longer : {A : Type 0} → (s : Sequence A) (k : List (Marked A)) → length k ≤ length (text s k)
   text_longer Empty k = omega arith
   text_longer (Single a action r) k = omega (arith, text_longer r k)
-  text_longer (Wrapped a w b e r) k = omega (arith, text_longer b (marked e End ∷ text r k), text_longer r k)
-  text_longer (IfThen a b e r) k = omega (arith, text_longer b (marked e End ∷ text r k), text_longer r k)
+  text_longer (Wrapped a w b e r) k = omega (arith, text_longer b (with_control e End ∷ text r k), text_longer r k)
+  text_longer (IfThen a b e r) k = omega (arith, text_longer b (with_control e End ∷ text r k), text_longer r k)
   text_longer (IfElse a b l c e r) k =
-      omega (arith, text_longer b (marked l Else ∷ text c (marked e End ∷ text r k)), text_longer c (marked e End ∷ text r k), text_longer r k)
+      omega (arith, text_longer b (with_control l Else ∷ text c (with_control e End ∷ text r k)), text_longer c (with_control e End ∷ text r k), text_longer r k)
   text_longer (TryCatch a b cs r) k = omega (arith, text_longer b (clauses_text cs (text r k)), clauses_longer cs (text r k), text_longer r k)
-  text_longer (TryDelegate a b e n r) k = omega (arith, text_longer b (marked e (Delegate n) ∷ text r k), text_longer r k)
+  text_longer (TryDelegate a b e n r) k = omega (arith, text_longer b (with_control e (Delegate n) ∷ text r k), text_longer r k)
 
   pub clauses_longer : {A : Type 0} → (cs : Clauses A) (k : List (Marked A)) → length k ≤ length (clauses_text cs k)
   clauses_longer (Ended e) k = omega arith
   clauses_longer (Catches a t b cs) k = omega (arith, text_longer b (clauses_text cs k), clauses_longer cs k)
-  clauses_longer (CatchesAll a b e) k = omega (arith, text_longer b (marked e End ∷ k))
+  clauses_longer (CatchesAll a b e) k = omega (arith, text_longer b (with_control e End ∷ k))

@@ -1,8 +1,8 @@
 -- One step from two places at which the machine does the same.
 use Rattle.std.proofs.Common.{◌≡◌, ℕ, zero, suc, ◌≤◌, List, [], ◌∷◌, length, Bool, true, false, cond, Option, Some, None, refl, sym, ap, ◌∙◌, arith}
-use Rattle.wasm_body.specs.Control.{Action, Nop, Plain, Branch, ConditionalBranch, TableBranch, Return, Unreachable, Throw, ThrowRef, Rethrow, TailCall, Control, Does, Opens, End, Marked, marked}
+use Rattle.wasm_body.specs.Control.{Action, Nop, Plain, Branch, ConditionalBranch, TableBranch, Return, Unreachable, Throw, ThrowRef, Rethrow, TailCall, Control, Does, Opens, End, Marked, with_control}
 use Rattle.wasm_body.specs.NormalForm.{fate, Cuts}
-use Rattle.wasm_body.specs.TextLaws.{Stops}
+use Rattle.wasm_body.specs.TextLaws.{EndsSequence}
 use Rattle.wasm_body.specs.Machine.{Outcome, Go, Trap, Raise, Way, Entry, Executed, Mismatch, Run, ends, then, Tags, behind_closer, Label, Response, branch, raise, caught_at, rethrow, ask, ask_way, ask_entry, act, step, leave, has, target, arrive, react, responds}
 use Rattle.wasm_body.proofs.Executions.Same.{Bound, the_count, again, go, Same, SameOutside}
 
@@ -100,21 +100,21 @@ act_same TailCall a t r r' ls ls' e s β u n m o hu hn hm = refl
 act_same action a t r r' ls ls' e s β u n m o hu hn hm = cut_same action a t r r' ls ls' e refl β u n m o hu hn hm
 
 pub nop_same : {A : Type 0} → (a : A) (t : ℕ) (r r' : List (Marked A)) (labels labels' : List (Label A))
-    → Same t r labels r' labels' → Same t (marked a (Does Nop) ∷ r) labels r' labels'
+    → Same t r labels r' labels' → Same t (with_control a (Does Nop) ∷ r) labels r' labels'
 nop_same a t r r' ls ls' s β u zero m o hu hn hm = absurd (omega arith)
 nop_same a t r r' ls ls' s β u (suc n) m o hu hn hm = s β u n m o hu (omega arith) hm
 
 pub kept_same : {A : Type 0} → (action : Action) (a : A) (t : ℕ) (r r' : List (Marked A)) (labels labels' : List (Label A))
     → SameOutside t (length r) (length r') labels labels' → Same t r labels r' labels'
-    → Same t (marked a (Does action) ∷ r) labels (marked a (Does action) ∷ r') labels'
+    → Same t (with_control a (Does action) ∷ r) labels (with_control a (Does action) ∷ r') labels'
 kept_same action a t r r' ls ls' e s =
-    step_same (marked a (Does action)) (marked a (Does action)) t r r' ls ls' (act_same action a t r r' ls ls' e s)
+    step_same (with_control a (Does action)) (with_control a (Does action)) t r r' ls ls' (act_same action a t r r' ls ls' e s)
 
 pub last_same : {A : Type 0} → (action : Action) (a : A) (t : ℕ) (r r' : List (Marked A)) (labels labels' : List (Label A))
     → fate action ≡ Cuts → SameOutside t (length r) (length r') labels labels'
-    → Same t (marked a (Does action) ∷ r) labels (marked a (Does action) ∷ r') labels'
+    → Same t (with_control a (Does action) ∷ r) labels (with_control a (Does action) ∷ r') labels'
 last_same action a t r r' ls ls' c e =
-    step_same (marked a (Does action)) (marked a (Does action)) t r r' ls ls' (cut_same action a t r r' ls ls' e c)
+    step_same (with_control a (Does action)) (with_control a (Does action)) t r r' ls ls' (cut_same action a t r r' ls ls' e c)
 
 -- ---- a label more
 
@@ -147,7 +147,7 @@ push {A = A} t b b' l l' ls ls' e own_branch own_raise own_caught = record { bra
 
 -- ---- the end of a sequence
 
-step_stops : {A : Type 0} → (c : Control) → Stops c
+step_stops : {A : Type 0} → (c : Control) → EndsSequence c
     → (β : Bound A) (u n : ℕ) (a : A) (r : List (Marked A)) (labels : List (Label A)) (outcomes : List Outcome)
     → step (again β u) (go β u n) c a r labels outcomes ≡ leave (go β u n) labels outcomes
 step_stops (Does action) h β u n a r ls o = absurd h
@@ -156,11 +156,11 @@ step_stops _ h β u n a r ls o = refl
 
 pub stop_same : {A : Type 0}
     → (c c' : Control) (a a' : A) (t : ℕ) (x x' r r' : List (Marked A)) (l l' : Label A) (labels labels' : List (Label A))
-    → Stops c → Stops c'
+    → EndsSequence c → EndsSequence c'
     → behind_closer l.behind ≡ r → behind_closer l'.behind ≡ r' → length r ≤ length x → length r' ≤ length x' → Same t r labels r' labels'
-    → Same t (marked a c ∷ x) (l ∷ labels) (marked a' c' ∷ x') (l' ∷ labels')
+    → Same t (with_control a c ∷ x) (l ∷ labels) (with_control a' c' ∷ x') (l' ∷ labels')
 stop_same c c' a a' t x x' r r' l l' ls ls' h h' e e' lx lx' s =
-    step_same (marked a c) (marked a' c') t x x' (l ∷ ls) (l' ∷ ls') λ β u n m o hu hn hm.
+    step_same (with_control a c) (with_control a' c') t x x' (l ∷ ls) (l' ∷ ls') λ β u n m o hu hn hm.
     step_stops c h β u n a x (l ∷ ls) o
     ∙ (ap (λ k. go β u n k ls o) e
     ∙ (s β u n m o hu (omega arith) (omega arith)
@@ -168,8 +168,8 @@ stop_same c c' a a' t x x' r r' l l' ls ls' h h' e e' lx lx' s =
     ∙ sym (step_stops c' h' the_count u m a' x' (l' ∷ ls') o))))
 
 -- the last `end` of a body
-pub last_end : {A : Type 0} → (a a' : A) (t : ℕ) → Same t (marked a End ∷ []) [] (marked a' End ∷ []) []
-last_end a a' t = step_same (marked a End) (marked a' End) t [] [] [] [] (λ β u n m o hu hn hm. refl)
+pub last_end : {A : Type 0} → (a a' : A) (t : ℕ) → Same t (with_control a End ∷ []) [] (with_control a' End ∷ []) []
+last_end a a' t = step_same (with_control a End) (with_control a' End) t [] [] [] [] (λ β u n m o hu hn hm. refl)
 
 pub no_labels : {A : Type 0} → (t b b' : ℕ) → SameOutside {A = A} t b b' [] []
 no_labels t b b' = record { branches = λ β u n m j o hu hn hm. refl; raises = λ β u n m s o k hu hn hm. refl; handlers = λ j. refl }

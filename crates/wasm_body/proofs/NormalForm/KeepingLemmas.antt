@@ -2,7 +2,7 @@
 use Rattle.std.specs.Prelude.{◌≡◌, [], Bool, true, false, ◌||◌}
 use Rattle.std.proofs.Common.{refl, ap, ◌∙◌}
 use Rattle.walrus_ir.specs.Tree.{Items, item, Sequences, no_sequences}
-use Rattle.wasm_body.specs.SourceTree.{Sequence, Empty, Single, Wrapped, IfThen, IfElse, TryCatch, TryDelegate, reshown, reshown_clauses}
+use Rattle.wasm_body.specs.SourceTree.{Sequence, Empty, Single, Wrapped, IfThen, IfElse, TryCatch, TryDelegate, map_sequence, map_clauses}
 use Rattle.wasm_body.specs.Translation.{Located}
 use Rattle.wasm_body.specs.Naming.{NamedOperation}
 use Rattle.wasm_body.specs.FunctionTree.{Head, Instruction}
@@ -28,16 +28,16 @@ dead_append (TryDelegate a b e n r) t = dead_append r t
 
 -- ---- the same with something else shown
 
-pub reshown_append : {A B : Type 0} → (g : A → B) (s t : Sequence A) → reshown g (append s t) ≡ append (reshown g s) (reshown g t)
+pub reshown_append : {A B : Type 0} → (g : A → B) (s t : Sequence A) → map_sequence g (append s t) ≡ append (map_sequence g s) (map_sequence g t)
 reshown_append g Empty t = refl
 reshown_append g (Single a action r) t = ap (Single (g a) action) (reshown_append g r t)
-reshown_append g (Wrapped a w b e r) t = ap (Wrapped (g a) w (reshown g b) (g e)) (reshown_append g r t)
-reshown_append g (IfThen a b e r) t = ap (IfThen (g a) (reshown g b) (g e)) (reshown_append g r t)
-reshown_append g (IfElse a b l c e r) t = ap (IfElse (g a) (reshown g b) (g l) (reshown g c) (g e)) (reshown_append g r t)
-reshown_append g (TryCatch a b cs r) t = ap (TryCatch (g a) (reshown g b) (reshown_clauses g cs)) (reshown_append g r t)
-reshown_append g (TryDelegate a b e n r) t = ap (TryDelegate (g a) (reshown g b) (g e) n) (reshown_append g r t)
+reshown_append g (Wrapped a w b e r) t = ap (Wrapped (g a) w (map_sequence g b) (g e)) (reshown_append g r t)
+reshown_append g (IfThen a b e r) t = ap (IfThen (g a) (map_sequence g b) (g e)) (reshown_append g r t)
+reshown_append g (IfElse a b l c e r) t = ap (IfElse (g a) (map_sequence g b) (g l) (map_sequence g c) (g e)) (reshown_append g r t)
+reshown_append g (TryCatch a b cs r) t = ap (TryCatch (g a) (map_sequence g b) (map_clauses g cs)) (reshown_append g r t)
+reshown_append g (TryDelegate a b e n r) t = ap (TryDelegate (g a) (map_sequence g b) (g e) n) (reshown_append g r t)
 
-pub dead_reshown : {A B : Type 0} → (g : A → B) (s : Sequence A) → is_dead (reshown g s) ≡ is_dead s
+pub dead_reshown : {A B : Type 0} → (g : A → B) (s : Sequence A) → is_dead (map_sequence g s) ≡ is_dead s
 dead_reshown g Empty = refl
 dead_reshown g (Single a action r) = ap (dead_behind (fate action)) (dead_reshown g r)
 dead_reshown g (Wrapped a w b e r) = dead_reshown g r

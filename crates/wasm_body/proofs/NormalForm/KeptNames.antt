@@ -5,7 +5,7 @@ use Rattle.wasm_ops.specs.declared.types.BlockType.{BlockType}
 use Rattle.wasm_ops.specs.Operations.{RawOperation}
 use Rattle.wasm_body.specs.declared.error.ParseError.{ParseError}
 use Rattle.wasm_body.specs.declared.error.ParseError.TheVariants.{Index, NoSuchLabel, RethrowOutsideHandler}
-use Rattle.wasm_body.specs.Results.{◌>>=◌, faulting, unless}
+use Rattle.walrus_ir.specs.Results.{◌>>=◌, with_fault, unless}
 use Rattle.wasm_body.specs.Frames.{Frame, handler_at, outside}
 use Rattle.wasm_body.specs.Translation.{Translation, translate, translate_immediates}
 use Rattle.wasm_body.specs.Naming.{Environment, NamedOperation, naming, id_at, open_label, handler_label, block_types}
@@ -23,7 +23,7 @@ sure_number (Err e) = 0
 abbrev pub kept_raw : Environment → Translation ℕ BlockType Target (Unit {0}) ⊥
 kept_raw env = record {
   index = λ space n. Ok (sure_number (id_at env space n));
-  local = λ n. Ok (sure_number (faulting Index (env.local_of n)));
+  local = λ n. Ok (sure_number (with_fault Index (env.local_of n)));
   label = λ n. Ok (Depth n);
   handler = λ n. Ok n;
   outer = λ n. Ok n;

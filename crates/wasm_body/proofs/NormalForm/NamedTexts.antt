@@ -1,10 +1,10 @@
 -- The text of a normal form with names is the text of a source tree, the rewritten one.
 use Rattle.std.proofs.Common.{◌≡◌, List, [], ◌∷◌, map, Ok, refl, sym, ap, ◌∙◌, subst}
 use Rattle.walrus_ir.specs.declared.val_type.InstrSeqType.{InstrSeqType}
-use Rattle.wasm_body.specs.Results.{◌>>=◌, gathered}
-use Rattle.wasm_body.specs.Control.{role_of, Control, Does, Opens, Else, Catch, CatchAll, End, Delegate, Marked, marked}
+use Rattle.walrus_ir.specs.Results.{◌>>=◌, gather}
+use Rattle.wasm_body.specs.Control.{role_of, Control, Does, Opens, Else, Catch, CatchAll, End, Delegate, Marked, with_control}
 use Rattle.wasm_body.specs.SourceTree.{Body, body_text}
-use Rattle.wasm_body.specs.Translation.{translate, located}
+use Rattle.wasm_body.specs.Translation.{translate, at_location}
 use Rattle.wasm_body.specs.Naming.{NamedOperation, block_types}
 use Rattle.wasm_body.specs.NormalForm.{Typing, normal_form}
 use Rattle.wasm_body.specs.FlatText.{with_names}
@@ -34,13 +34,13 @@ module _ (m : Typing) where
   told a c h = (h.0, stands_at m c a.op (typed_told m a c h))
 
   -- an operator is written with names as itself
-  answered : (a : Named) (t : InstrSeqType) → StandsFor m t (block_types a.op.immediates) → (translate (named_by (with_names m) t) a.op >>= λ x. Ok (located x a.location)) ≡ Ok a
-  answered a t h = after_one (translate (named_by (with_names m) t) a.op) (Ok a.op) (λ x. Ok (located x a.location)) (sym (named_written (with_names m) t a.op) ∙ kept_written m t a.op h)
+  answered : (a : Named) (t : InstrSeqType) → StandsFor m t (block_types a.op.immediates) → (translate (named_by (with_names m) t) a.op >>= λ x. Ok (at_location x a.location)) ≡ Ok a
+  answered a t h = after_one (translate (named_by (with_names m) t) a.op) (Ok a.op) (λ x. Ok (at_location x a.location)) (sym (named_written (with_names m) t a.op) ∙ kept_written m t a.op h)
 
-  all_answered : (xs : List (Marked Named)) → AllMarked IsTold xs → gathered (map (answer (with_names m) m) xs) ≡ Ok (map (λ x. x.shown) xs)
+  all_answered : (xs : List (Marked Named)) → AllMarked IsTold xs → gather (map (answer (with_names m) m) xs) ≡ Ok (map (λ x. x.shown) xs)
   all_answered [] h = refl
   all_answered (x ∷ xs) h =
-      after_two (answer (with_names m) m x) (Ok x.shown) (gathered (map (answer (with_names m) m) xs)) (Ok (map (λ (y : Marked Named). y.shown) xs)) (λ y ys. Ok (y ∷ ys))
+      after_two (answer (with_names m) m x) (Ok x.shown) (gather (map (answer (with_names m) m) xs)) (Ok (map (λ (y : Marked Named). y.shown) xs)) (λ y ys. Ok (y ∷ ys))
       (answered x.shown (type_at m x.control x.shown.op) h.0.1) (all_answered xs h.1)
 
 module _ (m : Typing) (xs : List Named) (b : Body Named) (hx : IsNamedBody xs b) (h : AreTyped m xs) where
@@ -58,7 +58,7 @@ module _ (m : Typing) (xs : List Named) (b : Body Named) (hx : IsNamedBody xs b)
   pub has_text : IsTextOf m (normal_form m b) (rewritten_list b)
   has_text =
       tree_text_by (with_names m) m b source_tells
-      ∙ all_answered m (body_text (rewritten_body b)) (all_of_each (IsTold m) (rewritten b.sequence) (marked (end_at b.close.location) End ∷ []) rewritten_told ((refl, tt), tt))
+      ∙ all_answered m (body_text (rewritten_body b)) (all_of_each (IsTold m) (rewritten b.sequence) (with_control (end_at b.close.location) End ∷ []) rewritten_told ((refl, tt), tt))
 
   pub text_body : IsNamedBody (rewritten_list b) (rewritten_body b)
   text_body = is_body (rewritten_body b) (weaker (IsTold m) Tells (λ a c g. g.0) (rewritten b.sequence) rewritten_told) refl

@@ -6,7 +6,7 @@ use Rattle.wasm_body.specs.Control.{Action}
 use Rattle.wasm_body.specs.SourceTree.{Sequence, Empty, Single, Wrapped, IfThen, IfElse, TryCatch, TryDelegate, Clauses, Ended, Catches, CatchesAll}
 use Rattle.wasm_body.specs.Naming.{NamedOperation}
 use Rattle.wasm_body.specs.FunctionTree.{handles, delegates, Bare, bare, bare_items, bare_sequences}
-use Rattle.wasm_body.specs.NormalForm.{Typing, Fate, Drops, Stays, Cuts, fate, instruction, kept_operation, with_fate, type_of, handler_type, legacy_clauses, normal, handlers}
+use Rattle.wasm_body.specs.NormalForm.{Typing, Fate, Drops, Stays, Cuts, fate, instruction, kept_operation, with_fate, construct_type, handler_type, legacy_clauses, normal, handlers}
 use Rattle.wasm_body.specs.TextLaws.{NormalAgain}
 use Rattle.wasm_body.proofs.NormalForm.Rewritten.{Named, single_with_fate, rewritten, rewritten_clauses, rewritten_body}
 use Rattle.wasm_body.proofs.NormalForm.NamedTexts.{text_is_body}
@@ -36,15 +36,15 @@ mutual
   pub again : (m : Typing) (s : Sequence Named) → bare_items (normal m (rewritten s)) ≡ bare_items (normal m s)
   again m Empty = refl
   again m (Single a action r) = single_again m a action (fate action) refl r (rewritten r) (again m r)
-  again m (Wrapped a w b e r) = item_again (bare (instruction a [])) (type_of m a.op) (again m b) refl (again m r)
-  again m (IfThen a b e r) = item_again (bare (instruction a [])) (type_of m a.op) (again m b) refl (again m r)
+  again m (Wrapped a w b e r) = item_again (bare (instruction a [])) (construct_type m a.op) (again m b) refl (again m r)
+  again m (IfThen a b e r) = item_again (bare (instruction a [])) (construct_type m a.op) (again m b) refl (again m r)
   again m (IfElse a b l c e r) =
-      item_again (bare (instruction a [])) (type_of m a.op) (again m b) (ap (λ x. sequence (type_of m a.op) x no_sequences) (again m c)) (again m r)
+      item_again (bare (instruction a [])) (construct_type m a.op) (again m b) (ap (λ x. sequence (construct_type m a.op) x no_sequences) (again m c)) (again m r)
   again m (TryCatch a b cs r) =
-      let inside = sequence (type_of m a.op) (bare_items (normal m (rewritten b))) (bare_sequences (handlers m a.op (rewritten_clauses cs))) in
+      let inside = sequence (construct_type m a.op) (bare_items (normal m (rewritten b))) (bare_sequences (handlers m a.op (rewritten_clauses cs))) in
       ap (λ l. item (kept_operation a.op, l) inside (bare_items (normal m (rewritten r)))) (clauses_again cs)
-      ∙ item_again (kept_operation a.op, legacy_clauses cs) (type_of m a.op) (again m b) (handlers_again m a.op cs) (again m r)
-  again m (TryDelegate a b e n r) = item_again (bare (instruction a (delegates n ∷ []))) (type_of m a.op) (again m b) refl (again m r)
+      ∙ item_again (kept_operation a.op, legacy_clauses cs) (construct_type m a.op) (again m b) (handlers_again m a.op cs) (again m r)
+  again m (TryDelegate a b e n r) = item_again (bare (instruction a (delegates n ∷ []))) (construct_type m a.op) (again m b) refl (again m r)
 
   handlers_again : (m : Typing) (o : NamedOperation) (cs : Clauses Named)
       → bare_sequences (handlers m o (rewritten_clauses cs)) ≡ bare_sequences (handlers m o cs)

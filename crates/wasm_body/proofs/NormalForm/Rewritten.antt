@@ -5,7 +5,7 @@ use Rattle.wasm_ops.specs.declared.types.Space.TheVariants.{Tags}
 use Rattle.wasm_ops.specs.Operations.{Immediate, index, operation}
 use Rattle.wasm_body.specs.Control.{Role, a_block, role_of, Action, Construct, Block, Loop, If, Try, TryTable, Control, Does, Opens, Else, Catch, CatchAll, End, Delegate, control_by, end_operation, else_operation, catch_opcode, catch_all_operation, delegate_operation}
 use Rattle.wasm_body.specs.SourceTree.{Sequence, Empty, Single, Wrapped, IfThen, IfElse, TryCatch, TryDelegate, Clauses, Ended, Catches, CatchesAll, Wrapper, OfBlock, OfLoop, OfTryTable, construct_of, Body, body_text}
-use Rattle.wasm_body.specs.Translation.{Located, located}
+use Rattle.wasm_body.specs.Translation.{Located, at_location}
 use Rattle.wasm_body.specs.Naming.{NamedOperation, block_types}
 use Rattle.wasm_body.specs.FunctionTree.{Head, LegacyClause, Instruction, default_location}
 use Rattle.wasm_body.specs.NormalForm.{Typing, Fate, Drops, Stays, Cuts, fate, legacy_clauses}
@@ -20,19 +20,19 @@ Named = Located NamedOperation
 -- sequences before them.
 
 abbrev pub end_at : ℕ → Named
-end_at l = located end_operation l
+end_at l = at_location end_operation l
 
 abbrev pub else_at : ℕ → Named
-else_at l = located else_operation l
+else_at l = at_location else_operation l
 
 abbrev pub catch_at : ℕ → ℕ → Named
-catch_at t l = located (operation catch_opcode (index Tags t ∷ [])) l
+catch_at t l = at_location (operation catch_opcode (index Tags t ∷ [])) l
 
 abbrev pub catch_all_at : ℕ → Named
-catch_all_at l = located catch_all_operation l
+catch_all_at l = at_location catch_all_operation l
 
 abbrev pub delegate_at : ℕ → ℕ → Named
-delegate_at n l = located (delegate_operation n) l
+delegate_at n l = at_location (delegate_operation n) l
 
 -- an operator by itself, before what follows
 abbrev pub single_with_fate : Fate → Named → Action → Sequence Named → Sequence Named

@@ -10,9 +10,9 @@ use Rattle.wasm_ops.specs.Operations.{Operation, RawOperation}
 use Rattle.wasm_ops.specs.Shortest.{short}
 use Rattle.wasm_body.specs.declared.error.EmitError.{EmitError}
 use Rattle.wasm_body.specs.declared.error.EmitError.TheVariants.{BadClauses}
-use Rattle.wasm_body.specs.Results.{◌>>=◌, gathered}
+use Rattle.walrus_ir.specs.Results.{◌>>=◌, gather}
 use Rattle.wasm_body.specs.Control.{Role, an_if, role_of, end_operation}
-use Rattle.wasm_body.specs.Translation.{translate, Located, located}
+use Rattle.wasm_body.specs.Translation.{translate, Located, at_location}
 use Rattle.wasm_body.specs.FunctionTree.{Head, LegacyClause, Instruction, Bare, bare, bare_items, bare_sequences}
 use Rattle.wasm_body.specs.FlatText.{Writing, TextOperation, are_lawful, closers, if_closers, written, typed, first_type, text, texts, then_by}
 use Rattle.wasm_body.specs.Bytes.{numbering, numbered_text, bytes_of}
@@ -46,12 +46,12 @@ abbrev mutual
 
 -- ---- it is the text of the tree without locations
 
-located_bare : {X : Type 0} → (r : Result X EmitError) (l : ℕ) → without_location (r >>= λ x. Ok (located x l)) ≡ r
+located_bare : {X : Type 0} → (r : Result X EmitError) (l : ℕ) → without_location (r >>= λ x. Ok (at_location x l)) ≡ r
 located_bare (Ok x) l = refl
 located_bare (Err e) l = refl
 
 opened_bare : {M C : Type 0} → (w : Writing M C) (b : Bool) (i : Instruction) (t : InstrSeqType)
-    → without_location (if b then (translate (typed w t) i.op >>= λ x. Ok (located x i.location)) else Err BadClauses)
+    → without_location (if b then (translate (typed w t) i.op >>= λ x. Ok (at_location x i.location)) else Err BadClauses)
     ≡ (if b then translate (typed w t) i.op else Err BadClauses)
 opened_bare w true i t = located_bare (translate (typed w t) i.op) i.location
 opened_bare w false i t = refl
@@ -94,10 +94,10 @@ mutual
       ∙ ap (λ l. bare_text w (bare_items is) (translate w c ∷ l)) (texts_bare w cs r k))
 
 gathered_bare : {X : Type 0} → (rs : List (Result (Located X) EmitError))
-    → without_locations (gathered rs) ≡ gathered (map without_location rs)
+    → without_locations (gather rs) ≡ gather (map without_location rs)
 gathered_bare {X = X} [] = refl
 gathered_bare {X = X} (Ok x ∷ rs) =
-    rest (gathered rs) ∙ after_one (without_locations (gathered rs)) (gathered (map without_location rs)) (λ os. Ok (x.op ∷ os)) (gathered_bare rs)
+    rest (gather rs) ∙ after_one (without_locations (gather rs)) (gather (map without_location rs)) (λ os. Ok (x.op ∷ os)) (gathered_bare rs)
   where
     rest : (r : Result (List (Located X)) EmitError) → without_locations (r >>= λ xs. Ok (x ∷ xs))
         ≡ (without_locations r >>= λ os. Ok (x.op ∷ os))
@@ -108,9 +108,9 @@ gathered_bare {X = X} (Err e ∷ rs) = refl
 pub same_texts : (M C : Type 0) → SameTexts M C
 same_texts M C w t u h =
     gathered_bare (texts w (end_operation ∷ []) (alone t) [])
-    ∙ (ap gathered (texts_bare w (end_operation ∷ []) (alone t) [])
-    ∙ (ap (λ s. gathered (bare_texts w (end_operation ∷ []) s [])) h
-    ∙ (sym (ap gathered (texts_bare w (end_operation ∷ []) (alone u) []))
+    ∙ (ap gather (texts_bare w (end_operation ∷ []) (alone t) [])
+    ∙ (ap (λ s. gather (bare_texts w (end_operation ∷ []) s [])) h
+    ∙ (sym (ap gather (texts_bare w (end_operation ∷ []) (alone u) []))
     ∙ sym (gathered_bare (texts w (end_operation ∷ []) (alone u) [])))))
 
 -- ---- and the same bytes, or the same fault

@@ -15,13 +15,13 @@ use Rattle.wasm_ops.specs.declared.types.BlockType.{BlockType}
 use Rattle.wasm_ops.specs.Shortest.{short}
 use Rattle.wasm_body.specs.declared.error.EmitError.{EmitError}
 use Rattle.wasm_body.specs.declared.error.EmitError.TheVariants.{BadClauses}
-use Rattle.wasm_body.specs.Results.{◌>>=◌, gathered, each}
-use Rattle.wasm_body.specs.Control.{Action, If, Try, Control, Does, Opens, Else, Catch, CatchAll, End, Delegate, Marked, marked, end_operation}
+use Rattle.walrus_ir.specs.Results.{◌>>=◌, gather, each}
+use Rattle.wasm_body.specs.Control.{Action, If, Try, Control, Does, Opens, Else, Catch, CatchAll, End, Delegate, Marked, with_control, end_operation}
 use Rattle.wasm_body.specs.SourceTree.{Sequence, Empty, Single, Wrapped, IfThen, IfElse, TryCatch, TryDelegate, Clauses, Ended, Catches, CatchesAll, construct_of, text, clauses_text, Body, body_text}
-use Rattle.wasm_body.specs.Translation.{Translation, translate, translate_immediate, translate_immediates, translate_clause, translate_heap, translate_value, translate_tag, translate_cast, Located, located}
+use Rattle.wasm_body.specs.Translation.{Translation, translate, translate_immediate, translate_immediates, translate_clause, translate_heap, translate_value, translate_tag, translate_cast, Located, at_location}
 use Rattle.wasm_body.specs.Naming.{NamedOperation, block_types}
 use Rattle.wasm_body.specs.FunctionTree.{Target, Depth, Head, LegacyClause, delegates, Instruction, default_location}
-use Rattle.wasm_body.specs.NormalForm.{Typing, kept, Fate, Drops, Stays, Cuts, fate, instruction, with_fate, head, type_of, handler_type, legacy_clauses, closed_at, normal, handlers, normal_form, kept_operation}
+use Rattle.wasm_body.specs.NormalForm.{Typing, kept, Fate, Drops, Stays, Cuts, fate, instruction, with_fate, head, construct_type, handler_type, legacy_clauses, closed_at, normal, handlers, normal_form, kept_operation}
 use Rattle.wasm_body.specs.FlatText.{Writing, TextOperation, are_lawful, try_closers, typed, opened, first_type, texts, tree_text, with_ids, then_by, text as items_text}
 use Rattle.wasm_body.specs.Bytes.{Numbers, numbering, numbered_text, bytes_of, tree_bytes}
 use Rattle.wasm_body.proofs.NormalForm.Kept.{exponent_of-pow}
@@ -75,7 +75,7 @@ module _ {M C : Type 0} (w : Writing M C) where
 
 -- the type that an operator is written with
 abbrev pub type_at : Typing → Control → NamedOperation → InstrSeqType
-type_at m (Opens construct) o = type_of m o
+type_at m (Opens construct) o = construct_type m o
 type_at m _ o = Simple None
 
 module _ {M C : Type 0} (w : Writing M C) (m : Typing) where
@@ -83,7 +83,7 @@ module _ {M C : Type 0} (w : Writing M C) (m : Typing) where
   Answer = Result (Located (Operation M C)) EmitError
 
   abbrev pub answer_at : InstrSeqType → Named → Answer
-  answer_at t a = translate (named_by w t) a.op >>= λ x. Ok (located x a.location)
+  answer_at t a = translate (named_by w t) a.op >>= λ x. Ok (at_location x a.location)
 
   abbrev pub answer : Marked Named → Answer
   answer x = answer_at (type_at m x.control x.shown.op) x.shown
@@ -96,8 +96,8 @@ module _ {M C : Type 0} (w : Writing M C) (m : Typing) where
 
   opened_by : (a : Named) (cs : List LegacyClause) (t : InstrSeqType) → are_lawful cs ≡ true → opened w (instruction a cs) t ≡ answer_at t a
   opened_by a cs t h =
-      ap (λ b. if b then (translate (typed w t) (kept_operation a.op) >>= λ x. Ok (located x a.location)) else Err BadClauses) h
-      ∙ after_one (translate (typed w t) (kept_operation a.op)) (translate (named_by w t) a.op) (λ x. Ok (located x a.location)) (named_written w t a.op)
+      ap (λ b. if b then (translate (typed w t) (kept_operation a.op) >>= λ x. Ok (at_location x a.location)) else Err BadClauses) h
+      ∙ after_one (translate (typed w t) (kept_operation a.op)) (translate (named_by w t) a.op) (λ x. Ok (at_location x a.location)) (named_written w t a.op)
 
   item_by : (a : Named) (cs : List LegacyClause) (c : Control) (ss : Sequences Head Instruction) (r : Items Head Instruction) (k : List Answer) → are_lawful cs ≡ true → Tells a c →
       flat (item (instruction a cs) ss r) k ≡ answer_at (first_type ss) a ∷ flat_each (closers_by c cs ss) ss (flat r k)
@@ -113,55 +113,55 @@ module _ {M C : Type 0} (w : Writing M C) (m : Typing) where
 
   -- what is written of an opener
   abbrev first_of : Named → Answer
-  first_of a = answer_at (type_of m a.op) a
+  first_of a = answer_at (construct_type m a.op) a
 
   mutual
     pub text_by : (s : Sequence Named) (k : List (Marked Named)) → Each Tells s → flat (normal m s) (map answer k) ≡ map answer (text (rewritten s) k)
     text_by Empty k h = refl
     text_by (Single a action r) k h = fate_by (fate action) a action (normal m r) (rewritten r) k h.0 (text_by r k h.1)
     text_by (Wrapped a v b e r) k h =
-        let first = head (type_of m a.op) e.location in
+        let first = head (construct_type m a.op) e.location in
         item_by a [] (Opens (construct_of v)) (sequence first (normal m b) no_sequences) (normal m r) (map answer k) refl h.0
         ∙ (ap (λ l. first_of a ∷ flat_each l (sequence first (normal m b) no_sequences) (flat (normal m r) (map answer k))) (wrapper_closers v first (normal m b))
-        ∙ (ap (λ l. first_of a ∷ flat (normal m b) (answer (marked (end_at e.location) End) ∷ l)) (text_by r k h.3)
-        ∙ ap (λ l. first_of a ∷ l) (text_by b (marked (end_at e.location) End ∷ text (rewritten r) k) h.1)))
+        ∙ (ap (λ l. first_of a ∷ flat (normal m b) (answer (with_control (end_at e.location) End) ∷ l)) (text_by r k h.3)
+        ∙ ap (λ l. first_of a ∷ l) (text_by b (with_control (end_at e.location) End ∷ text (rewritten r) k) h.1)))
     text_by (IfThen a b e r) k h =
-        let added = head (type_of m a.op) default_location in
-        item_by a [] (Opens If) (sequence (head (type_of m a.op) e.location) (normal m b) (sequence added no_items no_sequences)) (normal m r) (map answer k) refl h.0
-        ∙ (ap (λ l. first_of a ∷ flat (normal m b) (answer (marked (else_at e.location) Else) ∷ answer (marked (end_at default_location) End) ∷ l)) (text_by r k h.3)
-        ∙ ap (λ l. first_of a ∷ l) (text_by b (marked (else_at e.location) Else ∷ marked (end_at default_location) End ∷ text (rewritten r) k) h.1))
+        let added = head (construct_type m a.op) default_location in
+        item_by a [] (Opens If) (sequence (head (construct_type m a.op) e.location) (normal m b) (sequence added no_items no_sequences)) (normal m r) (map answer k) refl h.0
+        ∙ (ap (λ l. first_of a ∷ flat (normal m b) (answer (with_control (else_at e.location) Else) ∷ answer (with_control (end_at default_location) End) ∷ l)) (text_by r k h.3)
+        ∙ ap (λ l. first_of a ∷ l) (text_by b (with_control (else_at e.location) Else ∷ with_control (end_at default_location) End ∷ text (rewritten r) k) h.1))
     text_by (IfElse a b l c e r) k h =
-        let k' = marked (end_at e.location) End ∷ text (rewritten r) k in
-        item_by a [] (Opens If) (sequence (head (type_of m a.op) l.location) (normal m b) (sequence (head (type_of m a.op) e.location) (normal m c) no_sequences)) (normal m r) (map answer k) refl h.0
-        ∙ (ap (λ x. first_of a ∷ flat (normal m b) (answer (marked (else_at l.location) Else) ∷ flat (normal m c) (answer (marked (end_at e.location) End) ∷ x))) (text_by r k h.5)
-        ∙ (ap (λ x. first_of a ∷ flat (normal m b) (answer (marked (else_at l.location) Else) ∷ x)) (text_by c k' h.3)
-        ∙ ap (λ x. first_of a ∷ x) (text_by b (marked (else_at l.location) Else ∷ text (rewritten c) k') h.1)))
+        let k' = with_control (end_at e.location) End ∷ text (rewritten r) k in
+        item_by a [] (Opens If) (sequence (head (construct_type m a.op) l.location) (normal m b) (sequence (head (construct_type m a.op) e.location) (normal m c) no_sequences)) (normal m r) (map answer k) refl h.0
+        ∙ (ap (λ x. first_of a ∷ flat (normal m b) (answer (with_control (else_at l.location) Else) ∷ flat (normal m c) (answer (with_control (end_at e.location) End) ∷ x))) (text_by r k h.5)
+        ∙ (ap (λ x. first_of a ∷ flat (normal m b) (answer (with_control (else_at l.location) Else) ∷ x)) (text_by c k' h.3)
+        ∙ ap (λ x. first_of a ∷ x) (text_by b (with_control (else_at l.location) Else ∷ text (rewritten c) k') h.1)))
     text_by (TryCatch a b cs r) k h =
-        let first = head (type_of m a.op) (closed_at cs) in
+        let first = head (construct_type m a.op) (closed_at cs) in
         item_by a (legacy_clauses cs) (Opens Try) (sequence first (normal m b) (handlers m a.op cs)) (normal m r) (map answer k) (clauses_lawful cs) h.0
         ∙ (ap (λ x. first_of a ∷ flat_each (try_closers (legacy_clauses cs)) (sequence first (normal m b) (handlers m a.op cs)) x) (text_by r k h.3)
-        ∙ ap (λ x. first_of a ∷ x) (clauses_by a.op (type_of m a.op) b (λ l. text_by b l h.1) cs (text (rewritten r) k) h.2))
+        ∙ ap (λ x. first_of a ∷ x) (clauses_by a.op (construct_type m a.op) b (λ l. text_by b l h.1) cs (text (rewritten r) k) h.2))
     text_by (TryDelegate a b e n r) k h =
-        item_by a (delegates n ∷ []) (Opens Try) (sequence (head (type_of m a.op) default_location) (normal m b) no_sequences) (normal m r) (map answer k) refl h.0
-        ∙ (ap (λ l. first_of a ∷ flat (normal m b) (answer (marked (delegate_at n default_location) (Delegate n)) ∷ l)) (text_by r k h.3)
-        ∙ ap (λ l. first_of a ∷ l) (text_by b (marked (delegate_at n default_location) (Delegate n) ∷ text (rewritten r) k) h.1))
+        item_by a (delegates n ∷ []) (Opens Try) (sequence (head (construct_type m a.op) default_location) (normal m b) no_sequences) (normal m r) (map answer k) refl h.0
+        ∙ (ap (λ l. first_of a ∷ flat (normal m b) (answer (with_control (delegate_at n default_location) (Delegate n)) ∷ l)) (text_by r k h.3)
+        ∙ ap (λ l. first_of a ∷ l) (text_by b (with_control (delegate_at n default_location) (Delegate n) ∷ text (rewritten r) k) h.1))
 
     clauses_by : (o : NamedOperation) (t : InstrSeqType) (b : Sequence Named) →
         ((k : List (Marked Named)) → flat (normal m b) (map answer k) ≡ map answer (text (rewritten b) k)) →
         (cs : Clauses Named) (k : List (Marked Named)) → EachIn Tells cs →
         flat_each (try_closers (legacy_clauses cs)) (sequence (head t (closed_at cs)) (normal m b) (handlers m o cs)) (map answer k) ≡ map answer (text (rewritten b) (clauses_text (rewritten_clauses cs) k))
-    clauses_by o t b body (Ended e) k g = body (marked (end_at e.location) End ∷ k)
+    clauses_by o t b body (Ended e) k g = body (with_control (end_at e.location) End ∷ k)
     clauses_by o t b body (Catches a tag c cs) k g =
         let type = handler_type m o (m.tag_parameters tag) in
-        ap (λ x. flat (normal m b) (answer (marked (catch_at tag a.location) (Catch tag)) ∷ x)) (clauses_by o type c (λ l. text_by c l g.1) cs k g.2)
-        ∙ body (marked (catch_at tag a.location) (Catch tag) ∷ text (rewritten c) (clauses_text (rewritten_clauses cs) k))
+        ap (λ x. flat (normal m b) (answer (with_control (catch_at tag a.location) (Catch tag)) ∷ x)) (clauses_by o type c (λ l. text_by c l g.1) cs k g.2)
+        ∙ body (with_control (catch_at tag a.location) (Catch tag) ∷ text (rewritten c) (clauses_text (rewritten_clauses cs) k))
     clauses_by o t b body (CatchesAll a c e) k g =
-        ap (λ x. flat (normal m b) (answer (marked (catch_all_at a.location) CatchAll) ∷ x)) (text_by c (marked (end_at e.location) End ∷ k) g.1)
-        ∙ body (marked (catch_all_at a.location) CatchAll ∷ text (rewritten c) (marked (end_at e.location) End ∷ k))
+        ap (λ x. flat (normal m b) (answer (with_control (catch_all_at a.location) CatchAll) ∷ x)) (text_by c (with_control (end_at e.location) End ∷ k) g.1)
+        ∙ body (with_control (catch_all_at a.location) CatchAll ∷ text (rewritten c) (with_control (end_at e.location) End ∷ k))
 
   -- the text of the normal form
-  pub tree_text_by : (b : Body Named) → Each Tells b.sequence → tree_text w (normal_form m b) ≡ gathered (map answer (body_text (rewritten_body b)))
-  tree_text_by b h = ap gathered (text_by b.sequence (marked (end_at b.close.location) End ∷ []) h)
+  pub tree_text_by : (b : Body Named) → Each Tells b.sequence → tree_text w (normal_form m b) ≡ gather (map answer (body_text (rewritten_body b)))
+  tree_text_by b h = ap gather (text_by b.sequence (with_control (end_at b.close.location) End ∷ []) h)
 
 -- ---- written with ids, an operator has the type in the place of its block type
 
@@ -233,19 +233,19 @@ each_ids t (i ∷ is) =
 module _ (m : Typing) where
   -- an operator of the rewritten body, with ids
   abbrev pub ids_at : Marked Named → Located (Operation ℕ InstrSeqType)
-  ids_at x = located (operation x.shown.op.opcode (map (with_type (type_at m x.control x.shown.op)) x.shown.op.immediates)) x.shown.location
+  ids_at x = at_location (operation x.shown.op.opcode (map (with_type (type_at m x.control x.shown.op)) x.shown.op.immediates)) x.shown.location
 
   answer_ids : (x : Marked Named) → answer with_ids m x ≡ Ok (ids_at x)
   answer_ids x =
       let t = type_at m x.control x.shown.op in
       ap (λ (r : Result (List (Immediate ℕ InstrSeqType)) EmitError).
-      (r >>= λ is. Ok (operation {L = ℕ} {B = InstrSeqType} x.shown.op.opcode is)) >>= λ o. Ok (located o x.shown.location))
+      (r >>= λ is. Ok (operation {L = ℕ} {B = InstrSeqType} x.shown.op.opcode is)) >>= λ o. Ok (at_location o x.shown.location))
       (each_ids t x.shown.op.immediates)
 
-  gathered_ids : (xs : List (Marked Named)) → gathered (map (answer with_ids m) xs) ≡ Ok (map ids_at xs)
+  gathered_ids : (xs : List (Marked Named)) → gather (map (answer with_ids m) xs) ≡ Ok (map ids_at xs)
   gathered_ids [] = refl
   gathered_ids (x ∷ xs) =
-      after_two (answer with_ids m x) (Ok (ids_at x)) (gathered (map (answer with_ids m) xs)) (Ok (map ids_at xs)) (λ y ys. Ok (y ∷ ys))
+      after_two (answer with_ids m x) (Ok (ids_at x)) (gather (map (answer with_ids m) xs)) (Ok (map ids_at xs)) (λ y ys. Ok (y ∷ ys))
       (answer_ids x) (gathered_ids xs)
 
   pub ids_text : (b : Body Named) → Each Tells b.sequence → tree_text with_ids (normal_form m b) ≡ Ok (map ids_at (body_text (rewritten_body b)))
@@ -275,14 +275,14 @@ module _ (to : Numbers) (m : Typing) where
   op_found (Ok p) o e = (refl, cc)
   op_found (Err f) o e = absurd cc
 
-  numbered_by : (xs : List (Marked Named)) (zs : List (Located RawOperation)) → gathered (map (answer (then_by (numbering to)) m) xs) ≡ Ok zs → AllByRecursion IsNumbered xs × (bytes_of zs ≡ bytes_as xs)
+  numbered_by : (xs : List (Marked Named)) (zs : List (Located RawOperation)) → gather (map (answer (then_by (numbering to)) m) xs) ≡ Ok zs → AllByRecursion IsNumbered xs × (bytes_of zs ≡ bytes_as xs)
   numbered_by [] zs e = let same : [] ≡ zs = cc e in (tt, ap bytes_of (sym same))
   numbered_by (x ∷ xs) zs e =
-      let others = gathered (map (answer (then_by (numbering to)) m) xs) in
+      let others = gather (map (answer (then_by (numbering to)) m) xs) in
       let first = bound (answer (then_by (numbering to)) m x) (λ y. others >>= λ ys. Ok (y ∷ ys)) zs e in
       let rest = bound others (λ ys. Ok (first.0 ∷ ys)) zs first.2 in
-      let made = bound (translate (numbering_at x) x.shown.op) (λ o. Ok (located o x.shown.location)) first.0 first.1 in
-      let is : located made.0 x.shown.location ≡ first.0 = cc made.2 in
+      let made = bound (translate (numbering_at x) x.shown.op) (λ o. Ok (at_location o x.shown.location)) first.0 first.1 in
+      let is : at_location made.0 x.shown.location ≡ first.0 = cc made.2 in
       let whole : first.0 ∷ rest.0 ≡ zs = cc rest.2 in
       let found = op_found (translate (numbering_at x) x.shown.op) made.0 made.1 in
       let more = numbered_by xs rest.0 rest.1 in (

@@ -7,7 +7,7 @@ use Rattle.wasm_body.specs.declared.error.ParseFailure.{ParseFailure}
 use Rattle.wasm_body.specs.Control.{Marked}
 use Rattle.wasm_body.specs.SourceTree.{Sequence, Body, body_text}
 use Rattle.wasm_body.specs.Frames.{Frame, function_frames, frames_behind}
-use Rattle.wasm_body.specs.Naming.{Environment, Occurrence, entry_of}
+use Rattle.wasm_body.specs.Naming.{Environment, Occurrence, entry_type_id}
 use Rattle.wasm_body.specs.Parsing.Accepted.{placed, mark, IsNamed, Lawful, validated, Setting, IsFront, Accepted, added_end, Stands, FaultBehind, FirstFault, of_entry, of_operators}
 use Rattle.wasm_body.specs.Parsing.Progress.{Layer, Progress, Within, Whole, NoBody, nothing_read, frames_of, closed, append, further, progress_behind}
 use Rattle.wasm_body.specs.Parsing.Lists.{failure, parsed_from, parsed_behind_entry, parsed}
@@ -15,7 +15,7 @@ use Rattle.wasm_body.specs.Parsing.Laws.{OneBodyAccepted, AcceptedHasNoFault, On
 use Rattle.wasm_body.proofs.Structure.ReadingTrees.{body_read}
 use Rattle.wasm_body.proofs.Structure.ReadTexts.{read_text, text_read, IsRead}
 use Rattle.wasm_body.proofs.Structure.ReadFrames.{progress_frames, behind_frames, frames_length, Goes, body_goes, goes_body, goes_front, goes_on}
-use Rattle.wasm_body.proofs.Translation.ResultLemmas.{ok_same}
+use Rattle.walrus_ir.proofs.ResultLemmas.{ok_same}
 use Rattle.wasm_body.proofs.Parsing.Parses.{AreBytes, ReadingAgrees, Over, over}
 use Rattle.wasm_body.proofs.Parsing.Stops.{StopsAt, Stopped, stopped}
 
@@ -43,7 +43,7 @@ lawful_goes env xs b h = subst (Goes (IsNamed env) (Some function_frames)) (sym 
 lawful_read : (env : Environment) (xs : List Occurrence) (b : Body Occurrence) → Lawful env xs b → progress_behind nothing_read (map mark xs) ≡ Whole b
 lawful_read env xs b h = ap (progress_behind nothing_read) h.is_body ∙ body_read b
 
-goes_lawful : (env : Environment) (xs : List Occurrence) (b : Body Occurrence) → IsOk (entry_of env) → Goes (IsNamed env) (Some function_frames) (map mark xs) → progress_behind nothing_read (map mark xs) ≡ Whole b → Lawful env xs b
+goes_lawful : (env : Environment) (xs : List Occurrence) (b : Body Occurrence) → IsOk (entry_type_id env) → Goes (IsNamed env) (Some function_frames) (map mark xs) → progress_behind nothing_read (map mark xs) ≡ Whole b → Lawful env xs b
 goes_lawful env xs b entry g e =
     let read : read_text (Whole b) [] ≡ map mark xs ++ [] = ap (λ p. read_text p []) (sym e) ∙ text_read (map mark xs) nothing_read [] (subst IsRead (sym e) tt) in
     let is : map mark xs ≡ body_text b = sym (append-nil (map mark xs)) ∙ sym read in
@@ -65,7 +65,7 @@ ends_go env [] = (refl, tt)
 ends_go env (l ∷ ls) = (refl, ends_go env ls)
 
 -- a front stands, with an end for each open sequence
-within_stands : (env : Environment) (xs : List Occurrence) (ls : List (Layer Occurrence)) (s : Sequence Occurrence) → IsOk (entry_of env)
+within_stands : (env : Environment) (xs : List Occurrence) (ls : List (Layer Occurrence)) (s : Sequence Occurrence) → IsOk (entry_type_id env)
     → Goes (IsNamed env) (Some function_frames) (map mark xs) → progress_behind nothing_read (map mark xs) ≡ Within ls s → Stands env xs (length (frames_of ls))
 within_stands env xs ls s entry g e =
     let n = length (frames_of ls) in
@@ -83,7 +83,7 @@ within_stands env xs ls s entry g e =
           ∙ (ap (λ p. progress_behind p (map mark (ends_of n))) e ∙ (ap (λ (k : ℕ). progress_behind (Within ls s) (map mark (ends_of k))) (sym count) ∙ c.1))));
     }
 
-whole_stands : (env : Environment) (xs : List Occurrence) (b : Body Occurrence) → IsOk (entry_of env)
+whole_stands : (env : Environment) (xs : List Occurrence) (b : Body Occurrence) → IsOk (entry_type_id env)
     → Goes (IsNamed env) (Some function_frames) (map mark xs) → progress_behind nothing_read (map mark xs) ≡ Whole b → Stands env xs 0
 whole_stands env xs b entry g e = record { body = b; lawful = subst (λ (ys : List Occurrence). Lawful env ys b) (sym (append-nil xs)) (goes_lawful env xs b entry g e) }
 
@@ -100,8 +100,8 @@ module _ {V : Type 0} (given : Setting V) (agrees : ReadingAgrees) where
       → Over given nothing_read given.first given.start bytes xs (progress_behind nothing_read (map mark xs)) w at rest
   front_over xs bytes rest w at f p g e = record { spelt = f.spelt; have_locations = f.have_locations; located = f.located; passes = p; goes = g; ends = refl; place_is = e }
 
-  entered : (bytes : List ℕ) → IsOk (entry_of given.environment) → parsed given bytes ≡ parsed_from given (length bytes) nothing_read given.first given.start bytes
-  entered bytes h = let i = is_ok (entry_of given.environment) h in ap (λ r. parsed_behind_entry given r bytes) i.1
+  entered : (bytes : List ℕ) → IsOk (entry_type_id given.environment) → parsed given bytes ≡ parsed_from given (length bytes) nothing_read given.first given.start bytes
+  entered bytes h = let i = is_ok (entry_type_id given.environment) h in ap (λ r. parsed_behind_entry given r bytes) i.1
 
   pub accepted_parsed : (bytes : List ℕ) (b : Body Occurrence) → Accepted given bytes b → parsed given bytes ≡ Ok b
   accepted_parsed bytes b a =
@@ -167,7 +167,7 @@ module _ {V : Type 0} (given : Setting V) (agrees : ReadingAgrees) where
   Answers bytes (Ok b) = Accepted given bytes b
   Answers bytes (Err f) = FirstFault given bytes f
 
-  answers_of : (bytes : List ℕ) (r : Result (Body Occurrence) ParseFailure) (xs : List Occurrence) (q : Progress Occurrence) (w : V) (at : ℕ) (rest : List ℕ) → IsOk (entry_of given.environment)
+  answers_of : (bytes : List ℕ) (r : Result (Body Occurrence) ParseFailure) (xs : List Occurrence) (q : Progress Occurrence) (w : V) (at : ℕ) (rest : List ℕ) → IsOk (entry_type_id given.environment)
       → Over given nothing_read given.first given.start bytes xs q w at rest → StopsAt given q w at rest r → Answers bytes r
   answers_of bytes r xs NoBody w at rest entry o s = absurd s
   answers_of bytes r xs (Whole b) w at [] entry o s =
@@ -183,14 +183,14 @@ module _ {V : Type 0} (given : Setting V) (agrees : ReadingAgrees) where
   answers_of bytes r xs (Within (l ∷ ls) t) w at (x ∷ rest) entry o s =
       subst (Answers bytes) (sym s.2) (faulty bytes xs (Within (l ∷ ls) t) w at (x ∷ rest) (frames_of (l ∷ ls)) s.0 o (within_stands given.environment xs (l ∷ ls) t entry o.goes o.ends) refl s.1)
 
-  entry_case : (bytes : List ℕ) → AreBytes bytes → (o : Result ℕ ParseError) → entry_of given.environment ≡ o → Answers bytes (parsed_behind_entry given o bytes)
+  entry_case : (bytes : List ℕ) → AreBytes bytes → (o : Result ℕ ParseError) → entry_type_id given.environment ≡ o → Answers bytes (parsed_behind_entry given o bytes)
   entry_case bytes fits (Err e) q = of_entry q refl
   entry_case bytes fits (Ok id) q =
       let s = stop_of bytes fits in
-      answers_of bytes (parsed_from given (length bytes) nothing_read given.first given.start bytes) s.operators s.reached s.state s.at s.rest (ok_is (entry_of given.environment) id q) s.over s.stops
+      answers_of bytes (parsed_from given (length bytes) nothing_read given.first given.start bytes) s.operators s.reached s.state s.at s.rest (ok_is (entry_type_id given.environment) id q) s.over s.stops
 
   pub answers : (bytes : List ℕ) → AreBytes bytes → Answers bytes (parsed given bytes)
-  answers bytes fits = entry_case bytes fits (entry_of given.environment) refl
+  answers bytes fits = entry_case bytes fits (entry_type_id given.environment) refl
 
 -- ---- the laws
 

@@ -8,7 +8,7 @@ use Rattle.wasm_body.specs.Parsing.Accepted.{placed, mark, validated, Setting, H
 use Rattle.wasm_body.specs.Parsing.Laws.{LongestFront}
 use Rattle.wasm_body.specs.Parsing.Progress.{Layer, Progress, Within, Whole, NoBody, nothing_read, frames_of, further}
 use Rattle.wasm_body.proofs.Structure.ReadFrames.{progress_frames, behind_frames}
-use Rattle.wasm_body.proofs.Translation.ResultLemmas.{ok_same}
+use Rattle.walrus_ir.proofs.ResultLemmas.{ok_same}
 use Rattle.wasm_body.proofs.Parsing.Parses.{ReadingAgrees, Over, one_over}
 use Rattle.wasm_body.proofs.Parsing.Answers.{is_ok, front_over, stands_goes}
 

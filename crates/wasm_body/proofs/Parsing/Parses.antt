@@ -13,7 +13,7 @@ use Rattle.wasm_body.specs.Parsing.Accepted.{placed, mark, IsNamed, validated, l
 use Rattle.wasm_body.specs.Parsing.Progress.{Layer, Progress, Within, Whole, NoBody, frames_of, further, progress_behind}
 use Rattle.wasm_body.specs.Parsing.Lists.{behind, parsed_from}
 use Rattle.wasm_body.proofs.Structure.ReadFrames.{progress_frames, further_frames, Goes}
-use Rattle.wasm_body.proofs.Translation.ResultLemmas.{bind_ok}
+use Rattle.walrus_ir.proofs.ResultLemmas.{bind_ok}
 
 abbrev pub AreBytes : List ℕ → Type 0
 AreBytes bytes = AllByRecursion (λ b. b < 256) bytes

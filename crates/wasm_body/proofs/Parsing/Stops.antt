@@ -5,7 +5,7 @@ use Rattle.wasm_ops.specs.Spelling.{Spells, read_operation}
 use Rattle.wasm_body.specs.declared.error.ParseError.{ParseError}
 use Rattle.wasm_body.specs.declared.error.ParseError.TheVariants.{Read, PlaceTooGreat, Checked, Trailing, MissingEnd}
 use Rattle.wasm_body.specs.declared.error.ParseFailure.{ParseFailure}
-use Rattle.wasm_body.specs.Results.{◌>>=◌, unless, faulting}
+use Rattle.walrus_ir.specs.Results.{◌>>=◌, unless, with_fault}
 use Rattle.wasm_body.specs.SourceTree.{Sequence, Body}
 use Rattle.wasm_body.specs.Frames.{Frame}
 use Rattle.wasm_body.specs.Naming.{NamedOperation, Occurrence, named_in}
@@ -14,7 +14,7 @@ use Rattle.wasm_body.specs.Parsing.Progress.{Layer, Progress, Within, Whole, NoB
 use Rattle.wasm_body.specs.Parsing.Lists.{failure, behind, parsed_from}
 use Rattle.wasm_body.proofs.Structure.ReadTexts.{IsRead}
 use Rattle.wasm_body.proofs.Structure.ReadFrames.{progress_frames, further_frames, Goes}
-use Rattle.wasm_body.proofs.Translation.ResultLemmas.{bind_ok, faulting_ok, unless_ok, ok_same}
+use Rattle.walrus_ir.proofs.ResultLemmas.{bind_ok, with_fault_ok, unless_ok, ok_same}
 use Rattle.wasm_body.proofs.Parsing.NamingLemmas.{named_moves}
 use Rattle.wasm_body.proofs.Parsing.Parses.{AreBytes, ReadingAgrees, Over, spelling_begins}
 
@@ -31,18 +31,18 @@ pub passed : {V : Type 0} (given : Setting V) (v : V) (fs : List (Frame Occurren
 passed {V} given v fs place bytes h e =
     let made = λ (x : RawOperation × List ℕ) (w : V) (n : NamedOperation). (let r : Handled V = record { operator = record { spelt = x.0; place = place; location = location_at given.locations place; named = n }; rest = x.1; state = w } in r) in
     let named_then = λ (x : RawOperation × List ℕ) (w : V). named_in given.environment fs x.0 >>= λ n. (let r : Result (Handled V) ParseError = Ok (made x w n) in r) in
-    let checked_then = λ (x : RawOperation × List ℕ). faulting Checked (given.check v (record { spelt = x.0; place = place })) >>= λ w. named_then x w in
+    let checked_then = λ (x : RawOperation × List ℕ). with_fault Checked (given.check v (record { spelt = x.0; place = place })) >>= λ w. named_then x w in
     let placed_then = λ (x : RawOperation × List ℕ). unless (has_location given.locations place) PlaceTooGreat >>= λ _. checked_then x in
-    let a = bind_ok (faulting (λ fault. Read (record { fault = fault; at = place })) (read_operation bytes)) placed_then h e in
+    let a = bind_ok (with_fault (λ fault. Read (record { fault = fault; at = place })) (read_operation bytes)) placed_then h e in
     let b = bind_ok (unless (has_location given.locations place) PlaceTooGreat) (λ _. checked_then a.0) h a.2 in
-    let c = bind_ok (faulting Checked (given.check v (record { spelt = a.0.0; place = place }))) (λ w. named_then a.0 w) h b.2 in
+    let c = bind_ok (with_fault Checked (given.check v (record { spelt = a.0.0; place = place }))) (λ w. named_then a.0 w) h b.2 in
     let d = bind_ok (named_in given.environment fs a.0.0) (λ n. (let r : Result (Handled V) ParseError = Ok (made a.0 c.0 n) in r)) h c.2 in
     subst (Passed given v fs place bytes) {x = made a.0 c.0 d.0} (ok_same {E = ParseError} (made a.0 c.0 d.0) h d.2) (record {
-      read = faulting_ok (λ fault. Read (record { fault = fault; at = place })) (read_operation bytes) a.0 a.1;
+      read = with_fault_ok (λ fault. Read (record { fault = fault; at = place })) (read_operation bytes) a.0 a.1;
       place_is = refl;
       has_place = unless_ok (has_location given.locations place) PlaceTooGreat b.0 b.1;
       location = refl;
-      checked = faulting_ok Checked (given.check v (record { spelt = a.0.0; place = place })) c.0 c.1;
+      checked = with_fault_ok Checked (given.check v (record { spelt = a.0.0; place = place })) c.0 c.1;
       named = d.1;
     })
 

@@ -6,7 +6,7 @@ use Rattle.walrus_ir.specs.Types.{Signature, signature}
 use Rattle.wasm_ops.specs.Operations.{RawOperation}
 use Rattle.wasm_body.specs.declared.error.ParseError.{ParseError}
 use Rattle.wasm_body.specs.declared.error.ParseError.TheVariants.{NoSuchLabel, RethrowOutsideHandler}
-use Rattle.wasm_body.specs.Results.{◌>>=◌, unless}
+use Rattle.walrus_ir.specs.Results.{◌>>=◌, unless}
 use Rattle.wasm_body.specs.Control.{Construct, Block, Loop, If, Try, TryTable, Control, Does, Opens, Else, Catch, CatchAll, End, Delegate, control_of, control_by, role_of}
 use Rattle.wasm_body.specs.Frames.{Frame, OfFunction, OfWrapper, Consequent, Alternative, TryBody, Handler, HandlerOfAll, may_stand, frame_opened, moves, else_moves, catch_moves, catch_all_moves, delegate_moves, is_handler, handler_at, outside, opener_of}
 use Rattle.wasm_body.specs.Translation.{Translation, translate, translate_immediates}

@@ -16,12 +16,12 @@ use Rattle.wasm_ops.specs.Operations.{CatchClause, Immediate, index, local, labe
 use Rattle.wasm_body.specs.declared.error.EmitError.{EmitError}
 use Rattle.wasm_body.specs.declared.error.ParseError.{ParseError}
 use Rattle.wasm_body.specs.declared.error.ParseError.TheVariants.{Index, NotAFunctionType}
-use Rattle.wasm_body.specs.Results.{some_or, faulting}
+use Rattle.walrus_ir.specs.Results.{some_or, with_fault}
 use Rattle.wasm_body.specs.Frames.{Frame, outside}
 use Rattle.wasm_body.specs.Translation.{Translation, translate, translate_immediates, translate_heap, translate_value}
 use Rattle.wasm_body.specs.Naming.{Environment, NamedOperation, naming, id_at, name_block, open_label, handler_label, block_types}
 use Rattle.wasm_body.specs.FlatText.{then_by}
-use Rattle.wasm_body.specs.Bytes.{Numbers, fitting_numbers, numbered_block, numbering}
+use Rattle.wasm_body.specs.Bytes.{Numbers, numbers_in_32_bits, numbered_block, numbering}
 use Rattle.wasm_body.specs.ReadBack.{EachInHeap, EachInValue, EachInTag, EachIn, IsUndone, IsUndoneLocal, IsUndoneType}
 use Rattle.wasm_body.proofs.Translation.Steps.{Leads, bound, all_of, after_one}
 use Rattle.wasm_body.proofs.Translation.Translations.{LeadsAt, LeadsHeap, LeadsValue, LeadsTag, LeadsClause, translate_leads}
@@ -41,10 +41,10 @@ module _ {A B : Type 0} (env : Environment) (to : Numbers) (t : InstrSeqType) (g
   ruled = ruling (map_frames g fs)
 
   index_back : (space : Space) (id : ℕ) → IsUndone to env space id → Leads (there.index space) (back.index space) (ruled.index space) id
-  index_back space id u n e = ap (faulting Index) (u n (fitting_answer (to.number_of space id) n e).answer)
+  index_back space id u n e = ap (with_fault Index) (u n (fitting_answer (to.number_of space id) n e).answer)
 
   local_back : (id : ℕ) → IsUndoneLocal to env id → Leads there.local back.local ruled.local id
-  local_back id u n e = ap (faulting Index) (u n (fitting_answer (to.local_number id) n e).answer)
+  local_back id u n e = ap (with_fault Index) (u n (fitting_answer (to.local_number id) n e).answer)
 
   heap_back : (h : HeapType ℕ) → EachInHeap (IsUndone to env) h → LeadsHeap there.index back.index ruled.index h
   heap_back (Abstract a) u = tt
@@ -75,14 +75,14 @@ module _ {A B : Type 0} (env : Environment) (to : Numbers) (t : InstrSeqType) (g
   clauses_back (c ∷ cs) u = ((tag_back c.tag u.0, label_back c.label), clauses_back cs u.1)
 
   -- a type is read as what it stands for
-  heap_named : (h g : HeapType ℕ) → EachInHeap (IsUndone to env) h → translate_heap (fitting_numbers to).number_of h ≡ Ok g → translate_heap (id_at env) g ≡ Ok h
+  heap_named : (h g : HeapType ℕ) → EachInHeap (IsUndone to env) h → translate_heap (numbers_in_32_bits to).number_of h ≡ Ok g → translate_heap (id_at env) g ≡ Ok h
   heap_named (Abstract a) q u e = let same : Abstract a ≡ q = cc e in ap (translate_heap (id_at env)) (sym same)
   heap_named (Concrete n) q u e =
-      let m = bound ((fitting_numbers to).number_of Types n) (λ m. Ok (Concrete m)) q e in
+      let m = bound ((numbers_in_32_bits to).number_of Types n) (λ m. Ok (Concrete m)) q e in
       let same : Concrete m.0 ≡ q = cc m.2 in
       ap (translate_heap (id_at env)) (sym same) ∙ after_one (id_at env Types m.0) (Ok n) (λ k. Ok (Concrete k)) (index_back Types n u m.0 m.1)
 
-  value_named : (v w : ValType ℕ) → EachInValue (IsUndone to env) v → translate_value (fitting_numbers to).number_of v ≡ Ok w → translate_value (id_at env) w ≡ Ok v
+  value_named : (v w : ValType ℕ) → EachInValue (IsUndone to env) v → translate_value (numbers_in_32_bits to).number_of v ≡ Ok w → translate_value (id_at env) w ≡ Ok v
   value_named I32 w u e = let same : I32 ≡ w = cc e in ap (translate_value (id_at env)) (sym same)
   value_named I64 w u e = let same : I64 ≡ w = cc e in ap (translate_value (id_at env)) (sym same)
   value_named F32 w u e = let same : F32 ≡ w = cc e in ap (translate_value (id_at env)) (sym same)
@@ -90,7 +90,7 @@ module _ {A B : Type 0} (env : Environment) (to : Numbers) (t : InstrSeqType) (g
   value_named V128 w u e = let same : V128 ≡ w = cc e in ap (translate_value (id_at env)) (sym same)
   value_named (Ref r) w u e =
       let to_ref : HeapType ℕ → ValType ℕ = λ h. Ref (record { nullable = r.nullable; heap_type = h }) in
-      let h = bound (translate_heap (fitting_numbers to).number_of r.heap_type) (λ h. Ok (to_ref h)) w e in
+      let h = bound (translate_heap (numbers_in_32_bits to).number_of r.heap_type) (λ h. Ok (to_ref h)) w e in
       let same : to_ref h.0 ≡ w = cc h.2 in
       ap (translate_value (id_at env)) (sym same)
       ∙ after_one (translate_heap (id_at env) h.0) (Ok r.heap_type) (λ k. Ok (to_ref k)) (heap_named r.heap_type h.0 u h.1)
@@ -101,13 +101,13 @@ module _ {A B : Type 0} (env : Environment) (to : Numbers) (t : InstrSeqType) (g
       let is : signature [] [] ≡ s = cc h in
       ap (name_block env) (sym same) ∙ ap Ok is
   block_back (Simple (Some v)) s u h c e =
-      let w = bound (translate_value (fitting_numbers to).number_of v) (λ w. Ok (Value w)) c e in
+      let w = bound (translate_value (numbers_in_32_bits to).number_of v) (λ w. Ok (Value w)) c e in
       let same : Value w.0 ≡ c = cc w.2 in
       let is : signature [] (v ∷ []) ≡ s = cc h in
       ap (name_block env) (sym same)
       ∙ (after_one (translate_value (id_at env) w.0) (Ok v) (λ x. Ok (signature [] (x ∷ []))) (value_named v w.0 u.1 w.1) ∙ ap Ok is)
   block_back (MultiValue id) s u h c e =
-      let n = bound ((fitting_numbers to).number_of Types id) (λ n. Ok (FuncType n)) c e in
+      let n = bound ((numbers_in_32_bits to).number_of Types id) (λ n. Ok (FuncType n)) c e in
       let same : FuncType n.0 ≡ c = cc n.2 in
       ap (name_block env) (sym same)
       ∙ (after_one (id_at env Types n.0) (Ok id) (λ k. some_or (signature_of env.types k) NotAFunctionType) (index_back Types id u n.0 n.1)

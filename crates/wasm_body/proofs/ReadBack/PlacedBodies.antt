@@ -2,7 +2,7 @@
 use Rattle.std.proofs.Common.{◌≡◌, ℕ, ◌+◌, List, [], ◌∷◌, length, map, refl, ap, ◌∙◌}
 use Rattle.wasm_ops.specs.Operations.{RawOperation}
 use Rattle.wasm_ops.specs.Shortest.{short}
-use Rattle.wasm_body.specs.Control.{Control, Marked, marked}
+use Rattle.wasm_body.specs.Control.{Control, Marked, with_control}
 use Rattle.wasm_body.specs.Naming.{Occurrence}
 use Rattle.wasm_body.specs.Parsing.Accepted.{mark}
 use Rattle.wasm_body.specs.NormalForm.{name_at}
@@ -28,13 +28,13 @@ module _ (spelt : Marked Named → RawOperation) (locate : ℕ → ℕ) where
   -- and what they do to the control
   abbrev pub marks_at : ℕ → List (Marked Named) → List (Marked Occurrence)
   marks_at p [] = []
-  marks_at p (x ∷ xs) = marked (make p x) x.control ∷ marks_at (behind p x) xs
+  marks_at p (x ∷ xs) = with_control (make p x) x.control ∷ marks_at (behind p x) xs
 
   pub are_marks : (p : ℕ) (xs : List (Marked Named)) → AllMarked Tells xs → map mark (at_places p xs) ≡ marks_at p xs
   are_marks p [] h = refl
   are_marks p (x ∷ xs) h =
-      ap (λ c. marked (make p x) c ∷ map mark (at_places (behind p x) xs)) h.0
-      ∙ ap (λ l. marked (make p x) x.control ∷ l) (are_marks (behind p x) xs h.1)
+      ap (λ c. with_control (make p x) c ∷ map mark (at_places (behind p x) xs)) h.0
+      ∙ ap (λ l. with_control (make p x) x.control ∷ l) (are_marks (behind p x) xs h.1)
 
   pub controls_at : (p : ℕ) (xs : List (Marked Named)) → controls_of (marks_at p xs) ≡ controls_of xs
   controls_at p [] = refl
@@ -46,7 +46,7 @@ module _ (spelt : Marked Named → RawOperation) (locate : ℕ → ℕ) where
 
   -- what is known of a named operator that occurs there
   abbrev pub IsMadeOf : (Named → Control → Type 0) → Marked Named → Marked Occurrence → Type 0
-  IsMadeOf P x y = (p : ℕ) × (marked (make p x) x.control ≡ y) × P x.shown x.control
+  IsMadeOf P x y = (p : ℕ) × (with_control (make p x) x.control ≡ y) × P x.shown x.control
 
   pub made_at : (P : Named → Control → Type 0) (p : ℕ) (xs : List (Marked Named)) → AllMarked P xs → AllRelated op_of named_of (IsMadeOf P) xs (marks_at p xs)
   made_at P p [] h = tt

@@ -10,7 +10,7 @@ use Rattle.wasm_ops.specs.OperatorList.{Lists}
 use Rattle.wasm_ops.specs.Spelling.{Spells}
 use Rattle.wasm_ops.specs.Shortest.{short}
 use Rattle.wasm_ops.proofs.ShortestOperations.{shortest_operation}
-use Rattle.wasm_body.specs.Control.{Control, End, Marked, marked}
+use Rattle.wasm_body.specs.Control.{Control, End, Marked, with_control}
 use Rattle.wasm_body.specs.SourceTree.{Sequence, text, Body, body_text}
 use Rattle.wasm_body.specs.Frames.{Frame, OfFunction, function_frames, Follows, BodyFollows}
 use Rattle.wasm_body.specs.Translation.{translate_immediates}
@@ -108,7 +108,7 @@ texts_of (x ∷ xs) p bytes rest h = ((h.1, h.4), texts_of xs _ h.2 rest h.5)
 
 -- an operator with its name, and the name alone
 abbrev IsNamedThere : Marked Occurrence → Marked Named → Type 0
-IsNamedThere x y = (marked (name_at x.shown) x.control ≡ y) × IsSpeltThere x.shown x.control
+IsNamedThere x y = (with_control (name_at x.shown) x.control ≡ y) × IsSpeltThere x.shown x.control
 
 named_there_all : (xs : List Occurrence) → AllByRecursion HasSpelling xs → AllRelated named_of op_of IsNamedThere (map mark xs) (map mark_named (map name_at xs))
 named_there_all [] t = tt
@@ -134,7 +134,7 @@ module _ (env : Environment) (xs : List Occurrence) (body : Body Occurrence) (te
   r = rewritten b.sequence
 
   abbrev last : Marked Named
-  last = marked (end_at b.close.location) End
+  last = with_control (end_at b.close.location) End
 
   abbrev ms : List (Marked Named)
   ms = text r (last ∷ [])
@@ -170,7 +170,7 @@ module _ (env : Environment) (xs : List Occurrence) (body : Body Occurrence) (te
       (all_of_map (ids_at m) (λ x. AreUndone to again x.op.immediates) ms ids)
 
   abbrev IsReady : Named → Control → Type 0
-  IsReady a c = IsNumbered to m (marked a c) × AreUndoneAt back to m (marked a c)
+  IsReady a c = IsNumbered to m (with_control a c) × AreUndoneAt back to m (with_control a c)
 
   ready : AllMarked IsReady ms
   ready = zipped (IsNumbered to m) (AreUndoneAt back to m) (λ x. IsReady x.shown x.control) (λ x p q. (p, q)) ms numbered.0 undone
@@ -201,12 +201,12 @@ module _ (env : Environment) (xs : List Occurrence) (body : Body Occurrence) (te
   is_read : IsBody operators read
   is_read = are_marks (spelt_as to m) locate start ms all_tell ∙ sym whole.1
 
-  named_there : (fs : List (Frame Named)) (gs : List (Frame Occurrence)) (p : ℕ) (a : Named) (c : Control) → map_frames op_of fs ≡ map_frames named_of gs → IsSound env fs (marked a c) → IsReady a c →
-      IsNamed back gs (marked (make (spelt_as to m) locate p (marked a c)) c)
+  named_there : (fs : List (Frame Named)) (gs : List (Frame Occurrence)) (p : ℕ) (a : Named) (c : Control) → map_frames op_of fs ≡ map_frames named_of gs → IsSound env fs (with_control a c) → IsReady a c →
+      IsNamed back gs (with_control (make (spelt_as to m) locate p (with_control a c)) c)
   named_there fs gs p a c e h q =
       let there : IsRuled env (map_frames named_of gs) a.op = subst (λ l. IsRuled env l a.op) e h.ruled in
       let ruled : IsRuled back (map_frames named_of gs) a.op = record { stands = there.stands; keeps = there.keeps; typed = there.typed } in
-      has_name back gs (spelt_as to m (marked a c)) a.op (named_again back to (type_at m c a.op) named_of gs a.op (spelt_as to m (marked a c)) q.0 q.1 h.stands_for there.keeps) ruled
+      has_name back gs (spelt_as to m (with_control a c)) a.op (named_again back to (type_at m c a.op) named_of gs a.op (spelt_as to m (with_control a c)) q.0 q.1 h.stands_for there.keeps) ruled
 
   read_named : BodyFollows (IsNamed back) read
   read_named =
@@ -221,7 +221,7 @@ module _ (env : Environment) (xs : List Occurrence) (body : Body Occurrence) (te
 
   same_again : IsSameTree (normal_form m (named_body read)) (normal_form m b)
   same_again =
-      let names = ap (map (remarked op_of)) (text_reshown name_at read.sequence (marked read.close End ∷ []) ∙ ap (map (remarked name_at)) whole.1)
+      let names = ap (map (remarked op_of)) (text_reshown name_at read.sequence (with_control read.close End ∷ []) ∙ ap (map (remarked name_at)) whole.1)
       ∙ names_at (spelt_as to m) locate start ms in
       same_by_names m (named_body read) (rewritten_body b) names ∙ ap (λ x. sequence m.entry x no_sequences) (rewritten_again m b.sequence)
 

@@ -8,7 +8,7 @@ use Rattle.wasm_ops.specs.Operations.{Immediate, outer, RawOperation}
 use Rattle.wasm_ops.specs.Immediates.{an_outer}
 use Rattle.wasm_ops.specs.Opcodes.{IsOpcode, kinds_of, kinds_of_byte}
 use Rattle.wasm_ops.specs.Spelling.{Spells}
-use Rattle.wasm_body.specs.Control.{Role, an_if, a_catch, a_catch_all, a_delegate, role_of, Control, Does, Opens, Else, Catch, CatchAll, End, Delegate, If, control_of, control_by, Action, Marked, marked}
+use Rattle.wasm_body.specs.Control.{Role, an_if, a_catch, a_catch_all, a_delegate, role_of, Control, Does, Opens, Else, Catch, CatchAll, End, Delegate, If, control_of, control_by, Action, Marked, with_control}
 use Rattle.wasm_body.specs.SourceTree.{Sequence, Empty, Single, Wrapped, IfThen, IfElse, TryCatch, TryDelegate, Clauses, Ended, Catches, CatchesAll}
 use Rattle.wasm_body.specs.Frames.{Frame, OfWrapper, Consequent, Alternative, TryBody, Handler, HandlerOfAll, Follows, FollowsIn, may_stand}
 use Rattle.wasm_body.specs.Translation.{translate, translate_immediates}
@@ -60,7 +60,7 @@ abbrev pub IsSpeltThere : Occurrence → Control → Type 0
 IsSpeltThere x c = (control_of x.named ≡ c) × HasText x
 
 pub occurrence_sound : (env : Environment) (fs : List (Frame Occurrence)) (gs : List (Frame Named)) (x : Occurrence) (c : Control)
-    → map_frames named_of fs ≡ map_frames op_of gs → IsNamed env fs (marked x c) → IsSpeltThere x c → IsSound env gs (marked (name_at x) c)
+    → map_frames named_of fs ≡ map_frames op_of gs → IsNamed env fs (with_control x c) → IsSpeltThere x c → IsSound env gs (with_control (name_at x) c)
 occurrence_sound env fs gs x c same e p =
     let m = typing_of env in
     let translated = (named_parts env fs x.spelt x.named e).translated in
@@ -99,7 +99,7 @@ one_byte : (b : ℕ) → IsOpcode (Byte b) (b ∷ []) → IsSpellable IsOpcode (
 one_byte b h = (b ∷ [], h)
 
 module _ (env : Environment) where
-  end_sound : (f : Frame Named) (fs : List (Frame Named)) (l : ℕ) → IsSound env (f ∷ fs) (marked (end_at l) End)
+  end_sound : (f : Frame Named) (fs : List (Frame Named)) (l : ℕ) → IsSound env (f ∷ fs) (with_control (end_at l) End)
   unfolding kinds_of_byte
   end_sound f fs l = record {
     ruled = record { stands = refl; keeps = refl; typed = refl };
@@ -108,7 +108,7 @@ module _ (env : Environment) where
     spellable = record { opcode = one_byte 0x0b (refl, omega arith, refl); kinds = refl; ranged = tt };
   }
 
-  else_sound : (a : Named) (fs : List (Frame Named)) (l : ℕ) → IsSound env fs (marked a (Opens If)) → IsSound env (Consequent a ∷ fs) (marked (else_at l) Else)
+  else_sound : (a : Named) (fs : List (Frame Named)) (l : ℕ) → IsSound env fs (with_control a (Opens If)) → IsSound env (Consequent a ∷ fs) (with_control (else_at l) Else)
   else_sound a fs l s = record {
     ruled = record { stands = refl; keeps = refl; typed = refl };
     tells = refl;
@@ -120,7 +120,7 @@ module _ (env : Environment) where
     };
   }
 
-  catch_sound : (fs : List (Frame Named)) (h : Named) (t l : ℕ) → IsSound env fs (marked h (Catch t)) → IsSound env fs (marked (catch_at t l) (Catch t))
+  catch_sound : (fs : List (Frame Named)) (h : Named) (t l : ℕ) → IsSound env fs (with_control h (Catch t)) → IsSound env fs (with_control (catch_at t l) (Catch t))
   catch_sound fs h t l s = record {
     ruled = record {
       stands = subst (λ c. may_stand (map_frames op_of fs) c ≡ true) s.tells s.ruled.stands;
@@ -136,7 +136,7 @@ module _ (env : Environment) where
     };
   }
 
-  catch_all_sound : (fs : List (Frame Named)) (h : Named) (l : ℕ) → IsSound env fs (marked h CatchAll) → IsSound env fs (marked (catch_all_at l) CatchAll)
+  catch_all_sound : (fs : List (Frame Named)) (h : Named) (l : ℕ) → IsSound env fs (with_control h CatchAll) → IsSound env fs (with_control (catch_all_at l) CatchAll)
   catch_all_sound fs h l s = record {
     ruled = record {
       stands = subst (λ c. may_stand (map_frames op_of fs) c ≡ true) s.tells s.ruled.stands;
@@ -153,7 +153,7 @@ module _ (env : Environment) where
   }
 
   -- a `delegate` has its depth alone
-  delegate_depth : (fs : List (Frame Named)) (e : Named) (n : ℕ) → IsSound env fs (marked e (Delegate n)) → e.op.immediates ≡ outer n ∷ []
+  delegate_depth : (fs : List (Frame Named)) (e : Named) (n : ℕ) → IsSound env fs (with_control e (Delegate n)) → e.op.immediates ≡ outer n ∷ []
   delegate_depth fs e n s =
       let role = delegate_role (role_of e.op.opcode) e.op.immediates n s.tells in
       let kinds = delegate_kinds e.op.opcode (map kind_in e.op.immediates) s.spellable.kinds role in
@@ -164,7 +164,7 @@ module _ (env : Environment) where
       let same : depth.0 ≡ n = cc control in
       depth.1 ∙ ap (λ k. outer k ∷ []) same
 
-  delegate_sound : (fs : List (Frame Named)) (e : Named) (n l : ℕ) → IsSound env fs (marked e (Delegate n)) → IsSound env fs (marked (delegate_at n l) (Delegate n))
+  delegate_sound : (fs : List (Frame Named)) (e : Named) (n l : ℕ) → IsSound env fs (with_control e (Delegate n)) → IsSound env fs (with_control (delegate_at n l) (Delegate n))
   delegate_sound fs e n l s =
       let role = delegate_role (role_of e.op.opcode) e.op.immediates n s.tells in
       let depth = delegate_depth fs e n s in
@@ -185,7 +185,7 @@ module _ (env : Environment) where
 
   -- ---- the rewritten body
 
-  fate_sound : (f : Fate) (fs : List (Frame Named)) (a : Named) (action : Action) (r : Sequence Named) → IsSound env fs (marked a (Does action)) → Follows (IsSound env) fs r → Follows (IsSound env) fs (single_with_fate f a action r)
+  fate_sound : (f : Fate) (fs : List (Frame Named)) (a : Named) (action : Action) (r : Sequence Named) → IsSound env fs (with_control a (Does action)) → Follows (IsSound env) fs r → Follows (IsSound env) fs (single_with_fate f a action r)
   fate_sound Drops fs a action r h g = g
   fate_sound Stays fs a action r h g = (h, g)
   fate_sound Cuts fs a action r h g = (h, tt)
@@ -219,5 +219,5 @@ module _ (env : Environment) where
     clauses_sound fs a f (Catches i t b cs) h = (catch_sound (f ∷ fs) i t i.location h.0, rewritten_sound (Handler a ∷ fs) b h.1, clauses_sound fs a (Handler a) cs h.2)
     clauses_sound fs a f (CatchesAll i b e) h = (catch_all_sound (f ∷ fs) i i.location h.0, rewritten_sound (HandlerOfAll a ∷ fs) b h.1, end_sound (HandlerOfAll a) fs e.location)
 
-  pub close_sound : (fs : List (Frame Named)) (f : Frame Named) (l : ℕ) → IsSound env (f ∷ fs) (marked (end_at l) End)
+  pub close_sound : (fs : List (Frame Named)) (f : Frame Named) (l : ℕ) → IsSound env (f ∷ fs) (with_control (end_at l) End)
   close_sound fs f l = end_sound f fs l

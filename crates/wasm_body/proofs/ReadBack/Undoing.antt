@@ -18,20 +18,20 @@ use Rattle.wasm_ops.specs.Types.{IsBlockType}
 use Rattle.wasm_ops.specs.Immediates.{SpellsImmediates}
 use Rattle.wasm_ops.proofs.ShortestTypes.{block_value_is}
 use Rattle.wasm_body.specs.declared.error.ParseError.TheVariants.{NotAFunctionType}
-use Rattle.wasm_body.specs.Results.{◌>>=◌, each}
-use Rattle.wasm_body.specs.Control.{Control, Does, Opens, Else, Catch, CatchAll, End, Delegate, Marked, marked}
+use Rattle.walrus_ir.specs.Results.{◌>>=◌, each}
+use Rattle.wasm_body.specs.Control.{Control, Does, Opens, Else, Catch, CatchAll, End, Delegate, Marked, with_control}
 use Rattle.wasm_body.specs.SourceTree.{Body, body_text}
 use Rattle.wasm_body.specs.Frames.{Frame}
 use Rattle.wasm_body.specs.Translation.{Translation, translate_immediate, translate_immediates, translate_value, Located}
 use Rattle.wasm_body.specs.Naming.{Environment, Occurrence, naming, named_in, id_at, name_block, function_type, block_types, block_signature, first_signature}
 use Rattle.wasm_body.specs.Parsing.Accepted.{HasSpelling, mark, Lawful}
-use Rattle.wasm_body.specs.NormalForm.{Typing, typing_of, type_of, normal_form, name_at, named_body}
+use Rattle.wasm_body.specs.NormalForm.{Typing, typing_of, construct_type, normal_form, name_at, named_body}
 use Rattle.wasm_body.specs.FlatText.{tree_text, with_ids}
 use Rattle.wasm_body.specs.Bytes.{Numbers}
 use Rattle.wasm_body.specs.ReadBack.{EachInHeap, EachInValue, EachInTag, EachIn, IsUndone, IsUndoneLocal, IsCarriedValue, IsUndoneType, AreUndone, IsInverse, GivesNoReference, InverseUndoes}
 use Rattle.wasm_body.proofs.Structure.Along.{Each, AllMarked, Tells, each_of, all_of_each, each_reshown, weaker}
 use Rattle.wasm_body.proofs.Translation.Steps.{bound}
-use Rattle.wasm_body.proofs.Translation.ResultLemmas.{some_or_ok}
+use Rattle.walrus_ir.proofs.ResultLemmas.{some_or_ok}
 use Rattle.wasm_body.proofs.Bytes.BlockTypes.{is_block, block_kept}
 use Rattle.wasm_body.proofs.Parsing.NamingLemmas.{named_parts}
 use Rattle.wasm_body.proofs.ReadBack.FrameNames.{named_immediates}
@@ -111,7 +111,7 @@ first_carried : (ss : List Signature) → AllByRecursion IsCarriedSignature ss �
 first_carried [] h = no_results
 first_carried (s ∷ ss) h = h.0
 
-type_carried : (env : Environment) → GivesNoReference env.types → (x : Occurrence) (fs : List (Frame Occurrence)) → named_in env fs x.spelt ≡ Ok x.named → HasSpelling x → IsCarriedType (type_of (typing_of env) x.named)
+type_carried : (env : Environment) → GivesNoReference env.types → (x : Occurrence) (fs : List (Frame Occurrence)) → named_in env fs x.spelt ≡ Ok x.named → HasSpelling x → IsCarriedType (construct_type (typing_of env) x.named)
 type_carried env none x fs e t =
     let immediates = named_immediates env fs x.spelt x.named (named_parts env fs x.spelt x.named e).translated in
     let blocks = translated_blocks (naming env fs) (IsSpellable IsBlockType) IsCarriedSignature (block_carried env none) x.spelt.immediates x.named.immediates (spelt_blocks x.spelt.immediates t.1.others t.1.immediates) immediates in
@@ -167,8 +167,8 @@ module _ (env : Environment) (xs : List Occurrence) (body : Body Occurrence) (te
   abbrev HasUndoneType : Named → Control → Type 0
   HasUndoneType a c = IsUndoneType to again (type_at m c a.op)
 
-  by_control : (x : Occurrence) (c : Control) → IsCarriedType (type_of m x.named) → HasUndoneType (name_at x) c
-  by_control x (Opens construct) h = type_undone to again inverse (type_of m x.named) h
+  by_control : (x : Occurrence) (c : Control) → IsCarriedType (construct_type m x.named) → HasUndoneType (name_at x) c
+  by_control x (Opens construct) h = type_undone to again inverse (construct_type m x.named) h
   by_control x (Does action) h = tt
   by_control x Else h = tt
   by_control x (Catch t) h = tt
@@ -184,7 +184,7 @@ module _ (env : Environment) (xs : List Occurrence) (body : Body Occurrence) (te
   all_kept (x ∷ ys) t h = ((refl, by_control x _ (type_carried env none x h.0.0 h.0.1 t.0)), all_kept ys t.1 h.1)
 
   kept : Each Kept body.sequence
-  kept = (each_of Kept body.sequence (marked body.close End ∷ []) (subst (AllMarked Kept) lawful.is_body (all_kept xs texts (named_somewhere env xs body lawful)))).0
+  kept = (each_of Kept body.sequence (with_control body.close End ∷ []) (subst (AllMarked Kept) lawful.is_body (all_kept xs texts (named_somewhere env xs body lawful)))).0
 
   source_kept : Each (λ a c. Tells a c × HasUndoneType a c) (named_body body).sequence
   source_kept = each_reshown (λ a c. Tells a c × HasUndoneType a c) name_at body.sequence kept
@@ -205,7 +205,7 @@ module _ (env : Environment) (xs : List Occurrence) (body : Body Occurrence) (te
   ids ys e =
       let text = ids_text m (named_body body) (weaker (λ a c. Tells a c × HasUndoneType a c) Tells (λ a c h. h.0) (named_body body).sequence source_kept) in
       let whole : AllByRecursion (λ x. AreUndone to again x.op.immediates) (map (ids_at m) ms) =
-      ids_undone ms (all_of_each (λ a c. Tells a c × HasUndoneType a c) (rewritten (named_body body).sequence) (marked (end_at body.close.location) End ∷ []) both_kept ((refl, tt), tt)) in
+      ids_undone ms (all_of_each (λ a c. Tells a c × HasUndoneType a c) (rewritten (named_body body).sequence) (with_control (end_at body.close.location) End ∷ []) both_kept ((refl, tt), tt)) in
       at_once (map (ids_at m) ms) (AllByRecursion (λ x. AreUndone to again x.op.immediates)) whole ys (sym text ∙ e)
 
 pub inverse_undoes : InverseUndoes

@@ -1,8 +1,8 @@
 -- What holds of each operator of a source tree, with what it does to the control: the same as of each of its text.
 use Rattle.std.proofs.Common.{◌≡◌, List, [], ◌∷◌, map, refl, ap, ◌∙◌, subst}
 use Rattle.std.specs.List.{AllByRecursion}
-use Rattle.wasm_body.specs.Control.{Control, Does, Opens, Else, Catch, CatchAll, End, Delegate, If, Try, Marked, marked, control_of}
-use Rattle.wasm_body.specs.SourceTree.{Sequence, Empty, Single, Wrapped, IfThen, IfElse, TryCatch, TryDelegate, Clauses, Ended, Catches, CatchesAll, construct_of, text, clauses_text, Body, body_text, reshown, reshown_clauses}
+use Rattle.wasm_body.specs.Control.{Control, Does, Opens, Else, Catch, CatchAll, End, Delegate, If, Try, Marked, with_control, control_of}
+use Rattle.wasm_body.specs.SourceTree.{Sequence, Empty, Single, Wrapped, IfThen, IfElse, TryCatch, TryDelegate, Clauses, Ended, Catches, CatchesAll, construct_of, text, clauses_text, Body, body_text, map_sequence, map_clauses}
 use Rattle.wasm_body.specs.Translation.{Located}
 use Rattle.wasm_body.specs.Naming.{NamedOperation}
 use Rattle.wasm_body.specs.TextLaws.{mark_named, IsNamedBody}
@@ -31,21 +31,21 @@ mutual
   each_of P Empty k h = (tt, h)
   each_of P (Single a action r) k h = let x = each_of P r k h.1 in ((h.0, x.0), x.1)
   each_of P (Wrapped a w b e r) k h =
-      let x = each_of P b (marked e End ∷ text r k) h.1 in
+      let x = each_of P b (with_control e End ∷ text r k) h.1 in
       let y = each_of P r k x.1.1 in ((h.0, x.0, x.1.0, y.0), y.1)
   each_of P (IfThen a b e r) k h =
-      let x = each_of P b (marked e End ∷ text r k) h.1 in
+      let x = each_of P b (with_control e End ∷ text r k) h.1 in
       let y = each_of P r k x.1.1 in ((h.0, x.0, x.1.0, y.0), y.1)
   each_of P (IfElse a b l c e r) k h =
-      let x = each_of P b (marked l Else ∷ text c (marked e End ∷ text r k)) h.1 in
-      let z = each_of P c (marked e End ∷ text r k) x.1.1 in
+      let x = each_of P b (with_control l Else ∷ text c (with_control e End ∷ text r k)) h.1 in
+      let z = each_of P c (with_control e End ∷ text r k) x.1.1 in
       let y = each_of P r k z.1.1 in ((h.0, x.0, x.1.0, z.0, z.1.0, y.0), y.1)
   each_of P (TryCatch a b cs r) k h =
       let x = each_of P b (clauses_text cs (text r k)) h.1 in
       let z = each_in P cs (text r k) x.1 in
       let y = each_of P r k z.1 in ((h.0, x.0, z.0, y.0), y.1)
   each_of P (TryDelegate a b e n r) k h =
-      let x = each_of P b (marked e (Delegate n) ∷ text r k) h.1 in
+      let x = each_of P b (with_control e (Delegate n) ∷ text r k) h.1 in
       let y = each_of P r k x.1.1 in ((h.0, x.0, x.1.0, y.0), y.1)
 
   each_in : {A : Type 0} → (P : A → Control → Type 0) (cs : Clauses A) (k : List (Marked A)) → AllMarked P (clauses_text cs k)
@@ -54,7 +54,7 @@ mutual
   each_in P (Catches a t b cs) k h =
       let x = each_of P b (clauses_text cs k) h.1 in
       let y = each_in P cs k x.1 in ((h.0, x.0, y.0), y.1)
-  each_in P (CatchesAll a b e) k h = let x = each_of P b (marked e End ∷ k) h.1 in ((h.0, x.0, x.1.0), x.1.1)
+  each_in P (CatchesAll a b e) k h = let x = each_of P b (with_control e End ∷ k) h.1 in ((h.0, x.0, x.1.0), x.1.1)
 
 mutual
   pub all_of_each : {A : Type 0} → (P : A → Control → Type 0) (s : Sequence A) (k : List (Marked A)) → Each P s → AllMarked P k
@@ -93,7 +93,7 @@ mutual
 -- ---- the same of a tree with something else shown
 
 mutual
-  pub each_reshown : {A B : Type 0} → (P : B → Control → Type 0) (g : A → B) (s : Sequence A) → Each (λ a c. P (g a) c) s → Each P (reshown g s)
+  pub each_reshown : {A B : Type 0} → (P : B → Control → Type 0) (g : A → B) (s : Sequence A) → Each (λ a c. P (g a) c) s → Each P (map_sequence g s)
   each_reshown P g Empty h = tt
   each_reshown P g (Single a action r) h = (h.0, each_reshown P g r h.1)
   each_reshown P g (Wrapped a w b e r) h = (h.0, each_reshown P g b h.1, h.2, each_reshown P g r h.3)
@@ -102,7 +102,7 @@ mutual
   each_reshown P g (TryCatch a b cs r) h = (h.0, each_reshown P g b h.1, each_in_reshown P g cs h.2, each_reshown P g r h.3)
   each_reshown P g (TryDelegate a b e n r) h = (h.0, each_reshown P g b h.1, h.2, each_reshown P g r h.3)
 
-  each_in_reshown : {A B : Type 0} → (P : B → Control → Type 0) (g : A → B) (cs : Clauses A) → EachIn (λ a c. P (g a) c) cs → EachIn P (reshown_clauses g cs)
+  each_in_reshown : {A B : Type 0} → (P : B → Control → Type 0) (g : A → B) (cs : Clauses A) → EachIn (λ a c. P (g a) c) cs → EachIn P (map_clauses g cs)
   each_in_reshown P g (Ended e) h = h
   each_in_reshown P g (Catches a t b cs) h = (h.0, each_reshown P g b h.1, each_in_reshown P g cs h.2)
   each_in_reshown P g (CatchesAll a b e) h = (h.0, each_reshown P g b h.1, h.2)
@@ -114,12 +114,12 @@ Tells a c = control_of a.op ≡ c
 
 told : (xs : List (Marked (Located NamedOperation))) → AllMarked Tells xs → map mark_named (map (λ x. x.shown) xs) ≡ xs
 told [] h = refl
-told (x ∷ xs) h = ap (λ c. marked x.shown c ∷ map mark_named (map (λ y. y.shown) xs)) h.0 ∙ ap (λ l. x ∷ l) (told xs h.1)
+told (x ∷ xs) h = ap (λ c. with_control x.shown c ∷ map mark_named (map (λ y. y.shown) xs)) h.0 ∙ ap (λ l. x ∷ l) (told xs h.1)
 
 -- a body whose operators tell their control is the body of its text
 pub is_body : (b : Body (Located NamedOperation)) → Each Tells b.sequence → Tells b.close End
     → IsNamedBody (map (λ x. x.shown) (body_text b)) b
-is_body b h e = told (body_text b) (all_of_each Tells b.sequence (marked b.close End ∷ []) h (e, tt))
+is_body b h e = told (body_text b) (all_of_each Tells b.sequence (with_control b.close End ∷ []) h (e, tt))
 
 tells : (P : Located NamedOperation → Type 0) (xs : List (Located NamedOperation)) → AllByRecursion P xs
     → AllMarked (λ a c. Tells a c × P a) (map mark_named xs)
@@ -131,4 +131,4 @@ pub along : (P : Located NamedOperation → Type 0) (xs : List (Located NamedOpe
     → IsNamedBody xs b → AllByRecursion P xs
     → Each (λ a c. Tells a c × P a) b.sequence
 along P xs b e h =
-    (each_of (λ a c. Tells a c × P a) b.sequence (marked b.close End ∷ []) (subst (AllMarked (λ a c. Tells a c × P a)) e (tells P xs h))).0
+    (each_of (λ a c. Tells a c × P a) b.sequence (with_control b.close End ∷ []) (subst (AllMarked (λ a c. Tells a c × P a)) e (tells P xs h))).0

@@ -1,6 +1,6 @@
 -- Operators that do the same to the control, one by one, as those of a tree are a tree of the same form.
 use Rattle.std.proofs.Common.{◌≡◌, ℕ, List, [], ◌∷◌, map, refl, sym, ap, ◌∙◌}
-use Rattle.wasm_body.specs.Control.{Action, Construct, Control, Does, Opens, Else, Catch, CatchAll, End, Delegate, If, Try, Marked, marked}
+use Rattle.wasm_body.specs.Control.{Action, Construct, Control, Does, Opens, Else, Catch, CatchAll, End, Delegate, If, Try, Marked, with_control}
 use Rattle.wasm_body.specs.SourceTree.{Sequence, Empty, Single, Wrapped, IfThen, IfElse, TryCatch, TryDelegate, Clauses, Ended, Catches, CatchesAll, construct_of, text, clauses_text, Body, body_text}
 
 -- what each operator does to the control
@@ -11,14 +11,14 @@ controls_of xs = map (λ x. x.control) xs
 record Split {B : Type 0} (c : Control) (cs : List Control) (ys : List (Marked B)) : Type 0 where
   first : B
   others : List (Marked B)
-  is : marked first c ∷ others ≡ ys
+  is : with_control first c ∷ others ≡ ys
   controls : controls_of others ≡ cs
 
 split : {B : Type 0} → (ys : List (Marked B)) (c : Control) (cs : List Control) → controls_of ys ≡ c ∷ cs → Split c cs ys
 split [] c cs e = absurd cc
 split (y ∷ ys) c cs e =
     let here : y.control ≡ c = cc in
-    record { first = y.shown; others = ys; is = ap (λ d. marked y.shown d ∷ ys) (sym here); controls = cc }
+    record { first = y.shown; others = ys; is = ap (λ d. with_control y.shown d ∷ ys) (sym here); controls = cc }
 
 -- a tree whose text is the front of these operators; the rest does what these controls say
 record LiftedTree {B : Type 0} (cs : List Control) (ys : List (Marked B)) : Type 0 where
@@ -40,14 +40,14 @@ record LiftedClauses {B : Type 0} (cs : List Control) (ys : List (Marked B)) : T
 abbrev IsOneSequence : {B : Type 0} → Construct → Control → (B → Sequence B → B → Sequence B → Sequence B) → Type 0
 IsOneSequence {B = B} opens closes make =
     (a : B) (b : Sequence B) (e : B) (r : Sequence B) (l : List (Marked B))
-    → text (make a b e r) l ≡ marked a (Opens opens) ∷ text b (marked e closes ∷ text r l)
+    → text (make a b e r) l ≡ with_control a (Opens opens) ∷ text b (with_control e closes ∷ text r l)
 
 module _ {B : Type 0} {ys : List (Marked B)} where
   with_single : (action : Action) {cs ds : List Control} (o : Split (Does action) ds ys) (t : LiftedTree cs o.others) → LiftedTree cs ys
   with_single action o t = record {
     tree = Single o.first action t.tree;
     rest = t.rest;
-    is = ap (λ l. marked o.first (Does action) ∷ l) t.is ∙ o.is;
+    is = ap (λ l. with_control o.first (Does action) ∷ l) t.is ∙ o.is;
     controls = t.controls;
   }
 
@@ -58,8 +58,8 @@ module _ {B : Type 0} {ys : List (Marked B)} where
     rest = t.rest;
     is =
         made o.first i.tree c.first t.tree t.rest
-        ∙ (ap (λ l. marked o.first (Opens opens) ∷ text i.tree (marked c.first closes ∷ l)) t.is
-        ∙ (ap (λ l. marked o.first (Opens opens) ∷ text i.tree l) c.is ∙ (ap (λ l. marked o.first (Opens opens) ∷ l) i.is ∙ o.is)));
+        ∙ (ap (λ l. with_control o.first (Opens opens) ∷ text i.tree (with_control c.first closes ∷ l)) t.is
+        ∙ (ap (λ l. with_control o.first (Opens opens) ∷ text i.tree l) c.is ∙ (ap (λ l. with_control o.first (Opens opens) ∷ l) i.is ∙ o.is)));
     controls = t.controls;
   }
 
@@ -69,10 +69,10 @@ module _ {B : Type 0} {ys : List (Marked B)} where
     tree = IfElse o.first i.tree m.first j.tree c.first t.tree;
     rest = t.rest;
     is =
-        ap (λ x. marked o.first (Opens If) ∷ text i.tree (marked m.first Else ∷ text j.tree (marked c.first End ∷ x))) t.is
-        ∙ (ap (λ x. marked o.first (Opens If) ∷ text i.tree (marked m.first Else ∷ text j.tree x)) c.is
-        ∙ (ap (λ x. marked o.first (Opens If) ∷ text i.tree (marked m.first Else ∷ x)) j.is
-        ∙ (ap (λ x. marked o.first (Opens If) ∷ text i.tree x) m.is ∙ (ap (λ x. marked o.first (Opens If) ∷ x) i.is ∙ o.is))));
+        ap (λ x. with_control o.first (Opens If) ∷ text i.tree (with_control m.first Else ∷ text j.tree (with_control c.first End ∷ x))) t.is
+        ∙ (ap (λ x. with_control o.first (Opens If) ∷ text i.tree (with_control m.first Else ∷ text j.tree x)) c.is
+        ∙ (ap (λ x. with_control o.first (Opens If) ∷ text i.tree (with_control m.first Else ∷ x)) j.is
+        ∙ (ap (λ x. with_control o.first (Opens If) ∷ text i.tree x) m.is ∙ (ap (λ x. with_control o.first (Opens If) ∷ x) i.is ∙ o.is))));
     controls = t.controls;
   }
 
@@ -81,8 +81,8 @@ module _ {B : Type 0} {ys : List (Marked B)} where
     tree = TryCatch o.first i.tree c.clauses t.tree;
     rest = t.rest;
     is =
-        ap (λ l. marked o.first (Opens Try) ∷ text i.tree (clauses_text c.clauses l)) t.is
-        ∙ (ap (λ l. marked o.first (Opens Try) ∷ text i.tree l) c.is ∙ (ap (λ l. marked o.first (Opens Try) ∷ l) i.is ∙ o.is));
+        ap (λ l. with_control o.first (Opens Try) ∷ text i.tree (clauses_text c.clauses l)) t.is
+        ∙ (ap (λ l. with_control o.first (Opens Try) ∷ text i.tree l) c.is ∙ (ap (λ l. with_control o.first (Opens Try) ∷ l) i.is ∙ o.is));
     controls = t.controls;
   }
 
@@ -90,7 +90,7 @@ module _ {B : Type 0} {ys : List (Marked B)} where
   with_catch tag o i c = record {
     clauses = Catches o.first tag i.tree c.clauses;
     rest = c.rest;
-    is = ap (λ l. marked o.first (Catch tag) ∷ text i.tree l) c.is ∙ (ap (λ l. marked o.first (Catch tag) ∷ l) i.is ∙ o.is);
+    is = ap (λ l. with_control o.first (Catch tag) ∷ text i.tree l) c.is ∙ (ap (λ l. with_control o.first (Catch tag) ∷ l) i.is ∙ o.is);
     controls = c.controls;
   }
 
@@ -98,7 +98,7 @@ module _ {B : Type 0} {ys : List (Marked B)} where
   with_catch_all o i c = record {
     clauses = CatchesAll o.first i.tree c.first;
     rest = c.others;
-    is = ap (λ l. marked o.first CatchAll ∷ text i.tree l) c.is ∙ (ap (λ l. marked o.first CatchAll ∷ l) i.is ∙ o.is);
+    is = ap (λ l. with_control o.first CatchAll ∷ text i.tree l) c.is ∙ (ap (λ l. with_control o.first CatchAll ∷ l) i.is ∙ o.is);
     controls = c.controls;
   }
 
@@ -113,19 +113,19 @@ mutual
       with_single action o (lifted r k o.others o.controls)
   lifted (Wrapped a w b e r) k ys h =
       let o = split ys (Opens (construct_of w)) _ h in
-      let i = lifted b (marked e End ∷ text r k) o.others o.controls in
+      let i = lifted b (with_control e End ∷ text r k) o.others o.controls in
       let c = split i.rest End _ i.controls in
       with_one (construct_of w) End (λ x t y. Wrapped x w t y) (λ x t y r l. refl) o i c (lifted r k c.others c.controls)
   lifted (IfThen a b e r) k ys h =
       let o = split ys (Opens If) _ h in
-      let i = lifted b (marked e End ∷ text r k) o.others o.controls in
+      let i = lifted b (with_control e End ∷ text r k) o.others o.controls in
       let c = split i.rest End _ i.controls in
       with_one If End IfThen (λ x t y r l. refl) o i c (lifted r k c.others c.controls)
   lifted (IfElse a b l c e r) k ys h =
       let o = split ys (Opens If) _ h in
-      let i = lifted b (marked l Else ∷ text c (marked e End ∷ text r k)) o.others o.controls in
+      let i = lifted b (with_control l Else ∷ text c (with_control e End ∷ text r k)) o.others o.controls in
       let m = split i.rest Else _ i.controls in
-      let j = lifted c (marked e End ∷ text r k) m.others m.controls in
+      let j = lifted c (with_control e End ∷ text r k) m.others m.controls in
       let d = split j.rest End _ j.controls in
       with_two o i m j d (lifted r k d.others d.controls)
   lifted (TryCatch a b cs r) k ys h =
@@ -135,7 +135,7 @@ mutual
       with_clauses o i c (lifted r k c.rest c.controls)
   lifted (TryDelegate a b e n r) k ys h =
       let o = split ys (Opens Try) _ h in
-      let i = lifted b (marked e (Delegate n) ∷ text r k) o.others o.controls in
+      let i = lifted b (with_control e (Delegate n) ∷ text r k) o.others o.controls in
       let c = split i.rest (Delegate n) _ i.controls in
       with_one Try (Delegate n) (λ x t y r. TryDelegate x t y n r) (λ x t y r l. refl) o i c (lifted r k c.others c.controls)
 
@@ -149,7 +149,7 @@ mutual
       with_catch t o i (lifted_clauses cs k i.rest i.controls)
   lifted_clauses (CatchesAll a b e) k ys h =
       let o = split ys CatchAll _ h in
-      let i = lifted b (marked e End ∷ k) o.others o.controls in
+      let i = lifted b (with_control e End ∷ k) o.others o.controls in
       with_catch_all o i (split i.rest End _ i.controls)
 
 none_left : {B : Type 0} → (ys : List (Marked B)) → controls_of ys ≡ [] → ys ≡ []
@@ -160,8 +160,8 @@ none_left (y ∷ ys) e = absurd cc
 pub lifted_body : {A B : Type 0} → (b : Body A) (ys : List (Marked B)) → controls_of ys ≡ controls_of (body_text b)
     → (c : Body B) × (body_text c ≡ ys)
 lifted_body b ys e =
-    let t = lifted b.sequence (marked b.close End ∷ []) ys e in
+    let t = lifted b.sequence (with_control b.close End ∷ []) ys e in
     let last = split t.rest End [] t.controls in (
       record { sequence = t.tree; close = last.first },
-      ap (λ l. text t.tree (marked last.first End ∷ l)) (sym (none_left last.others last.controls)) ∙ (ap (text t.tree) last.is ∙ t.is),
+      ap (λ l. text t.tree (with_control last.first End ∷ l)) (sym (none_left last.others last.controls)) ∙ (ap (text t.tree) last.is ∙ t.is),
     )

@@ -1,6 +1,6 @@
 -- The frames behind a front are those of what was read; a rule along a tree is the same rule at each operator of its text.
 use Rattle.std.proofs.Common.{◌≡◌, ℕ, suc, List, [], ◌∷◌, ◌++◌, length, Option, Some, None, true, refl, sym, ap, subst, ◌∙◌}
-use Rattle.wasm_body.specs.Control.{Construct, Block, Loop, TryTable, If, Try, Control, Does, Opens, Else, Catch, CatchAll, End, Delegate, Marked, marked}
+use Rattle.wasm_body.specs.Control.{Construct, Block, Loop, TryTable, If, Try, Control, Does, Opens, Else, Catch, CatchAll, End, Delegate, Marked, with_control}
 use Rattle.wasm_body.specs.SourceTree.{Wrapper, OfBlock, OfLoop, OfTryTable, construct_of, Sequence, Empty, Single, Wrapped, IfThen, IfElse, TryCatch, TryDelegate, Clauses, Ended, Catches, CatchesAll, text, clauses_text, Body, body_text}
 use Rattle.wasm_body.specs.Frames.{Frame, OfFunction, OfWrapper, Consequent, Alternative, TryBody, Handler, HandlerOfAll, Rule, Follows, FollowsIn, function_frames, BodyFollows, frame_opened, else_moves, catch_moves, catch_all_moves, onto, delegate_moves, moves, moved, frames_behind, may_stand}
 use Rattle.wasm_body.specs.Parsing.Progress.{OpenConstruct, InThen, InTry, Layer, Progress, Within, Whole, NoBody, frame_of, frames_of, opened, parted_by_else, parted_by_catch, parted_by_catch_all, delegated, go_on_in, go_on_behind, further_within, further, progress_behind}
@@ -100,22 +100,22 @@ mutual
   goes_in R Empty f fs k h = (tt, h)
   goes_in R (Single a action r) f fs k h = let i = goes_in R r f fs k h.1 in ((h.0, i.0), i.1)
   goes_in R (Wrapped a w b e r) f fs k h =
-      let h1 = subst (λ g. Goes R (Some (g ∷ f ∷ fs)) (text b (marked e End ∷ text r k))) (wrap_frame a w) h.1 in
-      let i = goes_in R b (OfWrapper a) (f ∷ fs) (marked e End ∷ text r k) h1 in
+      let h1 = subst (λ g. Goes R (Some (g ∷ f ∷ fs)) (text b (with_control e End ∷ text r k))) (wrap_frame a w) h.1 in
+      let i = goes_in R b (OfWrapper a) (f ∷ fs) (with_control e End ∷ text r k) h1 in
       let j = goes_in R r f fs k i.1.1 in ((h.0, i.0, i.1.0, j.0), j.1)
   goes_in R (IfThen a b e r) f fs k h =
-      let i = goes_in R b (Consequent a) (f ∷ fs) (marked e End ∷ text r k) h.1 in
+      let i = goes_in R b (Consequent a) (f ∷ fs) (with_control e End ∷ text r k) h.1 in
       let j = goes_in R r f fs k i.1.1 in ((h.0, i.0, i.1.0, j.0), j.1)
   goes_in R (IfElse a b l c e r) f fs k h =
-      let i = goes_in R b (Consequent a) (f ∷ fs) (marked l Else ∷ text c (marked e End ∷ text r k)) h.1 in
-      let m = goes_in R c (Alternative a) (f ∷ fs) (marked e End ∷ text r k) i.1.1 in
+      let i = goes_in R b (Consequent a) (f ∷ fs) (with_control l Else ∷ text c (with_control e End ∷ text r k)) h.1 in
+      let m = goes_in R c (Alternative a) (f ∷ fs) (with_control e End ∷ text r k) i.1.1 in
       let j = goes_in R r f fs k m.1.1 in ((h.0, i.0, i.1.0, m.0, m.1.0, j.0), j.1)
   goes_in R (TryCatch a b cs r) f fs k h =
       let i = goes_in R b (TryBody a) (f ∷ fs) (clauses_text cs (text r k)) h.1 in
       let m = goes_in_body R cs a (f ∷ fs) (text r k) i.1 in
       let j = goes_in R r f fs k m.1 in ((h.0, i.0, m.0, j.0), j.1)
   goes_in R (TryDelegate a b e n r) f fs k h =
-      let i = goes_in R b (TryBody a) (f ∷ fs) (marked e (Delegate n) ∷ text r k) h.1 in
+      let i = goes_in R b (TryBody a) (f ∷ fs) (with_control e (Delegate n) ∷ text r k) h.1 in
       let j = goes_in R r f fs k i.1.1 in ((h.0, i.0, i.1.0, j.0), j.1)
 
   goes_in_body : {A : Type 0} → (R : Rule A) (cs : Clauses A) (a : A) (fs : List (Frame A)) (k : List (Marked A)) → Goes R (Some (TryBody a ∷ fs)) (clauses_text cs k) → FollowsIn R fs a (TryBody a) cs × Goes R (Some fs) k
@@ -123,41 +123,41 @@ mutual
   goes_in_body R (Catches i t b cs) a fs k h =
       let m = goes_in R b (Handler a) fs (clauses_text cs k) h.1 in
       let j = goes_in_handler R cs a fs k m.1 in ((h.0, m.0, j.0), j.1)
-  goes_in_body R (CatchesAll i b e) a fs k h = let m = goes_in R b (HandlerOfAll a) fs (marked e End ∷ k) h.1 in ((h.0, m.0, m.1.0), m.1.1)
+  goes_in_body R (CatchesAll i b e) a fs k h = let m = goes_in R b (HandlerOfAll a) fs (with_control e End ∷ k) h.1 in ((h.0, m.0, m.1.0), m.1.1)
 
   goes_in_handler : {A : Type 0} → (R : Rule A) (cs : Clauses A) (a : A) (fs : List (Frame A)) (k : List (Marked A)) → Goes R (Some (Handler a ∷ fs)) (clauses_text cs k) → FollowsIn R fs a (Handler a) cs × Goes R (Some fs) k
   goes_in_handler R (Ended e) a fs k h = h
   goes_in_handler R (Catches i t b cs) a fs k h =
       let m = goes_in R b (Handler a) fs (clauses_text cs k) h.1 in
       let j = goes_in_handler R cs a fs k m.1 in ((h.0, m.0, j.0), j.1)
-  goes_in_handler R (CatchesAll i b e) a fs k h = let m = goes_in R b (HandlerOfAll a) fs (marked e End ∷ k) h.1 in ((h.0, m.0, m.1.0), m.1.1)
+  goes_in_handler R (CatchesAll i b e) a fs k h = let m = goes_in R b (HandlerOfAll a) fs (with_control e End ∷ k) h.1 in ((h.0, m.0, m.1.0), m.1.1)
 
 mutual
   pub goes_by : {A : Type 0} → (R : Rule A) (s : Sequence A) (f : Frame A) (fs : List (Frame A)) (k : List (Marked A)) → Follows R (f ∷ fs) s → Goes R (Some (f ∷ fs)) k → Goes R (Some (f ∷ fs)) (text s k)
   goes_by R Empty f fs k h g = g
   goes_by R (Single a action r) f fs k h g = (h.0, goes_by R r f fs k h.1 g)
-  goes_by R (Wrapped a w b e r) f fs k h g = (h.0, subst (λ x. Goes R (Some (x ∷ f ∷ fs)) (text b (marked e End ∷ text r k))) (sym (wrap_frame a w)) (goes_by R b (OfWrapper a) (f ∷ fs) (marked e End ∷ text r k) h.1 (h.2, goes_by R r f fs k h.3 g)))
-  goes_by R (IfThen a b e r) f fs k h g = (h.0, goes_by R b (Consequent a) (f ∷ fs) (marked e End ∷ text r k) h.1 (h.2, goes_by R r f fs k h.3 g))
-  goes_by R (IfElse a b l c e r) f fs k h g = (h.0, goes_by R b (Consequent a) (f ∷ fs) (marked l Else ∷ text c (marked e End ∷ text r k)) h.1 (h.2, goes_by R c (Alternative a) (f ∷ fs) (marked e End ∷ text r k) h.3 (h.4, goes_by R r f fs k h.5 g)))
+  goes_by R (Wrapped a w b e r) f fs k h g = (h.0, subst (λ x. Goes R (Some (x ∷ f ∷ fs)) (text b (with_control e End ∷ text r k))) (sym (wrap_frame a w)) (goes_by R b (OfWrapper a) (f ∷ fs) (with_control e End ∷ text r k) h.1 (h.2, goes_by R r f fs k h.3 g)))
+  goes_by R (IfThen a b e r) f fs k h g = (h.0, goes_by R b (Consequent a) (f ∷ fs) (with_control e End ∷ text r k) h.1 (h.2, goes_by R r f fs k h.3 g))
+  goes_by R (IfElse a b l c e r) f fs k h g = (h.0, goes_by R b (Consequent a) (f ∷ fs) (with_control l Else ∷ text c (with_control e End ∷ text r k)) h.1 (h.2, goes_by R c (Alternative a) (f ∷ fs) (with_control e End ∷ text r k) h.3 (h.4, goes_by R r f fs k h.5 g)))
   goes_by R (TryCatch a b cs r) f fs k h g = (h.0, goes_by R b (TryBody a) (f ∷ fs) (clauses_text cs (text r k)) h.1 (goes_by_body R cs a (f ∷ fs) (text r k) h.2 (goes_by R r f fs k h.3 g)))
-  goes_by R (TryDelegate a b e n r) f fs k h g = (h.0, goes_by R b (TryBody a) (f ∷ fs) (marked e (Delegate n) ∷ text r k) h.1 (h.2, goes_by R r f fs k h.3 g))
+  goes_by R (TryDelegate a b e n r) f fs k h g = (h.0, goes_by R b (TryBody a) (f ∷ fs) (with_control e (Delegate n) ∷ text r k) h.1 (h.2, goes_by R r f fs k h.3 g))
 
   goes_by_body : {A : Type 0} → (R : Rule A) (cs : Clauses A) (a : A) (fs : List (Frame A)) (k : List (Marked A)) → FollowsIn R fs a (TryBody a) cs → Goes R (Some fs) k → Goes R (Some (TryBody a ∷ fs)) (clauses_text cs k)
   goes_by_body R (Ended e) a fs k h g = (h, g)
   goes_by_body R (Catches i t b cs) a fs k h g = (h.0, goes_by R b (Handler a) fs (clauses_text cs k) h.1 (goes_by_handler R cs a fs k h.2 g))
-  goes_by_body R (CatchesAll i b e) a fs k h g = (h.0, goes_by R b (HandlerOfAll a) fs (marked e End ∷ k) h.1 (h.2, g))
+  goes_by_body R (CatchesAll i b e) a fs k h g = (h.0, goes_by R b (HandlerOfAll a) fs (with_control e End ∷ k) h.1 (h.2, g))
 
   goes_by_handler : {A : Type 0} → (R : Rule A) (cs : Clauses A) (a : A) (fs : List (Frame A)) (k : List (Marked A)) → FollowsIn R fs a (Handler a) cs → Goes R (Some fs) k → Goes R (Some (Handler a ∷ fs)) (clauses_text cs k)
   goes_by_handler R (Ended e) a fs k h g = (h, g)
   goes_by_handler R (Catches i t b cs) a fs k h g = (h.0, goes_by R b (Handler a) fs (clauses_text cs k) h.1 (goes_by_handler R cs a fs k h.2 g))
-  goes_by_handler R (CatchesAll i b e) a fs k h g = (h.0, goes_by R b (HandlerOfAll a) fs (marked e End ∷ k) h.1 (h.2, g))
+  goes_by_handler R (CatchesAll i b e) a fs k h g = (h.0, goes_by R b (HandlerOfAll a) fs (with_control e End ∷ k) h.1 (h.2, g))
 
 -- a body follows a rule where each of its operators does, by the frames before it
 pub body_goes : {A : Type 0} → (R : Rule A) (b : Body A) → BodyFollows R b → Goes R (Some function_frames) (body_text b)
-body_goes R b h = goes_by R b.sequence OfFunction [] (marked b.close End ∷ []) h.0 (h.1, tt)
+body_goes R b h = goes_by R b.sequence OfFunction [] (with_control b.close End ∷ []) h.0 (h.1, tt)
 
 pub goes_body : {A : Type 0} → (R : Rule A) (b : Body A) → Goes R (Some function_frames) (body_text b) → BodyFollows R b
-goes_body R b h = let i = goes_in R b.sequence OfFunction [] (marked b.close End ∷ []) h in (i.0, i.1.0)
+goes_body R b h = let i = goes_in R b.sequence OfFunction [] (with_control b.close End ∷ []) h in (i.0, i.1.0)
 
 -- ---- one list behind another
 

@@ -1,6 +1,6 @@
 -- The operators that were read are the text of what was read.
 use Rattle.std.proofs.Common.{◌≡◌, ℕ, List, [], ◌∷◌, ◌++◌, refl, ap, subst, ◌∙◌}
-use Rattle.wasm_body.specs.Control.{Construct, Block, Loop, TryTable, If, Try, Control, Does, Opens, Else, Catch, CatchAll, End, Delegate, Marked, marked}
+use Rattle.wasm_body.specs.Control.{Construct, Block, Loop, TryTable, If, Try, Control, Does, Opens, Else, Catch, CatchAll, End, Delegate, Marked, with_control}
 use Rattle.wasm_body.specs.SourceTree.{construct_of, Sequence, Empty, Single, Wrapped, IfThen, IfElse, TryCatch, TryDelegate, Clauses, Ended, Catches, CatchesAll, text, clauses_text}
 use Rattle.wasm_body.specs.Parsing.Progress.{append, ClosedClause, behind_closed, OpenConstruct, InWrapper, InThen, InElse, InTry, InCatch, InCatchAll, Layer, Progress, Within, Whole, NoBody, opened, closed, parted_by_else, parted_by_catch, parted_by_catch_all, delegated, go_on_in, go_on_behind, further_within, further, progress_behind}
 
@@ -8,15 +8,15 @@ use Rattle.wasm_body.specs.Parsing.Progress.{append, ClosedClause, behind_closed
 
 abbrev pub handled_text : {A : Type 0} → List (ClosedClause A) → List (Marked A) → List (Marked A)
 handled_text [] k = k
-handled_text (g ∷ gs) k = handled_text gs (marked g.mark (Catch g.tag) ∷ text g.body k)
+handled_text (g ∷ gs) k = handled_text gs (with_control g.mark (Catch g.tag) ∷ text g.body k)
 
 abbrev pub construct_text : {A : Type 0} → OpenConstruct A → List (Marked A) → List (Marked A)
-construct_text (InWrapper a w) k = marked a (Opens (construct_of w)) ∷ k
-construct_text (InThen a) k = marked a (Opens If) ∷ k
-construct_text (InElse a b l) k = marked a (Opens If) ∷ text b (marked l Else ∷ k)
-construct_text (InTry a) k = marked a (Opens Try) ∷ k
-construct_text (InCatch a b gs h t) k = marked a (Opens Try) ∷ text b (handled_text gs (marked h (Catch t) ∷ k))
-construct_text (InCatchAll a b gs h) k = marked a (Opens Try) ∷ text b (handled_text gs (marked h CatchAll ∷ k))
+construct_text (InWrapper a w) k = with_control a (Opens (construct_of w)) ∷ k
+construct_text (InThen a) k = with_control a (Opens If) ∷ k
+construct_text (InElse a b l) k = with_control a (Opens If) ∷ text b (with_control l Else ∷ k)
+construct_text (InTry a) k = with_control a (Opens Try) ∷ k
+construct_text (InCatch a b gs h t) k = with_control a (Opens Try) ∷ text b (handled_text gs (with_control h (Catch t) ∷ k))
+construct_text (InCatchAll a b gs h) k = with_control a (Opens Try) ∷ text b (handled_text gs (with_control h CatchAll ∷ k))
 
 abbrev pub layers_text : {A : Type 0} → List (Layer A) → List (Marked A) → List (Marked A)
 layers_text [] k = k
@@ -24,36 +24,36 @@ layers_text (l ∷ ls) k = layers_text ls (text l.before (construct_text l.const
 
 abbrev pub read_text : {A : Type 0} → Progress A → List (Marked A) → List (Marked A)
 read_text (Within ls s) k = layers_text ls (text s k)
-read_text (Whole b) k = text b.sequence (marked b.close End ∷ k)
+read_text (Whole b) k = text b.sequence (with_control b.close End ∷ k)
 read_text NoBody k = k
 
 pub text_behind : {A : Type 0} → (s t : Sequence A) (k : List (Marked A)) → text (append s t) k ≡ text s (text t k)
 text_behind Empty t k = refl
-text_behind (Single a action r) t k = ap (λ l. marked a (Does action) ∷ l) (text_behind r t k)
-text_behind (Wrapped a w b e r) t k = ap (λ l. marked a (Opens (construct_of w)) ∷ text b (marked e End ∷ l)) (text_behind r t k)
-text_behind (IfThen a b e r) t k = ap (λ l. marked a (Opens If) ∷ text b (marked e End ∷ l)) (text_behind r t k)
-text_behind (IfElse a b m c e r) t k = ap (λ l. marked a (Opens If) ∷ text b (marked m Else ∷ text c (marked e End ∷ l))) (text_behind r t k)
-text_behind (TryCatch a b cs r) t k = ap (λ l. marked a (Opens Try) ∷ text b (clauses_text cs l)) (text_behind r t k)
-text_behind (TryDelegate a b e n r) t k = ap (λ l. marked a (Opens Try) ∷ text b (marked e (Delegate n) ∷ l)) (text_behind r t k)
+text_behind (Single a action r) t k = ap (λ l. with_control a (Does action) ∷ l) (text_behind r t k)
+text_behind (Wrapped a w b e r) t k = ap (λ l. with_control a (Opens (construct_of w)) ∷ text b (with_control e End ∷ l)) (text_behind r t k)
+text_behind (IfThen a b e r) t k = ap (λ l. with_control a (Opens If) ∷ text b (with_control e End ∷ l)) (text_behind r t k)
+text_behind (IfElse a b m c e r) t k = ap (λ l. with_control a (Opens If) ∷ text b (with_control m Else ∷ text c (with_control e End ∷ l))) (text_behind r t k)
+text_behind (TryCatch a b cs r) t k = ap (λ l. with_control a (Opens Try) ∷ text b (clauses_text cs l)) (text_behind r t k)
+text_behind (TryDelegate a b e n r) t k = ap (λ l. with_control a (Opens Try) ∷ text b (with_control e (Delegate n) ∷ l)) (text_behind r t k)
 
 behind_closed_text : {A : Type 0} → (gs : List (ClosedClause A)) (cs : Clauses A) (k : List (Marked A)) → clauses_text (behind_closed gs cs) k ≡ handled_text gs (clauses_text cs k)
 behind_closed_text [] cs k = refl
 behind_closed_text (g ∷ gs) cs k = behind_closed_text gs (Catches g.mark g.tag g.body cs) k
 
-opened_text : {A : Type 0} → (a : A) (x : Construct) (k : List (Marked A)) → construct_text (opened a x) k ≡ marked a (Opens x) ∷ k
+opened_text : {A : Type 0} → (a : A) (x : Construct) (k : List (Marked A)) → construct_text (opened a x) k ≡ with_control a (Opens x) ∷ k
 opened_text a Block k = refl
 opened_text a Loop k = refl
 opened_text a (TryTable cs) k = refl
 opened_text a If k = refl
 opened_text a Try k = refl
 
-closed_text : {A : Type 0} → (p : OpenConstruct A) (s : Sequence A) (e : A) (k : List (Marked A)) → text (closed p s e) k ≡ construct_text p (text s (marked e End ∷ k))
+closed_text : {A : Type 0} → (p : OpenConstruct A) (s : Sequence A) (e : A) (k : List (Marked A)) → text (closed p s e) k ≡ construct_text p (text s (with_control e End ∷ k))
 closed_text (InWrapper a w) s e k = refl
 closed_text (InThen a) s e k = refl
 closed_text (InElse a b l) s e k = refl
 closed_text (InTry a) s e k = refl
-closed_text (InCatch a b gs h t) s e k = ap (λ l. marked a (Opens Try) ∷ text b l) (behind_closed_text gs (Catches h t s (Ended e)) k)
-closed_text (InCatchAll a b gs h) s e k = ap (λ l. marked a (Opens Try) ∷ text b l) (behind_closed_text gs (CatchesAll h s e) k)
+closed_text (InCatch a b gs h t) s e k = ap (λ l. with_control a (Opens Try) ∷ text b l) (behind_closed_text gs (Catches h t s (Ended e)) k)
+closed_text (InCatchAll a b gs h) s e k = ap (λ l. with_control a (Opens Try) ∷ text b l) (behind_closed_text gs (CatchesAll h s e) k)
 
 -- it is the front of a body
 abbrev pub IsRead : {A : Type 0} → Progress A → Type 0
@@ -61,25 +61,25 @@ IsRead (Within ls s) = Unit {0}
 IsRead (Whole b) = Unit {0}
 IsRead NoBody = ⊥
 
-else_text : {A : Type 0} → (p : OpenConstruct A) (ls : List (Layer A)) (d s : Sequence A) (l : A) (k : List (Marked A)) → IsRead (go_on_in ls d (parted_by_else p s l)) → read_text (go_on_in ls d (parted_by_else p s l)) k ≡ layers_text ls (text d (construct_text p (text s (marked l Else ∷ k))))
+else_text : {A : Type 0} → (p : OpenConstruct A) (ls : List (Layer A)) (d s : Sequence A) (l : A) (k : List (Marked A)) → IsRead (go_on_in ls d (parted_by_else p s l)) → read_text (go_on_in ls d (parted_by_else p s l)) k ≡ layers_text ls (text d (construct_text p (text s (with_control l Else ∷ k))))
 else_text (InThen a) ls d s l k h = refl
 else_text _ ls d s l k h = absurd h
 
-catch_text : {A : Type 0} → (p : OpenConstruct A) (ls : List (Layer A)) (d s : Sequence A) (l : A) (t : ℕ) (k : List (Marked A)) → IsRead (go_on_in ls d (parted_by_catch p s l t)) → read_text (go_on_in ls d (parted_by_catch p s l t)) k ≡ layers_text ls (text d (construct_text p (text s (marked l (Catch t) ∷ k))))
+catch_text : {A : Type 0} → (p : OpenConstruct A) (ls : List (Layer A)) (d s : Sequence A) (l : A) (t : ℕ) (k : List (Marked A)) → IsRead (go_on_in ls d (parted_by_catch p s l t)) → read_text (go_on_in ls d (parted_by_catch p s l t)) k ≡ layers_text ls (text d (construct_text p (text s (with_control l (Catch t) ∷ k))))
 catch_text (InTry a) ls d s l t k h = refl
 catch_text (InCatch a b gs i u) ls d s l t k h = refl
 catch_text _ ls d s l t k h = absurd h
 
-catch_all_text : {A : Type 0} → (p : OpenConstruct A) (ls : List (Layer A)) (d s : Sequence A) (l : A) (k : List (Marked A)) → IsRead (go_on_in ls d (parted_by_catch_all p s l)) → read_text (go_on_in ls d (parted_by_catch_all p s l)) k ≡ layers_text ls (text d (construct_text p (text s (marked l CatchAll ∷ k))))
+catch_all_text : {A : Type 0} → (p : OpenConstruct A) (ls : List (Layer A)) (d s : Sequence A) (l : A) (k : List (Marked A)) → IsRead (go_on_in ls d (parted_by_catch_all p s l)) → read_text (go_on_in ls d (parted_by_catch_all p s l)) k ≡ layers_text ls (text d (construct_text p (text s (with_control l CatchAll ∷ k))))
 catch_all_text (InTry a) ls d s l k h = refl
 catch_all_text (InCatch a b gs i u) ls d s l k h = refl
 catch_all_text _ ls d s l k h = absurd h
 
-delegate_text : {A : Type 0} → (p : OpenConstruct A) (ls : List (Layer A)) (d s : Sequence A) (l : A) (n : ℕ) (k : List (Marked A)) → IsRead (go_on_behind ls d (delegated p s l n)) → read_text (go_on_behind ls d (delegated p s l n)) k ≡ layers_text ls (text d (construct_text p (text s (marked l (Delegate n) ∷ k))))
+delegate_text : {A : Type 0} → (p : OpenConstruct A) (ls : List (Layer A)) (d s : Sequence A) (l : A) (n : ℕ) (k : List (Marked A)) → IsRead (go_on_behind ls d (delegated p s l n)) → read_text (go_on_behind ls d (delegated p s l n)) k ≡ layers_text ls (text d (construct_text p (text s (with_control l (Delegate n) ∷ k))))
 delegate_text (InTry a) ls d s l n k h = ap (layers_text ls) (text_behind d (TryDelegate a s l n Empty) k)
 delegate_text _ ls d s l n k h = absurd h
 
-further_within_text : {A : Type 0} → (c : Control) (a : A) (ls : List (Layer A)) (s : Sequence A) (k : List (Marked A)) → IsRead (further_within c a ls s) → read_text (further_within c a ls s) k ≡ layers_text ls (text s (marked a c ∷ k))
+further_within_text : {A : Type 0} → (c : Control) (a : A) (ls : List (Layer A)) (s : Sequence A) (k : List (Marked A)) → IsRead (further_within c a ls s) → read_text (further_within c a ls s) k ≡ layers_text ls (text s (with_control a c ∷ k))
 further_within_text (Does action) a ls s k h = ap (layers_text ls) (text_behind s (Single a action Empty) k)
 further_within_text (Opens x) a ls s k h = ap (λ l. layers_text ls (text s l)) (opened_text a x k)
 further_within_text Else a [] s k h = absurd h

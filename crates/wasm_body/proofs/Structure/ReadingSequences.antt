@@ -1,8 +1,8 @@
 -- A sequence before an operator that ends it is read in one way.
 use Rattle.std.proofs.Common.{◌≡◌, List, [], ◌∷◌, ◌++◌, refl, sym, ap, subst, ◌∙◌}
-use Rattle.wasm_body.specs.Control.{If, Try, Control, Does, Opens, Else, Catch, CatchAll, End, Delegate, Marked, marked}
+use Rattle.wasm_body.specs.Control.{If, Try, Control, Does, Opens, Else, Catch, CatchAll, End, Delegate, Marked, with_control}
 use Rattle.wasm_body.specs.SourceTree.{construct_of, Sequence, Empty, Single, Wrapped, IfThen, IfElse, TryCatch, TryDelegate, Clauses, Ended, Catches, CatchesAll, text, clauses_text}
-use Rattle.wasm_body.specs.TextLaws.{Stops, OneSequence}
+use Rattle.wasm_body.specs.TextLaws.{EndsSequence, OneSequence}
 use Rattle.wasm_body.specs.Parsing.Progress.{Progress, Within, Whole, NoBody, nothing_read, further, progress_behind}
 use Rattle.wasm_body.proofs.Structure.ReadingTrees.{reads}
 
@@ -13,26 +13,26 @@ behind_append (x ∷ xs) ys st = behind_append xs ys (further st x)
 mutual
   text_append : {A : Type 0} → (s : Sequence A) (k m : List (Marked A)) → text s k ++ m ≡ text s (k ++ m)
   text_append Empty k m = refl
-  text_append (Single a action r) k m = ap (λ l. marked a (Does action) ∷ l) (text_append r k m)
+  text_append (Single a action r) k m = ap (λ l. with_control a (Does action) ∷ l) (text_append r k m)
   text_append (Wrapped a w b e r) k m =
-      ap (λ l. marked a (Opens (construct_of w)) ∷ l) (text_append b (marked e End ∷ text r k) m
-      ∙ ap (λ l. text b (marked e End ∷ l)) (text_append r k m))
+      ap (λ l. with_control a (Opens (construct_of w)) ∷ l) (text_append b (with_control e End ∷ text r k) m
+      ∙ ap (λ l. text b (with_control e End ∷ l)) (text_append r k m))
   text_append (IfThen a b e r) k m =
-      ap (λ l. marked a (Opens If) ∷ l) (text_append b (marked e End ∷ text r k) m ∙ ap (λ l. text b (marked e End ∷ l)) (text_append r k m))
+      ap (λ l. with_control a (Opens If) ∷ l) (text_append b (with_control e End ∷ text r k) m ∙ ap (λ l. text b (with_control e End ∷ l)) (text_append r k m))
   text_append (IfElse a b l c e r) k m =
-      ap (λ j. marked a (Opens If) ∷ j) (text_append b (marked l Else ∷ text c (marked e End ∷ text r k)) m
-      ∙ ap (λ j. text b (marked l Else ∷ j)) (text_append c (marked e End ∷ text r k) m ∙ ap (λ j. text c (marked e End ∷ j)) (text_append r k m)))
+      ap (λ j. with_control a (Opens If) ∷ j) (text_append b (with_control l Else ∷ text c (with_control e End ∷ text r k)) m
+      ∙ ap (λ j. text b (with_control l Else ∷ j)) (text_append c (with_control e End ∷ text r k) m ∙ ap (λ j. text c (with_control e End ∷ j)) (text_append r k m)))
   text_append (TryCatch a b cs r) k m =
-      ap (λ l. marked a (Opens Try) ∷ l) (text_append b (clauses_text cs (text r k)) m
+      ap (λ l. with_control a (Opens Try) ∷ l) (text_append b (clauses_text cs (text r k)) m
       ∙ ap (text b) (clauses_append cs (text r k) m ∙ ap (clauses_text cs) (text_append r k m)))
   text_append (TryDelegate a b e n r) k m =
-      ap (λ l. marked a (Opens Try) ∷ l) (text_append b (marked e (Delegate n) ∷ text r k) m
-      ∙ ap (λ l. text b (marked e (Delegate n) ∷ l)) (text_append r k m))
+      ap (λ l. with_control a (Opens Try) ∷ l) (text_append b (with_control e (Delegate n) ∷ text r k) m
+      ∙ ap (λ l. text b (with_control e (Delegate n) ∷ l)) (text_append r k m))
 
   clauses_append : {A : Type 0} → (cs : Clauses A) (k m : List (Marked A)) → clauses_text cs k ++ m ≡ clauses_text cs (k ++ m)
   clauses_append (Ended e) k m = refl
-  clauses_append (Catches h t c cs) k m = ap (λ l. marked h (Catch t) ∷ l) (text_append c (clauses_text cs k) m ∙ ap (text c) (clauses_append cs k m))
-  clauses_append (CatchesAll h c e) k m = ap (λ l. marked h CatchAll ∷ l) (text_append c (marked e End ∷ k) m)
+  clauses_append (Catches h t c cs) k m = ap (λ l. with_control h (Catch t) ∷ l) (text_append c (clauses_text cs k) m ∙ ap (text c) (clauses_append cs k m))
+  clauses_append (CatchesAll h c e) k m = ap (λ l. with_control h CatchAll ∷ l) (text_append c (with_control e End ∷ k) m)
 
 -- two fronts of one list: the same, or one goes on
 data Forked {A : Type 0} (xs : List A) (x : A) (k : List A) (ys : List A) (y : A) (l : List A) : Type 0 where
@@ -59,7 +59,7 @@ IsOut (Within ls s) = ⊥
 IsOut (Whole b) = Unit {0}
 IsOut NoBody = Unit {0}
 
-stops_out : {A : Type 0} → (c : Control) (a : A) (s : Sequence A) → Stops c → IsOut (further (Within [] s) (marked a c))
+stops_out : {A : Type 0} → (c : Control) (a : A) (s : Sequence A) → EndsSequence c → IsOut (further (Within [] s) (with_control a c))
 stops_out (Does action) a s h = h
 stops_out (Opens construct) a s h = h
 stops_out Else a s h = tt
@@ -77,13 +77,13 @@ stays_out (x ∷ m) NoBody h = stays_out m NoBody tt
 sequence_read : {A : Type 0} → (s : Sequence A) → progress_behind nothing_read (text s []) ≡ Within [] s
 sequence_read s = reads s [] Empty []
 
-no_longer : {A : Type 0} → (s t : Sequence A) (x : Marked A) (m : List (Marked A)) → Stops x.control → text t [] ≡ text s [] ++ x ∷ m → ⊥
+no_longer : {A : Type 0} → (s t : Sequence A) (x : Marked A) (m : List (Marked A)) → EndsSequence x.control → text t [] ≡ text s [] ++ x ∷ m → ⊥
 no_longer s t x m h e =
     let far : progress_behind nothing_read (text t []) ≡ progress_behind (further (Within [] s) x) m =
     ap (progress_behind nothing_read) e ∙ (behind_append (text s []) (x ∷ m) nothing_read ∙ ap (λ st. progress_behind st (x ∷ m)) (sequence_read s)) in
     subst IsOut (sym far ∙ sequence_read t) (stays_out m (further (Within [] s) x) (stops_out x.control x.shown s h))
 
-one_of_forked : {A : Type 0} → (s t : Sequence A) (x y : Marked A) (k l : List (Marked A)) → Stops x.control → Stops y.control
+one_of_forked : {A : Type 0} → (s t : Sequence A) (x y : Marked A) (k l : List (Marked A)) → EndsSequence x.control → EndsSequence y.control
     → Forked (text s []) x k (text t []) y l → (s ≡ t) × (x ≡ y) × (k ≡ l)
 one_of_forked s t x y k l h g (same p q r) =
     let d : Within [] s ≡ Within [] t = sym (sequence_read s) ∙ (ap (progress_behind nothing_read) p ∙ sequence_read t) in

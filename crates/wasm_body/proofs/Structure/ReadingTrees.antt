@@ -1,6 +1,6 @@
 -- The text of a body is read as that body, and so as no other.
 use Rattle.std.proofs.Common.{◌≡◌, ℕ, List, [], ◌∷◌, refl, sym, ap, ◌∙◌}
-use Rattle.wasm_body.specs.Control.{Else, Catch, CatchAll, End, Delegate, Marked, marked}
+use Rattle.wasm_body.specs.Control.{Else, Catch, CatchAll, End, Delegate, Marked, with_control}
 use Rattle.wasm_body.specs.SourceTree.{Wrapper, OfBlock, OfLoop, OfTryTable, construct_of, Sequence, Empty, Single, Wrapped, IfThen, IfElse, TryCatch, TryDelegate, Clauses, Ended, Catches, CatchesAll, text, clauses_text, Body, body_text}
 use Rattle.wasm_body.specs.TextLaws.{OneBody}
 use Rattle.wasm_body.specs.Parsing.Progress.{append, ClosedClause, closed_clause, behind_closed, InThen, InElse, InTry, InCatch, InCatchAll, Layer, layer, Progress, Within, Whole, nothing_read, opened, closed, further, progress_behind}
@@ -37,15 +37,15 @@ abbrev pub trying : {A : Type 0} → List (Layer A) → Sequence A → A → Seq
 trying ls d a b [] = Within (layer d (InTry a) ∷ ls) b
 trying ls d a b (g ∷ gs) = Within (layer d (InCatch a b gs g.mark g.tag) ∷ ls) g.body
 
-try_ends : {A : Type 0} → (ls : List (Layer A)) (d : Sequence A) (a e : A) (b : Sequence A) (gs : List (ClosedClause A)) → further (trying ls d a b gs) (marked e End) ≡ Within ls (append d (TryCatch a b (behind_closed gs (Ended e)) Empty))
+try_ends : {A : Type 0} → (ls : List (Layer A)) (d : Sequence A) (a e : A) (b : Sequence A) (gs : List (ClosedClause A)) → further (trying ls d a b gs) (with_control e End) ≡ Within ls (append d (TryCatch a b (behind_closed gs (Ended e)) Empty))
 try_ends ls d a e b [] = refl
 try_ends ls d a e b (g ∷ gs) = refl
 
-try_catches : {A : Type 0} → (ls : List (Layer A)) (d : Sequence A) (a h : A) (t : ℕ) (b : Sequence A) (gs : List (ClosedClause A)) → further (trying ls d a b gs) (marked h (Catch t)) ≡ Within (layer d (InCatch a b gs h t) ∷ ls) Empty
+try_catches : {A : Type 0} → (ls : List (Layer A)) (d : Sequence A) (a h : A) (t : ℕ) (b : Sequence A) (gs : List (ClosedClause A)) → further (trying ls d a b gs) (with_control h (Catch t)) ≡ Within (layer d (InCatch a b gs h t) ∷ ls) Empty
 try_catches ls d a h t b [] = refl
 try_catches ls d a h t b (g ∷ gs) = refl
 
-try_catches_all : {A : Type 0} → (ls : List (Layer A)) (d : Sequence A) (a h : A) (b : Sequence A) (gs : List (ClosedClause A)) → further (trying ls d a b gs) (marked h CatchAll) ≡ Within (layer d (InCatchAll a b gs h) ∷ ls) Empty
+try_catches_all : {A : Type 0} → (ls : List (Layer A)) (d : Sequence A) (a h : A) (b : Sequence A) (gs : List (ClosedClause A)) → further (trying ls d a b gs) (with_control h CatchAll) ≡ Within (layer d (InCatchAll a b gs h) ∷ ls) Empty
 try_catches_all ls d a h b [] = refl
 try_catches_all ls d a h b (g ∷ gs) = refl
 
@@ -55,19 +55,19 @@ mutual
   reads Empty ls p k = ap (λ q. progress_behind (Within ls q) k) (sym (append_nil p))
   reads (Single a action r) ls p k = reads r ls (append p (Single a action Empty)) k ∙ joined ls p (Single a action Empty) r k
   reads (Wrapped a w b e r) ls p k =
-      reads b (layer p (opened a (construct_of w)) ∷ ls) Empty (marked e End ∷ text r k)
+      reads b (layer p (opened a (construct_of w)) ∷ ls) Empty (with_control e End ∷ text r k)
       ∙ (ap (λ c. progress_behind (Within ls (append p c)) (text r k)) (wrap_closed a e w b)
       ∙ (reads r ls (append p (Wrapped a w b e Empty)) k ∙ joined ls p (Wrapped a w b e Empty) r k))
   reads (IfThen a b e r) ls p k =
-      reads b (layer p (InThen a) ∷ ls) Empty (marked e End ∷ text r k) ∙ (reads r ls (append p (IfThen a b e Empty)) k ∙ joined ls p (IfThen a b e Empty) r k)
+      reads b (layer p (InThen a) ∷ ls) Empty (with_control e End ∷ text r k) ∙ (reads r ls (append p (IfThen a b e Empty)) k ∙ joined ls p (IfThen a b e Empty) r k)
   reads (IfElse a b l c e r) ls p k =
-      reads b (layer p (InThen a) ∷ ls) Empty (marked l Else ∷ text c (marked e End ∷ text r k))
-      ∙ (reads c (layer p (InElse a b l) ∷ ls) Empty (marked e End ∷ text r k) ∙ (reads r ls (append p (IfElse a b l c e Empty)) k ∙ joined ls p (IfElse a b l c e Empty) r k))
+      reads b (layer p (InThen a) ∷ ls) Empty (with_control l Else ∷ text c (with_control e End ∷ text r k))
+      ∙ (reads c (layer p (InElse a b l) ∷ ls) Empty (with_control e End ∷ text r k) ∙ (reads r ls (append p (IfElse a b l c e Empty)) k ∙ joined ls p (IfElse a b l c e Empty) r k))
   reads (TryCatch a b cs r) ls p k =
       reads b (layer p (InTry a) ∷ ls) Empty (clauses_text cs (text r k))
       ∙ (reads_clauses cs ls p a b [] (text r k) ∙ (reads r ls (append p (TryCatch a b cs Empty)) k ∙ joined ls p (TryCatch a b cs Empty) r k))
   reads (TryDelegate a b e n r) ls p k =
-      reads b (layer p (InTry a) ∷ ls) Empty (marked e (Delegate n) ∷ text r k) ∙ (reads r ls (append p (TryDelegate a b e n Empty)) k ∙ joined ls p (TryDelegate a b e n Empty) r k)
+      reads b (layer p (InTry a) ∷ ls) Empty (with_control e (Delegate n) ∷ text r k) ∙ (reads r ls (append p (TryDelegate a b e n Empty)) k ∙ joined ls p (TryDelegate a b e n Empty) r k)
 
   pub reads_clauses : {A : Type 0} → (cs : Clauses A) (ls : List (Layer A)) (d : Sequence A) (a : A) (b : Sequence A) (gs : List (ClosedClause A)) (k : List (Marked A)) → progress_behind (trying ls d a b gs) (clauses_text cs k) ≡ progress_behind (Within ls (append d (TryCatch a b (behind_closed gs cs) Empty))) k
   reads_clauses (Ended e) ls d a b gs k = ap (λ st. progress_behind st k) (try_ends ls d a e b gs)
@@ -75,10 +75,10 @@ mutual
       ap (λ st. progress_behind st (text c (clauses_text cs k))) (try_catches ls d a h t b gs)
       ∙ (reads c (layer d (InCatch a b gs h t) ∷ ls) Empty (clauses_text cs k) ∙ reads_clauses cs ls d a b (closed_clause h t c ∷ gs) k)
   reads_clauses (CatchesAll h c e) ls d a b gs k =
-      ap (λ st. progress_behind st (text c (marked e End ∷ k))) (try_catches_all ls d a h b gs) ∙ reads c (layer d (InCatchAll a b gs h) ∷ ls) Empty (marked e End ∷ k)
+      ap (λ st. progress_behind st (text c (with_control e End ∷ k))) (try_catches_all ls d a h b gs) ∙ reads c (layer d (InCatchAll a b gs h) ∷ ls) Empty (with_control e End ∷ k)
 
 pub body_read : {A : Type 0} → (b : Body A) → progress_behind nothing_read (body_text b) ≡ Whole b
-body_read b = reads b.sequence [] Empty (marked b.close End ∷ [])
+body_read b = reads b.sequence [] Empty (with_control b.close End ∷ [])
 
 -- a text is that of one body
 pub one_body : {A : Type 0} → OneBody A

@@ -1,45 +1,45 @@
 -- The text of a tree with something else shown is its text with something else shown.
 use Rattle.std.proofs.Common.{◌≡◌, List, [], ◌∷◌, map, refl, sym, ap, ◌∙◌}
-use Rattle.wasm_body.specs.Control.{Does, Opens, Else, Catch, CatchAll, End, Delegate, If, Try, Marked, marked}
-use Rattle.wasm_body.specs.SourceTree.{Sequence, Empty, Single, Wrapped, IfThen, IfElse, TryCatch, TryDelegate, Clauses, Ended, Catches, CatchesAll, construct_of, text, clauses_text, Body, reshown, reshown_clauses}
+use Rattle.wasm_body.specs.Control.{Does, Opens, Else, Catch, CatchAll, End, Delegate, If, Try, Marked, with_control}
+use Rattle.wasm_body.specs.SourceTree.{Sequence, Empty, Single, Wrapped, IfThen, IfElse, TryCatch, TryDelegate, Clauses, Ended, Catches, CatchesAll, construct_of, text, clauses_text, Body, map_sequence, map_clauses}
 use Rattle.wasm_body.specs.Naming.{Occurrence}
 use Rattle.wasm_body.specs.Parsing.Accepted.{mark, IsBody}
 use Rattle.wasm_body.specs.NormalForm.{name_at, named_body}
 use Rattle.wasm_body.specs.TextLaws.{mark_named, IsNamedBody}
 
 abbrev pub remarked : {A B : Type 0} → (A → B) → Marked A → Marked B
-remarked f x = marked (f x.shown) x.control
+remarked f x = with_control (f x.shown) x.control
 
 mutual
   pub text_reshown : {A B : Type 0} → (g : A → B) (s : Sequence A) (k : List (Marked A))
-      → text (reshown g s) (map (remarked g) k) ≡ map (remarked g) (text s k)
+      → text (map_sequence g s) (map (remarked g) k) ≡ map (remarked g) (text s k)
   text_reshown g Empty k = refl
-  text_reshown g (Single a action r) k = ap (λ l. marked (g a) (Does action) ∷ l) (text_reshown g r k)
+  text_reshown g (Single a action r) k = ap (λ l. with_control (g a) (Does action) ∷ l) (text_reshown g r k)
   text_reshown g (Wrapped a w b e r) k =
-      ap (λ l. marked (g a) (Opens (construct_of w)) ∷ text (reshown g b) (marked (g e) End ∷ l)) (text_reshown g r k)
-      ∙ ap (λ l. marked (g a) (Opens (construct_of w)) ∷ l) (text_reshown g b (marked e End ∷ text r k))
+      ap (λ l. with_control (g a) (Opens (construct_of w)) ∷ text (map_sequence g b) (with_control (g e) End ∷ l)) (text_reshown g r k)
+      ∙ ap (λ l. with_control (g a) (Opens (construct_of w)) ∷ l) (text_reshown g b (with_control e End ∷ text r k))
   text_reshown g (IfThen a b e r) k =
-      ap (λ l. marked (g a) (Opens If) ∷ text (reshown g b) (marked (g e) End ∷ l)) (text_reshown g r k)
-      ∙ ap (λ l. marked (g a) (Opens If) ∷ l) (text_reshown g b (marked e End ∷ text r k))
+      ap (λ l. with_control (g a) (Opens If) ∷ text (map_sequence g b) (with_control (g e) End ∷ l)) (text_reshown g r k)
+      ∙ ap (λ l. with_control (g a) (Opens If) ∷ l) (text_reshown g b (with_control e End ∷ text r k))
   text_reshown g (IfElse a b l c e r) k =
-      ap (λ x. marked (g a) (Opens If) ∷ text (reshown g b) (marked (g l) Else ∷ text (reshown g c) (marked (g e) End ∷ x))) (text_reshown g r k)
-      ∙ (ap (λ x. marked (g a) (Opens If) ∷ text (reshown g b) (marked (g l) Else ∷ x)) (text_reshown g c (marked e End ∷ text r k))
-      ∙ ap (λ x. marked (g a) (Opens If) ∷ x) (text_reshown g b (marked l Else ∷ text c (marked e End ∷ text r k))))
+      ap (λ x. with_control (g a) (Opens If) ∷ text (map_sequence g b) (with_control (g l) Else ∷ text (map_sequence g c) (with_control (g e) End ∷ x))) (text_reshown g r k)
+      ∙ (ap (λ x. with_control (g a) (Opens If) ∷ text (map_sequence g b) (with_control (g l) Else ∷ x)) (text_reshown g c (with_control e End ∷ text r k))
+      ∙ ap (λ x. with_control (g a) (Opens If) ∷ x) (text_reshown g b (with_control l Else ∷ text c (with_control e End ∷ text r k))))
   text_reshown g (TryCatch a b cs r) k =
-      ap (λ l. marked (g a) (Opens Try) ∷ text (reshown g b) (clauses_text (reshown_clauses g cs) l)) (text_reshown g r k)
-      ∙ (ap (λ l. marked (g a) (Opens Try) ∷ text (reshown g b) l) (clauses_reshown g cs (text r k))
-      ∙ ap (λ l. marked (g a) (Opens Try) ∷ l) (text_reshown g b (clauses_text cs (text r k))))
+      ap (λ l. with_control (g a) (Opens Try) ∷ text (map_sequence g b) (clauses_text (map_clauses g cs) l)) (text_reshown g r k)
+      ∙ (ap (λ l. with_control (g a) (Opens Try) ∷ text (map_sequence g b) l) (clauses_reshown g cs (text r k))
+      ∙ ap (λ l. with_control (g a) (Opens Try) ∷ l) (text_reshown g b (clauses_text cs (text r k))))
   text_reshown g (TryDelegate a b e n r) k =
-      ap (λ l. marked (g a) (Opens Try) ∷ text (reshown g b) (marked (g e) (Delegate n) ∷ l)) (text_reshown g r k)
-      ∙ ap (λ l. marked (g a) (Opens Try) ∷ l) (text_reshown g b (marked e (Delegate n) ∷ text r k))
+      ap (λ l. with_control (g a) (Opens Try) ∷ text (map_sequence g b) (with_control (g e) (Delegate n) ∷ l)) (text_reshown g r k)
+      ∙ ap (λ l. with_control (g a) (Opens Try) ∷ l) (text_reshown g b (with_control e (Delegate n) ∷ text r k))
 
   clauses_reshown : {A B : Type 0} → (g : A → B) (cs : Clauses A) (k : List (Marked A))
-      → clauses_text (reshown_clauses g cs) (map (remarked g) k) ≡ map (remarked g) (clauses_text cs k)
+      → clauses_text (map_clauses g cs) (map (remarked g) k) ≡ map (remarked g) (clauses_text cs k)
   clauses_reshown g (Ended e) k = refl
   clauses_reshown g (Catches a t b cs) k =
-      ap (λ l. marked (g a) (Catch t) ∷ text (reshown g b) l) (clauses_reshown g cs k)
-      ∙ ap (λ l. marked (g a) (Catch t) ∷ l) (text_reshown g b (clauses_text cs k))
-  clauses_reshown g (CatchesAll a b e) k = ap (λ l. marked (g a) CatchAll ∷ l) (text_reshown g b (marked e End ∷ k))
+      ap (λ l. with_control (g a) (Catch t) ∷ text (map_sequence g b) l) (clauses_reshown g cs k)
+      ∙ ap (λ l. with_control (g a) (Catch t) ∷ l) (text_reshown g b (clauses_text cs k))
+  clauses_reshown g (CatchesAll a b e) k = ap (λ l. with_control (g a) CatchAll ∷ l) (text_reshown g b (with_control e End ∷ k))
 
 marks_named : (xs : List Occurrence) → map mark_named (map name_at xs) ≡ map (remarked name_at) (map mark xs)
 marks_named [] = refl
@@ -47,4 +47,4 @@ marks_named (x ∷ xs) = ap (λ l. mark_named (name_at x) ∷ l) (marks_named xs
 
 -- operators that are a body are it also by their names
 pub is_named_body : (xs : List Occurrence) (b : Body Occurrence) → IsBody xs b → IsNamedBody (map name_at xs) (named_body b)
-is_named_body xs b h = marks_named xs ∙ (ap (map (remarked name_at)) h ∙ sym (text_reshown name_at b.sequence (marked b.close End ∷ [])))
+is_named_body xs b h = marks_named xs ∙ (ap (map (remarked name_at)) h ∙ sym (text_reshown name_at b.sequence (with_control b.close End ∷ [])))

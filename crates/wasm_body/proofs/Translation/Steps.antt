@@ -1,7 +1,7 @@
 -- Answers of several steps: what an answer came from, and steps that answer the same.
 use Rattle.std.proofs.Common.{◌≡◌, suc, length, List, [], ◌∷◌, Result, Ok, Err, refl, sym, ap, ◌∙◌}
 use Rattle.std.specs.List.{AllByRecursion}
-use Rattle.wasm_body.specs.Results.{◌>>=◌, each, sure}
+use Rattle.walrus_ir.specs.Results.{◌>>=◌, each, sure}
 
 -- What the first step answered, and that the others answered q.
 pub bound : {A P E : Type 0} → (r : Result A E) (next : A → Result P E) (q : P) → (r >>= next) ≡ Ok q → (x : A) × (r ≡ Ok x) × (next x ≡ Ok q)

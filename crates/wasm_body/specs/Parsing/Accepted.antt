@@ -6,11 +6,11 @@ use Rattle.wasm_ops.specs.Spelling.{Spells, read_operation}
 use Rattle.wasm_body.specs.declared.error.ParseError.{ParseError}
 use Rattle.wasm_body.specs.declared.error.ParseError.TheVariants.{Read, PlaceTooGreat, Checked, Trailing, MissingEnd}
 use Rattle.wasm_body.specs.declared.error.ParseFailure.{ParseFailure}
-use Rattle.wasm_body.specs.Results.{◌>>=◌, unless, faulting}
-use Rattle.wasm_body.specs.Control.{Marked, marked, control_of, end_operation}
+use Rattle.walrus_ir.specs.Results.{◌>>=◌, unless, with_fault}
+use Rattle.wasm_body.specs.Control.{Marked, with_control, control_of, end_operation}
 use Rattle.wasm_body.specs.SourceTree.{Body, body_text}
 use Rattle.wasm_body.specs.Frames.{Frame, Rule, BodyFollows, function_frames, frames_behind}
-use Rattle.wasm_body.specs.Naming.{Environment, Occurrence, named_in, entry_of}
+use Rattle.wasm_body.specs.Naming.{Environment, Occurrence, named_in, entry_type_id}
 
 -- ---- operators as they occur
 
@@ -22,7 +22,7 @@ abbrev pub HasSpelling : Occurrence → Type 0
 HasSpelling x = (text : List ℕ) × Spells x.spelt text
 
 abbrev pub mark : Occurrence → Marked Occurrence
-mark x = marked x (control_of x.named)
+mark x = with_control x (control_of x.named)
 
 -- The operators are this body.
 abbrev pub IsBody : List Occurrence → Body Occurrence → Type 0
@@ -34,7 +34,7 @@ IsNamed env fs x = named_in env fs x.shown.spelt ≡ Ok x.shown.named
 
 -- The operators are this body, they have their names in it, and the function's own type is in order.
 pub record Lawful (env : Environment) (xs : List Occurrence) (body : Body Occurrence) : Type 0 where
-  pub entry : IsOk (entry_of env)
+  pub entry : IsOk (entry_type_id env)
   pub is_body : IsBody xs body
   pub named : BodyFollows (IsNamed env) body
 
@@ -95,9 +95,9 @@ pub record Handled (V : Type 0) : Type 0 where
 -- rules are tried. The first that fails is its fault.
 abbrev pub handled : {V : Type 0} → Setting V → V → List (Frame Occurrence) → ℕ → List ℕ → Result (Handled V) ParseError
 handled given v fs place bytes =
-    faulting (λ fault. Read (record { fault = fault; at = place })) (read_operation bytes) >>= λ x.
+    with_fault (λ fault. Read (record { fault = fault; at = place })) (read_operation bytes) >>= λ x.
     unless (has_location given.locations place) PlaceTooGreat >>= λ _.
-    faulting Checked (given.check v (record { spelt = x.0; place = place })) >>= λ w.
+    with_fault Checked (given.check v (record { spelt = x.0; place = place })) >>= λ w.
     named_in given.environment fs x.0 >>= λ named.
     Ok (record {
       operator = record { spelt = x.0; place = place; location = location_at given.locations place; named = named };
@@ -136,5 +136,5 @@ pub record FaultAfterFront {V : Type 0} (given : Setting V) (bytes : List ℕ) (
 
 -- The first fault of the bytes, and its place: the function's type is at fault, or what lies behind a front that stands.
 pub data FirstFault {V : Type 0} (given : Setting V) (bytes : List ℕ) (failure : ParseFailure) : Type 0 where
-  of_entry : entry_of given.environment ≡ Err failure.error → failure.at ≡ given.start → FirstFault given bytes failure
+  of_entry : entry_type_id given.environment ≡ Err failure.error → failure.at ≡ given.start → FirstFault given bytes failure
   of_operators : FaultAfterFront given bytes failure → FirstFault given bytes failure

@@ -5,7 +5,7 @@ use Rattle.wasm_body.specs.declared.error.ParseError.{ParseError}
 use Rattle.wasm_body.specs.declared.error.ParseError.TheVariants.{Trailing, MissingEnd, Memory}
 use Rattle.wasm_body.specs.declared.error.ParseFailure.{ParseFailure}
 use Rattle.wasm_body.specs.SourceTree.{Body}
-use Rattle.wasm_body.specs.Naming.{Occurrence, entry_of}
+use Rattle.wasm_body.specs.Naming.{Occurrence, entry_type_id}
 use Rattle.wasm_body.specs.Parsing.Accepted.{mark, Setting, Handled, handled}
 use Rattle.wasm_body.specs.Parsing.Progress.{Progress, Within, Whole, NoBody, nothing_read, frames_of, further}
 
@@ -32,4 +32,4 @@ parsed_behind_entry given (Err error) bytes = Err (failure error given.start)
 parsed_behind_entry given (Ok id) bytes = parsed_from given (length bytes) nothing_read given.first given.start bytes
 
 abbrev pub parsed : {V : Type 0} → Setting V → List ℕ → Result (Body Occurrence) ParseFailure
-parsed given bytes = parsed_behind_entry given (entry_of given.environment) bytes
+parsed given bytes = parsed_behind_entry given (entry_type_id given.environment) bytes

@@ -1,11 +1,11 @@
 -- The instructions so far were told, and none of them holds sequences.
 use Rattle.std.proofs.Common.{length, List}
-use Rattle.walrus_ir.specs.Events.{Event, Folds}
+use Rattle.walrus_ir.specs.Events.{WalkEvent, Folds}
 use Rattle.walrus_ir.specs.Telling.{IsToldStretch}
 use Rattle.walrus_ir.proofs.walk.tell_stretch.Given as goal
 
 abbrev pub invariant-stretch : goal.invariant-stretch
-invariant-stretch g l = IsToldStretch l.fn.instrs l.left 0 (λ (es : List Event). Folds g.V.Visitor.steps l.fn.visitor es l.visitor)
+invariant-stretch g l = IsToldStretch l.fn.instrs l.left 0 (λ (es : List WalkEvent). Folds g.V.Visitor.steps l.fn.visitor es l.visitor)
 
 abbrev pub decreases-stretch : goal.decreases-stretch
 decreases-stretch g l = length l.left

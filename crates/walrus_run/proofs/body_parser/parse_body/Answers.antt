@@ -1,7 +1,7 @@
 use Rattle.std.proofs.Common.{inr, ap, sym, subst, ◌∙◌, Err}
 use Rattle.wasm_body.specs.declared.error.ParseError.TheVariants.{EntryTypeMissing}
 use Rattle.walrus_body.specs.Environments.{environment_of}
-use Rattle.wasm_body.specs.Results.{some_or}
+use Rattle.walrus_ir.specs.Results.{some_or}
 use Rattle.walrus_run.specs.BodyParsing.{Parses}
 use Rattle.walrus_run.specs.Parsers.{env_of}
 use Rattle.walrus_run.proofs.FirstParsers.{entry_found, refused_entry, behind_entry}

@@ -1,7 +1,7 @@
 use Rattle.std.proofs.Common.{◌≡◌, ◌<◌, ◌+◌, ◌-◌, ◌++◌, ◌∷◌, [], length, Some, slice_get, refl, ap, sym, ◌∙◌, arith, inr, cond, OnErr, Result, Ok, Err}
 use Rattle.std.proofs.lemmas.Option.{slice_get-get_or}
 use Rattle.std.proofs.lemmas.Result.{on_ok_weaker}
-use Rattle.walrus_ir.specs.Unfolding.{Located}
+use Rattle.walrus_ir.specs.Unfolding.{LocatedInstr}
 use Rattle.walrus_body.specs.Parsing.OpenFrames.{frame_with, changed_at, with_instr}
 use Rattle.walrus_body.proofs.Parsing.FrameLists.{count, get, set_list, unchanged_at}
 use Rattle.walrus_body.proofs.local_function.own_lists.FrameStack.append.Goals as goal
@@ -57,7 +57,7 @@ returns-clause-ok c =
     let l = c.index_mut.result.now in
     let k = c.pushed.new.list in
     let in_lists : slice_get inside.lists.items i ≡ Some l = slice_get-get_or inside.lists.items i l (omega arith) ∙ ap Some (sym c.index_mut.ensures.value) in
-    let x : Located = (c.args.instr, c.args.location) in
+    let x : LocatedInstr = (c.args.instr, c.args.location) in
     on_ok_weaker c.pushed.result (λ more. (
       omega arith,
       set_list (with_instr x) [] inside.controls.items inside.lists.items i c.args.n f l k same is at in_lists

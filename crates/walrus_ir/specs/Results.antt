@@ -15,9 +15,9 @@ some_or (Some x) e = Ok x
 some_or None e = Err e
 
 -- the same answer, with another fault
-abbrev pub faulting : {A E F : Type 0} → (E → F) → Result A E → Result A F
-faulting f (Ok x) = Ok x
-faulting f (Err e) = Err (f e)
+abbrev pub with_fault : {A E F : Type 0} → (E → F) → Result A E → Result A F
+with_fault f (Ok x) = Ok x
+with_fault f (Err e) = Err (f e)
 
 -- what each answers
 abbrev pub each : {A B E : Type 0} → (A → Result B E) → List A → Result (List B) E
@@ -25,9 +25,9 @@ each f [] = Ok []
 each f (x ∷ xs) = f x >>= λ y. each f xs >>= λ ys. Ok (y ∷ ys)
 
 -- what all of them answered
-abbrev pub gathered : {A E : Type 0} → List (Result A E) → Result (List A) E
-gathered [] = Ok []
-gathered (r ∷ rs) = r >>= λ x. gathered rs >>= λ xs. Ok (x ∷ xs)
+abbrev pub gather : {A E : Type 0} → List (Result A E) → Result (List A) E
+gather [] = Ok []
+gather (r ∷ rs) = r >>= λ x. gather rs >>= λ xs. Ok (x ∷ xs)
 
 -- the answer, where there is no fault
 abbrev pub sure : {A : Type 0} → Result A ⊥ → A
