@@ -13,11 +13,11 @@ use Rattle.wasm_body.specs.Control.{end_operation}
 use Rattle.wasm_body.specs.SourceTree.{Sequence, Empty, Body}
 use Rattle.wasm_body.specs.Frames.{Frame}
 use Rattle.wasm_body.specs.Naming.{Environment, NamedOperation, Occurrence, named_in}
-use Rattle.wasm_body.specs.Parsing.Accepted.{mark, has_location, Handled, handled}
+use Rattle.wasm_body.specs.Parsing.Accepted.{mark, has_location, Handled, handled, accepting}
 use Rattle.wasm_body.specs.Parsing.Lists.{failure, behind, parsed_from}
 use Rattle.wasm_body.specs.Parsing.Progress.{Layer, Progress, Within, Whole, NoBody, frames_of, further}
 use Rattle.walrus_run.specs.declared.parser.Parser.{Parser}
-use Rattle.walrus_run.specs.BodyParsing.{accepting, read_next, parsed_operators}
+use Rattle.walrus_run.specs.BodyParsing.{read_next, parsed_operators}
 use Rattle.walrus_run.specs.Parsers.{env_of, Keeps, KeepsProgress, occurrence}
 
 pub record SoFar (env : Environment) (start : ℕ) (bytes : List ℕ) (p : Parser) (place : ℕ) (rest : List ℕ) : Type 0 where

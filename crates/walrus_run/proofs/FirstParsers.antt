@@ -17,9 +17,10 @@ use Rattle.wasm_body.specs.NormalForm.{entry_type}
 use Rattle.wasm_body.specs.declared.error.ParseFailure.{ParseFailure}
 use Rattle.walrus_ir.specs.declared.builder.FunctionBuilder.{FunctionBuilder}
 use Rattle.wasm_body.specs.Parsing.Lists.{failure, parsed_behind_entry, parsed}
-use Rattle.walrus_run.specs.BodyParsing.{accepting, Parses, ParsesBody}
+use Rattle.walrus_run.specs.BodyParsing.{Parses, ParsesBody}
 use Rattle.walrus_run.specs.declared.parser.Parser.{Parser}
 use Rattle.walrus_run.specs.Parsers.{env_of, Keeps}
+use Rattle.wasm_body.specs.Parsing.Accepted.{accepting}
 
 -- ---- a parser
 

@@ -31,11 +31,12 @@ use Rattle.wasm_body.proofs.Bytes.NumberedBodies.{HasText, body_bytes_ok}
 use Rattle.walrus_run.specs.declared.error.RewriteError.{RewriteError}
 use Rattle.walrus_run.specs.declared.error.RewriteError.TheVariants.{Parse}
 use Rattle.walrus_run.specs.BodyParsing.{IsFunction, ParsesBody}
-use Rattle.walrus_run.specs.Rewriting.{IsNormalBytes, IsRewritten, WantsMemory, IsFaulty, IsParsedAndWritten, IsRefused}
+use Rattle.walrus_run.specs.Rewriting.{IsNormalBytes, IsRewritten, WantsMemory, IsFaulty}
 use Rattle.walrus_run.specs.Demo.{demo_module, demo_indices, demo_environment, demo, demo_numbers}
 use Rattle.walrus_run.specs.Encoding.{AreCarried, Encodes}
 use Rattle.walrus_run.proofs.DemoNumbers.{demo_has_numbers}
 use Rattle.walrus_run.proofs.CarriedTrees.{listed_texts, body_carried}
+use Rattle.walrus_run.specs.RewritingOnLists.{IsParsedAndWritten, IsRefused}
 
 abbrev pub demo_tree : Body Occurrence → FunctionTree
 demo_tree b = normal_form (typing_of demo_environment) (named_body b)

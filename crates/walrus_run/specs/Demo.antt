@@ -11,9 +11,8 @@ use Rattle.walrus_body.specs.declared.indices_to_ids.IndicesToIds.{IndicesToIds}
 use Rattle.walrus_body.specs.IndexMaps.{ids_in}
 use Rattle.walrus_body.specs.Environments.{environment_of}
 use Rattle.wasm_body.specs.Naming.{Environment}
-use Rattle.wasm_body.specs.Parsing.Accepted.{Setting}
+use Rattle.wasm_body.specs.Parsing.Accepted.{Setting, accepting}
 use Rattle.wasm_body.specs.Bytes.{Numbers}
-use Rattle.walrus_run.specs.BodyParsing.{accepting}
 
 -- The last type is that of the entry of a function without results.
 abbrev pub demo_types : List ModuleType

@@ -11,8 +11,9 @@ ghost use Rattle.walrus_run.specs.declared.error.RewriteError.TheVariants.{Parse
 ghost use Rattle.walrus_run.specs.BodyParsing.{IsFunction};
 ghost use Rattle.walrus_run.specs.Demo.{demo, demo_module, demo_indices, demo_numbers};
 ghost use Rattle.walrus_run.specs.Encoding.{AreCarried};
-ghost use Rattle.walrus_run.specs.Rewriting.{IsNormalBytes, IsRewritten, WantsMemory, IsFaulty, IsParsedAndWritten, IsRefused};
+ghost use Rattle.walrus_run.specs.Rewriting.{IsNormalBytes, IsRewritten, WantsMemory, IsFaulty};
 ghost use Rattle.walrus_run.specs.Writing.{numbers_of};
+ghost use Rattle.walrus_run.specs.RewritingOnLists.{IsParsedAndWritten, IsRefused};
 
 use crate::body_parser::parse_body;
 use crate::demo;
