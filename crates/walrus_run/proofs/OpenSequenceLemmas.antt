@@ -259,7 +259,7 @@ closed_block env b c seq f around s a e k o w type instrs end_is =
     λ i. record { op = sym o.operator i; clauses = []; location = o.location i } in
     let top : head_of seq ≡ head (construct_type (typing_of env) a.named) e.location = λ i. record { type = type i; end_location = end_is i } in
     record {
-      items = item (the_block f.place, f.opened_at) (sequence (record { place = f.place; seq = seq }) k.items no_sequences) no_items;
+      items = item (the_block f.place, f.opened_at) (sequence (record { slot = f.place; seq = seq }) k.items no_sequences) no_items;
       are_items = are_items (are_sequences w.here inside are_no_sequences) are_no_items;
       rise = (length c, (length c, (let n : f.place ≤ f.place = omega arith in n), wide, (let n : length c ≤ length c = omega arith in n)), (let n : length c ≤ length c = omega arith in n));
       is_normal = λ i. item (op i) (sequence (top i) (k.is_normal i) no_sequences) no_items;
@@ -298,7 +298,7 @@ closes_body env b c seq f s e w type instrs end_is h =
     let inside : AreItems c seq.instrs.items k.items = subst (λ xs. AreItems c xs k.items) (sym instrs) (items-same c (suc f.place) (length b) (λ p l m. w.elsewhere p (λ q. let d : p ≡ f.place = q in omega arith)) k.rise k.are_items) in
     let stands : slice_get c 0 ≡ Some seq = subst (λ p. slice_get c p ≡ Some seq) h.2 w.here in
     let at_first : RiseIn 1 k.items (length c) = subst (λ p. RiseIn (suc p) k.items (length c)) h.2 wide in
-    let top : SequenceAt = record { place = 0; seq = seq } in
+    let top : SequenceAt = record { slot = 0; seq = seq } in
     record {
       unfolded = record { head = top; items = k.items };
       is_tree = record {

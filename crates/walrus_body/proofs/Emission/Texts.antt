@@ -128,7 +128,7 @@ is_closed around (instr.IfElse x) (are_sequences e i (are_sequences d j are_no_s
 is_closed around (instr.TryTable x) (are_sequences e i are_no_sequences) l = record { same = λ w k. refl; closed = tt }
 is_closed around (instr.Try x) (are_sequences {seq = seq} {items = js} e i s) l = record {
   same = λ w k. refl;
-  closed = all_closed x.catches.items s l (record { place = x.seq; seq = seq }) js;
+  closed = all_closed x.catches.items s l (record { slot = x.seq; seq = seq }) js;
 }
 is_closed around i s l = subst (IsClosed around i) (sym (none_inside s)) (record { same = λ w k. refl; closed = tt })
 

@@ -127,7 +127,7 @@ sequence_closed env b c low f around before p s location k o w =
     (items-same c (suc f.sequence) (length b) (λ q l h. w.written.elsewhere q (λ e. let d : q ≡ f.sequence = e in omega arith)) k.rise k.are_items) in
     let others : AreSequences c before o.inside = sequences-same c low f.sequence (λ q l h. w.written.elsewhere q (λ e. let d : q ≡ f.sequence = e in omega arith)) o.rise o.are_sequences in
     let wide : RiseIn (suc f.sequence) k.items (length c) = subst (RiseIn (suc f.sequence) k.items) (sym w.written.as_many) k.rise in
-    let last : Sequences SequenceAt LocatedInstr = sequence (record { place = f.sequence; seq = w.seq }) k.items no_sequences in
+    let last : Sequences SequenceAt LocatedInstr = sequence (record { slot = f.sequence; seq = w.seq }) k.items no_sequences in
     let top : head_of w.seq ≡ head (type_in (typing_of env) (reshown_construct name_at p)) location = λ i. record { type = w.type i; end_location = w.end_is i } in
     record {
       inside = sequences_joined o.inside last;
@@ -231,7 +231,7 @@ with_alternative : (env : Environment) (c : List InstrSeq) (other : InstrSeq) (l
 with_alternative env c other low around places a s location type empty no_end k =
     let d = c ++ other ∷ [] in
     let more : length d ≡ length c + 1 = length_push c other in
-    let last : Sequences SequenceAt LocatedInstr = sequence (record { place = length c; seq = other }) no_items no_sequences in
+    let last : Sequences SequenceAt LocatedInstr = sequence (record { slot = length c; seq = other }) no_items no_sequences in
     let top : head_of other ≡ head (type_in (typing_of env) (InThen (name_at a))) default_location = λ i. record { type = type i; end_location = no_end i } in
     record {
       inside = sequences_joined k.inside last;

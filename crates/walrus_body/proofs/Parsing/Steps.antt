@@ -469,7 +469,7 @@ ends_body env b c f fs ifs s e w h =
     let alone : slots fs ≡ [] = ap slots h.alone in
     let normal_is : items_in (0 ∷ []) k.items ≡ normal (typing_of env) (map_sequence name_at s) =
     ap (λ p. items_in (p ∷ []) k.items) (sym at_first) ∙ ap (λ ps. items_in (f.sequence ∷ ps) k.items) (sym alone) ∙ k.is_normal in
-    let top : SequenceAt = record { place = 0; seq = w.seq } in
+    let top : SequenceAt = record { slot = 0; seq = w.seq } in
     record {
       unfolded = record { head = top; items = k.items };
       is_tree = record {

@@ -21,7 +21,7 @@ mutual
   pub all_rise-range : (low : ℕ) (ss : Sequences SequenceAt LocatedInstr) (high : ℕ) → AllRiseIn low ss high → low ≤ high
   all_rise-range low no_sequences high r = r
   all_rise-range low (sequence p is r) high h =
-      let a = rise-range (suc p.place) is h.0 h.2 in let b = all_rise-range h.0 r high h.3 in let c = h.1 in omega arith
+      let a = rise-range (suc p.slot) is h.0 h.2 in let b = all_rise-range h.0 r high h.3 in let c = h.1 in omega arith
 
 mutual
   pub rise-wider : (low lower : ℕ) (is : Items SequenceAt LocatedInstr) (high higher : ℕ) → lower ≤ low → high ≤ higher → RiseIn low is high → RiseIn lower is higher
