@@ -22,6 +22,7 @@ pub use local_function::{
 pub use segments::DataSegmentsVisitor;
 pub use sizes::SizeVisitor;
 pub use wasm_body::{
-    EmitError, IndexError, ParseError, ParseFailure, Space, law_executions, law_normal_again,
-    law_normal_form_texts, law_one_answer, law_same_texts, law_unique_reading,
+    EmitError, IndexError, ParseError, ParseFailure, Space, law_accepted_again, law_executions,
+    law_inverse_undoes, law_locations, law_normal_again, law_normal_form_texts, law_one_answer,
+    law_read_back, law_same_texts, law_unique_reading,
 };

@@ -7,6 +7,7 @@ mod frame;
 mod locating;
 mod next;
 mod own_lists;
+mod types;
 
 pub use body::FunctionBody;
 pub use check::{AcceptAll, CheckError, OpCheck};

@@ -1,3 +1,5 @@
+-- answers that may be faults, in every crate
+pub mod ResultLemmas
 -- types: equality, and the first position that passes
 pub mod SameTypes
 pub mod Positions

@@ -1,3 +1,5 @@
+-- answers that may be faults, in every crate
+pub mod Results
 -- types: of values and of a module, and the pick
 pub mod Types
 pub mod TypeOrder

@@ -9,16 +9,12 @@ use Rattle.wasm_body.specs.declared.error.ParseFailure.{ParseFailure}
 use Rattle.walrus_ir.specs.Results.{◌>>=◌, unless, with_fault}
 use Rattle.wasm_body.specs.SourceTree.{Body}
 use Rattle.wasm_body.specs.Naming.{Environment, Occurrence}
-use Rattle.wasm_body.specs.Parsing.Accepted.{has_location, Setting}
+use Rattle.wasm_body.specs.Parsing.Accepted.{has_location, accepting}
 use Rattle.wasm_body.specs.FunctionTree.{FunctionTree}
 use Rattle.wasm_body.specs.NormalForm.{typing_of, normal_form, named_body}
 use Rattle.wasm_body.specs.Parsing.Lists.{parsed_from, parsed}
 use Rattle.wasm_body.specs.Parsing.Progress.{nothing_read}
 use Rattle.wasm_body.specs.TreeOfFunction.{HasTree}
-
--- what such a parse is given; the validator has one state
-abbrev pub accepting : Environment → (start : ℕ) → Setting (Unit {0})
-accepting env start = record { environment = env; start = start; locations = None; check = λ v x. Ok v; first = tt }
 
 -- the operator at the front and the bytes behind it, if its place is a location
 abbrev pub read_next : (place : ℕ) → List ℕ → Result (RawOperation × List ℕ) ParseError

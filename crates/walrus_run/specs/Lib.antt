@@ -9,6 +9,7 @@ pub mod WalkFaults
 pub mod Writing
 pub mod Scopes
 pub mod Rewriting
+pub mod RewritingOnLists
 pub mod Encoding
 pub mod InstructionKinds
 pub mod Emission

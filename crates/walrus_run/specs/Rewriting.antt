@@ -7,7 +7,6 @@ use Rattle.wasm_body.specs.declared.error.ParseFailure.{ParseFailure}
 use Rattle.wasm_body.specs.SourceTree.{Body}
 use Rattle.wasm_body.specs.Naming.{Occurrence}
 use Rattle.wasm_body.specs.Parsing.Accepted.{Accepted, FirstFault}
-use Rattle.wasm_body.specs.Parsing.Lists.{parsed}
 use Rattle.wasm_body.specs.NormalForm.{typing_of, normal_form, named_body}
 use Rattle.wasm_body.specs.Bytes.{tree_bytes}
 use Rattle.walrus_run.specs.declared.error.RewriteError.{RewriteError}
@@ -31,11 +30,3 @@ WantsMemory (Emit e) = e ≡ emit.Memory
 -- The operators have this first fault.
 abbrev pub IsFaulty : List ℕ → RewriteError → Type 0
 IsFaulty ops e = (f : ParseFailure) × FirstFault demo ops f × (e ≡ Parse f)
-
--- ---- the same, of what parsing on lists answers
-
-abbrev pub IsParsedAndWritten : List ℕ → List ℕ → Type 0
-IsParsedAndWritten ops out = (b : Body Occurrence) × (parsed demo ops ≡ Ok b) × IsNormalBytes b out
-
-abbrev pub IsRefused : List ℕ → RewriteError → Type 0
-IsRefused ops e = WantsMemory e ⊎ ((f : ParseFailure) × (parsed demo ops ≡ Err f) × (e ≡ Parse f))

@@ -20,4 +20,6 @@ mod written_types;
 pub use error::RewriteError;
 pub use program::run_words;
 pub use rewriting::rewrite_demo;
-pub use walrus_body::law_executions;
+pub use walrus_body::{
+    law_accepted_again, law_executions, law_inverse_undoes, law_locations, law_read_back,
+};

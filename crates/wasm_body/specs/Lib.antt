@@ -1,5 +1,3 @@
--- answers that may be faults
-pub mod Results
 -- operators between bytes and trees: what they do to the control, their names, and carrying them from level to level
 pub mod Control
 pub mod Translation

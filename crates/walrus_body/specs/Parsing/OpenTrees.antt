@@ -1,5 +1,5 @@
 -- What contracts see of a validation context, and what its calls do.
-use Rattle.std.specs.Prelude.{◌≡◌, ◌≢◌, ◌<◌, ℕ, List, [], ◌∷◌, ◌++◌, length, Option, Some, slice_get}
+use Rattle.std.specs.Prelude.{◌≡◌, ◌≢◌, ◌<◌, ℕ, List, [], ◌∷◌, ◌++◌, length, Option, Some, slice_get, slice_set}
 use Rattle.std.specs.List.{AllByRecursion}
 use Rattle.walrus_ir.specs.declared.control.BlockKind.{BlockKind}
 use Rattle.walrus_ir.specs.declared.module.Module.{Module}
@@ -43,3 +43,9 @@ pub record Closes (old new : OpenTrees) (frame : OpenFrame) : Type 0 where
   pub as_many : length new.arena ≡ length old.arena
   pub frames : old.frames ≡ frame ∷ new.frames
   pub is : new ≡ record old { arena = new.arena; frames = new.frames }
+
+-- A sequence has another end location; nothing else changed.
+pub record EndsAt (old new : OpenTrees) (sequence location : ℕ) : Type 0 where
+  pub was : InstrSeq
+  pub before : slice_get old.arena sequence ≡ Some was
+  pub is : new ≡ record old { arena = slice_set old.arena sequence (record was { end = location }) }

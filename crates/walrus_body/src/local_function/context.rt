@@ -4,7 +4,7 @@ ghost use Rattle.walrus_ir.specs.Types.{existing, signature_of};
 ghost use Rattle.walrus_ir.specs.declared.val_type.InstrSeqType.TheVariants.{MultiValue};
 ghost use Rattle.wasm_body.specs.declared.error.ParseError.{ParseError as Fault};
 ghost use Rattle.walrus_body.specs.Parsing.OpenFrames.{OpenFrame, AreShown, Shows, changed_at, killed, with_instr, InnerAreEmpty};
-ghost use Rattle.walrus_body.specs.Parsing.OpenTrees.{Opens, Closes};
+ghost use Rattle.walrus_body.specs.Parsing.OpenTrees.{Opens, Closes, EndsAt};
 
 use crate::local_function::frame::{ControlFrame, ControlStack};
 use crate::local_function::own_lists::FrameStack;
@@ -80,6 +80,29 @@ impl<'a> ValidationContext<'a> {
             func,
             stack: FrameStack::new(controls, instrs),
         }
+    }
+
+    /// The module that was handed in.
+    pub(crate) fn module(&self) -> &'a Module
+        ensures { result.now ≡ self.now.module }
+    {
+        self.module
+    }
+
+    /// The old indices that were handed in.
+    pub(crate) fn indices(&self) -> &'a IndicesToIds
+        ensures { result.now ≡ self.now.indices }
+    {
+        self.indices
+    }
+
+    /// Sets where a sequence ends.
+    pub(crate) fn end_sequence(&mut self, sequence: InstrSeqId, location: InstrLocId)
+        requires { sequence < length self.old.arena }
+        ensures { EndsAt self.old self.new sequence location }
+    {
+        let seq = self.func.seq_mut(sequence);
+        seq.end = location;
     }
 
     // Opens a frame whose sequence has this type.

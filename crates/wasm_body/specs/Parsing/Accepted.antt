@@ -68,6 +68,10 @@ pub record Setting (V : Type 0) : Type 0 where
   pub check : V → Placed → Result V ℕ
   pub first : V
 
+-- without a location function, and with a validator of one state that accepts everything
+abbrev pub accepting : Environment → (start : ℕ) → Setting (Unit {0})
+accepting env start = record { environment = env; start = start; locations = None; check = λ v x. Ok v; first = tt }
+
 -- ---- accepted bodies
 
 -- The operators stand at the front of the bytes, have locations, and pass the validator; then the rest follows.

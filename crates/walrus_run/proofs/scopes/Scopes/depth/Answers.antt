@@ -19,4 +19,4 @@ returns c = λ count around h.
     let many = c.len.ensures ∙ s.entered.ok.0 in
     let found : slice_index_or s.levels.items c.args.place None ≡ Some c.in-Some.level = cc in
     let left : c.saturating_sub-2.result ≡ length s.entered.items - c.in-Some.level - 1 = cc in
-    c.fitting.ensures ∙ (ap in_32_bits left ∙ sym (depth_found s count around c.args.place c.in-Some.level h found))
+    c.in_32_bits.ensures ∙ (ap in_32_bits left ∙ sym (depth_found s count around c.args.place c.in-Some.level h found))
