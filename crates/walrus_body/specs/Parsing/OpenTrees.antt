@@ -1,5 +1,5 @@
 -- What contracts see of a validation context, and what its calls do.
-use Rattle.std.specs.Prelude.{◌≡◌, ◌≢◌, ◌<◌, ℕ, List, [], ◌∷◌, ◌++◌, length, Option, Some, slice_get, slice_set}
+use Rattle.std.specs.Prelude.{◌≡◌, ◌≢◌, ◌<◌, ℕ, List, [], ◌∷◌, ◌++◌, length, Option, Some, IsSomeAnd, slice_get, slice_set, Result, Ok, Err}
 use Rattle.std.specs.List.{AllByRecursion}
 use Rattle.walrus_ir.specs.declared.control.BlockKind.{BlockKind}
 use Rattle.walrus_ir.specs.declared.module.Module.{Module}
@@ -7,6 +7,12 @@ use Rattle.walrus_ir.specs.declared.seq.InstrSeq.{InstrSeq}
 use Rattle.walrus_ir.specs.declared.val_type.InstrSeqType.{InstrSeqType}
 use Rattle.walrus_ir.specs.declared.val_type.ValType.{ValType}
 use Rattle.walrus_ir.specs.InstructionSequence.{empty_sequence}
+use Rattle.walrus_ir.specs.Results.{◌>>=◌}
+use Rattle.walrus_ir.specs.Types.{Signature, pick}
+use Rattle.wasm_ops.specs.declared.types.BlockType.{BlockType}
+use Rattle.wasm_body.specs.declared.error.ParseError.{ParseError}
+use Rattle.wasm_body.specs.Naming.{Environment, name_block, has_pick}
+use Rattle.walrus_body.specs.Environments.{environment_of}
 use Rattle.walrus_body.specs.declared.indices_to_ids.IndicesToIds.{IndicesToIds}
 use Rattle.walrus_body.specs.Parsing.OpenFrames.{OpenFrame, new_frame}
 
@@ -29,6 +35,19 @@ pub record Opens (old new : OpenTrees) (kind : BlockKind) (type : InstrSeqType) 
   pub is_next : id ≡ length old.arena
   pub grows : new.arena ≡ old.arena ++ empty_sequence id type ∷ []
   pub is : new ≡ record old { arena = new.arena; frames = new_frame kind takes gives id ∷ old.frames }
+
+-- what a body of this function is named by
+abbrev pub env_of : OpenTrees → Environment
+env_of c = environment_of c.module c.indices c.function c.type
+
+-- what a block type takes and gives, if the module holds the pick for it
+abbrev pub opened_type : Environment → BlockType → Result Signature ParseError
+opened_type env b = name_block env b >>= λ s. has_pick env s >>= λ _. Ok s
+
+-- An empty frame is open with a new sequence that takes and gives what was named, and has the pick for it.
+abbrev pub OpensAs : (old new : OpenTrees) → BlockKind → (id : ℕ) → Result Signature ParseError → Type 0
+OpensAs old new kind id (Ok s) = IsSomeAnd (pick old.module.types s) (λ type. Opens old new kind type s.parameters s.results id)
+OpensAs old new kind id (Err e) = ⊥
 
 -- The innermost frame is closed, and its sequence has its instructions; nothing else changed.
 pub record Closes (old new : OpenTrees) (frame : OpenFrame) : Type 0 where

@@ -1,13 +1,16 @@
 //! The sequences of a function that is parsed, some of which are open.
-ghost use Rattle.std.specs.Prelude.{reverse, ◌≡◌, ◌⊎◌, ◌≤◌, ◌<◌, [], ◌∷◌, length, slice_get, is_some, IsSome, IsSomeAnd, false, None, Some, IfOk, IfErr, OnOk, OnErr, MatchResult};
+ghost use Rattle.std.specs.Prelude.{reverse, ◌≡◌, ◌⊎◌, ◌≤◌, ◌<◌, [], ◌∷◌, length, slice_get, is_some, IsSome, IsSomeAnd, false, None, Some, IfOk, IfErr, OnOk, OnErr, MatchResult, Err};
 ghost use Rattle.walrus_ir.specs.Types.{existing, signature_of};
 ghost use Rattle.walrus_ir.specs.declared.val_type.InstrSeqType.TheVariants.{MultiValue};
 ghost use Rattle.wasm_body.specs.declared.error.ParseError.{ParseError as Fault};
 ghost use Rattle.walrus_body.specs.Parsing.OpenFrames.{OpenFrame, AreShown, Shows, changed_at, killed, with_instr, InnerAreEmpty};
-ghost use Rattle.walrus_body.specs.Parsing.OpenTrees.{Opens, Closes, EndsAt};
+ghost use Rattle.wasm_ops.specs.declared.types.BlockType.TheVariants.{Value, FuncType};
+ghost use Rattle.wasm_body.specs.Naming.{name_block};
+ghost use Rattle.walrus_body.specs.Parsing.OpenTrees.{Opens, Closes, EndsAt, env_of, opened_type, OpensAs};
 
 use crate::local_function::frame::{ControlFrame, ControlStack};
 use crate::local_function::own_lists::FrameStack;
+use crate::local_function::types::value_type;
 use crate::{IndicesToIds, ParseError};
 use std::alloc::Global;
 use std::marker::Model;
@@ -15,6 +18,7 @@ use walrus_ir::{
     BlockKind, FunctionBuilder, FunctionId, Instr, InstrLocId, InstrSeqId, InstrSeqType, Module,
     TypeId, ValType,
 };
+use wasm_ops::{BlockType, RawValType};
 
 /// The sequences of a function that is parsed, some of which are open. A contract sees the sequences and the open frames,
 /// innermost first, each with its instructions.
@@ -80,20 +84,6 @@ impl<'a> ValidationContext<'a> {
             func,
             stack: FrameStack::new(controls, instrs),
         }
-    }
-
-    /// The module that was handed in.
-    pub(crate) fn module(&self) -> &'a Module
-        ensures { result.now ≡ self.now.module }
-    {
-        self.module
-    }
-
-    /// The old indices that were handed in.
-    pub(crate) fn indices(&self) -> &'a IndicesToIds
-        ensures { result.now ≡ self.now.indices }
-    {
-        self.indices
     }
 
     /// Sets where a sequence ends.
@@ -166,6 +156,43 @@ impl<'a> ValidationContext<'a> {
         }
         let (start_types, end_types) = module.types.params_results(ty);
         self.enter(kind, InstrSeqType::MultiValue(ty), start_types, end_types)
+    }
+
+    // Opens a frame that takes and gives what the function type of this old index does.
+    fn push_function_type(&mut self, kind: BlockKind, index: u32) -> Result<InstrSeqId, ParseError>
+        ensures ok { IfOk result (λ id. OpensAs self.old self.new kind id (name_block (env_of self.old) (FuncType index))) }
+        ensures err { IfErr result (λ e. (e ≡ Fault.Memory) ⊎ (opened_type (env_of self.old) (FuncType index) ≡ Err e)) }
+    {
+        let module = self.module;
+        let id = self.indices.get_type(index)?;
+        if !module.types.is_func(id) {
+            return Err(ParseError::NotAFunctionType);
+        }
+        let (start_types, end_types) = module.types.params_results(id);
+        self.push_control(kind, start_types, end_types)
+    }
+
+    // Opens a frame that takes nothing and gives a value of this type.
+    fn push_value_type(&mut self, kind: BlockKind, ty: RawValType) -> Result<InstrSeqId, ParseError>
+        ensures ok { IfOk result (λ id. OpensAs self.old self.new kind id (name_block (env_of self.old) (Value ty))) }
+        ensures err { IfErr result (λ e. (e ≡ Fault.Memory) ⊎ (opened_type (env_of self.old) (Value ty) ≡ Err e)) }
+    {
+        match value_type(self.indices, ty) {
+            Ok(ty) => self.push_control(kind, &[], &[ty]),
+            Err(error) => Err(error),
+        }
+    }
+
+    /// Opens a frame that takes and gives what a block type says, with its old indices looked up.
+    pub(crate) fn push_block(&mut self, kind: BlockKind, ty: BlockType) -> Result<InstrSeqId, ParseError>
+        ensures ok { IfOk result (λ id. OpensAs self.old self.new kind id (name_block (env_of self.old) ty)) }
+        ensures err { IfErr result (λ e. (e ≡ Fault.Memory) ⊎ (opened_type (env_of self.old) ty ≡ Err e)) }
+    {
+        match ty {
+            BlockType::Empty => self.push_control(kind, &[], &[]),
+            BlockType::Value(ty) => self.push_value_type(kind, ty),
+            BlockType::FuncType(index) => self.push_function_type(kind, index),
+        }
     }
 
     /// Closes the innermost frame. Its sequence then owns its instructions.
