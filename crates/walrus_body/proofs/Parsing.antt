@@ -6,6 +6,7 @@ pub mod Labels
 pub mod Rules
 pub mod Clauses
 pub mod Steps
+pub mod Openings
 pub mod Placements
 pub mod FrameLists
 pub mod TreeChanges

@@ -9,3 +9,4 @@ pub mod OwnLists
 pub mod Keeping
 pub mod Placing
 pub mod Advancing
+pub mod BodyParsers

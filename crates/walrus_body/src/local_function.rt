@@ -7,6 +7,7 @@ mod frame;
 mod locating;
 mod next;
 mod own_lists;
+mod parse;
 mod types;
 
 pub use body::FunctionBody;

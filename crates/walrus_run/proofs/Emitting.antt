@@ -16,7 +16,7 @@ use Rattle.wasm_body.specs.declared.error.EmitError.{EmitError}
 use Rattle.wasm_body.specs.declared.error.EmitError.TheVariants.{Memory}
 use Rattle.walrus_ir.specs.Results.{◌>>=◌, gather}
 use Rattle.wasm_body.specs.Control.{role_of, end_operation}
-use Rattle.wasm_body.specs.Translation.{LocatedInstr as LocatedOperation, at_location}
+use Rattle.wasm_body.specs.Translation.{Located as LocatedOperation, at_location}
 use Rattle.wasm_body.specs.InstructionTable.{operation_of, clauses_of_try}
 use Rattle.wasm_body.specs.TreeOfFunction.{items_in, sequences_in}
 use Rattle.wasm_body.specs.Bytes.{Numbers, numbering, bytes_of}

@@ -14,7 +14,7 @@ use Rattle.wasm_ops.specs.Shortest.{short}
 use Rattle.wasm_body.specs.declared.error.EmitError.{EmitError}
 use Rattle.wasm_body.specs.declared.error.EmitError.TheVariants.{Memory}
 use Rattle.wasm_body.specs.Control.{end_operation}
-use Rattle.wasm_body.specs.Translation.{LocatedInstr as LocatedOperation}
+use Rattle.wasm_body.specs.Translation.{Located as LocatedOperation}
 use Rattle.wasm_body.specs.InstructionTable.{operation_of}
 use Rattle.wasm_body.specs.TreeOfFunction.{instruction_in}
 use Rattle.wasm_body.specs.Bytes.{Numbers, numbering}

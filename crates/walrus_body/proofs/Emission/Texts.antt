@@ -10,7 +10,7 @@ use Rattle.walrus_ir.specs.declared.instr.Instr.TheVariants as instr
 use Rattle.walrus_ir.specs.declared.control.LegacyCatch.{LegacyCatch}
 use Rattle.walrus_ir.specs.declared.control.LegacyCatch.TheVariants.{Catch, CatchAll, Delegate}
 use Rattle.walrus_ir.specs.Tree.{Items, no_items, item, Sequences, no_sequences, sequence, Tree, alone}
-use Rattle.walrus_ir.specs.Unfolding.{SequenceAt, LocatedInstr as LocatedInstr, handlers, slots_in, AreItems, are_no_items, are_items, AreSequences, are_no_sequences, are_sequences}
+use Rattle.walrus_ir.specs.Unfolding.{SequenceAt, LocatedInstr, handlers, slots_in, AreItems, are_no_items, are_items, AreSequences, are_no_sequences, are_sequences}
 use Rattle.walrus_ir.specs.Events.{WalkEvent, events, StartSequence, EndSequence, VisitInstruction, NameFunction, NameLocal, NameData, names, item_events, sequence_events}
 use Rattle.wasm_ops.specs.declared.types.BlockType.{BlockType}
 use Rattle.wasm_ops.specs.Operations.{RawOperation}

@@ -6,7 +6,7 @@ use Rattle.std.proofs.lemmas.Grind.{flat_map-append}
 use Rattle.walrus_ir.specs.declared.instr.Instr.TheVariants as instr
 use Rattle.walrus_ir.specs.declared.control.Try.{Try}
 use Rattle.walrus_ir.specs.declared.control.LegacyCatch.{LegacyCatch}
-use Rattle.walrus_ir.specs.Unfolding.{LocatedInstr as LocatedInstr, handler_of, handlers, slots_in}
+use Rattle.walrus_ir.specs.Unfolding.{LocatedInstr, handler_of, handlers, slots_in}
 use Rattle.wasm_body.specs.Naming.{Occurrence}
 use Rattle.wasm_body.specs.FunctionTree.{LegacyClause, Instruction}
 use Rattle.wasm_body.specs.NormalForm.{instruction, name_at}

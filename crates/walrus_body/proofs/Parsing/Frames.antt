@@ -5,7 +5,7 @@ use Rattle.std.proofs.Common.{refl, ap, sym, subst, ◌∙◌, arith}
 use Rattle.walrus_ir.specs.declared.seq.InstrSeq.{InstrSeq}
 use Rattle.walrus_ir.specs.declared.val_type.InstrSeqType.{InstrSeqType}
 use Rattle.walrus_ir.specs.Tree.{Items, no_items, item, no_sequences, sequence}
-use Rattle.walrus_ir.specs.Unfolding.{SequenceAt, LocatedInstr as LocatedInstr, AreItems, are_no_items}
+use Rattle.walrus_ir.specs.Unfolding.{SequenceAt, LocatedInstr, AreItems, are_no_items}
 use Rattle.wasm_body.specs.SourceTree.{Sequence, map_sequence}
 use Rattle.wasm_body.specs.Naming.{Occurrence, Environment}
 use Rattle.wasm_body.specs.NormalForm.{typing_of, normal, name_at}

@@ -12,7 +12,7 @@ use Rattle.walrus_ir.specs.declared.control.LegacyCatch.{LegacyCatch}
 use Rattle.walrus_ir.specs.declared.control.LegacyCatch.TheVariants.{Catch, CatchAll, Delegate}
 use Rattle.walrus_ir.specs.declared.val_type.ValType.{ValType}
 use Rattle.walrus_ir.specs.Tree.{Items, no_items, item, Sequences, no_sequences, sequence}
-use Rattle.walrus_ir.specs.Unfolding.{SequenceAt, LocatedInstr as LocatedInstr, handler_of, slots_in, AreItems, AreSequences, are_no_items, are_items, are_no_sequences, are_sequences}
+use Rattle.walrus_ir.specs.Unfolding.{SequenceAt, LocatedInstr, handler_of, slots_in, AreItems, AreSequences, are_no_items, are_items, are_no_sequences, are_sequences}
 use Rattle.wasm_ops.specs.declared.types.Opcode.TheVariants.{Byte}
 use Rattle.wasm_ops.specs.Operations.{operation, RawOperation}
 use Rattle.wasm_body.specs.Control.{Action, Construct, Does, Opens, If, control_of}

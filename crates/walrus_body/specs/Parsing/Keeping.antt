@@ -8,7 +8,7 @@ use Rattle.walrus_ir.specs.declared.control.BlockKind.TheVariants as kind
 use Rattle.walrus_ir.specs.declared.val_type.InstrSeqType.{InstrSeqType}
 use Rattle.walrus_ir.specs.declared.val_type.ValType.{ValType}
 use Rattle.walrus_ir.specs.Tree.{Items, Sequences}
-use Rattle.walrus_ir.specs.Unfolding.{SequenceAt, LocatedInstr as LocatedInstr, slots_in, AreItems, AreSequences}
+use Rattle.walrus_ir.specs.Unfolding.{SequenceAt, LocatedInstr, slots_in, AreItems, AreSequences}
 use Rattle.wasm_ops.specs.declared.types.Opcode.TheVariants.{Byte}
 use Rattle.wasm_ops.specs.Operations.{block, operation}
 use Rattle.wasm_body.specs.SourceTree.{Sequence, map_sequence}
