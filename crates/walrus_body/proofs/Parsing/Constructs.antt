@@ -45,7 +45,7 @@ pub record IsOpened (env : Environment) (slot : ℕ) (p : OpenConstruct Occurren
   pub is_empty : f.instrs ≡ []
   pub is_alive : f.dead ≡ false
   pub kind : f.kind ≡ kind_in p
-  pub takes : TakesParameters p f.start_types
+  pub takes : TakesParameters env p f.start_types
   pub gives : f.end_types ≡ (block_signature (opener_in p).named).results
   pub has_type : seq.ty ≡ type_in (typing_of env) (reshown_construct name_at p)
   pub has_no_end : seq.end ≡ default_location

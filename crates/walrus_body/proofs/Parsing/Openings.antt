@@ -121,7 +121,7 @@ module _ (c m n : OpenTrees) (ifs : List IfElseState) (ls : List (Layer Occurren
           (state_with m (made ∷ ifs)) named g seq
           (opener_is (env_of c) ls (Byte 0x04) If b h.signature h.type refl (λ z. refl) h.is_named h.picked)
           refl
-          (record { here = h.opens.is_next; is_empty = refl; is_alive = refl; kind = refl; takes = refl; gives = refl; has_type = ap (λ t. unwrap_or t (Simple None)) (sym h.picked); has_no_end = refl })
+          (record { here = h.opens.is_next; is_empty = refl; is_alive = refl; kind = refl; takes = (refl, h.type, h.picked); gives = refl; has_type = ap (λ t. unwrap_or t (Simple None)) (sym h.picked); has_no_end = refl })
           refl
           (ap (λ z. state_with z (made ∷ ifs)) h.opens.is ∙ ap (λ z. record { arena = z; frames = g ∷ c.frames; ifs = made ∷ ifs }) h.opens.grows)
 

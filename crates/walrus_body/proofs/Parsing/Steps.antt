@@ -228,7 +228,7 @@ module _ (env : Environment) (old : ParseState) (l : Layer Occurrence) (ls : Lis
       let rest : others ≡ h.other_ifs = cc both in
       let outer : Holds env old.arena ls l.before h.low fs h.other_ifs = subst (λ gs. Holds env old.arena ls l.before h.low gs h.other_ifs) (sym h.opens.0) h.outer in
       let inside = subst (Encloses env old.arena h.low f (slots fs) (InThen a)) h.opens.2 h.encloses in
-      let sig : signature f.start_types f.end_types ≡ block_signature a.named = λ i. signature (h.encloses.takes i) (h.encloses.gives i) in
+      let sig : signature f.start_types f.end_types ≡ block_signature a.named = λ i. signature (h.encloses.takes.0 i) (h.encloses.gives i) in
       let typed : other.ty ≡ construct_type (typing_of env) a.named = sym (ap (λ t. unwrap_or t (Simple None)) (sym (ap (pick env.types) sig) ∙ picks)) in
       let whole = holds_chosen_alone env old.arena c other ls l.before s a e f fs h.other_ifs h.low h.opens.3 h.kept inside
       (sealed env old.arena c h.low f (slots fs) [] (InThen a) (Some e.location) inside seals) typed empty no_end outer in
@@ -276,7 +276,7 @@ module _ (env : Environment) (old : ParseState) (l : Layer Occurrence) (ls : Lis
       let both : top ∷ others ≡ made ∷ h.other_ifs = sym ifs ∙ h.opens.1 in
       let first : top ≡ made = cc both in
       let rest : others ≡ h.other_ifs = cc both in
-      let sig : signature f.start_types f.end_types ≡ block_signature a.named = λ i. signature (h.encloses.takes i) (h.encloses.gives i) in
+      let sig : signature f.start_types f.end_types ≡ block_signature a.named = λ i. signature (h.encloses.takes.0 i) (h.encloses.gives i) in
       let typed : seq.ty ≡ construct_type (typing_of env) a.named = sym (ap (λ t. unwrap_or t (Simple None)) (sym (ap (pick env.types) sig) ∙ picks)) in
       let states : new.ifs ≡ record { start = a.location; consequent = f.sequence; alternative = Some g.sequence } ∷ h.other_ifs =
       is ∙ (λ i. record { start = (first i).start; consequent = (first i).consequent; alternative = Some g.sequence } ∷ rest i) in
@@ -317,7 +317,7 @@ module _ (env : Environment) (old : ParseState) (l : Layer Occurrence) (ls : Lis
   handler_parts : (p q : OpenConstruct Occurrence) (new : ParseState) (c : List InstrSeq) (seq : InstrSeq) (g : OpenFrame) (gs : List OpenFrame) (location : ℕ) (kind : BlockKind) (parameters : List (ValType ℕ)) (clause : LegacyCatch) → Seals old.arena c f (Some location) →
       pick env.types (signature parameters f.end_types) ≡ Some seq.ty → seq.end ≡ default_location → new.arena ≡ c ++ seq ∷ [] → g ≡ new_frame kind parameters f.end_types (length c) →
       new.frames ≡ g ∷ gs → new.ifs ≡ old.ifs → slots gs ≡ slots fs → AddsClause fs gs clause → handler_of clause ≡ length c ∷ [] → (h : Inside p) → IsAppended (slots fs) h.before f.sequence p IsTry fs h.outside → old.ifs ≡ h.other_ifs →
-      opener_in q ≡ opener_in p → clauses_in q ≡ clauses_in p ++ legacy_clause clause ∷ [] → kind ≡ kind_in q → ((ts : _) → TakesParameters q ts) →
+      opener_in q ≡ opener_in p → clauses_in q ≡ clauses_in p ++ legacy_clause clause ∷ [] → kind ≡ kind_in q → ((ts : _) → TakesParameters env q ts) →
       type_in (typing_of env) (reshown_construct name_at q) ≡ handler_type (typing_of env) (name_at (opener_in p)).op parameters →
       closed_in (typing_of env) (reshown_construct name_at q) ≡ sequences_closed (typing_of env) (reshown_construct name_at p) (normal (typing_of env) (map_sequence name_at s)) location no_sequences →
       ((around before : List ℕ) (slot : ℕ) (hs outside : List OpenFrame) (is js : List IfElseState) → IsAppended around before slot q IsTry hs outside × (is ≡ js) → OpensWith around before slot q hs outside is js) →

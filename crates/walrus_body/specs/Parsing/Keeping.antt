@@ -8,6 +8,7 @@ use Rattle.walrus_ir.specs.declared.control.BlockKind.TheVariants as kind
 use Rattle.walrus_ir.specs.declared.val_type.InstrSeqType.{InstrSeqType}
 use Rattle.walrus_ir.specs.declared.val_type.ValType.{ValType}
 use Rattle.walrus_ir.specs.Tree.{Items, Sequences}
+use Rattle.walrus_ir.specs.Types.{pick}
 use Rattle.walrus_ir.specs.Unfolding.{SequenceAt, LocatedInstr, slots_in, AreItems, AreSequences}
 use Rattle.wasm_ops.specs.declared.types.Opcode.TheVariants.{Byte}
 use Rattle.wasm_ops.specs.Operations.{block, operation}
@@ -44,10 +45,10 @@ pub record IsReserved (arena : List InstrSeq) (slot : ℕ) (type : InstrSeqType)
 
 -- ---- the construct of the innermost frame
 
--- an `if` has a parameter list to hand to an alternative
-abbrev pub TakesParameters : OpenConstruct Occurrence → List (ValType ℕ) → Type 0
-TakesParameters (InThen a) types = types ≡ (block_signature a.named).parameters
-TakesParameters _ types = Unit {0}
+-- an `if` has a parameter list to hand to an alternative, for which the module holds the pick
+abbrev pub TakesParameters : Environment → OpenConstruct Occurrence → List (ValType ℕ) → Type 0
+TakesParameters env (InThen a) types = (types ≡ (block_signature a.named).parameters) × (t : InstrSeqType) × (pick env.types (block_signature a.named) ≡ Some t)
+TakesParameters env _ types = Unit {0}
 
 -- The frame is that of the construct, whose closed sequences stand in the slots `before`, from `low` on and below its own.
 pub record Encloses (env : Environment) (arena : List InstrSeq) (low : ℕ) (f : OpenFrame) (around : List ℕ) (p : OpenConstruct Occurrence) (before : List ℕ) : Type 0 where
@@ -57,7 +58,7 @@ pub record Encloses (env : Environment) (arena : List InstrSeq) (low : ℕ) (f :
   pub is_normal : sequences_in around inside ≡ closed_in (typing_of env) (reshown_construct name_at p)
   pub reserved : IsReserved arena f.sequence (type_in (typing_of env) (reshown_construct name_at p))
   pub kind : f.kind ≡ kind_in p
-  pub takes : TakesParameters p f.start_types
+  pub takes : TakesParameters env p f.start_types
   pub gives : f.end_types ≡ (block_signature (opener_in p).named).results
 
 -- The construct's instruction stands behind those of the frame around, where that is alive; without it they are `fs'`.
