@@ -9,6 +9,7 @@ pub mod Steps
 pub mod Placements
 pub mod FrameLists
 pub mod TreeChanges
+pub mod Sealing
 pub mod AnyLocations
 pub mod Mappings
 pub mod SoFars
