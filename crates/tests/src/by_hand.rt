@@ -1,4 +1,5 @@
 //! Functions that are made by hand.
+use crate::lent::append;
 use std::alloc::{AllocError, Global};
 use walrus_ir::{
     Block, Const, FunctionBuilder, IfElse, Instr, InstrLocId, InstrSeqId, InstrSeqType,
@@ -13,8 +14,7 @@ pub(crate) fn put(
     loc: u32,
 ) -> Result<(), AllocError> {
     if builder.has(seq) && loc != u32::MAX {
-        let sequence = builder.seq_mut(seq);
-        sequence.instrs.push((instr, InstrLocId::new(loc)))?;
+        append(builder, seq, instr, InstrLocId::new(loc))?;
     }
     Ok(())
 }

@@ -10,6 +10,7 @@ mod emit;
 mod ids_to_indices;
 #[cfg(test)]
 mod indices_to_ids;
+mod lent;
 #[cfg(test)]
 mod modules;
 #[cfg(test)]

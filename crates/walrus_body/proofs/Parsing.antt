@@ -10,6 +10,7 @@ pub mod Openings
 pub mod Placements
 pub mod FrameLists
 pub mod TreeChanges
+pub mod Sealing
 pub mod AnyLocations
 pub mod Mappings
 pub mod SoFars

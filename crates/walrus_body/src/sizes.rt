@@ -87,7 +87,8 @@ impl Visitor for SizeVisitor {
 /// `WalkError::TooLarge` where the number doesn't fit 64 bits; `WalkError::Memory` where none was left for the walk.
 pub(crate) fn size(builder: &FunctionBuilder, start: InstrSeqId) -> Result<u64, WalkError>
     ensures ok { IfOk result (λ n. TreeHas builder.now.sequences start (λ t. n ≡ count t.items)) }
-    ensures err { IfErr result (λ e. HasNoWalk builder.now.sequences start e ⊎ IsTooLarge builder.now.sequences start e) }
+    ensures err { IfErr result (λ e. HasNoWalk builder.now.sequences start e
+        ⊎ IsTooLarge builder.now.sequences start e) }
 {
     let mut visitor = SizeVisitor::new();
     dfs_in_order(&mut visitor, builder, start)?;

@@ -16,7 +16,8 @@ empty_function type = record { type = type; sequences = []; entry = None }
 
 -- one more sequence, which is empty, behind all others
 abbrev pub with_new_sequence : Function → InstrSeqType → Function
-with_new_sequence b ty = record b { sequences = b.sequences ++ empty_sequence (length b.sequences) ty ∷ [] }
+with_new_sequence b ty =
+    record b { sequences = b.sequences ++ empty_sequence (length b.sequences) ty ∷ [] }
 
 -- the sequence at a slot replaced
 abbrev pub with_sequence : Function → (slot : ℕ) → InstrSeq → Function

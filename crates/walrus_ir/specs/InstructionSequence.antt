@@ -4,7 +4,8 @@ use Rattle.walrus_ir.specs.declared.instr.Instr.{Instr}
 use Rattle.walrus_ir.specs.declared.val_type.InstrSeqType.{InstrSeqType}
 use Rattle.walrus_ir.specs.Locations.{default_location}
 
--- the number that it was given when it was made, its type, its instructions with their locations, and the location of its end
+-- the number that it was given when it was made, its type, its instructions with their locations,
+-- and the location of its end
 pub record InstructionSequence : Type 0 where
   pub id : ℕ
   pub ty : InstrSeqType

@@ -4,7 +4,7 @@ pub mod Results
 pub mod Types
 pub mod TypeOrder
 pub mod TypeEntries
--- locations, and what contracts see of instructions with lists, of a sequence and of a function's builder
+-- locations, and what contracts see of instructions with lists, of a sequence and of a builder
 pub mod Locations
 pub mod Clauses
 pub mod InstructionSequence

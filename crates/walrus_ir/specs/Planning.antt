@@ -71,7 +71,8 @@ pub record IsEntered (b : List InstrSeq) (p : ℕ) (old new : Plan) : Type 0 whe
   pub seq : InstrSeq
   pub reached : IsReached b p seq old.reached.items new.reached.items
   pub ordered : new.order.items ≡ old.order.items ++ p ∷ []
-  pub adds : Adds old.tasks.items new.tasks.items (slots_in_all seq.instrs) (1 + work_of_all seq.instrs)
+  pub adds : Adds old.tasks.items new.tasks.items
+      (slots_in_all seq.instrs) (1 + work_of_all seq.instrs)
 
 -- nothing is reached, and the tasks go on to the same slots
 pub record IsGoneOn (task : Task) (old new : Plan) : Type 0 where

@@ -11,7 +11,8 @@ use crate::val_type::InstrSeqType;
 use std::alloc::{AllocError, Global};
 use std::marker::Model;
 
-/// The sequences of a function. Instructions name them by their slots here.
+/// The sequences of a function. Instructions name them by their slots here. A contract sees the
+/// function's type, the list of sequences, and the entry.
 #[derive(Drop)]
 pub struct FunctionBuilder {
     ty: TypeId,

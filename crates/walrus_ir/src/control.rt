@@ -1,4 +1,4 @@
-//! Instructions of structured control, and branches.
+//! Instructions of structured control, and branches. A contract sees clauses and targets as lists.
 
 use crate::id::{InstrSeqId, TagId};
 use crate::val_type::HeapType;

@@ -168,7 +168,8 @@ impl<'a> Plan<'a> {
         requires { vec_len self.old.reached ≡ length builder.now.sequences }
         ensures { MatchResult result
             (λ _. IsDone builder.now.sequences task.entry self.old self.new)
-            (λ e. (e ≡ Memory) ⊎ IsNotDone builder.now.sequences self.old.reached.items task.entry e) }
+            (λ e. (e ≡ Memory)
+            ⊎ IsNotDone builder.now.sequences self.old.reached.items task.entry e) }
     {
         match task {
             Task::Enter(slot) => self.enter(builder, slot)?,

@@ -7,7 +7,8 @@ use crate::location::InstrLocId;
 use crate::val_type::InstrSeqType;
 use std::marker::Model;
 
-/// A sequence of instructions. It is known by its slot in its function's builder.
+/// A sequence of instructions. It is known by its slot in its function's builder. A contract sees
+/// its instructions as a list.
 #[derive(Drop)]
 pub struct InstrSeq {
     pub(crate) id: InstrSeqId,
@@ -24,8 +25,12 @@ impl Model for InstrSeq {
 
     ghost Value = { InstructionSequence };
 
-    ghost view = {
-        λ seq. record { id = seq.id; ty = seq.ty; instrs = seq.instrs.items; end = seq.end } };
+    ghost view = { λ seq. record {
+      id = seq.id;
+      ty = seq.ty;
+      instrs = seq.instrs.items;
+      end = seq.end;
+    } };
 }
 
 impl InstrSeq {

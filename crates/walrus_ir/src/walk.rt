@@ -116,8 +116,9 @@ fn start_inside<'a, 'b, V: Visitor>(
     requires known { slice_index coming.now 0 < length builder.now.sequences }
     requires room { vec_len stack.old + length coming.now < vec_capacity stack.old }
     ensures told { MatchResult result
-        (λ left. IsToldNext builder.now.sequences (frame top.entry) coming.now (frames stack.old.items)
-        (λ es. Folds V.steps visitor.old es visitor.new) (frames stack.new.items) left.now)
+        (λ left. IsToldNext builder.now.sequences (frame top.entry) coming.now
+        (frames stack.old.items) (λ es. Folds V.steps visitor.old es visitor.new)
+        (frames stack.new.items) left.now)
         (λ f. IsRefusedNext builder.now.sequences (frame top.entry) coming.now
         (λ es. Stops V.steps V.refuses V.same visitor.old es visitor.new f)) }
     ensures room { IfOk result (λ left. vec_len stack.new + length left.now ≤ vec_capacity stack.new) }
@@ -146,8 +147,9 @@ fn tell_next<'a, 'b, V: Visitor>(
     requires known { 0 < top.inside → slice_index coming.now 0 < length builder.now.sequences }
     requires room { vec_len stack.old + length coming.now < vec_capacity stack.old }
     ensures told { MatchResult result
-        (λ left. IsToldNext builder.now.sequences (frame top.entry) coming.now (frames stack.old.items)
-        (λ es. Folds V.steps visitor.old es visitor.new) (frames stack.new.items) left.now)
+        (λ left. IsToldNext builder.now.sequences (frame top.entry) coming.now
+        (frames stack.old.items) (λ es. Folds V.steps visitor.old es visitor.new)
+        (frames stack.new.items) left.now)
         (λ f. IsRefusedNext builder.now.sequences (frame top.entry) coming.now
         (λ es. Stops V.steps V.refuses V.same visitor.old es visitor.new f)) }
     ensures room { IfOk result (λ left. vec_len stack.new + length left.now ≤ vec_capacity stack.new) }
@@ -199,7 +201,8 @@ pub fn dfs_in_order<V: Visitor>(
     builder: &FunctionBuilder,
     start: InstrSeqId,
 ) -> Result<(), V::Fault>
-    ensures ok { OnOk result (Finishes builder.now.sequences start V.steps visitor.old visitor.new) }
+    ensures ok { OnOk result
+        (Finishes builder.now.sequences start V.steps visitor.old visitor.new) }
     ensures err { IfErr result (λ f.
         IsRefused builder.now.sequences start V.steps V.refuses V.same visitor.old visitor.new f
         ⊎ IsUnwalked builder.now.sequences start V.Fault.from_gives visitor.old visitor.new f) }

@@ -59,7 +59,8 @@ pub record Enters (old new : Parser) (type : InstrSeqType) (location : ℕ) : Ty
 pub record Seals (old new : FunctionBuilder) (closed : OpenSequence) (location : ℕ) : Type 0 where
   pub seq : InstrSeq
   pub written : IsWritten old.sequences closed.place seq new.sequences
-  pub same_type : (was : InstrSeq) → slice_get old.sequences closed.place ≡ Some was → seq.ty ≡ was.ty
+  pub same_type : (was : InstrSeq)
+      → slice_get old.sequences closed.place ≡ Some was → seq.ty ≡ was.ty
   pub instrs : seq.instrs ≡ closed.instrs.items
   pub end_is : seq.end ≡ location
   pub type_is : new.type ≡ old.type

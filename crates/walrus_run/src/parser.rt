@@ -45,7 +45,9 @@ impl<'a> Parser<'a> {
         entry: TypeId,
     ) -> Result<Parser<'a>, ParseError>
         requires { entry_type_of (environment_of «module».now indices.now function ty) ≡ Ok entry }
-        ensures ok { IfOk result (λ p. (env_of p ≡ environment_of «module».now indices.now function ty) × Keeps p [] Empty × (p.builder.entry ≡ Some 0)) }
+        ensures ok { IfOk result (λ p.
+            (env_of p ≡ environment_of «module».now indices.now function ty)
+            × Keeps p [] Empty × (p.builder.entry ≡ Some 0)) }
         ensures err { IfErr result (λ e. e ≡ ParseFault.Memory) }
     {
         let mut builder = FunctionBuilder::without_entry(alloc, ty);

@@ -151,7 +151,8 @@ operation_of (instr.Block x) = operation (Byte 0x02) (block_immediate ∷ [])
 operation_of (instr.Loop x) = operation (Byte 0x03) (block_immediate ∷ [])
 operation_of (instr.IfElse x) = operation (Byte 0x04) (block_immediate ∷ [])
 operation_of (instr.Try x) = operation (Byte 0x06) (block_immediate ∷ [])
-operation_of (instr.TryTable x) = operation (Byte 0x1f) (block_immediate ∷ clauses (map table_clause x.catches) ∷ [])
+operation_of (instr.TryTable x) =
+    operation (Byte 0x1f) (block_immediate ∷ clauses (map table_clause x.catches) ∷ [])
 operation_of (instr.Throw x) = operation (Byte 0x08) (index Tags x.tag ∷ [])
 operation_of (instr.Rethrow x) = operation (Byte 0x09) (handler x.relative_depth ∷ [])
 operation_of instr.ThrowRef = operation (Byte 0x0a) []

@@ -78,8 +78,8 @@ module _ (c m n : OpenTrees) (ifs : List IfElseState) (ls : List (Layer Occurren
   Appended i = n ≡ record m { frames = changed_at 1 (with_instr (i, location)) m.frames }
 
   state_is : (k : BlockKind) (h : Named c m k b id) (x : LocatedInstr) → n ≡ record m { frames = changed_at 1 (with_instr x) m.frames } →
-      state_with n ifs ≡ record { arena = c.arena ++ empty_sequence id h.type ∷ []; frames = new_frame k h.signature.parameters h.signature.results id ∷ changed_at 0 (with_instr x) c.frames; ifs = ifs }
-  state_is k h x e = ap (λ z. state_with z ifs) (e ∙ ap (λ (z : OpenTrees). record z { frames = changed_at 1 (with_instr x) z.frames }) h.opens.is) ∙ ap (λ z. record { arena = z; frames = new_frame k h.signature.parameters h.signature.results id ∷ changed_at 0 (with_instr x) c.frames; ifs = ifs }) h.opens.grows
+      state_with n ifs ≡ record { arena = c.builder.sequences ++ empty_sequence (length c.builder.sequences) h.type ∷ []; frames = new_frame k h.signature.parameters h.signature.results id ∷ changed_at 0 (with_instr x) c.frames; ifs = ifs }
+  state_is k h x e = ap (λ z. state_with z ifs) (e ∙ ap (λ (z : OpenTrees). record z { frames = changed_at 1 (with_instr x) z.frames }) h.opens.is)
 
   pub opens_block : OpensAs c m kind.Block id (name_block (env_of c) b) → Appended (instr.Block (record { seq = id })) → Advances (env_of c) (state_with n ifs) ls s (operation (Byte 0x02) (block b ∷ [])) place location
   opens_block o e =
@@ -87,7 +87,7 @@ module _ (c m n : OpenTrees) (ifs : List IfElseState) (ls : List (Layer Occurren
       let x : LocatedInstr = (instr.Block (record { seq = id }), location) in
       let named : NamedOperation = operation (Byte 0x02) (block h.signature ∷ []) in
       let g = new_frame kind.Block h.signature.parameters h.signature.results id in
-      let seq = empty_sequence id h.type in
+      let seq = empty_sequence (length c.builder.sequences) h.type in
       steps_opened (env_of c) (state_with c ifs) ls s (operation (Byte 0x02) (block b ∷ [])) place location keeps
           (state_with n ifs) named Block IsAny g seq x
           (opener_is (env_of c) ls (Byte 0x02) Block b h.signature h.type refl (λ z. refl) h.is_named h.picked)
@@ -101,7 +101,7 @@ module _ (c m n : OpenTrees) (ifs : List IfElseState) (ls : List (Layer Occurren
       let x : LocatedInstr = (instr.Loop (record { seq = id }), location) in
       let named : NamedOperation = operation (Byte 0x03) (block h.signature ∷ []) in
       let g = new_frame kind.Loop h.signature.parameters h.signature.results id in
-      let seq = empty_sequence id h.type in
+      let seq = empty_sequence (length c.builder.sequences) h.type in
       steps_opened (env_of c) (state_with c ifs) ls s (operation (Byte 0x03) (block b ∷ [])) place location keeps
           (state_with n ifs) named Loop IsAny g seq x
           (opener_is (env_of c) ls (Byte 0x03) Loop b h.signature h.type refl (λ z. refl) h.is_named h.picked)
@@ -115,7 +115,7 @@ module _ (c m n : OpenTrees) (ifs : List IfElseState) (ls : List (Layer Occurren
       let h = named_as c m kind.If b id (name_block (env_of c) b) refl o in
       let named : NamedOperation = operation (Byte 0x04) (block h.signature ∷ []) in
       let g = new_frame kind.If h.signature.parameters h.signature.results id in
-      let seq = empty_sequence id h.type in
+      let seq = empty_sequence (length c.builder.sequences) h.type in
       let made : IfElseState = record { start = location; consequent = id; alternative = None } in
       steps_if (env_of c) (state_with c ifs) ls s (operation (Byte 0x04) (block b ∷ [])) place location keeps
           (state_with m (made ∷ ifs)) named g seq
@@ -123,7 +123,7 @@ module _ (c m n : OpenTrees) (ifs : List IfElseState) (ls : List (Layer Occurren
           refl
           (record { here = h.opens.is_next; is_empty = refl; is_alive = refl; kind = refl; takes = (refl, h.type, h.picked); gives = refl; has_type = ap (λ t. unwrap_or t (Simple None)) (sym h.picked); has_no_end = refl })
           refl
-          (ap (λ z. state_with z (made ∷ ifs)) h.opens.is ∙ ap (λ z. record { arena = z; frames = g ∷ c.frames; ifs = made ∷ ifs }) h.opens.grows)
+          (ap (λ z. state_with z (made ∷ ifs)) h.opens.is)
 
   -- the append behind the new frame is refused for want of memory alone, as there is a frame around
   pub appended_steps : (k : BlockKind) (h : OpensAs c m k id (name_block (env_of c) b)) (i : Instr) (o : RawOperation) (r : Result (Unit {0}) ParseError) → OnOk r ((1 < length m.frames) × Appended i) →
@@ -133,7 +133,7 @@ module _ (c m n : OpenTrees) (ifs : List IfElseState) (ls : List (Layer Occurren
   appended_steps k h i o (Err e) ok (inr is) adv =
       let named = named_as c m k b id (name_block (env_of c) b) refl h in
       let frames : m.frames ≡ new_frame k named.signature.parameters named.signature.results id ∷ c.frames = ap (λ (z : OpenTrees). z.frames) named.opens.is in
-      let around : 0 < length c.frames = rw (holds_length (env_of c) c.arena ls s (length c.arena) c.frames ifs keeps) (some_frame ls) in
+      let around : 0 < length c.frames = rw (holds_length (env_of c) c.builder.sequences ls s (length c.builder.sequences) c.frames ifs keeps) (some_frame ls) in
       absurd (let many : length m.frames ≡ length (new_frame k named.signature.parameters named.signature.results id ∷ c.frames) = ap length frames in let few = is.1 in omega arith)
     where
       some_frame : (ls : List (Layer Occurrence)) → 0 < length (frames_of ls)

@@ -11,7 +11,7 @@ use Rattle.walrus_body.specs.Parsing.OpenTrees.{OpenTrees, env_of}
 use Rattle.walrus_body.specs.Parsing.Advancing.{ParseState, Keeps, IsStep}
 
 abbrev pub state_with : OpenTrees → List IfElseState → ParseState
-state_with c ifs = record { arena = c.arena; frames = c.frames; ifs = ifs }
+state_with c ifs = record { arena = c.builder.sequences; frames = c.frames; ifs = ifs }
 
 abbrev pub state_of : BodyParser → ParseState
 state_of p = state_with p.context (reverse p.if_else.items)
@@ -19,7 +19,7 @@ state_of p = state_with p.context (reverse p.if_else.items)
 -- It is still the parse of the same body.
 pub record IsSameBody (old new : OpenTrees) : Type 0 where
   pub env : env_of new ≡ env_of old
-  pub entry : new.entry ≡ old.entry
+  pub entry : new.builder.entry ≡ old.builder.entry
 
 -- What was kept of the operators so far is kept of this one more, or memory ran out, or it has this first fault.
 abbrev pub Steps : BodyParser → BodyParser → RawOperation → (location : ℕ) → Result (Unit {0}) ParseError → Type 0

@@ -1,44 +1,45 @@
 -- What contracts see of a validation context, and what its calls do.
-use Rattle.std.specs.Prelude.{◌≡◌, ◌≢◌, ◌<◌, ℕ, List, [], ◌∷◌, ◌++◌, length, Option, Some, IsSomeAnd, slice_get, slice_set, Result, Ok, Err}
+use Rattle.std.specs.Prelude.{◌≡◌, ◌<◌, ℕ, List, ◌∷◌, length, Some, IsSomeAnd, slice_get, Result, Ok, Err}
 use Rattle.std.specs.List.{AllByRecursion}
 use Rattle.walrus_ir.specs.declared.control.BlockKind.{BlockKind}
 use Rattle.walrus_ir.specs.declared.module.Module.{Module}
 use Rattle.walrus_ir.specs.declared.seq.InstrSeq.{InstrSeq}
 use Rattle.walrus_ir.specs.declared.val_type.InstrSeqType.{InstrSeqType}
 use Rattle.walrus_ir.specs.declared.val_type.ValType.{ValType}
-use Rattle.walrus_ir.specs.InstructionSequence.{empty_sequence}
 use Rattle.walrus_ir.specs.Results.{◌>>=◌}
 use Rattle.walrus_ir.specs.Types.{Signature, pick}
 use Rattle.wasm_ops.specs.declared.types.BlockType.{BlockType}
 use Rattle.wasm_body.specs.declared.error.ParseError.{ParseError}
 use Rattle.wasm_body.specs.Naming.{Environment, name_block, has_pick}
 use Rattle.walrus_body.specs.Environments.{environment_of}
+use Rattle.walrus_ir.specs.Function.{Function, with_new_sequence, with_sequence}
 use Rattle.walrus_body.specs.declared.indices_to_ids.IndicesToIds.{IndicesToIds}
 use Rattle.walrus_body.specs.Parsing.OpenFrames.{OpenFrame, new_frame}
 
--- The module and its maps, the function, its type, its entry and its sequences, and the open frames, innermost first.
+-- The module and its maps, the function and its builder, and the open frames, innermost first.
 pub record OpenTrees : Type 0 where
   pub «module» : Module
   pub indices : IndicesToIds
   pub function : ℕ
-  pub type : ℕ
-  pub entry : Option ℕ
-  pub arena : List InstrSeq
+  pub builder : Function
   pub frames : List OpenFrame
 
--- each frame's sequence stands in the arena
+-- each frame's sequence is one of these
 abbrev pub StandIn : List InstrSeq → List OpenFrame → Type 0
-StandIn arena fs = AllByRecursion (λ f. f.sequence < length arena) fs
+StandIn sequences fs = AllByRecursion (λ f. f.sequence < length sequences) fs
 
 -- An empty frame is open with a new sequence of this type; nothing else changed.
-pub record Opens (old new : OpenTrees) (kind : BlockKind) (type : InstrSeqType) (takes gives : List (ValType ℕ)) (id : ℕ) : Type 0 where
-  pub is_next : id ≡ length old.arena
-  pub grows : new.arena ≡ old.arena ++ empty_sequence id type ∷ []
-  pub is : new ≡ record old { arena = new.arena; frames = new_frame kind takes gives id ∷ old.frames }
+pub record Opens (old new : OpenTrees) (kind : BlockKind) (type : InstrSeqType) (takes gives : List (ValType ℕ)) (id : ℕ)
+    : Type 0 where
+  pub is_next : id ≡ length old.builder.sequences
+  pub is : new ≡ record old {
+    builder = with_new_sequence old.builder type;
+    frames = new_frame kind takes gives id ∷ old.frames;
+  }
 
 -- what a body of this function is named by
 abbrev pub env_of : OpenTrees → Environment
-env_of c = environment_of c.module c.indices c.function c.type
+env_of c = environment_of c.module c.indices c.function c.builder.type
 
 -- what a block type takes and gives, if the module holds the pick for it
 abbrev pub opened_type : Environment → BlockType → Result Signature ParseError
@@ -51,20 +52,16 @@ OpensAs old new kind id (Err e) = ⊥
 
 -- The innermost frame is closed, and its sequence has its instructions; nothing else changed.
 pub record Closes (old new : OpenTrees) (frame : OpenFrame) : Type 0 where
-  pub seq : InstrSeq
   pub was : InstrSeq
-  pub before : slice_get old.arena frame.sequence ≡ Some was
-  pub here : slice_get new.arena frame.sequence ≡ Some seq
-  pub owns : seq.instrs ≡ frame.instrs
-  pub same_type : seq.ty ≡ was.ty
-  pub same_end : seq.end ≡ was.end
-  pub elsewhere : (p : ℕ) → p ≢ frame.sequence → slice_get new.arena p ≡ slice_get old.arena p
-  pub as_many : length new.arena ≡ length old.arena
+  pub before : slice_get old.builder.sequences frame.sequence ≡ Some was
   pub frames : old.frames ≡ frame ∷ new.frames
-  pub is : new ≡ record old { arena = new.arena; frames = new.frames }
+  pub is : new ≡ record old {
+    builder = with_sequence old.builder frame.sequence (record was { instrs = frame.instrs });
+    frames = new.frames;
+  }
 
 -- A sequence has another end location; nothing else changed.
 pub record EndsAt (old new : OpenTrees) (sequence location : ℕ) : Type 0 where
   pub was : InstrSeq
-  pub before : slice_get old.arena sequence ≡ Some was
-  pub is : new ≡ record old { arena = slice_set old.arena sequence (record was { end = location }) }
+  pub before : slice_get old.builder.sequences sequence ≡ Some was
+  pub is : new ≡ record old { builder = with_sequence old.builder sequence (record was { end = location }) }

@@ -44,9 +44,7 @@ impl<'a> Model for ValidationContext<'a> {
       «module» = c.module.now;
       indices = c.indices.now;
       function = c.func_id;
-      type = c.func.type;
-      entry = c.func.entry;
-      arena = c.func.sequences;
+      builder = c.func;
       frames = c.stack;
     } };
 
@@ -75,7 +73,13 @@ impl<'a> ValidationContext<'a> {
     ) -> ValidationContext<'a>
         requires none { controls.items ≡ [] }
         requires empty { instrs.items ≡ [] }
-        ensures { result ≡ record { «module» = «module».now; indices = indices.now; function = func_id; type = func.type; entry = func.entry; arena = func.sequences; frames = [] } }
+        ensures { result ≡ record {
+          «module» = «module».now;
+          indices = indices.now;
+          function = func_id;
+          builder = func;
+          frames = [];
+        } }
     {
         ValidationContext {
             module,
@@ -88,7 +92,7 @@ impl<'a> ValidationContext<'a> {
 
     /// Sets where a sequence ends.
     pub(crate) fn end_sequence(&mut self, sequence: InstrSeqId, location: InstrLocId)
-        requires { sequence < length self.old.arena }
+        requires { sequence < length self.old.builder.sequences }
         ensures { EndsAt self.old self.new sequence location }
     {
         let seq = self.func.seq_mut(sequence);
@@ -262,9 +266,7 @@ impl<'a> ValidationContext<'a> {
     /// The function, the open frames as they are shown, the innermost last, and the list of instructions, which is empty
     /// where no frame is open.
     pub fn into_parts(self) -> (FunctionBuilder, ControlStack, Vec<(Instr, InstrLocId)>)
-        ensures type_is { result.0.type ≡ self.entry.type }
-        ensures entry { result.0.entry ≡ self.entry.entry }
-        ensures sequences { result.0.sequences ≡ self.entry.arena }
+        ensures function { result.0 ≡ self.entry.builder }
         ensures frames { AreShown (reverse result.1.items) self.entry.frames }
         ensures empty { self.entry.frames ≡ [] → result.2.items ≡ [] }
     {
