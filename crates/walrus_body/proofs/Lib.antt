@@ -6,5 +6,6 @@ mod Collecting
 mod Counting
 -- writing a function's tree
 pub mod Emission
+pub mod TreeWriting
 -- what is kept while a body is parsed
 pub mod Parsing

@@ -8,4 +8,5 @@ pub mod Facts
 pub mod Sizes
 pub mod Segments
 pub mod Emission
+pub mod TreeWriting
 pub mod Parsing

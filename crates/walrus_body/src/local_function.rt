@@ -3,6 +3,7 @@
 mod body;
 mod check;
 mod context;
+mod emit;
 mod frame;
 mod locating;
 mod next;

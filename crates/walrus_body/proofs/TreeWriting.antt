@@ -1,0 +1,7 @@
+-- Writing a function's tree.
+pub mod ScopeTables
+pub mod Announcing
+pub mod Exponents
+pub mod NotCarried
+pub mod Steps
+pub mod Trees

@@ -1,0 +1,87 @@
+-- Writing an instruction of a tree as an operator.
+use Rattle.std.specs.Prelude.{◌≡◌, ℕ, List, Bool, true, false, None, Result, Ok, Err}
+use Rattle.std.specs.Ordering.{nat_cmp}
+use Rattle.std.specs.FinMap.{get, from_entries}
+use Rattle.walrus_ir.specs.declared.val_type.InstrSeqType.{InstrSeqType}
+use Rattle.walrus_ir.specs.declared.instr.Instr.{Instr}
+use Rattle.walrus_ir.specs.declared.instr.Instr.TheVariants.{Load, Store, MemorySize, MemoryGrow, MemoryInit, DataDrop, MemoryCopy, MemoryFill, TableGet, TableSet, TableInit, ElemDrop, TableCopy, TableGrow, TableSize, TableFill}
+use Rattle.wasm_ops.specs.declared.operator.Operator.{Operator}
+use Rattle.wasm_ops.specs.declared.types.Opcode.{Opcode}
+use Rattle.wasm_ops.specs.Meaning.{meaning}
+use Rattle.wasm_ops.specs.Opcodes.{kinds_of}
+use Rattle.wasm_ops.specs.Operations.{RawOperation}
+use Rattle.wasm_encode.specs.Writable.{IsWritable}
+use Rattle.wasm_body.specs.declared.error.EmitError.{EmitError}
+use Rattle.wasm_body.specs.declared.error.EmitError.TheVariants.{Index, UnnumberedLocal}
+use Rattle.walrus_ir.specs.Results.{with_fault, some_or}
+use Rattle.wasm_body.specs.Translation.{translate}
+use Rattle.wasm_body.specs.Bytes.{Numbers, numbering}
+use Rattle.wasm_body.specs.FlatText.{then_by, typed}
+use Rattle.wasm_body.specs.InstructionTable.{operation_of}
+use Rattle.wasm_body.specs.TreeOfFunction.{aimed}
+use Rattle.walrus_body.specs.declared.local_function.emit.closing.Closer.{Closer}
+use Rattle.walrus_body.specs.declared.local_function.emit.fault.EmitFault.{EmitFault}
+use Rattle.walrus_body.specs.declared.local_function.emit.fault.EmitFault.TheVariants.{Refused, NotCarried}
+use Rattle.walrus_body.specs.declared.local_function.emit.number_maps.NumberMaps.{NumberMaps}
+use Rattle.walrus_body.specs.IndexMaps.{number_of}
+use Rattle.walrus_body.specs.TreeWriting.Closers.{closing}
+
+-- the numbers that index maps and a map of the function's locals give
+abbrev pub numbers_of : NumberMaps → Numbers
+numbers_of m = record {
+  number_of = λ space id. with_fault Index (number_of m.ids.now space id);
+  local_number = λ id.
+      some_or (get (from_entries {R = nat_cmp} m.locals.now.entries) id) UnnumberedLocal;
+}
+
+-- The operator of an instruction, where the sequences at these places are open, innermost first,
+-- and its first sequence, if it has one, has this type.
+abbrev pub numbered_operator : Numbers → List ℕ → InstrSeqType → Instr
+    → Result RawOperation EmitError
+numbered_operator to around type i =
+    translate (typed (then_by (numbering to)) type) (aimed around (operation_of i))
+
+-- what closes a sequence
+abbrev pub numbered_closer : Numbers → Closer → Result RawOperation EmitError
+numbered_closer to c = translate (then_by (numbering to)) (closing c)
+
+-- The operator that was answered is this one, or there is none for this fault; or its opcode isn't
+-- carried.
+abbrev pub IsOperator : Result RawOperation EmitError → Opcode → Result Operator EmitFault → Type 0
+IsOperator r opcode (Ok op) = (r ≡ Ok (meaning op)) × IsWritable (meaning op)
+IsOperator r opcode (Err (Refused e)) = r ≡ Err e
+IsOperator r opcode (Err NotCarried) = kinds_of opcode ≡ None
+
+abbrev pub IsOperatorOf : Numbers → List ℕ → InstrSeqType → Instr → Result Operator EmitFault
+    → Type 0
+IsOperatorOf to around type i r =
+    IsOperator (numbered_operator to around type i) (operation_of i).opcode r
+
+abbrev pub IsCloserOf : Numbers → Closer → Result Operator EmitFault → Type 0
+IsCloserOf to c r = IsOperator (numbered_closer to c) (closing c).opcode r
+
+-- ---- kinds of instructions, by the operators that they are written as
+
+-- those on memories and data segments
+abbrev pub is_on_memory : Instr → Bool
+is_on_memory (Load x) = true
+is_on_memory (Store x) = true
+is_on_memory (MemorySize x) = true
+is_on_memory (MemoryGrow x) = true
+is_on_memory (MemoryInit x) = true
+is_on_memory (DataDrop x) = true
+is_on_memory (MemoryCopy x) = true
+is_on_memory (MemoryFill x) = true
+is_on_memory _ = false
+
+-- those on tables and element segments
+abbrev pub is_on_table : Instr → Bool
+is_on_table (TableGet x) = true
+is_on_table (TableSet x) = true
+is_on_table (TableInit x) = true
+is_on_table (ElemDrop x) = true
+is_on_table (TableCopy x) = true
+is_on_table (TableGrow x) = true
+is_on_table (TableSize x) = true
+is_on_table (TableFill x) = true
+is_on_table _ = false

@@ -1,0 +1,327 @@
+//! Writing a function's tree.
+ghost use Rattle.std.specs.Prelude.{◌≡◌, ◌∷◌, [], ◌<◌, length, OnOk, OnErr, IfOk, IfErr};
+ghost use Rattle.walrus_ir.specs.Arena.{arena};
+ghost use Rattle.walrus_ir.specs.Unfolding.{slots_in};
+ghost use Rattle.walrus_body.specs.Emission.{first_type_at};
+ghost use Rattle.wasm_body.specs.InstructionTable.{clauses_of_try};
+ghost use Rattle.wasm_body.specs.FlatText.{are_lawful as lawful_clauses};
+ghost use Rattle.walrus_body.specs.TreeWriting.Operators.{numbers_of};
+ghost use Rattle.walrus_body.specs.TreeWriting.Trees.{IsFirstScope, IsDraftOf, IsUnwritten, Appends, AppendsBytes};
+ghost use Rattle.walrus_body.specs.TreeWriting.Emitters.{ClosesWith, IsFaultOfCloser};
+
+mod announcing;
+mod clauses;
+mod closing;
+mod draft;
+mod fault;
+mod number_maps;
+mod open_scopes;
+mod operators;
+mod written_types;
+
+use crate::EmitError;
+use announcing::announce;
+use clauses::are_lawful;
+use closing::Closer;
+use draft::Draft;
+use fault::EmitFault;
+use number_maps::NumberMaps;
+use open_scopes::Scopes;
+use operators::{closing_operator, operator_of};
+use std::alloc::AllocError;
+use walrus_ir::{
+    DataId, FunctionBuilder, Instr, InstrLocId, InstrSeq, InstrSeqId, InstrSeqType,
+    LocalId, RefFunc, Visitor, dfs_in_order,
+};
+use wasm_encode::FunctionEncoder;
+
+/// Writes the operators of the events that it is told of, aside.
+#[derive(Drop)]
+pub(crate) struct EmitVisitor<'a> {
+    builder: &'a FunctionBuilder,
+    numbers: NumberMaps<'a>,
+    scopes: Scopes,
+    draft: Draft,
+    ghost as_many: { scopes.count ≡ length (arena builder.now) },
+}
+
+/// The type of the sequence at a place.
+fn type_at(builder: &FunctionBuilder, place: InstrSeqId) -> Result<InstrSeqType, EmitError>
+    ensures { result ≡ first_type_at (arena builder.now) (place ∷ []) }
+{
+    if !builder.has(place) {
+        return Err(EmitError::UnknownSequence);
+    }
+    Ok(builder.seq(place).ty)
+}
+
+/// The type of the first sequence in an instruction, or that of a block without a type.
+fn first_type(builder: &FunctionBuilder, instr: &Instr) -> Result<InstrSeqType, EmitError>
+    ensures { result ≡ first_type_at (arena builder.now) (slots_in instr.now) }
+{
+    match instr {
+        Instr::Block(x) => type_at(builder, x.seq),
+        Instr::Loop(x) => type_at(builder, x.seq),
+        Instr::IfElse(x) => type_at(builder, x.consequent),
+        Instr::TryTable(x) => type_at(builder, x.seq),
+        Instr::Try(x) => type_at(builder, x.seq),
+        _ => Ok(InstrSeqType::Simple(None)),
+    }
+}
+
+/// Whether the clauses of an instruction are lawful, if it has some.
+fn has_lawful_clauses(instr: &Instr) -> bool
+    ensures { result ≡ lawful_clauses (clauses_of_try instr.now) }
+{
+    match instr {
+        Instr::Try(x) => are_lawful(x.catches.as_slice()),
+        _ => true,
+    }
+}
+
+/// What closes a sequence is written, if something does.
+fn write_closer(
+    draft: &mut Draft,
+    closer: Option<(Closer, InstrLocId)>,
+    numbers: &NumberMaps<'_>,
+) -> Result<(), EmitFault>
+    ensures ok { OnOk result (ClosesWith (numbers_of numbers.now) closer draft.old draft.new) }
+    ensures err { IfErr result (IsFaultOfCloser (numbers_of numbers.now) closer draft.old) }
+    ensures kept { OnErr result (draft.new ≡ draft.old) }
+{
+    let Some((closer, location)) = closer else {
+        return Ok(());
+    };
+    match closing_operator(closer, numbers) {
+        Ok(op) => Ok(draft.write(&op, location)?),
+        Err(fault) => Err(fault),
+    }
+}
+
+impl<'a> EmitVisitor<'a> {
+    ghost use Rattle.walrus_ir.specs.Events.{VisitInstruction};
+    ghost use Rattle.walrus_body.specs.TreeWriting.Visiting.{Steps, Refuses, Same, HasOnlyMore};
+
+    /// An instruction without sequences.
+    fn visit_plain(&mut self, instr: &Instr, location: InstrLocId) -> Result<(), EmitFault>
+        requires { slots_in instr.now ≡ [] }
+        ensures ok { OnOk result (Steps self.old (VisitInstruction instr.now location) self.new) }
+        ensures err { IfErr result (Refuses self.old (VisitInstruction instr.now location)) }
+        ensures kept { OnErr result (Same self.old self.new) }
+    {
+        let ty = InstrSeqType::Simple(None);
+        match operator_of(instr, ty, &self.scopes, &self.numbers) {
+            Ok(op) => Ok(self.draft.write(&op, location)?),
+            Err(fault) => Err(fault),
+        }
+    }
+
+    /// An instruction, whose sequences are to begin. Where it fails some of them may be.
+    fn begin_construct(&mut self, instr: &Instr, location: InstrLocId) -> Result<(), EmitFault>
+        ensures ok { OnOk result (Steps self.old (VisitInstruction instr.now location) self.new) }
+        ensures err { IfErr result (Refuses self.old (VisitInstruction instr.now location)) }
+        ensures kept { OnErr result (HasOnlyMore self.old self.new) }
+    {
+        let ty = match first_type(self.builder, instr) {
+            Ok(ty) => ty,
+            Err(fault) => return Err(EmitFault::Refused(fault)),
+        };
+        if !has_lawful_clauses(instr) {
+            return Err(EmitFault::Refused(EmitError::BadClauses));
+        }
+        match operator_of(instr, ty, &self.scopes, &self.numbers) {
+            Ok(op) => match announce(&mut self.scopes, self.builder, instr) {
+                Ok(()) => Ok(self.draft.write(&op, location)?),
+                Err(fault) => Err(EmitFault::Refused(fault)),
+            },
+            Err(fault) => Err(fault),
+        }
+    }
+
+    /// An instruction with sequences.
+    fn visit_construct(&mut self, instr: &Instr, location: InstrLocId) -> Result<(), EmitFault>
+        ensures ok { OnOk result (Steps self.old (VisitInstruction instr.now location) self.new) }
+        ensures err { IfErr result (Refuses self.old (VisitInstruction instr.now location)) }
+        ensures kept { OnErr result (Same self.old self.new) }
+    {
+        let count = self.scopes.coming_count();
+        match self.begin_construct(instr, location) {
+            Ok(()) => Ok(()),
+            Err(fault) => {
+                self.scopes.keep_last(count);
+                Err(fault)
+            }
+        }
+    }
+}
+
+impl Visitor for EmitVisitor<'_> {
+    type Fault = EmitFault;
+
+    ghost use Rattle.walrus_body.specs.TreeWriting.Visiting.{Steps, Refuses, Same};
+
+    ghost steps = { Steps };
+
+    ghost refuses = { Refuses };
+
+    ghost same = { Same };
+
+    ghost use Rattle.std.proofs.Common.{refl, sym, ◌∙◌};
+    ghost use Rattle.walrus_body.specs.TreeWriting.Visiting.{same_steps, same_refusals};
+
+    ghost reflexive = { λ v. refl };
+
+    ghost symmetric = { λ v w. sym };
+
+    ghost transitive = { λ u v w h k. h ∙ k };
+
+    ghost steps_alike = { same_steps };
+
+    ghost refuses_alike = { same_refusals };
+
+    fn start_instr_seq(&mut self, _seq: &InstrSeq) -> Result<(), EmitFault> {
+        match self.scopes.begin() {
+            Ok(()) => Ok(()),
+            Err(fault) => Err(EmitFault::Refused(fault)),
+        }
+    }
+
+    fn end_instr_seq(&mut self, _seq: &InstrSeq) -> Result<(), EmitFault> {
+        let Some(scope) = self.scopes.innermost() else {
+            return Err(EmitFault::Refused(EmitError::UnknownSequence));
+        };
+        match write_closer(&mut self.draft, scope.closer, &self.numbers) {
+            Ok(()) => {
+                self.scopes.leave();
+                Ok(())
+            }
+            Err(fault) => Err(fault),
+        }
+    }
+
+    fn visit_instr(&mut self, instr: &Instr, location: &InstrLocId) -> Result<(), EmitFault> {
+        match instr {
+            Instr::Block(_)
+            | Instr::Loop(_)
+            | Instr::IfElse(_)
+            | Instr::TryTable(_)
+            | Instr::Try(_) => self.visit_construct(instr, *location),
+            _ => self.visit_plain(instr, *location),
+        }
+    }
+
+    fn visit_ref_func(&mut self, _instr: &RefFunc) -> Result<(), EmitFault> {
+        Ok(())
+    }
+
+    fn visit_local_id(&mut self, _local: &LocalId) -> Result<(), EmitFault> {
+        Ok(())
+    }
+
+    fn visit_data_id(&mut self, _data_id: &DataId) -> Result<(), EmitFault> {
+        Ok(())
+    }
+}
+
+/// The sequences of a builder, of which none is open, and the one at the entry is to begin.
+fn first_scopes(builder: &FunctionBuilder, entry: InstrSeqId) -> Result<Scopes, AllocError>
+    requires { entry < length (arena builder.now) }
+    ensures { IfOk result (IsFirstScope (arena builder.now) entry) }
+{
+    let mut scopes = Scopes::new(builder.allocator(), builder.count())?;
+    scopes.announce(entry, Closer::End, builder.seq(entry).end)?;
+    Ok(scopes)
+}
+
+/// What is written of the tree of the function from a sequence on, behind so many bytes of others.
+///
+/// # Errors
+///
+/// Where there is no tree, the first fault in walk order; else the first fault in order of writing,
+/// or `NotCarried`. Or memory runs out.
+fn draft_tree(
+    builder: &FunctionBuilder,
+    entry: InstrSeqId,
+    numbers: &NumberMaps<'_>,
+    base: usize,
+    has_map: bool,
+) -> Result<Draft, EmitFault>
+    ensures ok { IfOk result (IsDraftOf (arena builder.now) entry (numbers_of numbers.now)
+        base has_map) }
+    ensures err { IfErr result (IsUnwritten (arena builder.now) entry (numbers_of numbers.now)) }
+{
+    if !builder.has(entry) {
+        return Err(EmitFault::Refused(EmitError::UnknownSequence));
+    }
+    let scopes = match first_scopes(builder, entry) {
+        Ok(scopes) => scopes,
+        Err(_) => return Err(EmitFault::Refused(EmitError::Memory)),
+    };
+    let mut visitor = EmitVisitor {
+        builder,
+        numbers: *numbers,
+        scopes,
+        draft: Draft::new(builder.allocator(), base, has_map),
+    };
+    match dfs_in_order(&mut visitor, builder, entry) {
+        Ok(()) => {
+            let EmitVisitor { draft, .. } = visitor;
+            Ok(draft)
+        }
+        Err(fault) => Err(fault),
+    }
+}
+
+/// Appends the tree of the function from a sequence on to an encoder, and its location pairs to a
+/// list, each with the place of its operator in the encoder.
+///
+/// # Errors
+///
+/// Where there is no tree, the first fault in walk order; else the first fault in order of writing,
+/// or `NotCarried`. Or memory runs out. The encoder and the list are then as before.
+pub(crate) fn emit_tree_with_map(
+    builder: &FunctionBuilder,
+    entry: InstrSeqId,
+    numbers: &NumberMaps<'_>,
+    encoder: &mut FunctionEncoder,
+    map: &mut Vec<(InstrLocId, usize)>,
+) -> Result<(), EmitFault>
+    ensures ok { OnOk result (Appends (arena builder.now) entry (numbers_of numbers.now)
+        encoder.old encoder.new map.old.items map.new.items) }
+    ensures err { IfErr result (IsUnwritten (arena builder.now) entry (numbers_of numbers.now)) }
+    ensures same_bytes { OnErr result (encoder.new ≡ encoder.old) }
+    ensures same_pairs { OnErr result (map.new.items ≡ map.old.items) }
+{
+    match draft_tree(builder, entry, numbers, encoder.byte_len(), true) {
+        Ok(draft) => match draft.hand_over(encoder, map) {
+            Ok(()) => Ok(()),
+            Err(_) => Err(EmitFault::Refused(EmitError::Memory)),
+        },
+        Err(fault) => Err(fault),
+    }
+}
+
+/// Appends the tree of the function from a sequence on to an encoder.
+///
+/// # Errors
+///
+/// Those of `emit_tree_with_map`. The encoder is then as before.
+pub(crate) fn emit_tree(
+    builder: &FunctionBuilder,
+    entry: InstrSeqId,
+    numbers: &NumberMaps<'_>,
+    encoder: &mut FunctionEncoder,
+) -> Result<(), EmitFault>
+    ensures ok { OnOk result (AppendsBytes (arena builder.now) entry (numbers_of numbers.now)
+        encoder.old encoder.new) }
+    ensures err { IfErr result (IsUnwritten (arena builder.now) entry (numbers_of numbers.now)) }
+    ensures same_bytes { OnErr result (encoder.new ≡ encoder.old) }
+{
+    match draft_tree(builder, entry, numbers, encoder.byte_len(), false) {
+        Ok(draft) => match draft.hand_over_bytes(encoder) {
+            Ok(()) => Ok(()),
+            Err(_) => Err(EmitFault::Refused(EmitError::Memory)),
+        },
+        Err(fault) => Err(fault),
+    }
+}

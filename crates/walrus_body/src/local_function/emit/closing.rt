@@ -1,0 +1,27 @@
+//! The sequences of a tree that is written, each with what closes it.
+
+use walrus_ir::{InstrLocId, InstrSeqId, TagId};
+
+/// The operator that closes a sequence (WebAssembly core specification 3.0, instructions; the last
+/// three of the legacy exception handling proposal).
+#[derive(Clone, Copy)]
+pub(crate) enum Closer {
+    /// `end`
+    End,
+    /// `else`, where the alternative begins
+    Else,
+    /// `catch`, where the handler for a tag begins
+    Catch { tag: TagId },
+    /// `catch_all`, where the handler for all exceptions begins
+    CatchAll,
+    /// `delegate`, with the number of constructs between
+    Delegate { relative_depth: u32 },
+}
+
+/// A sequence that is to begin or is open, by its place in the builder.
+#[derive(Clone, Copy)]
+pub(crate) struct SequenceScope {
+    pub place: InstrSeqId,
+    /// What closes it, at which location, if something does.
+    pub closer: Option<(Closer, InstrLocId)>,
+}

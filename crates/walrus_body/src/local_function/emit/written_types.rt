@@ -1,0 +1,58 @@
+//! The types that a tree names, with the numbers that are written for them.
+ghost use Rattle.std.specs.Prelude.{◌≡◌};
+ghost use Rattle.walrus_ir.specs.declared.val_type.ValType.TheVariants.{Ref};
+ghost use Rattle.wasm_body.specs.Bytes.{numbered_block};
+ghost use Rattle.wasm_body.specs.Translation.{translate_value};
+ghost use Rattle.walrus_body.specs.TreeWriting.Operators.{numbers_of};
+
+use crate::EmitError;
+use crate::local_function::emit::number_maps::NumberMaps;
+use walrus_ir::{HeapType, InstrSeqType, RefType, ValType};
+use wasm_ops::{BlockType, RawHeapType, RawValType};
+
+fn reference(nullable: bool, heap_type: RawHeapType) -> RawValType
+    ensures { result ≡ Ref (record { nullable = nullable; heap_type = heap_type }) }
+{
+    ValType::Ref(RefType {
+        nullable,
+        heap_type,
+    })
+}
+
+/// A value type with the numbers of the types that it names.
+pub(crate) fn value_type(numbers: &NumberMaps<'_>, ty: ValType) -> Result<RawValType, EmitError>
+    ensures { result ≡ translate_value (numbers_of numbers.now).number_of ty }
+{
+    match ty {
+        ValType::I32 => Ok(ValType::I32),
+        ValType::I64 => Ok(ValType::I64),
+        ValType::F32 => Ok(ValType::F32),
+        ValType::F64 => Ok(ValType::F64),
+        ValType::V128 => Ok(ValType::V128),
+        ValType::Ref(
+            RefType {
+                nullable,
+                heap_type,
+            },
+        ) => match heap_type {
+            HeapType::Abstract(ty) => Ok(reference(nullable, HeapType::Abstract(ty))),
+            HeapType::Concrete(id) => {
+                let number = numbers.ids.get_type_index(id)?;
+                Ok(reference(nullable, HeapType::Concrete(number)))
+            }
+        },
+    }
+}
+
+/// The block type of a construct whose sequence has this type.
+pub(crate) fn block_type(numbers: &NumberMaps<'_>, ty: InstrSeqType) -> Result<BlockType, EmitError>
+    ensures { result ≡ numbered_block (numbers_of numbers.now) ty }
+{
+    match ty {
+        InstrSeqType::Simple(ty) => match ty {
+            None => Ok(BlockType::Empty),
+            Some(ty) => Ok(BlockType::Value(value_type(numbers, ty)?)),
+        },
+        InstrSeqType::MultiValue(id) => Ok(BlockType::FuncType(numbers.ids.get_type_index(id)?)),
+    }
+}
