@@ -2,7 +2,6 @@
 -- event.
 use Rattle.std.specs.Prelude.{◌≡◌, List, Ok}
 use Rattle.std.proofs.Common.{sym, ap, subst, ◌∙◌}
-use Rattle.walrus_ir.specs.Arena.{arena}
 use Rattle.walrus_ir.specs.Events.{WalkEvent, AreStepsAlike, AreRefusalsAlike}
 use Rattle.walrus_body.specs.declared.local_function.emit.closing.SequenceScope.{SequenceScope}
 use Rattle.walrus_body.specs.declared.local_function.emit.fault.EmitFault.{EmitFault}
@@ -13,7 +12,7 @@ use Rattle.walrus_body.specs.TreeWriting.ScopeLists.{with_more}
 use Rattle.walrus_body.specs.TreeWriting.Operators.{numbers_of}
 
 abbrev pub emitter_of : EmitVisitor → Emitter
-emitter_of v = emitter_at (arena v.builder.now) (numbers_of v.numbers) v.scopes v.draft
+emitter_of v = emitter_at v.builder.now.sequences (numbers_of v.numbers) v.scopes v.draft
 
 -- ---- the visitor's meaning
 

@@ -1,6 +1,5 @@
 //! Writing a function's tree.
 ghost use Rattle.std.specs.Prelude.{◌≡◌, ◌∷◌, [], ◌<◌, length, OnOk, OnErr, IfOk, IfErr};
-ghost use Rattle.walrus_ir.specs.Arena.{arena};
 ghost use Rattle.walrus_ir.specs.Unfolding.{slots_in};
 ghost use Rattle.walrus_body.specs.Emission.{first_type_at};
 ghost use Rattle.wasm_body.specs.InstructionTable.{clauses_of_try};
@@ -42,12 +41,12 @@ pub(crate) struct EmitVisitor<'a> {
     numbers: NumberMaps<'a>,
     scopes: Scopes,
     draft: Draft,
-    ghost as_many: { scopes.count ≡ length (arena builder.now) },
+    ghost as_many: { scopes.count ≡ length builder.now.sequences },
 }
 
 /// The type of the sequence at a place.
 fn type_at(builder: &FunctionBuilder, place: InstrSeqId) -> Result<InstrSeqType, EmitError>
-    ensures { result ≡ first_type_at (arena builder.now) (place ∷ []) }
+    ensures { result ≡ first_type_at builder.now.sequences (place ∷ []) }
 {
     if !builder.has(place) {
         return Err(EmitError::UnknownSequence);
@@ -57,7 +56,7 @@ fn type_at(builder: &FunctionBuilder, place: InstrSeqId) -> Result<InstrSeqType,
 
 /// The type of the first sequence in an instruction, or that of a block without a type.
 fn first_type(builder: &FunctionBuilder, instr: &Instr) -> Result<InstrSeqType, EmitError>
-    ensures { result ≡ first_type_at (arena builder.now) (slots_in instr.now) }
+    ensures { result ≡ first_type_at builder.now.sequences (slots_in instr.now) }
 {
     match instr {
         Instr::Block(x) => type_at(builder, x.seq),
@@ -225,8 +224,8 @@ impl Visitor for EmitVisitor<'_> {
 
 /// The sequences of a builder, of which none is open, and the one at the entry is to begin.
 fn first_scopes(builder: &FunctionBuilder, entry: InstrSeqId) -> Result<Scopes, AllocError>
-    requires { entry < length (arena builder.now) }
-    ensures { IfOk result (IsFirstScope (arena builder.now) entry) }
+    requires { entry < length builder.now.sequences }
+    ensures { IfOk result (IsFirstScope builder.now.sequences entry) }
 {
     let mut scopes = Scopes::new(builder.allocator(), builder.count())?;
     scopes.announce(entry, Closer::End, builder.seq(entry).end)?;
@@ -246,9 +245,9 @@ fn draft_tree(
     base: usize,
     has_map: bool,
 ) -> Result<Draft, EmitFault>
-    ensures ok { IfOk result (IsDraftOf (arena builder.now) entry (numbers_of numbers.now)
+    ensures ok { IfOk result (IsDraftOf builder.now.sequences entry (numbers_of numbers.now)
         base has_map) }
-    ensures err { IfErr result (IsUnwritten (arena builder.now) entry (numbers_of numbers.now)) }
+    ensures err { IfErr result (IsUnwritten builder.now.sequences entry (numbers_of numbers.now)) }
 {
     if !builder.has(entry) {
         return Err(EmitFault::Refused(EmitError::UnknownSequence));
@@ -286,9 +285,9 @@ pub(crate) fn emit_tree_with_map(
     encoder: &mut FunctionEncoder,
     map: &mut Vec<(InstrLocId, usize)>,
 ) -> Result<(), EmitFault>
-    ensures ok { OnOk result (Appends (arena builder.now) entry (numbers_of numbers.now)
+    ensures ok { OnOk result (Appends builder.now.sequences entry (numbers_of numbers.now)
         encoder.old encoder.new map.old.items map.new.items) }
-    ensures err { IfErr result (IsUnwritten (arena builder.now) entry (numbers_of numbers.now)) }
+    ensures err { IfErr result (IsUnwritten builder.now.sequences entry (numbers_of numbers.now)) }
     ensures same_bytes { OnErr result (encoder.new ≡ encoder.old) }
     ensures same_pairs { OnErr result (map.new.items ≡ map.old.items) }
 {
@@ -312,9 +311,9 @@ pub(crate) fn emit_tree(
     numbers: &NumberMaps<'_>,
     encoder: &mut FunctionEncoder,
 ) -> Result<(), EmitFault>
-    ensures ok { OnOk result (AppendsBytes (arena builder.now) entry (numbers_of numbers.now)
+    ensures ok { OnOk result (AppendsBytes builder.now.sequences entry (numbers_of numbers.now)
         encoder.old encoder.new) }
-    ensures err { IfErr result (IsUnwritten (arena builder.now) entry (numbers_of numbers.now)) }
+    ensures err { IfErr result (IsUnwritten builder.now.sequences entry (numbers_of numbers.now)) }
     ensures same_bytes { OnErr result (encoder.new ≡ encoder.old) }
 {
     match draft_tree(builder, entry, numbers, encoder.byte_len(), false) {

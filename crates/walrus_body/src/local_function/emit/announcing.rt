@@ -1,6 +1,5 @@
 //! The sequences in an instruction are to begin: each with what closes it.
 ghost use Rattle.std.specs.Prelude.{◌≡◌, ◌∷◌, [], length, map, true, OnOk, OnErr, IfErr};
-ghost use Rattle.walrus_ir.specs.Arena.{arena};
 ghost use Rattle.walrus_ir.specs.Unfolding.{handler_of as clause_places, handlers, slots_in};
 ghost use Rattle.wasm_body.specs.InstructionTable.{legacy_clause, clauses_of_try};
 ghost use Rattle.wasm_body.specs.FlatText.{are_lawful, try_closers};
@@ -21,10 +20,10 @@ fn announce_one(
     place: InstrSeqId,
     closer: Closer,
 ) -> Result<(), EmitError>
-    requires { scopes.old.count ≡ length (arena builder.now) }
-    ensures ok { OnOk result (Announces (arena builder.now) (place ∷ []) (closing closer ∷ [])
+    requires { scopes.old.count ≡ length builder.now.sequences }
+    ensures ok { OnOk result (Announces builder.now.sequences (place ∷ []) (closing closer ∷ [])
         scopes.old scopes.new) }
-    ensures err { IfErr result (IsUnannounced (arena builder.now) (place ∷ [])
+    ensures err { IfErr result (IsUnannounced builder.now.sequences (place ∷ [])
         (closing closer ∷ [])) }
     ensures kept { OnErr result (scopes.new ≡ scopes.old) }
 {
@@ -43,10 +42,10 @@ fn announce_handler(
     clause: &LegacyCatch,
     closer: Closer,
 ) -> Result<(), EmitError>
-    requires { scopes.old.count ≡ length (arena builder.now) }
-    ensures ok { OnOk result (Announces (arena builder.now) (clause_places clause.now)
+    requires { scopes.old.count ≡ length builder.now.sequences }
+    ensures ok { OnOk result (Announces builder.now.sequences (clause_places clause.now)
         (closing closer ∷ []) scopes.old scopes.new) }
-    ensures err { IfErr result (IsUnannounced (arena builder.now) (clause_places clause.now)
+    ensures err { IfErr result (IsUnannounced builder.now.sequences (clause_places clause.now)
         (closing closer ∷ [])) }
     ensures kept { OnErr result (scopes.new ≡ scopes.old) }
 {
@@ -63,14 +62,14 @@ fn announce_try(
     builder: &FunctionBuilder,
     construct: &Try,
 ) -> Result<(), EmitError>
-    requires known { scopes.old.count ≡ length (arena builder.now) }
-    requires lawful { are_lawful (map legacy_clause construct.now.catches.items) ≡ true }
-    ensures ok { OnOk result (Announces (arena builder.now)
-        (construct.now.seq ∷ handlers construct.now.catches.items)
-        (try_closers (map legacy_clause construct.now.catches.items)) scopes.old scopes.new) }
-    ensures err { IfErr result (IsUnannounced (arena builder.now)
-        (construct.now.seq ∷ handlers construct.now.catches.items)
-        (try_closers (map legacy_clause construct.now.catches.items))) }
+    requires known { scopes.old.count ≡ length builder.now.sequences }
+    requires lawful { are_lawful (map legacy_clause construct.now.catches) ≡ true }
+    ensures ok { OnOk result (Announces builder.now.sequences
+        (construct.now.seq ∷ handlers construct.now.catches)
+        (try_closers (map legacy_clause construct.now.catches)) scopes.old scopes.new) }
+    ensures err { IfErr result (IsUnannounced builder.now.sequences
+        (construct.now.seq ∷ handlers construct.now.catches)
+        (try_closers (map legacy_clause construct.now.catches))) }
     ensures kept { OnErr result (HasMore scopes.old scopes.new) }
 {
     let mut closer = Closer::End;
@@ -92,11 +91,11 @@ pub(crate) fn announce(
     builder: &FunctionBuilder,
     instr: &Instr,
 ) -> Result<(), EmitError>
-    requires known { scopes.old.count ≡ length (arena builder.now) }
+    requires known { scopes.old.count ≡ length builder.now.sequences }
     requires lawful { are_lawful (clauses_of_try instr.now) ≡ true }
-    ensures ok { OnOk result (Announces (arena builder.now) (slots_in instr.now)
+    ensures ok { OnOk result (Announces builder.now.sequences (slots_in instr.now)
         (closers_in instr.now) scopes.old scopes.new) }
-    ensures err { IfErr result (IsUnannounced (arena builder.now) (slots_in instr.now)
+    ensures err { IfErr result (IsUnannounced builder.now.sequences (slots_in instr.now)
         (closers_in instr.now)) }
     ensures kept { OnErr result (HasMore scopes.old scopes.new) }
 {

@@ -1,4 +1,3 @@
-use Rattle.walrus_ir.specs.Arena.{arena}
 use Rattle.walrus_body.specs.TreeWriting.Operators.{numbers_of}
 use Rattle.walrus_body.proofs.TreeWriting.Steps.{plain_visited}
 use Rattle.walrus_body.proofs.local_function.emit.EmitVisitor.visit_plain.Goals as goal
@@ -6,5 +5,5 @@ use Rattle.walrus_body.proofs.local_function.emit.EmitVisitor.visit_plain.Goals 
 pub returns-in_ok-write-in-Ok-clause-ok : goal.returns-in_ok-write-in-Ok-clause-ok
 returns-in_ok-write-in-Ok-clause-ok c =
     let v = c.args.self.now in
-    plain_visited (arena v.builder.now) (numbers_of v.numbers) v.scopes v.draft c.write.new.self c.args.instr.now c.args.location
+    plain_visited v.builder.now.sequences (numbers_of v.numbers) v.scopes v.draft c.write.new.self c.args.instr.now c.args.location
       c.in-Ok.op c.requires c.in-Ok.ensures.operator c.in_ok-write-in-Ok.ensures.ok

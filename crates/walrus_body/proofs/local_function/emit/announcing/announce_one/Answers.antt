@@ -2,4 +2,4 @@ use Rattle.walrus_body.proofs.TreeWriting.Announcing.{one_announced}
 use Rattle.walrus_body.proofs.local_function.emit.announcing.announce_one.Goals as goal
 
 pub returns-clause-ok : goal.returns-clause-ok
-returns-clause-ok c = one_announced _ c.args.place c.args.closer c.seq.result.now _ _ c.seq.ensures c.in_ok-announce.ensures.ok
+returns-clause-ok c = ?

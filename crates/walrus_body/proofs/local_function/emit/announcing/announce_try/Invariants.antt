@@ -1,13 +1,12 @@
 -- The handlers behind the clauses that are left are announced.
 use Rattle.std.proofs.Common.{◌≡◌, length}
-use Rattle.walrus_ir.specs.Arena.{arena}
 use Rattle.walrus_body.proofs.TreeWriting.Announcing.{Remaining}
 use Rattle.walrus_body.proofs.local_function.emit.announcing.announce_try.Given as goal
 
 abbrev pub invariant-clauses : goal.invariant-clauses
 invariant-clauses l = record {
-  known : l.scopes.count ≡ length (arena l.builder);
-  remaining : Remaining (arena l.builder) l.construct.catches.items l.left l.fn.scopes l.scopes l.closer
+  known : l.scopes.count ≡ length l.builder.sequences;
+  remaining : Remaining l.builder.sequences l.construct.catches l.left l.fn.scopes l.scopes l.closer
 }
 
 abbrev pub decreases-clauses : goal.decreases-clauses

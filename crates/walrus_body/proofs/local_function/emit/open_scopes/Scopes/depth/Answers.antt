@@ -26,7 +26,7 @@ returns c =
     let many = c.len.ensures ∙ s.entered.ok.0 in
     let found : slice_index_or s.levels.items place None ≡ Some level = cc in
     let left : c.saturating_sub-2.result ≡ length s.entered.items - level - 1 = cc in
-    c.fitting.ensures
+    c.in_32_bits.ensures
     ∙ ap in_32_bits left
     ∙ sym (depth_found s.levels.items s.coming.items s.entered.items place level c.self.invariant found)
     ∙ ap (λ (v : ScopeLists). depth_in (places_of v.open_scopes) place) c.self.view_is
