@@ -1,7 +1,7 @@
 -- The sequences in an instruction are announced from the last to the first.
 use Rattle.std.specs.Prelude.{◌≡◌, ◌++◌, ℕ, List, [], ◌∷◌, map, slice_get, length, true, Option, None, Some, Result, Ok, Err, OnOk}
 use Rattle.std.proofs.Common.{refl, sym, ap, subst, ◌∙◌, inl, inr, append_assoc, arith}
-use Rattle.std.proofs.lemmas.List.{map-append, append-nil}
+use Rattle.std.proofs.lemmas.List.{map-append}
 use Rattle.walrus_ir.specs.declared.seq.InstrSeq.{InstrSeq}
 use Rattle.walrus_ir.specs.declared.instr.Instr.{Instr}
 use Rattle.walrus_ir.specs.declared.instr.Instr.TheVariants as instr
@@ -22,7 +22,7 @@ use Rattle.walrus_body.specs.declared.local_function.emit.closing.SequenceScope.
 use Rattle.walrus_body.specs.Emission.{Scope, closers_in, scope_at, scopes_at}
 use Rattle.walrus_body.specs.TreeWriting.Closers.{closing, opening_clause, scope_of, scopes_of}
 use Rattle.walrus_body.specs.TreeWriting.ScopeLists.{ScopeLists, ending, with_more}
-use Rattle.walrus_body.specs.TreeWriting.Announcing.{Announces, IsUnannounced, HasMore}
+use Rattle.walrus_body.specs.TreeWriting.Announcing.{Announces, IsUnannounced}
 
 -- ---- one sequence before others
 
@@ -30,9 +30,6 @@ use Rattle.walrus_body.specs.TreeWriting.Announcing.{Announces, IsUnannounced, H
 abbrev looked_up : ℕ → TextOperation → Option InstrSeq → Result (List Scope) EmitError → Result (List Scope) EmitError
 looked_up p c o t =
     (some_or o UnknownSequence >>= λ seq. Ok (record { slot = p; closer = Some (at_location c seq.end) })) >>= λ s. t >>= λ ss. Ok (s ∷ ss)
-
-pub announces_none : (b : List InstrSeq) (cs : List TextOperation) (s : ScopeLists) → Announces b [] cs s s
-announces_none b cs s = record { more = []; are_these = refl; are_first = refl }
 
 with_twice : (s t u : ScopeLists) (first second : List SequenceScope) → t ≡ with_more s second → u ≡ with_more t first
     → u ≡ with_more s (first ++ second)
@@ -72,11 +69,6 @@ one_missing : (r : Result Scope EmitError) (t : Result (List Scope) EmitError) (
 one_missing (Ok s) t e h = absurd (cc)
 one_missing (Err f) t e h = let is : f ≡ e = cc in ap Err is
 
-pub first_missing : (b : List InstrSeq) (p : ℕ) (c : TextOperation) (ps : List ℕ) (cs : List TextOperation) (e : EmitError)
-    → IsUnannounced b (p ∷ []) (c ∷ []) e → IsUnannounced b (p ∷ ps) (c ∷ cs) e
-first_missing b p c ps cs e (inl h) = inl h
-first_missing b p c ps cs e (inr h) = inr (one_missing (scope_at b p c) (scopes_at b ps cs) e h)
-
 only_unknown : (b : List InstrSeq) (ps : List ℕ) (cs : List TextOperation) (e : EmitError) → scopes_at b ps cs ≡ Err e → e ≡ UnknownSequence
 only_unknown b [] cs e h = absurd (cc)
 only_unknown b (p ∷ ps) [] e h = absurd (cc)
@@ -86,6 +78,7 @@ only_unknown b (p ∷ ps) (c ∷ cs) e h = by_lookup (slice_get b p) (scopes_at 
         → (t >>= λ ss. Ok (s ∷ ss)) ≡ Err e → e ≡ UnknownSequence
     by_rest s (Ok ss) g k = absurd (cc)
     by_rest s (Err f) g k = let is : f ≡ e = cc in sym is ∙ g f refl
+
     by_lookup : (o : Option InstrSeq) (t : Result (List Scope) EmitError) → ((e : EmitError) → t ≡ Err e → e ≡ UnknownSequence)
         → looked_up p c o t ≡ Err e → e ≡ UnknownSequence
     by_lookup None t g k = cc
@@ -101,12 +94,7 @@ later_missing : (b : List InstrSeq) (p : ℕ) (c : TextOperation) (ps : List ℕ
 later_missing b p c ps cs e h =
     let is = only_unknown b ps cs e h in
     subst (λ f. scopes_at b (p ∷ ps) (c ∷ cs) ≡ Err f) (sym is)
-      (rest_unknown p c (slice_get b p) (scopes_at b ps cs) (h ∙ ap Err is))
-
-pub rest_missing : (b : List InstrSeq) (p : ℕ) (c : TextOperation) (ps : List ℕ) (cs : List TextOperation) (e : EmitError)
-    → IsUnannounced b ps cs e → IsUnannounced b (p ∷ ps) (c ∷ cs) e
-rest_missing b p c ps cs e (inl h) = inl h
-rest_missing b p c ps cs e (inr h) = inr (later_missing b p c ps cs e h)
+    (rest_unknown p c (slice_get b p) (scopes_at b ps cs) (h ∙ ap Err is))
 
 -- ---- the clauses of a legacy `try`
 
@@ -133,10 +121,6 @@ pub record Remaining (b : List InstrSeq) (all left : List LegacyCatch) (old new 
   pub splits : all ≡ left ++ done
   pub announced : Announces b (handlers done) (later_closers (map legacy_clause done)) old new
   pub next : closing closer ≡ first_closer (map legacy_clause done)
-
-pub all_remain : (b : List InstrSeq) (all : List LegacyCatch) (s : ScopeLists) (closer : Closer) → closing closer ≡ end_operation
-    → Remaining b all all s s closer
-all_remain b all s closer h = record { done = []; splits = sym (append-nil all); announced = announces_none b [] s; next = h }
 
 none_behind : (before after : List LegacyCatch) (n : ℕ) → are_handlers (map legacy_clause (before ++ Delegate n ∷ after)) ≡ true → ⊥
 none_behind [] after n h = absurd (cc)
@@ -166,10 +150,10 @@ one_more : (b : List InstrSeq) (all before : List LegacyCatch) (x : LegacyCatch)
     → Announces b (handlers (x ∷ r.done)) (later_closers (map legacy_clause (x ∷ r.done))) s u
 one_more b all before (Catch tag p) s t u closer lawful r is a =
     subst (λ cs. Announces b (p ∷ handlers r.done) cs s u) (closers_from (closing closer) r.done r.next)
-      (announces_before b p (closing closer) (handlers r.done) (later_closers (map legacy_clause r.done)) s t u r.announced a)
+    (announces_before b p (closing closer) (handlers r.done) (later_closers (map legacy_clause r.done)) s t u r.announced a)
 one_more b all before (CatchAll p) s t u closer lawful r is a =
     subst (λ cs. Announces b (p ∷ handlers r.done) cs s u) (closers_from (closing closer) r.done r.next)
-      (announces_before b p (closing closer) (handlers r.done) (later_closers (map legacy_clause r.done)) s t u r.announced a)
+    (announces_before b p (closing closer) (handlers r.done) (later_closers (map legacy_clause r.done)) s t u r.announced a)
 one_more b all before (Delegate n) s t u closer lawful r is a =
     let last = delegate_alone before r.done n (subst (λ (xs : List LegacyCatch). are_lawful (map legacy_clause xs) ≡ true) is lawful) in
     let none : handlers r.done ≡ [] = ap handlers last in
@@ -219,7 +203,7 @@ handlers_missing b (Catch t p ∷ before) done e h k =
     let all = before ++ done in
     ap (scopes_at b (p ∷ handlers all)) (closers_split (map legacy_clause all))
     ∙ later_missing b p (first_closer (map legacy_clause all)) (handlers all) (later_closers (map legacy_clause all)) e
-      (handlers_missing b before done e h k)
+    (handlers_missing b before done e h k)
 handlers_missing b (CatchAll p ∷ before) done e h k = absurd (none_empty b before done (later_closers (map legacy_clause done)) e h k)
 handlers_missing b (Delegate n ∷ before) done e h k = absurd (cc)
 
@@ -257,7 +241,7 @@ try_missing b seq all left before x s t closer e lawful split r (inr h) =
     ) in
     let whole = subst (λ (xs : List LegacyCatch). scopes_at b (handlers xs) (later_closers (map legacy_clause xs)) ≡ Err e) within.1 within.2 in
     inr (ap (scopes_at b (seq ∷ handlers all)) (closers_split (map legacy_clause all))
-      ∙ later_missing b seq (first_closer (map legacy_clause all)) (handlers all) (later_closers (map legacy_clause all)) e whole)
+    ∙ later_missing b seq (first_closer (map legacy_clause all)) (handlers all) (later_closers (map legacy_clause all)) e whole)
 
 -- no clause is left
 pub try_announced : (b : List InstrSeq) (seq : ℕ) (all left : List LegacyCatch) (s t u : ScopeLists) (closer : Closer)
@@ -266,26 +250,8 @@ pub try_announced : (b : List InstrSeq) (seq : ℕ) (all left : List LegacyCatch
 try_announced b seq all left s t u closer none r a =
     let q = subst (λ (xs : List LegacyCatch). Remaining b all xs s t closer) none r in
     subst (λ (xs : List LegacyCatch). Announces b (seq ∷ handlers xs) (try_closers (map legacy_clause xs)) s u) (sym q.splits)
-      (subst (λ cs. Announces b (seq ∷ handlers q.done) cs s u) (closers_from (closing closer) q.done q.next)
-        (announces_before b seq (closing closer) (handlers q.done) (later_closers (map legacy_clause q.done)) s t u q.announced a))
-
-pub body_missing : (b : List InstrSeq) (seq : ℕ) (all left : List LegacyCatch) (s t : ScopeLists) (closer : Closer) (e : EmitError)
-    → left ≡ [] → Remaining b all left s t closer → IsUnannounced b (seq ∷ []) (closing closer ∷ []) e
-    → IsUnannounced b (seq ∷ handlers all) (try_closers (map legacy_clause all)) e
-body_missing b seq all left s t closer e none r h =
-    let q = subst (λ (xs : List LegacyCatch). Remaining b all xs s t closer) none r in
-    subst (λ (xs : List LegacyCatch). IsUnannounced b (seq ∷ handlers xs) (try_closers (map legacy_clause xs)) e) (sym q.splits)
-      (subst (λ cs. IsUnannounced b (seq ∷ handlers q.done) cs e) (closers_from (closing closer) q.done q.next)
-        (first_missing b seq (closing closer) (handlers q.done) (later_closers (map legacy_clause q.done)) e h))
-
--- ---- what is left of a failure
-
-pub kept_more : (s t : ScopeLists) (ps : List ℕ) (cs : List TextOperation) (b : List InstrSeq) (u : ScopeLists)
-    → Announces b ps cs s t → u ≡ t → HasMore s u
-kept_more s t ps cs b u a h = record { more = a.more; are_first = h ∙ a.are_first }
-
-pub kept_same : (s u : ScopeLists) → u ≡ s → HasMore s u
-kept_same s u h = record { more = []; are_first = h }
+    (subst (λ cs. Announces b (seq ∷ handlers q.done) cs s u) (closers_from (closing closer) q.done q.next)
+    (announces_before b seq (closing closer) (handlers q.done) (later_closers (map legacy_clause q.done)) s t u q.announced a))
 
 -- ---- what a call answers
 
@@ -294,7 +260,7 @@ pub alternatives_announced : (b : List InstrSeq) (i : Instr) (x : IfElse) (s t u
     → OnOk r (Announces b (x.consequent ∷ []) (else_operation ∷ []) t u) → OnOk r (Announces b (slots_in i) (closers_in i) s u)
 alternatives_announced b i x s t u (Ok _) is later first =
     subst (λ j. Announces b (slots_in j) (closers_in j) s u) (sym is)
-      (announces_before b x.consequent else_operation (x.alternative ∷ []) (end_operation ∷ []) s t u later first)
+    (announces_before b x.consequent else_operation (x.alternative ∷ []) (end_operation ∷ []) s t u later first)
 alternatives_announced b i x s t u (Err e) is later first = tt
 
 pub nothing_left : (xs : List LegacyCatch) → length xs ≡ 0 → xs ≡ []

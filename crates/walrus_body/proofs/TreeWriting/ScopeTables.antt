@@ -49,9 +49,9 @@ target_by_level (p ∷ ps) place =
     let rest = ap deeper (target_by_level ps place) ∙ one_deeper (length ps) (level_in ps place) (level_below ps place) in
     let zero_is : 0 ≡ suc (length ps) - length ps - 1 = omega arith in
     elim (place == p) as
-      (λ b. (if b then Depth 0 else deeper (target_in ps place))
-        ≡ target_at (suc (length ps)) (if b then Some (length ps) else level_in ps place))
-      [ true ↦ ap Depth zero_is | false ↦ rest ]
+    (λ b. (if b then Depth 0 else deeper (target_in ps place))
+    ≡ target_at (suc (length ps)) (if b then Some (length ps) else level_in ps place))
+    [ true ↦ ap Depth zero_is | false ↦ rest ]
 
 -- ---- the open sequences
 
@@ -77,8 +77,8 @@ depth_found levels coming es place level h e =
     let around = places_of (opened_in es) in
     let is : target_in around place ≡ target_at (length es) (Some level) =
     target_by_level around place
-      ∙ ap (target_at (length around)) (sym (h.levels_are place) ∙ e)
-      ∙ ap (λ n. target_at n (Some level)) (opened_length es) in
+    ∙ ap (target_at (length around)) (sym (h.levels_are place) ∙ e)
+    ∙ ap (λ n. target_at n (Some level)) (opened_length es) in
     ap (λ t. depth_of t >>= in_32_bits) is
 
 pub depth_missing : (levels : List (Option ℕ)) (coming : List SequenceScope) (es : List Entered) (place : ℕ)

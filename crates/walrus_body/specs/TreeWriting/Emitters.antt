@@ -59,5 +59,5 @@ ClosesWith to c old new = (b : List InstrSeq) (scopes : ScopeLists)
 abbrev pub IsFaultOfCloser : Numbers → Option (Closer × ℕ) → Drafted → EmitFault → Type 0
 IsFaultOfCloser to c old (Refused f) = (f ≡ Memory)
     ⊎ ((b : List InstrSeq) (scopes : ScopeLists)
-      → with_closer (emitter_at b to scopes old) (closer_at c) ≡ Err f)
+    → with_closer (emitter_at b to scopes old) (closer_at c) ≡ Err f)
 IsFaultOfCloser to c old NotCarried = IsUncarriedCloser (closer_at c)

@@ -93,5 +93,5 @@ pub record IsUncarriedTree (b : List InstrSeq) (entry : ℕ) (to : Numbers) : Ty
 abbrev pub IsUnwritten : List InstrSeq → (entry : ℕ) → Numbers → EmitFault → Type 0
 IsUnwritten b entry to (Refused e) =
     (e ≡ Memory) ⊎ (((walk : WalkError) × FirstWalkFault b entry walk × (e ≡ fault_of_walk walk))
-      ⊎ ((t : FunctionTree) × HasTree b entry t × (tree_bytes to t ≡ Err e)))
+    ⊎ ((t : FunctionTree) × HasTree b entry t × (tree_bytes to t ≡ Err e)))
 IsUnwritten b entry to NotCarried = IsUncarriedTree b entry to

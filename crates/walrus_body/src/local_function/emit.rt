@@ -29,8 +29,8 @@ use open_scopes::Scopes;
 use operators::{closing_operator, operator_of};
 use std::alloc::AllocError;
 use walrus_ir::{
-    DataId, FunctionBuilder, Instr, InstrLocId, InstrSeq, InstrSeqId, InstrSeqType,
-    LocalId, RefFunc, Visitor, dfs_in_order,
+    DataId, FunctionBuilder, Instr, InstrLocId, InstrSeq, InstrSeqId, InstrSeqType, LocalId,
+    RefFunc, Visitor, dfs_in_order,
 };
 use wasm_encode::FunctionEncoder;
 

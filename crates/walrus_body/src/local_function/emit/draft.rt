@@ -38,9 +38,9 @@ impl Draft {
     /// Nothing is written. It takes no memory.
     pub fn new(alloc: Global, base: usize, has_map: bool) -> Draft
         ensures { result ≡ record {
-            base = base;
-            has_map = has_map;
-            output = record { bytes = []; pairs = [] };
+          base = base;
+          has_map = has_map;
+          output = record { bytes = []; pairs = [] };
         } }
     {
         Draft {

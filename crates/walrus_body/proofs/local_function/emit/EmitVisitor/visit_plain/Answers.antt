@@ -6,4 +6,4 @@ pub returns-in_ok-write-in-Ok-clause-ok : goal.returns-in_ok-write-in-Ok-clause-
 returns-in_ok-write-in-Ok-clause-ok c =
     let v = c.args.self.now in
     plain_visited v.builder.now.sequences (numbers_of v.numbers) v.scopes v.draft c.write.new.self c.args.instr.now c.args.location
-      c.in-Ok.op c.requires c.in-Ok.ensures.operator c.in_ok-write-in-Ok.ensures.ok
+    c.in-Ok.op c.requires c.in-Ok.ensures.operator c.in_ok-write-in-Ok.ensures.ok

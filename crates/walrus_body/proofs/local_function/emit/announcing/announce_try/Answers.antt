@@ -6,8 +6,8 @@ use Rattle.walrus_body.proofs.local_function.emit.announcing.announce_try.Goals 
 pub returns-in-Err-clause-err : goal.returns-in-Err-clause-err
 returns-in-Err-clause-err c =
     try_missing c.args.builder.now.sequences c.args.construct.now.seq c.args.construct.now.catches c.clauses.left.now
-      c.in-Some.before.now c.in-Some.clause.now c.args.scopes.now c.clauses.scopes c.clauses.closer c.in-Err.fault
-      c.requires.lawful c.in-Some.ensures.cases.0 c.clauses.invariant.remaining c.in-Err.ensures.err
+    c.in-Some.before.now c.in-Some.clause.now c.args.scopes.now c.clauses.scopes c.clauses.closer c.in-Err.fault
+    c.requires.lawful c.in-Some.ensures.cases.0 c.clauses.invariant.remaining c.in-Err.ensures.err
 
 pub clauses-preserved : goal.clauses-preserved
 clauses-preserved c =
@@ -24,4 +24,4 @@ returns-clause-ok c =
     let none : length c.clauses.left.now ≡ 0 = omega (arith, c.in_default.ensures.cases) in
     try_announced_so c.args.builder.now.sequences c.args.construct.now.seq c.args.construct.now.catches c.clauses.left.now
       c.args.scopes.now c.clauses.scopes c.announce_one.new.scopes c.clauses.closer c.announce_one.result
-      (nothing_left c.clauses.left.now none) c.clauses.invariant.remaining c.announce_one.ensures.ok
+      (nothing_left c.clauses.left.now none) c.clauses.invariant.remaining (rw (← c.construct.view_is) c.announce_one.ensures.ok)

@@ -6,7 +6,7 @@ use Rattle.walrus_body.proofs.local_function.emit.announcing.announce_try.Given 
 abbrev pub invariant-clauses : goal.invariant-clauses
 invariant-clauses l = record {
   known : l.scopes.count ≡ length l.builder.sequences;
-  remaining : Remaining l.builder.sequences l.construct.catches l.left l.fn.scopes l.scopes l.closer
+  remaining : Remaining l.builder.sequences l.construct.catches l.left l.fn.scopes l.scopes l.closer;
 }
 
 abbrev pub decreases-clauses : goal.decreases-clauses

@@ -15,7 +15,7 @@ use Rattle.walrus_body.proofs.TreeWriting.NotCarried.{is_carried, vector_constan
 use Rattle.walrus_body.proofs.local_function.emit.operators.operator_of.Goals as goal
 
 pub returns-in_default-clause-operator : goal.returns-in_default-clause-operator
-returns-in_default-clause-operator c = 
+returns-in_default-clause-operator c =
     let is : is_carried c.args.instr.now ≡ false = search rules in
     not_carried c.args.instr.now is
 
@@ -26,7 +26,7 @@ pub returns-in-Load-clause-operator : goal.returns-in-Load-clause-operator
 returns-in-Load-clause-operator c = c.memory_operator.ensures (places_of c.args.scopes.now.open_scopes) c.args.ty
 
 pub returns-in-V128-clause-operator : goal.returns-in-V128-clause-operator
-returns-in-V128-clause-operator c = 
+returns-in-V128-clause-operator c =
     ap (λ i. kinds_of (operation_of i).opcode) c.in-Const.is ∙ vector_constant c.in-Const.constant.value c.in-V128.field-0 c.in-V128.is
 
 writable : (to : Numbers) (i : Instr) (r : Result Operator EmitFault) → ((around : List ℕ) (type : InstrSeqType) → IsOperatorOf to around type i r) → IfOk r (λ op. IsWritable (meaning op))

@@ -15,4 +15,4 @@ returns-clause-ok c =
     c.pop.ensures.items ∙ ap (λ (o : Option SequenceScope). c.pop.new.self.items ++ option_to_list o) c.in-Some.is in
     let pushed : c.push.new.self.items ≡ s.entered.items ++ entered ∷ [] = grind (arith, common_steps) in
     begins s.levels.items _ s.coming.items c.pop.new.self.items s.entered.items c.push.new.self.items entered
-      c.args.self.now c.self.view_is (length-set s.levels.items c.index-index.result _) popped pushed
+    c.args.self.now c.self.view_is (length-set s.levels.items c.index-index.result _) popped pushed
