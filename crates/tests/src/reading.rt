@@ -3,7 +3,7 @@ use std::test::Fail;
 use walrus_ir::{LoadKind, UnaryOp};
 use wasm_ops::{
     Operator, RawMemArg, ReadError, ReadFault, Reader, law_one_list, law_one_spelling,
-    law_shortest, law_shortest_number,
+    law_operator_equality, law_shortest, law_shortest_number,
 };
 
 #[test]
@@ -12,24 +12,24 @@ fn reads_one_after_the_other(rt: HostRuntime) -> Result<(), Fail> {
         0x42, 0x7f, 0xfc, 0x87, 0x00, 0x28, 0x02, 0x80, 0x80, 0x80, 0x80, 0x10, 0x41,
     ];
     let mut reader = Reader::new(&bytes, 100);
-    assert_eq!(rt; reader.read()?, Operator::I64Const { value: -1 });
+    assert!(rt; reader.read()? == Operator::I64Const { value: -1 });
     assert_eq!(rt; reader.original_position(), 102);
-    assert_eq!(rt; reader.read()?, Operator::Unop(UnaryOp::I64TruncUSatF64));
+    assert!(rt; reader.read()? == Operator::Unop(UnaryOp::I64TruncUSatF64));
     let memarg = RawMemArg {
         exponent: 2,
         memory: 0,
         offset: 4294967296,
     };
     let kind = LoadKind::I32 { atomic: false };
-    assert_eq!(rt; reader.read()?, Operator::Load { kind, memarg });
+    assert!(rt; reader.read()? == Operator::Load { kind, memarg });
     assert!(rt; !reader.eof());
-    assert_eq!(rt;
-        reader.read(),
-        Err(ReadError {
-            fault: ReadFault::Truncated,
-            at: 112
-        })
-    );
+    let end = ReadError {
+        fault: ReadFault::Truncated,
+        at: 112,
+    };
+    assert!(rt; matches!(reader.read(), Err(error) if error == end));
+    let nop = Operator::Nop;
+    assert!(rt; !law_operator_equality(&nop, &Operator::Drop));
     law_one_spelling();
     law_one_list();
     law_shortest_number();

@@ -1,8 +1,8 @@
 //! Operators that are written, and read again.
 use std::test::Fail;
 use walrus_ir::{LoadKind, UnaryOp};
-use wasm_encode::{FunctionEncoder, OutOp, write_op};
-use wasm_ops::{RawMemArg, RawValType, Reader};
+use wasm_encode::{FunctionEncoder, OutClauses, OutOp, OutTable, write_op};
+use wasm_ops::{BlockType, Operator, RawCatch, RawMemArg, RawValType, Reader};
 
 #[test]
 fn reads_what_was_written(rt: HostRuntime) -> Result<(), Fail> {
@@ -35,7 +35,42 @@ fn reads_what_was_written(rt: HostRuntime) -> Result<(), Fail> {
         [0x28, 0x02, 0x80, 0x80, 0x80, 0x80, 0x10].as_slice()
     );
     let mut reader = Reader::new(out.as_slice(), 0);
-    assert_eq!(rt; reader.read()?, load);
+    assert!(rt; reader.read()? == Operator::Load { kind, memarg });
     assert!(rt; reader.eof());
+    Ok(())
+}
+
+#[test]
+fn writes_lists(rt: HostRuntime) -> Result<(), Fail> {
+    let mut out = Vec::new(rt.alloc());
+    let table = OutTable {
+        targets: &[0, 300],
+        default: 1,
+    };
+    write_op(&OutOp::BrTable(table), &mut out)?;
+    let clauses = [
+        RawCatch {
+            by_reference: false,
+            tag: Some(5),
+            label: 0,
+        },
+        RawCatch {
+            by_reference: true,
+            tag: None,
+            label: 2,
+        },
+    ];
+    let catches = OutClauses {
+        clauses: clauses.as_slice(),
+    };
+    let ty = BlockType::Empty;
+    write_op(&OutOp::TryTable { ty, catches }, &mut out)?;
+    assert_eq!(rt;
+        out.as_slice(),
+        [
+            0x0e, 0x02, 0x00, 0xac, 0x02, 0x01, 0x1f, 0x40, 0x02, 0x00, 0x05, 0x00, 0x03, 0x02,
+        ]
+        .as_slice()
+    );
     Ok(())
 }

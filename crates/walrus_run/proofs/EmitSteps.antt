@@ -13,8 +13,7 @@ use Rattle.walrus_ir.specs.declared.control.Try.{Try}
 use Rattle.walrus_ir.specs.declared.control.TryTable.{TryTable}
 use Rattle.walrus_ir.specs.Unfolding.{slots_in}
 use Rattle.walrus_ir.specs.Events.{WalkEvent, StartSequence, Hears}
-use Rattle.wasm_ops.specs.declared.operator.Operator.{Operator}
-use Rattle.wasm_ops.specs.Meaning.{meaning}
+use Rattle.wasm_ops.specs.Meaning.{Listed, meaning}
 use Rattle.wasm_ops.specs.Operations.{RawOperation}
 use Rattle.wasm_ops.specs.Opcodes.{kinds_of_byte, kinds_of}
 use Rattle.wasm_ops.specs.Shortest.{short}
@@ -96,10 +95,10 @@ own_is : (to : Numbers) (around : List ℕ) (type : InstrSeqType) (i : Instr) (l
 own_is to around type i l r closes h = without_clauses _ _ (no_clauses i closes) ∙ ap (λ s. s >>= λ x. Ok (at_location x l)) h
 
 -- what its answer says where sequences are open
-abbrev Answers : EmitVisitor → InstrSeqType → Instr → Result Operator WriteFault → Type 0
+abbrev Answers : EmitVisitor → InstrSeqType → Instr → Result Listed WriteFault → Type 0
 Answers v type i r = (count : ℕ) (around : List ℕ) → IsOpen v.scopes count around → IsOperatorOf (numbers_of v.indices.now) around type i r
 
-pub visited : (v : EmitVisitor) (i : Instr) (l : ℕ) (found : InstrSeqType × Option ℕ) (op : Operator) (encoder : List ℕ)
+pub visited : (v : EmitVisitor) (i : Instr) (l : ℕ) (found : InstrSeqType × Option ℕ) (op : Listed) (encoder : List ℕ)
     → IsFirst v.builder.now.sequences i (Ok found) → Answers v found.0 i (Ok op) → encoder ≡ v.encoder ++ short (meaning op)
     → (b : List InstrSeq) (to : Numbers) (around : List ℕ) → Stands b to None around v → Opens b to around (i, l) v (record v { encoder = encoder; coming = found.1 })
 visited v i l found op encoder first answers bytes b to around stands =

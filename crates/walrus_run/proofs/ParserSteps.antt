@@ -4,9 +4,8 @@ use Rattle.std.proofs.lemmas.List.{length-map}
 use Rattle.std.proofs.Common.{refl, inl, inr, ap, sym, subst, ◌∙◌}
 use Rattle.walrus_ir.specs.declared.instr.Instr.{Instr}
 use Rattle.walrus_ir.specs.Unfolding.{slots_in}
-use Rattle.wasm_ops.specs.declared.operator.Operator.{Operator}
 use Rattle.wasm_ops.specs.Operations.{RawOperation}
-use Rattle.wasm_ops.specs.Meaning.{meaning}
+use Rattle.wasm_ops.specs.Meaning.{Listed, meaning}
 use Rattle.wasm_body.specs.declared.error.ParseError.{ParseError}
 use Rattle.wasm_body.specs.declared.error.ParseError.TheVariants.{Memory}
 use Rattle.walrus_ir.specs.Results.{◌>>=◌}
@@ -64,7 +63,7 @@ is_kept : (d : Bool) → fate_by d ≢ Drops
 is_kept true e = absurd cc
 is_kept false e = absurd cc
 
-pub steps_instruction : (old new : Parser) (ls : List (Layer Occurrence)) (s : Sequence Occurrence) (op : Operator) (i : Instr) (place location : ℕ) →
+pub steps_instruction : (old new : Parser) (ls : List (Layer Occurrence)) (s : Sequence Occurrence) (op : Listed) (i : Instr) (place location : ℕ) →
     Keeps old ls s → is_instruction op ≡ true →
     translate (placing (env_of old) (frames_of ls) (open_places old)) (meaning op) ≡ Ok (operation_of i) → slots_in i ≡ [] → clauses_of_try i ≡ [] →
     Takes old.current new.current ((i, location) ∷ []) (is_cut op) → new ≡ record old { current = new.current } →
@@ -92,7 +91,7 @@ steps_instruction old new ls s op i place location keeps is placed no_places no_
       keeps = goes_behind new ls s x behind.action behind.does (subst (λ p. Keeps p ls (append s (Single x behind.action Empty))) (sym rest) kept);
     }
 
-pub refuses_instruction : (old : Parser) (ls : List (Layer Occurrence)) (s : Sequence Occurrence) (op : Operator) (f : ParseError) →
+pub refuses_instruction : (old : Parser) (ls : List (Layer Occurrence)) (s : Sequence Occurrence) (op : Listed) (f : ParseError) →
     Keeps old ls s → is_instruction op ≡ true → translate (placing (env_of old) (frames_of ls) (open_places old)) (meaning op) ≡ Err f →
     named_in (env_of old) (frames_of ls) (meaning op) ≡ Err f
 refuses_instruction old ls s op f keeps is placed =

@@ -12,11 +12,12 @@ use Rattle.walrus_ir.specs.declared.memory.LoadKind.{LoadKind}
 use Rattle.walrus_ir.specs.declared.memory.LoadKind.TheVariants as load
 use Rattle.walrus_ir.specs.declared.memory.StoreKind.{StoreKind}
 use Rattle.walrus_ir.specs.declared.memory.StoreKind.TheVariants as store
-use Rattle.wasm_ops.specs.declared.operator.Operator.{Operator}
-use Rattle.wasm_ops.specs.declared.operator.Operator.TheVariants as operator
+use Rattle.wasm_ops.specs.declared.operator.Op.TheVariants as operator
 use Rattle.wasm_ops.specs.declared.types.BlockType.{BlockType}
 use Rattle.wasm_ops.specs.Operations.{Immediate}
-use Rattle.wasm_ops.specs.Meaning.{meaning}
+use Rattle.wasm_ops.specs.Opcodes.{kinds_of_byte}
+use Rattle.wasm_ops.specs.Fitting.{HasRow}
+use Rattle.wasm_ops.specs.Meaning.{Listed, meaning}
 use Rattle.wasm_ops.specs.UnaryOperations.{unary_opcode}
 use Rattle.wasm_ops.specs.BinaryOperations.{binary_opcode}
 use Rattle.wasm_ops.specs.TernaryOperations.{ternary_opcode}
@@ -96,10 +97,12 @@ abbrev pub fate_by : Bool → Fate
 fate_by true = Cuts
 fate_by false = Stays
 
-pub fate_of_operator : (op : Operator) → is_instruction op ≡ true → fate_of_role (role_of (meaning op).opcode) ≡ Some (fate_by (is_cut op))
+pub fate_of_operator : (op : Listed) → is_instruction op ≡ true → fate_of_role (role_of (meaning op).opcode) ≡ Some (fate_by (is_cut op))
 fate_of_operator operator.Nop i = absurd cc
 fate_of_operator (operator.Block type) i = absurd cc
 fate_of_operator operator.End i = absurd cc
+fate_of_operator (operator.BrTable targets) i = absurd cc
+fate_of_operator (operator.TryTable type catches) i = absurd cc
 fate_of_operator (operator.Unop op) i = ap fate_of_role (plain_unary op)
 fate_of_operator (operator.Binop op) i = ap fate_of_role (plain_binary op)
 fate_of_operator (operator.TernOp op) i = ap fate_of_role (plain_ternary op)
@@ -120,9 +123,15 @@ does_as a_return t is e = record { action = Return; does = refl; has_fate = cc e
 does_as a_plain t is e = record { action = Plain; does = refl; has_fate = cc e }
 does_as _ t is e = absurd cc
 
--- any other operator than these three makes an instruction
-pub makes_instruction : (op : Operator) → op ≢ operator.Nop → ((type : BlockType) → op ≢ operator.Block type) → op ≢ operator.End → is_instruction op ≡ true
-makes_instruction operator.Nop a b c = absurd (a refl)
-makes_instruction (operator.Block type) a b c = absurd (b type refl)
-makes_instruction operator.End a b c = absurd (c refl)
-makes_instruction _ a b c = refl
+none_some : {A : Type 0} (x : A) → None ≡ Some x → ⊥
+none_some x e = cc
+
+-- any other operator that has a row than these three makes an instruction
+pub makes_instruction : (op : Listed) → HasRow (meaning op) → op ≢ operator.Nop → ((type : BlockType) → op ≢ operator.Block type) → op ≢ operator.End → is_instruction op ≡ true
+unfolding kinds_of_byte
+makes_instruction operator.Nop row a b c = absurd (a refl)
+makes_instruction (operator.Block type) row a b c = absurd (b type refl)
+makes_instruction operator.End row a b c = absurd (c refl)
+makes_instruction (operator.BrTable targets) row a b c = absurd (none_some row.0 row.1)
+makes_instruction (operator.TryTable type catches) row a b c = absurd (none_some row.0 row.1)
+makes_instruction _ row a b c = refl

@@ -11,6 +11,5 @@ pub mod Scopes
 pub mod Rewriting
 pub mod RewritingOnLists
 pub mod Encoding
-pub mod InstructionKinds
 pub mod Emission
 pub mod SameWriters

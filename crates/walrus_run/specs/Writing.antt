@@ -2,8 +2,7 @@
 use Rattle.std.specs.Prelude.{◌≡◌, ℕ, List, None, Result, Ok, Err}
 use Rattle.walrus_ir.specs.declared.val_type.InstrSeqType.{InstrSeqType}
 use Rattle.walrus_ir.specs.declared.instr.Instr.{Instr}
-use Rattle.wasm_ops.specs.declared.operator.Operator.{Operator}
-use Rattle.wasm_ops.specs.Meaning.{meaning}
+use Rattle.wasm_ops.specs.Meaning.{Listed, meaning}
 use Rattle.wasm_ops.specs.Opcodes.{kinds_of}
 use Rattle.wasm_ops.specs.Operations.{RawOperation}
 use Rattle.wasm_encode.specs.Writable.{IsWritable}
@@ -33,7 +32,7 @@ abbrev pub instruction_operator : Numbers → List ℕ → InstrSeqType → Inst
 instruction_operator to around type i = translate (typed (then_by (numbering to)) type) (aimed around (operation_of i))
 
 -- The operator that was answered is written so; or there is none, for this fault; or its opcode isn't carried.
-abbrev pub IsOperatorOf : Numbers → List ℕ → InstrSeqType → Instr → Result Operator WriteFault → Type 0
+abbrev pub IsOperatorOf : Numbers → List ℕ → InstrSeqType → Instr → Result Listed WriteFault → Type 0
 IsOperatorOf to around type i (Ok op) = (instruction_operator to around type i ≡ Ok (meaning op)) × IsWritable (meaning op)
 IsOperatorOf to around type i (Err (Emit e)) = instruction_operator to around type i ≡ Err e
 IsOperatorOf to around type i (Err NotCarried) = kinds_of (operation_of i).opcode ≡ None

@@ -1,6 +1,7 @@
 //! Parsing the operators of a body.
 ghost use Rattle.std.specs.Prelude.{◌≡◌, ◌⊎◌, ◌<◌, ◌+◌, ◌^◌, ℕ, length, true, false, Some, None, MatchOption, [], ◌∷◌, IfOk, IfErr, OnErr, Ok, Err};
 ghost use Rattle.wasm_ops.specs.Meaning.{meaning};
+ghost use Rattle.wasm_ops.specs.Fitting.{HasRow};
 ghost use Rattle.wasm_encode.specs.Writable.{IsWritable};
 ghost use Rattle.walrus_body.specs.Environments.{environment_of};
 ghost use Rattle.wasm_body.specs.Parsing.Accepted.{has_location};
@@ -32,8 +33,9 @@ fn location_at(place: usize) -> Option<InstrLocId>
 }
 
 /// The next operator, and its location, which is its place.
-fn next_operator(reader: &mut Reader<'_>) -> Result<(Operator, InstrLocId), ParseFailure>
+fn next_operator<'a>(reader: &mut Reader<'a>) -> Result<(Operator<'a>, InstrLocId), ParseFailure>
     ensures ok { IfOk result (λ x. (read_next reader.old.place reader.old.rest ≡ Ok (meaning x.0, reader.new.rest)) × (x.1 ≡ reader.old.place)) }
+    ensures carried { IfOk result (λ x. HasRow (meaning x.0)) }
     ensures writable { IfOk result (λ x. IsWritable (meaning x.0)) }
     ensures moves { IfOk result (λ x. (reader.new.place + length reader.new.rest ≡ reader.old.place + length reader.old.rest) × (length reader.new.rest < length reader.old.rest)) }
     ensures err { IfErr result (λ f. (read_next reader.old.place reader.old.rest ≡ Err f.error) × (f.at ≡ reader.old.place)) }
@@ -61,7 +63,7 @@ pub(crate) fn parse_operators(
             Ok(next) => next,
             Err(failure) => return Err(failure),
         };
-        if operator == Operator::End && parser.outer.is_empty() {
+        if matches!(operator, Operator::End) && parser.outer.is_empty() {
             if !reader.eof() {
                 return Err(failure(ParseError::Trailing, reader.original_position()));
             }

@@ -1,7 +1,8 @@
 //! How a body is parsed: each operator carries on what is kept of the sequences that are open.
 ghost use Rattle.std.specs.Prelude.{◌≡◌, ◌<◌, length, vec_len, OnOk, ◌⊎◌, ℕ, true, List, [], IfOk, IfErr, OnErr, Some, slice_get, Ok, Err};
-ghost use Rattle.wasm_ops.specs.declared.operator.Operator.TheVariants as op;
+ghost use Rattle.wasm_ops.specs.declared.operator.Op.TheVariants as op;
 ghost use Rattle.wasm_ops.specs.Meaning.{meaning};
+ghost use Rattle.wasm_ops.specs.Fitting.{HasRow};
 ghost use Rattle.wasm_encode.specs.Writable.{IsWritable};
 ghost use Rattle.wasm_body.specs.declared.error.ParseError.{ParseError as ParseFault};
 ghost use Rattle.walrus_ir.specs.Results.{some_or};
@@ -117,9 +118,10 @@ impl Parser<'_> {
     }
 
     /// Takes the next operator, which isn't the function's own `end`.
-    pub fn step(&mut self, operator: &Operator, location: InstrLocId) -> Result<(), ParseError>
+    pub fn step(&mut self, operator: &Operator<'_>, location: InstrLocId) -> Result<(), ParseError>
         requires known { (ls : List (Layer Occurrence)) × (s : Sequence Occurrence) × Keeps self.old ls s }
         requires inside { operator.now ≡ op.End → 0 < vec_len self.old.outer }
+        requires carried { HasRow (meaning operator.now) }
         requires writable { IsWritable (meaning operator.now) }
         ensures step { (ls : List (Layer Occurrence)) (s : Sequence Occurrence) (place : ℕ) → Keeps self.old ls s → Steps self.old self.new ls s (meaning operator.now) place location result }
         ensures rest { OnOk result (KeepsRest self.old self.new) }
@@ -150,7 +152,7 @@ impl Parser<'_> {
 }
 
 /// Whether what follows in the sequence is dropped.
-fn is_cut(operator: &Operator) -> bool
+fn is_cut(operator: &Operator<'_>) -> bool
     ensures { result ≡ is_cut operator.now }
 {
     matches!(

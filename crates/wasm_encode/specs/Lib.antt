@@ -1,3 +1,2 @@
-pub mod Immediates
 pub mod Declarations
 pub mod Writable

@@ -5,7 +5,8 @@ ghost use Rattle.std.specs.List.{flat_map};
 ghost use Rattle.wasm_encode.specs.Declarations.{short_declaration};
 
 use crate::number::write_number;
-use crate::operation::{OutOp, write_op};
+use crate::operation::write_op;
+use crate::out_operator::OutOp;
 use crate::type_writer::write_value_type;
 use std::alloc::{AllocError, Global};
 use std::marker::Model;
@@ -76,7 +77,7 @@ impl FunctionEncoder {
 
     /// Appends the shortest spelling of an operator. It asks that the exponent of a memory argument is at most 31. Where
     /// memory runs out the encoder is as before.
-    pub fn instruction(&mut self, op: &OutOp) -> Result<(), AllocError>
+    pub fn instruction(&mut self, op: &OutOp<'_>) -> Result<(), AllocError>
         requires { IsWritable (meaning op.now) }
         ensures ok { OnOk result (self.new ≡ self.old ++ short (meaning op.now)) }
         ensures err { OnErr result (self.new ≡ self.old) }

@@ -2,42 +2,14 @@
 
 ghost use Rattle.std.specs.Prelude.{◌≡◌, ◌++◌, ◌∷◌, OnOk, take, length};
 ghost use Rattle.wasm_ops.specs.AccessOperations.{access_of};
-ghost use Rattle.wasm_ops.specs.Shortest.{short_number, short_value, short_access, short_immediates};
-ghost use Rattle.wasm_encode.specs.Immediates.{immediates_of};
+ghost use Rattle.wasm_ops.specs.Shortest.{short_number, short_value, short_access, short_table, short_clause, short_clauses, short_immediates};
+ghost use Rattle.wasm_ops.specs.Parts.{immediates_of};
 
 use crate::number::{write_bits, write_byte, write_integer, write_number};
+use crate::out_operator::{OutClauses, OutImmediates, OutTable};
 use crate::type_writer::{write_block_type, write_value_type};
 use std::alloc::AllocError;
-use wasm_ops::{BlockType, RawMemArg, RawValType, Space};
-
-/// What follows an opcode.
-#[derive(Clone, Copy)]
-pub(crate) enum Immediates {
-    /// Nothing.
-    Nothing,
-    /// An index in a space.
-    Index(Space, u32),
-    /// An index in a space, and one in another.
-    Pair(Space, u32, Space, u32),
-    /// A label.
-    Label(u32),
-    /// A memory argument.
-    Access(RawMemArg),
-    /// A block type.
-    Block(BlockType),
-    /// The type of a `select`.
-    Value(RawValType),
-    /// A constant.
-    I32(i32),
-    /// A constant.
-    I64(i64),
-    /// The bits of a constant.
-    F32(u32),
-    /// The bits of a constant.
-    F64(u64),
-    /// A lane.
-    Lane(u8),
-}
+use wasm_ops::{Immediates, RawCatch, RawMemArg, RawValType};
 
 /// Appends two indices.
 #[tactic(auto, using(crate::proofs::Appending::appending))]
@@ -74,24 +46,75 @@ fn write_selected(out: &mut Vec<u8>, ty: RawValType) -> Result<(), AllocError>
     write_value_type(out, ty)
 }
 
+/// Appends the labels of a `br_table`.
+#[tactic(auto, using(crate::proofs::Appending::appending), unfolding(wasm_ops::specs::Shortest::short_table))]
+fn write_table(out: &mut Vec<u8>, targets: &[u32], default: u32) -> Result<(), AllocError>
+    ensures ok { OnOk result (out.new.items ≡ out.old.items ++ short_table targets.now default) }
+    ensures kept { take (length out.old.items) out.new.items ≡ out.old.items }
+{
+    write_number(out, targets.len() as u64)?;
+    for label in targets {
+        write_number(out, *label as u64)?;
+    }
+    write_number(out, default as u64)
+}
+
+/// Appends a clause of a `try_table`.
+#[tactic(auto, using(crate::proofs::Appending::appending))]
+fn write_clause(out: &mut Vec<u8>, clause: RawCatch) -> Result<(), AllocError>
+    ensures ok { OnOk result (out.new.items ≡ out.old.items ++ short_clause clause) }
+    ensures kept { take (length out.old.items) out.new.items ≡ out.old.items }
+{
+    match clause.tag {
+        Some(tag) => {
+            write_byte(out, if clause.by_reference { 1 } else { 0 })?;
+            write_number(out, tag as u64)?;
+        }
+        None => write_byte(out, if clause.by_reference { 3 } else { 2 })?,
+    }
+    write_number(out, clause.label as u64)
+}
+
+/// Appends the clauses of a `try_table`.
+#[tactic(auto, using(crate::proofs::Appending::appending), unfolding(wasm_ops::specs::Shortest::short_clauses))]
+fn write_clauses(out: &mut Vec<u8>, clauses: &[RawCatch]) -> Result<(), AllocError>
+    ensures ok { OnOk result (out.new.items ≡ out.old.items ++ short_clauses clauses.now) }
+    ensures kept { take (length out.old.items) out.new.items ≡ out.old.items }
+{
+    write_number(out, clauses.len() as u64)?;
+    for clause in clauses {
+        write_clause(out, *clause)?;
+    }
+    Ok(())
+}
+
 /// Appends what follows an opcode.
 #[tactic(auto, using(crate::proofs::Appending::appending))]
-pub(crate) fn write_immediates(out: &mut Vec<u8>, immediates: Immediates) -> Result<(), AllocError>
-    ensures ok { OnOk result (out.new.items ≡ out.old.items ++ short_immediates (immediates_of immediates)) }
+pub(crate) fn write_immediates(
+    out: &mut Vec<u8>,
+    immediates: &OutImmediates<'_>,
+) -> Result<(), AllocError>
+    ensures ok { OnOk result (out.new.items ≡ out.old.items ++ short_immediates (immediates_of immediates.now)) }
     ensures kept { take (length out.old.items) out.new.items ≡ out.old.items }
 {
     match immediates {
         Immediates::Nothing => Ok(()),
-        Immediates::Index(_, index) => write_number(out, index as u64),
-        Immediates::Pair(_, first, _, second) => write_pair(out, first, second),
-        Immediates::Label(depth) => write_number(out, depth as u64),
-        Immediates::Access(memarg) => write_memarg(out, memarg),
-        Immediates::Block(ty) => write_block_type(out, ty),
-        Immediates::Value(ty) => write_selected(out, ty),
-        Immediates::I32(value) => write_integer(out, value as i64),
-        Immediates::I64(value) => write_integer(out, value),
-        Immediates::F32(bits) => write_bits(out, 4, bits as u64),
-        Immediates::F64(bits) => write_bits(out, 8, bits),
-        Immediates::Lane(idx) => write_byte(out, idx),
+        Immediates::Index(_, index) => write_number(out, *index as u64),
+        Immediates::Pair(_, first, _, second) => write_pair(out, *first, *second),
+        Immediates::Label(depth) => write_number(out, *depth as u64),
+        Immediates::Table(OutTable { targets, default }) => write_table(out, targets, *default),
+        Immediates::Access(memarg) => write_memarg(out, *memarg),
+        Immediates::Block(ty) => write_block_type(out, *ty),
+        Immediates::Clauses(ty, OutClauses { clauses }) => {
+            write_block_type(out, *ty)?;
+            write_clauses(out, clauses)
+        }
+        Immediates::Value(ty) => write_selected(out, *ty),
+        Immediates::I32(value) => write_integer(out, *value as i64),
+        Immediates::I64(value) => write_integer(out, *value),
+        Immediates::F32(bits) => write_bits(out, 4, *bits as u128),
+        Immediates::F64(bits) => write_bits(out, 8, *bits as u128),
+        Immediates::V128(bits) => write_bits(out, 16, *bits),
+        Immediates::Lane(idx) => write_byte(out, *idx),
     }
 }

@@ -97,7 +97,7 @@ pub(crate) fn write_integer(out: &mut Vec<u8>, z: i64) -> Result<(), AllocError>
 
 /// Appends so many bytes of a number, the least first.
 #[tactic(auto, using(crate::proofs::Appending::appending))]
-pub(crate) fn write_bits(out: &mut Vec<u8>, count: u32, bits: u64) -> Result<(), AllocError>
+pub(crate) fn write_bits(out: &mut Vec<u8>, count: u32, bits: u128) -> Result<(), AllocError>
     ensures ok { OnOk result (out.new.items ≡ out.old.items ++ short_bits count bits) }
     ensures kept { take (length out.old.items) out.new.items ≡ out.old.items }
 {

@@ -12,3 +12,7 @@ pub mod ShortestTypes
 pub mod ShortestImmediates
 pub mod ShortestOperations
 pub mod ListLaws
+pub mod Written
+pub mod Rows
+pub mod BorrowedLists
+pub mod SameLists

@@ -34,7 +34,7 @@ pow_byte count h =
     let k : 8 * count ≡ 8 + 8 * (count - 1) = omega arith in
     ap (λ n. 2 ^ n) k ∙ pow-add 2 8 (8 * (count - 1))
 
-pub pow_bytes : (count : ℕ) → count ≤ 8 → 2 ^ (8 * count) ≤ 2 ^ 64
-pow_bytes count h = let k : 8 * count ≤ 64 = omega arith in pow_mono {i = 8 * count} k
+pub pow_bytes : (count : ℕ) → count ≤ 16 → 2 ^ (8 * count) ≤ 2 ^ 128
+pow_bytes count h = let k : 8 * count ≤ 128 = omega arith in pow_mono {i = 8 * count} k
 
 pub ruleset bytes = (pow_byte, pow_bytes)

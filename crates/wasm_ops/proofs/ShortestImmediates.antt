@@ -16,7 +16,7 @@ use Rattle.wasm_ops.proofs.ShortestNumbers.{unsigned_spelt}
 use Rattle.wasm_ops.proofs.Shortness.{Least, least_append, least_along, least_only, least_then, least_made, least_many, least_moved, many_length, least_u32, least_u64, least_s32, least_s64}
 use Rattle.wasm_ops.proofs.ShortestTypes.{least_heap, least_value, least_block}
 
-either_way : (b : Bool) → (b ≡ true) ⊎ (b ≡ false)
+pub either_way : (b : Bool) → (b ≡ true) ⊎ (b ≡ false)
 either_way true = inl refl
 either_way false = inr refl
 
@@ -114,7 +114,7 @@ access_forms (exponent, true) memory offset text h =
       offset_spelt = rest.4;
     })
 
-plain_access : (a : Access) (x y : List ℕ) → a.alignment < 32 → a.memory ≡ 0 → IsU32 a.alignment x → IsU64 a.offset y → IsAccess a (x ++ y)
+pub plain_access : (a : Access) (x y : List ℕ) → a.alignment < 32 → a.memory ≡ 0 → IsU32 a.alignment x → IsU64 a.offset y → IsAccess a (x ++ y)
 plain_access a x y small e p q =
     (((a.alignment, false), (a.memory, a.offset)), refl, (x, y, refl, flags_spelt a.alignment x small p, ([], y, refl, (e, refl), q)))
 
@@ -122,11 +122,11 @@ pub indexed_access : (a : Access) (x m y : List ℕ) → a.alignment < 32 → Is
 indexed_access a x m y small p i q =
     (((a.alignment, true), (a.memory, a.offset)), refl, (x, m ++ y, refl, indexed_spelt a.alignment x small p, (m, y, refl, i, q)))
 
-short_plain : (a : Access) → eqb a.memory 0 ≡ true → short_access a ≡ short_number a.alignment ++ short_number a.offset
+pub short_plain : (a : Access) → eqb a.memory 0 ≡ true → short_access a ≡ short_number a.alignment ++ short_number a.offset
 unfolding short_access
 short_plain a e = rw e refl
 
-short_indexed : (a : Access) → eqb a.memory 0 ≡ false → short_access a ≡ short_number (a.alignment + 64) ++ (short_number a.memory ++ short_number a.offset)
+pub short_indexed : (a : Access) → eqb a.memory 0 ≡ false → short_access a ≡ short_number (a.alignment + 64) ++ (short_number a.memory ++ short_number a.offset)
 unfolding short_access
 short_indexed a e = rw e (append_assoc (short_number (a.alignment + 64)) (short_number a.memory) (short_number a.offset))
 

@@ -58,6 +58,9 @@ store_opcode (store.I64_32 true) = Prefixed 0xfe 0x1d
 abbrev pub access_of : RawMemArg → Access
 access_of memarg = record { alignment = memarg.exponent; memory = memarg.memory; offset = memarg.offset }
 
+abbrev pub memarg_of : Access → RawMemArg
+memarg_of a = record { exponent = a.alignment; memory = a.memory; offset = a.offset }
+
 abbrev pub load_operation : {L B : Type 0} → LoadKind → Access → Operation L B
 load_operation kind a = operation (load_opcode kind) (access a ∷ [])
 

@@ -16,3 +16,7 @@ pub mod Position
 pub mod Laws
 pub mod VectorAccessOpcodes
 pub mod AtomicOpcodes
+pub mod Parts
+pub mod Fitting
+pub mod Rows
+pub mod Lists

@@ -1,25 +1,33 @@
 -- What an operator of the code means: its opcode and its immediates, a row an operator.
-use Rattle.std.specs.Prelude.{[], ◌∷◌}
-use Rattle.wasm_ops.specs.declared.operator.Operator.{Operator}
-use Rattle.wasm_ops.specs.declared.operator.Operator.TheVariants as operator
+use Rattle.std.specs.Prelude.{ℕ, List, [], ◌∷◌}
+use Rattle.wasm_ops.specs.declared.operator.Op.{Op}
+use Rattle.wasm_ops.specs.declared.operator.Op.TheVariants as operator
 use Rattle.wasm_ops.specs.declared.types.Opcode.TheVariants.{Byte, Prefixed}
 use Rattle.wasm_ops.specs.declared.types.Space.TheVariants.{Tables, Globals, Memories, Elements, Data}
-use Rattle.wasm_ops.specs.Operations.{index, label, block, value, i32, i64, f32, f64, RawOperation, operation}
+use Rattle.wasm_ops.specs.Operations.{CatchClause, index, label, branch_table, clauses, block, value, i32, i64, f32, f64, RawOperation, operation}
+use Rattle.wasm_ops.specs.Immediates.{Table}
 use Rattle.wasm_ops.specs.UnaryOperations.{unary_operation}
 use Rattle.wasm_ops.specs.BinaryOperations.{binary_operation}
 use Rattle.wasm_ops.specs.TernaryOperations.{ternary_operation}
 use Rattle.wasm_ops.specs.AccessOperations.{access_of, load_operation, store_operation}
 
-abbrev pub meaning : Operator → RawOperation
+-- An operator with its lists, as a contract sees them: those that are read stand in the input, those that are written in
+-- slices, and both are seen as lists.
+abbrev pub Listed : Type 0
+Listed = Op Table (List (CatchClause ℕ))
+
+abbrev pub meaning : Listed → RawOperation
 meaning operator.Unreachable = operation (Byte 0x00) []
 meaning operator.Nop = operation (Byte 0x01) []
 meaning (operator.Block type) = operation (Byte 0x02) (block type ∷ [])
 meaning operator.End = operation (Byte 0x0b) []
 meaning (operator.Br depth) = operation (Byte 0x0c) (label depth ∷ [])
+meaning (operator.BrTable t) = operation (Byte 0x0e) (branch_table t.0 t.1 ∷ [])
 meaning operator.Return = operation (Byte 0x0f) []
 meaning operator.Drop = operation (Byte 0x1a) []
 meaning operator.Select = operation (Byte 0x1b) []
 meaning (operator.TypedSelect type) = operation (Byte 0x1c) (value type ∷ [])
+meaning (operator.TryTable type catches) = operation (Byte 0x1f) (block type ∷ clauses catches ∷ [])
 meaning (operator.GlobalGet global) = operation (Byte 0x23) (index Globals global ∷ [])
 meaning (operator.GlobalSet global) = operation (Byte 0x24) (index Globals global ∷ [])
 meaning (operator.TableGet table) = operation (Byte 0x25) (index Tables table ∷ [])

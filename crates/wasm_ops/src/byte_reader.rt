@@ -7,51 +7,61 @@ ghost use Rattle.wasm_ops.specs.Meaning.{meaning};
 
 use crate::access_reader::{load_kind, read_memarg, store_kind};
 use crate::fault::ReadFault;
+use crate::index_rows;
 use crate::number::{read_f32, read_f64, read_s32, read_s64, read_u32};
 use crate::numeric_reader::{comparison, conversion, float_arithmetic, integer_arithmetic};
 use crate::operator::Operator;
+use crate::row::made;
 use crate::type_reader::{read_block_type, read_selected};
 use crate::types::Opcode;
 
 /// What follows an opcode from 0x00 to 0x1f.
 #[tactic(auto, unfolding(crate::specs::Opcodes::kinds_of_byte))]
-fn read_control(byte: u8, bytes: &[u8]) -> Result<(Operator, &[u8]), ReadFault>
+fn read_control(byte: u8, bytes: &[u8]) -> Result<(Operator<'_>, &[u8]), ReadFault>
     requires { byte ≤ 0x1f }
     ensures { Gives (λ x. (meaning x.0, x.1.now)) result (operands (Opcode.Byte byte) bytes.now) }
 {
     match byte {
         0x00 => Ok((Operator::Unreachable, bytes)),
         0x01 => Ok((Operator::Nop, bytes)),
-        0x02 => read_block_type(bytes).map(|(ty, rest)| (Operator::Block { ty }, rest)),
+        0x02 => made!(read_block_type(bytes), ty => Operator::Block { ty }),
         0x0b => Ok((Operator::End, bytes)),
-        0x0c => read_u32(bytes).map(|(label, rest)| (Operator::Br { label }, rest)),
+        0x0c => made!(read_u32(bytes), label => Operator::Br { label }),
         0x0f => Ok((Operator::Return, bytes)),
         0x1a => Ok((Operator::Drop, bytes)),
         0x1b => Ok((Operator::Select, bytes)),
-        0x1c => read_selected(bytes).map(|(ty, rest)| (Operator::TypedSelect { ty }, rest)),
+        0x1c => made!(read_selected(bytes), ty => Operator::TypedSelect { ty }),
         _ => Err(ReadFault::UnknownOperator),
     }
+}
+
+/// Reads the operator that has the byte, on globals and tables.
+macro_rules! read_variable_byte {
+    (
+        ($byte:ident $bytes:ident)
+        (Byte) { $($row:literal $name:ident { $field:ident $id:ident $space:ident })* }
+        $($others:tt)*
+    ) => {
+        match $byte {
+            $($row => made!(read_u32($bytes), $field => Operator::$name { $field }),)*
+            _ => Err(ReadFault::UnknownOperator),
+        }
+    };
 }
 
 /// What follows an opcode from 0x20 to 0x27.
 #[tactic(auto, unfolding(crate::specs::Opcodes::kinds_of_byte))]
-fn read_variable(byte: u8, bytes: &[u8]) -> Result<(Operator, &[u8]), ReadFault>
+fn read_variable(byte: u8, bytes: &[u8]) -> Result<(Operator<'_>, &[u8]), ReadFault>
     requires low { 0x20 ≤ byte }
     requires high { byte ≤ 0x27 }
     ensures { Gives (λ x. (meaning x.0, x.1.now)) result (operands (Opcode.Byte byte) bytes.now) }
 {
-    match byte {
-        0x23 => read_u32(bytes).map(|(global, rest)| (Operator::GlobalGet { global }, rest)),
-        0x24 => read_u32(bytes).map(|(global, rest)| (Operator::GlobalSet { global }, rest)),
-        0x25 => read_u32(bytes).map(|(table, rest)| (Operator::TableGet { table }, rest)),
-        0x26 => read_u32(bytes).map(|(table, rest)| (Operator::TableSet { table }, rest)),
-        _ => Err(ReadFault::UnknownOperator),
-    }
+    index_rows!(read_variable_byte, byte bytes)
 }
 
 /// What follows the opcode of a load, from 0x28 to 0x35.
 #[tactic(auto, unfolding(crate::specs::Opcodes::kinds_of_byte))]
-fn read_load(byte: u8, bytes: &[u8]) -> Result<(Operator, &[u8]), ReadFault>
+fn read_load(byte: u8, bytes: &[u8]) -> Result<(Operator<'_>, &[u8]), ReadFault>
     requires low { 0x28 ≤ byte }
     requires high { byte ≤ 0x35 }
     ensures { Gives (λ x. (meaning x.0, x.1.now)) result (operands (Opcode.Byte byte) bytes.now) }
@@ -63,7 +73,7 @@ fn read_load(byte: u8, bytes: &[u8]) -> Result<(Operator, &[u8]), ReadFault>
 
 /// What follows the opcode of a store, from 0x36 to 0x3e.
 #[tactic(auto, unfolding(crate::specs::Opcodes::kinds_of_byte))]
-fn read_store(byte: u8, bytes: &[u8]) -> Result<(Operator, &[u8]), ReadFault>
+fn read_store(byte: u8, bytes: &[u8]) -> Result<(Operator<'_>, &[u8]), ReadFault>
     requires low { 0x36 ≤ byte }
     requires high { byte ≤ 0x3e }
     ensures { Gives (λ x. (meaning x.0, x.1.now)) result (operands (Opcode.Byte byte) bytes.now) }
@@ -73,26 +83,37 @@ fn read_store(byte: u8, bytes: &[u8]) -> Result<(Operator, &[u8]), ReadFault>
     Ok((Operator::Store { kind, memarg }, rest))
 }
 
+/// Reads the operator that has the byte: the size of a memory, or a constant.
+macro_rules! read_constant_byte {
+    (
+        ($byte:ident $bytes:ident)
+        $variables:tt $variable_rows:tt
+        (Byte) { $($row:literal $name:ident { $field:ident $id:ident $space:ident })* }
+        $($others:tt)*
+    ) => {
+        match $byte {
+            $($row => made!(read_u32($bytes), $field => Operator::$name { $field }),)*
+            0x41 => made!(read_s32($bytes), value => Operator::I32Const { value }),
+            0x42 => made!(read_s64($bytes), value => Operator::I64Const { value }),
+            0x43 => made!(read_f32($bytes), bits => Operator::F32Const { bits }),
+            _ => made!(read_f64($bytes), bits => Operator::F64Const { bits }),
+        }
+    };
+}
+
 /// What follows an opcode from 0x3f to 0x44.
 #[tactic(auto, unfolding(crate::specs::Opcodes::kinds_of_byte))]
-fn read_constant(byte: u8, bytes: &[u8]) -> Result<(Operator, &[u8]), ReadFault>
+fn read_constant(byte: u8, bytes: &[u8]) -> Result<(Operator<'_>, &[u8]), ReadFault>
     requires low { 0x3f ≤ byte }
     requires high { byte ≤ 0x44 }
     ensures { Gives (λ x. (meaning x.0, x.1.now)) result (operands (Opcode.Byte byte) bytes.now) }
 {
-    match byte {
-        0x3f => read_u32(bytes).map(|(memory, rest)| (Operator::MemorySize { memory }, rest)),
-        0x40 => read_u32(bytes).map(|(memory, rest)| (Operator::MemoryGrow { memory }, rest)),
-        0x41 => read_s32(bytes).map(|(value, rest)| (Operator::I32Const { value }, rest)),
-        0x42 => read_s64(bytes).map(|(value, rest)| (Operator::I64Const { value }, rest)),
-        0x43 => read_f32(bytes).map(|(bits, rest)| (Operator::F32Const { bits }, rest)),
-        _ => read_f64(bytes).map(|(bits, rest)| (Operator::F64Const { bits }, rest)),
-    }
+    index_rows!(read_constant_byte, byte bytes)
 }
 
 /// What follows an opcode of one byte.
 #[tactic(auto, unfolding(crate::specs::Opcodes::kinds_of_byte))]
-pub(crate) fn read_behind_byte(byte: u8, bytes: &[u8]) -> Result<(Operator, &[u8]), ReadFault>
+pub(crate) fn read_behind_byte(byte: u8, bytes: &[u8]) -> Result<(Operator<'_>, &[u8]), ReadFault>
     ensures { Gives (λ x. (meaning x.0, x.1.now)) result (operands (Opcode.Byte byte) bytes.now) }
 {
     match byte {

@@ -1,9 +1,19 @@
 //! Laws of spellings, each the contract of a function that does nothing.
 
+ghost use Rattle.std.specs.Prelude.{◌≡◌, true};
+ghost use Rattle.wasm_ops.specs.Meaning.{meaning};
+ghost use Rattle.wasm_ops.specs.Fitting.{HasRow, AllFit, AreSpeakable};
+ghost use Rattle.wasm_ops.specs.Parts.{immediates_of};
 ghost use Rattle.wasm_ops.specs.Numbers.{IsU32, IsU64, IsS32, IsS33, IsS64};
 ghost use Rattle.wasm_ops.specs.Spelling.{Spells};
 ghost use Rattle.wasm_ops.specs.Shortest.{short_number, short_integer, short};
 ghost use Rattle.wasm_ops.specs.Laws.{OneSpelling, ListsAgree, OneList, IsShortest};
+
+use crate::branch_table::BrTable;
+use crate::catch_list::CatchList;
+use crate::immediates::Immediates;
+use crate::operator::Operator;
+use crate::types::{BlockType, Opcode, RawValType, Space};
 
 /// No spelling begins another, and none spells two operators.
 pub fn law_one_spelling()
@@ -29,3 +39,152 @@ pub fn law_shortest_number()
 pub fn law_shortest()
     ensures { IsShortest short Spells }
 {}
+
+/// What follows the opcode of an operator.
+type OperatorImmediates<'a> = Immediates<BrTable<'a>, CatchList<'a>>;
+
+/// Opcodes are compared as equal exactly where they are the same.
+fn same_opcode(a: &Opcode, b: &Opcode) -> bool
+    ensures compares { result ≡ ⟦<Opcode as PartialEq>⟧.eq a.now b.now }
+    ensures same { result ≡ true → a.now ≡ b.now }
+    ensures equal { a.now ≡ b.now → result ≡ true }
+{
+    a == b
+}
+
+/// Spaces are compared as equal exactly where they are the same.
+fn same_space(a: &Space, b: &Space) -> bool
+    ensures compares { result ≡ ⟦<Space as PartialEq>⟧.eq a.now b.now }
+    ensures same { result ≡ true → a.now ≡ b.now }
+{
+    a == b
+}
+
+/// Value types are compared as equal exactly where they are the same.
+fn same_value_type(a: &RawValType, b: &RawValType) -> bool
+    ensures compares { result ≡ ⟦<RawValType as PartialEq>⟧.eq a.now b.now }
+    ensures same { result ≡ true → a.now ≡ b.now }
+{
+    a == b
+}
+
+/// Block types are compared as equal exactly where they are the same.
+fn same_block_type(a: &BlockType, b: &BlockType) -> bool
+    ensures compares { result ≡ ⟦<BlockType as PartialEq>⟧.eq a.now b.now }
+    ensures same { result ≡ true → a.now ≡ b.now }
+{
+    if let (BlockType::Value(ty), BlockType::Value(other)) = (a, b) {
+        let _same = same_value_type(ty, other);
+    }
+    a == b
+}
+
+/// Lists of clauses are compared as equal exactly where they are the same.
+#[tactic(auto, using(crate::proofs::SameLists::same_clauses))]
+fn same_clauses(a: &CatchList<'_>, b: &CatchList<'_>) -> bool
+    ensures compares { result ≡ ⟦<CatchList<'static> as PartialEq>⟧.eq a.now b.now }
+    ensures same { result ≡ true → a.now ≡ b.now }
+{
+    a == b
+}
+
+/// What follows an opcode is compared as equal exactly where it is the same.
+#[tactic(auto, using(crate::proofs::SameLists::same_lists))]
+fn same_immediates(a: &OperatorImmediates<'_>, b: &OperatorImmediates<'_>) -> bool
+    ensures compares { result ≡ ⟦<Immediates<BrTable<'static>, CatchList<'static>> as PartialEq>⟧.eq a.now b.now }
+    ensures same { result ≡ true → a.now ≡ b.now }
+    ensures equal { a.now ≡ b.now → result ≡ true }
+{
+    match a {
+        Immediates::Nothing => a == b,
+        Immediates::Index(..) => a == b,
+        Immediates::Pair(first, _, second, _) => {
+            let Immediates::Pair(other_first, _, other_second, _) = b else {
+                return a == b;
+            };
+            let _first = same_space(first, other_first);
+            let _second = same_space(second, other_second);
+            a == b
+        }
+        Immediates::Label(_) => a == b,
+        Immediates::Table(_) => a == b,
+        Immediates::Access(_) => a == b,
+        Immediates::Block(ty) => {
+            if let Immediates::Block(other) = b {
+                let _same = same_block_type(ty, other);
+            }
+            a == b
+        }
+        Immediates::Clauses(ty, catches) => {
+            let Immediates::Clauses(other, other_catches) = b else {
+                return a == b;
+            };
+            let _ty = same_block_type(ty, other);
+            let _catches = same_clauses(catches, other_catches);
+            a == b
+        }
+        Immediates::Value(ty) => {
+            if let Immediates::Value(other) = b {
+                let _same = same_value_type(ty, other);
+            }
+            a == b
+        }
+        Immediates::I32(_) => a == b,
+        Immediates::I64(_) => a == b,
+        Immediates::F32(_) => a == b,
+        Immediates::F64(_) => a == b,
+        Immediates::V128(_) => a == b,
+        Immediates::Lane(_) => a == b,
+    }
+}
+
+/// Two operators are equal exactly where they mean the same.
+pub fn law_operator_equality(a: &Operator<'_>, b: &Operator<'_>) -> bool
+    ensures same { result ≡ true → meaning a.now ≡ meaning b.now }
+    ensures equal { meaning a.now ≡ meaning b.now → result ≡ true }
+{
+    let (opcode, immediates) = a.parts();
+    let (other_opcode, other_immediates) = b.parts();
+    let _opcode = same_opcode(&opcode, &other_opcode);
+    let _immediates = same_immediates(&immediates, &other_immediates);
+    a == b
+}
+
+/// The numbers of what follows an opcode fit their spellings.
+fn law_fit(immediates: OperatorImmediates<'_>)
+    requires { AreSpeakable (immediates_of immediates) }
+    ensures { AllFit (immediates_of immediates.entry) }
+{
+    match immediates {
+        Immediates::Nothing => {}
+        Immediates::Index(_, _index) => {}
+        Immediates::Pair(_, _first, _, _second) => {}
+        Immediates::Label(_depth) => {}
+        Immediates::Table(_table) => {}
+        Immediates::Access(_memarg) => {}
+        Immediates::Block(ty) => match ty {
+            BlockType::Empty => {}
+            BlockType::Value(_) => {}
+            BlockType::FuncType(_index) => {}
+        },
+        Immediates::Clauses(_, _catches) => {}
+        Immediates::Value(_) => {}
+        Immediates::I32(_value) => {}
+        Immediates::I64(_value) => {}
+        Immediates::F32(_bits) => {}
+        Immediates::F64(_bits) => {}
+        Immediates::V128(_bits) => {}
+        Immediates::Lane(_idx) => {}
+    }
+}
+
+/// Of an operator whose opcode has a row, and whose types and alignment can be spelt, the shortest
+/// spelling is a spelling: what is written reads back.
+pub fn law_written(op: &Operator<'_>)
+    requires carried { HasRow (meaning op.now) }
+    requires speakable { AreSpeakable (meaning op.now).immediates }
+    ensures { Spells (meaning op.now) (short (meaning op.now)) }
+{
+    let (_, immediates) = op.parts();
+    law_fit(immediates);
+}

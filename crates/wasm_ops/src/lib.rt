@@ -2,19 +2,39 @@
 #![tactic(auto)]
 
 mod access_reader;
+mod access_rows;
+mod binary_rows;
+mod branch_table;
 mod byte_reader;
+mod catch_list;
 mod fault;
+mod immediates;
 mod law;
 mod number;
 mod numeric_reader;
 mod operator;
+mod operator_parts;
+mod operator_rows;
 mod prefix_reader;
 mod reader;
+mod row;
+mod ternary_rows;
 mod type_reader;
 mod types;
+mod unary_rows;
 
+pub use access_rows::{load_opcode, store_opcode};
+pub use binary_rows::{binary_opcode, replace_lane};
+pub use branch_table::{BrTable, Targets};
+pub use catch_list::{CatchList, Catches};
 pub use fault::{ReadError, ReadFault};
-pub use law::{law_one_list, law_one_spelling, law_shortest, law_shortest_number};
-pub use operator::Operator;
+pub use immediates::Immediates;
+pub use law::{
+    law_one_list, law_one_spelling, law_operator_equality, law_shortest, law_shortest_number,
+    law_written,
+};
+pub use operator::{Op, Operator};
 pub use reader::Reader;
-pub use types::{BlockType, Opcode, RawHeapType, RawMemArg, RawValType, Space};
+pub use ternary_rows::ternary_opcode;
+pub use types::{BlockType, Opcode, RawCatch, RawHeapType, RawMemArg, RawValType, Space};
+pub use unary_rows::{extract_lane, unary_opcode};

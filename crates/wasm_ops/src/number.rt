@@ -151,7 +151,7 @@ pub(crate) fn read_s64(bytes: &[u8]) -> Result<(i64, &[u8]), ReadFault>
 }
 
 /// A byte at the front, and what follows it.
-fn read_byte(bytes: &[u8]) -> Result<(u8, &[u8]), ReadFault>
+pub(crate) fn read_byte(bytes: &[u8]) -> Result<(u8, &[u8]), ReadFault>
     ensures { Gives (λ x. (x.0, x.1.now)) result (byte_at bytes.now) }
 {
     match bytes {
@@ -161,20 +161,20 @@ fn read_byte(bytes: &[u8]) -> Result<(u8, &[u8]), ReadFault>
 }
 
 /// The number of `count` bytes that has this low byte, and this number above it.
-fn join_bytes(count: u32, low: u8, high: u64) -> u64
+fn join_bytes(count: u32, low: u8, high: u128) -> u128
     requires some { 0 < count }
-    requires few { count ≤ 8 }
+    requires few { count ≤ 16 }
     requires high { high < 2 ^ (8 * (count - 1)) }
     ensures value { result ≡ low + 256 * high }
     ensures fits { result < 2 ^ (8 * count) }
 {
-    low as u64 + 256 * high
+    low as u128 + 256 * high
 }
 
 /// So many bytes at the front as one number, the least first, and what follows them.
 #[tactic(auto, using(crate::proofs::BitsLaws::reading))]
-fn read_bits(count: u32, bytes: &[u8]) -> Result<(u64, &[u8]), ReadFault>
-    requires { count ≤ 8 }
+fn read_bits(count: u32, bytes: &[u8]) -> Result<(u128, &[u8]), ReadFault>
+    requires { count ≤ 16 }
     ensures gives { Gives (λ x. (x.0, x.1.now)) result (some_bits count bytes.now) }
     ensures fits { IfOk result (λ x. x.0 < 2 ^ (8 * count)) }
 {
@@ -198,5 +198,13 @@ pub(crate) fn read_f32(bytes: &[u8]) -> Result<(u32, &[u8]), ReadFault>
 pub(crate) fn read_f64(bytes: &[u8]) -> Result<(u64, &[u8]), ReadFault>
     ensures { Gives (λ x. (x.0, x.1.now)) result (some_bits 8 bytes.now) }
 {
-    read_bits(8, bytes)
+    let (bits, rest) = read_bits(8, bytes)?;
+    Ok((bits as u64, rest))
+}
+
+/// The bits of a `v128` at the front, and what follows them.
+pub(crate) fn read_v128(bytes: &[u8]) -> Result<(u128, &[u8]), ReadFault>
+    ensures { Gives (λ x. (x.0, x.1.now)) result (some_bits 16 bytes.now) }
+{
+    read_bits(16, bytes)
 }

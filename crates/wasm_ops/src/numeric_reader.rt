@@ -9,7 +9,7 @@ use crate::types::Opcode;
 use walrus_ir::{BinaryOp, UnaryOp};
 
 /// The operator of a byte from 0x45 to 0x66: a test or a comparison.
-pub(crate) fn comparison(byte: u8) -> Operator
+pub(crate) fn comparison(byte: u8) -> Operator<'static>
     requires low { 0x45 ≤ byte }
     requires high { byte ≤ 0x66 }
     ensures { meaning result ≡ operation (Opcode.Byte byte) [] }
@@ -53,7 +53,7 @@ pub(crate) fn comparison(byte: u8) -> Operator
 }
 
 /// The operator of a byte from 0x67 to 0x8a: arithmetic of integers.
-pub(crate) fn integer_arithmetic(byte: u8) -> Operator
+pub(crate) fn integer_arithmetic(byte: u8) -> Operator<'static>
     requires low { 0x67 ≤ byte }
     requires high { byte ≤ 0x8a }
     ensures { meaning result ≡ operation (Opcode.Byte byte) [] }
@@ -99,7 +99,7 @@ pub(crate) fn integer_arithmetic(byte: u8) -> Operator
 }
 
 /// The operator of a byte from 0x8b to 0xa6: arithmetic of floats.
-pub(crate) fn float_arithmetic(byte: u8) -> Operator
+pub(crate) fn float_arithmetic(byte: u8) -> Operator<'static>
     requires low { 0x8b ≤ byte }
     requires high { byte ≤ 0xa6 }
     ensures { meaning result ≡ operation (Opcode.Byte byte) [] }
@@ -137,7 +137,7 @@ pub(crate) fn float_arithmetic(byte: u8) -> Operator
 }
 
 /// The operator of a byte from 0xa7 to 0xc4: a conversion.
-pub(crate) fn conversion(byte: u8) -> Operator
+pub(crate) fn conversion(byte: u8) -> Operator<'static>
     requires low { 0xa7 ≤ byte }
     requires high { byte ≤ 0xc4 }
     ensures { meaning result ≡ operation (Opcode.Byte byte) [] }
@@ -177,7 +177,7 @@ pub(crate) fn conversion(byte: u8) -> Operator
 }
 
 /// The operator of 0xfc and a number up to 7: a conversion that saturates.
-pub(crate) fn saturating_conversion(number: u32) -> Operator
+pub(crate) fn saturating_conversion(number: u32) -> Operator<'static>
     requires { number ≤ 7 }
     ensures { meaning result ≡ operation (Opcode.Prefixed 0xfc number) [] }
 {

@@ -1,12 +1,15 @@
 //! Operators.
 
+use crate::branch_table::BrTable;
+use crate::catch_list::CatchList;
 use crate::types::{BlockType, RawMemArg, RawValType};
 use walrus_ir::{BinaryOp, LoadKind, StoreKind, TernaryOp, UnaryOp};
 
-/// An operator as it is spelt (WebAssembly core specification 3.0, binary format, instructions): with raw indices, and
-/// labels as depths.
-#[derive(Clone, Copy, Debug, PartialEq, Eq)]
-pub enum Operator {
+/// An operator as it is spelt (WebAssembly core specification 3.0, binary format, instructions):
+/// with raw indices, and labels as depths. `T` is the labels of a `br_table`, and `C` the clauses of
+/// a `try_table`.
+#[derive(Drop)]
+pub enum Op<T, C> {
     /// `unreachable`
     Unreachable,
     /// `nop`
@@ -17,6 +20,8 @@ pub enum Operator {
     End,
     /// `br`
     Br { label: u32 },
+    /// `br_table`
+    BrTable(T),
     /// `return`
     Return,
     /// `drop`
@@ -25,6 +30,8 @@ pub enum Operator {
     Select,
     /// `select` with the type of its operands
     TypedSelect { ty: RawValType },
+    /// `try_table`
+    TryTable { ty: BlockType, catches: C },
     /// `global.get`
     GlobalGet { global: u32 },
     /// `global.set`
@@ -76,3 +83,7 @@ pub enum Operator {
     /// `table.fill`
     TableFill { table: u32 },
 }
+
+/// An operator as it is read, whose lists stand in the input. Two are equal where their meanings
+/// are.
+pub type Operator<'a> = Op<BrTable<'a>, CatchList<'a>>;

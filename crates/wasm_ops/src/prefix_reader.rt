@@ -8,13 +8,11 @@ ghost use Rattle.wasm_ops.specs.Spelling.{operands};
 ghost use Rattle.wasm_ops.specs.Meaning.{meaning};
 
 use crate::fault::ReadFault;
+use crate::index_rows;
 use crate::number::read_u32;
 use crate::numeric_reader::saturating_conversion;
 use crate::operator::Operator;
-use crate::operator::Operator::{
-    DataDrop, ElemDrop, MemoryCopy, MemoryFill, MemoryInit, TableCopy, TableFill, TableGrow,
-    TableInit, TableSize,
-};
+use crate::row::made;
 use crate::types::Opcode;
 
 /// Two indices at the front, and what follows them.
@@ -26,26 +24,38 @@ fn read_pair(bytes: &[u8]) -> Result<((u32, u32), &[u8]), ReadFault>
     Ok(((first, second), rest))
 }
 
+/// The operator of the indices at the front, and what follows it.
+macro_rules! read_indices {
+    ($bytes:ident $name:ident $field:ident) => {
+        made!(read_u32($bytes), $field => Operator::$name { $field })
+    };
+    ($bytes:ident $name:ident $first:ident $second:ident) => {
+        made!(read_pair($bytes), ($first, $second) => Operator::$name { $first, $second })
+    };
+}
+
+/// Reads the operator that has the number: those of the rows behind 0xfc, and the others.
+macro_rules! read_number {
+    (
+        ($number:ident $bytes:ident)
+        $variables:tt $variable_rows:tt
+        $memories:tt $memory_rows:tt
+        (Prefixed 0xfc) {
+            $($row:literal $name:ident { $($field:ident $id:ident $space:ident),* })*
+        }
+    ) => {
+        match $number {
+            0..=7 => Ok((saturating_conversion($number), $bytes)),
+            $($row => read_indices!($bytes $name $($field)*),)*
+            _ => Err(ReadFault::UnknownOperator),
+        }
+    };
+}
+
 /// What follows 0xfc and a number.
 #[tactic(auto, unfolding(crate::specs::Opcodes::kinds_behind))]
-pub(crate) fn read_behind_fc(number: u32, bytes: &[u8]) -> Result<(Operator, &[u8]), ReadFault>
+pub(crate) fn read_behind_fc(number: u32, bytes: &[u8]) -> Result<(Operator<'_>, &[u8]), ReadFault>
     ensures { Gives (λ x. (meaning x.0, x.1.now)) result (operands (Opcode.Prefixed 0xfc number) bytes.now) }
 {
-    match number {
-        0..=7 => Ok((saturating_conversion(number), bytes)),
-        8 => read_pair(bytes).map(|((data, memory), rest)| (MemoryInit { data, memory }, rest)),
-        9 => read_u32(bytes).map(|(data, rest)| (DataDrop { data }, rest)),
-        10 => read_pair(bytes).map(|((target, source), rest)| (
-            MemoryCopy { target, source },
-            rest,
-        )),
-        11 => read_u32(bytes).map(|(memory, rest)| (MemoryFill { memory }, rest)),
-        12 => read_pair(bytes).map(|((element, table), rest)| (TableInit { element, table }, rest)),
-        13 => read_u32(bytes).map(|(element, rest)| (ElemDrop { element }, rest)),
-        14 => read_pair(bytes).map(|((target, source), rest)| (TableCopy { target, source }, rest)),
-        15 => read_u32(bytes).map(|(table, rest)| (TableGrow { table }, rest)),
-        16 => read_u32(bytes).map(|(table, rest)| (TableSize { table }, rest)),
-        17 => read_u32(bytes).map(|(table, rest)| (TableFill { table }, rest)),
-        _ => Err(ReadFault::UnknownOperator),
-    }
+    index_rows!(read_number, number bytes)
 }

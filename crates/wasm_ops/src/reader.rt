@@ -15,7 +15,7 @@ use std::marker::Model;
 
 /// The operator at the front, and what follows it.
 #[tactic(auto, unfolding(crate::specs::Spelling::read_operation, crate::specs::Opcodes::opcode))]
-fn read_operator(bytes: &[u8]) -> Result<(Operator, &[u8]), ReadFault>
+fn read_operator(bytes: &[u8]) -> Result<(Operator<'_>, &[u8]), ReadFault>
     ensures { Gives (λ x. (meaning x.0, x.1.now)) result (read_operation bytes.now) }
 {
     match bytes {
@@ -29,7 +29,7 @@ fn read_operator(bytes: &[u8]) -> Result<(Operator, &[u8]), ReadFault>
 }
 
 /// The operator at the front, and what follows it.
-fn read_front(bytes: &[u8]) -> Result<(Operator, &[u8]), ReadFault>
+fn read_front(bytes: &[u8]) -> Result<(Operator<'_>, &[u8]), ReadFault>
     // What is read is spelt by what was taken.
     ensures found { IfOk result (λ x. (text : List ℕ) × (bytes.now ≡ text ++ x.1.now) × Spells (meaning x.0) text) }
     // What stands at the front is read.
@@ -93,7 +93,7 @@ impl<'a> Reader<'a> {
 
     /// The next operator. Its parts are read from left to right, and the first that can't be read decides the fault. It
     /// takes no memory.
-    pub fn read(&mut self) -> Result<Operator, ReadError>
+    pub fn read(&mut self) -> Result<Operator<'a>, ReadError>
         // What is read is spelt by what was taken.
         ensures found { IfOk result (λ x. (text : List ℕ) × Moves self.old text self.new × Spells (meaning x) text) }
         // What stands at the front is read.

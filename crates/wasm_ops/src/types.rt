@@ -1,6 +1,7 @@
 //! Types and other immediates as operators spell them: with raw indices.
 
 use std::fmt;
+use std::marker::Model;
 use walrus_ir::{HeapType, ValType};
 
 /// The type of a value, with raw type indices.
@@ -65,4 +66,26 @@ pub enum Opcode {
     Byte(u8),
     /// A prefix byte, and a number behind it.
     Prefixed(u8, u32),
+}
+
+/// A clause of `try_table`, as it is spelt. A contract sees the clause.
+#[derive(Clone, Copy, Debug, PartialEq, Eq)]
+pub struct RawCatch {
+    /// Whether it hands on a reference to the exception.
+    pub by_reference: bool,
+    /// The raw index of its tag; none where it catches all.
+    pub tag: Option<u32>,
+    /// Its label, as a depth.
+    pub label: u32,
+}
+
+impl Model for RawCatch {
+    ghost use Rattle.wasm_ops.specs.Operations.{CatchClause};
+    ghost use Rattle.std.specs.Prelude.{ℕ};
+
+    ghost Value = { CatchClause ℕ };
+
+    ghost view = { λ c. record { by_reference = c.by_reference; tag = c.tag; label = c.label } };
+
+    ghost inverse = { λ c. record { by_reference = c.by_reference; tag = c.tag; label = c.label } };
 }

@@ -28,7 +28,7 @@ pub trait OpCheck: Drop {
     ghost check: { State → Placed → Result State ℕ };
 
     /// The next operator, whose first byte stands at `pos`.
-    fn op(&mut self, pos: usize, op: &Operator) -> Result<(), CheckError>
+    fn op(&mut self, pos: usize, op: &Operator<'_>) -> Result<(), CheckError>
         ensures { Checks check (state self.old) (placed_at (meaning op.now) pos) result (state self.new) };
 }
 
@@ -45,7 +45,7 @@ impl OpCheck for AcceptAll {
 
     ghost check = { λ s _. Ok s };
 
-    fn op(&mut self, _pos: usize, _op: &Operator) -> Result<(), CheckError> {
+    fn op(&mut self, _pos: usize, _op: &Operator<'_>) -> Result<(), CheckError> {
         Ok(())
     }
 }

@@ -30,11 +30,11 @@ fn checked(error: CheckError) -> ParseError
 }
 
 /// The next operator and its location: it is read, then it gets its location, and then the validator is asked.
-pub fn next_operator<V: OpCheck, F: Fn(&usize) -> InstrLocId>(
-    reader: &mut Reader<'_>,
+pub fn next_operator<'a, V: OpCheck, F: Fn(&usize) -> InstrLocId>(
+    reader: &mut Reader<'a>,
     on_instr_pos: Option<&F>,
     validator: &mut V,
-) -> Result<(Operator, InstrLocId), ParseFailure>
+) -> Result<(Operator<'a>, InstrLocId), ParseFailure>
     requires { MayAsk F.pre on_instr_pos reader.old.place (reader.old.place + 1) }
     ensures ok { IfOk result (λ x. taken (has_place on_instr_pos.entry) V.check (V.state validator.old) reader.old.place reader.old.rest
         ≡ Ok (record { spelt = meaning x.0; rest = reader.new.rest; state = V.state validator.new })) }

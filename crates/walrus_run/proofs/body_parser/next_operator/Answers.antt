@@ -1,4 +1,5 @@
-use Rattle.std.proofs.Common.{◌≡◌, true, false, None, Err, sym, ap, ◌∙◌}
+use Rattle.std.proofs.Common.{◌≡◌, map, true, false, None, Err, sym, ap, ◌∙◌}
+use Rattle.wasm_ops.specs.Immediates.{kind_of}
 use Rattle.wasm_ops.specs.Meaning.{meaning}
 use Rattle.wasm_body.specs.declared.error.ParseFailure.{ParseFailure}
 use Rattle.wasm_body.specs.Parsing.Accepted.{has_location}
@@ -12,6 +13,9 @@ returns-in-Ok-Some-clause-ok c =
     let at = c.original_position-at.ensures in
     let place : (has_location None c.original_position-at.result ≡ true) × (c.in-Ok-Some.location ≡ c.original_position-at.result) = c.in-Ok-Some.ensures' in
     (next_found old c.read.new.self (meaning c.in-Ok-Some.operator) found.0 found.1 found.2 (ap (has_location None) (sym at) ∙ place.0), place.1 ∙ at)
+
+pub returns-in-Ok-Some-clause-carried : goal.returns-in-Ok-Some-clause-carried
+returns-in-Ok-Some-clause-carried c = (map kind_of (meaning c.in-Ok-Some.operator).immediates, c.in-Ok-Some.ensures.found.2.kinds)
 
 pub returns-in-Ok-Some-clause-moves : goal.returns-in-Ok-Some-clause-moves
 returns-in-Ok-Some-clause-moves c =

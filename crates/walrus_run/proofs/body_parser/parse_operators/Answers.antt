@@ -1,6 +1,6 @@
 use Rattle.std.proofs.Common.{◌≡◌, ◌<◌, ◌⊎◌, length, List, [], ◌∷◌, refl, rules, arith, inl, inr, sym, ap, subst, ◌∙◌, Ok, Err}
 use Rattle.std.specs.Vec.{vec_len}
-use Rattle.wasm_ops.specs.declared.operator.Operator.TheVariants.{End}
+use Rattle.wasm_ops.specs.declared.operator.Op.TheVariants.{End}
 use Rattle.wasm_ops.specs.Meaning.{meaning}
 use Rattle.wasm_body.specs.declared.error.ParseError.TheVariants.{Trailing, MissingEnd}
 use Rattle.wasm_body.specs.declared.error.ParseFailure.{ParseFailure}

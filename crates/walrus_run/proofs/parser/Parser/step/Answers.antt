@@ -21,13 +21,19 @@ pub leave_block-requires-clause-stands : goal.leave_block-requires-clause-stands
 leave_block-requires-clause-stands c =
     let known = c.requires.known in current_within c.args.self.now known.0 known.1 known.2
 
+pub instruction-requires : goal.instruction-requires
+instruction-requires c = record {
+  kind = makes_instruction c.args.operator.now c.requires.carried c.in_default.not-Nop c.in_default.not-Block c.in_default.not-End;
+  writable = c.requires.writable;
+}
+
 pub returns-in_err-instr-in_default : goal.returns-in_err-instr-in_default
 returns-in_err-instr-in_default c =
     let p = c.args.self.now in
     let op = c.args.operator.now in
     let result = c.from_residual-in_err-instr-in_default in
     let fault = c.in_err-instr-in_default.field-0.0 in
-    let is = makes_instruction op c.in_default.not-Nop c.in_default.not-Block c.in_default.not-End in
+    let is = makes_instruction op c.requires.carried c.in_default.not-Nop c.in_default.not-Block c.in_default.not-End in
     record {
       step = λ ls s place keeps. steps_refused p p ls s (meaning op) place c.args.location result.result fault result.ensures.1 (refuses_instruction p ls s op fault keeps is (c.in_err-instr-in_default.ensures.placed (frames_of ls)));
       rest = no_ok result.result fault (KeepsRest p p) result.ensures.1;
@@ -63,7 +69,7 @@ returns-in_ok-instr-in_default c =
     let op = c.args.operator.now in
     let i = c.in_ok-instr-in_default.instr in
     let q = record p { current = c.take.new.self } in
-    let is = makes_instruction op c.in_default.not-Nop c.in_default.not-Block c.in_default.not-End in
+    let is = makes_instruction op c.requires.carried c.in_default.not-Nop c.in_default.not-Block c.in_default.not-End in
     let told = c.in_ok-instr-in_default.ensures in
     record {
       step = λ ls s place keeps. steps_from p q ls s (meaning op) place c.args.location c.take.result (Takes p.current c.take.new.self ((i, c.args.location) ∷ []) (is_cut op))

@@ -5,11 +5,11 @@ ghost use Rattle.wasm_ops.specs.AccessOperations.{load_opcode as the_load_opcode
 
 use walrus_ir::ExtendedLoad::{SignExtend, ZeroExtend, ZeroExtendAtomic};
 use walrus_ir::{LoadKind, StoreKind};
-use wasm_ops::Opcode;
-use wasm_ops::Opcode::{Byte, Prefixed};
+use crate::types::Opcode;
+use crate::types::Opcode::{Byte, Prefixed};
 
 /// The opcode of a load.
-pub(crate) fn load_opcode(kind: LoadKind) -> Opcode
+pub fn load_opcode(kind: LoadKind) -> Opcode
     ensures { result ≡ the_load_opcode kind }
 {
     match kind {
@@ -49,7 +49,7 @@ pub(crate) fn load_opcode(kind: LoadKind) -> Opcode
 }
 
 /// The opcode of a store.
-pub(crate) fn store_opcode(kind: StoreKind) -> Opcode
+pub fn store_opcode(kind: StoreKind) -> Opcode
     ensures { result ≡ the_store_opcode kind }
 {
     match kind {

@@ -4,11 +4,11 @@ ghost use Rattle.std.specs.Prelude.{◌≡◌};
 ghost use Rattle.wasm_ops.specs.TernaryOperations.{ternary_opcode as the_ternary_opcode};
 
 use walrus_ir::TernaryOp;
-use wasm_ops::Opcode;
-use wasm_ops::Opcode::Prefixed;
+use crate::types::Opcode;
+use crate::types::Opcode::Prefixed;
 
 /// 0xfd 261 to 275.
-pub(crate) fn ternary_opcode(op: TernaryOp) -> Opcode
+pub fn ternary_opcode(op: TernaryOp) -> Opcode
     ensures { result ≡ the_ternary_opcode op }
 {
     match op {

@@ -1,0 +1,64 @@
+//! Operators as they are written.
+
+ghost use Rattle.std.specs.Prelude.{◌≡◌};
+ghost use Rattle.wasm_ops.specs.Operations.{operation};
+ghost use Rattle.wasm_ops.specs.Meaning.{meaning};
+ghost use Rattle.wasm_ops.specs.Parts.{immediates_of};
+
+use std::marker::Model;
+use wasm_ops::{Immediates, Op, Opcode, RawCatch, index_rows, parts_of};
+
+/// The labels of a `br_table` as they are written. A contract sees the labels and the default.
+#[derive(Drop)]
+pub struct OutTable<'a> {
+    /// The labels, as depths.
+    pub targets: &'a [u32],
+    /// The label where the operand is past the others.
+    pub default: u32,
+}
+
+impl<'a> Model for OutTable<'a> {
+    ghost use Rattle.wasm_ops.specs.Immediates.{Table};
+
+    ghost Value = { Table };
+
+    ghost view = { λ t. (t.targets.now, t.default) };
+}
+
+/// The clauses of a `try_table` as they are written. A contract sees the list of them.
+#[derive(Drop)]
+pub struct OutClauses<'a> {
+    /// The clauses, in order.
+    pub clauses: &'a [RawCatch],
+}
+
+impl<'a> Model for OutClauses<'a> {
+    ghost use Rattle.std.specs.Prelude.{ℕ, List};
+    ghost use Rattle.wasm_ops.specs.Operations.{CatchClause};
+
+    ghost Value = { List (CatchClause ℕ) };
+
+    ghost view = { λ c. c.clauses.now };
+}
+
+/// An operator as it is written, whose lists stand in slices.
+pub type OutOp<'a> = Op<OutTable<'a>, OutClauses<'a>>;
+
+/// What follows the opcode of an operator as it is written.
+pub(crate) type OutImmediates<'a> = Immediates<OutTable<'a>, OutClauses<'a>>;
+
+/// An operator's opcode, and what follows it.
+pub(crate) fn taken_apart<'a>(op: &OutOp<'a>) -> (Opcode, OutImmediates<'a>)
+    ensures { operation result.0 (immediates_of result.1) ≡ meaning op.now }
+{
+    index_rows!(
+        parts_of, op,
+        Op::BrTable(OutTable { targets, default }) => {
+            let table = OutTable { targets: *targets, default: *default };
+            (Opcode::Byte(0x0e), Immediates::Table(table))
+        }
+        Op::TryTable { ty, catches: OutClauses { clauses } } => {
+            (Opcode::Byte(0x1f), Immediates::Clauses(*ty, OutClauses { clauses: *clauses }))
+        }
+    )
+}

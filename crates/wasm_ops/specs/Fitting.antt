@@ -1,0 +1,70 @@
+-- Which operators have a spelling, as far as their immediates say.
+use Rattle.std.specs.Prelude.{◌≡◌, ℕ, ◌^◌, ◌<◌, List, [], ◌∷◌, map, Some, ℤ, pos, negsuc}
+use Rattle.walrus_ir.specs.declared.val_type.ValType.{ValType}
+use Rattle.walrus_ir.specs.declared.val_type.ValType.TheVariants.{Ref}
+use Rattle.wasm_ops.specs.declared.types.BlockType.{BlockType}
+use Rattle.wasm_ops.specs.declared.types.BlockType.TheVariants.{Empty, Value, FuncType}
+use Rattle.wasm_ops.specs.Immediates.{Kind}
+use Rattle.wasm_ops.specs.Opcodes.{kinds_of}
+use Rattle.wasm_ops.specs.Operations.{RawImmediate, RawOperation, index, local, label, handler, outer, number, branch_table, clauses, access, block, value, i32, i64, f32, f64, v128, lane, zero_byte}
+
+-- no reference is spelt yet
+abbrev pub IsSpeltType : ValType ℕ → Type 0
+IsSpeltType (Ref r) = ⊥
+IsSpeltType _ = Unit {0}
+
+abbrev pub IsSpeltBlock : BlockType → Type 0
+IsSpeltBlock (Value type) = IsSpeltType type
+IsSpeltBlock _ = Unit {0}
+
+-- What is asked of an immediate beside that its numbers fit their types.
+abbrev pub IsSpeakable : RawImmediate → Type 0
+IsSpeakable (access a) = a.alignment < 32
+IsSpeakable (block type) = IsSpeltBlock type
+IsSpeakable (value type) = IsSpeltType type
+IsSpeakable (branch_table targets default) = ⊥
+IsSpeakable (clauses cs) = ⊥
+IsSpeakable _ = Unit {0}
+
+abbrev pub AreSpeakable : List RawImmediate → Type 0
+AreSpeakable [] = Unit {0}
+AreSpeakable (i ∷ is) = IsSpeakable i × AreSpeakable is
+
+-- Its opcode has a row.
+abbrev pub HasRow : RawOperation → Type 0
+HasRow o = (kinds : List Kind) × (kinds_of o.opcode ≡ Some kinds)
+
+-- ---- numbers that fit
+
+abbrev pub IsWithin : ℕ → ℤ → Type 0
+IsWithin half (pos n) = n < half
+IsWithin half (negsuc n) = n < half
+
+abbrev pub FitsBlock : BlockType → Type 0
+FitsBlock Empty = Unit {0}
+FitsBlock (Value type) = IsSpeltType type
+FitsBlock (FuncType n) = n < 2 ^ 32
+
+-- The lists, heap types and casts are not carried yet.
+abbrev pub Fits : RawImmediate → Type 0
+Fits (index space n) = n < 2 ^ 32
+Fits (local n) = n < 2 ^ 32
+Fits (label l) = l < 2 ^ 32
+Fits (handler depth) = depth < 2 ^ 32
+Fits (outer depth) = depth < 2 ^ 32
+Fits (number n) = n < 2 ^ 32
+Fits (access a) = (a.alignment < 32) × (a.memory < 2 ^ 32) × (a.offset < 2 ^ 64)
+Fits (block type) = FitsBlock type
+Fits (value type) = IsSpeltType type
+Fits (i32 z) = IsWithin (2 ^ 31) z
+Fits (i64 z) = IsWithin (2 ^ 63) z
+Fits (f32 bits) = bits < 2 ^ 32
+Fits (f64 bits) = bits < 2 ^ 64
+Fits (v128 bits) = bits < 2 ^ 128
+Fits (lane n) = n < 256
+Fits zero_byte = Unit {0}
+Fits _ = ⊥
+
+abbrev pub AllFit : List RawImmediate → Type 0
+AllFit [] = Unit {0}
+AllFit (i ∷ is) = Fits i × AllFit is

@@ -1,0 +1,38 @@
+//! What follows an opcode.
+
+use crate::types::{BlockType, RawMemArg, RawValType, Space};
+
+/// What follows an opcode. `T` is the labels of a `br_table`, and `C` the clauses of a `try_table`.
+#[derive(Drop, PartialEq, Eq)]
+pub enum Immediates<T, C> {
+    /// Nothing.
+    Nothing,
+    /// An index in a space.
+    Index(Space, u32),
+    /// An index in a space, and one in another.
+    Pair(Space, u32, Space, u32),
+    /// A label.
+    Label(u32),
+    /// The labels of a `br_table`.
+    Table(T),
+    /// A memory argument.
+    Access(RawMemArg),
+    /// A block type.
+    Block(BlockType),
+    /// A block type, and the clauses of a `try_table`.
+    Clauses(BlockType, C),
+    /// The type of a `select`.
+    Value(RawValType),
+    /// A constant.
+    I32(i32),
+    /// A constant.
+    I64(i64),
+    /// The bits of a constant.
+    F32(u32),
+    /// The bits of a constant.
+    F64(u64),
+    /// The bits of a constant.
+    V128(u128),
+    /// A lane.
+    Lane(u8),
+}
