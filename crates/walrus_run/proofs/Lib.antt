@@ -14,7 +14,6 @@ mod CarriedTrees
 mod RewritingLemmas
 mod ScopeLemmas
 mod Exponents
-mod NotCarried
 mod Emitting
 mod EmitSteps
 mod Encoded

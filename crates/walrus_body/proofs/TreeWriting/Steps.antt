@@ -9,8 +9,7 @@ use Rattle.walrus_ir.specs.declared.instr.Instr.{Instr}
 use Rattle.walrus_ir.specs.declared.instr.Instr.TheVariants as instr
 use Rattle.walrus_ir.specs.Unfolding.{slots_in}
 use Rattle.walrus_ir.specs.Events.{VisitInstruction}
-use Rattle.wasm_ops.specs.declared.operator.Operator.{Operator}
-use Rattle.wasm_ops.specs.Meaning.{meaning}
+use Rattle.wasm_ops.specs.Meaning.{Listed, meaning}
 use Rattle.wasm_ops.specs.Operations.{RawOperation}
 use Rattle.wasm_body.specs.declared.error.EmitError.{EmitError}
 use Rattle.wasm_body.specs.declared.error.EmitError.TheVariants.{BadClauses}
@@ -92,7 +91,7 @@ plain_scopes b i e = ap (λ ps. scopes_at b ps (closers_in i)) e
 
 -- ---- what the code makes of it
 
-pub plain_visited : (b : List InstrSeq) (to : Numbers) (scopes : ScopeLists) (draft drafted : Drafted) (i : Instr) (l : ℕ) (op : Operator)
+pub plain_visited : (b : List InstrSeq) (to : Numbers) (scopes : ScopeLists) (draft drafted : Drafted) (i : Instr) (l : ℕ) (op : Listed)
     → slots_in i ≡ [] → IsOperatorOf to (places_of scopes.open_scopes) (Simple None) i (Ok op)
     → drafted ≡ behind draft (at_location (meaning op) l)
     → emitter_behind (emitter_at b to scopes draft) (VisitInstruction i l) ≡ Ok (emitter_at b to scopes drafted)

@@ -1,13 +1,11 @@
 -- Writing an instruction of a tree as an operator.
-use Rattle.std.specs.Prelude.{◌≡◌, ℕ, List, Bool, true, false, None, Result, Ok, Err}
+use Rattle.std.specs.Prelude.{◌≡◌, ℕ, List, None, Result, Ok, Err}
 use Rattle.std.specs.Ordering.{nat_cmp}
 use Rattle.std.specs.FinMap.{get, from_entries}
 use Rattle.walrus_ir.specs.declared.val_type.InstrSeqType.{InstrSeqType}
 use Rattle.walrus_ir.specs.declared.instr.Instr.{Instr}
-use Rattle.walrus_ir.specs.declared.instr.Instr.TheVariants.{Load, Store, MemorySize, MemoryGrow, MemoryInit, DataDrop, MemoryCopy, MemoryFill, TableGet, TableSet, TableInit, ElemDrop, TableCopy, TableGrow, TableSize, TableFill}
-use Rattle.wasm_ops.specs.declared.operator.Operator.{Operator}
 use Rattle.wasm_ops.specs.declared.types.Opcode.{Opcode}
-use Rattle.wasm_ops.specs.Meaning.{meaning}
+use Rattle.wasm_ops.specs.Meaning.{Listed, meaning}
 use Rattle.wasm_ops.specs.Opcodes.{kinds_of}
 use Rattle.wasm_ops.specs.Operations.{RawOperation}
 use Rattle.wasm_encode.specs.Writable.{IsWritable}
@@ -47,41 +45,15 @@ numbered_closer to c = translate (then_by (numbering to)) (closing c)
 
 -- The operator that was answered is this one, or there is none for this fault; or its opcode isn't
 -- carried.
-abbrev pub IsOperator : Result RawOperation EmitError → Opcode → Result Operator EmitFault → Type 0
+abbrev pub IsOperator : Result RawOperation EmitError → Opcode → Result Listed EmitFault → Type 0
 IsOperator r opcode (Ok op) = (r ≡ Ok (meaning op)) × IsWritable (meaning op)
 IsOperator r opcode (Err (Refused e)) = r ≡ Err e
 IsOperator r opcode (Err NotCarried) = kinds_of opcode ≡ None
 
-abbrev pub IsOperatorOf : Numbers → List ℕ → InstrSeqType → Instr → Result Operator EmitFault
+abbrev pub IsOperatorOf : Numbers → List ℕ → InstrSeqType → Instr → Result Listed EmitFault
     → Type 0
 IsOperatorOf to around type i r =
     IsOperator (numbered_operator to around type i) (operation_of i).opcode r
 
-abbrev pub IsCloserOf : Numbers → Closer → Result Operator EmitFault → Type 0
+abbrev pub IsCloserOf : Numbers → Closer → Result Listed EmitFault → Type 0
 IsCloserOf to c r = IsOperator (numbered_closer to c) (closing c).opcode r
-
--- ---- kinds of instructions, by the operators that they are written as
-
--- those on memories and data segments
-abbrev pub is_on_memory : Instr → Bool
-is_on_memory (Load x) = true
-is_on_memory (Store x) = true
-is_on_memory (MemorySize x) = true
-is_on_memory (MemoryGrow x) = true
-is_on_memory (MemoryInit x) = true
-is_on_memory (DataDrop x) = true
-is_on_memory (MemoryCopy x) = true
-is_on_memory (MemoryFill x) = true
-is_on_memory _ = false
-
--- those on tables and element segments
-abbrev pub is_on_table : Instr → Bool
-is_on_table (TableGet x) = true
-is_on_table (TableSet x) = true
-is_on_table (TableInit x) = true
-is_on_table (ElemDrop x) = true
-is_on_table (TableCopy x) = true
-is_on_table (TableGrow x) = true
-is_on_table (TableSize x) = true
-is_on_table (TableFill x) = true
-is_on_table _ = false

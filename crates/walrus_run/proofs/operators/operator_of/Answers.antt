@@ -9,7 +9,7 @@ use Rattle.wasm_body.specs.InstructionTable.{operation_of}
 use Rattle.wasm_body.specs.Bytes.{Numbers}
 use Rattle.walrus_run.specs.declared.write_fault.WriteFault.{WriteFault}
 use Rattle.walrus_run.specs.Writing.{numbers_of, IsOperatorOf}
-use Rattle.walrus_run.proofs.NotCarried.{vector_constant, not_carried}
+use Rattle.walrus_body.proofs.TreeWriting.NotCarried.{vector_constant, not_carried}
 use Rattle.walrus_run.proofs.operators.operator_of.Goals as goal
 
 pub returns-in_default-clause-operator : goal.returns-in_default-clause-operator
