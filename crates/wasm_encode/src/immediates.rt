@@ -89,6 +89,7 @@ fn write_clauses(out: &mut Vec<u8>, clauses: &[RawCatch]) -> Result<(), AllocErr
 }
 
 /// Appends what follows an opcode.
+#[inline(always)]
 #[tactic(auto, using(crate::proofs::Appending::appending))]
 pub(crate) fn write_immediates(
     out: &mut Vec<u8>,

@@ -1,18 +1,21 @@
 //! Writing operators.
 
 ghost use Rattle.std.specs.Prelude.{◌≡◌, ◌++◌, OnOk, OnErr, take, length};
+ghost use Rattle.wasm_ops.specs.Operations.{operation};
 ghost use Rattle.wasm_ops.specs.Meaning.{meaning};
+ghost use Rattle.wasm_ops.specs.Parts.{immediates_of};
 ghost use Rattle.wasm_ops.specs.Shortest.{short_opcode, short};
 ghost use Rattle.wasm_encode.specs.Writable.{IsWritable};
 
 use crate::immediates::write_immediates;
 use crate::number::{write_byte, write_number};
-use crate::out_operator::{OutOp, taken_apart};
+use crate::out_operator::{OutClauses, OutImmediates, OutOp, OutTable};
 use std::alloc::AllocError;
-use wasm_ops::Opcode;
 use wasm_ops::Opcode::{Byte, Prefixed};
+use wasm_ops::{Immediates, Op, Opcode, index_rows, parts_of};
 
 /// Appends an opcode.
+#[inline(always)]
 #[tactic(auto, using(crate::proofs::Appending::appending))]
 fn write_opcode(out: &mut Vec<u8>, opcode: Opcode) -> Result<(), AllocError>
     ensures ok { OnOk result (out.new.items ≡ out.old.items ++ short_opcode opcode) }
@@ -27,15 +30,45 @@ fn write_opcode(out: &mut Vec<u8>, opcode: Opcode) -> Result<(), AllocError>
     }
 }
 
+/// Appends an opcode, and what follows it.
+#[inline(always)]
+#[tactic(auto, using(crate::proofs::Appending::appending))]
+fn write_parts(
+    out: &mut Vec<u8>,
+    opcode: Opcode,
+    immediates: &OutImmediates<'_>,
+) -> Result<(), AllocError>
+    ensures ok { OnOk result (out.new.items ≡ out.old.items ++ short (operation opcode (immediates_of immediates.now))) }
+    ensures kept { take (length out.old.items) out.new.items ≡ out.old.items }
+{
+    write_opcode(out, opcode)?;
+    write_immediates(out, immediates)
+}
+
+/// Appends an opcode, and what follows it.
+macro_rules! written {
+    (($out:ident) $opcode:expr, $immediates:expr) => {
+        write_parts($out, $opcode, &$immediates)
+    };
+}
+
 /// Appends an operator, or a front of its bytes where memory runs out.
 #[tactic(auto, using(crate::proofs::Appending::appending))]
 fn write_whole(out: &mut Vec<u8>, op: &OutOp<'_>) -> Result<(), AllocError>
     ensures ok { OnOk result (out.new.items ≡ out.old.items ++ short (meaning op.now)) }
     ensures kept { take (length out.old.items) out.new.items ≡ out.old.items }
 {
-    let (opcode, immediates) = taken_apart(op);
-    write_opcode(out, opcode)?;
-    write_immediates(out, &immediates)
+    index_rows!(
+        parts_of, written (out) op,
+        Op::BrTable(OutTable { targets, default }) => {
+            let table = OutTable { targets: *targets, default: *default };
+            written!((out) Byte(0x0e), Immediates::Table(table))
+        }
+        Op::TryTable { ty, catches: OutClauses { clauses } } => {
+            let clauses = OutClauses { clauses: *clauses };
+            written!((out) Byte(0x1f), Immediates::Clauses(*ty, clauses))
+        }
+    )
 }
 
 /// Appends the shortest spelling of an operator. It asks that the exponent of a memory argument is at most 31. Where memory

@@ -1,12 +1,7 @@
 //! Operators as they are written.
 
-ghost use Rattle.std.specs.Prelude.{◌≡◌};
-ghost use Rattle.wasm_ops.specs.Operations.{operation};
-ghost use Rattle.wasm_ops.specs.Meaning.{meaning};
-ghost use Rattle.wasm_ops.specs.Parts.{immediates_of};
-
 use std::marker::Model;
-use wasm_ops::{Immediates, Op, Opcode, RawCatch, index_rows, parts_of};
+use wasm_ops::{Immediates, Op, RawCatch};
 
 /// The labels of a `br_table` as they are written. A contract sees the labels and the default.
 #[derive(Drop)]
@@ -46,19 +41,3 @@ pub type OutOp<'a> = Op<OutTable<'a>, OutClauses<'a>>;
 
 /// What follows the opcode of an operator as it is written.
 pub(crate) type OutImmediates<'a> = Immediates<OutTable<'a>, OutClauses<'a>>;
-
-/// An operator's opcode, and what follows it.
-pub(crate) fn taken_apart<'a>(op: &OutOp<'a>) -> (Opcode, OutImmediates<'a>)
-    ensures { operation result.0 (immediates_of result.1) ≡ meaning op.now }
-{
-    index_rows!(
-        parts_of, op,
-        Op::BrTable(OutTable { targets, default }) => {
-            let table = OutTable { targets: *targets, default: *default };
-            (Opcode::Byte(0x0e), Immediates::Table(table))
-        }
-        Op::TryTable { ty, catches: OutClauses { clauses } } => {
-            (Opcode::Byte(0x1f), Immediates::Clauses(*ty, OutClauses { clauses: *clauses }))
-        }
-    )
-}

@@ -164,11 +164,14 @@ unfolding kinds_behind
 behind prefix n ks e =
     elim (chosen (eqb prefix 0xfc) _ None (Some ks) e) [
       | inl p ↦
-          let is : prefix ≡ 0xfc = eqb-true prefix 0xfc p.0 in
-          (p.0, omega arith, elim (cases_lt n 8) [
-            | inl lt ↦ omega arith
-            | inr le ↦ bulk_below n ks (let q = p.1 in rw (lt-leb n 7 (omega arith)) at q)
-          ])
+          let is : prefix ≡ 0xfc = eqb-true prefix 0xfc p.0 in (
+            p.0,
+            omega arith,
+            elim (cases_lt n 8) [
+              | inl lt ↦ omega arith
+              | inr le ↦ bulk_below n ks (let q = p.1 in rw (lt-leb n 7 (omega arith)) at q)
+            ],
+          )
       | inr p ↦ absurd (none_some ks p.1)
     ]
 

@@ -1,6 +1,6 @@
 //! Reading loads and stores: their memory arguments, and the kinds of their opcodes.
 
-ghost use Rattle.std.specs.Prelude.{◌≡◌, ◌≤◌};
+ghost use Rattle.std.specs.Prelude.{◌≡◌, ◌≤◌, length, IfSome, Ok};
 ghost use Rattle.walrus_ir.specs.Results.{Gives};
 ghost use Rattle.wasm_ops.specs.Immediates.{memory_flags, memory as memory_behind, memory_access};
 ghost use Rattle.wasm_ops.specs.AccessOperations.{load_opcode, store_opcode, access_of};
@@ -35,6 +35,27 @@ fn read_memory(flags: (u32, bool), bytes: &[u8]) -> Result<(u32, &[u8]), ReadFau
     } else {
         Ok((0, bytes))
     }
+}
+
+/// A memory argument of memory 0 and of a byte for each number at the front, and what follows it.
+#[inline(always)]
+#[tactic(auto, using(crate::proofs::Powers::powers), unfolding(crate::specs::Immediates::memory_access, crate::specs::Numbers::integer))]
+pub(crate) fn read_short_memarg(bytes: &[u8]) -> Option<(RawMemArg, &[u8])>
+    ensures stands { IfSome result (λ x. memory_access bytes.now ≡ Ok (access_of x.0, x.1.now)) }
+    ensures shorter { IfSome result (λ x. length x.1.now ≤ length bytes.now) }
+{
+    let [flags, offset, rest @ ..] = bytes else {
+        return None;
+    };
+    if *flags >= 32 || *offset >= 128 {
+        return None;
+    }
+    let memarg = RawMemArg {
+        exponent: *flags as u32,
+        memory: 0,
+        offset: *offset as u64,
+    };
+    Some((memarg, rest))
 }
 
 /// A memory argument at the front, and what follows it.

@@ -3,10 +3,10 @@
 ghost use Rattle.std.specs.Prelude.{◌≡◌};
 ghost use Rattle.wasm_ops.specs.AccessOperations.{load_opcode as the_load_opcode, store_opcode as the_store_opcode};
 
-use walrus_ir::ExtendedLoad::{SignExtend, ZeroExtend, ZeroExtendAtomic};
-use walrus_ir::{LoadKind, StoreKind};
 use crate::types::Opcode;
 use crate::types::Opcode::{Byte, Prefixed};
+use walrus_ir::ExtendedLoad::{SignExtend, ZeroExtend, ZeroExtendAtomic};
+use walrus_ir::{LoadKind, StoreKind};
 
 /// The opcode of a load.
 pub fn load_opcode(kind: LoadKind) -> Opcode

@@ -4,9 +4,9 @@ ghost use Rattle.std.specs.Prelude.{◌≡◌};
 ghost use Rattle.wasm_ops.specs.BinaryOperations.{binary_opcode as the_binary_opcode, integer_binary_opcode as the_integer_binary_opcode, float_binary_opcode as the_float_binary_opcode, vector_comparison_opcode as the_vector_comparison_opcode, low_vector_binary_opcode as the_low_vector_binary_opcode, high_vector_binary_opcode as the_high_vector_binary_opcode, replace_opcode as the_replace_opcode, replace_lane as the_replace_lane};
 ghost use Rattle.wasm_ops.specs.Parts.{lane_immediates};
 
-use walrus_ir::BinaryOp;
 use crate::types::Opcode;
 use crate::types::Opcode::{Byte, Prefixed};
+use walrus_ir::BinaryOp;
 
 /// Integers: opcodes of one byte.
 fn integer_binary_opcode(op: BinaryOp) -> Option<Opcode>

@@ -1,6 +1,6 @@
 //! Reading numbers: integers in LEB128 (WebAssembly core specification 3.0, binary format, values).
 
-ghost use Rattle.std.specs.Prelude.{◌≡◌, ◌<◌, ◌≤◌, ◌+◌, ◌-◌, ◌*◌, ◌^◌, IfOk, IfSome, pos, ◌≤ℤ◌, ◌<ℤ◌, ◌+ℤ◌, ◌*ℤ◌};
+ghost use Rattle.std.specs.Prelude.{◌≡◌, ◌∷◌, ◌<◌, ◌≤◌, ◌+◌, ◌-◌, ◌*◌, ◌^◌, IfOk, IfSome, pos, ◌≤ℤ◌, ◌<ℤ◌, ◌+ℤ◌, ◌*ℤ◌};
 ghost use Rattle.walrus_ir.specs.Results.{Gives};
 ghost use Rattle.wasm_ops.specs.Numbers.{unsigned, signed, unsigned_last, signed_last, integer, u32 as a_u32, u64 as a_u64, s32 as an_s32, s64 as an_s64, byte as byte_at, bits as some_bits};
 
@@ -120,34 +120,118 @@ pub(crate) fn read_signed(bits: u32, bytes: &[u8]) -> Result<(i64, &[u8]), ReadF
     }
 }
 
-/// A `u32` at the front, and what follows it.
-pub(crate) fn read_u32(bytes: &[u8]) -> Result<(u32, &[u8]), ReadFault>
+/// A `u32` at the front, of any number of bytes, and what follows it.
+#[inline(never)]
+fn read_u32_of_any_length(bytes: &[u8]) -> Result<(u32, &[u8]), ReadFault>
     ensures { Gives (λ x. (x.0, x.1.now)) result (a_u32 bytes.now) }
 {
     let (value, rest) = read_unsigned(32, bytes)?;
     Ok((value as u32, rest))
 }
 
-/// A `u64` at the front, and what follows it.
-pub(crate) fn read_u64(bytes: &[u8]) -> Result<(u64, &[u8]), ReadFault>
+/// A `u32` at the front, and what follows it. Most are of one byte.
+#[inline(always)]
+#[tactic(auto, using(crate::proofs::Powers::powers), unfolding(crate::specs::Numbers::integer))]
+pub(crate) fn read_u32(bytes: &[u8]) -> Result<(u32, &[u8]), ReadFault>
+    ensures { Gives (λ x. (x.0, x.1.now)) result (a_u32 bytes.now) }
+{
+    if let [byte, rest @ ..] = bytes {
+        if *byte < 128 {
+            return Ok((*byte as u32, rest));
+        }
+    }
+    read_u32_of_any_length(bytes)
+}
+
+/// A `u64` at the front, of any number of bytes, and what follows it.
+#[inline(never)]
+fn read_u64_of_any_length(bytes: &[u8]) -> Result<(u64, &[u8]), ReadFault>
     ensures { Gives (λ x. (x.0, x.1.now)) result (a_u64 bytes.now) }
 {
     read_unsigned(64, bytes)
 }
 
-/// An `s32` at the front, and what follows it.
-pub(crate) fn read_s32(bytes: &[u8]) -> Result<(i32, &[u8]), ReadFault>
+/// A `u64` at the front, and what follows it. Most are of one byte.
+#[inline(always)]
+#[tactic(auto, using(crate::proofs::Powers::powers), unfolding(crate::specs::Numbers::integer))]
+pub(crate) fn read_u64(bytes: &[u8]) -> Result<(u64, &[u8]), ReadFault>
+    ensures { Gives (λ x. (x.0, x.1.now)) result (a_u64 bytes.now) }
+{
+    if let [byte, rest @ ..] = bytes {
+        if *byte < 128 {
+            return Ok((*byte as u64, rest));
+        }
+    }
+    read_u64_of_any_length(bytes)
+}
+
+/// An `s32` at the front, of any number of bytes, and what follows it.
+#[inline(never)]
+fn read_s32_of_any_length(bytes: &[u8]) -> Result<(i32, &[u8]), ReadFault>
     ensures { Gives (λ x. (x.0, x.1.now)) result (an_s32 bytes.now) }
 {
     let (value, rest) = read_signed(32, bytes)?;
     Ok((value as i32, rest))
 }
 
-/// An `s64` at the front, and what follows it.
-pub(crate) fn read_s64(bytes: &[u8]) -> Result<(i64, &[u8]), ReadFault>
+/// An `s32` at the front, and what follows it. Most are of one byte.
+#[inline(always)]
+#[tactic(auto, using(crate::proofs::Powers::powers), unfolding(crate::specs::Numbers::integer))]
+pub(crate) fn read_s32(bytes: &[u8]) -> Result<(i32, &[u8]), ReadFault>
+    ensures { Gives (λ x. (x.0, x.1.now)) result (an_s32 bytes.now) }
+{
+    if let [byte, rest @ ..] = bytes {
+        if *byte < 64 {
+            return Ok((*byte as i32, rest));
+        }
+        if *byte < 128 {
+            return Ok((*byte as i32 - 128, rest));
+        }
+    }
+    read_s32_of_any_length(bytes)
+}
+
+/// An `s64` at the front, of any number of bytes, and what follows it.
+#[inline(never)]
+fn read_s64_of_any_length(bytes: &[u8]) -> Result<(i64, &[u8]), ReadFault>
     ensures { Gives (λ x. (x.0, x.1.now)) result (an_s64 bytes.now) }
 {
     read_signed(64, bytes)
+}
+
+/// An `s64` at the front, and what follows it. Most are of one byte.
+#[inline(always)]
+#[tactic(auto, using(crate::proofs::Powers::powers), unfolding(crate::specs::Numbers::integer))]
+pub(crate) fn read_s64(bytes: &[u8]) -> Result<(i64, &[u8]), ReadFault>
+    ensures { Gives (λ x. (x.0, x.1.now)) result (an_s64 bytes.now) }
+{
+    if let [byte, rest @ ..] = bytes {
+        if *byte < 64 {
+            return Ok((*byte as i64, rest));
+        }
+        if *byte < 128 {
+            return Ok((*byte as i64 - 128, rest));
+        }
+    }
+    read_s64_of_any_length(bytes)
+}
+
+/// A number below 64 of one byte at the front, and what follows it. It is so spelt with and without
+/// a sign.
+#[inline(always)]
+pub(crate) fn read_short_number(bytes: &[u8]) -> Option<(u8, &[u8])>
+    ensures { IfSome result (λ x. (bytes.now ≡ x.0 ∷ x.1.now) × (x.0 < 64)) }
+{
+    match bytes {
+        [number, rest @ ..] => {
+            if *number < 64 {
+                Some((*number, rest))
+            } else {
+                None
+            }
+        }
+        [] => None,
+    }
 }
 
 /// A byte at the front, and what follows it.

@@ -9,6 +9,7 @@ use crate::types::Opcode;
 use walrus_ir::{BinaryOp, UnaryOp};
 
 /// The operator of a byte from 0x45 to 0x66: a test or a comparison.
+#[inline(always)]
 pub(crate) fn comparison(byte: u8) -> Operator<'static>
     requires low { 0x45 ≤ byte }
     requires high { byte ≤ 0x66 }
@@ -53,6 +54,7 @@ pub(crate) fn comparison(byte: u8) -> Operator<'static>
 }
 
 /// The operator of a byte from 0x67 to 0x8a: arithmetic of integers.
+#[inline(always)]
 pub(crate) fn integer_arithmetic(byte: u8) -> Operator<'static>
     requires low { 0x67 ≤ byte }
     requires high { byte ≤ 0x8a }
@@ -99,6 +101,7 @@ pub(crate) fn integer_arithmetic(byte: u8) -> Operator<'static>
 }
 
 /// The operator of a byte from 0x8b to 0xa6: arithmetic of floats.
+#[inline(always)]
 pub(crate) fn float_arithmetic(byte: u8) -> Operator<'static>
     requires low { 0x8b ≤ byte }
     requires high { byte ≤ 0xa6 }
@@ -137,6 +140,7 @@ pub(crate) fn float_arithmetic(byte: u8) -> Operator<'static>
 }
 
 /// The operator of a byte from 0xa7 to 0xc4: a conversion.
+#[inline(always)]
 pub(crate) fn conversion(byte: u8) -> Operator<'static>
     requires low { 0xa7 ≤ byte }
     requires high { byte ≤ 0xc4 }

@@ -7,6 +7,13 @@ use crate::operator::Op;
 use crate::types::Opcode;
 use crate::{index_rows, parts_of};
 
+/// An opcode, and what follows it.
+macro_rules! pair {
+    (() $opcode:expr, $immediates:expr) => {
+        ($opcode, $immediates)
+    };
+}
+
 impl<'a> Op<BrTable<'a>, CatchList<'a>> {
     ghost use Rattle.std.specs.Prelude.{◌≡◌};
     ghost use Rattle.wasm_ops.specs.Operations.{operation};
@@ -19,7 +26,7 @@ impl<'a> Op<BrTable<'a>, CatchList<'a>> {
         ensures exact { result ≡ parts_of (meaning self.now) }
     {
         index_rows!(
-            parts_of, self,
+            parts_of, pair () self,
             Op::BrTable(table) => (Opcode::Byte(0x0e), Immediates::Table(table.again())),
             Op::TryTable { ty, catches } => {
                 (Opcode::Byte(0x1f), Immediates::Clauses(*ty, catches.again()))
@@ -45,14 +52,10 @@ impl<'a> PartialEq for Op<BrTable<'a>, CatchList<'a>> {
     ghost use Rattle.wasm_ops.specs.Meaning.{meaning};
     ghost use Rattle.wasm_ops.specs.Parts.{parts_of};
 
-    ghost eq = {
-        λ a b. on (λ a. (parts_of (meaning a)).0) (⟦<Opcode as PartialEq>⟧.eq) a b && on (λ a. (parts_of (meaning a)).1) (⟦<Immediates<BrTable<'static>, CatchList<'static>> as PartialEq>⟧.eq) a b
-    };
+    ghost eq = { λ a b. on (λ a. (parts_of (meaning a)).0) (⟦<Opcode as PartialEq>⟧.eq) a b && on (λ a. (parts_of (meaning a)).1) (⟦<Immediates<BrTable<'static>, CatchList<'static>> as PartialEq>⟧.eq) a b };
 
-    ghost laws = {
-        and_per (on_per (λ a. (parts_of (meaning a)).0) opcode_per)
-            (on_per (λ a. (parts_of (meaning a)).1) (immediates_per (table_row static_lft) (clauses_row static_lft) table_ghosts table_dict clauses_ghosts clauses_dict table_per clauses_per))
-    };
+    ghost laws = { and_per (on_per (λ a. (parts_of (meaning a)).0) opcode_per)
+        (on_per (λ a. (parts_of (meaning a)).1) (immediates_per (table_row static_lft) (clauses_row static_lft) table_ghosts table_dict clauses_ghosts clauses_dict table_per clauses_per)) };
 
     fn eq(&self, other: &Self) -> bool {
         let (opcode, immediates) = self.parts();
@@ -79,8 +82,6 @@ impl<'a> Eq for Op<BrTable<'a>, CatchList<'a>> {
     ghost use Rattle.wasm_ops.specs.Meaning.{meaning};
     ghost use Rattle.wasm_ops.specs.Parts.{parts_of};
 
-    ghost laws = {
-        and_equiv (on_equiv (λ a. (parts_of (meaning a)).0) opcode_equiv)
-            (on_equiv (λ a. (parts_of (meaning a)).1) (immediates_equiv (table_row static_lft) (clauses_row static_lft) table_eq_ghosts table_eq_dict table_ghosts table_dict clauses_eq_ghosts clauses_eq_dict clauses_ghosts clauses_dict table_equiv table_per clauses_equiv clauses_per))
-    };
+    ghost laws = { and_equiv (on_equiv (λ a. (parts_of (meaning a)).0) opcode_equiv)
+        (on_equiv (λ a. (parts_of (meaning a)).1) (immediates_equiv (table_row static_lft) (clauses_row static_lft) table_eq_ghosts table_eq_dict table_ghosts table_dict clauses_eq_ghosts clauses_eq_dict clauses_ghosts clauses_dict table_equiv table_per clauses_equiv clauses_per)) };
 }

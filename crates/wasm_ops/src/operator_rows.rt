@@ -68,60 +68,40 @@ macro_rules! lane_of {
     };
 }
 
-/// Takes an operator apart, into its opcode and what follows it: the rows of operators with lists,
-/// which are handed on in other ways where an operator is read and where it is written, the rows of
-/// indices, and those of the other operators.
+/// Takes an operator apart, and hands its opcode and what follows it to the macro `$each`, behind what
+/// that takes beside them. The rows of operators with lists come from outside, since lists are handed
+/// on in other ways where an operator is read and where it is written.
 #[macro_export]
 macro_rules! parts_of {
     (
-        ($op:expr, $($lists:tt)*)
+        ($each:ident $with:tt $op:expr, $($lists:tt)*)
         $($form:tt {
             $($row:literal $name:ident { $($field:ident $id:ident $space:ident),* })*
         })*
     ) => {
         match $op {
-            $crate::Op::Unreachable => ($crate::Opcode::Byte(0x00), $crate::Immediates::Nothing),
-            $crate::Op::Nop => ($crate::Opcode::Byte(0x01), $crate::Immediates::Nothing),
-            $crate::Op::Block { ty } => ($crate::Opcode::Byte(0x02), $crate::Immediates::Block(*ty)),
-            $crate::Op::End => ($crate::Opcode::Byte(0x0b), $crate::Immediates::Nothing),
-            $crate::Op::Br { label } => {
-                ($crate::Opcode::Byte(0x0c), $crate::Immediates::Label(*label))
-            }
-            $crate::Op::Return => ($crate::Opcode::Byte(0x0f), $crate::Immediates::Nothing),
-            $crate::Op::Drop => ($crate::Opcode::Byte(0x1a), $crate::Immediates::Nothing),
-            $crate::Op::Select => ($crate::Opcode::Byte(0x1b), $crate::Immediates::Nothing),
-            $crate::Op::TypedSelect { ty } => {
-                ($crate::Opcode::Byte(0x1c), $crate::Immediates::Value(*ty))
-            }
-            $crate::Op::Load { kind, memarg } => {
-                ($crate::load_opcode(*kind), $crate::Immediates::Access(*memarg))
-            }
-            $crate::Op::Store { kind, memarg } => {
-                ($crate::store_opcode(*kind), $crate::Immediates::Access(*memarg))
-            }
-            $crate::Op::I32Const { value } => {
-                ($crate::Opcode::Byte(0x41), $crate::Immediates::I32(*value))
-            }
-            $crate::Op::I64Const { value } => {
-                ($crate::Opcode::Byte(0x42), $crate::Immediates::I64(*value))
-            }
-            $crate::Op::F32Const { bits } => {
-                ($crate::Opcode::Byte(0x43), $crate::Immediates::F32(*bits))
-            }
-            $crate::Op::F64Const { bits } => {
-                ($crate::Opcode::Byte(0x44), $crate::Immediates::F64(*bits))
-            }
-            $crate::Op::Unop(op) => {
-                ($crate::unary_opcode(*op), $crate::lane_of!($crate::extract_lane(*op)))
-            }
-            $crate::Op::Binop(op) => {
-                ($crate::binary_opcode(*op), $crate::lane_of!($crate::replace_lane(*op)))
-            }
-            $crate::Op::TernOp(op) => ($crate::ternary_opcode(*op), $crate::Immediates::Nothing),
+            $crate::Op::Unreachable => $each!($with $crate::Opcode::Byte(0x00), $crate::Immediates::Nothing),
+            $crate::Op::Nop => $each!($with $crate::Opcode::Byte(0x01), $crate::Immediates::Nothing),
+            $crate::Op::Block { ty } => $each!($with $crate::Opcode::Byte(0x02), $crate::Immediates::Block(*ty)),
+            $crate::Op::End => $each!($with $crate::Opcode::Byte(0x0b), $crate::Immediates::Nothing),
+            $crate::Op::Br { label } => $each!($with $crate::Opcode::Byte(0x0c), $crate::Immediates::Label(*label)),
+            $crate::Op::Return => $each!($with $crate::Opcode::Byte(0x0f), $crate::Immediates::Nothing),
+            $crate::Op::Drop => $each!($with $crate::Opcode::Byte(0x1a), $crate::Immediates::Nothing),
+            $crate::Op::Select => $each!($with $crate::Opcode::Byte(0x1b), $crate::Immediates::Nothing),
+            $crate::Op::TypedSelect { ty } => $each!($with $crate::Opcode::Byte(0x1c), $crate::Immediates::Value(*ty)),
+            $crate::Op::Load { kind, memarg } => $each!($with $crate::load_opcode(*kind), $crate::Immediates::Access(*memarg)),
+            $crate::Op::Store { kind, memarg } => $each!($with $crate::store_opcode(*kind), $crate::Immediates::Access(*memarg)),
+            $crate::Op::I32Const { value } => $each!($with $crate::Opcode::Byte(0x41), $crate::Immediates::I32(*value)),
+            $crate::Op::I64Const { value } => $each!($with $crate::Opcode::Byte(0x42), $crate::Immediates::I64(*value)),
+            $crate::Op::F32Const { bits } => $each!($with $crate::Opcode::Byte(0x43), $crate::Immediates::F32(*bits)),
+            $crate::Op::F64Const { bits } => $each!($with $crate::Opcode::Byte(0x44), $crate::Immediates::F64(*bits)),
+            $crate::Op::Unop(op) => $each!($with $crate::unary_opcode(*op), $crate::lane_of!($crate::extract_lane(*op))),
+            $crate::Op::Binop(op) => $each!($with $crate::binary_opcode(*op), $crate::lane_of!($crate::replace_lane(*op))),
+            $crate::Op::TernOp(op) => $each!($with $crate::ternary_opcode(*op), $crate::Immediates::Nothing),
             $($lists)*
-            $($($crate::Op::$name { $($field),* } => {
-                ($crate::opcode_at!($form $row), $crate::indices_of!($($space $field)*))
-            })*)*
+            $($($crate::Op::$name { $($field),* } => $each!(
+                $with $crate::opcode_at!($form $row), $crate::indices_of!($($space $field)*)
+            ),)*)*
         }
     };
 }

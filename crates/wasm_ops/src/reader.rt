@@ -1,14 +1,17 @@
 //! Reading operators one after the other.
 
-ghost use Rattle.std.specs.Prelude.{◌≡◌, List, ℕ, ◌++◌, IfOk, IfErr, IsOkAnd, Err};
+ghost use Rattle.std.specs.Prelude.{◌≡◌, List, ℕ, ◌++◌, IfOk, IfErr, IsOkAnd, Ok, Err};
 ghost use Rattle.wasm_ops.specs.Operations.{RawOperation};
 ghost use Rattle.walrus_ir.specs.Results.{Gives};
 ghost use Rattle.wasm_ops.specs.Spelling.{Spells, read_operation};
 ghost use Rattle.wasm_ops.specs.Meaning.{meaning};
 
+use crate::access_reader::{load_kind, read_short_memarg, store_kind};
 use crate::byte_reader::read_behind_byte;
 use crate::fault::{ReadError, ReadFault};
-use crate::number::read_u32;
+use crate::index_rows;
+use crate::number::{read_short_number, read_u32};
+use crate::numeric_reader::{comparison, conversion, float_arithmetic, integer_arithmetic};
 use crate::operator::Operator;
 use crate::prefix_reader::read_behind_fc;
 use std::marker::Model;
@@ -41,6 +44,30 @@ fn read_front(bytes: &[u8]) -> Result<(Operator<'_>, &[u8]), ReadFault>
     read_operator(bytes)
 }
 
+/// An operator that is read at the front is spelt by what is taken.
+#[inline(always)]
+fn law_front(bytes: &[u8])
+    ensures { (o : RawOperation) (rest : List ℕ) → read_operation bytes.now ≡ Ok (o, rest)
+        → (text : List ℕ) × (bytes.now ≡ text ++ rest) × Spells o text }
+{}
+
+/// Takes the operator that has the byte and this number: those of globals and tables, and others.
+macro_rules! take_short {
+    (
+        ($reader:expr, $byte:ident $number:ident $rest:ident)
+        (Byte) { $($row:literal $name:ident { $field:ident $id:ident $space:ident })* }
+        $($others:tt)*
+    ) => {
+        match *$byte {
+            0x0c => return $reader.taken(Operator::Br { label: $number as u32 }, $rest),
+            $($row => return $reader.taken(Operator::$name { $field: $number as u32 }, $rest),)*
+            0x41 => return $reader.taken(Operator::I32Const { value: $number as i32 }, $rest),
+            0x42 => return $reader.taken(Operator::I64Const { value: $number as i64 }, $rest),
+            _ => {}
+        }
+    };
+}
+
 /// Reads operators one after the other. A contract sees what is left of the bytes, and the place of its first byte.
 #[derive(Drop)]
 pub struct Reader<'a> {
@@ -60,7 +87,7 @@ impl<'a> Model for Reader<'a> {
 }
 
 impl<'a> Reader<'a> {
-    ghost use Rattle.std.specs.Prelude.{◌≡◌, List, ℕ, ◌+◌, ◌++◌, ◌<◌, ◌^◌, ◌==◌, length, IfOk, IfErr, IsOkAnd, OnErr, Err};
+    ghost use Rattle.std.specs.Prelude.{◌≡◌, List, ℕ, ◌+◌, ◌++◌, ◌<◌, ◌≤◌, ◌^◌, ◌==◌, length, IfOk, IfErr, IsOkAnd, OnErr, Ok, Err};
     ghost use Rattle.wasm_ops.specs.Operations.{RawOperation};
     ghost use Rattle.wasm_ops.specs.Spelling.{Spells, read_operation};
     ghost use Rattle.wasm_ops.specs.Position.{Position, Moves};
@@ -91,9 +118,29 @@ impl<'a> Reader<'a> {
         self.position
     }
 
-    /// The next operator. Its parts are read from left to right, and the first that can't be read decides the fault. It
-    /// takes no memory.
-    pub fn read(&mut self) -> Result<Operator<'a>, ReadError>
+    /// Goes on behind an operator that stands at the front, and answers it.
+    #[inline(always)]
+    fn taken(&mut self, operator: Operator<'a>, rest: &'a [u8]) -> Result<Operator<'a>, ReadError>
+        requires stands { read_operation self.old.rest ≡ Ok (meaning operator, rest.now) }
+        requires shorter { length rest.now ≤ length self.old.rest }
+        // What is read is spelt by what was taken.
+        ensures found { IfOk result (λ x. (text : List ℕ) × Moves self.old text self.new × Spells (meaning x) text) }
+        // What stands at the front is read.
+        ensures only { (o : RawOperation) (text rest : List ℕ) → Spells o text → self.old.rest ≡ text ++ rest
+            → IsOkAnd result (λ x. (meaning x ≡ o) × Moves self.old text self.new) }
+        // Which fault it is, and where.
+        ensures fault { IfErr result (λ e. (read_operation self.old.rest ≡ Err e.fault) × (e.at ≡ self.old.place)) }
+        ensures err { OnErr result (self.new ≡ self.old) }
+    {
+        law_front(self.rest);
+        self.position += self.rest.len() - rest.len();
+        self.rest = rest;
+        Ok(operator)
+    }
+
+    /// The next operator, of any length.
+    #[inline(never)]
+    fn read_at_length(&mut self) -> Result<Operator<'a>, ReadError>
         // What is read is spelt by what was taken.
         ensures found { IfOk result (λ x. (text : List ℕ) × Moves self.old text self.new × Spells (meaning x) text) }
         // What stands at the front is read.
@@ -114,5 +161,49 @@ impl<'a> Reader<'a> {
                 at: self.position,
             }),
         }
+    }
+
+    /// The next operator. Its parts are read from left to right, and the first that can't be read
+    /// decides the fault. It takes no memory.
+    #[tactic(auto, using(crate::proofs::Powers::powers), unfolding(crate::specs::Spelling::read_operation, crate::specs::Opcodes::opcode, crate::specs::Opcodes::kinds_of_byte, crate::specs::Numbers::integer))]
+    pub fn read(&mut self) -> Result<Operator<'a>, ReadError>
+        // What is read is spelt by what was taken.
+        ensures found { IfOk result (λ x. (text : List ℕ) × Moves self.old text self.new × Spells (meaning x) text) }
+        // What stands at the front is read.
+        ensures only { (o : RawOperation) (text rest : List ℕ) → Spells o text → self.old.rest ≡ text ++ rest
+            → IsOkAnd result (λ x. (meaning x ≡ o) × Moves self.old text self.new) }
+        // Which fault it is, and where.
+        ensures fault { IfErr result (λ e. (read_operation self.old.rest ≡ Err e.fault) × (e.at ≡ self.old.place)) }
+        ensures err { OnErr result (self.new ≡ self.old) }
+    {
+        if let [byte, rest @ ..] = self.rest {
+            match *byte {
+                0x0b => return self.taken(Operator::End, rest),
+                0x0f => return self.taken(Operator::Return, rest),
+                0x1a => return self.taken(Operator::Drop, rest),
+                0x28..=0x35 => {
+                    if let Some((memarg, rest)) = read_short_memarg(rest) {
+                        let kind = load_kind(*byte);
+                        return self.taken(Operator::Load { kind, memarg }, rest);
+                    }
+                }
+                0x36..=0x3e => {
+                    if let Some((memarg, rest)) = read_short_memarg(rest) {
+                        let kind = store_kind(*byte);
+                        return self.taken(Operator::Store { kind, memarg }, rest);
+                    }
+                }
+                0x45..=0x66 => return self.taken(comparison(*byte), rest),
+                0x67..=0x8a => return self.taken(integer_arithmetic(*byte), rest),
+                0x8b..=0xa6 => return self.taken(float_arithmetic(*byte), rest),
+                0xa7..=0xc4 => return self.taken(conversion(*byte), rest),
+                _ => {
+                    if let Some((number, rest)) = read_short_number(rest) {
+                        index_rows!(take_short, self, byte number rest)
+                    }
+                }
+            }
+        }
+        self.read_at_length()
     }
 }

@@ -3,9 +3,9 @@
 ghost use Rattle.std.specs.Prelude.{◌≡◌};
 ghost use Rattle.wasm_ops.specs.TernaryOperations.{ternary_opcode as the_ternary_opcode};
 
-use walrus_ir::TernaryOp;
 use crate::types::Opcode;
 use crate::types::Opcode::Prefixed;
+use walrus_ir::TernaryOp;
 
 /// 0xfd 261 to 275.
 pub fn ternary_opcode(op: TernaryOp) -> Opcode

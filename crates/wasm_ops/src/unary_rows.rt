@@ -4,9 +4,9 @@ ghost use Rattle.std.specs.Prelude.{◌≡◌};
 ghost use Rattle.wasm_ops.specs.UnaryOperations.{unary_opcode as the_unary_opcode, scalar_unary_opcode as the_scalar_unary_opcode, low_vector_unary_opcode as the_low_vector_unary_opcode, high_vector_unary_opcode as the_high_vector_unary_opcode, extract_opcode as the_extract_opcode, extract_lane as the_extract_lane};
 ghost use Rattle.wasm_ops.specs.Parts.{lane_immediates};
 
-use walrus_ir::UnaryOp;
 use crate::types::Opcode;
 use crate::types::Opcode::{Byte, Prefixed};
+use walrus_ir::UnaryOp;
 
 /// Opcodes of one byte, and 0xfc 0 to 7.
 fn scalar_unary_opcode(op: UnaryOp) -> Option<Opcode>

@@ -19,4 +19,3 @@ returns-in_default-clause-operator c = λ count around h. search (rules, not_car
 pub returns-in-V128-clause-operator : goal.returns-in-V128-clause-operator
 returns-in-V128-clause-operator c = λ count around h.
     ap (λ i. kinds_of (operation_of i).opcode) c.in-Const.is ∙ vector_constant c.in-Const.constant.value c.in-V128.field-0 c.in-V128.is
-

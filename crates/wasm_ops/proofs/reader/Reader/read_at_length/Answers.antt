@@ -1,7 +1,7 @@
 use Rattle.std.proofs.Common.{ap, ◌∙◌}
 use Rattle.wasm_ops.specs.Position.{Position}
 use Rattle.wasm_ops.proofs.Fronts.{moved}
-use Rattle.wasm_ops.proofs.reader.Reader.read.Goals as goal
+use Rattle.wasm_ops.proofs.reader.Reader.read_at_length.Goals as goal
 
 pub returns-in-Ok-clause-only : goal.returns-in-Ok-clause-only
 returns-in-Ok-clause-only c = λ o text rest spelt parts.
