@@ -5,6 +5,8 @@
 #[cfg(test)]
 mod by_hand;
 #[cfg(test)]
+mod context;
+#[cfg(test)]
 mod emit;
 #[cfg(test)]
 mod ids_to_indices;

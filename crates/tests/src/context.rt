@@ -1,0 +1,44 @@
+//! Contexts of a parse, whose calls are made by hand.
+use std::test::Fail;
+use walrus_body::{IndicesToIds, ParseError, ValidationContext};
+use walrus_ir::{
+    BlockKind, FunctionBuilder, FunctionId, Instr, InstrLocId, InstrSeqId, Module, ModuleItems,
+    ModuleTypes, TypeId, ValType,
+};
+
+#[test]
+fn opens_and_closes_frames(rt: HostRuntime) -> Result<(), Fail> {
+    let module = Module {
+        types: ModuleTypes::new(rt.alloc()),
+        tags: ModuleItems::new(rt.alloc()),
+        locals: ModuleItems::new(rt.alloc()),
+        code_section_offset: 0,
+    };
+    let indices = IndicesToIds::new(rt.alloc());
+    let builder = FunctionBuilder::without_entry(rt.alloc(), TypeId::new(0));
+    let mut context = ValidationContext::new(
+        &module,
+        &indices,
+        FunctionId::new(0),
+        builder,
+        Vec::new(rt.alloc()),
+        Vec::new(rt.alloc()),
+    );
+    assert_eq!(rt; context.unreachable().err(), Some(ParseError::NoFrame));
+    let outer = context.push_control(BlockKind::FunctionEntry, &[], &[]);
+    assert_eq!(rt; outer.ok(), Some(InstrSeqId::new(0)));
+    let missing = context.push_control(BlockKind::Block, &[ValType::I32], &[]);
+    assert_eq!(rt; missing.err(), Some(ParseError::TypeMissing));
+    let inner = context.push_control(BlockKind::Block, &[], &[ValType::I32]);
+    assert_eq!(rt; inner.ok(), Some(InstrSeqId::new(1)));
+    assert!(rt; context.alloc_instr(Instr::Unreachable, InstrLocId::new(7)).is_ok());
+    assert!(rt; context.unreachable().is_ok());
+    assert!(rt; context.alloc_instr(Instr::Return, InstrLocId::new(8)).is_ok());
+    assert_eq!(rt; context.control(2).err(), Some(ParseError::NoSuchLabel));
+    assert!(rt; context.pop_control().is_ok());
+    let (builder, controls, instrs) = context.into_parts();
+    assert_eq!(rt; builder.count(), 2);
+    assert_eq!(rt; controls.len(), 1);
+    assert!(rt; instrs.is_empty());
+    Ok(())
+}
