@@ -31,9 +31,17 @@ fn opens_and_closes_frames(rt: HostRuntime) -> Result<(), Fail> {
     assert_eq!(rt; missing.err(), Some(ParseError::TypeMissing));
     let inner = context.push_control(BlockKind::Block, &[], &[ValType::I32]);
     assert_eq!(rt; inner.ok(), Some(InstrSeqId::new(1)));
-    assert!(rt; context.alloc_instr(Instr::Unreachable, InstrLocId::new(7)).is_ok());
+    assert!(rt;
+        context
+            .alloc_instr(Instr::Unreachable, InstrLocId::new(7))
+            .is_ok()
+    );
     assert!(rt; context.unreachable().is_ok());
-    assert!(rt; context.alloc_instr(Instr::Return, InstrLocId::new(8)).is_ok());
+    assert!(rt;
+        context
+            .alloc_instr(Instr::Return, InstrLocId::new(8))
+            .is_ok()
+    );
     assert_eq!(rt; context.control(2).err(), Some(ParseError::NoSuchLabel));
     assert!(rt; context.pop_control().is_ok());
     let (builder, controls, instrs) = context.into_parts();

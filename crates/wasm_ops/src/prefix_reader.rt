@@ -1,7 +1,6 @@
 //! Reading an operator whose opcode is a prefix byte and a number: a row an operator.
 
 ghost use Rattle.wasm_ops.specs.Reading.{Then, then_read};
-
 ghost use Rattle.walrus_ir.specs.Results.{Gives};
 ghost use Rattle.wasm_ops.specs.Numbers.{u32 as a_u32};
 ghost use Rattle.wasm_ops.specs.Spelling.{operands};
