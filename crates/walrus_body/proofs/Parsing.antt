@@ -7,6 +7,7 @@ pub mod Rules
 pub mod Clauses
 pub mod Steps
 pub mod Openings
+pub mod Partings
 pub mod Placements
 pub mod FrameLists
 pub mod TreeChanges

@@ -1,5 +1,5 @@
 -- What contracts see of a parser of bodies, and what its steps do.
-use Rattle.std.specs.Prelude.{◌≡◌, ℕ, List, reverse, Result}
+use Rattle.std.specs.Prelude.{◌≡◌, ℕ, List, [], ◌∷◌, reverse, Some, Result}
 use Rattle.wasm_ops.specs.Operations.{RawOperation}
 use Rattle.wasm_body.specs.declared.error.ParseError.{ParseError}
 use Rattle.wasm_body.specs.SourceTree.{Sequence}
@@ -15,6 +15,11 @@ state_with c ifs = record { arena = c.builder.sequences; frames = c.frames; ifs 
 
 abbrev pub state_of : BodyParser → ParseState
 state_of p = state_with p.context (reverse p.if_else.items)
+
+-- the innermost `if` has this alternative
+abbrev pub with_alternative : (alternative : ℕ) → List IfElseState → List IfElseState
+with_alternative alternative [] = []
+with_alternative alternative (top ∷ others) = record top { alternative = Some alternative } ∷ others
 
 -- It is still the parse of the same body.
 pub record IsSameBody (old new : OpenTrees) : Type 0 where

@@ -1,10 +1,10 @@
 //! How a body is parsed: each operator carries on what is kept of the sequences that are open.
-ghost use Rattle.std.specs.Prelude.{◌≡◌, ◌≢◌, ◌⊎◌, ◌<◌, length, IfOk, IfErr, OnOk, Some, [], ◌∷◌, Ok, Err, slice_get, IsSome, true, false};
+ghost use Rattle.std.specs.Prelude.{reverse, ◌≡◌, ◌≢◌, ◌⊎◌, ◌<◌, length, IfOk, IfErr, OnOk, Some, [], ◌∷◌, Ok, Err, slice_get, IsSome, true, false};
 ghost use Rattle.wasm_ops.specs.declared.types.Opcode.TheVariants.{Byte};
 ghost use Rattle.wasm_ops.specs.Operations.{operation, block};
 ghost use Rattle.wasm_body.specs.declared.error.ParseError.{ParseError as ParseFault};
 ghost use Rattle.wasm_body.specs.Control.{end_operation, else_operation};
-ghost use Rattle.walrus_body.specs.Parsing.BodyParsers.{IsSameBody, Steps};
+ghost use Rattle.walrus_body.specs.Parsing.BodyParsers.{IsSameBody, Steps, with_alternative};
 
 use crate::ParseError;
 use crate::local_function::context::ValidationContext;
@@ -68,6 +68,43 @@ impl BodyParser<'_> {
                     alternative: None,
                 },
             ),
+            Err(error) => Err(error),
+        }
+    }
+
+    /// The innermost `if` goes on with this alternative.
+    fn begin_alternative(&mut self, alternative: InstrSeqId)
+        ensures context { self.new.context ≡ self.old.context }
+        ensures ifs { reverse self.new.if_else.items ≡ with_alternative alternative (reverse self.old.if_else.items) }
+    {
+        if let Some(index) = self.if_else.len().checked_sub(1) {
+            self.if_else[index].alternative = Some(alternative);
+        }
+    }
+
+    /// Takes an `else`.
+    fn part_else(&mut self, location: InstrLocId) -> Result<(), ParseError>
+        ensures step { Steps self.old self.new else_operation location result }
+        ensures rest { OnOk result (IsSameBody self.old.context self.new.context) }
+    {
+        let (frame, consequent) = match self.context.pop_control() {
+            Ok(popped) => popped,
+            Err(error) => return Err(error),
+        };
+        let BlockKind::If = frame.kind else {
+            return Err(ParseError::ElseOutsideIf);
+        };
+        self.context.end_sequence(consequent, location);
+        let pushed = self.context.push_control(
+            BlockKind::Else,
+            &frame.start_types,
+            &frame.end_types,
+        );
+        match pushed {
+            Ok(alternative) => {
+                self.begin_alternative(alternative);
+                Ok(())
+            }
             Err(error) => Err(error),
         }
     }
