@@ -8,6 +8,7 @@ pub mod Clauses
 pub mod Steps
 pub mod Openings
 pub mod Partings
+pub mod Endings
 pub mod Placements
 pub mod FrameLists
 pub mod TreeChanges

@@ -1,10 +1,11 @@
 //! How a body is parsed: each operator carries on what is kept of the sequences that are open.
-ghost use Rattle.std.specs.Prelude.{reverse, ◌≡◌, ◌≢◌, ◌⊎◌, ◌<◌, length, IfOk, IfErr, OnOk, Some, [], ◌∷◌, Ok, Err, slice_get, IsSome, true, false};
+ghost use Rattle.std.specs.Prelude.{reverse, ◌≡◌, ◌≢◌, ◌⊎◌, ◌<◌, length, IfOk, IfErr, OnOk, Some, [], ◌∷◌, Ok, Err, slice_get, IsSome, IsSomeAnd, None, true, false};
+ghost use Rattle.walrus_ir.specs.Types.{existing};
 ghost use Rattle.wasm_ops.specs.declared.types.Opcode.TheVariants.{Byte};
 ghost use Rattle.wasm_ops.specs.Operations.{operation, block};
 ghost use Rattle.wasm_body.specs.declared.error.ParseError.{ParseError as ParseFault};
 ghost use Rattle.wasm_body.specs.Control.{end_operation, else_operation};
-ghost use Rattle.walrus_body.specs.Parsing.BodyParsers.{IsSameBody, Steps, with_alternative};
+ghost use Rattle.walrus_body.specs.Parsing.BodyParsers.{IsSameBody, Steps, with_alternative, AppendsIf, HasNoIf, AddsEmpty};
 
 use crate::ParseError;
 use crate::local_function::context::ValidationContext;
@@ -106,6 +107,74 @@ impl BodyParser<'_> {
                 Ok(())
             }
             Err(error) => Err(error),
+        }
+    }
+
+    /// Appends the instruction of the innermost `if`, whose sequences are closed.
+    fn append_if(&mut self, alternative: Option<InstrSeqId>) -> Result<(), ParseError>
+        ensures ok { OnOk result (AppendsIf self.old self.new alternative) }
+        ensures err { IfErr result (λ e. (e ≡ ParseFault.Memory) ⊎ HasNoIf self.old alternative) }
+    {
+        let Some(top) = self.if_else.pop() else {
+            return Err(ParseError::NoFrame);
+        };
+        let Some(alternative) = alternative.or(top.alternative) else {
+            return Err(ParseError::NoFrame);
+        };
+        let consequent = top.consequent;
+        let instr = Instr::IfElse(IfElse {
+            consequent,
+            alternative,
+        });
+        self.context.alloc_instr(instr, top.start)
+    }
+
+    /// Makes an empty alternative for an `if` that has none.
+    fn empty_alternative(
+        &mut self,
+        start_types: &[ValType],
+        end_types: &[ValType],
+    ) -> Result<InstrSeqId, ParseError>
+        ensures ok { IfOk result (λ id. IsSomeAnd (existing self.old.context.module.types start_types.now end_types.now)
+            (λ ty. AddsEmpty self.old.context self.new.context ty id)) }
+        ensures err { IfErr result (λ e. (e ≡ ParseFault.Memory)
+            ⊎ ((e ≡ ParseFault.TypeMissing) × (existing self.old.context.module.types start_types.now end_types.now ≡ None))) }
+        ensures ifs { self.new.if_else ≡ self.old.if_else }
+    {
+        let alternative = match self
+            .context
+            .push_control(BlockKind::Else, start_types, end_types)
+        {
+            Ok(alternative) => alternative,
+            Err(error) => return Err(error),
+        };
+        let (_frame, _block) = match self.context.pop_control() {
+            Ok(popped) => popped,
+            Err(error) => return Err(error),
+        };
+        Ok(alternative)
+    }
+
+    /// Takes an `end` that closes a construct.
+    fn end_construct(&mut self, location: InstrLocId) -> Result<(), ParseError>
+        requires inside { 1 < length self.old.context.frames }
+        ensures step { Steps self.old self.new end_operation location result }
+        ensures rest { OnOk result (IsSameBody self.old.context self.new.context) }
+    {
+        let (frame, block) = match self.context.pop_control() {
+            Ok(popped) => popped,
+            Err(error) => return Err(error),
+        };
+        self.context.end_sequence(block, location);
+        match frame.kind {
+            BlockKind::If => {
+                match self.empty_alternative(&frame.start_types, &frame.end_types) {
+                    Ok(alternative) => self.append_if(Some(alternative)),
+                    Err(error) => Err(error),
+                }
+            }
+            BlockKind::Else => self.append_if(None),
+            _ => Ok(()),
         }
     }
 }
