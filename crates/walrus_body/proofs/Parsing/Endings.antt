@@ -148,3 +148,104 @@ module _ (old mid end : OpenTrees) (ifs : List IfElseState) (s : Sequence Occurr
         of_construct (InTry a) h = absurd (not_then is_if kind.Try h.encloses.kind (λ e. cc e))
         of_construct (InCatch a b cs i t) h = absurd (not_then is_if kind.Catch h.encloses.kind (λ e. cc e))
         of_construct (InCatchAll a b cs i) h = absurd (not_then is_if kind.CatchAll h.encloses.kind (λ e. cc e))
+
+  -- ---- what can't be missing
+
+  some_around : mid.frames ≡ [] → ⊥
+  some_around none =
+      let many : length old.frames ≡ length (frames_of (l ∷ ls)) = holds_length (env_of old) old.builder.sequences (l ∷ ls) s (length old.builder.sequences) old.frames ifs keeps in
+      let frames : length old.frames ≡ length (f ∷ mid.frames) = ap length popped.3.frames in
+      let empty : length mid.frames ≡ 0 = ap length none in
+      let more = some_frame ls in
+      let sum : length (frames_of (l ∷ ls)) ≡ length (frame_of l.construct ∷ frames_of ls) = refl in
+      absurd (omega arith)
+    where
+      some_frame : (ks : List (Layer Occurrence)) → 0 < length (frames_of ks)
+      some_frame [] = (let z : 0 < 1 = omega arith in z)
+      some_frame (k ∷ ks) = (let z : 0 < length (frame_of k.construct ∷ frames_of ks) = omega arith in z)
+
+  -- the `if` of the frame
+  record HasIf : Type 0 where
+    pub top : IfElseState
+    pub others : List IfElseState
+    pub are : ifs ≡ top ∷ others
+    pub alternative : c.kind ≡ kind.Else → (n : ℕ) × (top.alternative ≡ Some n)
+
+  no_wrapper_else : (w : Wrapper) → wrapper_kind w ≡ kind.Else → ⊥
+  no_wrapper_else OfBlock e = cc
+  no_wrapper_else OfLoop e = cc
+  no_wrapper_else (OfTryTable cs) e = cc
+
+  has_if : (c.kind ≡ kind.If) ⊎ (c.kind ≡ kind.Else) → HasIf
+  has_if k = of_construct l.construct inside k
+    where
+      other : (j : BlockKind) → f.kind ≡ j → (j ≢ kind.If) → (j ≢ kind.Else) → (c.kind ≡ kind.If) ⊎ (c.kind ≡ kind.Else) → HasIf
+      other j e not_if not_else (inl is) = absurd (not_if (sym e ∙ kind_is ∙ is))
+      other j e not_if not_else (inr is) = absurd (not_else (sym e ∙ kind_is ∙ is))
+
+      of_construct : (p : OpenConstruct Occurrence) → Within p → (c.kind ≡ kind.If) ⊎ (c.kind ≡ kind.Else) → HasIf
+      of_construct (InThen a) h k = record { top = record { start = a.location; consequent = f.sequence; alternative = None }; others = h.other_ifs; are = h.opens.1;
+        alternative = λ e. absurd (let q : kind.If ≡ kind.Else = sym h.encloses.kind ∙ kind_is ∙ e in cc q) }
+      of_construct (InElse a b n) h k = record { top = record { start = a.location; consequent = h.opens.1.0; alternative = Some f.sequence }; others = h.other_ifs; are = h.opens.1.2; alternative = λ e. (f.sequence, refl) }
+      of_construct (InWrapper a w) h k = other (wrapper_kind w) h.encloses.kind (no_wrapper w) (no_wrapper_else w) k
+      of_construct (InTry a) h k = other kind.Try h.encloses.kind (λ e. cc e) (λ e. cc e) k
+      of_construct (InCatch a b cs i t) h k = other kind.Catch h.encloses.kind (λ e. cc e) (λ e. cc e) k
+      of_construct (InCatchAll a b cs i) h k = other kind.CatchAll h.encloses.kind (λ e. cc e) (λ e. cc e) k
+
+  -- ---- the instruction of the `if`, or why it is not appended
+
+  -- what an append that is refused for no `if` would need
+  absurd_if : (k : (c.kind ≡ kind.If) ⊎ (c.kind ≡ kind.Else)) (p : BodyParser) → reverse p.if_else.items ≡ ifs → p.context.frames ≡ mid.frames → (alternative : Option ℕ) → (c.kind ≡ kind.If → (n : ℕ) × (alternative ≡ Some n)) → HasNoIf p alternative → ⊥
+  absurd_if k p same frames alternative given (inl none) =
+      let h = has_if k in
+      let q : [] ≡ h.top ∷ h.others = ap reverse (sym none) ∙ same ∙ h.are in cc q
+  absurd_if k p same frames alternative given (inr (inl h)) =
+      let own = has_if k in
+      let ifs_are : own.top ∷ own.others ≡ h.1 ∷ reverse h.0 = sym own.are ∙ sym same ∙ ap reverse h.2 ∙ reverse_last h.0 h.1 in
+      let first : own.top ≡ h.1 = cc ifs_are in
+      by_kind k first h.3
+    where
+      by_kind : (c.kind ≡ kind.If) ⊎ (c.kind ≡ kind.Else) → (has_if k).top ≡ h.1 → either alternative h.1.alternative ≡ None → ⊥
+      by_kind (inl is) e none = let n = given is in let q : Some n.0 ≡ None = ap (λ a. either a h.1.alternative) (sym n.1) ∙ none in cc q
+      by_kind (inr is) e none = by_given alternative none
+        where
+          by_given : (a : Option ℕ) → either a h.1.alternative ≡ None → ⊥
+          by_given (Some n) q = cc q
+          by_given None q = let n = (has_if k).alternative is in let r : Some n.0 ≡ None = sym n.1 ∙ ap (λ (t : IfElseState). t.alternative) e ∙ q in cc r
+  absurd_if k p same frames alternative given (inr (inr none)) = some_around (sym frames ∙ none)
+
+  -- behind an alternative
+  pub steps_else : c.kind ≡ kind.Else → (p q : BodyParser) → p.context ≡ end → reverse p.if_else.items ≡ ifs → (r : Result (Unit {0}) ParseError) → OnOk r (AppendsIf p q None) → IfErr r (λ e. (e ≡ Memory) ⊎ HasNoIf p None) →
+      IsStep (env_of old) (state_with q.context (reverse q.if_else.items)) (l ∷ ls) s end_operation place location r
+  steps_else is_else p q at same (Ok u) ok err =
+      ends_else is_else ok.top (reverse q.if_else.items) ok.id q.context (sym same ∙ ap reverse ok.popped ∙ reverse_last q.if_else.items ok.top) ok.chosen
+      (ok.is ∙ ap (λ (z : OpenTrees). record z { frames = changed_at 0 (with_instr (if_else ok.top.consequent ok.id ok.top.start)) z.frames }) at)
+  steps_else is_else p q at same (Err e) ok (inl is) = inl is
+  steps_else is_else p q at same (Err e) ok (inr lacks) =
+      absurd (absurd_if (inr is_else) p same (ap (λ (z : OpenTrees). z.frames) at ∙ frames_end) None (λ is_if. absurd (let k : kind.If ≡ kind.Else = sym is_if ∙ is_else in cc k)) lacks)
+
+  -- behind a consequent
+  pub steps_if_alone : c.kind ≡ kind.If → (takes gives : List (ValType ℕ)) → takes ≡ c.start_types.items → gives ≡ c.end_types.items → (id : ℕ) (p q : BodyParser) → IsSomeAnd (existing end.module.types takes gives) (λ t. AddsEmpty end p.context t id) →
+      reverse p.if_else.items ≡ ifs → (r : Result (Unit {0}) ParseError) → OnOk r (AppendsIf p q (Some id)) → IfErr r (λ e. (e ≡ Memory) ⊎ HasNoIf p (Some id)) →
+      IsStep (env_of old) (state_with q.context (reverse q.if_else.items)) (l ∷ ls) s end_operation place location r
+  steps_if_alone is_if takes gives takes_is gives_is id p q added same r ok err = of_pick (existing end.module.types takes gives) refl added r ok err
+    where
+      of_pick : (o : Option InstrSeqType) → existing end.module.types takes gives ≡ o → IsSomeAnd o (λ t. AddsEmpty end p.context t id) → (r : Result (Unit {0}) ParseError) → OnOk r (AppendsIf p q (Some id)) → IfErr r (λ e. (e ≡ Memory) ⊎ HasNoIf p (Some id)) →
+          IsStep (env_of old) (state_with q.context (reverse q.if_else.items)) (l ∷ ls) s end_operation place location r
+      of_pick None e a r ok err = absurd a
+      of_pick (Some t) e a (Ok u) ok err =
+          let same_id : id ≡ ok.id = (let k : Some id ≡ Some ok.id = ok.chosen in cc k) in
+          ends_if takes gives takes_is gives_is is_if ok.top (reverse q.if_else.items) t id p.context q.context (sym same ∙ ap reverse ok.popped ∙ reverse_last q.if_else.items ok.top) e a
+          (ok.is ∙ ap (λ n. record p.context { frames = changed_at 0 (with_instr (if_else ok.top.consequent n ok.top.start)) p.context.frames }) (sym same_id))
+      of_pick (Some t) e a (Err fault) ok (inl is) = inl is
+      of_pick (Some t) e a (Err fault) ok (inr lacks) =
+          absurd (absurd_if (inl is_if) p same (ap (λ (z : OpenTrees). z.frames) a.is ∙ frames_end) (Some id) (λ k. (id, refl)) lacks)
+
+-- ---- an `end` around which there is a construct
+
+-- where two frames are open, the innermost is that of a construct
+pub of_layers : (old : OpenTrees) (ifs : List IfElseState) (P : List (Layer Occurrence) → Sequence Occurrence → Type 0) → 1 < length old.frames →
+    ((l : Layer Occurrence) (ls : List (Layer Occurrence)) (s : Sequence Occurrence) → Keeps (env_of old) (state_with old ifs) (l ∷ ls) s → P (l ∷ ls) s) → (ls : List (Layer Occurrence)) (s : Sequence Occurrence) → Keeps (env_of old) (state_with old ifs) ls s → P ls s
+of_layers old ifs P many go [] s keeps =
+    let one : length old.frames ≡ 1 = holds_length (env_of old) old.builder.sequences [] s (length old.builder.sequences) old.frames ifs keeps in absurd (omega arith)
+of_layers old ifs P many go (l ∷ ls) s keeps = go l ls s keeps
