@@ -1,5 +1,5 @@
 -- The end of a construct: what the calls of the context make of what was kept.
-use Rattle.std.proofs.Common.{arith, ◌≡◌, ◌≢◌, ◌⊎◌, inl, inr, ◌<◌, ◌+◌, OnOk, IfErr, Result, Ok, Err, ℕ, zero, suc, List, [], ◌∷◌, ◌++◌, length, reverse, slice_get, slice_set, Option, Some, None, IsSomeAnd, refl, sym, ap, ◌∙◌, subst}
+use Rattle.std.proofs.Common.{arith, Bool, true, ◌≤◌, ◌≡◌, ◌≢◌, ◌⊎◌, inl, inr, ◌<◌, ◌+◌, OnOk, IfErr, Result, Ok, Err, ℕ, zero, suc, List, [], ◌∷◌, ◌++◌, length, reverse, slice_get, slice_set, Option, Some, None, IsSomeAnd, refl, sym, ap, ◌∙◌, subst}
 use Rattle.walrus_ir.specs.declared.seq.InstrSeq.{InstrSeq}
 use Rattle.walrus_ir.specs.declared.control.BlockKind.{BlockKind}
 use Rattle.walrus_ir.specs.declared.control.BlockKind.TheVariants as kind
@@ -8,11 +8,14 @@ use Rattle.walrus_ir.specs.declared.val_type.ValType.{ValType}
 use Rattle.walrus_ir.specs.Function.{Function, with_new_sequence, with_sequence}
 use Rattle.walrus_ir.specs.InstructionSequence.{empty_sequence}
 use Rattle.walrus_ir.specs.Types.{existing}
+use Rattle.walrus_ir.specs.Unfolding.{LocatedInstr}
 use Rattle.wasm_body.specs.declared.error.ParseError.{ParseError}
-use Rattle.wasm_body.specs.declared.error.ParseError.TheVariants.{Memory}
+use Rattle.wasm_body.specs.declared.error.ParseError.TheVariants.{Memory, NoFrame}
 use Rattle.wasm_body.specs.Control.{end_operation}
 use Rattle.wasm_body.specs.SourceTree.{Sequence, Wrapper, OfBlock, OfLoop, OfTryTable}
 use Rattle.wasm_body.specs.Naming.{Occurrence}
+use Rattle.wasm_body.specs.NormalForm.{typing_of, normal_form, named_body}
+use Rattle.wasm_body.specs.TreeOfFunction.{HasTree}
 use Rattle.wasm_body.specs.Parsing.Progress.{OpenConstruct, InWrapper, InThen, InElse, InTry, InCatch, InCatchAll, Layer, append, closed, frame_of, frames_of}
 use Rattle.walrus_body.specs.declared.local_function.frame.ControlFrame.{ControlFrame}
 use Rattle.walrus_body.specs.declared.local_function.frame.IfElseState.{IfElseState}
@@ -20,15 +23,15 @@ use Rattle.walrus_body.specs.declared.local_function.parse.BodyParser.{BodyParse
 use Rattle.walrus_body.specs.Parsing.Advancing.{ParseState, Keeps, occurrence, Advances, IsStep}
 use Rattle.walrus_body.specs.Parsing.Keeping.{IsWithin, Holds}
 use Rattle.walrus_body.specs.Parsing.OpenConstructs.{kind_in, wrapper_kind}
-use Rattle.walrus_body.specs.Parsing.OpenFrames.{OpenFrame, new_frame, changed_at, with_instr}
+use Rattle.walrus_body.specs.Parsing.OpenFrames.{OpenFrame, new_frame, changed_at, killed, with_instr}
 use Rattle.walrus_body.specs.Parsing.OpenTrees.{OpenTrees, Opens, EndsAt, env_of}
-use Rattle.walrus_body.specs.Parsing.BodyParsers.{AddsEmpty, AppendsIf, HasNoIf, either, if_else, state_with}
+use Rattle.walrus_body.specs.Parsing.BodyParsers.{AddsEmpty, AppendsIf, HasNoIf, either, if_else, state_with, taking}
 use Rattle.walrus_body.proofs.Parsing.Constructs.{grown_at}
 use Rattle.walrus_body.proofs.Parsing.Labels.{holds_length}
 use Rattle.walrus_body.proofs.Parsing.Openings.{reverse_last}
 use Rattle.walrus_body.proofs.Parsing.Partings.{Popped, seals_end}
 use Rattle.walrus_body.proofs.Parsing.Rules.{named_end}
-use Rattle.walrus_body.proofs.Parsing.Steps.{Seals, ended, chosen, chosen_alone}
+use Rattle.walrus_body.proofs.Parsing.Steps.{Seals, ended, chosen, chosen_alone, ends_body}
 
 -- ---- an empty alternative
 
@@ -138,11 +141,11 @@ module _ (old mid end : OpenTrees) (ifs : List IfElseState) (s : Sequence Occurr
             let starts : f.start_types ≡ takes = ap (λ (g : OpenFrame). g.start_types) popped.1.is ∙ sym takes_is in
             let ends : f.end_types ≡ gives = ap (λ (g : OpenFrame). g.end_types) popped.1.is ∙ sym gives_is in
             chosen_alone (env_of old) (state_with old ifs) l ls s f mid.frames popped.3.frames keeps (InThen a) (state_with new others) xs other x top others (kind_is ∙ is_if) ifs_are sealed_at
-                ((λ i. existing (sym same_module i).types (starts i) (ends i)) ∙ picks) refl refl
-                (ap (λ (z : OpenTrees). z.builder.sequences) new_is ∙ ap (λ (z : OpenTrees). z.builder.sequences) adds.is)
-                (ap (λ (z : OpenTrees). z.frames) new_is
-                ∙ (λ i. changed_at 0 (with_instr (if_else (first i).consequent (adds.is_next i) top.start)) ((ap (λ (z : OpenTrees). z.frames) adds.is ∙ frames_end) i)))
-                refl h
+            ((λ i. existing (sym same_module i).types (starts i) (ends i)) ∙ picks) refl refl
+            (ap (λ (z : OpenTrees). z.builder.sequences) new_is ∙ ap (λ (z : OpenTrees). z.builder.sequences) adds.is)
+            (ap (λ (z : OpenTrees). z.frames) new_is
+            ∙ (λ i. changed_at 0 (with_instr (if_else (first i).consequent (adds.is_next i) top.start)) ((ap (λ (z : OpenTrees). z.frames) adds.is ∙ frames_end) i)))
+            refl h
         of_construct (InWrapper a w) h = absurd (no_wrapper w (sym h.encloses.kind ∙ kind_is ∙ is_if))
         of_construct (InElse a b n) h = absurd (not_then is_if kind.Else h.encloses.kind (λ e. cc e))
         of_construct (InTry a) h = absurd (not_then is_if kind.Try h.encloses.kind (λ e. cc e))
@@ -184,8 +187,12 @@ module _ (old mid end : OpenTrees) (ifs : List IfElseState) (s : Sequence Occurr
       other j e not_if not_else (inr is) = absurd (not_else (sym e ∙ kind_is ∙ is))
 
       of_construct : (p : OpenConstruct Occurrence) → Within p → (c.kind ≡ kind.If) ⊎ (c.kind ≡ kind.Else) → HasIf
-      of_construct (InThen a) h k = record { top = record { start = a.location; consequent = f.sequence; alternative = None }; others = h.other_ifs; are = h.opens.1;
-        alternative = λ e. absurd (let q : kind.If ≡ kind.Else = sym h.encloses.kind ∙ kind_is ∙ e in cc q) }
+      of_construct (InThen a) h k = record {
+        top = record { start = a.location; consequent = f.sequence; alternative = None };
+        others = h.other_ifs;
+        are = h.opens.1;
+        alternative = λ e. absurd (let q : kind.If ≡ kind.Else = sym h.encloses.kind ∙ kind_is ∙ e in cc q);
+      }
       of_construct (InElse a b n) h k = record { top = record { start = a.location; consequent = h.opens.1.0; alternative = Some f.sequence }; others = h.other_ifs; are = h.opens.1.2; alternative = λ e. (f.sequence, refl) }
       of_construct (InWrapper a w) h k = other (wrapper_kind w) h.encloses.kind (no_wrapper w) (no_wrapper_else w) k
       of_construct (InTry a) h k = other kind.Try h.encloses.kind (λ e. cc e) (λ e. cc e) k
@@ -249,3 +256,40 @@ pub of_layers : (old : OpenTrees) (ifs : List IfElseState) (P : List (Layer Occu
 of_layers old ifs P many go [] s keeps =
     let one : length old.frames ≡ 1 = holds_length (env_of old) old.builder.sequences [] s (length old.builder.sequences) old.frames ifs keeps in absurd (omega arith)
 of_layers old ifs P many go (l ∷ ls) s keeps = go l ls s keeps
+
+-- ---- the function's own `end`
+
+pub finishes : (old mid end : OpenTrees) (ifs : List IfElseState) (s : Sequence Occurrence) (e : Occurrence) (location : ℕ) (c : ControlFrame) (block : ℕ) → Popped old mid c block → EndsAt mid end block location → e.location ≡ location →
+    Keeps (env_of old) (state_with old ifs) [] s → HasTree end.builder.sequences 0 (normal_form (typing_of (env_of old)) (named_body (record { sequence = s; close = e })))
+finishes old mid end ifs s e location c block h ended_at here keeps =
+    ends_body (env_of old) old.builder.sequences end.builder.sequences h.0 mid.frames ifs s e
+    (subst (λ n. Seals old.builder.sequences end.builder.sequences h.0 (Some n)) (sym here) (seals_end old mid end h.0 location h.3 (subst (λ n. EndsAt mid end n location) h.2 ended_at)))
+    (subst (λ gs. Holds (env_of old) old.builder.sequences [] s (length old.builder.sequences) gs ifs) h.3.frames keeps)
+
+-- ---- an instruction, and what is behind it
+
+module _ (a b n : OpenTrees) (x : LocatedInstr) (cuts : Bool) (r : Result (Unit {0}) ParseError) (cut : cuts ≡ true) (some : 0 < length a.frames) (appended : b ≡ record a { frames = changed_at 0 (with_instr x) a.frames }) where
+  both : (fs : List OpenFrame) → changed_at 0 killed (changed_at 0 (with_instr x) fs) ≡ changed_at 0 (taking x cuts) fs
+  both [] = refl
+  both (f ∷ fs) = rw cut refl
+
+  pub takes_ok : OnOk r ((0 < length b.frames) × (n ≡ record b { frames = changed_at 0 killed b.frames })) → OnOk r ((0 < length a.frames) × (n ≡ record a { frames = changed_at 0 (taking x cuts) a.frames }))
+  takes_ok = of_answer r
+    where
+      of_answer : (q : Result (Unit {0}) ParseError) → OnOk q ((0 < length b.frames) × (n ≡ record b { frames = changed_at 0 killed b.frames })) → OnOk q ((0 < length a.frames) × (n ≡ record a { frames = changed_at 0 (taking x cuts) a.frames }))
+      of_answer (Ok u) h = (some, h.1 ∙ ap (λ (z : OpenTrees). record z { frames = changed_at 0 killed z.frames }) appended ∙ ap (λ fs. record a { frames = fs }) (both a.frames))
+      of_answer (Err e) h = tt
+
+  pub takes_err : IfErr r (λ e. (e ≡ NoFrame) × (b.frames ≡ [])) → IfErr r (λ e. (e ≡ Memory) ⊎ ((e ≡ NoFrame) × (length a.frames ≤ 0)))
+  takes_err = of_answer r
+    where
+      none : b.frames ≡ [] → ⊥
+      none e = of_frames a.frames some (ap (λ (z : OpenTrees). z.frames) (sym appended) ∙ e)
+        where
+          of_frames : (fs : List OpenFrame) → 0 < length fs → changed_at 0 (with_instr x) fs ≡ [] → ⊥
+          of_frames [] l q = absurd (omega arith)
+          of_frames (f ∷ fs) l q = cc q
+
+      of_answer : (q : Result (Unit {0}) ParseError) → IfErr q (λ e. (e ≡ NoFrame) × (b.frames ≡ [])) → IfErr q (λ e. (e ≡ Memory) ⊎ ((e ≡ NoFrame) × (length a.frames ≤ 0)))
+      of_answer (Ok u) h = tt
+      of_answer (Err e) h = absurd (none h.1)

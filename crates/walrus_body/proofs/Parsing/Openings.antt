@@ -89,11 +89,11 @@ module _ (c m n : OpenTrees) (ifs : List IfElseState) (ls : List (Layer Occurren
       let g = new_frame kind.Block h.signature.parameters h.signature.results id in
       let seq = empty_sequence (length c.builder.sequences) h.type in
       steps_opened (env_of c) (state_with c ifs) ls s (operation (Byte 0x02) (block b ∷ [])) place location keeps
-          (state_with n ifs) named Block IsAny g seq x
-          (opener_is (env_of c) ls (Byte 0x02) Block b h.signature h.type refl (λ z. refl) h.is_named h.picked)
-          refl
-          (record { here = h.opens.is_next; is_empty = refl; is_alive = refl; kind = refl; takes = tt; gives = refl; has_type = ap (λ t. unwrap_or t (Simple None)) (sym h.picked); has_no_end = refl })
-          refl (λ around a. (a, refl)) refl refl tt (state_is kind.Block h x e)
+      (state_with n ifs) named Block IsAny g seq x
+      (opener_is (env_of c) ls (Byte 0x02) Block b h.signature h.type refl (λ z. refl) h.is_named h.picked)
+      refl
+      (record { here = h.opens.is_next; is_empty = refl; is_alive = refl; kind = refl; takes = tt; gives = refl; has_type = ap (λ t. unwrap_or t (Simple None)) (sym h.picked); has_no_end = refl })
+      refl (λ around a. (a, refl)) refl refl tt (state_is kind.Block h x e)
 
   pub opens_loop : OpensAs c m kind.Loop id (name_block (env_of c) b) → Appended (instr.Loop (record { seq = id })) → Advances (env_of c) (state_with n ifs) ls s (operation (Byte 0x03) (block b ∷ [])) place location
   opens_loop o e =
@@ -103,11 +103,11 @@ module _ (c m n : OpenTrees) (ifs : List IfElseState) (ls : List (Layer Occurren
       let g = new_frame kind.Loop h.signature.parameters h.signature.results id in
       let seq = empty_sequence (length c.builder.sequences) h.type in
       steps_opened (env_of c) (state_with c ifs) ls s (operation (Byte 0x03) (block b ∷ [])) place location keeps
-          (state_with n ifs) named Loop IsAny g seq x
-          (opener_is (env_of c) ls (Byte 0x03) Loop b h.signature h.type refl (λ z. refl) h.is_named h.picked)
-          refl
-          (record { here = h.opens.is_next; is_empty = refl; is_alive = refl; kind = refl; takes = tt; gives = refl; has_type = ap (λ t. unwrap_or t (Simple None)) (sym h.picked); has_no_end = refl })
-          refl (λ around a. (a, refl)) refl refl tt (state_is kind.Loop h x e)
+      (state_with n ifs) named Loop IsAny g seq x
+      (opener_is (env_of c) ls (Byte 0x03) Loop b h.signature h.type refl (λ z. refl) h.is_named h.picked)
+      refl
+      (record { here = h.opens.is_next; is_empty = refl; is_alive = refl; kind = refl; takes = tt; gives = refl; has_type = ap (λ t. unwrap_or t (Simple None)) (sym h.picked); has_no_end = refl })
+      refl (λ around a. (a, refl)) refl refl tt (state_is kind.Loop h x e)
 
   -- `if`, whose instruction is still to come
   pub opens_if : OpensAs c m kind.If id (name_block (env_of c) b) → Advances (env_of c) (state_with m (record { start = location; consequent = id; alternative = None } ∷ ifs)) ls s (operation (Byte 0x04) (block b ∷ [])) place location
@@ -118,12 +118,12 @@ module _ (c m n : OpenTrees) (ifs : List IfElseState) (ls : List (Layer Occurren
       let seq = empty_sequence (length c.builder.sequences) h.type in
       let made : IfElseState = record { start = location; consequent = id; alternative = None } in
       steps_if (env_of c) (state_with c ifs) ls s (operation (Byte 0x04) (block b ∷ [])) place location keeps
-          (state_with m (made ∷ ifs)) named g seq
-          (opener_is (env_of c) ls (Byte 0x04) If b h.signature h.type refl (λ z. refl) h.is_named h.picked)
-          refl
-          (record { here = h.opens.is_next; is_empty = refl; is_alive = refl; kind = refl; takes = (refl, h.type, h.picked); gives = refl; has_type = ap (λ t. unwrap_or t (Simple None)) (sym h.picked); has_no_end = refl })
-          refl
-          (ap (λ z. state_with z (made ∷ ifs)) h.opens.is)
+      (state_with m (made ∷ ifs)) named g seq
+      (opener_is (env_of c) ls (Byte 0x04) If b h.signature h.type refl (λ z. refl) h.is_named h.picked)
+      refl
+      (record { here = h.opens.is_next; is_empty = refl; is_alive = refl; kind = refl; takes = (refl, h.type, h.picked); gives = refl; has_type = ap (λ t. unwrap_or t (Simple None)) (sym h.picked); has_no_end = refl })
+      refl
+      (ap (λ z. state_with z (made ∷ ifs)) h.opens.is)
 
   -- the append behind the new frame is refused for want of memory alone, as there is a frame around
   pub appended_steps : (k : BlockKind) (h : OpensAs c m k id (name_block (env_of c) b)) (i : Instr) (o : RawOperation) (r : Result (Unit {0}) ParseError) → OnOk r ((1 < length m.frames) × Appended i) →

@@ -203,14 +203,14 @@ module _ (old mid : OpenTrees) (ifs : List IfElseState) (s : Sequence Occurrence
               let top : IfElseState = record { start = a.location; consequent = f.sequence; alternative = None } in
               let around : end.frames ≡ mid.frames = ap (λ (t : OpenTrees). t.frames) ended.is in
               else_parts (env_of old) (state_with old ifs) l ls s f mid.frames popped.3.frames keeps (InThen a) after b (empty_sequence (length b) made.0) g x top h.other_ifs
-                  (kind_is ∙ is_if) h.opens.1 sealed_at
-                  ((λ i. existing (sym same_module i).types ((starts ∙ sym takes_is) i) ((ends ∙ sym gives_is) i)) ∙ made.1)
-                  refl
-                  (ap (λ (t : OpenTrees). t.builder.sequences) opens.is)
-                  (λ i. new_frame kind.Else ((takes_is ∙ sym starts) i) ((gives_is ∙ sym ends) i) (opens.is_next i))
-                  (ap (λ (t : OpenTrees). t.frames) opens.is ∙ ap (λ gs. g ∷ gs) around)
-                  (ap (with_alternative alternative) h.opens.1)
-                  h
+              (kind_is ∙ is_if) h.opens.1 sealed_at
+              ((λ i. existing (sym same_module i).types ((starts ∙ sym takes_is) i) ((ends ∙ sym gives_is) i)) ∙ made.1)
+              refl
+              (ap (λ (t : OpenTrees). t.builder.sequences) opens.is)
+              (λ i. new_frame kind.Else ((takes_is ∙ sym starts) i) ((gives_is ∙ sym ends) i) (opens.is_next i))
+              (ap (λ (t : OpenTrees). t.frames) opens.is ∙ ap (λ gs. g ∷ gs) around)
+              (ap (with_alternative alternative) h.opens.1)
+              h
           goes_on (InWrapper a w) h = absurd (no_wrapper w (sym h.encloses.kind ∙ kind_is ∙ is_if))
           goes_on (InElse a b m) h = absurd (not_then kind.Else h.encloses.kind (λ e. cc e))
           goes_on (InTry a) h = absurd (not_then kind.Try h.encloses.kind (λ e. cc e))

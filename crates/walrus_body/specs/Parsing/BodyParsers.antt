@@ -1,17 +1,19 @@
 -- What contracts see of a parser of bodies, and what its steps do.
-use Rattle.std.specs.Prelude.{◌≡◌, ◌⊎◌, ℕ, List, [], ◌∷◌, ◌++◌, length, reverse, Option, Some, None, Result}
+use Rattle.std.specs.Prelude.{◌≡◌, ◌⊎◌, ℕ, List, [], ◌∷◌, ◌++◌, length, Bool, cond, reverse, Option, Some, None, Result}
 use Rattle.walrus_ir.specs.declared.instr.Instr.TheVariants as instr
 use Rattle.walrus_ir.specs.declared.val_type.InstrSeqType.{InstrSeqType}
-use Rattle.walrus_ir.specs.Function.{with_new_sequence}
+use Rattle.walrus_ir.specs.Function.{Function, with_new_sequence}
 use Rattle.walrus_ir.specs.Unfolding.{LocatedInstr}
 use Rattle.wasm_ops.specs.Operations.{RawOperation}
 use Rattle.wasm_body.specs.declared.error.ParseError.{ParseError}
 use Rattle.wasm_body.specs.SourceTree.{Sequence}
 use Rattle.wasm_body.specs.Naming.{Occurrence}
+use Rattle.wasm_body.specs.NormalForm.{typing_of, normal_form, named_body}
+use Rattle.wasm_body.specs.TreeOfFunction.{HasTree}
 use Rattle.wasm_body.specs.Parsing.Progress.{Layer}
 use Rattle.walrus_body.specs.declared.local_function.parse.BodyParser.{BodyParser}
 use Rattle.walrus_body.specs.declared.local_function.frame.IfElseState.{IfElseState}
-use Rattle.walrus_body.specs.Parsing.OpenFrames.{changed_at, with_instr}
+use Rattle.walrus_body.specs.Parsing.OpenFrames.{OpenFrame, changed_at, killed, with_instr}
 use Rattle.walrus_body.specs.Parsing.OpenTrees.{OpenTrees, env_of}
 use Rattle.walrus_body.specs.Parsing.Advancing.{ParseState, Keeps, IsStep}
 
@@ -56,6 +58,17 @@ pub record AddsEmpty (old new : OpenTrees) (type : InstrSeqType) (id : ℕ) : Ty
 pub record IsSameBody (old new : OpenTrees) : Type 0 where
   pub env : env_of new ≡ env_of old
   pub entry : new.builder.entry ≡ old.builder.entry
+
+-- one more instruction, and what follows it is dropped where it cuts
+abbrev pub taking : LocatedInstr → (cuts : Bool) → OpenFrame → OpenFrame
+taking x cuts f = cond cuts (killed (with_instr x f)) (with_instr x f)
+
+-- The builder holds the normal form of the body that the operators and the function's own `end` are.
+pub record Finishes (old : BodyParser) (location : ℕ) (new : Function) : Type 0 where
+  pub type : new.type ≡ old.context.builder.type
+  pub entry : new.entry ≡ old.context.builder.entry
+  pub holds : (s : Sequence Occurrence) (e : Occurrence) → e.location ≡ location → Keeps (env_of old.context) (state_of old) [] s →
+      HasTree new.sequences 0 (normal_form (typing_of (env_of old.context)) (named_body (record { sequence = s; close = e })))
 
 -- What was kept of the operators so far is kept of this one more, or memory ran out, or it has this first fault.
 abbrev pub Steps : BodyParser → BodyParser → RawOperation → (location : ℕ) → Result (Unit {0}) ParseError → Type 0

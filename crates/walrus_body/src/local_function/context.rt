@@ -188,7 +188,11 @@ impl<'a> ValidationContext<'a> {
     }
 
     /// Opens a frame that takes and gives what a block type says, with its old indices looked up.
-    pub(crate) fn push_block(&mut self, kind: BlockKind, ty: BlockType) -> Result<InstrSeqId, ParseError>
+    pub(crate) fn push_block(
+        &mut self,
+        kind: BlockKind,
+        ty: BlockType,
+    ) -> Result<InstrSeqId, ParseError>
         ensures ok { IfOk result (λ id. OpensAs self.old self.new kind id (name_block (env_of self.old) ty)) }
         ensures err { IfErr result (λ e. (e ≡ Fault.Memory) ⊎ (opened_type (env_of self.old) ty ≡ Err e)) }
     {

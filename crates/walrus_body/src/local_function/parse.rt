@@ -1,11 +1,12 @@
 //! How a body is parsed: each operator carries on what is kept of the sequences that are open.
-ghost use Rattle.std.specs.Prelude.{reverse, ◌≡◌, ◌≢◌, ◌⊎◌, ◌<◌, length, IfOk, IfErr, OnOk, Some, [], ◌∷◌, Ok, Err, slice_get, IsSome, IsSomeAnd, None, true, false};
+ghost use Rattle.std.specs.Prelude.{reverse, ◌≡◌, ◌≢◌, ◌⊎◌, ◌<◌, ◌≤◌, length, IfOk, IfErr, OnOk, Some, [], ◌∷◌, Ok, Err, slice_get, IsSome, IsSomeAnd, None, true, false};
 ghost use Rattle.walrus_ir.specs.Types.{existing};
 ghost use Rattle.wasm_ops.specs.declared.types.Opcode.TheVariants.{Byte};
 ghost use Rattle.wasm_ops.specs.Operations.{operation, block};
 ghost use Rattle.wasm_body.specs.declared.error.ParseError.{ParseError as ParseFault};
 ghost use Rattle.wasm_body.specs.Control.{end_operation, else_operation};
-ghost use Rattle.walrus_body.specs.Parsing.BodyParsers.{IsSameBody, Steps, with_alternative, AppendsIf, HasNoIf, AddsEmpty};
+ghost use Rattle.walrus_body.specs.Parsing.OpenFrames.{changed_at};
+ghost use Rattle.walrus_body.specs.Parsing.BodyParsers.{IsSameBody, Steps, with_alternative, AppendsIf, HasNoIf, AddsEmpty, Finishes, taking};
 
 use crate::ParseError;
 use crate::local_function::context::ValidationContext;
@@ -13,7 +14,8 @@ use crate::local_function::frame::IfElseState;
 use crate::local_function::own_lists::pushed;
 use crate::local_function::types::value_type;
 use walrus_ir::{
-    Block, BlockKind, IfElse, Instr, InstrLocId, InstrSeqId, InstrSeqType, Loop, TypeId, ValType,
+    Block, BlockKind, FunctionBuilder, IfElse, Instr, InstrLocId, InstrSeqId, InstrSeqType, Loop,
+    TypeId, ValType,
 };
 use wasm_ops::BlockType;
 
@@ -96,11 +98,9 @@ impl BodyParser<'_> {
             return Err(ParseError::ElseOutsideIf);
         };
         self.context.end_sequence(consequent, location);
-        let pushed = self.context.push_control(
-            BlockKind::Else,
-            &frame.start_types,
-            &frame.end_types,
-        );
+        let pushed = self
+            .context
+            .push_control(BlockKind::Else, &frame.start_types, &frame.end_types);
         match pushed {
             Ok(alternative) => {
                 self.begin_alternative(alternative);
@@ -176,5 +176,34 @@ impl BodyParser<'_> {
             BlockKind::Else => self.append_if(None),
             _ => Ok(()),
         }
+    }
+
+    /// Appends an instruction to the innermost frame, behind which nothing of it is executed where it cuts.
+    fn take(&mut self, instr: Instr, location: InstrLocId, cuts: bool) -> Result<(), ParseError>
+        ensures ok { OnOk result ((0 < length self.old.context.frames)
+            × (self.new.context ≡ record self.old.context { frames = changed_at 0 (taking (instr, location) cuts) self.old.context.frames })) }
+        ensures err { IfErr result (λ e. (e ≡ ParseFault.Memory)
+            ⊎ ((e ≡ ParseFault.NoFrame) × (length self.old.context.frames ≤ 0))) }
+        ensures ifs { self.new.if_else ≡ self.old.if_else }
+    {
+        match self.context.alloc_instr(instr, location) {
+            Ok(()) if cuts => self.context.unreachable(),
+            result => result,
+        }
+    }
+
+    /// Takes the function's own `end`: its sequences.
+    fn finish(mut self, location: InstrLocId) -> Result<FunctionBuilder, ParseError>
+        ensures ok { IfOk result (Finishes self.entry location) }
+        ensures err { IfErr result (λ e. (e ≡ ParseFault.Memory)
+            ⊎ ((e ≡ ParseFault.NoFrame) × (self.entry.context.frames ≡ []))) }
+    {
+        let (_frame, block) = match self.context.pop_control() {
+            Ok(popped) => popped,
+            Err(error) => return Err(error),
+        };
+        self.context.end_sequence(block, location);
+        let (builder, _controls, _instrs) = self.context.into_parts();
+        Ok(builder)
     }
 }

@@ -123,7 +123,10 @@ pub(crate) fn operator_of(
 }
 
 /// The operator that closes a sequence.
-pub(crate) fn closing_operator(closer: Closer, numbers: &NumberMaps<'_>) -> Result<OutOp<'static>, EmitFault>
+pub(crate) fn closing_operator(
+    closer: Closer,
+    numbers: &NumberMaps<'_>,
+) -> Result<OutOp<'static>, EmitFault>
     ensures writable { IfOk result (λ op. IsWritable (meaning op)) }
     ensures operator { IsCloserOf (numbers_of numbers.now) closer result }
 {

@@ -8,4 +8,4 @@ returns-clause-ok c =
     let seen = c.behind-builder.inside in
     let seq : InstrSeq = record { id = seen.id; ty = seen.ty; instrs = seen.instrs.items; end = seen.end } in
     one_announced _ c.args.place c.args.closer seq _ _
-      (c.seq.ensures ∙ ap (λ (s : InstrSeq). Some s) (sym c.behind-builder.view_is)) c.in_ok-announce.ensures.ok
+    (c.seq.ensures ∙ ap (λ (s : InstrSeq). Some s) (sym c.behind-builder.view_is)) c.in_ok-announce.ensures.ok

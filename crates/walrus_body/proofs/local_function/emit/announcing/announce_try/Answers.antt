@@ -23,5 +23,5 @@ pub returns-clause-ok : goal.returns-clause-ok
 returns-clause-ok c =
     let none : length c.clauses.left.now ≡ 0 = omega (arith, c.in_default.ensures.cases) in
     try_announced_so c.args.builder.now.sequences c.args.construct.now.seq c.args.construct.now.catches c.clauses.left.now
-      c.args.scopes.now c.clauses.scopes c.announce_one.new.scopes c.clauses.closer c.announce_one.result
-      (nothing_left c.clauses.left.now none) c.clauses.invariant.remaining (rw (← c.construct.view_is) c.announce_one.ensures.ok)
+    c.args.scopes.now c.clauses.scopes c.announce_one.new.scopes c.clauses.closer c.announce_one.result
+    (nothing_left c.clauses.left.now none) c.clauses.invariant.remaining (rw (← c.construct.view_is) c.announce_one.ensures.ok)

@@ -15,21 +15,21 @@ returns-in-Ok-empty_alternative-clause-step c = λ ls s place keeps.
     let old = c.args.self.now in
     let ifs = reverse old.if_else.items in
     of_layers old.context ifs
-      (λ ls s. IsStep (env_of old.context) (state_of c.append_if.new.self) ls s end_operation place c.args.location c.append_if.result)
-      c.requires.inside
-      (λ l ls s keeps. steps_if_alone old.context c.pop_control.new.self c.end_sequence.new.self ifs s place c.args.location c.in-Ok.popped.0 c.in-Ok.popped.1 c.in-Ok.ensures.ok c.end_sequence.ensures l ls keeps
-        c.in-If.is c.deref.result.now c.deref-in-If.result.now c.deref.ensures.value c.deref-in-If.ensures.value c.in-Ok-empty_alternative.alternative
-        c.empty_alternative.new.self c.append_if.new.self c.in-Ok-empty_alternative.ensures.ok (ap (λ v. reverse v.items) c.in-Ok-empty_alternative.ensures.ifs) c.append_if.result c.append_if.ensures.ok c.append_if.ensures.err)
-      ls s keeps
+    (λ ls s. IsStep (env_of old.context) (state_of c.append_if.new.self) ls s end_operation place c.args.location c.append_if.result)
+    c.requires.inside
+    (λ l ls s keeps. steps_if_alone old.context c.pop_control.new.self c.end_sequence.new.self ifs s place c.args.location c.in-Ok.popped.0 c.in-Ok.popped.1 c.in-Ok.ensures.ok c.end_sequence.ensures l ls keeps
+    c.in-If.is c.deref.result.now c.deref-in-If.result.now c.deref.ensures.value c.deref-in-If.ensures.value c.in-Ok-empty_alternative.alternative
+    c.empty_alternative.new.self c.append_if.new.self c.in-Ok-empty_alternative.ensures.ok (ap (λ v. reverse v.items) c.in-Ok-empty_alternative.ensures.ifs) c.append_if.result c.append_if.ensures.ok c.append_if.ensures.err)
+    ls s keeps
 
 pub returns-in-If-clause-step : goal.returns-in-If-clause-step
 returns-in-If-clause-step c = λ ls s place keeps.
     let old = c.args.self.now in
     let mid = c.pop_control.new.self in
     let kept = pick_kept old.context mid (reverse old.if_else.items) s place c.args.location c.in-Ok.popped.0 c.in-Ok.popped.1 c.in-Ok.ensures.ok
-        c.deref.result.now c.deref-in-If.result.now c.deref.ensures.value c.deref-in-If.ensures.value c.in-If.is ls keeps in
+    c.deref.result.now c.deref-in-If.result.now c.deref.ensures.value c.deref-in-If.ensures.value c.in-If.is ls keeps in
     elim c.in-Err-empty_alternative.ensures.err [
-      inl is ↦ inl is
+      | inl is ↦ inl is
       | inr is ↦ absurd (missing old.context mid c.end_sequence.new.self c.in-Ok.popped.1 c.args.location c.in-Ok.popped.0 c.in-Ok.ensures.ok c.end_sequence.ensures
           c.deref.result.now c.deref-in-If.result.now kept.0 kept.1 is.1)
     ]
@@ -39,11 +39,11 @@ returns-in-Else-clause-step c = λ ls s place keeps.
     let old = c.args.self.now in
     let ifs = reverse old.if_else.items in
     of_layers old.context ifs
-      (λ ls s. IsStep (env_of old.context) (state_of c.append_if-in-Else.new.self) ls s end_operation place c.args.location c.append_if-in-Else.result)
-      c.requires.inside
-      (λ l ls s keeps. steps_else old.context c.pop_control.new.self c.end_sequence.new.self ifs s place c.args.location c.in-Ok.popped.0 c.in-Ok.popped.1 c.in-Ok.ensures.ok c.end_sequence.ensures l ls keeps
-        c.in-Else.is (record { context = c.end_sequence.new.self; if_else = old.if_else }) c.append_if-in-Else.new.self refl refl c.append_if-in-Else.result c.append_if-in-Else.ensures.ok c.append_if-in-Else.ensures.err)
-      ls s keeps
+    (λ ls s. IsStep (env_of old.context) (state_of c.append_if-in-Else.new.self) ls s end_operation place c.args.location c.append_if-in-Else.result)
+    c.requires.inside
+    (λ l ls s keeps. steps_else old.context c.pop_control.new.self c.end_sequence.new.self ifs s place c.args.location c.in-Ok.popped.0 c.in-Ok.popped.1 c.in-Ok.ensures.ok c.end_sequence.ensures l ls keeps
+    c.in-Else.is (record { context = c.end_sequence.new.self; if_else = old.if_else }) c.append_if-in-Else.new.self refl refl c.append_if-in-Else.result c.append_if-in-Else.ensures.ok c.append_if-in-Else.ensures.err)
+    ls s keeps
 
 pub returns : goal.returns
 returns c =

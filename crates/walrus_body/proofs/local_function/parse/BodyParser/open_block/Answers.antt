@@ -16,7 +16,7 @@ returns-in-Ok-clause-step c = λ ls s place keeps.
     let ifs = reverse old.if_else.items in
     let done = c.alloc_instr_in_control in
     appended_steps old.context m n ifs ls s place c.args.location c.args.ty c.in-Ok.seq keeps kind.Block c.in-Ok.ensures.ok (instr.Block (record { seq = c.in-Ok.seq })) (operation (Byte 0x02) (block c.args.ty ∷ [])) done.result done.ensures.ok done.ensures.err
-        (opens_block old.context m n ifs ls s place c.args.location c.args.ty c.in-Ok.seq keeps c.in-Ok.ensures.ok)
+    (opens_block old.context m n ifs ls s place c.args.location c.args.ty c.in-Ok.seq keeps c.in-Ok.ensures.ok)
 
 pub returns-in-Err-clause-step : goal.returns-in-Err-clause-step
 returns-in-Err-clause-step c = λ ls s place keeps. elim c.in-Err.ensures.err [ inl is ↦ inl is | inr is ↦ inr (opener_faults (env_of c.args.self.now.context) ls (Byte 0x02) Block c.args.ty c.in-Err.error refl (λ z. refl) is) ]
