@@ -7,6 +7,8 @@ pub mod Rules
 pub mod Clauses
 pub mod Steps
 pub mod Openings
+pub mod Partings
+pub mod Endings
 pub mod Placements
 pub mod FrameLists
 pub mod TreeChanges

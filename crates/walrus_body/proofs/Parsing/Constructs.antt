@@ -25,7 +25,7 @@ use Rattle.walrus_body.proofs.Parsing.Frames.{slots_changed, kept_below, holds_s
 
 -- ---- an arena with one more sequence
 
-grown_at : (b : List InstrSeq) (seq : InstrSeq) → slice_get (b ++ seq ∷ []) (length b) ≡ Some seq
+pub grown_at : (b : List InstrSeq) (seq : InstrSeq) → slice_get (b ++ seq ∷ []) (length b) ≡ Some seq
 grown_at [] seq = refl
 grown_at (x ∷ b) seq = grown_at b seq
 

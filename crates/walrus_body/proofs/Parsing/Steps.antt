@@ -178,7 +178,7 @@ module _ (env : Environment) (old : ParseState) (l : Layer Occurrence) (ls : Lis
       subst (λ gs. Holds env new.arena ls (append l.before (closed p s e)) (length new.arena) gs new.ifs) (sym same_frames)
       (subst (λ is. Holds env new.arena ls (append l.before (closed p s e)) (length new.arena) fs is) (sym (same_ifs ∙ same_outside)) whole)
 
-  ended : (p : OpenConstruct Occurrence) (new : ParseState) (e : Occurrence) → f.kind ≢ kind.If → f.kind ≢ kind.Else → Seals old.arena new.arena f (Some e.location) → new.frames ≡ fs → new.ifs ≡ old.ifs →
+  pub ended : (p : OpenConstruct Occurrence) (new : ParseState) (e : Occurrence) → f.kind ≢ kind.If → f.kind ≢ kind.Else → Seals old.arena new.arena f (Some e.location) → new.frames ≡ fs → new.ifs ≡ old.ifs →
       Inside p → Keeps env new ls (append l.before (closed p s e))
   ended (InWrapper a w) new e not_if not_else seals gs is h = ended_as (InWrapper a w) IsAny new e h refl h.opens.0 h.opens.1 seals gs is
   ended (InThen a) new e not_if not_else seals gs is h = absurd (not_if h.encloses.kind)

@@ -1,12 +1,19 @@
 -- What contracts see of a parser of bodies, and what its steps do.
-use Rattle.std.specs.Prelude.{◌≡◌, ℕ, List, reverse, Result}
+use Rattle.std.specs.Prelude.{◌≡◌, ◌⊎◌, ℕ, List, [], ◌∷◌, ◌++◌, length, Bool, cond, reverse, Option, Some, None, Result}
+use Rattle.walrus_ir.specs.declared.instr.Instr.TheVariants as instr
+use Rattle.walrus_ir.specs.declared.val_type.InstrSeqType.{InstrSeqType}
+use Rattle.walrus_ir.specs.Function.{Function, with_new_sequence}
+use Rattle.walrus_ir.specs.Unfolding.{LocatedInstr}
 use Rattle.wasm_ops.specs.Operations.{RawOperation}
 use Rattle.wasm_body.specs.declared.error.ParseError.{ParseError}
 use Rattle.wasm_body.specs.SourceTree.{Sequence}
 use Rattle.wasm_body.specs.Naming.{Occurrence}
+use Rattle.wasm_body.specs.NormalForm.{typing_of, normal_form, named_body}
+use Rattle.wasm_body.specs.TreeOfFunction.{HasTree}
 use Rattle.wasm_body.specs.Parsing.Progress.{Layer}
 use Rattle.walrus_body.specs.declared.local_function.parse.BodyParser.{BodyParser}
 use Rattle.walrus_body.specs.declared.local_function.frame.IfElseState.{IfElseState}
+use Rattle.walrus_body.specs.Parsing.OpenFrames.{OpenFrame, changed_at, killed, with_instr}
 use Rattle.walrus_body.specs.Parsing.OpenTrees.{OpenTrees, env_of}
 use Rattle.walrus_body.specs.Parsing.Advancing.{ParseState, Keeps, IsStep}
 
@@ -16,10 +23,52 @@ state_with c ifs = record { arena = c.builder.sequences; frames = c.frames; ifs 
 abbrev pub state_of : BodyParser → ParseState
 state_of p = state_with p.context (reverse p.if_else.items)
 
+-- the innermost `if` has this alternative
+abbrev pub with_alternative : (alternative : ℕ) → List IfElseState → List IfElseState
+with_alternative alternative [] = []
+with_alternative alternative (top ∷ others) = record top { alternative = Some alternative } ∷ others
+
+-- the `if` of these sequences, at this location
+abbrev pub if_else : (consequent alternative location : ℕ) → LocatedInstr
+if_else consequent alternative location = (instr.IfElse (record { consequent = consequent; alternative = alternative }), location)
+
+-- the first of both that is there
+abbrev pub either : Option ℕ → Option ℕ → Option ℕ
+either (Some n) other = Some n
+either None other = other
+
+-- The innermost `if` is no longer open, and its instruction stands in the frame around.
+pub record AppendsIf (old new : BodyParser) (alternative : Option ℕ) : Type 0 where
+  pub top : IfElseState
+  pub popped : old.if_else.items ≡ new.if_else.items ++ top ∷ []
+  pub id : ℕ
+  pub chosen : either alternative top.alternative ≡ Some id
+  pub is : new.context ≡ record old.context { frames = changed_at 0 (with_instr (if_else top.consequent id top.start)) old.context.frames }
+
+-- No `if` is open, or it has no alternative, or there is no frame around.
+abbrev pub HasNoIf : BodyParser → Option ℕ → Type 0
+HasNoIf old alternative = (old.if_else.items ≡ []) ⊎ (((front : List IfElseState) × (top : IfElseState) × (old.if_else.items ≡ front ++ top ∷ []) × (either alternative top.alternative ≡ None)) ⊎ (old.context.frames ≡ []))
+
+-- There is one more sequence of this type, which is empty; nothing else changed.
+pub record AddsEmpty (old new : OpenTrees) (type : InstrSeqType) (id : ℕ) : Type 0 where
+  pub is_next : id ≡ length old.builder.sequences
+  pub is : new ≡ record old { builder = with_new_sequence old.builder type }
+
 -- It is still the parse of the same body.
 pub record IsSameBody (old new : OpenTrees) : Type 0 where
   pub env : env_of new ≡ env_of old
   pub entry : new.builder.entry ≡ old.builder.entry
+
+-- one more instruction, and what follows it is dropped where it cuts
+abbrev pub taking : LocatedInstr → (cuts : Bool) → OpenFrame → OpenFrame
+taking x cuts f = cond cuts (killed (with_instr x f)) (with_instr x f)
+
+-- The builder holds the normal form of the body that the operators and the function's own `end` are.
+pub record Finishes (old : BodyParser) (location : ℕ) (new : Function) : Type 0 where
+  pub type : new.type ≡ old.context.builder.type
+  pub entry : new.entry ≡ old.context.builder.entry
+  pub holds : (s : Sequence Occurrence) (e : Occurrence) → e.location ≡ location → Keeps (env_of old.context) (state_of old) [] s →
+      HasTree new.sequences 0 (normal_form (typing_of (env_of old.context)) (named_body (record { sequence = s; close = e })))
 
 -- What was kept of the operators so far is kept of this one more, or memory ran out, or it has this first fault.
 abbrev pub Steps : BodyParser → BodyParser → RawOperation → (location : ℕ) → Result (Unit {0}) ParseError → Type 0

@@ -1,10 +1,12 @@
 //! How a body is parsed: each operator carries on what is kept of the sequences that are open.
-ghost use Rattle.std.specs.Prelude.{◌≡◌, ◌≢◌, ◌⊎◌, ◌<◌, length, IfOk, IfErr, OnOk, Some, [], ◌∷◌, Ok, Err, slice_get, IsSome, true, false};
+ghost use Rattle.std.specs.Prelude.{reverse, ◌≡◌, ◌≢◌, ◌⊎◌, ◌<◌, ◌≤◌, length, IfOk, IfErr, OnOk, Some, [], ◌∷◌, Ok, Err, slice_get, IsSome, IsSomeAnd, None, true, false};
+ghost use Rattle.walrus_ir.specs.Types.{existing};
 ghost use Rattle.wasm_ops.specs.declared.types.Opcode.TheVariants.{Byte};
 ghost use Rattle.wasm_ops.specs.Operations.{operation, block};
 ghost use Rattle.wasm_body.specs.declared.error.ParseError.{ParseError as ParseFault};
 ghost use Rattle.wasm_body.specs.Control.{end_operation, else_operation};
-ghost use Rattle.walrus_body.specs.Parsing.BodyParsers.{IsSameBody, Steps};
+ghost use Rattle.walrus_body.specs.Parsing.OpenFrames.{changed_at};
+ghost use Rattle.walrus_body.specs.Parsing.BodyParsers.{IsSameBody, Steps, with_alternative, AppendsIf, HasNoIf, AddsEmpty, Finishes, taking};
 
 use crate::ParseError;
 use crate::local_function::context::ValidationContext;
@@ -12,7 +14,8 @@ use crate::local_function::frame::IfElseState;
 use crate::local_function::own_lists::pushed;
 use crate::local_function::types::value_type;
 use walrus_ir::{
-    Block, BlockKind, IfElse, Instr, InstrLocId, InstrSeqId, InstrSeqType, Loop, TypeId, ValType,
+    Block, BlockKind, FunctionBuilder, IfElse, Instr, InstrLocId, InstrSeqId, InstrSeqType, Loop,
+    TypeId, ValType,
 };
 use wasm_ops::BlockType;
 
@@ -70,5 +73,137 @@ impl BodyParser<'_> {
             ),
             Err(error) => Err(error),
         }
+    }
+
+    /// The innermost `if` goes on with this alternative.
+    fn begin_alternative(&mut self, alternative: InstrSeqId)
+        ensures context { self.new.context ≡ self.old.context }
+        ensures ifs { reverse self.new.if_else.items ≡ with_alternative alternative (reverse self.old.if_else.items) }
+    {
+        if let Some(index) = self.if_else.len().checked_sub(1) {
+            self.if_else[index].alternative = Some(alternative);
+        }
+    }
+
+    /// Takes an `else`.
+    fn part_else(&mut self, location: InstrLocId) -> Result<(), ParseError>
+        ensures step { Steps self.old self.new else_operation location result }
+        ensures rest { OnOk result (IsSameBody self.old.context self.new.context) }
+    {
+        let (frame, consequent) = match self.context.pop_control() {
+            Ok(popped) => popped,
+            Err(error) => return Err(error),
+        };
+        let BlockKind::If = frame.kind else {
+            return Err(ParseError::ElseOutsideIf);
+        };
+        self.context.end_sequence(consequent, location);
+        let pushed = self
+            .context
+            .push_control(BlockKind::Else, &frame.start_types, &frame.end_types);
+        match pushed {
+            Ok(alternative) => {
+                self.begin_alternative(alternative);
+                Ok(())
+            }
+            Err(error) => Err(error),
+        }
+    }
+
+    /// Appends the instruction of the innermost `if`, whose sequences are closed.
+    fn append_if(&mut self, alternative: Option<InstrSeqId>) -> Result<(), ParseError>
+        ensures ok { OnOk result (AppendsIf self.old self.new alternative) }
+        ensures err { IfErr result (λ e. (e ≡ ParseFault.Memory) ⊎ HasNoIf self.old alternative) }
+    {
+        let Some(top) = self.if_else.pop() else {
+            return Err(ParseError::NoFrame);
+        };
+        let Some(alternative) = alternative.or(top.alternative) else {
+            return Err(ParseError::NoFrame);
+        };
+        let consequent = top.consequent;
+        let instr = Instr::IfElse(IfElse {
+            consequent,
+            alternative,
+        });
+        self.context.alloc_instr(instr, top.start)
+    }
+
+    /// Makes an empty alternative for an `if` that has none.
+    fn empty_alternative(
+        &mut self,
+        start_types: &[ValType],
+        end_types: &[ValType],
+    ) -> Result<InstrSeqId, ParseError>
+        ensures ok { IfOk result (λ id. IsSomeAnd (existing self.old.context.module.types start_types.now end_types.now)
+            (λ ty. AddsEmpty self.old.context self.new.context ty id)) }
+        ensures err { IfErr result (λ e. (e ≡ ParseFault.Memory)
+            ⊎ ((e ≡ ParseFault.TypeMissing) × (existing self.old.context.module.types start_types.now end_types.now ≡ None))) }
+        ensures ifs { self.new.if_else ≡ self.old.if_else }
+    {
+        let alternative = match self
+            .context
+            .push_control(BlockKind::Else, start_types, end_types)
+        {
+            Ok(alternative) => alternative,
+            Err(error) => return Err(error),
+        };
+        let (_frame, _block) = match self.context.pop_control() {
+            Ok(popped) => popped,
+            Err(error) => return Err(error),
+        };
+        Ok(alternative)
+    }
+
+    /// Takes an `end` that closes a construct.
+    fn end_construct(&mut self, location: InstrLocId) -> Result<(), ParseError>
+        requires inside { 1 < length self.old.context.frames }
+        ensures step { Steps self.old self.new end_operation location result }
+        ensures rest { OnOk result (IsSameBody self.old.context self.new.context) }
+    {
+        let (frame, block) = match self.context.pop_control() {
+            Ok(popped) => popped,
+            Err(error) => return Err(error),
+        };
+        self.context.end_sequence(block, location);
+        match frame.kind {
+            BlockKind::If => {
+                match self.empty_alternative(&frame.start_types, &frame.end_types) {
+                    Ok(alternative) => self.append_if(Some(alternative)),
+                    Err(error) => Err(error),
+                }
+            }
+            BlockKind::Else => self.append_if(None),
+            _ => Ok(()),
+        }
+    }
+
+    /// Appends an instruction to the innermost frame, behind which nothing of it is executed where it cuts.
+    fn take(&mut self, instr: Instr, location: InstrLocId, cuts: bool) -> Result<(), ParseError>
+        ensures ok { OnOk result ((0 < length self.old.context.frames)
+            × (self.new.context ≡ record self.old.context { frames = changed_at 0 (taking (instr, location) cuts) self.old.context.frames })) }
+        ensures err { IfErr result (λ e. (e ≡ ParseFault.Memory)
+            ⊎ ((e ≡ ParseFault.NoFrame) × (length self.old.context.frames ≤ 0))) }
+        ensures ifs { self.new.if_else ≡ self.old.if_else }
+    {
+        match self.context.alloc_instr(instr, location) {
+            Ok(()) if cuts => self.context.unreachable(),
+            result => result,
+        }
+    }
+
+    /// Takes the function's own `end`: its sequences.
+    fn finish(mut self, location: InstrLocId) -> Result<FunctionBuilder, ParseError>
+        ensures ok { IfOk result (Finishes self.entry location) }
+        ensures err { IfErr result (λ e. (e ≡ ParseFault.Memory)
+            ⊎ ((e ≡ ParseFault.NoFrame) × (self.entry.context.frames ≡ []))) }
+    {
+        let (_frame, block) = match self.context.pop_control() {
+            Ok(popped) => popped,
+            Err(error) => return Err(error),
+        };
+        self.context.end_sequence(block, location);
+        let (builder, _controls, _instrs) = self.context.into_parts();
+        Ok(builder)
     }
 }
