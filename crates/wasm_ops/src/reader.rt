@@ -38,6 +38,8 @@ fn read_front(bytes: &[u8]) -> Result<(Operator<'_>, &[u8]), ReadFault>
     // What stands at the front is read.
     ensures only { (o : RawOperation) (text rest : List ℕ) → Spells o text → bytes.now ≡ text ++ rest
         → IsOkAnd result (λ x. (meaning x.0 ≡ o) × (x.1.now ≡ rest)) }
+    // What is read, as a function of the bytes.
+    ensures answer { IfOk result (λ x. read_operation bytes.now ≡ Ok (meaning x.0, x.1.now)) }
     // Which fault it is.
     ensures fault { IfErr result (λ e. read_operation bytes.now ≡ Err e) }
 {
@@ -128,6 +130,8 @@ impl<'a> Reader<'a> {
         // What stands at the front is read.
         ensures only { (o : RawOperation) (text rest : List ℕ) → Spells o text → self.old.rest ≡ text ++ rest
             → IsOkAnd result (λ x. (meaning x ≡ o) × Moves self.old text self.new) }
+        // What is read, as a function of the bytes.
+        ensures answer { IfOk result (λ x. read_operation self.old.rest ≡ Ok (meaning x, self.new.rest)) }
         // Which fault it is, and where.
         ensures fault { IfErr result (λ e. (read_operation self.old.rest ≡ Err e.fault) × (e.at ≡ self.old.place)) }
         ensures err { OnErr result (self.new ≡ self.old) }
@@ -146,6 +150,8 @@ impl<'a> Reader<'a> {
         // What stands at the front is read.
         ensures only { (o : RawOperation) (text rest : List ℕ) → Spells o text → self.old.rest ≡ text ++ rest
             → IsOkAnd result (λ x. (meaning x ≡ o) × Moves self.old text self.new) }
+        // What is read, as a function of the bytes.
+        ensures answer { IfOk result (λ x. read_operation self.old.rest ≡ Ok (meaning x, self.new.rest)) }
         // Which fault it is, and where.
         ensures fault { IfErr result (λ e. (read_operation self.old.rest ≡ Err e.fault) × (e.at ≡ self.old.place)) }
         ensures err { OnErr result (self.new ≡ self.old) }
@@ -172,6 +178,8 @@ impl<'a> Reader<'a> {
         // What stands at the front is read.
         ensures only { (o : RawOperation) (text rest : List ℕ) → Spells o text → self.old.rest ≡ text ++ rest
             → IsOkAnd result (λ x. (meaning x ≡ o) × Moves self.old text self.new) }
+        // What is read, as a function of the bytes.
+        ensures answer { IfOk result (λ x. read_operation self.old.rest ≡ Ok (meaning x, self.new.rest)) }
         // Which fault it is, and where.
         ensures fault { IfErr result (λ e. (read_operation self.old.rest ≡ Err e.fault) × (e.at ≡ self.old.place)) }
         ensures err { OnErr result (self.new ≡ self.old) }

@@ -1,5 +1,6 @@
-use Rattle.std.proofs.Common.{ap, ◌∙◌}
+use Rattle.std.proofs.Common.{ap, sym, ◌∙◌}
 use Rattle.wasm_ops.specs.Position.{Position}
+use Rattle.wasm_ops.specs.Spelling.{read_operation}
 use Rattle.wasm_ops.proofs.Fronts.{moved}
 use Rattle.wasm_ops.proofs.reader.Reader.read_at_length.Goals as goal
 
@@ -10,3 +11,6 @@ returns-in-Ok-clause-only c = λ o text rest spelt parts.
 
 pub returns-in-Err-clause-only : goal.returns-in-Err-clause-only
 returns-in-Err-clause-only c = λ o text rest spelt parts. c.in-Err.ensures.only o text rest spelt (ap (λ (p : Position). p.rest) c.self.view_is ∙ parts)
+
+pub returns-in-Ok-clause-answer : goal.returns-in-Ok-clause-answer
+returns-in-Ok-clause-answer c = ap (λ (p : Position). read_operation p.rest) (sym c.self.view_is) ∙ c.in-Ok.ensures.answer
