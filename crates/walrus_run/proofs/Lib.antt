@@ -13,7 +13,6 @@ mod DemoNumbers
 mod CarriedTrees
 mod RewritingLemmas
 mod ScopeLemmas
-mod Exponents
 mod Emitting
 mod EmitSteps
 mod Encoded

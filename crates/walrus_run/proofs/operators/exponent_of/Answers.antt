@@ -1,6 +1,6 @@
 use Rattle.std.proofs.Common.{◌≡◌, ◌<◌, sym, subst}
 use Rattle.wasm_body.specs.FlatText.{exponent_of}
-use Rattle.walrus_run.proofs.Exponents.{exponent_from}
+use Rattle.walrus_body.proofs.TreeWriting.Exponents.{exponent_from}
 use Rattle.walrus_run.proofs.operators.exponent_of.Goals as goal
 
 pub returns : goal.returns
