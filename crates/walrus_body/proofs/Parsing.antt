@@ -10,6 +10,8 @@ pub mod Openings
 pub mod Partings
 pub mod Endings
 pub mod Placements
+pub mod Roles
+pub mod Alone
 pub mod FrameLists
 pub mod TreeChanges
 pub mod Sealing

@@ -9,4 +9,5 @@ pub mod OwnLists
 pub mod Keeping
 pub mod Placing
 pub mod Advancing
+pub mod OperatorKinds
 pub mod BodyParsers

@@ -5,6 +5,7 @@ mod check;
 mod context;
 mod emit;
 mod frame;
+mod instructions;
 mod locating;
 mod next;
 mod own_lists;

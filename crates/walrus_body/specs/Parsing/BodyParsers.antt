@@ -1,11 +1,16 @@
 -- What contracts see of a parser of bodies, and what its steps do.
-use Rattle.std.specs.Prelude.{◌≡◌, ◌⊎◌, ℕ, List, [], ◌∷◌, ◌++◌, length, Bool, cond, reverse, Option, Some, None, Result}
+use Rattle.std.specs.Prelude.{◌≡◌, ◌⊎◌, ℕ, List, [], ◌∷◌, ◌++◌, length, Bool, cond, reverse, Option, Some, None, slice_get, Result}
 use Rattle.walrus_ir.specs.declared.instr.Instr.TheVariants as instr
 use Rattle.walrus_ir.specs.declared.val_type.InstrSeqType.{InstrSeqType}
 use Rattle.walrus_ir.specs.Function.{Function, with_new_sequence}
 use Rattle.walrus_ir.specs.Unfolding.{LocatedInstr}
 use Rattle.wasm_ops.specs.Operations.{RawOperation}
 use Rattle.wasm_body.specs.declared.error.ParseError.{ParseError}
+use Rattle.wasm_body.specs.declared.error.ParseError.TheVariants.{NoSuchLabel}
+use Rattle.walrus_ir.specs.Results.{some_or}
+use Rattle.wasm_body.specs.Frames.{Frame}
+use Rattle.wasm_body.specs.Translation.{translate}
+use Rattle.wasm_body.specs.InstructionTable.{PlacedOperation}
 use Rattle.wasm_body.specs.SourceTree.{Sequence}
 use Rattle.wasm_body.specs.Naming.{Occurrence}
 use Rattle.wasm_body.specs.NormalForm.{typing_of, normal_form, named_body}
@@ -15,6 +20,8 @@ use Rattle.walrus_body.specs.declared.local_function.parse.BodyParser.{BodyParse
 use Rattle.walrus_body.specs.declared.local_function.frame.IfElseState.{IfElseState}
 use Rattle.walrus_body.specs.Parsing.OpenFrames.{OpenFrame, changed_at, killed, with_instr}
 use Rattle.walrus_body.specs.Parsing.OpenTrees.{OpenTrees, env_of}
+use Rattle.walrus_body.specs.Parsing.Keeping.{slots}
+use Rattle.walrus_body.specs.Parsing.Placing.{placing}
 use Rattle.walrus_body.specs.Parsing.Advancing.{ParseState, Keeps, IsStep}
 
 abbrev pub state_with : OpenTrees → List IfElseState → ParseState
@@ -22,6 +29,14 @@ state_with c ifs = record { arena = c.builder.sequences; frames = c.frames; ifs 
 
 abbrev pub state_of : BodyParser → ParseState
 state_of p = state_with p.context (reverse p.if_else.items)
+
+-- the sequence that a label names
+abbrev pub sequence_at : BodyParser → ℕ → Result ℕ ParseError
+sequence_at p depth = some_or (slice_get (slots p.context.frames) depth) NoSuchLabel
+
+-- an operator with its ids and with the sequences that its labels name
+abbrev pub placed_in : BodyParser → List (Frame Occurrence) → RawOperation → Result PlacedOperation ParseError
+placed_in p around o = translate (placing (env_of p.context) around (slots p.context.frames)) o
 
 -- the innermost `if` has this alternative
 abbrev pub with_alternative : (alternative : ℕ) → List IfElseState → List IfElseState

@@ -90,6 +90,13 @@ impl<'a> ValidationContext<'a> {
         }
     }
 
+    /// The ids of old indices.
+    pub(crate) fn indices(&self) -> &'a IndicesToIds
+        ensures { result.now ≡ self.now.indices }
+    {
+        self.indices
+    }
+
     /// Sets where a sequence ends.
     pub(crate) fn end_sequence(&mut self, sequence: InstrSeqId, location: InstrLocId)
         requires { sequence < length self.old.builder.sequences }

@@ -3,6 +3,11 @@ ghost use Rattle.std.specs.Prelude.{reverse, ◌≡◌, ◌≢◌, ◌⊎◌, �
 ghost use Rattle.walrus_ir.specs.Types.{existing};
 ghost use Rattle.wasm_ops.specs.declared.types.Opcode.TheVariants.{Byte};
 ghost use Rattle.wasm_ops.specs.Operations.{operation, block};
+ghost use Rattle.wasm_ops.specs.declared.operator.Op.TheVariants as op;
+ghost use Rattle.wasm_ops.specs.Meaning.{meaning};
+ghost use Rattle.wasm_ops.specs.Fitting.{HasRow};
+ghost use Rattle.wasm_encode.specs.Writable.{IsWritable};
+ghost use Rattle.walrus_body.specs.Parsing.OperatorKinds.{is_instruction, is_cut};
 ghost use Rattle.wasm_body.specs.declared.error.ParseError.{ParseError as ParseFault};
 ghost use Rattle.wasm_body.specs.Control.{end_operation, else_operation};
 ghost use Rattle.walrus_body.specs.Parsing.OpenFrames.{changed_at};
@@ -17,7 +22,7 @@ use walrus_ir::{
     Block, BlockKind, FunctionBuilder, IfElse, Instr, InstrLocId, InstrSeqId, InstrSeqType, Loop,
     TypeId, ValType,
 };
-use wasm_ops::BlockType;
+use wasm_ops::{BlockType, Operator};
 
 /// What is kept while a body is parsed.
 #[derive(Drop)]
@@ -192,6 +197,39 @@ impl BodyParser<'_> {
         }
     }
 
+    /// Takes an operator by itself, that isn't `nop`.
+    fn take_alone(
+        &mut self,
+        operator: &Operator<'_>,
+        location: InstrLocId,
+    ) -> Result<(), ParseError>
+        requires kind { is_instruction operator.now ≡ true }
+        requires writable { IsWritable (meaning operator.now) }
+        ensures step { Steps self.old self.new (meaning operator.now) location result }
+        ensures rest { OnOk result (IsSameBody self.old.context self.new.context) }
+    {
+        match self.instruction(operator) {
+            Ok(instr) => self.take(instr, location, is_cut(operator)),
+            Err(error) => Err(error),
+        }
+    }
+
+    /// Takes the next operator, which isn't the function's own `end`.
+    pub fn step(&mut self, operator: &Operator<'_>, location: InstrLocId) -> Result<(), ParseError>
+        requires inside { operator.now ≡ op.End → 1 < length self.old.context.frames }
+        requires carried { HasRow (meaning operator.now) }
+        requires writable { IsWritable (meaning operator.now) }
+        ensures step { Steps self.old self.new (meaning operator.now) location result }
+        ensures rest { OnOk result (IsSameBody self.old.context self.new.context) }
+    {
+        match operator {
+            Operator::Nop => Ok(()),
+            Operator::Block { ty } => self.open_block(*ty, location),
+            Operator::End => self.end_construct(location),
+            _ => self.take_alone(operator, location),
+        }
+    }
+
     /// Takes the function's own `end`: its sequences.
     fn finish(mut self, location: InstrLocId) -> Result<FunctionBuilder, ParseError>
         ensures ok { IfOk result (Finishes self.entry location) }
@@ -206,4 +244,14 @@ impl BodyParser<'_> {
         let (builder, _controls, _instrs) = self.context.into_parts();
         Ok(builder)
     }
+}
+
+/// Whether what follows in the sequence is dropped.
+fn is_cut(operator: &Operator<'_>) -> bool
+    ensures { result ≡ is_cut operator.now }
+{
+    matches!(
+        operator,
+        Operator::Unreachable | Operator::Br { .. } | Operator::Return
+    )
 }

@@ -1,0 +1,137 @@
+-- What the operators that are carried do to the control.
+use Rattle.std.specs.Prelude.{◌≡◌, ◌≢◌, ℕ, List, Bool, true, false, Option, Some, None}
+use Rattle.std.proofs.Common.{refl, ap}
+use Rattle.walrus_ir.specs.declared.unary.UnaryOp.{UnaryOp}
+use Rattle.walrus_ir.specs.declared.unary.UnaryOp.TheVariants as unary
+use Rattle.walrus_ir.specs.declared.binary.BinaryOp.{BinaryOp}
+use Rattle.walrus_ir.specs.declared.binary.BinaryOp.TheVariants as binary
+use Rattle.walrus_ir.specs.declared.ternary.TernaryOp.{TernaryOp}
+use Rattle.walrus_ir.specs.declared.ternary.TernaryOp.TheVariants as ternary
+use Rattle.walrus_ir.specs.declared.memory.ExtendedLoad.TheVariants.{SignExtend, ZeroExtend, ZeroExtendAtomic}
+use Rattle.walrus_ir.specs.declared.memory.LoadKind.{LoadKind}
+use Rattle.walrus_ir.specs.declared.memory.LoadKind.TheVariants as load
+use Rattle.walrus_ir.specs.declared.memory.StoreKind.{StoreKind}
+use Rattle.walrus_ir.specs.declared.memory.StoreKind.TheVariants as store
+use Rattle.wasm_ops.specs.declared.operator.Op.TheVariants as operator
+use Rattle.wasm_ops.specs.declared.types.BlockType.{BlockType}
+use Rattle.wasm_ops.specs.Operations.{Immediate}
+use Rattle.wasm_ops.specs.Opcodes.{kinds_of_byte}
+use Rattle.wasm_ops.specs.Fitting.{HasRow}
+use Rattle.wasm_ops.specs.Meaning.{Listed, meaning}
+use Rattle.wasm_ops.specs.UnaryOperations.{unary_opcode}
+use Rattle.wasm_ops.specs.BinaryOperations.{binary_opcode}
+use Rattle.wasm_ops.specs.TernaryOperations.{ternary_opcode}
+use Rattle.wasm_ops.specs.AccessOperations.{load_opcode, store_opcode}
+use Rattle.wasm_body.specs.Control.{Role, an_unreachable, a_branch, a_return, a_plain, role_of, Action, Plain, Return, Unreachable, Branch, Control, Does, control_by, first_label}
+use Rattle.wasm_body.specs.NormalForm.{Fate, Stays, Cuts, fate}
+use Rattle.walrus_body.specs.Parsing.OperatorKinds.{is_instruction, is_cut}
+
+-- ---- plain operators, by the tables of their opcodes
+
+plain_unary : (op : UnaryOp) → role_of (unary_opcode op) ≡ a_plain
+plain_unary unary.I32Eqz = refl
+plain_unary _ = refl
+
+plain_binary : (op : BinaryOp) → role_of (binary_opcode op) ≡ a_plain
+plain_binary binary.I32Add = refl
+plain_binary _ = refl
+
+plain_ternary : (op : TernaryOp) → role_of (ternary_opcode op) ≡ a_plain
+plain_ternary ternary.F32x4RelaxedMadd = refl
+plain_ternary _ = refl
+
+plain_load : (kind : LoadKind) → role_of (load_opcode kind) ≡ a_plain
+plain_load (load.I32 true) = refl
+plain_load (load.I32 false) = refl
+plain_load (load.I64 true) = refl
+plain_load (load.I64 false) = refl
+plain_load load.F32 = refl
+plain_load load.F64 = refl
+plain_load load.V128 = refl
+plain_load (load.I32_8 SignExtend) = refl
+plain_load (load.I32_8 ZeroExtend) = refl
+plain_load (load.I32_8 ZeroExtendAtomic) = refl
+plain_load (load.I32_16 SignExtend) = refl
+plain_load (load.I32_16 ZeroExtend) = refl
+plain_load (load.I32_16 ZeroExtendAtomic) = refl
+plain_load (load.I64_8 SignExtend) = refl
+plain_load (load.I64_8 ZeroExtend) = refl
+plain_load (load.I64_8 ZeroExtendAtomic) = refl
+plain_load (load.I64_16 SignExtend) = refl
+plain_load (load.I64_16 ZeroExtend) = refl
+plain_load (load.I64_16 ZeroExtendAtomic) = refl
+plain_load (load.I64_32 SignExtend) = refl
+plain_load (load.I64_32 ZeroExtend) = refl
+plain_load (load.I64_32 ZeroExtendAtomic) = refl
+
+plain_store : (kind : StoreKind) → role_of (store_opcode kind) ≡ a_plain
+plain_store (store.I32 true) = refl
+plain_store (store.I32 false) = refl
+plain_store (store.I64 true) = refl
+plain_store (store.I64 false) = refl
+plain_store store.F32 = refl
+plain_store store.F64 = refl
+plain_store store.V128 = refl
+plain_store (store.I32_8 true) = refl
+plain_store (store.I32_8 false) = refl
+plain_store (store.I32_16 true) = refl
+plain_store (store.I32_16 false) = refl
+plain_store (store.I64_8 true) = refl
+plain_store (store.I64_8 false) = refl
+plain_store (store.I64_16 true) = refl
+plain_store (store.I64_16 false) = refl
+plain_store (store.I64_32 true) = refl
+plain_store (store.I64_32 false) = refl
+
+-- ---- operators by themselves
+
+-- what becomes of an operator of the role, where it stands by itself and makes an instruction
+abbrev pub fate_of_role : Role → Option Fate
+fate_of_role an_unreachable = Some Cuts
+fate_of_role a_branch = Some Cuts
+fate_of_role a_return = Some Cuts
+fate_of_role a_plain = Some Stays
+fate_of_role _ = None
+
+abbrev pub fate_by : Bool → Fate
+fate_by true = Cuts
+fate_by false = Stays
+
+pub fate_of_operator : (op : Listed) → is_instruction op ≡ true → fate_of_role (role_of (meaning op).opcode) ≡ Some (fate_by (is_cut op))
+fate_of_operator operator.Nop i = absurd cc
+fate_of_operator (operator.Block type) i = absurd cc
+fate_of_operator operator.End i = absurd cc
+fate_of_operator (operator.BrTable targets) i = absurd cc
+fate_of_operator (operator.TryTable type catches) i = absurd cc
+fate_of_operator (operator.Unop op) i = ap fate_of_role (plain_unary op)
+fate_of_operator (operator.Binop op) i = ap fate_of_role (plain_binary op)
+fate_of_operator (operator.TernOp op) i = ap fate_of_role (plain_ternary op)
+fate_of_operator (operator.Load kind memarg) i = ap fate_of_role (plain_load kind)
+fate_of_operator (operator.Store kind memarg) i = ap fate_of_role (plain_store kind)
+fate_of_operator _ i = refl
+
+-- whatever its immediates are
+pub record DoesAs (c : Control) (t : Fate) : Type 0 where
+  pub action : Action
+  pub does : c ≡ Does action
+  pub has_fate : fate action ≡ t
+
+pub does_as : {B : Type 0} → (r : Role) (t : Fate) (is : List (Immediate ℕ B)) → fate_of_role r ≡ Some t → DoesAs (control_by r is) t
+does_as an_unreachable t is e = record { action = Unreachable; does = refl; has_fate = cc e }
+does_as a_branch t is e = record { action = Branch (first_label is); does = refl; has_fate = cc e }
+does_as a_return t is e = record { action = Return; does = refl; has_fate = cc e }
+does_as a_plain t is e = record { action = Plain; does = refl; has_fate = cc e }
+does_as _ t is e = absurd cc
+
+none_some : {A : Type 0} (x : A) → None ≡ Some x → ⊥
+none_some x e = cc
+
+-- any other operator that has a row than these three makes an instruction
+pub makes_instruction : (op : Listed) → HasRow (meaning op) → op ≢ operator.Nop → ((type : BlockType) → op ≢ operator.Block type) → op ≢ operator.End → is_instruction op ≡ true
+unfolding kinds_of_byte
+makes_instruction operator.Nop row a b c = absurd (a refl)
+makes_instruction (operator.Block type) row a b c = absurd (b type refl)
+makes_instruction operator.End row a b c = absurd (c refl)
+makes_instruction (operator.BrTable targets) row a b c = absurd (none_some row.0 row.1)
+makes_instruction (operator.TryTable type catches) row a b c = absurd (none_some row.0 row.1)
+makes_instruction _ row a b c = refl

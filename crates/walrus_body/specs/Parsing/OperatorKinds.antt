@@ -1,0 +1,20 @@
+-- Kinds of operators, by what they become.
+use Rattle.std.specs.Prelude.{Bool, true, false}
+use Rattle.wasm_ops.specs.Meaning.{Listed}
+use Rattle.wasm_ops.specs.declared.operator.Op.TheVariants.{Unreachable, Nop, Block, End, Br, BrTable, TryTable, Return}
+
+-- those that make an instruction by themselves, of the operators that are carried
+abbrev pub is_instruction : Listed → Bool
+is_instruction Nop = false
+is_instruction (Block type) = false
+is_instruction End = false
+is_instruction (BrTable targets) = false
+is_instruction (TryTable type catches) = false
+is_instruction _ = true
+
+-- those behind which nothing of a sequence is executed
+abbrev pub is_cut : Listed → Bool
+is_cut Unreachable = true
+is_cut (Br depth) = true
+is_cut Return = true
+is_cut _ = false

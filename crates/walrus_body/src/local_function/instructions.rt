@@ -1,0 +1,138 @@
+//! The instructions that operators become: old indices are looked up in the order in which they are
+//! written.
+ghost use Rattle.std.specs.Prelude.{◌≡◌, ◌<◌, ◌^◌, List, [], true, IfOk};
+ghost use Rattle.walrus_ir.specs.declared.instr.Instr.TheVariants as instr;
+ghost use Rattle.walrus_ir.specs.Unfolding.{slots_in};
+ghost use Rattle.walrus_ir.specs.Results.{Gives};
+ghost use Rattle.wasm_ops.specs.Meaning.{meaning};
+ghost use Rattle.wasm_encode.specs.Writable.{IsWritable};
+ghost use Rattle.wasm_body.specs.Frames.{Frame};
+ghost use Rattle.wasm_body.specs.Naming.{Occurrence};
+ghost use Rattle.wasm_body.specs.InstructionTable.{operation_of, clauses_of_try};
+ghost use Rattle.walrus_body.specs.Parsing.OperatorKinds.{is_instruction};
+ghost use Rattle.walrus_body.specs.Parsing.BodyParsers.{sequence_at, placed_in};
+
+use crate::ParseError;
+use crate::local_function::parse::BodyParser;
+use crate::local_function::types::value_type;
+use walrus_ir::{
+    Binop, Br, Const, Instr, InstrSeqId, Load, MemArg, Select, Store, TernOp, Unop, Value,
+};
+use wasm_ops::{Operator, RawMemArg, index_rows};
+
+/// An access with its alignment as a number of bytes.
+fn memory_argument(memarg: RawMemArg) -> MemArg
+    requires { memarg.exponent < 32 }
+    ensures { (result.align ≡ 2 ^ memarg.exponent) × (result.offset ≡ memarg.offset) }
+{
+    MemArg {
+        align: 1 << memarg.exponent,
+        offset: memarg.offset,
+    }
+}
+
+fn constant(value: Value) -> Instr
+    ensures { result ≡ instr.Const (record { value = value }) }
+{
+    Instr::Const(Const { value })
+}
+
+/// The id of an index in a space.
+macro_rules! id {
+    ($indices:ident Types $index:ident) => {
+        $indices.get_type($index)?
+    };
+    ($indices:ident Funcs $index:ident) => {
+        $indices.get_func($index)?
+    };
+    ($indices:ident Globals $index:ident) => {
+        $indices.get_global($index)?
+    };
+    ($indices:ident Tables $index:ident) => {
+        $indices.get_table($index)?
+    };
+    ($indices:ident Memories $index:ident) => {
+        $indices.get_memory($index)?
+    };
+    ($indices:ident Elements $index:ident) => {
+        $indices.get_element($index)?
+    };
+    ($indices:ident Data $index:ident) => {
+        $indices.get_data($index)?
+    };
+}
+
+/// The instruction of an operator: the rows, and those of the other operators.
+macro_rules! instruction_row {
+    (
+        ($indices:ident $op:ident, $($others:tt)*)
+        $($form:tt {
+            $($row:literal $name:ident { $($field:ident $id:ident $space:ident),* })*
+        })*
+    ) => {
+        match *$op {
+            $($others)*
+            $($(Operator::$name { $($field),* } => Ok(Instr::$name(walrus_ir::$name {
+                $($id: id!($indices $space $field)),*
+            })),)*)*
+        }
+    };
+}
+
+impl BodyParser<'_> {
+    /// The sequence that a label names.
+    pub fn label(&self, depth: u32) -> Result<InstrSeqId, ParseError>
+        ensures { result ≡ sequence_at self.now depth }
+    {
+        match self.context.control(depth as usize) {
+            Ok(frame) => Ok(frame.block),
+            Err(error) => Err(error),
+        }
+    }
+
+    /// The instruction of an operator by itself, that isn't `nop`.
+    pub fn instruction(&self, operator: &Operator<'_>) -> Result<Instr, ParseError>
+        requires kind { is_instruction operator.now ≡ true }
+        requires writable { IsWritable (meaning operator.now) }
+        ensures placed { (around : List (Frame Occurrence))
+            → Gives operation_of result (placed_in self.now around (meaning operator.now)) }
+        ensures plain { IfOk result (λ i. (slots_in i ≡ []) × (clauses_of_try i ≡ [])) }
+    {
+        let indices = self.context.indices();
+        index_rows!(
+            instruction_row, indices operator,
+            Operator::Unreachable => Ok(Instr::Unreachable),
+            Operator::Br { label } => Ok(Instr::Br(Br {
+                block: self.label(label)?,
+            })),
+            Operator::Return => Ok(Instr::Return),
+            Operator::Drop => Ok(Instr::Drop),
+            Operator::Select => Ok(Instr::Select(Select { ty: None })),
+            Operator::TypedSelect { ty } => Ok(Instr::Select(Select {
+                ty: Some(value_type(indices, ty)?),
+            })),
+            Operator::I32Const { value } => Ok(constant(Value::I32(value))),
+            Operator::I64Const { value } => Ok(constant(Value::I64(value))),
+            Operator::F32Const { bits } => Ok(constant(Value::F32(bits))),
+            Operator::F64Const { bits } => Ok(constant(Value::F64(bits))),
+            Operator::Unop(op) => Ok(Instr::Unop(Unop { op })),
+            Operator::Binop(op) => Ok(Instr::Binop(Binop { op })),
+            Operator::TernOp(op) => Ok(Instr::TernOp(TernOp { op })),
+            Operator::Load { kind, memarg } => Ok(Instr::Load(Load {
+                memory: indices.get_memory(memarg.memory)?,
+                kind,
+                arg: memory_argument(memarg),
+            })),
+            Operator::Store { kind, memarg } => Ok(Instr::Store(Store {
+                memory: indices.get_memory(memarg.memory)?,
+                kind,
+                arg: memory_argument(memarg),
+            })),
+            Operator::Nop
+            | Operator::Block { .. }
+            | Operator::End
+            | Operator::BrTable(_)
+            | Operator::TryTable { .. } => unreachable!(),
+        )
+    }
+}
