@@ -19,3 +19,6 @@ pub mod AnyLocations
 pub mod Mappings
 pub mod SoFars
 pub mod Taking
+pub mod Beginnings
+pub mod Bodies
+pub mod BodyAnswers

@@ -10,3 +10,5 @@ pub mod Segments
 pub mod Emission
 pub mod TreeWriting
 pub mod Parsing
+pub mod FunctionParts
+pub mod LocalFunctions

@@ -11,3 +11,4 @@ pub mod Placing
 pub mod Advancing
 pub mod OperatorKinds
 pub mod BodyParsers
+pub mod Bodies

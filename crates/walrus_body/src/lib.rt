@@ -16,8 +16,8 @@ pub use emit::{Emit, EmitContext, EmitFacts};
 pub use ids_to_indices::{IdsToIndices, law_numbers_of_pushes};
 pub use indices_to_ids::IndicesToIds;
 pub use local_function::{
-    AcceptAll, CheckError, ControlFrame, ControlStack, FunctionBody, IfElseState, OpCheck,
-    ValidationContext,
+    AcceptAll, CheckError, ControlFrame, ControlStack, FunctionBody, IfElseState, LocalFunction,
+    OpCheck, ValidationContext,
 };
 pub use segments::DataSegmentsVisitor;
 pub use sizes::SizeVisitor;

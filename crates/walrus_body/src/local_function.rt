@@ -1,6 +1,23 @@
 //! Functions of a module: their bodies, read and written.
+ghost use Rattle.std.specs.Prelude.{◌≡◌, ◌⊎◌, ◌≤◌, ◌<◌, ◌+◌, ◌^◌, ◌==◌, ◌↔◌, IsTrue, ℕ, [], length, drop, slice_get, all, Some, None, Option, IfOk, IfErr, IsErr};
+ghost use Rattle.std.specs.HashSet.{contains};
+ghost use Rattle.walrus_ir.specs.Unfolding.{among};
+ghost use Rattle.walrus_ir.specs.Walk.{HasNoWalk};
+ghost use Rattle.wasm_body.specs.declared.error.ParseError.{ParseError as ParseFault};
+ghost use Rattle.wasm_body.specs.declared.error.ParseFailure.{ParseFailure as Failure};
+ghost use Rattle.wasm_body.specs.SourceTree.{Body};
+ghost use Rattle.wasm_body.specs.Naming.{Occurrence};
+ghost use Rattle.wasm_body.specs.Parsing.Accepted.{Accepted, FirstFault};
+ghost use Rattle.walrus_body.specs.FunctionParts.{range_at};
+ghost use Rattle.walrus_body.specs.LocalFunctions.{HasEntry, first_slot, first_instrs, is_const, LendsBuilder, LendsBlock};
+ghost use Rattle.walrus_body.specs.Parsing.Bodies.{body_input, body_setting, body_operators, AcceptsBody, RefusesBody};
+ghost use Rattle.walrus_body.specs.Parsing.Locating.{MayAsk};
+ghost use Rattle.walrus_body.specs.Parsing.Settings.{BothOrNone};
+ghost use Rattle.walrus_body.specs.Facts.{count, segments, TreeHas};
+ghost use Rattle.walrus_body.specs.Sizes.{IsTooLarge};
 
 mod body;
+mod body_parser;
 mod check;
 mod context;
 mod emit;
@@ -12,7 +29,247 @@ mod own_lists;
 mod parse;
 mod types;
 
+use crate::local_function::parse::parse_function;
+use crate::segments::used_data_segments;
+use crate::sizes::size;
+use crate::{IndicesToIds, ParseFailure};
 pub use body::FunctionBody;
 pub use check::{AcceptAll, CheckError, OpCheck};
 pub use context::ValidationContext;
 pub use frame::{ControlFrame, ControlStack, IfElseState};
+use std::marker::Model;
+use std::ops::Range;
+use walrus_ir::{
+    DataId, FunctionBuilder, FunctionId, IdHashSet, Instr, InstrLocId, InstrSeq, InstrSeqId,
+    LocalId, Module, TypeId, WalkError,
+};
+
+/// A function of a module that has a body. A contract sees its lists and its builder by their values.
+#[derive(Drop)]
+pub struct LocalFunction {
+    builder: FunctionBuilder,
+    /// The function's arguments, in order.
+    pub args: Vec<LocalId>,
+    /// The location of each operator that was read, by its place less the code offset, in order.
+    pub instruction_mapping: Vec<(usize, InstrLocId)>,
+    /// The places of the body that was read, less the code offset.
+    pub original_range: Option<Range<usize>>,
+}
+
+impl Model for LocalFunction {
+    ghost use Rattle.walrus_body.specs.FunctionParts.{FunctionParts};
+
+    ghost Value = { FunctionParts };
+
+    ghost view = { λ f. record {
+      builder = f.builder;
+      args = f.args.items;
+      instruction_mapping = f.instruction_mapping.items;
+      original_range = f.original_range;
+    } };
+}
+
+impl LocalFunction {
+    /// The function of these parts, of which nothing was read.
+    pub fn new(args: Vec<LocalId>, builder: FunctionBuilder) -> LocalFunction
+        ensures { result ≡ record {
+          builder = builder;
+          args = args.items;
+          instruction_mapping = [];
+          original_range = None;
+        } }
+    {
+        let instruction_mapping = Vec::new(*args.allocator());
+        LocalFunction {
+            builder,
+            args,
+            instruction_mapping,
+            original_range: None,
+        }
+    }
+
+    /// Parses a function's body. Each operator's location is what `on_instr_pos` answers for its
+    /// place, or where there is none the place itself; the validator is asked about each operator.
+    /// The list `instrs` is cleared; what it held makes no difference.
+    ///
+    /// # Errors
+    ///
+    /// The body's first fault, with its place. Of an operator it is that of reading it, then
+    /// `PlaceTooGreat`, then the validator's refusal, then the first rule that it breaks. Or
+    /// `Memory`, where a list can't grow or the validator says so.
+    pub fn parse<V: OpCheck, F: Fn(&usize) -> InstrLocId>(
+        module: &Module,
+        indices: &IndicesToIds,
+        id: FunctionId,
+        ty: TypeId,
+        args: Vec<LocalId>,
+        body: FunctionBody<'_>,
+        on_instr_pos: Option<&F>,
+        validator: V,
+        instrs: &mut Vec<(Instr, InstrLocId)>,
+    ) -> Result<LocalFunction, ParseFailure>
+        requires offset { «module».now.code_section_offset ≤ body.start }
+        requires ops { body.ops ≤ length body.bytes.now }
+        requires fits { body.start + length body.bytes.now < 2 ^ 64 }
+        requires may_ask { MayAsk F.pre on_instr_pos (body.start + body.ops)
+            (body.start + length body.bytes.now) }
+        // What is answered has the normal form of the accepted body, and what is refused is so for
+        // the first fault.
+        ensures accepted { IfOk result (λ made. AcceptsBody F.Fn (body_input «module».now indices.now
+            id ty body.entry on_instr_pos.entry V.check (V.state validator))
+            made.builder made.instruction_mapping) }
+        ensures refused { IfErr result (RefusesBody F.Fn (body_input «module».now indices.now
+            id ty body.entry on_instr_pos.entry V.check (V.state validator))) }
+        // Want of memory aside, each accepted body is answered, and each first fault is.
+        ensures each_body { (locations : Option (ℕ → ℕ)) (b : Body Occurrence)
+            → BothOrNone on_instr_pos.entry locations
+            → Accepted (body_setting «module».now indices.now id ty body.entry V.check
+            (V.state validator) locations) (body_operators body.entry) b
+            → IfErr result (λ f. f.error ≡ ParseFault.Memory) }
+        ensures each_fault { (locations : Option (ℕ → ℕ)) (f : Failure)
+            → BothOrNone on_instr_pos.entry locations
+            → FirstFault (body_setting «module».now indices.now id ty body.entry V.check
+            (V.state validator) locations) (body_operators body.entry) f
+            → IsErr result × IfErr result (λ e. (e.error ≡ ParseFault.Memory) ⊎ (e ≡ f)) }
+        // The arguments are those that were handed in, and the body stood where it says.
+        ensures args { IfOk result (λ made. made.args ≡ args.items) }
+        ensures range { IfOk result (λ made. made.original_range
+            ≡ Some (range_at body.entry.start (length body.entry.bytes.now)
+            «module».now.code_section_offset)) }
+        ensures instrs { instrs.new.items ≡ [] }
+    {
+        instrs.clear();
+        let alloc = *instrs.allocator();
+        let start = body.start + body.ops;
+        let parsed = parse_function(
+            alloc,
+            module,
+            indices,
+            id,
+            ty,
+            body.operators(),
+            start,
+            on_instr_pos,
+            validator,
+        );
+        match parsed {
+            Ok(parsed) => Ok(LocalFunction {
+                builder: parsed.builder,
+                args,
+                instruction_mapping: parsed.instruction_mapping,
+                original_range: Some(body.range(module.code_section_offset)),
+            }),
+            Err(failure) => Err(failure),
+        }
+    }
+
+    /// The function's type.
+    pub fn ty(&self) -> TypeId
+        ensures { result ≡ self.now.builder.type }
+    {
+        self.builder.ty()
+    }
+
+    /// The function's sequences.
+    pub fn builder(&self) -> &FunctionBuilder
+        ensures { result.now ≡ self.now.builder }
+    {
+        &self.builder
+    }
+
+    /// The function's sequences, to be changed.
+    pub fn builder_mut(&mut self) -> &mut FunctionBuilder
+        ensures* writes_back { sem 𝓛 (LendsBuilder self.entry result) }
+        ensures value { result.now ≡ self.old.builder }
+    {
+        &mut self.builder
+    }
+
+    /// Whether an entry is set, and stands in the builder.
+    pub fn has_entry(&self) -> bool
+        ensures { IsTrue result ↔ HasEntry self.now.builder }
+    {
+        match self.builder.entry() {
+            Some(entry) => self.builder.has(entry),
+            None => false,
+        }
+    }
+
+    /// Whether a sequence stands at this slot.
+    pub fn has_block(&self, id: InstrSeqId) -> bool
+        ensures { IsTrue result ↔ (id < length self.now.builder.sequences) }
+    {
+        self.builder.has(id)
+    }
+
+    /// The sequence that the function begins with.
+    pub fn entry_block(&self) -> InstrSeqId
+        requires { HasEntry self.now.builder }
+        ensures { self.now.builder.entry ≡ Some result }
+    {
+        self.builder.entry().unwrap()
+    }
+
+    /// The sequence at this slot.
+    pub fn block(&self, id: InstrSeqId) -> &InstrSeq
+        requires { id < length self.now.builder.sequences }
+        ensures { slice_get self.now.builder.sequences id ≡ Some result.now }
+    {
+        self.builder.seq(id)
+    }
+
+    /// The sequence at this slot, to be changed. No other sequence changes with it.
+    pub fn block_mut(&mut self, id: InstrSeqId) -> &mut InstrSeq
+        requires { id < length self.old.builder.sequences }
+        ensures* writes_back { sem 𝓛 (LendsBlock self.entry id result) }
+        ensures value { slice_get self.old.builder.sequences id ≡ Some result.now }
+    {
+        self.builder.seq_mut(id)
+    }
+
+    /// Whether each instruction that the function begins with is a `Const`. Sequences inside of
+    /// others aren't looked at.
+    pub fn is_const(&self) -> bool
+        requires { HasEntry self.now.builder }
+        ensures { result ≡ all is_const (first_instrs self.now.builder) }
+    {
+        self.block(self.entry_block())
+            .instrs
+            .iter()
+            .all(|(instr, _)| matches!(instr, Instr::Const(_)))
+    }
+
+    /// The number of instructions in the sequences that are reached from the entry.
+    ///
+    /// # Errors
+    ///
+    /// `UnknownSequence` or `SharedSequence` where the sequences are no tree, the first in walk
+    /// order; `TooLarge` where the number doesn't fit 64 bits; `Memory`.
+    pub fn size(&self) -> Result<u64, WalkError>
+        requires { HasEntry self.now.builder }
+        ensures ok { IfOk result (λ n. TreeHas self.now.builder.sequences
+            (first_slot self.now.builder) (λ t. n ≡ count t.items)) }
+        ensures err { IfErr result (λ e. HasNoWalk self.now.builder.sequences
+            (first_slot self.now.builder) e ⊎ IsTooLarge self.now.builder.sequences
+            (first_slot self.now.builder) e) }
+    {
+        size(&self.builder, self.entry_block())
+    }
+
+    /// The data segments that instructions name in the sequences that are reached from the entry.
+    ///
+    /// # Errors
+    ///
+    /// `UnknownSequence` or `SharedSequence` where the sequences are no tree, the first in walk
+    /// order; `Memory`.
+    pub fn used_data_segments(&self) -> Result<IdHashSet<DataId>, WalkError>
+        requires { HasEntry self.now.builder }
+        ensures ok { IfOk result (λ found. TreeHas self.now.builder.sequences
+            (first_slot self.now.builder)
+            (λ t. (d : ℕ) → contains (λ x y. x == y) found d ≡ among d (segments t.items))) }
+        ensures err { IfErr result (HasNoWalk self.now.builder.sequences
+            (first_slot self.now.builder)) }
+    {
+        used_data_segments(&self.builder, self.entry_block())
+    }
+}

@@ -1,9 +1,9 @@
 -- How an operator by itself advances a parse: it has a name where its ids and labels were found, and its instruction is kept.
-use Rattle.std.specs.Prelude.{◌≡◌, ◌⊎◌, ◌<◌, ◌≤◌, ℕ, List, [], ◌∷◌, length, Bool, true, false, Option, Some, Result, Ok, Err, OnOk, IfErr}
+use Rattle.std.specs.Prelude.{◌≡◌, ◌⊎◌, ◌<◌, ◌≤◌, ℕ, suc, List, [], ◌∷◌, length, Bool, true, false, Option, Some, Result, Ok, Err, OnOk, IfErr}
 use Rattle.std.proofs.lemmas.List.{length-map}
-use Rattle.std.proofs.Common.{refl, inl, inr, ap, sym, subst, ◌∙◌, arith}
+use Rattle.std.proofs.Common.{refl, inl, inr, ap, sym, subst, ◌∙◌, arith, reverse}
 use Rattle.walrus_ir.specs.declared.instr.Instr.{Instr}
-use Rattle.walrus_ir.specs.Unfolding.{slots_in}
+use Rattle.walrus_ir.specs.Unfolding.{LocatedInstr, slots_in}
 use Rattle.wasm_ops.specs.declared.types.Opcode.TheVariants.{Byte}
 use Rattle.wasm_ops.specs.Operations.{operation, Operation, RawOperation}
 use Rattle.wasm_body.specs.declared.error.ParseError.{ParseError}
@@ -18,11 +18,12 @@ use Rattle.wasm_body.specs.InstructionTable.{operation_of, clauses_of_try}
 use Rattle.wasm_body.specs.Parsing.Progress.{Layer, frame_of, frames_of}
 use Rattle.wasm_body.proofs.Translation.Steps.{bound}
 use Rattle.walrus_body.specs.declared.local_function.frame.IfElseState.{IfElseState}
+use Rattle.walrus_body.specs.declared.local_function.body_parser.BodyParser.{BodyParser}
 use Rattle.walrus_body.specs.Parsing.OpenFrames.{OpenFrame, changed_at}
 use Rattle.walrus_body.specs.Parsing.OpenTrees.{OpenTrees, env_of}
 use Rattle.walrus_body.specs.Parsing.Keeping.{slots}
 use Rattle.walrus_body.specs.Parsing.Advancing.{Keeps, Advances, IsCut, IsFate, IsStep}
-use Rattle.walrus_body.specs.Parsing.BodyParsers.{state_with, taking}
+use Rattle.walrus_body.specs.Parsing.BodyParsers.{state_with, state_of, taking, IsSameBody}
 use Rattle.walrus_body.specs.Parsing.Placing.{placing}
 use Rattle.walrus_body.proofs.Parsing.Frames.{taken, taken_alive, taken_dead}
 use Rattle.walrus_body.proofs.Parsing.Labels.{holds_fall, holds_length}
@@ -111,3 +112,20 @@ passes_nop c ifs ls s place location keeps = by_frames c.frames refl
     by_frames : (fs : List OpenFrame) → c.frames ≡ fs → Advances (env_of c) (state_with c ifs) ls s nop_operation place location
     by_frames [] e = absurd (some_open (env_of c) (state_with c ifs) ls s keeps e)
     by_frames (f ∷ fs) e = steps_dropped (env_of c) (state_with c ifs) ls s nop_operation place location keeps f fs nop_operation Nop e (is_named ls) refl refl
+
+-- it is the parse of the same body
+pub same_body : (c d : OpenTrees) (x : LocatedInstr) (cut : Bool) (r : Result (Unit {0}) ParseError) →
+    OnOk r ((0 < length c.frames) × (d ≡ record c { frames = changed_at 0 (taking x cut) c.frames })) → OnOk r (IsSameBody c d)
+same_body c d x cut (Ok u) h = record { env = ap env_of h.1; entry = ap (λ (t : OpenTrees). t.builder.entry) h.1 }
+same_body c d x cut (Err e) h = tt
+
+-- ---- how many frames are open
+
+-- where only one is open, no construct is
+pub no_layers : (p : BodyParser) (ls : List (Layer Occurrence)) (s : Sequence Occurrence) → Keeps (env_of p.context) (state_of p) ls s → length p.context.frames ≤ 1 → ls ≡ []
+no_layers p [] s keeps few = refl
+no_layers p (l ∷ ls) s keeps few = absurd (some_layer ls (holds_length (env_of p.context) p.context.builder.sequences (l ∷ ls) s (length p.context.builder.sequences) p.context.frames (reverse p.if_else.items) keeps))
+  where
+    some_layer : (ks : List (Layer Occurrence)) → length p.context.frames ≡ length (frames_of (l ∷ ks)) → ⊥
+    some_layer [] e = (let two : length p.context.frames ≡ 2 = e in absurd (omega arith))
+    some_layer (k ∷ ks) e = (let more : length p.context.frames ≡ suc (suc (length (frames_of ks))) = e in absurd (omega arith))

@@ -19,7 +19,7 @@ use Rattle.wasm_body.specs.TreeOfFunction.{HasTree}
 use Rattle.wasm_body.specs.Parsing.Progress.{OpenConstruct, InWrapper, InThen, InElse, InTry, InCatch, InCatchAll, Layer, append, closed, frame_of, frames_of}
 use Rattle.walrus_body.specs.declared.local_function.frame.ControlFrame.{ControlFrame}
 use Rattle.walrus_body.specs.declared.local_function.frame.IfElseState.{IfElseState}
-use Rattle.walrus_body.specs.declared.local_function.parse.BodyParser.{BodyParser}
+use Rattle.walrus_body.specs.declared.local_function.body_parser.BodyParser.{BodyParser}
 use Rattle.walrus_body.specs.Parsing.Advancing.{ParseState, Keeps, occurrence, Advances, IsStep}
 use Rattle.walrus_body.specs.Parsing.Keeping.{IsWithin, Holds}
 use Rattle.walrus_body.specs.Parsing.OpenConstructs.{kind_in, wrapper_kind}

@@ -11,12 +11,12 @@ use Rattle.walrus_ir.specs.Results.{some_or}
 use Rattle.wasm_body.specs.Frames.{Frame}
 use Rattle.wasm_body.specs.Translation.{translate}
 use Rattle.wasm_body.specs.InstructionTable.{PlacedOperation}
-use Rattle.wasm_body.specs.SourceTree.{Sequence}
+use Rattle.wasm_body.specs.SourceTree.{Sequence, Empty}
 use Rattle.wasm_body.specs.Naming.{Occurrence}
 use Rattle.wasm_body.specs.NormalForm.{typing_of, normal_form, named_body}
 use Rattle.wasm_body.specs.TreeOfFunction.{HasTree}
 use Rattle.wasm_body.specs.Parsing.Progress.{Layer}
-use Rattle.walrus_body.specs.declared.local_function.parse.BodyParser.{BodyParser}
+use Rattle.walrus_body.specs.declared.local_function.body_parser.BodyParser.{BodyParser}
 use Rattle.walrus_body.specs.declared.local_function.frame.IfElseState.{IfElseState}
 use Rattle.walrus_body.specs.Parsing.OpenFrames.{OpenFrame, changed_at, killed, with_instr}
 use Rattle.walrus_body.specs.Parsing.OpenTrees.{OpenTrees, env_of}
@@ -29,6 +29,11 @@ state_with c ifs = record { arena = c.builder.sequences; frames = c.frames; ifs 
 
 abbrev pub state_of : BodyParser → ParseState
 state_of p = state_with p.context (reverse p.if_else.items)
+
+-- Nothing is read yet.
+pub record Begins (p : BodyParser) : Type 0 where
+  pub keeps : Keeps (env_of p.context) (state_of p) [] Empty
+  pub entry : p.context.builder.entry ≡ Some 0
 
 -- the sequence that a label names
 abbrev pub sequence_at : BodyParser → ℕ → Result ℕ ParseError

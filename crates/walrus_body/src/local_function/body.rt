@@ -1,5 +1,8 @@
 //! The bytes of a body.
-ghost use Rattle.std.specs.Prelude.{◌≡◌, ◌≤◌, length, drop};
+ghost use Rattle.std.specs.Prelude.{◌≡◌, ◌≤◌, ◌<◌, ◌+◌, ◌^◌, length, drop};
+ghost use Rattle.walrus_body.specs.FunctionParts.{range_at};
+
+use std::ops::Range;
 
 /// The bytes of a function's body: its operators begin at `bytes[ops]`, and `bytes[i]` stands at the place `start + i`.
 #[derive(Clone, Copy, Debug)]
@@ -16,5 +19,17 @@ impl<'a> FunctionBody<'a> {
         ensures { result.now ≡ drop self.entry.ops self.entry.bytes.now }
     {
         &self.bytes[self.ops..]
+    }
+
+    /// The places of all bytes, less an offset.
+    pub fn range(self, offset: usize) -> Range<usize>
+        requires fits { self.start + length self.bytes.now < 2 ^ 64 }
+        requires offset { offset ≤ self.start }
+        ensures { result ≡ range_at self.entry.start (length self.entry.bytes.now) offset }
+    {
+        Range {
+            start: self.start - offset,
+            end: self.start + self.bytes.len() - offset,
+        }
     }
 }

@@ -13,7 +13,7 @@ ghost use Rattle.walrus_body.specs.Parsing.OperatorKinds.{is_instruction};
 ghost use Rattle.walrus_body.specs.Parsing.BodyParsers.{sequence_at, placed_in};
 
 use crate::ParseError;
-use crate::local_function::parse::BodyParser;
+use crate::local_function::body_parser::BodyParser;
 use crate::local_function::types::value_type;
 use walrus_ir::{
     Binop, Br, Const, Instr, InstrSeqId, Load, MemArg, Select, Store, TernOp, Unop, Value,

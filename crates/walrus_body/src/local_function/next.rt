@@ -1,6 +1,7 @@
 //! The next operator, its location, and whether the validator takes it.
 ghost use Rattle.std.specs.Prelude.{◌≡◌, ◌⊎◌, ◌+◌, ◌<◌, length, IfOk, IfErr, Ok, Err};
 ghost use Rattle.wasm_ops.specs.Meaning.{meaning};
+ghost use Rattle.wasm_ops.specs.Fitting.{HasRow};
 ghost use Rattle.wasm_encode.specs.Writable.{IsWritable};
 ghost use Rattle.wasm_body.specs.declared.error.ParseError.{ParseError as ParseFault};
 ghost use Rattle.wasm_body.specs.Parsing.Lists.{failure};
@@ -39,6 +40,7 @@ pub fn next_operator<'a, V: OpCheck, F: Fn(&usize) -> InstrLocId>(
     ensures ok { IfOk result (λ x. taken (has_place on_instr_pos.entry) V.check (V.state validator.old) reader.old.place reader.old.rest
         ≡ Ok (record { spelt = meaning x.0; rest = reader.new.rest; state = V.state validator.new })) }
     ensures located { IfOk result (λ x. Locates F.Fn on_instr_pos.entry reader.old.place x.1) }
+    ensures carried { IfOk result (λ x. HasRow (meaning x.0)) }
     ensures writable { IfOk result (λ x. IsWritable (meaning x.0)) }
     ensures moves { IfOk result (λ x. (reader.new.place + length reader.new.rest ≡ reader.old.place + length reader.old.rest) × (length reader.new.rest < length reader.old.rest)) }
     ensures err { IfErr result (λ f. (f.at ≡ reader.old.place) × ((f.error ≡ ParseFault.Memory)

@@ -1,4 +1,5 @@
-use Rattle.std.proofs.Common.{◌≡◌, ◌⊎◌, inr, Err, sym, ap, subst, ◌∙◌}
+use Rattle.std.proofs.Common.{◌≡◌, map, ◌⊎◌, inr, Err, sym, ap, subst, ◌∙◌}
+use Rattle.wasm_ops.specs.Immediates.{kind_of}
 use Rattle.wasm_ops.specs.Meaning.{meaning}
 use Rattle.wasm_body.specs.declared.error.ParseFailure.{ParseFailure}
 use Rattle.wasm_body.specs.declared.error.ParseError.TheVariants.{Memory}
@@ -51,3 +52,6 @@ returns-in-Err-op-clause-err g c =
           (ap (has_place o) (sym at) ∙ located_fits g.F.Fn o c.original_position-at.result c.in-Some.location located)
           (subst (λ p. Checks g.V.OpCheck.check (g.V.OpCheck.state c.args.validator.now) (placed_at (meaning c.in-Ok.operator) p) (Err c.in-Err-op.error) (g.V.OpCheck.state c.op.new.self)) at c.in-Err-op.ensures)),
     )
+
+pub returns-in-Ok-op-clause-carried : goal.returns-in-Ok-op-clause-carried
+returns-in-Ok-op-clause-carried g c = (map kind_of (meaning c.in-Ok.operator).immediates, c.in-Ok.ensures.found.2.kinds)

@@ -5,7 +5,7 @@ use Rattle.wasm_body.specs.TreeOfFunction.{HasTree}
 use Rattle.walrus_body.specs.Parsing.OpenTrees.{OpenTrees, env_of}
 use Rattle.walrus_body.proofs.Parsing.Partings.{stands_popped}
 use Rattle.walrus_body.proofs.Parsing.Endings.{finishes}
-use Rattle.walrus_body.proofs.local_function.parse.BodyParser.finish.Goals as goal
+use Rattle.walrus_body.proofs.local_function.body_parser.BodyParser.finish.Goals as goal
 
 pub returns-clause-ok : goal.returns-clause-ok
 returns-clause-ok c =

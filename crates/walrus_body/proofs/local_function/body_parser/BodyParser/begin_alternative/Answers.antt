@@ -1,7 +1,7 @@
 use Rattle.std.proofs.Common.{◌≡◌, ◌+◌, ◌-◌, ◌≤◌, ◌<◌, length, Some, sym, ap, ◌∙◌, arith}
 use Rattle.std.proofs.lemmas.Option.{slice_get-get_or}
 use Rattle.walrus_body.proofs.Parsing.Partings.{alternative_set}
-use Rattle.walrus_body.proofs.local_function.parse.BodyParser.begin_alternative.Goals as goal
+use Rattle.walrus_body.proofs.local_function.body_parser.BodyParser.begin_alternative.Goals as goal
 
 pub returns-in-Some-clause-ifs : goal.returns-in-Some-clause-ifs
 returns-in-Some-clause-ifs c =

@@ -6,7 +6,7 @@ use Rattle.walrus_ir.specs.declared.instr.Instr.TheVariants as instr
 use Rattle.walrus_ir.specs.declared.control.BlockKind.TheVariants as kind
 use Rattle.walrus_body.specs.Parsing.OpenTrees.{env_of}
 use Rattle.walrus_body.proofs.Parsing.Openings.{opens_block, opener_faults, appended_steps}
-use Rattle.walrus_body.proofs.local_function.parse.BodyParser.open_block.Goals as goal
+use Rattle.walrus_body.proofs.local_function.body_parser.BodyParser.open_block.Goals as goal
 
 pub returns-in-Ok-clause-step : goal.returns-in-Ok-clause-step
 returns-in-Ok-clause-step c = λ ls s place keeps.

@@ -5,7 +5,7 @@ use Rattle.wasm_body.specs.Control.{else_operation}
 use Rattle.walrus_body.specs.Parsing.Advancing.{Advances}
 use Rattle.walrus_body.specs.Parsing.BodyParsers.{state_of, state_with}
 use Rattle.walrus_body.proofs.Parsing.Partings.{some_open, stands_popped, no_else, pick_kept, parts_else, missing}
-use Rattle.walrus_body.proofs.local_function.parse.BodyParser.part_else.Goals as goal
+use Rattle.walrus_body.proofs.local_function.body_parser.BodyParser.part_else.Goals as goal
 
 pub returns-in-Err-clause-step : goal.returns-in-Err-clause-step
 returns-in-Err-clause-step c = λ ls s place keeps. elim c.in-Err.ensures.err [

@@ -4,7 +4,7 @@ use Rattle.wasm_ops.specs.Operations.{operation, block}
 use Rattle.wasm_body.specs.Control.{If}
 use Rattle.walrus_body.specs.Parsing.OpenTrees.{env_of}
 use Rattle.walrus_body.proofs.Parsing.Openings.{opens_if, opener_faults, pushed_steps}
-use Rattle.walrus_body.proofs.local_function.parse.BodyParser.open_if.Goals as goal
+use Rattle.walrus_body.proofs.local_function.body_parser.BodyParser.open_if.Goals as goal
 
 pub returns-in-Ok-clause-step : goal.returns-in-Ok-clause-step
 returns-in-Ok-clause-step c = λ ls s place keeps.

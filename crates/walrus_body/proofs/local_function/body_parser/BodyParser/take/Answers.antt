@@ -1,5 +1,5 @@
 use Rattle.walrus_body.proofs.Parsing.Endings.{takes_ok, takes_err}
-use Rattle.walrus_body.proofs.local_function.parse.BodyParser.take.Goals as goal
+use Rattle.walrus_body.proofs.local_function.body_parser.BodyParser.take.Goals as goal
 
 pub returns-in-Ok-clause-ok : goal.returns-in-Ok-clause-ok
 returns-in-Ok-clause-ok c =

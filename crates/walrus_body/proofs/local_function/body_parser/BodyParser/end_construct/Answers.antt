@@ -8,7 +8,7 @@ use Rattle.walrus_body.specs.Parsing.Advancing.{Advances, IsStep}
 use Rattle.walrus_body.specs.Parsing.BodyParsers.{state_of, state_with}
 use Rattle.walrus_body.proofs.Parsing.Partings.{some_open, stands_popped, pick_kept, missing}
 use Rattle.walrus_body.proofs.Parsing.Endings.{of_layers, ends_plain, steps_else, steps_if_alone}
-use Rattle.walrus_body.proofs.local_function.parse.BodyParser.end_construct.Goals as goal
+use Rattle.walrus_body.proofs.local_function.body_parser.BodyParser.end_construct.Goals as goal
 
 pub returns-in-Ok-empty_alternative-clause-step : goal.returns-in-Ok-empty_alternative-clause-step
 returns-in-Ok-empty_alternative-clause-step c = λ ls s place keeps.

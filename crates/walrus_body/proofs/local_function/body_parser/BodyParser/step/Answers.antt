@@ -1,0 +1,22 @@
+use Rattle.std.proofs.Common.{reverse, sym, subst}
+use Rattle.wasm_ops.specs.Meaning.{meaning}
+use Rattle.walrus_body.specs.Parsing.OpenTrees.{env_of}
+use Rattle.walrus_body.specs.Parsing.Advancing.{Advances}
+use Rattle.walrus_body.specs.Parsing.BodyParsers.{state_of, Steps}
+use Rattle.walrus_body.proofs.Parsing.Alone.{passes_nop}
+use Rattle.walrus_body.proofs.Parsing.Roles.{makes_instruction}
+use Rattle.walrus_body.proofs.local_function.body_parser.BodyParser.step.Goals as goal
+
+pub returns-in-Nop-clause-step : goal.returns-in-Nop-clause-step
+returns-in-Nop-clause-step c = λ ls s place keeps.
+    let old = c.args.self.now in
+    subst (λ o. Advances (env_of old.context) (state_of old) ls s (meaning o) place c.args.location) (sym c.in-Nop.is) (passes_nop old.context (reverse old.if_else.items) ls s place c.args.location keeps)
+
+pub returns-in-Block-clause-step : goal.returns-in-Block-clause-step
+returns-in-Block-clause-step c = subst (λ o. Steps c.args.self.now c.open_block.new.self (meaning o) c.args.location c.open_block.result) (sym c.in-Block.is) c.open_block.ensures.step
+
+pub returns-in-End-clause-step : goal.returns-in-End-clause-step
+returns-in-End-clause-step c = subst (λ o. Steps c.args.self.now c.end_construct.new.self (meaning o) c.args.location c.end_construct.result) (sym c.in-End.is) c.end_construct.ensures.step
+
+pub take_alone-requires-clause-kind : goal.take_alone-requires-clause-kind
+take_alone-requires-clause-kind c = makes_instruction c.args.operator.now c.requires.carried c.in_default.not-Nop c.in_default.not-Block c.in_default.not-End

@@ -1,0 +1,36 @@
+use Rattle.std.proofs.Common.{inr, reverse, refl, ap, ◌∙◌, subst, OnOk, IfErr}
+use Rattle.wasm_ops.specs.Meaning.{meaning}
+use Rattle.wasm_body.specs.Parsing.Progress.{frames_of}
+use Rattle.walrus_body.specs.declared.local_function.frame.IfElseState.{IfElseState}
+use Rattle.walrus_body.specs.Parsing.OpenTrees.{OpenTrees, env_of}
+use Rattle.walrus_body.specs.Parsing.OperatorKinds.{is_cut}
+use Rattle.walrus_body.specs.Parsing.Advancing.{IsStep}
+use Rattle.walrus_body.specs.Parsing.BodyParsers.{state_with, IsSameBody}
+use Rattle.walrus_body.proofs.Parsing.Alone.{refused_alone, appended_alone, same_body}
+use Rattle.walrus_body.proofs.Parsing.Roles.{fate_of_operator}
+use Rattle.walrus_body.proofs.local_function.body_parser.BodyParser.take_alone.Goals as goal
+
+pub returns-in-Ok : goal.returns-in-Ok
+returns-in-Ok c =
+    let old = c.args.self.now in
+    let new = c.take.new.self in
+    let op = c.args.operator.now in
+    let ifs = reverse old.if_else.items in
+    let role = fate_of_operator op c.requires.kind in
+    record {
+      step = λ ls s place keeps.
+          subst (λ js. IsStep (env_of old.context) (state_with new.context js) ls s (meaning op) place c.args.location c.take.result)
+          (ap (λ v. reverse v.items) (λ i. c.take.ensures.ifs (~ i)))
+          (appended_alone old.context new.context ifs ls s (meaning op) place c.args.location (is_cut op) role keeps c.in-Ok.instr (c.in-Ok.ensures.placed (frames_of ls)) c.in-Ok.ensures.plain.0 c.in-Ok.ensures.plain.1
+          c.take.result c.take.ensures.ok c.take.ensures.err);
+      rest = same_body old.context new.context (c.in-Ok.instr, c.args.location) (is_cut op) c.take.result c.take.ensures.ok;
+    }
+
+pub returns-in-Err : goal.returns-in-Err
+returns-in-Err c =
+    let old = c.args.self.now in
+    let op = c.args.operator.now in
+    record {
+      step = λ ls s place keeps. inr (refused_alone old.context old.context (reverse old.if_else.items) ls s (meaning op) place c.args.location (is_cut op) (fate_of_operator op c.requires.kind) keeps c.in-Err.error (c.in-Err.ensures.placed (frames_of ls)));
+      rest = tt;
+    }

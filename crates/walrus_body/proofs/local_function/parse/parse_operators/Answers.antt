@@ -1,0 +1,124 @@
+use Rattle.std.proofs.Common.{◌≡◌, ◌<◌, ◌≤◌, ◌⊎◌, ◌++◌, ◌-◌, length, List, [], ◌∷◌, refl, rules, arith, inl, inr, sym, ap, subst, ◌∙◌, Ok}
+use Rattle.wasm_ops.specs.declared.operator.Op.TheVariants.{End}
+use Rattle.wasm_ops.specs.Meaning.{meaning}
+use Rattle.wasm_body.specs.declared.error.ParseError.TheVariants.{Trailing, MissingEnd}
+use Rattle.wasm_body.specs.declared.error.ParseFailure.{ParseFailure}
+use Rattle.wasm_body.specs.Control.{end_operation}
+use Rattle.wasm_body.specs.NormalForm.{typing_of, normal_form, named_body}
+use Rattle.wasm_body.specs.Parsing.Lists.{failure}
+use Rattle.wasm_body.specs.TreeOfFunction.{HasTree}
+use Rattle.wasm_body.specs.Parsing.Accepted.{mark}
+use Rattle.wasm_body.specs.Parsing.Progress.{Within, further}
+use Rattle.walrus_body.specs.Parsing.Advancing.{Keeps, KeepsProgress, occurrence}
+use Rattle.walrus_body.specs.Parsing.BodyParsers.{state_of}
+use Rattle.walrus_body.specs.Parsing.Bodies.{operators_input}
+use Rattle.walrus_body.specs.Parsing.OpenTrees.{env_of}
+use Rattle.walrus_body.specs.Parsing.Settings.{has_place, taken}
+use Rattle.walrus_body.proofs.Parsing.Alone.{no_layers}
+use Rattle.walrus_body.proofs.Parsing.Bodies.{begins_parse, goes_on, unread, breaks, ends_early, over_next, over_end, body_at, goes_past, is_whole, whole_mapping, asks_next}
+use Rattle.walrus_body.proofs.local_function.parse.parse_operators.Goals as goal
+
+pub loop-reader-init : goal.loop-reader-init
+loop-reader-init g c =
+    let a = c.args in
+    let i = operators_input (env_of a.parser.context) a.reader.now a.code_offset a.on_instr_pos g.V.OpCheck.check (g.V.OpCheck.state a.validator) in
+    begins_parse g.F.Fn i a.parser c.new-instruction_mapping.result.items refl c.requires.fresh c.new-instruction_mapping.ensures.items
+
+pub next_operator-requires : goal.next_operator-requires
+next_operator-requires g c =
+    let a = c.args in
+    let i = operators_input (env_of a.parser.context) a.reader.now a.code_offset a.on_instr_pos g.V.OpCheck.check (g.V.OpCheck.state a.validator) in
+    let now = c.loop-reader.reader in
+    let some : 0 < length now.rest = search rules in
+    asks_next g.F.Fn i (λ f x. g.F.Fn.pre f (x, tt)) c.loop-reader.parser (g.V.OpCheck.state c.loop-reader.validator) now.place now.rest c.loop-reader.instruction_mapping.items c.loop-reader.invariant some c.requires.may_ask
+
+pub returns-in-Err : goal.returns-in-Err
+returns-in-Err g c =
+    let a = c.args in
+    let i = operators_input (env_of a.parser.context) a.reader.now a.code_offset a.on_instr_pos g.V.OpCheck.check (g.V.OpCheck.state a.validator) in
+    let now = c.loop-reader.reader in
+    let some : 0 < length now.rest = search rules in
+    let told = c.in-Err.ensures.err in
+    let f = c.in-Err.failure in
+    elim told.1 [
+      | inl is ↦ inl is
+      | inr is ↦ inr (unread g.F.Fn i c.requires.offset c.loop-reader.parser (g.V.OpCheck.state c.loop-reader.validator) now.place now.rest c.loop-reader.instruction_mapping.items f.error f c.loop-reader.invariant some is
+          (ap (λ at. failure f.error at) told.0))
+    ]
+
+pub returns : goal.returns
+returns g c =
+    let a = c.args in
+    let i = operators_input (env_of a.parser.context) a.reader.now a.code_offset a.on_instr_pos g.V.OpCheck.check (g.V.OpCheck.state a.validator) in
+    let now = c.loop-reader.reader in
+    let none : length now.rest ≡ 0 = search rules in
+    inr (ends_early g.F.Fn i c.requires.offset c.loop-reader.parser (g.V.OpCheck.state c.loop-reader.validator) now.place now.rest c.loop-reader.instruction_mapping.items c.failure-2.result c.loop-reader.invariant none
+    (c.failure-2.ensures ∙ ap (failure MissingEnd) c.original_position-2.ensures))
+
+pub returns-then-not-eof : goal.returns-then-not-eof
+returns-then-not-eof g c =
+    let a = c.args in
+    let i = operators_input (env_of a.parser.context) a.reader.now a.code_offset a.on_instr_pos g.V.OpCheck.check (g.V.OpCheck.state a.validator) in
+    let now = c.loop-reader.reader in
+    let next = c.next_operator.new.reader in
+    let p = c.loop-reader.parser in
+    let f = c.loop-reader.invariant in
+    let state = g.V.OpCheck.state c.loop-reader.validator in
+    let then = g.V.OpCheck.state c.next_operator.new.validator in
+    let m = c.loop-reader.instruction_mapping.items in
+    let is : c.in-Ok.next.0 ≡ End = search rules in
+    let alone : length p.context.frames ≤ 1 = search rules in
+    let more : 0 < length next.rest = search rules in
+    let top = no_layers p f.layers f.sequence f.keeps alone in
+    let take : taken (has_place a.on_instr_pos) g.V.OpCheck.check state now.place now.rest ≡ Ok (record { spelt = end_operation; rest = next.rest; state = then }) =
+    c.in-Ok.ensures.ok ∙ ap (λ o. Ok (record { spelt = meaning o; rest = next.rest; state = then })) is in
+    let pushed : c.push.new.self.items ≡ m ++ (now.place - a.code_offset, c.in-Ok.next.1) ∷ [] =
+    c.in-Ok-push.ensures.items ∙ ap (λ at. m ++ (at - a.code_offset, c.in-Ok.next.1) ∷ []) c.original_position-at.ensures in
+    let whole = over_end g.F.Fn i c.requires.offset p state then now.place next.place now.rest next.rest m c.push.new.self.items c.in-Ok.next.1 f top take c.in-Ok.ensures.located c.in-Ok.ensures.moves.0 c.in-Ok.ensures.moves.1 pushed in
+    inr (goes_past g.F.Fn i c.requires.offset _ then next.place next.rest c.push.new.self.items c.failure-then-not-eof.result whole more (c.failure-then-not-eof.ensures ∙ ap (failure Trailing) c.original_position.ensures))
+
+pub loop-reader-smaller : goal.loop-reader-smaller
+loop-reader-smaller g c = c.in-Ok.ensures.moves.1
+
+pub step-requires-clause-carried : goal.step-requires-clause-carried
+step-requires-clause-carried g c = c.in-Ok.ensures.carried
+
+pub loop-reader-preserved : goal.loop-reader-preserved
+loop-reader-preserved g c =
+    let a = c.args in
+    let i = operators_input (env_of a.parser.context) a.reader.now a.code_offset a.on_instr_pos g.V.OpCheck.check (g.V.OpCheck.state a.validator) in
+    let now = c.loop-reader.reader in
+    let next = c.next_operator.new.reader in
+    let p = c.loop-reader.parser in
+    let q = c.step.new.self in
+    let f = c.loop-reader.invariant in
+    let state = g.V.OpCheck.state c.loop-reader.validator in
+    let then = g.V.OpCheck.state c.next_operator.new.validator in
+    let m = c.loop-reader.instruction_mapping.items in
+    let o = meaning c.in-Ok.next.0 in
+    let pushed : c.push.new.self.items ≡ m ++ (now.place - a.code_offset, c.in-Ok.next.1) ∷ [] =
+    c.in-Ok-push.ensures.items ∙ ap (λ at. m ++ (at - a.code_offset, c.in-Ok.next.1) ∷ []) c.original_position-at.ensures in
+    let advances = c.in-Ok-step.ensures.step f.layers f.sequence now.place f.keeps in
+    let same = c.in-Ok-step.ensures.rest in
+    let reads = over_next g.F.Fn i c.requires.offset p state then now.place next.place now.rest next.rest m c.push.new.self.items o c.in-Ok.next.1 advances.named f c.in-Ok.ensures.ok c.in-Ok.ensures.located advances.is_named
+    c.in-Ok.ensures.moves.0 c.in-Ok.ensures.moves.1 pushed in
+    let more = further (Within f.layers f.sequence) (mark (occurrence o now.place c.in-Ok.next.1 advances.named)) in
+    goes_on g.F.Fn i q more then next.place next.rest c.push.new.self.items (same.env ∙ f.env_is) (same.entry ∙ f.entry) (subst (λ e. KeepsProgress e (state_of q) more) (sym same.env) advances.keeps) reads
+
+pub returns-in-Err-step : goal.returns-in-Err-step
+returns-in-Err-step g c =
+    let a = c.args in
+    let i = operators_input (env_of a.parser.context) a.reader.now a.code_offset a.on_instr_pos g.V.OpCheck.check (g.V.OpCheck.state a.validator) in
+    let now = c.loop-reader.reader in
+    let next = c.next_operator.new.reader in
+    let p = c.loop-reader.parser in
+    let f = c.loop-reader.invariant in
+    let some : 0 < length now.rest = search rules in
+    let o = meaning c.in-Ok.next.0 in
+    let e = c.in-Err-step.error in
+    let is = c.failure-in-Err-step.ensures in
+    elim (c.in-Err-step.ensures.step f.layers f.sequence now.place f.keeps) [
+      | inl wants ↦ inl (ap (λ (h : ParseFailure). h.error) is ∙ wants)
+      | inr refused ↦ inr (breaks g.F.Fn i c.requires.offset p (g.V.OpCheck.state c.loop-reader.validator) (g.V.OpCheck.state c.next_operator.new.validator) now.place now.rest next.rest c.loop-reader.instruction_mapping.items o e
+          c.failure-in-Err-step.result f some c.in-Ok.ensures.ok refused (is ∙ ap (failure e) c.original_position-at.ensures))
+    ]

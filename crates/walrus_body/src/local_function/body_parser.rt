@@ -1,0 +1,300 @@
+//! How a body is parsed: each operator carries on what is kept of the sequences that are open.
+ghost use Rattle.std.specs.Prelude.{IsTrue, ◌↔◌, reverse, ◌≡◌, ◌≢◌, ◌⊎◌, ◌<◌, ◌≤◌, length, IfOk, IfErr, OnOk, Some, [], ◌∷◌, Ok, Err, slice_get, IsSome, IsSomeAnd, None, true, false};
+ghost use Rattle.walrus_ir.specs.Types.{existing};
+ghost use Rattle.wasm_ops.specs.declared.types.Opcode.TheVariants.{Byte};
+ghost use Rattle.wasm_ops.specs.Operations.{operation, block};
+ghost use Rattle.wasm_ops.specs.declared.operator.Op.TheVariants as op;
+ghost use Rattle.wasm_ops.specs.Meaning.{meaning};
+ghost use Rattle.wasm_ops.specs.Fitting.{HasRow};
+ghost use Rattle.wasm_encode.specs.Writable.{IsWritable};
+ghost use Rattle.walrus_body.specs.Parsing.OperatorKinds.{is_instruction, is_cut};
+ghost use Rattle.wasm_body.specs.declared.error.ParseError.{ParseError as ParseFault};
+ghost use Rattle.wasm_body.specs.Control.{end_operation, else_operation};
+ghost use Rattle.wasm_body.specs.Naming.{entry_type_id as entry_type_of};
+ghost use Rattle.walrus_body.specs.Environments.{environment_of};
+ghost use Rattle.walrus_body.specs.Parsing.OpenFrames.{changed_at};
+ghost use Rattle.walrus_body.specs.Parsing.OpenTrees.{env_of};
+ghost use Rattle.walrus_body.specs.Parsing.BodyParsers.{Begins, IsSameBody, Steps, with_alternative, AppendsIf, HasNoIf, AddsEmpty, Finishes, taking};
+
+use crate::local_function::context::ValidationContext;
+use crate::local_function::frame::IfElseState;
+use crate::local_function::own_lists::pushed;
+use crate::local_function::types::value_type;
+use crate::{IndicesToIds, ParseError};
+use std::alloc::Global;
+use walrus_ir::{
+    Block, BlockKind, FunctionBuilder, FunctionId, IfElse, Instr, InstrLocId, InstrSeqId,
+    InstrSeqType, Loop, Module, TypeId, ValType,
+};
+use wasm_ops::{BlockType, Operator};
+
+/// What is kept while a body is parsed.
+#[derive(Drop)]
+pub(crate) struct BodyParser<'a> {
+    /// The function's sequences, and which of them are open.
+    pub context: ValidationContext<'a>,
+    /// The `if`s whose `end` is still to come, the innermost last.
+    pub if_else: Vec<IfElseState>,
+}
+
+impl<'a> BodyParser<'a> {
+    /// Nothing is read yet of the body of this function, whose entry has the type `entry`.
+    pub fn new(
+        alloc: Global,
+        module: &'a Module,
+        indices: &'a IndicesToIds,
+        function: FunctionId,
+        ty: TypeId,
+        entry: TypeId,
+    ) -> Result<BodyParser<'a>, ParseError>
+        requires { entry_type_of (environment_of «module».now indices.now function ty) ≡ Ok entry }
+        ensures env { IfOk result (λ p. env_of p.context ≡ environment_of «module».now indices.now function ty) }
+        ensures ok { IfOk result Begins }
+        ensures err { IfErr result (λ e. e ≡ ParseFault.Memory) }
+    {
+        let mut builder = FunctionBuilder::without_entry(alloc, ty);
+        builder.set_entry(InstrSeqId::new(0));
+        let controls = Vec::new(alloc);
+        let instrs = Vec::new(alloc);
+        let mut context = ValidationContext::new(
+            module, indices, function, builder, controls, instrs,
+        );
+        match context.push_control_with_ty(BlockKind::FunctionEntry, entry) {
+            Ok(_entry) => Ok(BodyParser {
+                context,
+                if_else: Vec::new(alloc),
+            }),
+            Err(error) => Err(error),
+        }
+    }
+}
+
+impl BodyParser<'_> {
+    /// Whether only the function's own sequence is open.
+    pub fn is_outermost(&self) -> bool
+        ensures { IsTrue result ↔ (length self.now.context.frames ≤ 1) }
+    {
+        self.context.control(1).is_err()
+    }
+
+    /// Takes a `block`.
+    fn open_block(&mut self, ty: BlockType, location: InstrLocId) -> Result<(), ParseError>
+        ensures step { Steps self.old self.new (operation (Byte 0x02) (block ty ∷ [])) location result }
+        ensures rest { OnOk result (IsSameBody self.old.context self.new.context) }
+    {
+        match self.context.push_block(BlockKind::Block, ty) {
+            Ok(seq) => {
+                self.context
+                    .alloc_instr_in_control(1, Instr::Block(Block { seq }), location)
+            }
+            Err(error) => Err(error),
+        }
+    }
+
+    /// Takes a `loop`.
+    fn open_loop(&mut self, ty: BlockType, location: InstrLocId) -> Result<(), ParseError>
+        ensures step { Steps self.old self.new (operation (Byte 0x03) (block ty ∷ [])) location result }
+        ensures rest { OnOk result (IsSameBody self.old.context self.new.context) }
+    {
+        match self.context.push_block(BlockKind::Loop, ty) {
+            Ok(seq) => {
+                self.context
+                    .alloc_instr_in_control(1, Instr::Loop(Loop { seq }), location)
+            }
+            Err(error) => Err(error),
+        }
+    }
+
+    /// Takes an `if`, whose instruction is appended at its `end`.
+    fn open_if(&mut self, ty: BlockType, start: InstrLocId) -> Result<(), ParseError>
+        ensures step { Steps self.old self.new (operation (Byte 0x04) (block ty ∷ [])) start result }
+        ensures rest { OnOk result (IsSameBody self.old.context self.new.context) }
+    {
+        match self.context.push_block(BlockKind::If, ty) {
+            Ok(consequent) => pushed(
+                &mut self.if_else,
+                IfElseState {
+                    start,
+                    consequent,
+                    alternative: None,
+                },
+            ),
+            Err(error) => Err(error),
+        }
+    }
+
+    /// The innermost `if` goes on with this alternative.
+    fn begin_alternative(&mut self, alternative: InstrSeqId)
+        ensures context { self.new.context ≡ self.old.context }
+        ensures ifs { reverse self.new.if_else.items ≡ with_alternative alternative (reverse self.old.if_else.items) }
+    {
+        if let Some(index) = self.if_else.len().checked_sub(1) {
+            self.if_else[index].alternative = Some(alternative);
+        }
+    }
+
+    /// Takes an `else`.
+    fn part_else(&mut self, location: InstrLocId) -> Result<(), ParseError>
+        ensures step { Steps self.old self.new else_operation location result }
+        ensures rest { OnOk result (IsSameBody self.old.context self.new.context) }
+    {
+        let (frame, consequent) = match self.context.pop_control() {
+            Ok(popped) => popped,
+            Err(error) => return Err(error),
+        };
+        let BlockKind::If = frame.kind else {
+            return Err(ParseError::ElseOutsideIf);
+        };
+        self.context.end_sequence(consequent, location);
+        let pushed = self
+            .context
+            .push_control(BlockKind::Else, &frame.start_types, &frame.end_types);
+        match pushed {
+            Ok(alternative) => {
+                self.begin_alternative(alternative);
+                Ok(())
+            }
+            Err(error) => Err(error),
+        }
+    }
+
+    /// Appends the instruction of the innermost `if`, whose sequences are closed.
+    fn append_if(&mut self, alternative: Option<InstrSeqId>) -> Result<(), ParseError>
+        ensures ok { OnOk result (AppendsIf self.old self.new alternative) }
+        ensures err { IfErr result (λ e. (e ≡ ParseFault.Memory) ⊎ HasNoIf self.old alternative) }
+    {
+        let Some(top) = self.if_else.pop() else {
+            return Err(ParseError::NoFrame);
+        };
+        let Some(alternative) = alternative.or(top.alternative) else {
+            return Err(ParseError::NoFrame);
+        };
+        let consequent = top.consequent;
+        let instr = Instr::IfElse(IfElse {
+            consequent,
+            alternative,
+        });
+        self.context.alloc_instr(instr, top.start)
+    }
+
+    /// Makes an empty alternative for an `if` that has none.
+    fn empty_alternative(
+        &mut self,
+        start_types: &[ValType],
+        end_types: &[ValType],
+    ) -> Result<InstrSeqId, ParseError>
+        ensures ok { IfOk result (λ id. IsSomeAnd (existing self.old.context.module.types start_types.now end_types.now)
+            (λ ty. AddsEmpty self.old.context self.new.context ty id)) }
+        ensures err { IfErr result (λ e. (e ≡ ParseFault.Memory)
+            ⊎ ((e ≡ ParseFault.TypeMissing) × (existing self.old.context.module.types start_types.now end_types.now ≡ None))) }
+        ensures ifs { self.new.if_else ≡ self.old.if_else }
+    {
+        let alternative = match self
+            .context
+            .push_control(BlockKind::Else, start_types, end_types)
+        {
+            Ok(alternative) => alternative,
+            Err(error) => return Err(error),
+        };
+        let (_frame, _block) = match self.context.pop_control() {
+            Ok(popped) => popped,
+            Err(error) => return Err(error),
+        };
+        Ok(alternative)
+    }
+
+    /// Takes an `end` that closes a construct.
+    fn end_construct(&mut self, location: InstrLocId) -> Result<(), ParseError>
+        requires inside { 1 < length self.old.context.frames }
+        ensures step { Steps self.old self.new end_operation location result }
+        ensures rest { OnOk result (IsSameBody self.old.context self.new.context) }
+    {
+        let (frame, block) = match self.context.pop_control() {
+            Ok(popped) => popped,
+            Err(error) => return Err(error),
+        };
+        self.context.end_sequence(block, location);
+        match frame.kind {
+            BlockKind::If => {
+                match self.empty_alternative(&frame.start_types, &frame.end_types) {
+                    Ok(alternative) => self.append_if(Some(alternative)),
+                    Err(error) => Err(error),
+                }
+            }
+            BlockKind::Else => self.append_if(None),
+            _ => Ok(()),
+        }
+    }
+
+    /// Appends an instruction to the innermost frame, behind which nothing of it is executed where it cuts.
+    fn take(&mut self, instr: Instr, location: InstrLocId, cuts: bool) -> Result<(), ParseError>
+        ensures ok { OnOk result ((0 < length self.old.context.frames)
+            × (self.new.context ≡ record self.old.context { frames = changed_at 0 (taking (instr, location) cuts) self.old.context.frames })) }
+        ensures err { IfErr result (λ e. (e ≡ ParseFault.Memory)
+            ⊎ ((e ≡ ParseFault.NoFrame) × (length self.old.context.frames ≤ 0))) }
+        ensures ifs { self.new.if_else ≡ self.old.if_else }
+    {
+        match self.context.alloc_instr(instr, location) {
+            Ok(()) if cuts => self.context.unreachable(),
+            result => result,
+        }
+    }
+
+    /// Takes an operator by itself, that isn't `nop`.
+    fn take_alone(
+        &mut self,
+        operator: &Operator<'_>,
+        location: InstrLocId,
+    ) -> Result<(), ParseError>
+        requires kind { is_instruction operator.now ≡ true }
+        requires writable { IsWritable (meaning operator.now) }
+        ensures step { Steps self.old self.new (meaning operator.now) location result }
+        ensures rest { OnOk result (IsSameBody self.old.context self.new.context) }
+    {
+        match self.instruction(operator) {
+            Ok(instr) => self.take(instr, location, is_cut(operator)),
+            Err(error) => Err(error),
+        }
+    }
+
+    /// Takes the next operator, which isn't the function's own `end`.
+    pub fn step(&mut self, operator: &Operator<'_>, location: InstrLocId) -> Result<(), ParseError>
+        requires inside { operator.now ≡ op.End → 1 < length self.old.context.frames }
+        requires carried { HasRow (meaning operator.now) }
+        requires writable { IsWritable (meaning operator.now) }
+        ensures step { Steps self.old self.new (meaning operator.now) location result }
+        ensures rest { OnOk result (IsSameBody self.old.context self.new.context) }
+    {
+        match operator {
+            Operator::Nop => Ok(()),
+            Operator::Block { ty } => self.open_block(*ty, location),
+            Operator::End => self.end_construct(location),
+            _ => self.take_alone(operator, location),
+        }
+    }
+
+    /// Takes the function's own `end`: its sequences.
+    fn finish(mut self, location: InstrLocId) -> Result<FunctionBuilder, ParseError>
+        ensures ok { IfOk result (Finishes self.entry location) }
+        ensures err { IfErr result (λ e. (e ≡ ParseFault.Memory)
+            ⊎ ((e ≡ ParseFault.NoFrame) × (self.entry.context.frames ≡ []))) }
+    {
+        let (_frame, block) = match self.context.pop_control() {
+            Ok(popped) => popped,
+            Err(error) => return Err(error),
+        };
+        self.context.end_sequence(block, location);
+        let (builder, _controls, _instrs) = self.context.into_parts();
+        Ok(builder)
+    }
+}
+
+/// Whether what follows in the sequence is dropped.
+fn is_cut(operator: &Operator<'_>) -> bool
+    ensures { result ≡ is_cut operator.now }
+{
+    matches!(
+        operator,
+        Operator::Unreachable | Operator::Br { .. } | Operator::Return
+    )
+}
