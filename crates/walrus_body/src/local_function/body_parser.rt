@@ -274,7 +274,7 @@ impl BodyParser<'_> {
     }
 
     /// Takes the function's own `end`: its sequences.
-    fn finish(mut self, location: InstrLocId) -> Result<FunctionBuilder, ParseError>
+    pub fn finish(mut self, location: InstrLocId) -> Result<FunctionBuilder, ParseError>
         ensures ok { IfOk result (Finishes self.entry location) }
         ensures err { IfErr result (λ e. (e ≡ ParseFault.Memory)
             ⊎ ((e ≡ ParseFault.NoFrame) × (self.entry.context.frames ≡ []))) }
