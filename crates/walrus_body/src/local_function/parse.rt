@@ -63,13 +63,15 @@ pub(crate) fn parse_operators<V: OpCheck, F: Fn(&usize) -> InstrLocId>(
             if !reader.eof() {
                 return Err(failure(ParseError::Trailing, reader.original_position()));
             }
-            return match parser.finish(location) {
-                Ok(builder) => Ok(ParsedOperators {
-                    builder,
-                    instruction_mapping,
-                }),
-                Err(error) => Err(failure(error, at)),
-            };
+            match parser.finish(location) {
+                Ok(builder) => {
+                    return Ok(ParsedOperators {
+                        builder,
+                        instruction_mapping,
+                    });
+                }
+                Err(error) => return Err(failure(error, at)),
+            }
         }
         match parser.step(&operator, location) {
             Ok(()) => {}

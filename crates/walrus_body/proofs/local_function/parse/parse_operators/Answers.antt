@@ -14,8 +14,10 @@ use Rattle.walrus_body.specs.Parsing.BodyParsers.{state_of}
 use Rattle.walrus_body.specs.Parsing.Bodies.{operators_input}
 use Rattle.walrus_body.specs.Parsing.OpenTrees.{env_of}
 use Rattle.walrus_body.specs.Parsing.Settings.{has_place, taken}
+use Rattle.wasm_body.specs.Naming.{Environment}
 use Rattle.walrus_body.proofs.Parsing.Alone.{no_layers}
 use Rattle.walrus_body.proofs.Parsing.Bodies.{begins_parse, goes_on, unread, breaks, ends_early, over_next, over_end, body_at, goes_past, is_whole, whole_mapping, asks_next}
+use Rattle.walrus_body.proofs.Parsing.Partings.{some_open}
 use Rattle.walrus_body.proofs.local_function.parse.parse_operators.Goals as goal
 
 pub loop-reader-init : goal.loop-reader-init
@@ -121,4 +123,47 @@ returns-in-Err-step g c =
       | inl wants ↦ inl (ap (λ (h : ParseFailure). h.error) is ∙ wants)
       | inr refused ↦ inr (breaks g.F.Fn i c.requires.offset p (g.V.OpCheck.state c.loop-reader.validator) (g.V.OpCheck.state c.next_operator.new.validator) now.place now.rest next.rest c.loop-reader.instruction_mapping.items o e
           c.failure-in-Err-step.result f some c.in-Ok.ensures.ok refused (is ∙ ap (failure e) c.original_position-at.ensures))
+    ]
+
+pub returns-in-Ok-finish : goal.returns-in-Ok-finish
+returns-in-Ok-finish g c =
+    let a = c.args in
+    let i = operators_input (env_of a.parser.context) a.reader.now a.code_offset a.on_instr_pos g.V.OpCheck.check (g.V.OpCheck.state a.validator) in
+    let now = c.loop-reader.reader in
+    let next = c.next_operator.new.reader in
+    let p = c.loop-reader.parser in
+    let f = c.loop-reader.invariant in
+    let state = g.V.OpCheck.state c.loop-reader.validator in
+    let then = g.V.OpCheck.state c.next_operator.new.validator in
+    let m = c.loop-reader.instruction_mapping.items in
+    let is : c.in-Ok.next.0 ≡ End = search rules in
+    let alone : length p.context.frames ≤ 1 = search rules in
+    let last : length next.rest ≡ 0 = search rules in
+    let top = no_layers p f.layers f.sequence f.keeps alone in
+    let take : taken (has_place a.on_instr_pos) g.V.OpCheck.check state now.place now.rest ≡ Ok (record { spelt = end_operation; rest = next.rest; state = then }) =
+    c.in-Ok.ensures.ok ∙ ap (λ o. Ok (record { spelt = meaning o; rest = next.rest; state = then })) is in
+    let pushed : c.push.new.self.items ≡ m ++ (now.place - a.code_offset, c.in-Ok.next.1) ∷ [] =
+    c.in-Ok-push.ensures.items ∙ ap (λ at. m ++ (at - a.code_offset, c.in-Ok.next.1) ∷ []) c.original_position-at.ensures in
+    let whole = over_end g.F.Fn i c.requires.offset p state then now.place next.place now.rest next.rest m c.push.new.self.items c.in-Ok.next.1 f top take c.in-Ok.ensures.located c.in-Ok.ensures.moves.0 c.in-Ok.ensures.moves.1 pushed in
+    let b = body_at f.sequence now.place c.in-Ok.next.1 in
+    let done = c.in-Ok-finish.ensures.ok in
+    record {
+      body = b;
+      is_parsed = is_whole g.F.Fn i c.requires.offset b then next.place next.rest c.push.new.self.items whole last;
+      type = done.type ∙ ap (λ (e : Environment). e.type) f.env_is;
+      is_function = record {
+        entry = done.entry ∙ f.entry;
+        holds = subst (λ e. HasTree c.in-Ok-finish.builder.sequences 0 (normal_form (typing_of e) (named_body b))) f.env_is
+            (done.holds f.sequence b.close refl (subst (λ ls. Keeps (env_of p.context) (state_of p) ls f.sequence) top f.keeps));
+      };
+      is_mapping = whole_mapping g.F.Fn i c.requires.offset b then next.place next.rest c.push.new.self.items whole;
+    }
+
+pub returns-in-Err-finish : goal.returns-in-Err-finish
+returns-in-Err-finish g c =
+    let f = c.loop-reader.invariant in
+    let p = c.loop-reader.parser in
+    elim c.in-Err-finish.ensures.err [
+      | inl is ↦ inl (ap (λ (h : ParseFailure). h.error) c.failure-in-Err-finish.ensures ∙ is)
+      | inr is ↦ absurd (some_open (env_of p.context) (state_of p) f.layers f.sequence f.keeps is.1)
     ]

@@ -1,4 +1,4 @@
-use Rattle.std.proofs.Common.{inr, reverse, refl, ap, ◌∙◌, subst, OnOk, IfErr}
+use Rattle.std.proofs.Common.{inr, reverse, sym, ap, ◌∙◌, subst, OnOk, IfErr}
 use Rattle.wasm_ops.specs.Meaning.{meaning}
 use Rattle.wasm_body.specs.Parsing.Progress.{frames_of}
 use Rattle.walrus_body.specs.declared.local_function.frame.IfElseState.{IfElseState}
@@ -20,7 +20,7 @@ returns-in-Ok c =
     record {
       step = λ ls s place keeps.
           subst (λ js. IsStep (env_of old.context) (state_with new.context js) ls s (meaning op) place c.args.location c.take.result)
-          (ap (λ v. reverse v.items) (λ i. c.take.ensures.ifs (~ i)))
+          (ap (λ v. reverse v.items) (sym c.take.ensures.ifs))
           (appended_alone old.context new.context ifs ls s (meaning op) place c.args.location (is_cut op) role keeps c.in-Ok.instr (c.in-Ok.ensures.placed (frames_of ls)) c.in-Ok.ensures.plain.0 c.in-Ok.ensures.plain.1
           c.take.result c.take.ensures.ok c.take.ensures.err);
       rest = same_body old.context new.context (c.in-Ok.instr, c.args.location) (is_cut op) c.take.result c.take.ensures.ok;
