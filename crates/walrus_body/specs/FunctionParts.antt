@@ -1,6 +1,6 @@
 -- The value of a function of a module that has a body.
 use Rattle.std.specs.Prelude.{ℕ, List, Option, Some, ◌-◌, ◌+◌, length}
-use Rattle.core.specs.declared.iter.ranges.Range.{Range}
+use Rattle.std.specs.declared.ops.Range.{Range}
 use Rattle.walrus_ir.specs.Function.{Function}
 
 -- Its builder and arguments, the location of each operator that was read, by its place less the code offset, and where its

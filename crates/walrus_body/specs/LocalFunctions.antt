@@ -1,7 +1,7 @@
 -- What contracts see of a function of a module that has a body.
 use Rattle.std.specs.Prelude.{◌≡◌, ◌<◌, ◌+◌, ◌-◌, ℕ, List, [], length, Bool, true, false, Option, Some, None, unwrap_or, slice_get, option_and_then}
 use Rattle.std.specs.Borrow.{Lends, MutBor, Fml}
-use Rattle.core.specs.declared.iter.ranges.Range.{Range}
+use Rattle.std.specs.declared.ops.Range.{Range}
 use Rattle.walrus_ir.specs.declared.builder.FunctionBuilder.{FunctionBuilder}
 use Rattle.walrus_ir.specs.declared.seq.InstrSeq.{InstrSeq}
 use Rattle.walrus_ir.specs.declared.instr.Instr.{Instr}

@@ -1,5 +1,5 @@
 //! Functions of a module: their bodies, read and written.
-ghost use Rattle.std.specs.Prelude.{◌≡◌, ◌⊎◌, ◌≤◌, ◌<◌, ◌+◌, ◌^◌, ◌==◌, ◌↔◌, IsTrue, ℕ, [], length, drop, slice_get, all, Some, None, Option, IfOk, IfErr, IsErr};
+ghost use Rattle.std.specs.Prelude.{◌≡◌, ◌⊎◌, ◌≤◌, ◌<◌, ◌+◌, ◌^◌, ◌==◌, ◌↔◌, IsTrue, ℕ, [], length, drop, slice_get, list_all, Some, None, Option, IfOk, IfErr, IsErr};
 ghost use Rattle.std.specs.HashSet.{contains};
 ghost use Rattle.walrus_ir.specs.Unfolding.{among};
 ghost use Rattle.walrus_ir.specs.Walk.{HasNoWalk};
@@ -231,7 +231,7 @@ impl LocalFunction {
     /// others aren't looked at.
     pub fn is_const(&self) -> bool
         requires { HasEntry self.now.builder }
-        ensures { result ≡ all is_const (first_instrs self.now.builder) }
+        ensures { result ≡ list_all is_const (first_instrs self.now.builder) }
     {
         self.block(self.entry_block())
             .instrs

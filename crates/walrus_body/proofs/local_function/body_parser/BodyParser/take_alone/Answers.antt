@@ -1,4 +1,4 @@
-use Rattle.std.proofs.Common.{inr, reverse, sym, ap, ◌∙◌, subst, OnOk, IfErr}
+use Rattle.std.proofs.Common.{Some, inr, reverse, sym, ap, ◌∙◌, subst, OnOk, IfErr}
 use Rattle.wasm_ops.specs.Meaning.{meaning}
 use Rattle.wasm_body.specs.Parsing.Progress.{frames_of}
 use Rattle.walrus_body.specs.declared.local_function.frame.IfElseState.{IfElseState}
@@ -7,7 +7,7 @@ use Rattle.walrus_body.specs.Parsing.OperatorKinds.{is_cut}
 use Rattle.walrus_body.specs.Parsing.Advancing.{IsStep}
 use Rattle.walrus_body.specs.Parsing.BodyParsers.{state_with, IsSameBody}
 use Rattle.walrus_body.proofs.Parsing.Alone.{refused_alone, appended_alone, same_body}
-use Rattle.walrus_body.proofs.Parsing.Roles.{fate_of_operator}
+use Rattle.walrus_body.proofs.Parsing.Roles.{fate_by, fate_of_operator}
 use Rattle.walrus_body.proofs.local_function.body_parser.BodyParser.take_alone.Goals as goal
 
 pub returns-in-Ok : goal.returns-in-Ok
@@ -16,14 +16,15 @@ returns-in-Ok c =
     let new = c.take.new.self in
     let op = c.args.operator.now in
     let ifs = reverse old.if_else.items in
-    let role = fate_of_operator op c.requires.kind in
+    let cut = c.is_cut.result in
+    let role = fate_of_operator op c.requires.kind ∙ ap (λ b. Some (fate_by b)) (sym c.is_cut.ensures) in
     record {
       step = λ ls s place keeps.
           subst (λ js. IsStep (env_of old.context) (state_with new.context js) ls s (meaning op) place c.args.location c.take.result)
           (ap (λ v. reverse v.items) (sym c.take.ensures.ifs))
-          (appended_alone old.context new.context ifs ls s (meaning op) place c.args.location (is_cut op) role keeps c.in-Ok.instr (c.in-Ok.ensures.placed (frames_of ls)) c.in-Ok.ensures.plain.0 c.in-Ok.ensures.plain.1
+          (appended_alone old.context new.context ifs ls s (meaning op) place c.args.location cut role keeps c.in-Ok.instr (c.in-Ok.ensures.placed (frames_of ls)) c.in-Ok.ensures.plain.0 c.in-Ok.ensures.plain.1
           c.take.result c.take.ensures.ok c.take.ensures.err);
-      rest = same_body old.context new.context (c.in-Ok.instr, c.args.location) (is_cut op) c.take.result c.take.ensures.ok;
+      rest = same_body old.context new.context (c.in-Ok.instr, c.args.location) cut c.take.result c.take.ensures.ok;
     }
 
 pub returns-in-Err : goal.returns-in-Err
