@@ -13,10 +13,10 @@ use Rattle.wasm_body.specs.declared.error.EmitError.{EmitError}
 use Rattle.wasm_body.specs.declared.error.EmitError.TheVariants.{UnknownSequence}
 use Rattle.walrus_ir.specs.Results.{◌>>=◌, some_or}
 use Rattle.wasm_body.specs.Control.{end_operation, else_operation}
-use Rattle.wasm_body.specs.Translation.{translate, Located, at_location}
+use Rattle.wasm_body.specs.Translation.{Located, at_location}
 use Rattle.wasm_body.specs.InstructionTable.{legacy_clause}
 use Rattle.wasm_body.specs.TreeOfFunction.{instruction_in}
-use Rattle.wasm_body.specs.FlatText.{TextOperation, Writing, then_by, try_closers, opened, written}
+use Rattle.wasm_body.specs.FlatText.{TextOperation, then_by, try_closers, opened, written}
 use Rattle.wasm_body.specs.Bytes.{Numbers, numbering, bytes_of}
 use Rattle.wasm_body.specs.Pairs.{pairs_from}
 

@@ -1,5 +1,5 @@
 -- The value of a function of a module that has a body.
-use Rattle.std.specs.Prelude.{ℕ, List, Option, Some, ◌-◌, ◌+◌, length}
+use Rattle.std.specs.Prelude.{ℕ, List, Option, ◌-◌, ◌+◌, length}
 use Rattle.std.specs.declared.ops.Range.{Range}
 use Rattle.walrus_ir.specs.Function.{Function}
 

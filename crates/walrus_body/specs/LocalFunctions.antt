@@ -1,10 +1,8 @@
 -- What contracts see of a function of a module that has a body.
-use Rattle.std.specs.Prelude.{◌≡◌, ◌<◌, ◌+◌, ◌-◌, ℕ, List, [], length, Bool, true, false, Option, Some, None, unwrap_or, slice_get, option_and_then}
+use Rattle.std.specs.Prelude.{◌≡◌, ◌<◌, ℕ, List, [], length, Bool, true, false, Option, Some, None, unwrap_or, slice_get, option_and_then}
 use Rattle.std.specs.Borrow.{Lends, MutBor, Fml}
-use Rattle.std.specs.declared.ops.Range.{Range}
 use Rattle.walrus_ir.specs.declared.builder.FunctionBuilder.{FunctionBuilder}
 use Rattle.walrus_ir.specs.declared.seq.InstrSeq.{InstrSeq}
-use Rattle.walrus_ir.specs.declared.instr.Instr.{Instr}
 use Rattle.walrus_ir.specs.declared.instr.Instr.TheVariants as instr
 use Rattle.walrus_ir.specs.contracts.builder.FunctionBuilder.{the_row as builder_row}
 use Rattle.walrus_ir.specs.contracts.seq.InstrSeq.{the_row as sequence_row}

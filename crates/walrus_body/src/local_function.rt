@@ -1,6 +1,8 @@
 //! Functions of a module: their bodies, read and written.
-ghost use Rattle.std.specs.Prelude.{◌≡◌, ◌⊎◌, ◌≤◌, ◌<◌, ◌+◌, ◌^◌, ◌==◌, ◌↔◌, IsTrue, ℕ, [], length, drop, slice_get, list_all, Some, None, Option, IfOk, IfErr, IsErr};
+ghost use Rattle.std.specs.Prelude.{◌≡◌, ◌⊎◌, ◌≤◌, ◌<◌, ◌+◌, ◌^◌, ◌==◌, ◌↔◌, IsTrue, ℕ, [], length, drop, slice_get, Some, None, Option, IfOk, IfErr, IsErr};
+ghost use Rattle.std.specs.Borrow.{sem};
 ghost use Rattle.std.specs.HashSet.{contains};
+ghost use Rattle.std.specs.List.{list_all};
 ghost use Rattle.walrus_ir.specs.Unfolding.{among};
 ghost use Rattle.walrus_ir.specs.Walk.{HasNoWalk};
 ghost use Rattle.wasm_body.specs.declared.error.ParseError.{ParseError as ParseFault};

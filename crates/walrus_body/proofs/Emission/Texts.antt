@@ -1,31 +1,29 @@
 -- Behind the events of a tree its text is written.
-use Rattle.std.specs.Prelude.{◌≡◌, ℕ, ◌+◌, length, List, [], ◌∷◌, ◌++◌, map, slice_get, Some, None, Bool, true, false, if◌then◌else◌, Result, Ok, Err}
+use Rattle.std.specs.Prelude.{◌≡◌, ℕ, ◌+◌, length, List, [], ◌∷◌, ◌++◌, map, slice_get, Some, Bool, true, false, if◌then◌else◌, Result, Ok, Err}
 use Rattle.std.proofs.Common.{refl, sym, ap, subst, ◌∙◌, append_assoc, add-zero, arith}
 use Rattle.std.proofs.lemmas.List.{append-nil, length-append}
 use Rattle.wasm_ops.specs.Shortest.{short}
 use Rattle.walrus_ir.specs.declared.seq.InstrSeq.{InstrSeq}
-use Rattle.walrus_ir.specs.declared.val_type.InstrSeqType.{InstrSeqType}
 use Rattle.walrus_ir.specs.declared.instr.Instr.{Instr}
 use Rattle.walrus_ir.specs.declared.instr.Instr.TheVariants as instr
 use Rattle.walrus_ir.specs.declared.control.LegacyCatch.{LegacyCatch}
 use Rattle.walrus_ir.specs.declared.control.LegacyCatch.TheVariants.{Catch, CatchAll, Delegate}
-use Rattle.walrus_ir.specs.Tree.{Items, no_items, item, Sequences, no_sequences, sequence, Tree, alone}
+use Rattle.walrus_ir.specs.Tree.{Items, Sequences, no_sequences, sequence, Tree, alone}
 use Rattle.walrus_ir.specs.Unfolding.{SequenceAt, LocatedInstr, handlers, slots_in, AreItems, are_no_items, are_items, AreSequences, are_no_sequences, are_sequences}
-use Rattle.walrus_ir.specs.Events.{WalkEvent, events, StartSequence, EndSequence, VisitInstruction, NameFunction, NameLocal, NameData, names, item_events, sequence_events}
+use Rattle.walrus_ir.specs.Events.{WalkEvent, events, EndSequence, names, item_events, sequence_events}
 use Rattle.wasm_ops.specs.declared.types.BlockType.{BlockType}
 use Rattle.wasm_ops.specs.Operations.{RawOperation}
 use Rattle.wasm_body.specs.declared.error.EmitError.{EmitError}
 use Rattle.wasm_body.specs.declared.error.EmitError.TheVariants.{UnknownSequence, BadClauses}
 use Rattle.walrus_ir.specs.Results.{◌>>=◌, some_or, gather}
-use Rattle.wasm_body.specs.Control.{role_of, end_operation, else_operation}
+use Rattle.wasm_body.specs.Control.{role_of, end_operation}
 use Rattle.wasm_body.specs.Translation.{Located, at_location}
 use Rattle.wasm_body.specs.InstructionTable.{operation_of, legacy_clause, clauses_of_try}
-use Rattle.wasm_body.specs.FunctionTree.{Head, Instruction, LegacyClause}
 use Rattle.wasm_body.specs.TreeOfFunction.{tree_of, instruction_in, items_in, sequences_in}
 use Rattle.wasm_body.specs.FlatText.{TextOperation, Writing, then_by, closers, try_closers, are_handlers, are_lawful, first_type, opened, written, text, texts}
 use Rattle.wasm_body.specs.Bytes.{Numbers, numbering, bytes_of, numbered_text}
 use Rattle.wasm_body.specs.Pairs.{pairs_from}
-use Rattle.walrus_body.specs.Emission.{Scope, closers_in, scope_at, scopes_at, first_type_at, Output, Emitter, slots_of, first_emitter, output_of, output_behind, with_operator, with_closer, with_instruction, with_start, with_end, emitter_behind, emitter_behind_all}
+use Rattle.walrus_body.specs.Emission.{Scope, closers_in, scopes_at, first_type_at, Output, Emitter, slots_of, first_emitter, output_of, output_behind, with_operator, emitter_behind_all}
 
 abbrev Written : Type 0
 Written = Result (Located RawOperation) EmitError

@@ -1,5 +1,5 @@
 -- How an operator by itself advances a parse: it has a name where its ids and labels were found, and its instruction is kept.
-use Rattle.std.specs.Prelude.{◌≡◌, ◌⊎◌, ◌<◌, ◌≤◌, ℕ, suc, List, [], ◌∷◌, length, Bool, true, false, Option, Some, Result, Ok, Err, OnOk, IfErr}
+use Rattle.std.specs.Prelude.{◌≡◌, ◌⊎◌, ◌<◌, ◌≤◌, ℕ, suc, List, [], ◌∷◌, length, Bool, true, false, Some, Result, Ok, Err, OnOk, IfErr}
 use Rattle.std.proofs.lemmas.List.{length-map}
 use Rattle.std.proofs.Common.{refl, inl, inr, ap, sym, subst, ◌∙◌, arith, reverse}
 use Rattle.walrus_ir.specs.declared.instr.Instr.{Instr}
@@ -8,12 +8,11 @@ use Rattle.wasm_ops.specs.declared.types.Opcode.TheVariants.{Byte}
 use Rattle.wasm_ops.specs.Operations.{operation, Operation, RawOperation}
 use Rattle.wasm_body.specs.declared.error.ParseError.{ParseError}
 use Rattle.wasm_body.specs.declared.error.ParseError.TheVariants.{Memory, NoFrame}
-use Rattle.wasm_body.specs.Control.{Action, Nop, Does, role_of, control_of}
+use Rattle.wasm_body.specs.Control.{Action, Nop, role_of, control_of}
 use Rattle.wasm_body.specs.Frames.{Frame, OfFunction}
 use Rattle.wasm_body.specs.SourceTree.{Sequence}
 use Rattle.wasm_body.specs.Translation.{translate, translate_immediates}
 use Rattle.wasm_body.specs.Naming.{Environment, NamedOperation, Occurrence, naming, named_in}
-use Rattle.wasm_body.specs.NormalForm.{Drops}
 use Rattle.wasm_body.specs.InstructionTable.{operation_of, clauses_of_try}
 use Rattle.wasm_body.specs.Parsing.Progress.{Layer, frame_of, frames_of}
 use Rattle.wasm_body.proofs.Translation.Steps.{bound}
@@ -22,7 +21,7 @@ use Rattle.walrus_body.specs.declared.local_function.body_parser.BodyParser.{Bod
 use Rattle.walrus_body.specs.Parsing.OpenFrames.{OpenFrame, changed_at}
 use Rattle.walrus_body.specs.Parsing.OpenTrees.{OpenTrees, env_of}
 use Rattle.walrus_body.specs.Parsing.Keeping.{slots}
-use Rattle.walrus_body.specs.Parsing.Advancing.{Keeps, Advances, IsCut, IsFate, IsStep}
+use Rattle.walrus_body.specs.Parsing.Advancing.{Keeps, Advances, IsFate, IsStep}
 use Rattle.walrus_body.specs.Parsing.BodyParsers.{state_with, state_of, taking, IsSameBody}
 use Rattle.walrus_body.specs.Parsing.Placing.{placing}
 use Rattle.walrus_body.proofs.Parsing.Frames.{taken, taken_alive, taken_dead}

@@ -1,5 +1,5 @@
 -- A parse that has read nothing, and the function's own type.
-use Rattle.std.specs.Prelude.{◌≡◌, ◌≤◌, ℕ, List, [], ◌∷◌, length, false, true, Bool, Option, Some, None, IsSomeAnd, Result, Ok, slice_get, get_or}
+use Rattle.std.specs.Prelude.{◌≡◌, ◌≤◌, ℕ, List, [], ◌∷◌, length, true, Option, Some, None, IsSomeAnd, Ok, slice_get, get_or}
 use Rattle.std.proofs.lemmas.List.Quantifiers.{position-Some}
 use Rattle.std.proofs.lemmas.Option.{slice_get-get_or}
 use Rattle.std.proofs.Common.{refl, ap, sym, subst, ◌∙◌, arith, reverse}
@@ -8,10 +8,9 @@ use Rattle.walrus_ir.specs.declared.val_type.InstrSeqType.TheVariants.{MultiValu
 use Rattle.walrus_ir.specs.declared.control.BlockKind.TheVariants as kind
 use Rattle.walrus_ir.specs.InstructionSequence.{empty_sequence}
 use Rattle.walrus_ir.specs.Function.{Function, empty_function, with_new_sequence}
-use Rattle.walrus_ir.specs.Types.{ModuleType, Func, Entry, Other, Signature, signature_in, signature_of, is_entry, find_entry}
+use Rattle.walrus_ir.specs.Types.{ModuleType, Func, Entry, Other, Signature, signature_of, is_entry, find_entry}
 use Rattle.walrus_ir.specs.Unfolding.{are_no_items}
 use Rattle.walrus_ir.specs.Tree.{no_items}
-use Rattle.wasm_body.specs.declared.error.ParseError.{ParseError}
 use Rattle.wasm_body.specs.declared.error.ParseError.TheVariants.{NotAFunctionType, EntryTypeMissing}
 use Rattle.walrus_ir.specs.Results.{◌>>=◌, some_or}
 use Rattle.walrus_ir.proofs.ResultLemmas.{bind_ok, some_or_ok}

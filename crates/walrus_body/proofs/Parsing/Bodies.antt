@@ -1,5 +1,5 @@
 -- A parse so far with a caller's location function and validator: what is read, and what the parser keeps of it.
-use Rattle.std.specs.Prelude.{◌≡◌, ℕ, ◌+◌, ◌-◌, ◌<◌, ◌≤◌, List, [], ◌∷◌, ◌++◌, length, Option, Some, None, Result, Ok, Err}
+use Rattle.std.specs.Prelude.{◌≡◌, ℕ, ◌+◌, ◌-◌, ◌<◌, ◌≤◌, List, [], ◌∷◌, ◌++◌, length, Option, Some, None, Ok, Err}
 use Rattle.std.specs.Borrow.{Bor}
 use Rattle.std.specs.Fn.{Shared}
 use Rattle.std.proofs.Common.{ap, sym, subst, ◌∙◌, arith}
@@ -15,7 +15,7 @@ use Rattle.wasm_body.specs.Parsing.Lists.{failure}
 use Rattle.wasm_body.specs.Parsing.Progress.{Layer, Progress, Within, Whole, NoBody, frames_of, further}
 use Rattle.walrus_body.specs.declared.local_function.body_parser.BodyParser.{BodyParser}
 use Rattle.walrus_body.specs.Parsing.Advancing.{Keeps, KeepsProgress}
-use Rattle.walrus_body.specs.Parsing.Bodies.{ParseInput, AreGiven, mapped_by, operators_parsed, IsRefusedAnyway}
+use Rattle.walrus_body.specs.Parsing.Bodies.{ParseInput, mapped_by, operators_parsed, IsRefusedAnyway}
 use Rattle.walrus_body.specs.Parsing.BodyParsers.{Begins, state_of}
 use Rattle.walrus_body.specs.Parsing.Locating.{Locates, MayAsk}
 use Rattle.walrus_body.specs.Parsing.OpenTrees.{env_of}

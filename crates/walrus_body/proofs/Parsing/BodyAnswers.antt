@@ -15,7 +15,7 @@ use Rattle.wasm_body.proofs.Parsing.Parses.{AreBytes}
 use Rattle.wasm_body.proofs.Parsing.Answers.{Answers, answers, accepted_parsed, fault_parsed}
 use Rattle.wasm_body.proofs.Parsing.ReadingBytes.{reading_agrees}
 use Rattle.walrus_body.specs.declared.local_function.parse.ParsedOperators.{ParsedOperators}
-use Rattle.walrus_body.specs.Parsing.Bodies.{ParseInput, setting_with, AreGiven, mapped_by, HoldsBody, ParsesOperators, IsRefusedAnyway, AcceptsBody, RefusesBody}
+use Rattle.walrus_body.specs.Parsing.Bodies.{ParseInput, setting_with, mapped_by, HoldsBody, ParsesOperators, IsRefusedAnyway, AcceptsBody, RefusesBody}
 use Rattle.walrus_body.specs.Parsing.Settings.{BothOrNone, locations_in}
 use Rattle.walrus_body.proofs.Parsing.AnyLocations.{any_locations}
 

@@ -1,13 +1,13 @@
 -- The normal form of a construct whose open sequence is closed, by its closed sequences.
 use Rattle.std.specs.Prelude.{◌≡◌, ℕ, List, [], ◌∷◌, ◌++◌}
 use Rattle.std.proofs.Common.{refl, sym, ap, ◌∙◌}
-use Rattle.walrus_ir.specs.Tree.{Items, no_items, item, Sequences, no_sequences, sequence}
-use Rattle.wasm_body.specs.SourceTree.{Sequence, Empty, TryCatch, TryDelegate, Clauses, Ended, Catches, CatchesAll, map_sequence, map_clauses}
-use Rattle.wasm_body.specs.FunctionTree.{Head, LegacyClause, handles, handles_all, delegates, Instruction, default_location}
+use Rattle.walrus_ir.specs.Tree.{no_items, item, Sequences, no_sequences, sequence}
+use Rattle.wasm_body.specs.SourceTree.{Sequence, Empty, TryCatch, Clauses, Ended, Catches, CatchesAll, map_sequence, map_clauses}
+use Rattle.wasm_body.specs.FunctionTree.{Head, LegacyClause, handles, handles_all, Instruction}
 use Rattle.wasm_body.specs.Naming.{NamedOperation, Occurrence}
 use Rattle.wasm_body.specs.NormalForm.{Typing, construct_type, handler_type, instruction, head, legacy_clauses, closed_at, normal, handlers, name_at}
 use Rattle.wasm_body.specs.Parsing.Progress.{ClosedClause, closed_clause, behind_closed, OpenConstruct, InWrapper, InThen, InElse, InTry, InCatch, InCatchAll, closed}
-use Rattle.walrus_body.specs.Parsing.OpenConstructs.{opener_in, clauses_behind, clauses_in, Named, sequences_joined, handlers_behind, first_clause_at, try_sequences, closed_in, type_in, added_in, sequences_closed, reshown_clause, reshown_closed, reshown_construct}
+use Rattle.walrus_body.specs.Parsing.OpenConstructs.{opener_in, clauses_behind, clauses_in, Named, sequences_joined, handlers_behind, first_clause_at, try_sequences, closed_in, added_in, sequences_closed, reshown_closed, reshown_construct}
 
 -- ---- clauses behind closed ones
 

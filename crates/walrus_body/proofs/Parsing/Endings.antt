@@ -1,11 +1,11 @@
 -- The end of a construct: what the calls of the context make of what was kept.
-use Rattle.std.proofs.Common.{arith, Bool, true, ◌≤◌, ◌≡◌, ◌≢◌, ◌⊎◌, inl, inr, ◌<◌, ◌+◌, OnOk, IfErr, Result, Ok, Err, ℕ, zero, suc, List, [], ◌∷◌, ◌++◌, length, reverse, slice_get, slice_set, Option, Some, None, IsSomeAnd, refl, sym, ap, ◌∙◌, subst}
+use Rattle.std.proofs.Common.{arith, Bool, true, ◌≤◌, ◌≡◌, ◌≢◌, ◌⊎◌, inl, inr, ◌<◌, OnOk, IfErr, Result, Ok, Err, ℕ, List, [], ◌∷◌, ◌++◌, length, reverse, slice_get, slice_set, Option, Some, None, IsSomeAnd, refl, sym, ap, ◌∙◌, subst}
 use Rattle.walrus_ir.specs.declared.seq.InstrSeq.{InstrSeq}
 use Rattle.walrus_ir.specs.declared.control.BlockKind.{BlockKind}
 use Rattle.walrus_ir.specs.declared.control.BlockKind.TheVariants as kind
 use Rattle.walrus_ir.specs.declared.val_type.InstrSeqType.{InstrSeqType}
 use Rattle.walrus_ir.specs.declared.val_type.ValType.{ValType}
-use Rattle.walrus_ir.specs.Function.{Function, with_new_sequence, with_sequence}
+use Rattle.walrus_ir.specs.Function.{with_sequence}
 use Rattle.walrus_ir.specs.InstructionSequence.{empty_sequence}
 use Rattle.walrus_ir.specs.Types.{existing}
 use Rattle.walrus_ir.specs.Unfolding.{LocatedInstr}
@@ -22,7 +22,7 @@ use Rattle.walrus_body.specs.declared.local_function.frame.IfElseState.{IfElseSt
 use Rattle.walrus_body.specs.declared.local_function.body_parser.BodyParser.{BodyParser}
 use Rattle.walrus_body.specs.Parsing.Advancing.{ParseState, Keeps, occurrence, Advances, IsStep}
 use Rattle.walrus_body.specs.Parsing.Keeping.{IsWithin, Holds}
-use Rattle.walrus_body.specs.Parsing.OpenConstructs.{kind_in, wrapper_kind}
+use Rattle.walrus_body.specs.Parsing.OpenConstructs.{wrapper_kind}
 use Rattle.walrus_body.specs.Parsing.OpenFrames.{OpenFrame, new_frame, changed_at, killed, with_instr}
 use Rattle.walrus_body.specs.Parsing.OpenTrees.{OpenTrees, Opens, EndsAt, env_of}
 use Rattle.walrus_body.specs.Parsing.BodyParsers.{AddsEmpty, AppendsIf, HasNoIf, either, if_else, state_with, taking}

@@ -1,5 +1,5 @@
 -- A construct is opened: what the calls of the context make of what was kept.
-use Rattle.std.proofs.Common.{arith, ◌+◌, reverse, ◌≡◌, ◌⊎◌, inl, inr, ◌<◌, ◌≤◌, OnOk, IfErr, ℕ, List, [], ◌∷◌, ◌++◌, length, Option, Some, None, Result, Ok, Err, IsSomeAnd, unwrap_or, refl, sym, ap, ◌∙◌, subst}
+use Rattle.std.proofs.Common.{arith, reverse, ◌≡◌, ◌⊎◌, inl, inr, ◌<◌, ◌≤◌, OnOk, IfErr, ℕ, List, [], ◌∷◌, ◌++◌, length, Option, Some, None, Result, Ok, Err, IsSomeAnd, unwrap_or, refl, sym, ap, ◌∙◌, subst}
 use Rattle.std.proofs.lemmas.List.{reverse-append}
 use Rattle.walrus_ir.specs.declared.instr.Instr.{Instr}
 use Rattle.walrus_ir.specs.declared.instr.Instr.TheVariants as instr
@@ -24,13 +24,13 @@ use Rattle.wasm_body.specs.Naming.{Occurrence, Environment, NamedOperation, name
 use Rattle.wasm_body.specs.Frames.{OfFunction}
 use Rattle.wasm_body.specs.Parsing.Progress.{Layer, frame_of, frames_of}
 use Rattle.walrus_body.specs.declared.local_function.frame.IfElseState.{IfElseState}
-use Rattle.walrus_body.specs.Parsing.OpenFrames.{OpenFrame, new_frame, changed_at, with_instr}
+use Rattle.walrus_body.specs.Parsing.OpenFrames.{new_frame, changed_at, with_instr}
 use Rattle.walrus_body.specs.Parsing.OpenTrees.{OpenTrees, Opens, OpensAs, env_of, opened_type}
 use Rattle.walrus_body.specs.Parsing.Keeping.{IsAny}
 use Rattle.walrus_body.specs.Parsing.Advancing.{Keeps, Advances, IsStep}
 use Rattle.walrus_body.proofs.Parsing.Labels.{holds_length}
 use Rattle.walrus_body.specs.Parsing.BodyParsers.{state_with}
-use Rattle.walrus_body.proofs.Parsing.Rules.{opener_named, named_opener}
+use Rattle.walrus_body.proofs.Parsing.Rules.{named_opener}
 use Rattle.walrus_body.proofs.Parsing.Steps.{steps_opened, steps_if}
 
 -- the name of an opener around which any frames are

@@ -1,17 +1,17 @@
 -- The name of each operator that opens, parts or closes a construct, or the first rule that it breaks, by what is looked up.
-use Rattle.std.specs.Prelude.{◌≡◌, ℕ, List, [], ◌∷◌, length, Option, Some, None, is_some, Bool, true, false, Result, Ok, Err}
+use Rattle.std.specs.Prelude.{◌≡◌, ℕ, List, [], ◌∷◌, is_some, Bool, true, false, Result, Ok, Err}
 use Rattle.std.proofs.Common.{refl}
-use Rattle.walrus_ir.specs.Types.{Signature, signature, pick}
+use Rattle.walrus_ir.specs.Types.{Signature, signature}
 use Rattle.wasm_ops.specs.declared.types.BlockType.{BlockType}
 use Rattle.wasm_ops.specs.declared.types.Opcode.{Opcode}
 use Rattle.wasm_ops.specs.declared.types.Opcode.TheVariants.{Byte}
 use Rattle.wasm_ops.specs.declared.types.Space.TheVariants.{Tags}
-use Rattle.wasm_ops.specs.Operations.{CatchClause, Immediate, index, outer, block, clauses, operation, RawOperation}
+use Rattle.wasm_ops.specs.Operations.{CatchClause, index, block, clauses, operation, RawOperation}
 use Rattle.wasm_body.specs.declared.error.ParseError.{ParseError}
-use Rattle.wasm_body.specs.declared.error.ParseError.TheVariants.{TypeMissing, ElseOutsideIf, CatchOutsideTry, DelegateOutsideTry}
-use Rattle.walrus_ir.specs.Results.{◌>>=◌, unless, some_or, each}
-use Rattle.wasm_body.specs.Control.{Construct, Control, Does, Opens, Action, control_of, end_operation, else_operation, catch_opcode, catch_all_operation, delegate_operation}
-use Rattle.wasm_body.specs.Frames.{Frame, else_moves, catch_moves, catch_all_moves, delegate_moves, outside}
+use Rattle.wasm_body.specs.declared.error.ParseError.TheVariants.{ElseOutsideIf, CatchOutsideTry, DelegateOutsideTry}
+use Rattle.walrus_ir.specs.Results.{◌>>=◌, unless, each}
+use Rattle.wasm_body.specs.Control.{Construct, Does, Opens, Action, control_of, end_operation, else_operation, catch_opcode, catch_all_operation, delegate_operation}
+use Rattle.wasm_body.specs.Frames.{Frame, else_moves, catch_moves, catch_all_moves, delegate_moves}
 use Rattle.wasm_body.specs.Translation.{translate, translate_clause}
 use Rattle.wasm_body.specs.Naming.{Environment, NamedOperation, Occurrence, id_at, name_block, naming, has_pick, tag_type, construct_results, open_label, named_in}
 

@@ -1,10 +1,9 @@
-use Rattle.std.proofs.Common.{◌≡◌, Ok, Err, ap, subst, ◌∙◌, arith, IfOk}
-use Rattle.wasm_body.specs.declared.error.ParseError.TheVariants.{EntryTypeMissing, NotAFunctionType}
+use Rattle.std.proofs.Common.{◌≡◌, Ok, Err, ap, subst, ◌∙◌, arith}
+use Rattle.wasm_body.specs.declared.error.ParseError.TheVariants.{EntryTypeMissing}
 use Rattle.wasm_body.specs.Naming.{Environment, entry_type_id}
 use Rattle.wasm_ops.specs.Position.{Position}
 use Rattle.walrus_ir.specs.Results.{some_or}
 use Rattle.wasm_body.proofs.Parsing.ReadingBytes.{each_byte}
-use Rattle.walrus_body.specs.Environments.{environment_of}
 use Rattle.walrus_body.specs.Parsing.Bodies.{input_of, operators_input, ParsesOperators}
 use Rattle.walrus_body.specs.Parsing.OpenTrees.{env_of}
 use Rattle.walrus_body.proofs.Parsing.Beginnings.{entry_found}

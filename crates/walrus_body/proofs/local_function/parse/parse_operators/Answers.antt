@@ -1,4 +1,4 @@
-use Rattle.std.proofs.Common.{◌≡◌, ◌<◌, ◌≤◌, ◌⊎◌, ◌++◌, ◌-◌, length, List, [], ◌∷◌, refl, rules, arith, inl, inr, sym, ap, subst, ◌∙◌, Ok}
+use Rattle.std.proofs.Common.{◌≡◌, ◌<◌, ◌≤◌, ◌++◌, ◌-◌, length, [], ◌∷◌, refl, rules, inl, inr, sym, ap, subst, ◌∙◌, Ok}
 use Rattle.wasm_ops.specs.declared.operator.Op.TheVariants.{End}
 use Rattle.wasm_ops.specs.Meaning.{meaning}
 use Rattle.wasm_body.specs.declared.error.ParseError.TheVariants.{Trailing, MissingEnd}

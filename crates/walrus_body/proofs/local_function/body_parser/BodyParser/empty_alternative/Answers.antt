@@ -1,4 +1,4 @@
-use Rattle.walrus_body.proofs.Parsing.Endings.{adds_empty, steps_if_alone}
+use Rattle.walrus_body.proofs.Parsing.Endings.{adds_empty}
 use Rattle.walrus_body.proofs.local_function.body_parser.BodyParser.empty_alternative.Goals as goal
 
 pub returns-clause-ok : goal.returns-clause-ok

@@ -1,12 +1,9 @@
-use Rattle.std.proofs.Common.{◌≡◌, inl, inr, reverse, refl, ap, ◌∙◌, List}
+use Rattle.std.proofs.Common.{inl, inr, reverse, refl, ap, ◌∙◌}
 use Rattle.wasm_body.specs.Control.{end_operation}
-use Rattle.wasm_body.specs.Naming.{Occurrence}
-use Rattle.wasm_body.specs.Parsing.Progress.{Layer}
-use Rattle.wasm_body.specs.SourceTree.{Sequence}
 use Rattle.walrus_body.specs.Parsing.OpenTrees.{OpenTrees, env_of}
 use Rattle.walrus_body.specs.Parsing.Advancing.{Advances, IsStep}
 use Rattle.walrus_body.specs.Parsing.BodyParsers.{state_of, state_with}
-use Rattle.walrus_body.proofs.Parsing.Partings.{some_open, stands_popped, pick_kept, missing}
+use Rattle.walrus_body.proofs.Parsing.Partings.{pick_kept, missing}
 use Rattle.walrus_body.proofs.Parsing.Endings.{of_layers, ends_plain, steps_else, steps_if_alone}
 use Rattle.walrus_body.proofs.local_function.body_parser.BodyParser.end_construct.Goals as goal
 

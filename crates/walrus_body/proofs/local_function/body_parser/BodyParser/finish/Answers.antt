@@ -3,7 +3,6 @@ use Rattle.walrus_ir.specs.Function.{Function}
 use Rattle.wasm_body.specs.NormalForm.{typing_of, normal_form, named_body}
 use Rattle.wasm_body.specs.TreeOfFunction.{HasTree}
 use Rattle.walrus_body.specs.Parsing.OpenTrees.{OpenTrees, env_of}
-use Rattle.walrus_body.proofs.Parsing.Partings.{stands_popped}
 use Rattle.walrus_body.proofs.Parsing.Endings.{finishes}
 use Rattle.walrus_body.proofs.local_function.body_parser.BodyParser.finish.Goals as goal
 

@@ -1,4 +1,4 @@
-use Rattle.std.proofs.Common.{◌≡◌, Some, None, inl, inr, ap, sym, ◌∙◌}
+use Rattle.std.proofs.Common.{◌≡◌, Some, inl, inr, ap, sym, ◌∙◌}
 use Rattle.walrus_ir.specs.Function.{Function}
 use Rattle.walrus_ir.specs.Types.{signature_of}
 use Rattle.wasm_body.specs.Naming.{entry_type_id}

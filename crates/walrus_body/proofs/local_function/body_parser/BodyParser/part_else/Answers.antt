@@ -1,5 +1,4 @@
-use Rattle.std.proofs.Common.{◌≡◌, None, Some, inl, inr, reverse, sym, ap, ◌∙◌, subst}
-use Rattle.walrus_ir.specs.declared.control.BlockKind.TheVariants as kind
+use Rattle.std.proofs.Common.{inl, inr, reverse, sym, subst}
 use Rattle.walrus_body.specs.Parsing.OpenTrees.{env_of}
 use Rattle.wasm_body.specs.Control.{else_operation}
 use Rattle.walrus_body.specs.Parsing.Advancing.{Advances}
