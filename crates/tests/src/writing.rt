@@ -74,3 +74,31 @@ fn writes_lists(rt: HostRuntime) -> Result<(), Fail> {
     );
     Ok(())
 }
+
+#[test]
+fn writes_control_and_calls(rt: HostRuntime) -> Result<(), Fail> {
+    let mut out = Vec::new(rt.alloc());
+    let ty = BlockType::FuncType(64);
+    write_op(&OutOp::Loop { ty }, &mut out)?;
+    let ty = BlockType::Value(RawValType::F64);
+    write_op(&OutOp::If { ty }, &mut out)?;
+    write_op(&OutOp::Else, &mut out)?;
+    write_op(&OutOp::BrIf { label: 128 }, &mut out)?;
+    let table = OutTable {
+        targets: &[0, 1],
+        default: 2,
+    };
+    write_op(&OutOp::BrTable(table), &mut out)?;
+    write_op(&OutOp::Call { func: 5 }, &mut out)?;
+    write_op(&OutOp::CallIndirect { ty: 0, table: 0 }, &mut out)?;
+    write_op(&OutOp::CallIndirect { ty: 3, table: 1 }, &mut out)?;
+    assert_eq!(rt;
+        out.as_slice(),
+        [
+            0x03, 0xc0, 0x00, 0x04, 0x7c, 0x05, 0x0d, 0x80, 0x01, 0x0e, 0x02, 0x00, 0x01, 0x02,
+            0x10, 0x05, 0x11, 0x00, 0x00, 0x11, 0x03, 0x01,
+        ]
+        .as_slice()
+    );
+    Ok(())
+}

@@ -82,70 +82,9 @@ wait_opcode true = Prefixed 0xfe 2
 
 -- ---- the table
 
--- structs, arrays and references
-abbrev pub reference_operation : Instr → PlacedOperation
-reference_operation (instr.RefNull x) = operation (Byte 0xd0) (heap x.ty.heap_type ∷ [])
-reference_operation instr.RefIsNull = operation (Byte 0xd1) []
-reference_operation (instr.RefFunc x) = operation (Byte 0xd2) (index Funcs x.func ∷ [])
-reference_operation instr.RefEq = operation (Byte 0xd3) []
-reference_operation instr.RefAsNonNull = operation (Byte 0xd4) []
-reference_operation (instr.StructNew x) = operation (Prefixed 0xfb 0) (index Types x.ty ∷ [])
-reference_operation (instr.StructNewDefault x) = operation (Prefixed 0xfb 1) (index Types x.ty ∷ [])
-reference_operation (instr.StructGet x) = operation (Prefixed 0xfb 2) (index Types x.ty ∷ number x.field ∷ [])
-reference_operation (instr.StructGetS x) = operation (Prefixed 0xfb 3) (index Types x.ty ∷ number x.field ∷ [])
-reference_operation (instr.StructGetU x) = operation (Prefixed 0xfb 4) (index Types x.ty ∷ number x.field ∷ [])
-reference_operation (instr.StructSet x) = operation (Prefixed 0xfb 5) (index Types x.ty ∷ number x.field ∷ [])
-reference_operation (instr.ArrayNew x) = operation (Prefixed 0xfb 6) (index Types x.ty ∷ [])
-reference_operation (instr.ArrayNewDefault x) = operation (Prefixed 0xfb 7) (index Types x.ty ∷ [])
-reference_operation (instr.ArrayNewFixed x) = operation (Prefixed 0xfb 8) (index Types x.ty ∷ number x.len ∷ [])
-reference_operation (instr.ArrayNewData x) = operation (Prefixed 0xfb 9) (index Types x.ty ∷ index Data x.data_id ∷ [])
-reference_operation (instr.ArrayNewElem x) = operation (Prefixed 0xfb 10) (index Types x.ty ∷ index Elements x.elem ∷ [])
-reference_operation (instr.ArrayGet x) = operation (Prefixed 0xfb 11) (index Types x.ty ∷ [])
-reference_operation (instr.ArrayGetS x) = operation (Prefixed 0xfb 12) (index Types x.ty ∷ [])
-reference_operation (instr.ArrayGetU x) = operation (Prefixed 0xfb 13) (index Types x.ty ∷ [])
-reference_operation (instr.ArraySet x) = operation (Prefixed 0xfb 14) (index Types x.ty ∷ [])
-reference_operation instr.ArrayLen = operation (Prefixed 0xfb 15) []
-reference_operation (instr.ArrayFill x) = operation (Prefixed 0xfb 16) (index Types x.ty ∷ [])
-reference_operation (instr.ArrayCopy x) = operation (Prefixed 0xfb 17) (index Types x.dst_ty ∷ index Types x.src_ty ∷ [])
-reference_operation (instr.ArrayInitData x) = operation (Prefixed 0xfb 18) (index Types x.ty ∷ index Data x.data_id ∷ [])
-reference_operation (instr.ArrayInitElem x) = operation (Prefixed 0xfb 19) (index Types x.ty ∷ index Elements x.elem ∷ [])
-reference_operation (instr.RefTest x) = operation (by_null x.nullable 20 21) (heap x.heap_type ∷ [])
-reference_operation (instr.RefCast x) = operation (by_null x.nullable 22 23) (heap x.heap_type ∷ [])
-reference_operation instr.AnyConvertExtern = operation (Prefixed 0xfb 26) []
-reference_operation instr.ExternConvertAny = operation (Prefixed 0xfb 27) []
-reference_operation instr.RefI31 = operation (Prefixed 0xfb 28) []
-reference_operation instr.I31GetS = operation (Prefixed 0xfb 29) []
-reference_operation instr.I31GetU = operation (Prefixed 0xfb 30) []
-reference_operation _ = operation (Byte 0x00) []  -- the others have their rows below
-
--- memories and tables
-abbrev pub storage_operation : Instr → PlacedOperation
-storage_operation (instr.Load x) = load_operation x.kind (access_at x.memory x.arg)
-storage_operation (instr.Store x) = store_operation x.kind (access_at x.memory x.arg)
-storage_operation (instr.LoadSimd x) = operation (vector_access_opcode x.kind) (access (access_at x.memory x.arg) ∷ lane_of x.kind)
-storage_operation (instr.AtomicRmw x) = operation (atomic_opcode x.op x.width) (access (access_at x.memory x.arg) ∷ [])
-storage_operation (instr.Cmpxchg x) = operation (cmpxchg_opcode x.width) (access (access_at x.memory x.arg) ∷ [])
-storage_operation (instr.AtomicNotify x) = operation (Prefixed 0xfe 0) (access (access_at x.memory x.arg) ∷ [])
-storage_operation (instr.AtomicWait x) = operation (wait_opcode x.sixty_four) (access (access_at x.memory x.arg) ∷ [])
-storage_operation instr.AtomicFence = operation (Prefixed 0xfe 3) (zero_byte ∷ [])
-storage_operation (instr.MemorySize x) = operation (Byte 0x3f) (index Memories x.memory ∷ [])
-storage_operation (instr.MemoryGrow x) = operation (Byte 0x40) (index Memories x.memory ∷ [])
-storage_operation (instr.MemoryInit x) = operation (Prefixed 0xfc 8) (index Data x.data_id ∷ index Memories x.memory ∷ [])
-storage_operation (instr.DataDrop x) = operation (Prefixed 0xfc 9) (index Data x.data_id ∷ [])
-storage_operation (instr.MemoryCopy x) = operation (Prefixed 0xfc 10) (index Memories x.dst ∷ index Memories x.src ∷ [])
-storage_operation (instr.MemoryFill x) = operation (Prefixed 0xfc 11) (index Memories x.memory ∷ [])
-storage_operation (instr.TableGet x) = operation (Byte 0x25) (index Tables x.table ∷ [])
-storage_operation (instr.TableSet x) = operation (Byte 0x26) (index Tables x.table ∷ [])
-storage_operation (instr.TableInit x) = operation (Prefixed 0xfc 12) (index Elements x.elem ∷ index Tables x.table ∷ [])
-storage_operation (instr.ElemDrop x) = operation (Prefixed 0xfc 13) (index Elements x.elem ∷ [])
-storage_operation (instr.TableCopy x) = operation (Prefixed 0xfc 14) (index Tables x.dst ∷ index Tables x.src ∷ [])
-storage_operation (instr.TableGrow x) = operation (Prefixed 0xfc 15) (index Tables x.table ∷ [])
-storage_operation (instr.TableSize x) = operation (Prefixed 0xfc 16) (index Tables x.table ∷ [])
-storage_operation (instr.TableFill x) = operation (Prefixed 0xfc 17) (index Tables x.table ∷ [])
-storage_operation i = reference_operation i
-
--- control, calls, operands, locals, globals and vectors
+-- a row an instruction
 abbrev pub operation_of : Instr → PlacedOperation
+-- control, calls, operands, locals, globals and vectors
 operation_of instr.Unreachable = operation (Byte 0x00) []
 operation_of (instr.Block x) = operation (Byte 0x02) (block_immediate ∷ [])
 operation_of (instr.Loop x) = operation (Byte 0x03) (block_immediate ∷ [])
@@ -188,7 +127,62 @@ operation_of instr.I64Add128 = operation (Prefixed 0xfc 19) []
 operation_of instr.I64Sub128 = operation (Prefixed 0xfc 20) []
 operation_of instr.I64MulWideS = operation (Prefixed 0xfc 21) []
 operation_of instr.I64MulWideU = operation (Prefixed 0xfc 22) []
-operation_of i = storage_operation i
+-- memories and tables
+operation_of (instr.Load x) = load_operation x.kind (access_at x.memory x.arg)
+operation_of (instr.Store x) = store_operation x.kind (access_at x.memory x.arg)
+operation_of (instr.LoadSimd x) = operation (vector_access_opcode x.kind) (access (access_at x.memory x.arg) ∷ lane_of x.kind)
+operation_of (instr.AtomicRmw x) = operation (atomic_opcode x.op x.width) (access (access_at x.memory x.arg) ∷ [])
+operation_of (instr.Cmpxchg x) = operation (cmpxchg_opcode x.width) (access (access_at x.memory x.arg) ∷ [])
+operation_of (instr.AtomicNotify x) = operation (Prefixed 0xfe 0) (access (access_at x.memory x.arg) ∷ [])
+operation_of (instr.AtomicWait x) = operation (wait_opcode x.sixty_four) (access (access_at x.memory x.arg) ∷ [])
+operation_of instr.AtomicFence = operation (Prefixed 0xfe 3) (zero_byte ∷ [])
+operation_of (instr.MemorySize x) = operation (Byte 0x3f) (index Memories x.memory ∷ [])
+operation_of (instr.MemoryGrow x) = operation (Byte 0x40) (index Memories x.memory ∷ [])
+operation_of (instr.MemoryInit x) = operation (Prefixed 0xfc 8) (index Data x.data_id ∷ index Memories x.memory ∷ [])
+operation_of (instr.DataDrop x) = operation (Prefixed 0xfc 9) (index Data x.data_id ∷ [])
+operation_of (instr.MemoryCopy x) = operation (Prefixed 0xfc 10) (index Memories x.dst ∷ index Memories x.src ∷ [])
+operation_of (instr.MemoryFill x) = operation (Prefixed 0xfc 11) (index Memories x.memory ∷ [])
+operation_of (instr.TableGet x) = operation (Byte 0x25) (index Tables x.table ∷ [])
+operation_of (instr.TableSet x) = operation (Byte 0x26) (index Tables x.table ∷ [])
+operation_of (instr.TableInit x) = operation (Prefixed 0xfc 12) (index Elements x.elem ∷ index Tables x.table ∷ [])
+operation_of (instr.ElemDrop x) = operation (Prefixed 0xfc 13) (index Elements x.elem ∷ [])
+operation_of (instr.TableCopy x) = operation (Prefixed 0xfc 14) (index Tables x.dst ∷ index Tables x.src ∷ [])
+operation_of (instr.TableGrow x) = operation (Prefixed 0xfc 15) (index Tables x.table ∷ [])
+operation_of (instr.TableSize x) = operation (Prefixed 0xfc 16) (index Tables x.table ∷ [])
+operation_of (instr.TableFill x) = operation (Prefixed 0xfc 17) (index Tables x.table ∷ [])
+-- structs, arrays and references
+operation_of (instr.RefNull x) = operation (Byte 0xd0) (heap x.ty.heap_type ∷ [])
+operation_of instr.RefIsNull = operation (Byte 0xd1) []
+operation_of (instr.RefFunc x) = operation (Byte 0xd2) (index Funcs x.func ∷ [])
+operation_of instr.RefEq = operation (Byte 0xd3) []
+operation_of instr.RefAsNonNull = operation (Byte 0xd4) []
+operation_of (instr.StructNew x) = operation (Prefixed 0xfb 0) (index Types x.ty ∷ [])
+operation_of (instr.StructNewDefault x) = operation (Prefixed 0xfb 1) (index Types x.ty ∷ [])
+operation_of (instr.StructGet x) = operation (Prefixed 0xfb 2) (index Types x.ty ∷ number x.field ∷ [])
+operation_of (instr.StructGetS x) = operation (Prefixed 0xfb 3) (index Types x.ty ∷ number x.field ∷ [])
+operation_of (instr.StructGetU x) = operation (Prefixed 0xfb 4) (index Types x.ty ∷ number x.field ∷ [])
+operation_of (instr.StructSet x) = operation (Prefixed 0xfb 5) (index Types x.ty ∷ number x.field ∷ [])
+operation_of (instr.ArrayNew x) = operation (Prefixed 0xfb 6) (index Types x.ty ∷ [])
+operation_of (instr.ArrayNewDefault x) = operation (Prefixed 0xfb 7) (index Types x.ty ∷ [])
+operation_of (instr.ArrayNewFixed x) = operation (Prefixed 0xfb 8) (index Types x.ty ∷ number x.len ∷ [])
+operation_of (instr.ArrayNewData x) = operation (Prefixed 0xfb 9) (index Types x.ty ∷ index Data x.data_id ∷ [])
+operation_of (instr.ArrayNewElem x) = operation (Prefixed 0xfb 10) (index Types x.ty ∷ index Elements x.elem ∷ [])
+operation_of (instr.ArrayGet x) = operation (Prefixed 0xfb 11) (index Types x.ty ∷ [])
+operation_of (instr.ArrayGetS x) = operation (Prefixed 0xfb 12) (index Types x.ty ∷ [])
+operation_of (instr.ArrayGetU x) = operation (Prefixed 0xfb 13) (index Types x.ty ∷ [])
+operation_of (instr.ArraySet x) = operation (Prefixed 0xfb 14) (index Types x.ty ∷ [])
+operation_of instr.ArrayLen = operation (Prefixed 0xfb 15) []
+operation_of (instr.ArrayFill x) = operation (Prefixed 0xfb 16) (index Types x.ty ∷ [])
+operation_of (instr.ArrayCopy x) = operation (Prefixed 0xfb 17) (index Types x.dst_ty ∷ index Types x.src_ty ∷ [])
+operation_of (instr.ArrayInitData x) = operation (Prefixed 0xfb 18) (index Types x.ty ∷ index Data x.data_id ∷ [])
+operation_of (instr.ArrayInitElem x) = operation (Prefixed 0xfb 19) (index Types x.ty ∷ index Elements x.elem ∷ [])
+operation_of (instr.RefTest x) = operation (by_null x.nullable 20 21) (heap x.heap_type ∷ [])
+operation_of (instr.RefCast x) = operation (by_null x.nullable 22 23) (heap x.heap_type ∷ [])
+operation_of instr.AnyConvertExtern = operation (Prefixed 0xfb 26) []
+operation_of instr.ExternConvertAny = operation (Prefixed 0xfb 27) []
+operation_of instr.RefI31 = operation (Prefixed 0xfb 28) []
+operation_of instr.I31GetS = operation (Prefixed 0xfb 29) []
+operation_of instr.I31GetU = operation (Prefixed 0xfb 30) []
 
 -- ---- the clauses of a legacy `try`
 

@@ -3,11 +3,13 @@
 
 mod encoder;
 mod immediates;
+mod law;
 mod number;
 mod operation;
 mod out_operator;
 mod type_writer;
 
 pub use encoder::FunctionEncoder;
+pub use law::law_written;
 pub use operation::write_op;
 pub use out_operator::{OutClauses, OutOp, OutTable};

@@ -1,8 +1,8 @@
 -- The shortest spelling is a spelling of what fits.
-use Rattle.std.proofs.Common.{◌≡◌, ℕ, zero, suc, ◌+◌, ◌*◌, ◌/◌, ◌%◌, ◌^◌, ◌<◌, ◌≤◌, Bool, true, false, eqb, leb, cond, List, [], ◌∷◌, ◌++◌, map, length, Option, Some, None, Ok, refl, sym, ap, subst, ◌∙◌, arith, rules, inl, inr, ◌⊎◌, ℤ, pos, negsuc}
-use Rattle.std.proofs.lemmas.Bool.{eqb-true, lt-leb, le-leb, cases_lt, le-ltb, lt-ltb}
-use Rattle.std.proofs.Math.Pow.{pow_mono}
+use Rattle.std.proofs.Common.{◌≡◌, ℕ, zero, suc, ◌+◌, ◌*◌, ◌/◌, ◌%◌, ◌^◌, ◌<◌, ◌≤◌, Bool, true, false, eqb, List, [], ◌∷◌, ◌++◌, map, length, append_assoc, Option, Some, None, Ok, refl, sym, ap, subst, ◌∙◌, arith, rules, inl, inr, ℤ, pos, negsuc}
+use Rattle.std.proofs.lemmas.Bool.{eqb-true, lt-leb, cases_lt}
 use Rattle.std.proofs.lemmas.Nat.{pow-add}
+use Rattle.std.specs.List.{AllByRecursion, flat_map}
 use Rattle.walrus_ir.specs.declared.val_type.ValType.{ValType}
 use Rattle.walrus_ir.specs.declared.val_type.ValType.TheVariants.{I32, I64, F32, F64, V128, Ref}
 use Rattle.wasm_ops.specs.declared.types.BlockType.{BlockType}
@@ -27,14 +27,14 @@ use Rattle.wasm_ops.specs.BinaryOperations.{binary_opcode, replace_lane}
 use Rattle.wasm_ops.specs.TernaryOperations.{ternary_opcode}
 use Rattle.wasm_ops.specs.AccessOperations.{load_opcode, store_opcode}
 use Rattle.wasm_ops.specs.Reading.{Many}
-use Rattle.wasm_ops.specs.Numbers.{IsInteger, unsigned, signed, IsU32, IsU64, IsS32, IsS33, IsS64, IsByte, joined, AreBits}
+use Rattle.wasm_ops.specs.Numbers.{IsU32, IsU64, IsS32, IsS33, IsS64, IsByte, joined, AreBits}
 use Rattle.wasm_ops.specs.Types.{row_at, value_at, nullable_at, IsValueType, IsBlockType}
-use Rattle.wasm_ops.specs.Operations.{Access, RawImmediate, index, local, label, handler, outer, number, access, branch_table, clauses, block, heap, value, cast, i32, i64, f32, f64, v128, lane, lanes, zero_byte, RawOperation}
-use Rattle.wasm_ops.specs.Immediates.{Kind, an_access, kind_of, IsAccess, IsSelected, SpellsImmediate, SpellsImmediates}
+use Rattle.wasm_ops.specs.Operations.{Access, CatchClause, RawImmediate, index, local, label, handler, outer, number, access, branch_table, clauses, block, value, i32, i64, f32, f64, v128, lane, zero_byte, RawOperation}
+use Rattle.wasm_ops.specs.Immediates.{Kind, an_access, kind_of, IsAccess, IsTable, IsClause, AreClauses, IsSelected, SpellsImmediate, SpellsImmediates}
 use Rattle.wasm_ops.specs.Opcodes.{bulk_rows, is_prefix, kinds_of_byte, kinds_behind, kinds_of, IsOpcode}
 use Rattle.wasm_ops.specs.Spelling.{Spells}
-use Rattle.wasm_ops.specs.Shortest.{short_number, short_integer, short_signed, short_unsigned, short_bits, short_value, short_block, short_access, short_immediate, short_immediates, short_opcode, short}
-use Rattle.wasm_ops.specs.Fitting.{IsSpeltType, IsWithin, FitsBlock, Fits, AllFit}
+use Rattle.wasm_ops.specs.Shortest.{short_number, short_integer, short_bits, short_value, short_block, short_access, short_table, short_tag, short_clause, short_clauses, short_immediate, short_immediates, short_opcode, short}
+use Rattle.wasm_ops.specs.Fitting.{IsSpeltType, IsWithin, FitsBlock, FitsTag, FitsLabel, FitsClause, Fits, AllFit, HasRow}
 use Rattle.wasm_ops.proofs.Agreement.{chosen}
 use Rattle.wasm_ops.proofs.ShortestNumbers.{unsigned_spelt, signed_spelt}
 use Rattle.wasm_ops.proofs.ShortestTypes.{row_holds, index_starts, empty_between, value_between}
@@ -111,6 +111,59 @@ access_spelt a h =
       | inr e ↦ subst (IsAccess a) (sym (short_indexed a e)) (indexed_access a _ _ _ small (u32_spelt (a.alignment + 64) (omega arith)) (u32_spelt a.memory h.1) (u64_spelt a.offset h.2))
     ]
 
+-- ---- lists behind a count
+
+many_spelt : {A : Type 0} (One : A → List ℕ → Type 0) (short : A → List ℕ) (P : A → Type 0) → ((v : A) → P v → One v (short v))
+    → (vs : List A) → AllByRecursion P vs → Many One (length vs) vs (flat_map short vs)
+many_spelt One short P one [] h = refl
+many_spelt One short P one (v ∷ vs) h = (short v, flat_map short vs, refl, one v h.0, many_spelt One short P one vs h.1)
+
+table_spelt : (targets : List ℕ) (default : ℕ) → Fits (branch_table targets default) → IsTable (targets, default) (short_table targets default)
+unfolding short_table
+table_spelt targets default h =
+    let count = short_number (length targets) in
+    let labels = flat_map short_number targets in
+    let last = short_number default in
+    let spelt = many_spelt IsU32 short_number FitsLabel u32_spelt targets h.1 in (
+      (length targets, (targets, default)),
+      refl,
+      (count, labels ++ last, append_assoc count labels last, u32_spelt (length targets) h.0, (labels, last, refl, spelt, u32_spelt default h.2)),
+    )
+
+clause_spelt : (c : CatchClause ℕ) → FitsClause c → IsClause c (short_clause c)
+clause_spelt c h = by_kind c.by_reference c.tag c.label h.0 h.1
+  where
+    by_kind : (by_reference : Bool) (tag : Option ℕ) (l : ℕ) → FitsTag tag → FitsLabel l
+        → IsClause (record { by_reference = by_reference; tag = tag; label = l }) (short_tag by_reference tag ++ short_number l)
+    by_kind false (Some n) l t h = (
+      ((true, false), (Some n, l)),
+      refl,
+      (0 ∷ [], short_number n ++ short_number l, refl, (0, refl, (omega arith, refl)), (short_number n, short_number l, refl, (n, refl, u32_spelt n t), u32_spelt l h)),
+    )
+    by_kind true (Some n) l t h = (
+      ((true, true), (Some n, l)),
+      refl,
+      (1 ∷ [], short_number n ++ short_number l, refl, (1, refl, (omega arith, refl)), (short_number n, short_number l, refl, (n, refl, u32_spelt n t), u32_spelt l h)),
+    )
+    by_kind false None l t h = (
+      ((false, false), (None, l)),
+      refl,
+      (2 ∷ [], short_number l, refl, (2, refl, (omega arith, refl)), ([], short_number l, refl, (refl, refl), u32_spelt l h)),
+    )
+    by_kind true None l t h = (
+      ((false, true), (None, l)),
+      refl,
+      (3 ∷ [], short_number l, refl, (3, refl, (omega arith, refl)), ([], short_number l, refl, (refl, refl), u32_spelt l h)),
+    )
+
+clauses_spelt : (cs : List (CatchClause ℕ)) → Fits (clauses cs) → AreClauses cs (short_clauses cs)
+unfolding short_clauses
+clauses_spelt cs h = (
+  (length cs, cs),
+  refl,
+  (short_number (length cs), flat_map short_clause cs, refl, u32_spelt (length cs) h.0, many_spelt IsClause short_clause FitsClause clause_spelt cs h.1),
+)
+
 -- ---- immediates
 
 immediate_spelt : (i : RawImmediate) → Fits i → SpellsImmediate i (short_immediate i)
@@ -121,6 +174,8 @@ immediate_spelt (handler depth) h = u32_spelt depth h
 immediate_spelt (outer depth) h = u32_spelt depth h
 immediate_spelt (number n) h = u32_spelt n h
 immediate_spelt (access a) h = access_spelt a h
+immediate_spelt (branch_table targets default) h = table_spelt targets default h
+immediate_spelt (clauses cs) h = clauses_spelt cs h
 immediate_spelt (block type) h = block_spelt type h
 immediate_spelt (value type) h = selected_spelt type h
 immediate_spelt (i32 z) h = s32_spelt z h
@@ -181,7 +236,7 @@ opcode_spelt (Prefixed prefix n) ks e = let h = behind prefix n ks e in (h.0, h.
 
 -- ---- operators
 
-pub spelt : (o : RawOperation) → kinds_of o.opcode ≡ Some (map kind_of o.immediates) → AllFit o.immediates → Spells o (short o)
+spelt : (o : RawOperation) → kinds_of o.opcode ≡ Some (map kind_of o.immediates) → AllFit o.immediates → Spells o (short o)
 spelt o kinds fits = record {
   first = short_opcode o.opcode;
   others = short_immediates o.immediates;
@@ -249,9 +304,8 @@ kinds_of_store (store.I64_32 true) ks e = cc
 kinds_of_store (store.I64_32 false) ks e = cc
 
 -- what follows an opcode of the code is what its row says
-pub kinds_right : (op : Listed) (ks : List Kind) → kinds_of (meaning op).opcode ≡ Some ks → kinds_of (meaning op).opcode ≡ Some (map kind_of (meaning op).immediates)
+kinds_right : (op : Listed) (ks : List Kind) → kinds_of (meaning op).opcode ≡ Some ks → kinds_of (meaning op).opcode ≡ Some (map kind_of (meaning op).immediates)
 unfolding kinds_of_byte kinds_behind
-kinds_right (operator.BrTable t) ks e = cc
 kinds_right (operator.TryTable type catches) ks e = cc
 kinds_right (operator.Unop op) ks e = kinds_of_unary op ks e
 kinds_right (operator.Binop op) ks e = kinds_of_binary op ks e
@@ -259,3 +313,7 @@ kinds_right (operator.TernOp op) ks e = kinds_of_ternary op ks e
 kinds_right (operator.Load kind memarg) ks e = kinds_of_load kind ks e
 kinds_right (operator.Store kind memarg) ks e = kinds_of_store kind ks e
 kinds_right _ ks e = refl
+
+-- so of an operator of the code whose opcode has a row, and whose numbers fit, the shortest spelling is a spelling
+pub written : (op : Listed) → HasRow (meaning op) → AllFit (meaning op).immediates → Spells (meaning op) (short (meaning op))
+written op row fits = spelt (meaning op) (kinds_right op row.0 row.1) fits

@@ -1,12 +1,13 @@
 -- Which operators have a spelling, as far as their immediates say.
-use Rattle.std.specs.Prelude.{◌≡◌, ℕ, ◌^◌, ◌<◌, List, [], ◌∷◌, map, Some, ℤ, pos, negsuc}
+use Rattle.std.specs.Prelude.{◌≡◌, ℕ, ◌^◌, ◌<◌, List, [], ◌∷◌, length, map, Option, Some, None, ℤ, pos, negsuc}
+use Rattle.std.specs.List.{AllByRecursion}
 use Rattle.walrus_ir.specs.declared.val_type.ValType.{ValType}
 use Rattle.walrus_ir.specs.declared.val_type.ValType.TheVariants.{Ref}
 use Rattle.wasm_ops.specs.declared.types.BlockType.{BlockType}
 use Rattle.wasm_ops.specs.declared.types.BlockType.TheVariants.{Empty, Value, FuncType}
 use Rattle.wasm_ops.specs.Immediates.{Kind}
 use Rattle.wasm_ops.specs.Opcodes.{kinds_of}
-use Rattle.wasm_ops.specs.Operations.{RawImmediate, RawOperation, index, local, label, handler, outer, number, branch_table, clauses, access, block, value, i32, i64, f32, f64, v128, lane, zero_byte}
+use Rattle.wasm_ops.specs.Operations.{CatchClause, RawImmediate, RawOperation, index, local, label, handler, outer, number, branch_table, clauses, access, block, value, i32, i64, f32, f64, v128, lane, zero_byte}
 
 -- no reference is spelt yet
 abbrev pub IsSpeltType : ValType ℕ → Type 0
@@ -22,8 +23,8 @@ abbrev pub IsSpeakable : RawImmediate → Type 0
 IsSpeakable (access a) = a.alignment < 32
 IsSpeakable (block type) = IsSpeltBlock type
 IsSpeakable (value type) = IsSpeltType type
-IsSpeakable (branch_table targets default) = ⊥
-IsSpeakable (clauses cs) = ⊥
+IsSpeakable (branch_table targets default) = length targets < 2 ^ 32
+IsSpeakable (clauses cs) = length cs < 2 ^ 32
 IsSpeakable _ = Unit {0}
 
 abbrev pub AreSpeakable : List RawImmediate → Type 0
@@ -45,7 +46,17 @@ FitsBlock Empty = Unit {0}
 FitsBlock (Value type) = IsSpeltType type
 FitsBlock (FuncType n) = n < 2 ^ 32
 
--- The lists, heap types and casts are not carried yet.
+abbrev pub FitsTag : Option ℕ → Type 0
+FitsTag None = Unit {0}
+FitsTag (Some n) = n < 2 ^ 32
+
+abbrev pub FitsClause : CatchClause ℕ → Type 0
+FitsClause c = FitsTag c.tag × (c.label < 2 ^ 32)
+
+abbrev pub FitsLabel : ℕ → Type 0
+FitsLabel l = l < 2 ^ 32
+
+-- Heap types, casts and the lanes of a shuffle are not carried yet.
 abbrev pub Fits : RawImmediate → Type 0
 Fits (index space n) = n < 2 ^ 32
 Fits (local n) = n < 2 ^ 32
@@ -53,6 +64,9 @@ Fits (label l) = l < 2 ^ 32
 Fits (handler depth) = depth < 2 ^ 32
 Fits (outer depth) = depth < 2 ^ 32
 Fits (number n) = n < 2 ^ 32
+Fits (branch_table targets default) =
+    (length targets < 2 ^ 32) × AllByRecursion FitsLabel targets × FitsLabel default
+Fits (clauses cs) = (length cs < 2 ^ 32) × AllByRecursion FitsClause cs
 Fits (access a) = (a.alignment < 32) × (a.memory < 2 ^ 32) × (a.offset < 2 ^ 64)
 Fits (block type) = FitsBlock type
 Fits (value type) = IsSpeltType type

@@ -3,7 +3,7 @@ use Rattle.std.specs.Prelude.{ℕ, List, [], ◌∷◌}
 use Rattle.wasm_ops.specs.declared.operator.Op.{Op}
 use Rattle.wasm_ops.specs.declared.operator.Op.TheVariants as operator
 use Rattle.wasm_ops.specs.declared.types.Opcode.TheVariants.{Byte, Prefixed}
-use Rattle.wasm_ops.specs.declared.types.Space.TheVariants.{Tables, Globals, Memories, Elements, Data}
+use Rattle.wasm_ops.specs.declared.types.Space.TheVariants.{Tables, Types, Funcs, Globals, Memories, Elements, Data}
 use Rattle.wasm_ops.specs.Operations.{CatchClause, index, label, branch_table, clauses, block, value, i32, i64, f32, f64, RawOperation, operation}
 use Rattle.wasm_ops.specs.Immediates.{Table}
 use Rattle.wasm_ops.specs.UnaryOperations.{unary_operation}
@@ -20,10 +20,16 @@ abbrev pub meaning : Listed → RawOperation
 meaning operator.Unreachable = operation (Byte 0x00) []
 meaning operator.Nop = operation (Byte 0x01) []
 meaning (operator.Block type) = operation (Byte 0x02) (block type ∷ [])
+meaning (operator.Loop type) = operation (Byte 0x03) (block type ∷ [])
+meaning (operator.If type) = operation (Byte 0x04) (block type ∷ [])
+meaning operator.Else = operation (Byte 0x05) []
 meaning operator.End = operation (Byte 0x0b) []
 meaning (operator.Br depth) = operation (Byte 0x0c) (label depth ∷ [])
+meaning (operator.BrIf depth) = operation (Byte 0x0d) (label depth ∷ [])
 meaning (operator.BrTable t) = operation (Byte 0x0e) (branch_table t.0 t.1 ∷ [])
 meaning operator.Return = operation (Byte 0x0f) []
+meaning (operator.Call func) = operation (Byte 0x10) (index Funcs func ∷ [])
+meaning (operator.CallIndirect type table) = operation (Byte 0x11) (index Types type ∷ index Tables table ∷ [])
 meaning operator.Drop = operation (Byte 0x1a) []
 meaning operator.Select = operation (Byte 0x1b) []
 meaning (operator.TypedSelect type) = operation (Byte 0x1c) (value type ∷ [])

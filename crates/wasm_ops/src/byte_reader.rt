@@ -6,14 +6,45 @@ ghost use Rattle.wasm_ops.specs.Spelling.{operands};
 ghost use Rattle.wasm_ops.specs.Meaning.{meaning};
 
 use crate::access_reader::{load_kind, read_memarg, store_kind};
+use crate::branch_table::read_table;
 use crate::fault::ReadFault;
 use crate::index_rows;
 use crate::number::{read_f32, read_f64, read_s32, read_s64, read_u32};
 use crate::numeric_reader::{comparison, conversion, float_arithmetic, integer_arithmetic};
 use crate::operator::Operator;
-use crate::row::made;
+use crate::row::{made, read_indices, read_pair};
 use crate::type_reader::{read_block_type, read_selected};
 use crate::types::Opcode;
+
+/// Reads the operator of control that has the byte: calls, and others.
+macro_rules! read_control_byte {
+    (
+        ($byte:ident $bytes:ident)
+        (Byte) {
+            $($row:literal $name:ident { $($field:ident $id:ident $space:ident),* })*
+        }
+        $($others:tt)*
+    ) => {
+        match $byte {
+            0x00 => Ok((Operator::Unreachable, $bytes)),
+            0x01 => Ok((Operator::Nop, $bytes)),
+            0x02 => made!(read_block_type($bytes), ty => Operator::Block { ty }),
+            0x03 => made!(read_block_type($bytes), ty => Operator::Loop { ty }),
+            0x04 => made!(read_block_type($bytes), ty => Operator::If { ty }),
+            0x05 => Ok((Operator::Else, $bytes)),
+            0x0b => Ok((Operator::End, $bytes)),
+            0x0c => made!(read_u32($bytes), label => Operator::Br { label }),
+            0x0d => made!(read_u32($bytes), label => Operator::BrIf { label }),
+            0x0e => made!(read_table($bytes), table => Operator::BrTable(table)),
+            0x0f => Ok((Operator::Return, $bytes)),
+            $($row => read_indices!($bytes $name $($field)*),)*
+            0x1a => Ok((Operator::Drop, $bytes)),
+            0x1b => Ok((Operator::Select, $bytes)),
+            0x1c => made!(read_selected($bytes), ty => Operator::TypedSelect { ty }),
+            _ => Err(ReadFault::UnknownOperator),
+        }
+    };
+}
 
 /// What follows an opcode from 0x00 to 0x1f.
 #[tactic(auto, unfolding(crate::specs::Opcodes::kinds_of_byte))]
@@ -21,24 +52,14 @@ fn read_control(byte: u8, bytes: &[u8]) -> Result<(Operator<'_>, &[u8]), ReadFau
     requires { byte ≤ 0x1f }
     ensures { Gives (λ x. (meaning x.0, x.1.now)) result (operands (Opcode.Byte byte) bytes.now) }
 {
-    match byte {
-        0x00 => Ok((Operator::Unreachable, bytes)),
-        0x01 => Ok((Operator::Nop, bytes)),
-        0x02 => made!(read_block_type(bytes), ty => Operator::Block { ty }),
-        0x0b => Ok((Operator::End, bytes)),
-        0x0c => made!(read_u32(bytes), label => Operator::Br { label }),
-        0x0f => Ok((Operator::Return, bytes)),
-        0x1a => Ok((Operator::Drop, bytes)),
-        0x1b => Ok((Operator::Select, bytes)),
-        0x1c => made!(read_selected(bytes), ty => Operator::TypedSelect { ty }),
-        _ => Err(ReadFault::UnknownOperator),
-    }
+    index_rows!(read_control_byte, byte bytes)
 }
 
 /// Reads the operator that has the byte, on globals and tables.
 macro_rules! read_variable_byte {
     (
         ($byte:ident $bytes:ident)
+        $calls:tt $call_rows:tt
         (Byte) { $($row:literal $name:ident { $field:ident $id:ident $space:ident })* }
         $($others:tt)*
     ) => {
@@ -87,6 +108,7 @@ fn read_store(byte: u8, bytes: &[u8]) -> Result<(Operator<'_>, &[u8]), ReadFault
 macro_rules! read_constant_byte {
     (
         ($byte:ident $bytes:ident)
+        $calls:tt $call_rows:tt
         $variables:tt $variable_rows:tt
         (Byte) { $($row:literal $name:ident { $field:ident $id:ident $space:ident })* }
         $($others:tt)*

@@ -2,8 +2,6 @@
 
 ghost use Rattle.std.specs.Prelude.{◌≡◌, true};
 ghost use Rattle.wasm_ops.specs.Meaning.{meaning};
-ghost use Rattle.wasm_ops.specs.Fitting.{HasRow, AllFit, AreSpeakable};
-ghost use Rattle.wasm_ops.specs.Parts.{immediates_of};
 ghost use Rattle.wasm_ops.specs.Numbers.{IsU32, IsU64, IsS32, IsS33, IsS64};
 ghost use Rattle.wasm_ops.specs.Spelling.{Spells};
 ghost use Rattle.wasm_ops.specs.Shortest.{short_number, short_integer, short};
@@ -148,43 +146,4 @@ pub fn law_operator_equality(a: &Operator<'_>, b: &Operator<'_>) -> bool
     let _opcode = same_opcode(&opcode, &other_opcode);
     let _immediates = same_immediates(&immediates, &other_immediates);
     a == b
-}
-
-/// The numbers of what follows an opcode fit their spellings.
-fn law_fit(immediates: OperatorImmediates<'_>)
-    requires { AreSpeakable (immediates_of immediates) }
-    ensures { AllFit (immediates_of immediates.entry) }
-{
-    match immediates {
-        Immediates::Nothing => {}
-        Immediates::Index(_, _index) => {}
-        Immediates::Pair(_, _first, _, _second) => {}
-        Immediates::Label(_depth) => {}
-        Immediates::Table(_table) => {}
-        Immediates::Access(_memarg) => {}
-        Immediates::Block(ty) => match ty {
-            BlockType::Empty => {}
-            BlockType::Value(_) => {}
-            BlockType::FuncType(_index) => {}
-        },
-        Immediates::Clauses(_, _catches) => {}
-        Immediates::Value(_) => {}
-        Immediates::I32(_value) => {}
-        Immediates::I64(_value) => {}
-        Immediates::F32(_bits) => {}
-        Immediates::F64(_bits) => {}
-        Immediates::V128(_bits) => {}
-        Immediates::Lane(_idx) => {}
-    }
-}
-
-/// Of an operator whose opcode has a row, and whose types and alignment can be spelt, the shortest
-/// spelling is a spelling: what is written reads back.
-pub fn law_written(op: &Operator<'_>)
-    requires carried { HasRow (meaning op.now) }
-    requires speakable { AreSpeakable (meaning op.now).immediates }
-    ensures { Spells (meaning op.now) (short (meaning op.now)) }
-{
-    let (_, immediates) = op.parts();
-    law_fit(immediates);
 }

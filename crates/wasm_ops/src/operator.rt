@@ -16,14 +16,26 @@ pub enum Op<T, C> {
     Nop,
     /// `block`
     Block { ty: BlockType },
+    /// `loop`
+    Loop { ty: BlockType },
+    /// `if`
+    If { ty: BlockType },
+    /// `else`
+    Else,
     /// `end`
     End,
     /// `br`
     Br { label: u32 },
+    /// `br_if`
+    BrIf { label: u32 },
     /// `br_table`
     BrTable(T),
     /// `return`
     Return,
+    /// `call`
+    Call { func: u32 },
+    /// `call_indirect`
+    CallIndirect { ty: u32, table: u32 },
     /// `drop`
     Drop,
     /// `select`

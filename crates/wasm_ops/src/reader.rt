@@ -57,11 +57,14 @@ fn law_front(bytes: &[u8])
 macro_rules! take_short {
     (
         ($reader:expr, $byte:ident $number:ident $rest:ident)
+        $calls:tt $call_rows:tt
         (Byte) { $($row:literal $name:ident { $field:ident $id:ident $space:ident })* }
         $($others:tt)*
     ) => {
         match *$byte {
             0x0c => return $reader.taken(Operator::Br { label: $number as u32 }, $rest),
+            0x0d => return $reader.taken(Operator::BrIf { label: $number as u32 }, $rest),
+            0x10 => return $reader.taken(Operator::Call { func: $number as u32 }, $rest),
             $($row => return $reader.taken(Operator::$name { $field: $number as u32 }, $rest),)*
             0x41 => return $reader.taken(Operator::I32Const { value: $number as i32 }, $rest),
             0x42 => return $reader.taken(Operator::I64Const { value: $number as i64 }, $rest),
@@ -186,6 +189,7 @@ impl<'a> Reader<'a> {
     {
         if let [byte, rest @ ..] = self.rest {
             match *byte {
+                0x05 => return self.taken(Operator::Else, rest),
                 0x0b => return self.taken(Operator::End, rest),
                 0x0f => return self.taken(Operator::Return, rest),
                 0x1a => return self.taken(Operator::Drop, rest),

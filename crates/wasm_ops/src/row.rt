@@ -1,5 +1,21 @@
 //! The form of a row of the readers.
 
+ghost use Rattle.walrus_ir.specs.Results.{Gives};
+ghost use Rattle.wasm_ops.specs.Reading.{Then, then_read};
+ghost use Rattle.wasm_ops.specs.Numbers.{u32 as a_u32};
+
+use crate::fault::ReadFault;
+use crate::number::read_u32;
+
+/// Two indices at the front, and what follows them.
+pub(crate) fn read_pair(bytes: &[u8]) -> Result<((u32, u32), &[u8]), ReadFault>
+    ensures { Gives (λ x. (x.0, x.1.now)) result (then_read a_u32 (λ first. a_u32) bytes.now) }
+{
+    let (first, rest) = read_u32(bytes)?;
+    let (second, rest) = read_u32(rest)?;
+    Ok(((first, second), rest))
+}
+
 /// The operator made of what was read, and what follows it; or the fault.
 macro_rules! made {
     ($read:expr, $part:pat => $operator:expr) => {
@@ -10,4 +26,15 @@ macro_rules! made {
     };
 }
 
+/// The operator of the indices at the front, and what follows it.
+macro_rules! read_indices {
+    ($bytes:ident $name:ident $field:ident) => {
+        made!(read_u32($bytes), $field => Operator::$name { $field })
+    };
+    ($bytes:ident $name:ident $first:ident $second:ident) => {
+        made!(read_pair($bytes), ($first, $second) => Operator::$name { $first, $second })
+    };
+}
+
 pub(crate) use made;
+pub(crate) use read_indices;

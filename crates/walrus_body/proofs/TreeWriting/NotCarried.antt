@@ -39,10 +39,9 @@ ref_cast false = refl
 pub ruleset not_carried = (vector_access, wait, ref_test, ref_cast)
 
 pub closer_not_carried : (k : Closer)
-    → (k ≡ closer.Else) ⊎ (((tag : ℕ) × (k ≡ closer.Catch tag)) ⊎ ((k ≡ closer.CatchAll) ⊎ ((n : ℕ) × (k ≡ closer.Delegate n))))
+    → ((tag : ℕ) × (k ≡ closer.Catch tag)) ⊎ ((k ≡ closer.CatchAll) ⊎ ((n : ℕ) × (k ≡ closer.Delegate n)))
     → kinds_of (closing k).opcode ≡ None
 unfolding kinds_of_byte
-closer_not_carried k (inl h) = ap (λ c. kinds_of (closing c).opcode) h
-closer_not_carried k (inr (inl h)) = ap (λ c. kinds_of (closing c).opcode) h.1
-closer_not_carried k (inr (inr (inl h))) = ap (λ c. kinds_of (closing c).opcode) h
-closer_not_carried k (inr (inr (inr h))) = ap (λ c. kinds_of (closing c).opcode) h.1
+closer_not_carried k (inl h) = ap (λ c. kinds_of (closing c).opcode) h.1
+closer_not_carried k (inr (inl h)) = ap (λ c. kinds_of (closing c).opcode) h
+closer_not_carried k (inr (inr h)) = ap (λ c. kinds_of (closing c).opcode) h.1

@@ -1,5 +1,5 @@
 -- Writing an instruction of a tree as an operator.
-use Rattle.std.specs.Prelude.{◌≡◌, ℕ, List, None, Result, Ok, Err}
+use Rattle.std.specs.Prelude.{◌≡◌, ◌⊎◌, ℕ, List, length, None, Result, Ok, Err}
 use Rattle.std.specs.Ordering.{nat_cmp}
 use Rattle.std.specs.FinMap.{get, from_entries}
 use Rattle.walrus_ir.specs.declared.val_type.InstrSeqType.{InstrSeqType}
@@ -8,12 +8,14 @@ use Rattle.wasm_ops.specs.declared.types.Opcode.{Opcode}
 use Rattle.wasm_ops.specs.Meaning.{Listed, meaning}
 use Rattle.wasm_ops.specs.Opcodes.{kinds_of}
 use Rattle.wasm_ops.specs.Operations.{RawOperation}
+use Rattle.wasm_ops.specs.Immediates.{Table}
+use Rattle.walrus_ir.specs.Clauses.{Targets}
 use Rattle.wasm_encode.specs.Writable.{IsWritable}
 use Rattle.wasm_body.specs.declared.error.EmitError.{EmitError}
-use Rattle.wasm_body.specs.declared.error.EmitError.TheVariants.{Index, UnnumberedLocal}
-use Rattle.walrus_ir.specs.Results.{with_fault, some_or}
+use Rattle.wasm_body.specs.declared.error.EmitError.TheVariants.{Index, Memory, UnnumberedLocal}
+use Rattle.walrus_ir.specs.Results.{◌>>=◌, with_fault, some_or, each}
 use Rattle.wasm_body.specs.Translation.{translate}
-use Rattle.wasm_body.specs.Bytes.{Numbers, numbering}
+use Rattle.wasm_body.specs.Bytes.{Numbers, numbering, in_32_bits}
 use Rattle.wasm_body.specs.FlatText.{then_by, typed}
 use Rattle.wasm_body.specs.InstructionTable.{operation_of}
 use Rattle.wasm_body.specs.TreeOfFunction.{aimed}
@@ -23,6 +25,7 @@ use Rattle.walrus_body.specs.declared.local_function.emit.fault.EmitFault.TheVar
 use Rattle.walrus_body.specs.declared.local_function.emit.number_maps.NumberMaps.{NumberMaps}
 use Rattle.walrus_body.specs.IndexMaps.{number_of}
 use Rattle.walrus_body.specs.TreeWriting.Closers.{closing}
+use Rattle.walrus_body.specs.TreeWriting.ScopeTables.{depth_in}
 
 -- the numbers that index maps and a map of the function's locals give
 abbrev pub numbers_of : NumberMaps → Numbers
@@ -39,15 +42,21 @@ abbrev pub numbered_operator : Numbers → List ℕ → InstrSeqType → Instr
 numbered_operator to around type i =
     translate (typed (then_by (numbering to)) type) (aimed around (operation_of i))
 
+-- The labels of a `br_table`: a number of them that fits 32 bits, and the depth of each.
+abbrev pub numbered_table : List ℕ → Targets → Result Table EmitError
+numbered_table around t =
+    in_32_bits (length t.blocks) >>= λ n. each (depth_in around) t.blocks >>= λ labels.
+    depth_in around t.default >>= λ default. Ok (labels, default)
+
 -- what closes a sequence
 abbrev pub numbered_closer : Numbers → Closer → Result RawOperation EmitError
 numbered_closer to c = translate (then_by (numbering to)) (closing c)
 
--- The operator that was answered is this one, or there is none for this fault; or its opcode isn't
--- carried.
+-- The operator that was answered is this one, or there is none for this fault; or memory ran out, or
+-- its opcode isn't carried.
 abbrev pub IsOperator : Result RawOperation EmitError → Opcode → Result Listed EmitFault → Type 0
 IsOperator r opcode (Ok op) = (r ≡ Ok (meaning op)) × IsWritable (meaning op)
-IsOperator r opcode (Err (Refused e)) = r ≡ Err e
+IsOperator r opcode (Err (Refused e)) = (e ≡ Memory) ⊎ (r ≡ Err e)
 IsOperator r opcode (Err NotCarried) = kinds_of opcode ≡ None
 
 abbrev pub IsOperatorOf : Numbers → List ℕ → InstrSeqType → Instr → Result Listed EmitFault

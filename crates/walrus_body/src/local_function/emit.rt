@@ -13,6 +13,7 @@ mod clauses;
 mod closing;
 mod draft;
 mod fault;
+mod labels;
 mod number_maps;
 mod open_scopes;
 mod operators;
@@ -109,7 +110,8 @@ impl<'a> EmitVisitor<'a> {
         ensures kept { OnErr result (Same self.old self.new) }
     {
         let ty = InstrSeqType::Simple(None);
-        match operator_of(instr, ty, &self.scopes, &self.numbers) {
+        let mut labels = Vec::new(self.builder.allocator());
+        match operator_of(instr, ty, &self.scopes, &self.numbers, &mut labels) {
             Ok(op) => Ok(self.draft.write(&op, location)?),
             Err(fault) => Err(fault),
         }
@@ -128,7 +130,8 @@ impl<'a> EmitVisitor<'a> {
         if !has_lawful_clauses(instr) {
             return Err(EmitFault::Refused(EmitError::BadClauses));
         }
-        match operator_of(instr, ty, &self.scopes, &self.numbers) {
+        let mut labels = Vec::new(self.builder.allocator());
+        match operator_of(instr, ty, &self.scopes, &self.numbers, &mut labels) {
             Ok(op) => match announce(&mut self.scopes, self.builder, instr) {
                 Ok(()) => Ok(self.draft.write(&op, location)?),
                 Err(fault) => Err(EmitFault::Refused(fault)),

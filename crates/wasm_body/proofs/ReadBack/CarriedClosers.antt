@@ -1,5 +1,5 @@
--- The operators that part a construct are carried where its opener is, or where they stand. None of them is carried yet, nor
--- any construct with parts.
+-- The operators that part a construct are carried where its opener is, or where they stand. Those of a legacy `try` are not
+-- carried yet.
 use Rattle.std.specs.Prelude.{◌≡◌, ℕ, List, [], ◌∷◌, Bool, true, false, ◌==◌, None, Some}
 use Rattle.std.proofs.lemmas.Bool.{eqb-true}
 use Rattle.std.proofs.Common.{refl, ap, sym, ◌∙◌}
@@ -25,10 +25,6 @@ module _ (marks : Role → Bool) (plain : marks a_plain ≡ false) (byte : ℕ) 
   the_opcode (Byte b) h = by_test b (b == byte) refl h
   the_opcode (Prefixed prefix n) h = both_ways (marks (role_of (Prefixed prefix n))) h (prefixed_marked marks plain unprefixed prefix n)
 
-abbrev is_if : Role → Bool
-is_if an_if = true
-is_if _ = false
-
 abbrev is_catch : Role → Bool
 is_catch a_catch = true
 is_catch _ = false
@@ -41,9 +37,6 @@ abbrev is_delegate : Role → Bool
 is_delegate a_delegate = true
 is_delegate _ = false
 
-if_kinds : (o : Opcode) (ks : List Kind) → kinds_of o ≡ Some ks → role_of o ≡ an_if → kinds_of (Byte 0x04) ≡ Some ks
-if_kinds o ks e h = ap kinds_of (sym (the_opcode is_if refl 0x04 refl refl o (ap is_if h))) ∙ e
-
 catch_kinds : (o : Opcode) (ks : List Kind) → kinds_of o ≡ Some ks → role_of o ≡ a_catch → kinds_of (Byte 0x07) ≡ Some ks
 catch_kinds o ks e h = ap kinds_of (sym (the_opcode is_catch refl 0x07 refl refl o (ap is_catch h))) ∙ e
 
@@ -53,14 +46,13 @@ catch_all_kinds o ks e h = ap kinds_of (sym (the_opcode is_catch_all refl 0x19 r
 delegated_kinds : (o : Opcode) (ks : List Kind) → kinds_of o ≡ Some ks → role_of o ≡ a_delegate → kinds_of (Byte 0x18) ≡ Some ks
 delegated_kinds o ks e h = ap kinds_of (sym (the_opcode is_delegate refl 0x18 refl refl o (ap is_delegate h))) ∙ e
 
--- ---- Each of these is absurd as long as its opcode has no row. Once it has one, `refl` is the proof, and of the last `cc`.
-
 -- where `if` is carried, so is `else`
 pub else_carried : (o : Opcode) (ks : List Kind) → kinds_of o ≡ Some ks → role_of o ≡ an_if → kinds_of (Byte 0x05) ≡ Some []
 unfolding kinds_of_byte
-else_carried o ks e h = absurd (let q : None ≡ Some ks = if_kinds o ks e h in cc q)
+else_carried o ks e h = refl
 
--- what the operators ask for that begin handlers and delegate
+-- ---- What the operators ask for that begin handlers and delegate. Each of these is absurd as long as its opcode has no row.
+-- Once it has one, `refl` is the proof, and of the last `cc`.
 
 pub catch_carried : (o : Opcode) (ks : List Kind) → kinds_of o ≡ Some ks → role_of o ≡ a_catch → kinds_of (Byte 0x07) ≡ Some (an_index Tags ∷ [])
 unfolding kinds_of_byte

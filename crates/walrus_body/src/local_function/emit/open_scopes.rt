@@ -48,11 +48,11 @@ impl Model for Scopes {
     ghost invariant = { λ s. IsTable s.levels.items s.coming.items s.entered.items };
 }
 
-/// A depth as it is written.
-fn in_32_bits(depth: usize) -> Result<u32, EmitError>
-    ensures { result ≡ in_32_bits depth }
+/// A depth, or a count of labels, as it is written.
+pub(crate) fn in_32_bits(number: usize) -> Result<u32, EmitError>
+    ensures { result ≡ in_32_bits number }
 {
-    u32::try_from(depth).map_err(|_| EmitError::TooLarge)
+    u32::try_from(number).map_err(|_| EmitError::TooLarge)
 }
 
 impl Scopes {

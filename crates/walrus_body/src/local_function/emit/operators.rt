@@ -10,6 +10,7 @@ ghost use Rattle.walrus_body.specs.TreeWriting.Operators.{numbers_of, IsOperator
 
 use crate::local_function::emit::closing::Closer;
 use crate::local_function::emit::fault::EmitFault;
+use crate::local_function::emit::labels::branch_table;
 use crate::local_function::emit::number_maps::NumberMaps;
 use crate::local_function::emit::open_scopes::Scopes;
 use crate::local_function::emit::written_types::{block_type, value_type};
@@ -38,6 +39,12 @@ fn memory_argument(arg: MemArg, memory: u32) -> RawMemArg
 
 /// The index of an id in a space.
 macro_rules! index {
+    ($numbers:ident Types $id:expr) => {
+        $numbers.ids.get_type_index($id)?
+    };
+    ($numbers:ident Funcs $id:expr) => {
+        $numbers.ids.get_func_index($id)?
+    };
     ($numbers:ident Globals $id:expr) => {
         $numbers.ids.get_global_index($id)?
     };
@@ -73,13 +80,15 @@ macro_rules! operator_row {
     };
 }
 
-/// The operator of an instruction whose first sequence, if it has one, has this type.
-pub(crate) fn operator_of(
+/// The operator of an instruction whose first sequence, if it has one, has this type. The labels of
+/// a `br_table` are put into the list, in place of what is there.
+pub(crate) fn operator_of<'t>(
     instr: &Instr,
     ty: InstrSeqType,
     scopes: &Scopes,
     numbers: &NumberMaps<'_>,
-) -> Result<OutOp<'static>, EmitFault>
+    labels: &'t mut Vec<u32>,
+) -> Result<OutOp<'t>, EmitFault>
     ensures writable { IfOk result (λ op. IsWritable (meaning op)) }
     ensures operator { IsOperatorOf (numbers_of numbers.now) (places_of scopes.now.open_scopes)
         ty instr.now result }
@@ -90,9 +99,22 @@ pub(crate) fn operator_of(
         Instr::Block(_) => Ok(OutOp::Block {
             ty: block_type(numbers, ty)?,
         }),
+        Instr::Loop(_) => Ok(OutOp::Loop {
+            ty: block_type(numbers, ty)?,
+        }),
+        Instr::IfElse(_) => Ok(OutOp::If {
+            ty: block_type(numbers, ty)?,
+        }),
         Instr::Br(branch) => Ok(OutOp::Br {
             label: scopes.depth(branch.block)?,
         }),
+        Instr::BrIf(branch) => Ok(OutOp::BrIf {
+            label: scopes.depth(branch.block)?,
+        }),
+        Instr::BrTable(table) => match branch_table(table, scopes, labels) {
+            Ok(table) => Ok(OutOp::BrTable(table)),
+            Err(fault) => Err(EmitFault::Refused(fault)),
+        },
         Instr::Return => Ok(OutOp::Return),
         Instr::Drop => Ok(OutOp::Drop),
         Instr::Select(select) => match select.ty {
@@ -132,7 +154,8 @@ pub(crate) fn closing_operator(
 {
     match closer {
         Closer::End => Ok(OutOp::End),
-        Closer::Else | Closer::Catch { .. } | Closer::CatchAll | Closer::Delegate { .. } => {
+        Closer::Else => Ok(OutOp::Else),
+        Closer::Catch { .. } | Closer::CatchAll | Closer::Delegate { .. } => {
             Err(EmitFault::NotCarried)
         }
     }

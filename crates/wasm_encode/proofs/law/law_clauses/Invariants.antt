@@ -1,0 +1,11 @@
+-- Where the numbers of those that are left fit, those of all do.
+use Rattle.std.proofs.Common.{length}
+use Rattle.std.specs.List.{AllByRecursion}
+use Rattle.wasm_ops.specs.Fitting.{FitsClause}
+use Rattle.wasm_encode.proofs.law.law_clauses.Given as goal
+
+abbrev pub invariant-clauses : goal.invariant-clauses
+invariant-clauses l = AllByRecursion FitsClause l.left → AllByRecursion FitsClause l.fn.clauses
+
+abbrev pub decreases-clauses : goal.decreases-clauses
+decreases-clauses l = length l.left
