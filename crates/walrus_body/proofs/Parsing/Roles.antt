@@ -1,6 +1,6 @@
 -- What the operators that are carried do to the control.
-use Rattle.std.specs.Prelude.{◌≡◌, ◌≢◌, ℕ, List, Bool, true, false, Option, Some, None}
-use Rattle.std.proofs.Common.{refl, ap}
+use Rattle.std.specs.Prelude.{◌≡◌, ◌≢◌, ℕ, List, ◌∷◌, Bool, true, false, Option, Some, None}
+use Rattle.std.proofs.Common.{refl, ap, ◌∙◌}
 use Rattle.walrus_ir.specs.declared.unary.UnaryOp.{UnaryOp}
 use Rattle.walrus_ir.specs.declared.unary.UnaryOp.TheVariants as unary
 use Rattle.walrus_ir.specs.declared.binary.BinaryOp.{BinaryOp}
@@ -14,7 +14,7 @@ use Rattle.walrus_ir.specs.declared.memory.StoreKind.{StoreKind}
 use Rattle.walrus_ir.specs.declared.memory.StoreKind.TheVariants as store
 use Rattle.wasm_ops.specs.declared.operator.Op.TheVariants as operator
 use Rattle.wasm_ops.specs.declared.types.BlockType.{BlockType}
-use Rattle.wasm_ops.specs.Operations.{Immediate}
+use Rattle.wasm_ops.specs.Operations.{Immediate, branch_table}
 use Rattle.wasm_ops.specs.Opcodes.{kinds_of_byte}
 use Rattle.wasm_ops.specs.Fitting.{HasRow}
 use Rattle.wasm_ops.specs.Meaning.{Listed, meaning}
@@ -22,7 +22,7 @@ use Rattle.wasm_ops.specs.UnaryOperations.{unary_opcode}
 use Rattle.wasm_ops.specs.BinaryOperations.{binary_opcode}
 use Rattle.wasm_ops.specs.TernaryOperations.{ternary_opcode}
 use Rattle.wasm_ops.specs.AccessOperations.{load_opcode, store_opcode}
-use Rattle.wasm_body.specs.Control.{Role, an_unreachable, a_branch, a_return, a_plain, role_of, Action, Plain, Return, Unreachable, Branch, Control, Does, control_by, first_label}
+use Rattle.wasm_body.specs.Control.{Role, an_unreachable, a_branch, a_conditional_branch, a_table_branch, a_return, a_plain, role_of, Action, Plain, Return, Unreachable, Branch, ConditionalBranch, Control, Does, control_by, first_label, branches}
 use Rattle.wasm_body.specs.NormalForm.{Fate, Stays, Cuts, fate}
 use Rattle.walrus_body.specs.Parsing.OperatorKinds.{is_instruction, is_cut}
 
@@ -89,6 +89,8 @@ plain_store (store.I64_32 false) = refl
 abbrev pub fate_of_role : Role → Option Fate
 fate_of_role an_unreachable = Some Cuts
 fate_of_role a_branch = Some Cuts
+fate_of_role a_conditional_branch = Some Stays
+fate_of_role a_table_branch = Some Cuts
 fate_of_role a_return = Some Cuts
 fate_of_role a_plain = Some Stays
 fate_of_role _ = None
@@ -100,8 +102,10 @@ fate_by false = Stays
 pub fate_of_operator : (op : Listed) → is_instruction op ≡ true → fate_of_role (role_of (meaning op).opcode) ≡ Some (fate_by (is_cut op))
 fate_of_operator operator.Nop i = absurd cc
 fate_of_operator (operator.Block type) i = absurd cc
+fate_of_operator (operator.Loop type) i = absurd cc
+fate_of_operator (operator.If type) i = absurd cc
+fate_of_operator operator.Else i = absurd cc
 fate_of_operator operator.End i = absurd cc
-fate_of_operator (operator.BrTable targets) i = absurd cc
 fate_of_operator (operator.TryTable type catches) i = absurd cc
 fate_of_operator (operator.Unop op) i = ap fate_of_role (plain_unary op)
 fate_of_operator (operator.Binop op) i = ap fate_of_role (plain_binary op)
@@ -116,9 +120,16 @@ pub record DoesAs (c : Control) (t : Fate) : Type 0 where
   pub does : c ≡ Does action
   pub has_fate : fate action ≡ t
 
+-- a branch by a table
+branches_cut : {B : Type 0} → (is : List (Immediate ℕ B)) → fate (branches is) ≡ Cuts
+branches_cut (branch_table targets default ∷ is) = refl
+branches_cut _ = refl
+
 pub does_as : {B : Type 0} → (r : Role) (t : Fate) (is : List (Immediate ℕ B)) → fate_of_role r ≡ Some t → DoesAs (control_by r is) t
 does_as an_unreachable t is e = record { action = Unreachable; does = refl; has_fate = cc e }
 does_as a_branch t is e = record { action = Branch (first_label is); does = refl; has_fate = cc e }
+does_as a_conditional_branch t is e = record { action = ConditionalBranch (first_label is); does = refl; has_fate = cc e }
+does_as a_table_branch t is e = record { action = branches is; does = refl; has_fate = branches_cut is ∙ (let same : Cuts ≡ t = cc e in same) }
 does_as a_return t is e = record { action = Return; does = refl; has_fate = cc e }
 does_as a_plain t is e = record { action = Plain; does = refl; has_fate = cc e }
 does_as _ t is e = absurd cc
@@ -126,12 +137,15 @@ does_as _ t is e = absurd cc
 none_some : {A : Type 0} (x : A) → None ≡ Some x → ⊥
 none_some x e = cc
 
--- any other operator that has a row than these three makes an instruction
-pub makes_instruction : (op : Listed) → HasRow (meaning op) → op ≢ operator.Nop → ((type : BlockType) → op ≢ operator.Block type) → op ≢ operator.End → is_instruction op ≡ true
+-- Any other operator that has a row than these makes an instruction.
+pub makes_instruction : (op : Listed) → HasRow (meaning op) → op ≢ operator.Nop → ((type : BlockType) → op ≢ operator.Block type) → ((type : BlockType) → op ≢ operator.Loop type) → ((type : BlockType) → op ≢ operator.If type) →
+    op ≢ operator.Else → op ≢ operator.End → is_instruction op ≡ true
 unfolding kinds_of_byte
-makes_instruction operator.Nop row a b c = absurd (a refl)
-makes_instruction (operator.Block type) row a b c = absurd (b type refl)
-makes_instruction operator.End row a b c = absurd (c refl)
-makes_instruction (operator.BrTable targets) row a b c = absurd (none_some row.0 row.1)
-makes_instruction (operator.TryTable type catches) row a b c = absurd (none_some row.0 row.1)
-makes_instruction _ row a b c = refl
+makes_instruction operator.Nop row a b l i e c = absurd (a refl)
+makes_instruction (operator.Block type) row a b l i e c = absurd (b type refl)
+makes_instruction (operator.Loop type) row a b l i e c = absurd (l type refl)
+makes_instruction (operator.If type) row a b l i e c = absurd (i type refl)
+makes_instruction operator.Else row a b l i e c = absurd (e refl)
+makes_instruction operator.End row a b l i e c = absurd (c refl)
+makes_instruction (operator.TryTable type catches) row a b l i e c = absurd (none_some row.0 row.1)
+makes_instruction _ row a b l i e c = refl

@@ -20,11 +20,6 @@ use Rattle.wasm_body.specs.InstructionTable.{operation_of}
 use Rattle.walrus_body.specs.TreeWriting.Operators.{numbered_operator, numbered_table}
 use Rattle.walrus_body.specs.TreeWriting.ScopeTables.{depth_in}
 
--- ---- one after the other: what is listed stands before what is left
-
-abbrev pub behind_these : List ℕ → Result (List ℕ) EmitError → Result (List ℕ) EmitError
-behind_these before rest = rest >>= λ ys. Ok (before ++ ys)
-
 -- ---- the operator
 
 each_maps : {A B E : Type 0} → (f : A → B) (xs : List A) → each {E = E} (λ x. Ok (f x)) xs ≡ Ok (map f xs)

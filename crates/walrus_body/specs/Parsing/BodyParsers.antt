@@ -1,12 +1,12 @@
 -- What contracts see of a parser of bodies, and what its steps do.
-use Rattle.std.specs.Prelude.{◌≡◌, ◌⊎◌, ℕ, List, [], ◌∷◌, ◌++◌, length, Bool, cond, reverse, Option, Some, None, slice_get, Result}
+use Rattle.std.specs.Prelude.{◌≡◌, ◌⊎◌, ℕ, List, [], ◌∷◌, ◌++◌, length, Bool, cond, reverse, Option, Some, None, slice_get, Result, Ok, Err}
 use Rattle.walrus_ir.specs.declared.instr.Instr.TheVariants as instr
 use Rattle.walrus_ir.specs.declared.val_type.InstrSeqType.{InstrSeqType}
 use Rattle.walrus_ir.specs.Function.{Function, with_new_sequence}
 use Rattle.walrus_ir.specs.Unfolding.{LocatedInstr}
 use Rattle.wasm_ops.specs.Operations.{RawOperation}
 use Rattle.wasm_body.specs.declared.error.ParseError.{ParseError}
-use Rattle.wasm_body.specs.declared.error.ParseError.TheVariants.{NoSuchLabel}
+use Rattle.wasm_body.specs.declared.error.ParseError.TheVariants.{NoSuchLabel, Memory}
 use Rattle.walrus_ir.specs.Results.{some_or}
 use Rattle.wasm_body.specs.Frames.{Frame}
 use Rattle.wasm_body.specs.Translation.{translate}
@@ -42,6 +42,11 @@ sequence_at p depth = some_or (slice_get (slots p.context.frames) depth) NoSuchL
 -- an operator with its ids and with the sequences that its labels name
 abbrev pub placed_in : BodyParser → List (Frame Occurrence) → RawOperation → Result PlacedOperation ParseError
 placed_in p around o = translate (placing (env_of p.context) around (slots p.context.frames)) o
+
+-- What was answered, seen by `view`, is what is given; or memory ran out.
+abbrev pub GivesOrMemory : {A B : Type 0} → (A → B) → Result A ParseError → Result B ParseError → Type 0
+GivesOrMemory view (Ok x) given = given ≡ Ok (view x)
+GivesOrMemory view (Err e) given = (e ≡ Memory) ⊎ (given ≡ Err e)
 
 -- the innermost `if` has this alternative
 abbrev pub with_alternative : (alternative : ℕ) → List IfElseState → List IfElseState

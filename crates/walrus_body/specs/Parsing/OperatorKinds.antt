@@ -1,14 +1,16 @@
 -- Kinds of operators, by what they become.
 use Rattle.std.specs.Prelude.{Bool, true, false}
 use Rattle.wasm_ops.specs.Meaning.{Listed}
-use Rattle.wasm_ops.specs.declared.operator.Op.TheVariants.{Unreachable, Nop, Block, End, Br, BrTable, TryTable, Return}
+use Rattle.wasm_ops.specs.declared.operator.Op.TheVariants.{Unreachable, Nop, Block, Loop, If, Else, End, Br, BrTable, TryTable, Return}
 
 -- those that make an instruction by themselves, of the operators that are carried
 abbrev pub is_instruction : Listed → Bool
 is_instruction Nop = false
 is_instruction (Block type) = false
+is_instruction (Loop type) = false
+is_instruction (If type) = false
+is_instruction Else = false
 is_instruction End = false
-is_instruction (BrTable targets) = false
 is_instruction (TryTable type catches) = false
 is_instruction _ = true
 
@@ -16,5 +18,6 @@ is_instruction _ = true
 abbrev pub is_cut : Listed → Bool
 is_cut Unreachable = true
 is_cut (Br depth) = true
+is_cut (BrTable table) = true
 is_cut Return = true
 is_cut _ = false

@@ -268,6 +268,9 @@ impl BodyParser<'_> {
         match operator {
             Operator::Nop => Ok(()),
             Operator::Block { ty } => self.open_block(*ty, location),
+            Operator::Loop { ty } => self.open_loop(*ty, location),
+            Operator::If { ty } => self.open_if(*ty, location),
+            Operator::Else => self.part_else(location),
             Operator::End => self.end_construct(location),
             _ => self.take_alone(operator, location),
         }
@@ -295,6 +298,6 @@ fn is_cut(operator: &Operator<'_>) -> bool
 {
     matches!(
         operator,
-        Operator::Unreachable | Operator::Br { .. } | Operator::Return
+        Operator::Unreachable | Operator::Br { .. } | Operator::BrTable(_) | Operator::Return
     )
 }

@@ -1,24 +1,27 @@
 //! The instructions that operators become: old indices are looked up in the order in which they are
 //! written.
-ghost use Rattle.std.specs.Prelude.{◌≡◌, ◌<◌, ◌^◌, List, [], true, IfOk};
+ghost use Rattle.std.specs.Prelude.{◌≡◌, ◌⊎◌, ◌<◌, ◌^◌, List, [], true, IfOk, IfErr, Ok, Err};
 ghost use Rattle.walrus_ir.specs.declared.instr.Instr.TheVariants as instr;
 ghost use Rattle.walrus_ir.specs.Unfolding.{slots_in};
-ghost use Rattle.walrus_ir.specs.Results.{Gives};
+ghost use Rattle.walrus_ir.specs.Results.{each};
+ghost use Rattle.wasm_ops.specs.declared.operator.Op.TheVariants as op;
 ghost use Rattle.wasm_ops.specs.Meaning.{meaning};
 ghost use Rattle.wasm_encode.specs.Writable.{IsWritable};
+ghost use Rattle.wasm_body.specs.declared.error.ParseError.{ParseError as ParseFault};
 ghost use Rattle.wasm_body.specs.Frames.{Frame};
 ghost use Rattle.wasm_body.specs.Naming.{Occurrence};
 ghost use Rattle.wasm_body.specs.InstructionTable.{operation_of, clauses_of_try};
 ghost use Rattle.walrus_body.specs.Parsing.OperatorKinds.{is_instruction};
-ghost use Rattle.walrus_body.specs.Parsing.BodyParsers.{sequence_at, placed_in};
+ghost use Rattle.walrus_body.specs.Parsing.BodyParsers.{sequence_at, placed_in, GivesOrMemory};
 
 use crate::ParseError;
 use crate::local_function::body_parser::BodyParser;
+use crate::local_function::own_lists::pushed;
 use crate::local_function::types::value_type;
 use walrus_ir::{
-    Binop, Br, Const, Instr, InstrSeqId, Load, MemArg, Select, Store, TernOp, Unop, Value,
+    Binop, Br, BrIf, Const, Instr, InstrSeqId, Load, MemArg, Select, Store, TernOp, Unop, Value,
 };
-use wasm_ops::{Operator, RawMemArg, index_rows};
+use wasm_ops::{BrTable, Operator, RawMemArg, index_rows};
 
 /// An access with its alignment as a number of bytes.
 fn memory_argument(memarg: RawMemArg) -> MemArg
@@ -90,12 +93,49 @@ impl BodyParser<'_> {
         }
     }
 
+    /// The sequences that the labels of a table name.
+    fn blocks(&self, table: &BrTable<'_>) -> Result<Vec<InstrSeqId>, ParseError>
+        ensures ok { IfOk result (λ blocks. each (sequence_at self.now) table.now.0 ≡ Ok blocks.items) }
+        ensures err { IfErr result (λ e. (e ≡ ParseFault.Memory)
+            ⊎ (each (sequence_at self.now) table.now.0 ≡ Err e)) }
+    {
+        let mut blocks = Vec::new(*self.if_else.allocator());
+        let mut targets = table.targets();
+        'targets: while let Some(depth) = targets.next() {
+            let block = match self.label(depth) {
+                Ok(block) => block,
+                Err(error) => return Err(error),
+            };
+            match pushed(&mut blocks, block) {
+                Ok(()) => {}
+                Err(error) => return Err(error),
+            }
+        }
+        Ok(blocks)
+    }
+
+    /// The instruction of a `br_table`.
+    fn branch_table(&self, table: &BrTable<'_>) -> Result<Instr, ParseError>
+        ensures placed { (around : List (Frame Occurrence))
+            → GivesOrMemory operation_of result (placed_in self.now around (meaning (op.BrTable table.now))) }
+        ensures plain { IfOk result (λ i. (slots_in i ≡ []) × (clauses_of_try i ≡ [])) }
+    {
+        let blocks = match self.blocks(table) {
+            Ok(blocks) => blocks,
+            Err(error) => return Err(error),
+        };
+        match self.label(table.default()) {
+            Ok(default) => Ok(Instr::BrTable(walrus_ir::BrTable { blocks, default })),
+            Err(error) => Err(error),
+        }
+    }
+
     /// The instruction of an operator by itself, that isn't `nop`.
     pub fn instruction(&self, operator: &Operator<'_>) -> Result<Instr, ParseError>
         requires kind { is_instruction operator.now ≡ true }
         requires writable { IsWritable (meaning operator.now) }
         ensures placed { (around : List (Frame Occurrence))
-            → Gives operation_of result (placed_in self.now around (meaning operator.now)) }
+            → GivesOrMemory operation_of result (placed_in self.now around (meaning operator.now)) }
         ensures plain { IfOk result (λ i. (slots_in i ≡ []) × (clauses_of_try i ≡ [])) }
     {
         let indices = self.context.indices();
@@ -105,6 +145,10 @@ impl BodyParser<'_> {
             Operator::Br { label } => Ok(Instr::Br(Br {
                 block: self.label(label)?,
             })),
+            Operator::BrIf { label } => Ok(Instr::BrIf(BrIf {
+                block: self.label(label)?,
+            })),
+            Operator::BrTable(ref table) => self.branch_table(table),
             Operator::Return => Ok(Instr::Return),
             Operator::Drop => Ok(Instr::Drop),
             Operator::Select => Ok(Instr::Select(Select { ty: None })),
@@ -130,8 +174,10 @@ impl BodyParser<'_> {
             })),
             Operator::Nop
             | Operator::Block { .. }
+            | Operator::Loop { .. }
+            | Operator::If { .. }
+            | Operator::Else
             | Operator::End
-            | Operator::BrTable(_)
             | Operator::TryTable { .. } => unreachable!(),
         )
     }

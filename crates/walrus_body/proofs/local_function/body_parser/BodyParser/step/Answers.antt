@@ -15,8 +15,19 @@ returns-in-Nop-clause-step c = λ ls s place keeps.
 pub returns-in-Block-clause-step : goal.returns-in-Block-clause-step
 returns-in-Block-clause-step c = subst (λ o. Steps c.args.self.now c.open_block.new.self (meaning o) c.args.location c.open_block.result) (sym c.in-Block.is) c.open_block.ensures.step
 
+pub returns-in-Loop-clause-step : goal.returns-in-Loop-clause-step
+returns-in-Loop-clause-step c = subst (λ o. Steps c.args.self.now c.open_loop.new.self (meaning o) c.args.location c.open_loop.result) (sym c.in-Loop.is) c.open_loop.ensures.step
+
+pub returns-in-If-clause-step : goal.returns-in-If-clause-step
+returns-in-If-clause-step c = subst (λ o. Steps c.args.self.now c.open_if.new.self (meaning o) c.args.location c.open_if.result) (sym c.in-If.is) c.open_if.ensures.step
+
+pub returns-in-Else-clause-step : goal.returns-in-Else-clause-step
+returns-in-Else-clause-step c = subst (λ o. Steps c.args.self.now c.part_else.new.self (meaning o) c.args.location c.part_else.result) (sym c.in-Else.is) c.part_else.ensures.step
+
 pub returns-in-End-clause-step : goal.returns-in-End-clause-step
 returns-in-End-clause-step c = subst (λ o. Steps c.args.self.now c.end_construct.new.self (meaning o) c.args.location c.end_construct.result) (sym c.in-End.is) c.end_construct.ensures.step
 
 pub take_alone-requires-clause-kind : goal.take_alone-requires-clause-kind
-take_alone-requires-clause-kind c = makes_instruction c.args.operator.now c.requires.carried c.in_default.not-Nop c.in_default.not-Block c.in_default.not-End
+take_alone-requires-clause-kind c =
+    let other = c.in_default in
+    makes_instruction c.args.operator.now c.requires.carried other.not-Nop other.not-Block other.not-Loop other.not-If other.not-Else other.not-End

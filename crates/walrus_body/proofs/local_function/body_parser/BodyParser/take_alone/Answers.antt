@@ -1,4 +1,4 @@
-use Rattle.std.proofs.Common.{Some, inr, reverse, sym, ap, ◌∙◌, subst}
+use Rattle.std.proofs.Common.{Some, inl, inr, reverse, sym, ap, ◌∙◌, subst}
 use Rattle.wasm_ops.specs.Meaning.{meaning}
 use Rattle.wasm_body.specs.Parsing.Progress.{frames_of}
 use Rattle.walrus_body.specs.Parsing.OpenTrees.{env_of}
@@ -31,6 +31,9 @@ returns-in-Err c =
     let old = c.args.self.now in
     let op = c.args.operator.now in
     record {
-      step = λ ls s place keeps. inr (refused_alone old.context old.context (reverse old.if_else.items) ls s (meaning op) place c.args.location (is_cut op) (fate_of_operator op c.requires.kind) keeps c.in-Err.error (c.in-Err.ensures.placed (frames_of ls)));
+      step = λ ls s place keeps. elim (c.in-Err.ensures.placed (frames_of ls)) [
+        | inl is ↦ inl is
+        | inr is ↦ inr (refused_alone old.context old.context (reverse old.if_else.items) ls s (meaning op) place c.args.location (is_cut op) (fate_of_operator op c.requires.kind) keeps c.in-Err.error is)
+      ];
       rest = tt;
     }

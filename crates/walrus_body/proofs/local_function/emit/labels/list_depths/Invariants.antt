@@ -3,7 +3,7 @@ use Rattle.std.proofs.Common.{◌≡◌, length}
 use Rattle.walrus_ir.specs.Results.{each}
 use Rattle.walrus_body.specs.TreeWriting.Closers.{places_of}
 use Rattle.walrus_body.specs.TreeWriting.ScopeTables.{depth_in}
-use Rattle.walrus_body.proofs.TreeWriting.Labels.{behind_these}
+use Rattle.walrus_body.proofs.Listed.{behind_these}
 use Rattle.walrus_body.proofs.local_function.emit.labels.list_depths.Given as goal
 
 abbrev pub invariant-places : goal.invariant-places

@@ -1,0 +1,6 @@
+-- What is listed so far stands before what is left.
+use Rattle.std.specs.Prelude.{List, ◌++◌, Result, Ok}
+use Rattle.walrus_ir.specs.Results.{◌>>=◌}
+
+abbrev pub behind_these : {A E : Type 0} → List A → Result (List A) E → Result (List A) E
+behind_these before rest = rest >>= λ ys. Ok (before ++ ys)
