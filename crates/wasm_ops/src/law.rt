@@ -91,7 +91,8 @@ fn same_clauses(a: &CatchList<'_>, b: &CatchList<'_>) -> bool
 /// What follows an opcode is compared as equal exactly where it is the same.
 #[tactic(auto, using(crate::proofs::SameLists::same_lists))]
 fn same_immediates(a: &OperatorImmediates<'_>, b: &OperatorImmediates<'_>) -> bool
-    ensures compares { result ≡ ⟦<Immediates<BrTable<'static>, CatchList<'static>> as PartialEq>⟧.eq a.now b.now }
+    ensures compares { result
+        ≡ ⟦<Immediates<BrTable<'static>, CatchList<'static>> as PartialEq>⟧.eq a.now b.now }
     ensures same { result ≡ true → a.now ≡ b.now }
     ensures equal { a.now ≡ b.now → result ≡ true }
 {
