@@ -7,13 +7,18 @@ ghost use Rattle.wasm_ops.specs.Parts.{immediates_of};
 ghost use Rattle.wasm_ops.specs.Numbers.{IsU32, IsU64, IsS32, IsS33, IsS64};
 ghost use Rattle.wasm_ops.specs.Spelling.{Spells};
 ghost use Rattle.wasm_ops.specs.Shortest.{short_number, short_integer, short};
-ghost use Rattle.wasm_ops.specs.Laws.{OneSpelling, ListsAgree, OneList, IsShortest};
+ghost use Rattle.wasm_ops.specs.Laws.{ReadingAgrees, OneSpelling, ListsAgree, OneList, IsShortest};
 
 use crate::branch_table::BrTable;
 use crate::catch_list::CatchList;
 use crate::immediates::Immediates;
 use crate::operator::Operator;
 use crate::types::{BlockType, Opcode, RawValType, Space};
+
+/// What is spelt at a front is read there, and what is read at the front of bytes is spelt by what is taken.
+pub fn law_reading()
+    ensures { ReadingAgrees }
+{}
 
 /// No spelling begins another, and none spells two operators.
 pub fn law_one_spelling()

@@ -12,7 +12,6 @@ use Rattle.wasm_ops.specs.OperatorList.{Placed}
 use Rattle.wasm_ops.specs.Opcodes.{IsOpcode}
 use Rattle.wasm_ops.specs.Position.{Position, Moves}
 use Rattle.wasm_ops.specs.Spelling.{Spells, read_operation}
-use Rattle.wasm_ops.proofs.OperationLaws.{operations_agree}
 use Rattle.wasm_body.specs.declared.error.ParseError.{ParseError}
 use Rattle.wasm_body.specs.declared.error.ParseError.TheVariants.{Read, PlaceTooGreat, Checked, Memory}
 use Rattle.walrus_ir.specs.Results.{◌>>=◌, unless, with_fault}
@@ -23,9 +22,6 @@ use Rattle.walrus_body.specs.Parsing.Locating.{Locates, HasNoLocation}
 use Rattle.walrus_body.specs.Parsing.Settings.{has_place, Taken, taken}
 
 -- ---- a reader that moved
-
-pub read_moved : (old new : Position) (o : RawOperation) (text : List ℕ) → Moves old text new → Spells o text → read_operation old.rest ≡ Ok (o, new.rest)
-read_moved old new o text m s = ap read_operation m.parts ∙ operations_agree.again o text new.rest s
 
 -- an operator is a byte at least
 spelt_longer : (o : RawOperation) (text : List ℕ) → Spells o text → 0 < length text
