@@ -132,7 +132,7 @@ module _ (env : Environment) (old : ParseState) (ls : List (Layer Occurrence)) (
     is_named = is;
     keeps = subst (λ q. KeepsProgress env q (further_within (control_of named) (at named) ls s)) (sym is_new)
         (keeps_as _ named (Opens If) control
-        (holds_opened env old.arena seq ls s (InThen (at named)) g old.frames old.frames (record { start = location; consequent = g.sequence; alternative = None } ∷ old.ifs) old.ifs opens refl (refl, refl, refl, is_if) keeps));
+        (holds_opened env old.arena seq ls s (InThen (at named)) g old.frames old.frames (record { start = location; consequent = g.sequence; alternative = None } ∷ old.ifs) old.ifs opens refl (record { frames = refl; kept = refl; none_before = refl; is_if = is_if }) keeps));
   }
 
 -- ---- the innermost frame is closed
@@ -191,21 +191,21 @@ module _ (env : Environment) (old : ParseState) (l : Layer Occurrence) (ls : Lis
   pub chosen : (p : OpenConstruct Occurrence) (new : ParseState) (e : Occurrence) (top : IfElseState) (others : List IfElseState) (alternative : ℕ) → f.kind ≡ kind.Else → old.ifs ≡ top ∷ others → top.alternative ≡ Some alternative → Seals old.arena new.arena f (Some e.location) →
       new.frames ≡ changed_at 0 (with_instr (if_else top.consequent alternative top.start)) fs → new.ifs ≡ others → Inside p → Keeps env new ls (append l.before (closed p s e))
   chosen (InElse a b m) new e top others alternative is_else ifs has seals gs is h =
-      let c = h.opens.1 in
-      let made : IfElseState = record { start = a.location; consequent = c.0; alternative = Some f.sequence } in
-      let both : top ∷ others ≡ made ∷ h.other_ifs = sym ifs ∙ c.2 in
+      let c = h.opens.consequent in
+      let made : IfElseState = record { start = a.location; consequent = c; alternative = Some f.sequence } in
+      let both : top ∷ others ≡ made ∷ h.other_ifs = sym ifs ∙ h.opens.kept in
       let first : top ≡ made = cc both in
       let rest : others ≡ h.other_ifs = cc both in
       let there : Some alternative ≡ Some f.sequence = sym has ∙ ap (λ (t : IfElseState). t.alternative) first in
       let same : alternative ≡ f.sequence = cc there in
-      let outer : Holds env old.arena ls l.before h.low fs h.other_ifs = subst (λ gs. Holds env old.arena ls l.before h.low gs h.other_ifs) (sym h.opens.0) h.outer in
-      let inside = subst (Encloses env old.arena h.low f (slots fs) (InElse a b m)) c.1 h.encloses in
-      let whole = holds_chosen env old.arena new.arena ls l.before b s a m e f fs h.other_ifs h.low c.0 h.opens.2 h.kept inside
-      (sealed env old.arena new.arena h.low f (slots fs) (c.0 ∷ []) (InElse a b m) (Some e.location) inside seals) outer in
-      let instr : if_else c.0 f.sequence a.location ≡ if_else top.consequent alternative top.start =
+      let outer : Holds env old.arena ls l.before h.low fs h.other_ifs = subst (λ gs. Holds env old.arena ls l.before h.low gs h.other_ifs) (sym h.opens.frames) h.outer in
+      let inside = subst (Encloses env old.arena h.low f (slots fs) (InElse a b m)) h.opens.one_before h.encloses in
+      let whole = holds_chosen env old.arena new.arena ls l.before b s a m e f fs h.other_ifs h.low c h.opens.is_if h.kept inside
+      (sealed env old.arena new.arena h.low f (slots fs) (c ∷ []) (InElse a b m) (Some e.location) inside seals) outer in
+      let instr : if_else c f.sequence a.location ≡ if_else top.consequent alternative top.start =
       λ i. if_else ((sym first) i).consequent (sym same i) ((sym first) i).start in
       subst (λ qs. Holds env new.arena ls (append l.before (closed (InElse a b m) s e)) (length new.arena) qs new.ifs) (ap (λ x. changed_at 0 (with_instr x) fs) instr ∙ sym gs)
-      (subst (λ qs. Holds env new.arena ls (append l.before (closed (InElse a b m) s e)) (length new.arena) (changed_at 0 (with_instr (if_else c.0 f.sequence a.location)) fs) qs) (sym (is ∙ rest)) whole)
+      (subst (λ qs. Holds env new.arena ls (append l.before (closed (InElse a b m) s e)) (length new.arena) (changed_at 0 (with_instr (if_else c f.sequence a.location)) fs) qs) (sym (is ∙ rest)) whole)
   chosen (InWrapper a w) new e top others alternative is_else ifs has seals gs is h = absurd (no_wrapper w (sym h.encloses.kind ∙ is_else))
     where
       no_wrapper : (v : Wrapper) → wrapper_kind v ≡ kind.Else → ⊥
@@ -223,14 +223,14 @@ module _ (env : Environment) (old : ParseState) (l : Layer Occurrence) (ls : Lis
       new.frames ≡ changed_at 0 (with_instr (if_else f.sequence (length c) top.start)) fs → new.ifs ≡ others → Inside p → Keeps env new ls (append l.before (closed p s e))
   chosen_alone (InThen a) new c other e top others is_if ifs seals picks empty no_end arena gs is h =
       let made : IfElseState = record { start = a.location; consequent = f.sequence; alternative = None } in
-      let both : top ∷ others ≡ made ∷ h.other_ifs = sym ifs ∙ h.opens.1 in
+      let both : top ∷ others ≡ made ∷ h.other_ifs = sym ifs ∙ h.opens.kept in
       let first : top ≡ made = cc both in
       let rest : others ≡ h.other_ifs = cc both in
-      let outer : Holds env old.arena ls l.before h.low fs h.other_ifs = subst (λ gs. Holds env old.arena ls l.before h.low gs h.other_ifs) (sym h.opens.0) h.outer in
-      let inside = subst (Encloses env old.arena h.low f (slots fs) (InThen a)) h.opens.2 h.encloses in
+      let outer : Holds env old.arena ls l.before h.low fs h.other_ifs = subst (λ gs. Holds env old.arena ls l.before h.low gs h.other_ifs) (sym h.opens.frames) h.outer in
+      let inside = subst (Encloses env old.arena h.low f (slots fs) (InThen a)) h.opens.none_before h.encloses in
       let sig : signature f.start_types f.end_types ≡ block_signature a.named = λ i. signature (h.encloses.takes.0 i) (h.encloses.gives i) in
       let typed : other.ty ≡ construct_type (typing_of env) a.named = sym (ap (λ t. unwrap_or t (Simple None)) (sym (ap (pick env.types) sig) ∙ picks)) in
-      let whole = holds_chosen_alone env old.arena c other ls l.before s a e f fs h.other_ifs h.low h.opens.3 h.kept inside
+      let whole = holds_chosen_alone env old.arena c other ls l.before s a e f fs h.other_ifs h.low h.opens.is_if h.kept inside
       (sealed env old.arena c h.low f (slots fs) [] (InThen a) (Some e.location) inside seals) typed empty no_end outer in
       let made_of = λ (d : List InstrSeq) (qs : List OpenFrame) (js : List IfElseState). Holds env d ls (append l.before (closed (InThen a) s e)) (length d) qs js in
       let instr : if_else f.sequence (length c) a.location ≡ if_else f.sequence (length c) top.start = λ i. if_else f.sequence (length c) ((sym first) i).start in
@@ -273,7 +273,7 @@ module _ (env : Environment) (old : ParseState) (l : Layer Occurrence) (ls : Lis
       (q : OpenConstruct Occurrence) × (parted_by_else p s x ≡ Some q) × Keeps env new (layer l.before q ∷ ls) Empty
   else_parts (InThen a) new c seq g x top others is_if ifs seals picks no_end arena frame gs is h =
       let made : IfElseState = record { start = a.location; consequent = f.sequence; alternative = None } in
-      let both : top ∷ others ≡ made ∷ h.other_ifs = sym ifs ∙ h.opens.1 in
+      let both : top ∷ others ≡ made ∷ h.other_ifs = sym ifs ∙ h.opens.kept in
       let first : top ≡ made = cc both in
       let rest : others ≡ h.other_ifs = cc both in
       let sig : signature f.start_types f.end_types ≡ block_signature a.named = λ i. signature (h.encloses.takes.0 i) (h.encloses.gives i) in
@@ -300,7 +300,7 @@ module _ (env : Environment) (old : ParseState) (l : Layer Occurrence) (ls : Lis
               };
               same = refl;
             })
-            gs refl (h.opens.0, (f.sequence, ap (λ ps. ps ++ f.sequence ∷ []) h.opens.2, states), h.opens.3),
+            gs refl (record { frames = h.opens.frames; consequent = f.sequence; one_before = ap (λ ps. ps ++ f.sequence ∷ []) h.opens.none_before; kept = states; is_if = h.opens.is_if }),
       )
   else_parts (InWrapper a w) new c seq g x top others is_if ifs seals picks no_end arena frame gs is h = absurd (no_wrapper w (sym h.encloses.kind ∙ is_if))
     where

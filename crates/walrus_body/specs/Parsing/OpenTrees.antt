@@ -14,7 +14,8 @@ use Rattle.wasm_body.specs.Naming.{Environment, name_block, has_pick}
 use Rattle.walrus_body.specs.Environments.{environment_of}
 use Rattle.walrus_ir.specs.Function.{Function, with_new_sequence, with_sequence}
 use Rattle.walrus_body.specs.declared.indices_to_ids.IndicesToIds.{IndicesToIds}
-use Rattle.walrus_body.specs.Parsing.OpenFrames.{OpenFrame, new_frame, changed_at}
+use Rattle.walrus_body.specs.declared.local_function.frame.ControlFrame.{ControlFrame}
+use Rattle.walrus_body.specs.Parsing.OpenFrames.{OpenFrame, Shows, new_frame, changed_at}
 
 -- The module and its maps, the function and its builder, and the open frames, innermost first.
 pub record OpenTrees : Type 0 where
@@ -67,6 +68,13 @@ pub record Closes (old new : OpenTrees) (frame : OpenFrame) : Type 0 where
     builder = with_sequence old.builder frame.sequence (record was { instrs = frame.instrs });
     frames = new.frames;
   }
+
+-- The innermost frame is closed, which is shown so and has this sequence.
+pub record Pops (old new : OpenTrees) (f : ControlFrame) (block : ℕ) : Type 0 where
+  pub frame : OpenFrame
+  pub shown : Shows f frame
+  pub is_block : block ≡ frame.sequence
+  pub closes : Closes old new frame
 
 -- The n-th frame is changed so; nothing else changed.
 abbrev pub ChangesFrame : ℕ → (OpenFrame → OpenFrame) → (old new : OpenTrees) → Type 0

@@ -3,9 +3,9 @@ ghost use Rattle.std.specs.Prelude.{reverse, ◌≡◌, ◌⊎◌, ◌≤◌, �
 ghost use Rattle.walrus_ir.specs.Types.{existing, signature_of};
 ghost use Rattle.walrus_ir.specs.declared.val_type.InstrSeqType.TheVariants.{MultiValue};
 ghost use Rattle.wasm_body.specs.declared.error.ParseError.{ParseError as Fault};
-ghost use Rattle.walrus_body.specs.Parsing.OpenFrames.{OpenFrame, AreShown, Shows, ShowsAt, killed, with_instr, HasNoFrame, HasNoFrameAt, InnerAreEmpty};
+ghost use Rattle.walrus_body.specs.Parsing.OpenFrames.{AreShown, ShowsAt, killed, with_instr, HasNoFrame, HasNoFrameAt, InnerAreEmpty};
 ghost use Rattle.wasm_ops.specs.declared.types.BlockType.TheVariants.{Value, FuncType};
-ghost use Rattle.walrus_body.specs.Parsing.OpenTrees.{Opens, OpensBlock, HasNoType, Closes, ChangesFrame, EndsAt};
+ghost use Rattle.walrus_body.specs.Parsing.OpenTrees.{Opens, OpensBlock, HasNoType, Pops, ChangesFrame, EndsAt};
 
 use crate::local_function::frame::{ControlFrame, ControlStack};
 use crate::local_function::own_lists::FrameStack;
@@ -209,8 +209,7 @@ impl<'a> ValidationContext<'a> {
 
     /// Closes the innermost frame. Its sequence then owns its instructions.
     pub fn pop_control(&mut self) -> Result<(ControlFrame, InstrSeqId), ParseError>
-        ensures ok { IfOk result (λ x. (frame : OpenFrame) × Shows x.0 frame
-            × (x.1 ≡ frame.sequence) × Closes self.old self.new frame) }
+        ensures ok { IfOk result (λ x. Pops self.old self.new x.0 x.1) }
         ensures err { IfErr result (λ e. (e ≡ Fault.Memory) ⊎ HasNoFrame self.old.frames e) }
         ensures same { OnErr result (self.new ≡ self.old) }
     {
