@@ -22,11 +22,12 @@ use Rattle.walrus_body.specs.declared.local_function.frame.IfElseState.{IfElseSt
 use Rattle.walrus_body.specs.declared.local_function.parse.BodyParser.{BodyParser}
 use Rattle.walrus_body.specs.Parsing.Advancing.{ParseState, Keeps, occurrence, Advances, IsStep}
 use Rattle.walrus_body.specs.Parsing.Keeping.{IsWithin, Holds}
-use Rattle.walrus_body.specs.Parsing.OpenConstructs.{kind_in, wrapper_kind}
+use Rattle.walrus_body.specs.Parsing.OpenConstructs.{kind_in}
 use Rattle.walrus_body.specs.Parsing.OpenFrames.{OpenFrame, new_frame, changed_at, killed, with_instr}
 use Rattle.walrus_body.specs.Parsing.OpenTrees.{OpenTrees, Pops, Opens, EndsAt, env_of}
 use Rattle.walrus_body.specs.Parsing.BodyParsers.{AddsEmpty, AppendsIf, HasNoIf, either, if_else, state_with, taking}
 use Rattle.walrus_body.proofs.Parsing.Constructs.{grown_at}
+use Rattle.walrus_body.proofs.Parsing.Kinds.{by_if, by_else}
 use Rattle.walrus_body.proofs.Parsing.Labels.{holds_length}
 use Rattle.walrus_body.proofs.Parsing.Openings.{reverse_last}
 use Rattle.walrus_body.proofs.Parsing.Partings.{seals_end}
@@ -111,19 +112,14 @@ module _ (old mid end : OpenTrees) (ifs : List IfElseState) (s : Sequence Occurr
       (chosen (env_of old) (state_with old ifs) l ls s f mid.frames popped.closes.frames keeps l.construct (state_with at others) x top others id (kind_is ∙ is_else) ifs_are has sealed_at
       (ap (changed_at 0 (with_instr (if_else top.consequent id top.start))) frames_end) refl inside))
 
-  no_wrapper : (w : Wrapper) → wrapper_kind w ≡ kind.If → ⊥
-  no_wrapper OfBlock e = cc
-  no_wrapper OfLoop e = cc
-  no_wrapper (OfTryTable cs) e = cc
-
-  not_then : c.kind ≡ kind.If → (k : BlockKind) → f.kind ≡ k → k ≢ kind.If → ⊥
-  not_then is_if k e n = n (sym e ∙ kind_is ∙ is_if)
+  is_kind : (k : BlockKind) → c.kind ≡ k → kind_in l.construct ≡ k
+  is_kind k e = sym inside.encloses.kind ∙ kind_is ∙ e
 
   -- an `if` without one
   module _ (takes gives : List (ValType ℕ)) (takes_is : takes ≡ c.start_types.items) (gives_is : gives ≡ c.end_types.items) where
     pub ends_if : c.kind ≡ kind.If → (top : IfElseState) (others : List IfElseState) (t : InstrSeqType) (id : ℕ) (m new : OpenTrees) → ifs ≡ top ∷ others → existing end.module.types takes gives ≡ Some t → AddsEmpty end m t id →
         new ≡ record m { frames = changed_at 0 (with_instr (if_else top.consequent id top.start)) m.frames } → Advances (env_of old) (state_with new others) (l ∷ ls) s end_operation place location
-    ends_if is_if top others t id m new ifs_are picks adds new_is = advances (state_with new others) (of_construct l.construct inside)
+    ends_if is_if top others t id m new ifs_are picks adds new_is = advances (state_with new others) (by_if (λ p. Within p → Keeps (env_of old) (state_with new others) ls (append l.before (closed p s x))) of_then l.construct (is_kind kind.If is_if) inside)
       where
         xs : List InstrSeq
         xs = end.builder.sequences
@@ -134,8 +130,8 @@ module _ (old mid end : OpenTrees) (ifs : List IfElseState) (s : Sequence Occurr
         same_module : end.module ≡ old.module
         same_module = ap (λ (z : OpenTrees). z.module) ended_at.is ∙ ap (λ (z : OpenTrees). z.module) popped.closes.is
 
-        of_construct : (p : OpenConstruct Occurrence) → Within p → Keeps (env_of old) (state_with new others) ls (append l.before (closed p s x))
-        of_construct (InThen a) h =
+        of_then : (a : Occurrence) → Within (InThen a) → Keeps (env_of old) (state_with new others) ls (append l.before (closed (InThen a) s x))
+        of_then a h =
             let same : top ∷ others ≡ record { start = a.location; consequent = f.sequence; alternative = None } ∷ h.other_ifs = sym ifs_are ∙ h.opens.kept in
             let first : top ≡ record { start = a.location; consequent = f.sequence; alternative = None } = cc same in
             let starts : f.start_types ≡ takes = ap (λ (g : OpenFrame). g.start_types) popped.shown.is ∙ sym takes_is in
@@ -146,11 +142,6 @@ module _ (old mid end : OpenTrees) (ifs : List IfElseState) (s : Sequence Occurr
             (ap (λ (z : OpenTrees). z.frames) new_is
             ∙ (λ i. changed_at 0 (with_instr (if_else (first i).consequent (adds.is_next i) top.start)) ((ap (λ (z : OpenTrees). z.frames) adds.is ∙ frames_end) i)))
             refl h
-        of_construct (InWrapper a w) h = absurd (no_wrapper w (sym h.encloses.kind ∙ kind_is ∙ is_if))
-        of_construct (InElse a b n) h = absurd (not_then is_if kind.Else h.encloses.kind (λ e. cc e))
-        of_construct (InTry a) h = absurd (not_then is_if kind.Try h.encloses.kind (λ e. cc e))
-        of_construct (InCatch a b cs i t) h = absurd (not_then is_if kind.Catch h.encloses.kind (λ e. cc e))
-        of_construct (InCatchAll a b cs i) h = absurd (not_then is_if kind.CatchAll h.encloses.kind (λ e. cc e))
 
   -- ---- what can't be missing
 
@@ -174,30 +165,20 @@ module _ (old mid end : OpenTrees) (ifs : List IfElseState) (s : Sequence Occurr
     pub are : ifs ≡ top ∷ others
     pub alternative : c.kind ≡ kind.Else → (n : ℕ) × (top.alternative ≡ Some n)
 
-  no_wrapper_else : (w : Wrapper) → wrapper_kind w ≡ kind.Else → ⊥
-  no_wrapper_else OfBlock e = cc
-  no_wrapper_else OfLoop e = cc
-  no_wrapper_else (OfTryTable cs) e = cc
-
   has_if : (c.kind ≡ kind.If) ⊎ (c.kind ≡ kind.Else) → HasIf
-  has_if k = of_construct l.construct inside k
+  has_if (inl is_if) = by_if (λ p. Within p → HasIf) of_then l.construct (is_kind kind.If is_if) inside
     where
-      other : (j : BlockKind) → f.kind ≡ j → (j ≢ kind.If) → (j ≢ kind.Else) → (c.kind ≡ kind.If) ⊎ (c.kind ≡ kind.Else) → HasIf
-      other j e not_if not_else (inl is) = absurd (not_if (sym e ∙ kind_is ∙ is))
-      other j e not_if not_else (inr is) = absurd (not_else (sym e ∙ kind_is ∙ is))
-
-      of_construct : (p : OpenConstruct Occurrence) → Within p → (c.kind ≡ kind.If) ⊎ (c.kind ≡ kind.Else) → HasIf
-      of_construct (InThen a) h k = record {
+      of_then : (a : Occurrence) → Within (InThen a) → HasIf
+      of_then a h = record {
         top = record { start = a.location; consequent = f.sequence; alternative = None };
         others = h.other_ifs;
         are = h.opens.kept;
-        alternative = λ e. absurd (let q : kind.If ≡ kind.Else = sym h.encloses.kind ∙ kind_is ∙ e in cc q);
+        alternative = λ e. absurd (let q : kind.If ≡ kind.Else = sym is_if ∙ e in cc q);
       }
-      of_construct (InElse a b n) h k = record { top = record { start = a.location; consequent = h.opens.consequent; alternative = Some f.sequence }; others = h.other_ifs; are = h.opens.kept; alternative = λ e. (f.sequence, refl) }
-      of_construct (InWrapper a w) h k = other (wrapper_kind w) h.encloses.kind (no_wrapper w) (no_wrapper_else w) k
-      of_construct (InTry a) h k = other kind.Try h.encloses.kind (λ e. cc e) (λ e. cc e) k
-      of_construct (InCatch a b cs i t) h k = other kind.Catch h.encloses.kind (λ e. cc e) (λ e. cc e) k
-      of_construct (InCatchAll a b cs i) h k = other kind.CatchAll h.encloses.kind (λ e. cc e) (λ e. cc e) k
+  has_if (inr is_else) =
+      by_else (λ p. Within p → HasIf)
+      (λ a b n h. record { top = record { start = a.location; consequent = h.opens.consequent; alternative = Some f.sequence }; others = h.other_ifs; are = h.opens.kept; alternative = λ e. (f.sequence, refl) })
+      l.construct (is_kind kind.Else is_else) inside
 
   -- ---- the instruction of the `if`, or why it is not appended
 
