@@ -38,7 +38,7 @@ use Rattle.walrus_body.proofs.Parsing.Frames.{holds_same, slots_changed, AreNorm
 use Rattle.walrus_body.proofs.Parsing.Kinds.{IsBehindTry, by_if, by_else, by_try, by_clause}
 use Rattle.walrus_body.proofs.Parsing.Closing.{clauses_more, closed_by_catch}
 use Rattle.walrus_body.proofs.Parsing.Clauses.{gained_places, gained_instruction, AddsClause, adds_within}
-use Rattle.walrus_body.proofs.Parsing.Constructs.{closed_range, holds_behind, sequence_closed, IsWritten, IsSealed, IsOpened, holds_opened, holds_ended, holds_chosen, holds_chosen_alone, holds_parted, if_else}
+use Rattle.walrus_body.proofs.Parsing.Constructs.{closed_range, holds_behind, sequence_closed, IsWritten, IsSealed, IsOpened, is_opened, holds_opened, holds_ended, holds_chosen, holds_chosen_alone, holds_parted, if_else}
 
 module _ (env : Environment) (old : ParseState) (ls : List (Layer Occurrence)) (s : Sequence Occurrence) (o : RawOperation) (place location : ℕ) (keeps : Keeps env old ls s) where
   abbrev at : NamedOperation → Occurrence
@@ -275,8 +275,7 @@ module _ (env : Environment) (old : ParseState) (l : Layer Occurrence) (ls : Lis
           let sig : signature f.start_types f.end_types ≡ block_signature a.named = λ i. signature (h.encloses.takes.0 i) (h.encloses.gives i) in
           let typed : seq.ty ≡ construct_type (typing_of env) a.named = sym (ap (λ t. unwrap_or t (Simple None)) (sym (ap (pick env.types) sig) ∙ picks)) in
           let states : new.ifs ≡ record { start = a.location; consequent = f.sequence; alternative = Some g.sequence } ∷ h.other_ifs =
-          is ∙ (λ i. record { start = (first i).start; consequent = (first i).consequent; alternative = Some g.sequence } ∷ rest i) in
-          let here : g.sequence ≡ length c = ap (λ (k : OpenFrame). k.sequence) frame in (
+          is ∙ (λ i. record { start = (first i).start; consequent = (first i).consequent; alternative = Some g.sequence } ∷ rest i) in (
             InElse a s x,
             refl,
             parted (InThen a) (InElse a s x) new c g fs x.location h
@@ -284,16 +283,7 @@ module _ (env : Environment) (old : ParseState) (l : Layer Occurrence) (ls : Lis
                   seals = seals;
                   seq = seq;
                   grows = arena;
-                  opens = record {
-                    here = here;
-                    is_empty = ap (λ (k : OpenFrame). k.instrs) frame;
-                    is_alive = ap (λ (k : OpenFrame). k.dead) frame;
-                    kind = ap (λ (k : OpenFrame). k.kind) frame;
-                    takes = tt;
-                    gives = ap (λ (k : OpenFrame). k.end_types) frame ∙ h.encloses.gives;
-                    has_type = typed;
-                    has_no_end = no_end;
-                  };
+                  opens = is_opened env (length c) (InElse a s x) g seq kind.Else f.start_types f.end_types frame refl tt h.encloses.gives typed no_end;
                   same = refl;
                 })
                 gs refl (record { frames = h.opens.frames; consequent = f.sequence; one_before = ap (λ ps. ps ++ f.sequence ∷ []) h.opens.none_before; kept = states; is_if = h.opens.is_if }),
@@ -317,16 +307,7 @@ module _ (env : Environment) (old : ParseState) (l : Layer Occurrence) (ls : Lis
         seals = seals;
         seq = seq;
         grows = arena;
-        opens = record {
-          here = here;
-          is_empty = ap (λ (k : OpenFrame). k.instrs) frame;
-          is_alive = ap (λ (k : OpenFrame). k.dead) frame;
-          kind = ap (λ (k : OpenFrame). k.kind) frame ∙ is_kind;
-          takes = takes g.start_types;
-          gives = ap (λ (k : OpenFrame). k.end_types) frame ∙ h.encloses.gives ∙ ap (λ (a : Occurrence). (block_signature a.named).results) (sym same);
-          has_type = typed ∙ sym type;
-          has_no_end = no_end;
-        };
+        opens = is_opened env (length c) q g seq kind parameters f.end_types frame is_kind (takes g.start_types) (h.encloses.gives ∙ ap (λ (a : Occurrence). (block_signature a.named).results) (sym same)) (typed ∙ sym type) no_end;
         same = closed_same;
       })
       gs_are same_slots
