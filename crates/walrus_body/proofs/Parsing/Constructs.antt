@@ -1,5 +1,5 @@
 -- What a parse keeps of open sequences where a construct is opened, goes on to its next sequence, or is closed.
-use Rattle.std.specs.Prelude.{◌≡◌, ◌≢◌, ℕ, zero, suc, ◌+◌, ◌<◌, ◌≤◌, List, [], ◌∷◌, ◌++◌, length, Bool, true, false, cond, Some, None, slice_get}
+use Rattle.std.specs.Prelude.{◌≡◌, ◌≢◌, ℕ, zero, suc, ◌+◌, ◌<◌, ◌≤◌, List, [], ◌∷◌, ◌++◌, length, false, Some, slice_get}
 use Rattle.std.proofs.lemmas.List.{length_push}
 use Rattle.std.proofs.Common.{refl, ap, sym, subst, ◌∙◌, arith}
 use Rattle.walrus_ir.specs.declared.control.BlockKind.{BlockKind}
@@ -7,23 +7,23 @@ use Rattle.walrus_ir.specs.declared.val_type.ValType.{ValType}
 use Rattle.walrus_ir.specs.declared.seq.InstrSeq.{InstrSeq}
 use Rattle.walrus_ir.specs.declared.instr.Instr.{Instr}
 use Rattle.walrus_ir.specs.declared.instr.Instr.TheVariants as instr
-use Rattle.walrus_ir.specs.Tree.{Items, no_items, item, Sequences, no_sequences, sequence}
+use Rattle.walrus_ir.specs.Tree.{no_items, item, Sequences, no_sequences, sequence}
 use Rattle.walrus_ir.specs.Unfolding.{SequenceAt, LocatedInstr, slots_in, AreItems, AreSequences, are_no_items, are_items, are_no_sequences, are_sequences}
 use Rattle.wasm_body.specs.SourceTree.{Sequence, Empty, map_sequence}
 use Rattle.wasm_body.specs.Naming.{Occurrence, Environment, block_signature}
-use Rattle.wasm_body.specs.NormalForm.{Typing, typing_of, instruction, head, normal, name_at}
+use Rattle.wasm_body.specs.NormalForm.{typing_of, instruction, head, normal, name_at}
 use Rattle.wasm_body.specs.FunctionTree.{Head, Instruction, default_location}
 use Rattle.wasm_body.specs.Keeping.{is_dead}
 use Rattle.wasm_body.specs.TreeOfFunction.{instruction_in, items_in, sequences_in, head_of}
 use Rattle.wasm_body.specs.Intervals.{RiseIn, AllRiseIn}
 use Rattle.wasm_body.specs.Parsing.Progress.{append, closed, OpenConstruct, InWrapper, InThen, InElse, InTry, InCatch, InCatchAll, Layer, layer}
-use Rattle.wasm_body.proofs.NormalForm.ArenaLemmas.{rise-range, all_rise-range, all_rise-wider, SameIn, items-same, sequences-same}
+use Rattle.wasm_body.proofs.NormalForm.ArenaLemmas.{all_rise-range, all_rise-wider, SameIn, items-same, sequences-same}
 use Rattle.walrus_body.specs.declared.local_function.frame.IfElseState.{IfElseState}
 use Rattle.walrus_body.specs.Parsing.OpenConstructs.{opener_in, kind_in, clauses_in, closed_in, type_in, added_in, sequences_joined, sequences_closed, reshown_construct}
 use Rattle.walrus_body.specs.Parsing.OpenFrames.{OpenFrame, new_frame, changed_at, with_instr}
-use Rattle.walrus_body.specs.Parsing.Keeping.{slots, the_if, IsKept, IsReserved, TakesParameters, Encloses, IsAppended, OpensWith, IsWithin, Holds}
+use Rattle.walrus_body.specs.Parsing.Keeping.{slots, the_if, IsKept, TakesParameters, Encloses, IsAppended, OpensWith, Holds}
 use Rattle.walrus_body.proofs.Parsing.Closing.{normal_closed, reshown_in, same_opener}
-use Rattle.walrus_body.proofs.Parsing.Frames.{slots_changed, kept_below, holds_same, AreNormal, taken, taken_alive, holds_takes}
+use Rattle.walrus_body.proofs.Parsing.Frames.{slots_changed, kept_below, holds_same, AreNormal, taken_alive, holds_takes}
 
 -- ---- an arena with one more sequence
 

@@ -1,22 +1,22 @@
 -- The end of a construct: what the calls of the context make of what was kept.
-use Rattle.std.proofs.Common.{arith, Bool, true, ◌≤◌, ◌≡◌, ◌≢◌, ◌⊎◌, inl, inr, ◌<◌, ◌+◌, OnOk, IfErr, Result, Ok, Err, ℕ, zero, suc, List, [], ◌∷◌, ◌++◌, length, reverse, slice_get, slice_set, Option, Some, None, IsSomeAnd, refl, sym, ap, ◌∙◌, subst}
+use Rattle.std.proofs.Common.{arith, Bool, true, ◌≤◌, ◌≡◌, ◌≢◌, ◌⊎◌, inl, inr, ◌<◌, OnOk, IfErr, Result, Ok, Err, ℕ, List, [], ◌∷◌, ◌++◌, length, reverse, slice_get, slice_set, Option, Some, None, IsSomeAnd, refl, sym, ap, ◌∙◌, subst}
 use Rattle.walrus_ir.specs.declared.seq.InstrSeq.{InstrSeq}
 use Rattle.walrus_ir.specs.declared.control.BlockKind.{BlockKind}
 use Rattle.walrus_ir.specs.declared.control.BlockKind.TheVariants as kind
 use Rattle.walrus_ir.specs.declared.val_type.InstrSeqType.{InstrSeqType}
 use Rattle.walrus_ir.specs.declared.val_type.ValType.{ValType}
-use Rattle.walrus_ir.specs.Function.{Function, with_new_sequence, with_sequence}
+use Rattle.walrus_ir.specs.Function.{with_sequence}
 use Rattle.walrus_ir.specs.InstructionSequence.{empty_sequence}
 use Rattle.walrus_ir.specs.Types.{existing}
 use Rattle.walrus_ir.specs.Unfolding.{LocatedInstr}
 use Rattle.wasm_body.specs.declared.error.ParseError.{ParseError}
 use Rattle.wasm_body.specs.declared.error.ParseError.TheVariants.{Memory, NoFrame}
 use Rattle.wasm_body.specs.Control.{end_operation}
-use Rattle.wasm_body.specs.SourceTree.{Sequence, Wrapper, OfBlock, OfLoop, OfTryTable}
+use Rattle.wasm_body.specs.SourceTree.{Sequence}
 use Rattle.wasm_body.specs.Naming.{Occurrence}
 use Rattle.wasm_body.specs.NormalForm.{typing_of, normal_form, named_body}
 use Rattle.wasm_body.specs.TreeOfFunction.{HasTree}
-use Rattle.wasm_body.specs.Parsing.Progress.{OpenConstruct, InWrapper, InThen, InElse, InTry, InCatch, InCatchAll, Layer, append, closed, frame_of, frames_of}
+use Rattle.wasm_body.specs.Parsing.Progress.{OpenConstruct, InThen, Layer, append, closed, frame_of, frames_of}
 use Rattle.walrus_body.specs.declared.local_function.frame.ControlFrame.{ControlFrame}
 use Rattle.walrus_body.specs.declared.local_function.frame.IfElseState.{IfElseState}
 use Rattle.walrus_body.specs.declared.local_function.parse.BodyParser.{BodyParser}

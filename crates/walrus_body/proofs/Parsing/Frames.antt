@@ -1,10 +1,10 @@
 -- What a parse keeps of open sequences: in another arena, with more room, and where the innermost one goes on.
-use Rattle.std.specs.Prelude.{◌≡◌, ℕ, zero, suc, ◌+◌, ◌<◌, ◌≤◌, List, [], ◌∷◌, ◌++◌, map, length, Bool, true, false, ◌||◌, cond, Some, slice_get}
+use Rattle.std.specs.Prelude.{◌≡◌, ℕ, zero, suc, ◌<◌, ◌≤◌, List, [], ◌∷◌, ◌++◌, Bool, true, false, ◌||◌, cond, slice_get}
 use Rattle.std.proofs.lemmas.List.{append-nil}
 use Rattle.std.proofs.Common.{refl, ap, sym, subst, ◌∙◌, arith}
 use Rattle.walrus_ir.specs.declared.seq.InstrSeq.{InstrSeq}
 use Rattle.walrus_ir.specs.declared.val_type.InstrSeqType.{InstrSeqType}
-use Rattle.walrus_ir.specs.Tree.{Items, no_items, item, no_sequences, sequence}
+use Rattle.walrus_ir.specs.Tree.{Items, no_items}
 use Rattle.walrus_ir.specs.Unfolding.{SequenceAt, LocatedInstr, AreItems, are_no_items}
 use Rattle.wasm_body.specs.SourceTree.{Sequence, map_sequence}
 use Rattle.wasm_body.specs.Naming.{Occurrence, Environment}
@@ -12,13 +12,13 @@ use Rattle.wasm_body.specs.NormalForm.{typing_of, normal, name_at}
 use Rattle.wasm_body.specs.FunctionTree.{Head, Instruction}
 use Rattle.wasm_body.specs.Keeping.{is_dead, joined, joined_alive}
 use Rattle.wasm_body.specs.TreeOfFunction.{items_in}
-use Rattle.wasm_body.specs.Intervals.{RiseIn, AllRiseIn}
+use Rattle.wasm_body.specs.Intervals.{RiseIn}
 use Rattle.wasm_body.specs.Parsing.Progress.{append, OpenConstruct, InWrapper, InThen, InElse, InTry, InCatch, InCatchAll, Layer}
 use Rattle.wasm_body.proofs.NormalForm.KeepingLemmas.{dead_append, dead_reshown, reshown_append, normal_append}
 use Rattle.wasm_body.proofs.NormalForm.ArenaLemmas.{rise-range, all_rise-range, rise-wider, rise-joined, items-joined, in-joined, SameIn, items-same, sequences-same}
 use Rattle.walrus_body.specs.declared.local_function.frame.IfElseState.{IfElseState}
 use Rattle.walrus_body.specs.Parsing.OpenFrames.{OpenFrame, changed_at, killed, with_instr}
-use Rattle.walrus_body.specs.Parsing.Keeping.{slots, IsKept, IsReserved, Encloses, IsAppended, OpensWith, IsOutermost, IsWithin, Holds}
+use Rattle.walrus_body.specs.Parsing.Keeping.{slots, IsKept, IsReserved, Encloses, OpensWith, Holds}
 
 -- ---- the slots of frames
 

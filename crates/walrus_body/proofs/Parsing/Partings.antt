@@ -1,9 +1,8 @@
 -- The next sequence of a construct, and its end: what the calls of the context make of what was kept.
-use Rattle.std.proofs.Common.{arith, ◌≡◌, ◌≢◌, ◌<◌, ◌+◌, ◌-◌, ℕ, zero, suc, List, [], ◌∷◌, ◌++◌, length, reverse, slice_get, slice_set, Bool, true, false, Option, Some, None, is_some, IsSomeAnd, Result, Ok, Err, refl, sym, ap, ◌∙◌, subst}
+use Rattle.std.proofs.Common.{arith, ◌≡◌, ◌≢◌, ◌<◌, ◌+◌, ℕ, zero, suc, List, [], ◌∷◌, ◌++◌, length, reverse, slice_get, slice_set, true, false, Option, Some, None, is_some, IsSomeAnd, Result, Ok, Err, refl, sym, ap, ◌∙◌, subst}
 use Rattle.std.proofs.lemmas.List.{reverse-append}
 use Rattle.std.proofs.lemmas.Option.{slice_get_within}
 use Rattle.walrus_ir.specs.declared.seq.InstrSeq.{InstrSeq}
-use Rattle.walrus_ir.specs.declared.control.BlockKind.{BlockKind}
 use Rattle.walrus_ir.specs.declared.control.BlockKind.TheVariants as kind
 use Rattle.walrus_ir.specs.declared.val_type.InstrSeqType.{InstrSeqType}
 use Rattle.walrus_ir.specs.declared.val_type.ValType.{ValType}

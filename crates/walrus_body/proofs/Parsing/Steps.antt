@@ -1,20 +1,17 @@
 -- How each kind of operator advances a parse.
-use Rattle.std.specs.Prelude.{◌≡◌, ◌≢◌, slice_get, unwrap_or, ℕ, suc, ◌+◌, ◌≤◌, List, [], ◌∷◌, ◌++◌, length, Bool, true, false, Option, Some, None, Result, Ok, Err}
+use Rattle.std.specs.Prelude.{◌≡◌, ◌≢◌, slice_get, unwrap_or, ℕ, suc, ◌≤◌, List, [], ◌∷◌, ◌++◌, length, Bool, false, Option, Some, None, Ok}
 use Rattle.std.proofs.lemmas.List.{append-nil}
 use Rattle.std.proofs.Common.{refl, ap, sym, subst, ◌∙◌, arith}
 use Rattle.walrus_ir.specs.declared.seq.InstrSeq.{InstrSeq}
 use Rattle.walrus_ir.specs.declared.instr.Instr.{Instr}
-use Rattle.walrus_ir.specs.declared.instr.Instr.TheVariants as instr
-use Rattle.walrus_ir.specs.declared.control.Try.{Try}
 use Rattle.walrus_ir.specs.declared.control.BlockKind.{BlockKind}
 use Rattle.walrus_ir.specs.declared.control.BlockKind.TheVariants as kind
 use Rattle.walrus_ir.specs.declared.control.LegacyCatch.{LegacyCatch}
 use Rattle.walrus_ir.specs.declared.control.LegacyCatch.TheVariants.{Catch, CatchAll, Delegate}
 use Rattle.walrus_ir.specs.declared.val_type.ValType.{ValType}
-use Rattle.walrus_ir.specs.Tree.{Items, no_items, item, Sequences, no_sequences, sequence}
+use Rattle.walrus_ir.specs.Tree.{no_items, item, no_sequences, sequence}
 use Rattle.walrus_ir.specs.Unfolding.{SequenceAt, LocatedInstr, handler_of, slots_in, AreItems, AreSequences, are_no_items, are_items, are_no_sequences, are_sequences}
-use Rattle.wasm_ops.specs.declared.types.Opcode.TheVariants.{Byte}
-use Rattle.wasm_ops.specs.Operations.{operation, RawOperation}
+use Rattle.wasm_ops.specs.Operations.{RawOperation}
 use Rattle.wasm_body.specs.Control.{Action, Construct, Does, Opens, If, control_of}
 use Rattle.wasm_body.specs.SourceTree.{Sequence, Empty, Single, TryDelegate, Wrapper, OfBlock, OfLoop, OfTryTable, construct_of, map_sequence}
 use Rattle.wasm_body.specs.Naming.{Environment, NamedOperation, Occurrence, block_signature, named_in}
@@ -22,17 +19,16 @@ use Rattle.walrus_ir.specs.Types.{signature, pick}
 use Rattle.walrus_ir.specs.declared.val_type.InstrSeqType.TheVariants.{Simple}
 use Rattle.wasm_body.specs.NormalForm.{Fate, Drops, Stays, Cuts, fate, with_fate, construct_type, handler_type, normal, typing_of, kept_operation, instruction, name_at, normal_form, named_body}
 use Rattle.wasm_body.specs.FunctionTree.{Instruction, handles, handles_all, delegates, default_location}
-use Rattle.wasm_body.specs.Keeping.{dead_behind, is_dead}
+use Rattle.wasm_body.specs.Keeping.{dead_behind}
 use Rattle.wasm_body.specs.InstructionTable.{operation_of, legacy_clause, clauses_of_try}
 use Rattle.wasm_body.specs.TreeOfFunction.{aimed, instruction_in, items_in, HasTree}
 use Rattle.wasm_body.specs.Intervals.{RiseIn}
-use Rattle.wasm_body.specs.Parsing.Accepted.{mark}
-use Rattle.wasm_body.specs.Parsing.Progress.{append, closed, closed_clause, parted_by_catch, parted_by_catch_all, delegated, parted_by_else, opened, OpenConstruct, ClosedClause, InWrapper, InThen, InElse, InTry, InCatch, InCatchAll, Layer, layer, Within, frames_of, further_within}
+use Rattle.wasm_body.specs.Parsing.Progress.{append, closed, closed_clause, parted_by_catch, parted_by_catch_all, delegated, parted_by_else, opened, OpenConstruct, ClosedClause, InWrapper, InThen, InElse, InTry, InCatch, InCatchAll, Layer, layer, frames_of, further_within}
 use Rattle.wasm_body.proofs.NormalForm.ArenaLemmas.{all_rise-range, items-same, all_reached-fresh}
 use Rattle.walrus_body.specs.declared.local_function.frame.IfElseState.{IfElseState}
 use Rattle.walrus_body.specs.Parsing.OpenFrames.{OpenFrame, new_frame, changed_at, with_instr}
 use Rattle.walrus_body.specs.Parsing.Keeping.{slots, TakesParameters, the_if, IsAny, IsTry, Encloses, IsAppended, OpensWith, IsWithin, Holds}
-use Rattle.walrus_body.specs.Parsing.OpenConstructs.{reshown_closed, kind_in, type_in, wrapper_kind, sequences_closed, added_in, opener_in, clauses_in, closed_in, reshown_construct}
+use Rattle.walrus_body.specs.Parsing.OpenConstructs.{reshown_closed, kind_in, type_in, sequences_closed, added_in, opener_in, clauses_in, closed_in, reshown_construct}
 use Rattle.walrus_body.specs.Parsing.Advancing.{IsFate, IsCut, ParseState, Keeps, KeepsProgress, occurrence, Advances}
 use Rattle.walrus_body.proofs.Parsing.Frames.{holds_same, slots_changed, AreNormal, taken, holds_takes, holds_passes}
 use Rattle.walrus_body.proofs.Parsing.Kinds.{IsBehindTry, by_if, by_else, by_try, by_clause}

@@ -1,5 +1,5 @@
 -- What a parse keeps of the sequences that are open: of each the normal form so far, in its frame and in the builder's arena.
-use Rattle.std.specs.Prelude.{◌≡◌, ℕ, suc, List, [], ◌∷◌, ◌++◌, map, Option, Some, None, slice_get}
+use Rattle.std.specs.Prelude.{◌≡◌, ℕ, suc, List, [], ◌∷◌, ◌++◌, map, Some, None, slice_get}
 use Rattle.walrus_ir.specs.declared.seq.InstrSeq.{InstrSeq}
 use Rattle.walrus_ir.specs.declared.instr.Instr.{Instr}
 use Rattle.walrus_ir.specs.declared.instr.Instr.TheVariants as instr
@@ -13,13 +13,13 @@ use Rattle.walrus_ir.specs.Unfolding.{SequenceAt, LocatedInstr, slots_in, AreIte
 use Rattle.wasm_ops.specs.declared.types.Opcode.TheVariants.{Byte}
 use Rattle.wasm_ops.specs.Operations.{block, operation}
 use Rattle.wasm_body.specs.SourceTree.{Sequence, map_sequence}
-use Rattle.wasm_body.specs.FunctionTree.{default_location, Instruction}
+use Rattle.wasm_body.specs.FunctionTree.{default_location}
 use Rattle.wasm_body.specs.Naming.{Occurrence, Environment, block_signature}
 use Rattle.wasm_body.specs.NormalForm.{typing_of, kept_operation, instruction, normal, name_at}
 use Rattle.wasm_body.specs.Keeping.{is_dead}
 use Rattle.wasm_body.specs.TreeOfFunction.{instruction_in, items_in, sequences_in}
 use Rattle.wasm_body.specs.Intervals.{RiseIn, AllRiseIn}
-use Rattle.wasm_body.specs.Parsing.Progress.{OpenConstruct, InWrapper, InThen, InElse, InTry, InCatch, InCatchAll, Layer}
+use Rattle.wasm_body.specs.Parsing.Progress.{OpenConstruct, InWrapper, InThen, InElse, Layer}
 use Rattle.walrus_body.specs.declared.local_function.frame.IfElseState.{IfElseState}
 use Rattle.walrus_body.specs.Parsing.OpenConstructs.{opener_in, kind_in, clauses_in, closed_in, type_in, reshown_construct}
 use Rattle.walrus_body.specs.Parsing.OpenFrames.{OpenFrame, changed_at, with_instr}

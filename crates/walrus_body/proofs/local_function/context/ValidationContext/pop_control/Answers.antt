@@ -1,4 +1,4 @@
-use Rattle.std.proofs.Common.{◌≡◌, ◌∷◌, ◌∙◌, refl, ap}
+use Rattle.std.proofs.Common.{refl}
 use Rattle.walrus_ir.specs.declared.seq.InstrSeq.{InstrSeq}
 use Rattle.walrus_ir.specs.Function.{with_sequence}
 use Rattle.walrus_body.specs.Parsing.OpenFrames.{OpenFrame, frame_with}
