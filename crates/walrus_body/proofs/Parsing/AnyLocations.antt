@@ -1,25 +1,19 @@
 -- Which fault is the first doesn't depend on what the location function answers.
-use Rattle.std.specs.Prelude.{◌≡◌, ℕ, zero, suc, ◌+◌, ◌-◌, List, [], ◌∷◌, map, length, nat_lt, Bool, true, false, Option, Some, None, Result, Ok, Err}
-use Rattle.std.specs.Option.{option_map}
-use Rattle.std.proofs.lemmas.List.{length-map}
+use Rattle.std.specs.Prelude.{◌≡◌, ℕ, zero, suc, ◌+◌, ◌-◌, List, [], ◌∷◌, length, Bool, true, false, Option, Some, None, Result, Ok, Err}
 use Rattle.std.proofs.Common.{refl, ap, sym, ◌∙◌}
-use Rattle.walrus_ir.specs.declared.val_type.ValType.{ValType}
-use Rattle.walrus_ir.specs.Types.{signature}
 use Rattle.wasm_ops.specs.declared.fault.ReadFault.{ReadFault}
-use Rattle.wasm_ops.specs.declared.types.BlockType.{BlockType}
-use Rattle.walrus_ir.specs.Types.{Signature}
 use Rattle.wasm_ops.specs.Operations.{RawOperation}
 use Rattle.wasm_ops.specs.OperatorList.{Placed}
 use Rattle.wasm_ops.specs.Spelling.{read_operation}
 use Rattle.wasm_body.specs.declared.error.ParseError.{ParseError}
-use Rattle.wasm_body.specs.declared.error.ParseError.TheVariants.{Read, PlaceTooGreat, Checked, NoSuchLabel, RethrowOutsideHandler}
+use Rattle.wasm_body.specs.declared.error.ParseError.TheVariants.{Read, PlaceTooGreat, Checked}
 use Rattle.wasm_body.specs.declared.error.ParseFailure.{ParseFailure}
 use Rattle.walrus_ir.specs.Results.{◌>>=◌, unless, with_fault}
-use Rattle.wasm_body.specs.Control.{Block, Loop, TryTable, If, Try, Control, Does, Opens, Else, Catch, CatchAll, End, Delegate, control_of}
+use Rattle.wasm_body.specs.Control.{control_of}
 use Rattle.wasm_body.specs.SourceTree.{Sequence, Body}
-use Rattle.wasm_body.specs.Frames.{Frame, OfFunction, OfWrapper, Consequent, Alternative, TryBody, Handler, HandlerOfAll, moves, may_stand, handler_at, outside}
-use Rattle.wasm_body.specs.Translation.{Translation, translate}
-use Rattle.wasm_body.specs.Naming.{Environment, NamedOperation, Occurrence, position_fault, naming, block_signature, construct_results, has_pick, tag_type, has_types, named_in}
+use Rattle.wasm_body.specs.Frames.{Frame, moves, may_stand}
+use Rattle.wasm_body.specs.Translation.{translate}
+use Rattle.wasm_body.specs.Naming.{Environment, NamedOperation, Occurrence, position_fault, naming, named_in}
 use Rattle.wasm_body.specs.Parsing.Accepted.{mark, has_location, location_at, Setting, Handled, handled}
 use Rattle.wasm_body.specs.Parsing.Lists.{behind, parsed_from}
 use Rattle.wasm_body.specs.Parsing.Progress.{Layer, Progress, Within, Whole, NoBody, nothing_read, frames_of, further}
