@@ -15,7 +15,8 @@ use crate::immediates::Immediates;
 use crate::operator::Operator;
 use crate::types::{BlockType, Opcode, RawValType, Space};
 
-/// What is spelt at a front is read there, and what is read at the front of bytes is spelt by what is taken.
+/// What is spelt at a front is read there, and what is read at the front of bytes is spelt by
+/// what is taken.
 pub fn law_reading()
     ensures { ReadingAgrees }
 {}
