@@ -14,7 +14,10 @@ struct Nop {
 }
 
 impl Emit for Nop {
-    ghost appended = { λ nop cx. record { bytes = 1 ∷ []; code_transform = (nop.location, length cx.bytes.items) ∷ [] } };
+    ghost appended = { λ nop cx. record {
+      bytes = 1 ∷ [];
+      code_transform = (nop.location, length cx.bytes.items) ∷ [];
+    } };
 
     ghost changes = { λ _. ChangesNothingElse };
 

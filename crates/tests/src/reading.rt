@@ -3,7 +3,7 @@ use std::test::Fail;
 use walrus_ir::{LoadKind, UnaryOp};
 use wasm_ops::{
     BlockType, Operator, RawMemArg, RawValType, ReadError, ReadFault, Reader, law_one_list,
-    law_one_spelling, law_operator_equality, law_shortest, law_shortest_number,
+    law_one_spelling, law_operator_equality, law_reading, law_shortest, law_shortest_number,
 };
 
 #[test]
@@ -30,6 +30,7 @@ fn reads_one_after_the_other(rt: HostRuntime) -> Result<(), Fail> {
     assert!(rt; matches!(reader.read(), Err(error) if error == end));
     let nop = Operator::Nop;
     assert!(rt; !law_operator_equality(&nop, &Operator::Drop));
+    law_reading();
     law_one_spelling();
     law_one_list();
     law_shortest_number();

@@ -77,7 +77,8 @@ impl Recorder {
     }
 
     fn note(&mut self, word: Word, number: usize) -> Result<(), WalkError>
-        ensures ok { OnOk result (Adds self.old (record { word = word; number = number }) self.new) }
+        ensures ok { OnOk result
+            (Adds self.old (record { word = word; number = number }) self.new) }
         ensures err { IfErr result (IsUnable self.old) }
         ensures kept { OnErr result (HasSameNotes self.old self.new) }
     {

@@ -5,6 +5,7 @@ pub mod Constructs
 pub mod Labels
 pub mod Rules
 pub mod Clauses
+pub mod Kinds
 pub mod Steps
 pub mod Openings
 pub mod Partings

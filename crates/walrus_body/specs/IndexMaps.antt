@@ -1,6 +1,6 @@
 -- The index maps of a module: the ids that its old indices stand for, as a list for each space and for the locals of each
 -- function, and the new indices of its ids, as a finite map for each space.
-use Rattle.std.specs.Prelude.{ℕ, List, [], slice_get, Result}
+use Rattle.std.specs.Prelude.{ℕ, List, [], ◌∷◌, ◌++◌, slice_get, slice_set, Result}
 use Rattle.std.specs.Ordering.{nat_cmp}
 use Rattle.std.specs.FinMap.{FinMap, empty, get, insert, len}
 use Rattle.wasm_ops.specs.declared.types.Space.{Space}
@@ -10,7 +10,7 @@ use Rattle.wasm_body.specs.declared.error.IndexError.TheVariants.{OutOfRange, Un
 use Rattle.walrus_body.specs.declared.indices_to_ids.IndicesToIds.{IndicesToIds}
 use Rattle.walrus_body.specs.declared.ids_to_indices.IdsToIndices.{IdsToIndices}
 use Rattle.walrus_ir.specs.Results.{some_or}
-use Rattle.walrus_body.specs.Locals.{list_of, local_in}
+use Rattle.walrus_body.specs.Locals.{list_of, with_local, local_in}
 
 -- ---- from old indices to ids
 
@@ -40,6 +40,14 @@ with_ids_in Elements ids m = record m { elements = ids }
 with_ids_in Data ids m = record m { «data» = ids }
 with_ids_in Tags ids m = record m { tags = ids }
 
+-- the same maps, with one more id in a space, the last
+abbrev pub with_next_id : Space → (id : ℕ) → IndicesToIds → IndicesToIds
+with_next_id space id m = with_ids_in space (ids_in m space ++ id ∷ []) m
+
+-- the same maps, with this id at an index of a space
+abbrev pub with_id_at : Space → (index id : ℕ) → IndicesToIds → IndicesToIds
+with_id_at space index id m = with_ids_in space (slice_set (ids_in m space) index id) m
+
 -- the id that an old index stands for
 abbrev pub id_of : IndicesToIds → Space → ℕ → Result ℕ IndexError
 id_of m space index = some_or (slice_get (ids_in m space) index) (OutOfRange space index)
@@ -51,6 +59,10 @@ locals_in m function = list_of m.locals function
 -- the same maps, with these locals in a function
 abbrev pub with_locals : ℕ → List ℕ → IndicesToIds → IndicesToIds
 with_locals function ids m = record m { locals = insert m.locals function ids }
+
+-- the same maps, with one more local in a function, the last
+abbrev pub with_next_local : (function local : ℕ) → IndicesToIds → IndicesToIds
+with_next_local function local m = record m { locals = with_local function local m.locals }
 
 -- the local that an old index of a function stands for
 abbrev pub local_of : IndicesToIds → ℕ → ℕ → Result ℕ IndexError
@@ -79,6 +91,10 @@ with_numbers Memories numbers m = record m { memories = numbers }
 with_numbers Elements numbers m = record m { elements = numbers }
 with_numbers Data numbers m = record m { «data» = numbers }
 with_numbers Tags numbers m = record m { tags = numbers }
+
+-- the same maps, with this number for an id of a space
+abbrev pub with_number : Space → (id number : ℕ) → IdsToIndices → IdsToIndices
+with_number space id number m = with_numbers space (insert (numbers_in m space) id number) m
 
 -- the numbers with the next one for an id: how many have one
 abbrev pub numbered : FinMap nat_cmp ℕ → ℕ → FinMap nat_cmp ℕ

@@ -1,10 +1,10 @@
 //! The locals of each function, by old index.
-ghost use Rattle.std.specs.Prelude.{◌≡◌, ℕ, List, [], ◌∷◌, ◌++◌, length, IfOk, OnOk, OnErr};
+ghost use Rattle.std.specs.Prelude.{◌≡◌, ℕ, List, [], ◌∷◌, length, IfOk, OnOk, OnErr};
 ghost use Rattle.std.specs.Ordering.{nat_cmp};
 ghost use Rattle.std.specs.FinMap as map;
 ghost use Rattle.std.specs.Coded.{coded_ℕ, coded_list};
 ghost use Rattle.walrus_body.specs.Growth.{GrowsFrom};
-ghost use Rattle.walrus_body.specs.Locals.{list_of, local_in};
+ghost use Rattle.walrus_body.specs.Locals.{list_of, with_local, local_in};
 
 use crate::IndexError;
 use crate::id_list::IdList;
@@ -41,7 +41,7 @@ impl FunctionLocals {
     /// Adds a local behind the function's others, and answers its index.
     pub fn push(&mut self, function: FunctionId, local: LocalId) -> Result<u32, IndexError>
         ensures index { IfOk result (λ n. n ≡ length (list_of self.old function)) }
-        ensures ok { OnOk result (self.new ≡ map.insert self.old function (list_of self.old function ++ local ∷ [])) }
+        ensures ok { OnOk result (self.new ≡ with_local function local self.old) }
         ensures err { OnErr result (self.new ≡ self.old) }
         ensures growth { GrowsFrom (length (list_of self.old function)) result }
     {

@@ -4,7 +4,7 @@ ghost use Rattle.std.specs.HashMap.{IsEmpty};
 ghost use Rattle.std.specs.FinMap as map;
 ghost use Rattle.wasm_ops.specs.declared.types.Space.TheVariants.{Tables, Types, Funcs, Globals, Memories, Elements, Data, Tags};
 ghost use Rattle.walrus_body.specs.Growth.{GrowsFrom};
-ghost use Rattle.walrus_body.specs.IndexMaps.{numbers_in, with_numbers, with_next_number, number_of};
+ghost use Rattle.walrus_body.specs.IndexMaps.{numbers_in, with_number, with_next_number, number_of};
 ghost use Rattle.walrus_body.specs.Numbering.{PushesNumberInOrder};
 
 use crate::IndexError;
@@ -122,7 +122,7 @@ impl IdsToIndices {
 
     /// Gives a data segment this new index, in the place of the one that it has. The only error is `Memory`.
     pub fn set_data_index(&mut self, id: DataId, index: u32) -> Result<(), IndexError>
-        ensures ok { OnOk result (self.new ≡ with_numbers Data (map.insert (numbers_in self.old Data) id index) self.old) }
+        ensures ok { OnOk result (self.new ≡ with_number Data id index self.old) }
         ensures err { OnErr result (self.new ≡ self.old) }
         ensures memory { IsOkUnless result IndexError.Memory }
     {

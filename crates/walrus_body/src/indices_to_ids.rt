@@ -1,8 +1,8 @@
 //! From the old indices of a module to ids.
-ghost use Rattle.std.specs.Prelude.{◌≡◌, ◌<◌, [], ◌∷◌, ◌++◌, length, slice_set, IfOk, OnOk, OnErr};
+ghost use Rattle.std.specs.Prelude.{◌≡◌, ◌<◌, length, IfOk, OnOk, OnErr};
 ghost use Rattle.wasm_ops.specs.declared.types.Space.TheVariants.{Tables, Types, Funcs, Globals, Memories, Elements, Data, Tags};
 ghost use Rattle.walrus_body.specs.Growth.{GrowsFrom};
-ghost use Rattle.walrus_body.specs.IndexMaps.{no_ids, ids_in, with_ids_in, id_of, locals_in, with_locals, local_of};
+ghost use Rattle.walrus_body.specs.IndexMaps.{no_ids, ids_in, with_next_id, with_id_at, id_of, locals_in, with_next_local, local_of};
 
 use crate::IndexError;
 use crate::function_locals::FunctionLocals;
@@ -49,7 +49,7 @@ impl IndicesToIds {
     /// Adds a table, and answers its index, the next one. Errors: `TooMany` where there are 2^32, and `Memory`.
     pub fn push_table(&mut self, id: TableId) -> Result<u32, IndexError>
         ensures index { IfOk result (λ n. n ≡ length (ids_in self.old Tables)) }
-        ensures ok { OnOk result (self.new ≡ with_ids_in Tables (ids_in self.old Tables ++ id ∷ []) self.old) }
+        ensures ok { OnOk result (self.new ≡ with_next_id Tables id self.old) }
         ensures err { OnErr result (self.new ≡ self.old) }
         ensures growth { GrowsFrom (length (ids_in self.old Tables)) result }
     {
@@ -59,7 +59,7 @@ impl IndicesToIds {
     /// Adds a type, and answers its index, the next one. Errors: `TooMany` where there are 2^32, and `Memory`.
     pub fn push_type(&mut self, id: TypeId) -> Result<u32, IndexError>
         ensures index { IfOk result (λ n. n ≡ length (ids_in self.old Types)) }
-        ensures ok { OnOk result (self.new ≡ with_ids_in Types (ids_in self.old Types ++ id ∷ []) self.old) }
+        ensures ok { OnOk result (self.new ≡ with_next_id Types id self.old) }
         ensures err { OnErr result (self.new ≡ self.old) }
         ensures growth { GrowsFrom (length (ids_in self.old Types)) result }
     {
@@ -69,7 +69,7 @@ impl IndicesToIds {
     /// Adds a function, and answers its index, the next one. Errors: `TooMany` where there are 2^32, and `Memory`.
     pub fn push_func(&mut self, id: FunctionId) -> Result<u32, IndexError>
         ensures index { IfOk result (λ n. n ≡ length (ids_in self.old Funcs)) }
-        ensures ok { OnOk result (self.new ≡ with_ids_in Funcs (ids_in self.old Funcs ++ id ∷ []) self.old) }
+        ensures ok { OnOk result (self.new ≡ with_next_id Funcs id self.old) }
         ensures err { OnErr result (self.new ≡ self.old) }
         ensures growth { GrowsFrom (length (ids_in self.old Funcs)) result }
     {
@@ -79,7 +79,7 @@ impl IndicesToIds {
     /// Adds a global, and answers its index, the next one. Errors: `TooMany` where there are 2^32, and `Memory`.
     pub fn push_global(&mut self, id: GlobalId) -> Result<u32, IndexError>
         ensures index { IfOk result (λ n. n ≡ length (ids_in self.old Globals)) }
-        ensures ok { OnOk result (self.new ≡ with_ids_in Globals (ids_in self.old Globals ++ id ∷ []) self.old) }
+        ensures ok { OnOk result (self.new ≡ with_next_id Globals id self.old) }
         ensures err { OnErr result (self.new ≡ self.old) }
         ensures growth { GrowsFrom (length (ids_in self.old Globals)) result }
     {
@@ -89,7 +89,7 @@ impl IndicesToIds {
     /// Adds a memory, and answers its index, the next one. Errors: `TooMany` where there are 2^32, and `Memory`.
     pub fn push_memory(&mut self, id: MemoryId) -> Result<u32, IndexError>
         ensures index { IfOk result (λ n. n ≡ length (ids_in self.old Memories)) }
-        ensures ok { OnOk result (self.new ≡ with_ids_in Memories (ids_in self.old Memories ++ id ∷ []) self.old) }
+        ensures ok { OnOk result (self.new ≡ with_next_id Memories id self.old) }
         ensures err { OnErr result (self.new ≡ self.old) }
         ensures growth { GrowsFrom (length (ids_in self.old Memories)) result }
     {
@@ -99,7 +99,7 @@ impl IndicesToIds {
     /// Adds an element segment, and answers its index, the next one. Errors: `TooMany` where there are 2^32, and `Memory`.
     pub fn push_element(&mut self, id: ElementId) -> Result<u32, IndexError>
         ensures index { IfOk result (λ n. n ≡ length (ids_in self.old Elements)) }
-        ensures ok { OnOk result (self.new ≡ with_ids_in Elements (ids_in self.old Elements ++ id ∷ []) self.old) }
+        ensures ok { OnOk result (self.new ≡ with_next_id Elements id self.old) }
         ensures err { OnErr result (self.new ≡ self.old) }
         ensures growth { GrowsFrom (length (ids_in self.old Elements)) result }
     {
@@ -109,7 +109,7 @@ impl IndicesToIds {
     /// Adds a data segment, and answers its index, the next one. Errors: `TooMany` where there are 2^32, and `Memory`.
     pub fn push_data(&mut self, id: DataId) -> Result<u32, IndexError>
         ensures index { IfOk result (λ n. n ≡ length (ids_in self.old Data)) }
-        ensures ok { OnOk result (self.new ≡ with_ids_in Data (ids_in self.old Data ++ id ∷ []) self.old) }
+        ensures ok { OnOk result (self.new ≡ with_next_id Data id self.old) }
         ensures err { OnErr result (self.new ≡ self.old) }
         ensures growth { GrowsFrom (length (ids_in self.old Data)) result }
     {
@@ -119,7 +119,7 @@ impl IndicesToIds {
     /// Adds a tag, and answers its index, the next one. Errors: `TooMany` where there are 2^32, and `Memory`.
     pub fn push_tag(&mut self, id: TagId) -> Result<u32, IndexError>
         ensures index { IfOk result (λ n. n ≡ length (ids_in self.old Tags)) }
-        ensures ok { OnOk result (self.new ≡ with_ids_in Tags (ids_in self.old Tags ++ id ∷ []) self.old) }
+        ensures ok { OnOk result (self.new ≡ with_next_id Tags id self.old) }
         ensures err { OnErr result (self.new ≡ self.old) }
         ensures growth { GrowsFrom (length (ids_in self.old Tags)) result }
     {
@@ -130,7 +130,7 @@ impl IndicesToIds {
     /// function has 2^32, and `Memory`.
     pub fn push_local(&mut self, function: FunctionId, local: LocalId) -> Result<u32, IndexError>
         ensures index { IfOk result (λ n. n ≡ length (locals_in self.old function)) }
-        ensures ok { OnOk result (self.new ≡ with_locals function (locals_in self.old function ++ local ∷ []) self.old) }
+        ensures ok { OnOk result (self.new ≡ with_next_local function local self.old) }
         ensures err { OnErr result (self.new ≡ self.old) }
         ensures growth { GrowsFrom (length (locals_in self.old function)) result }
     {
@@ -204,7 +204,7 @@ impl IndicesToIds {
     /// Lets an index that stands for a type stand for another one. It takes no memory.
     pub fn remap_type(&mut self, index: u32, id: TypeId)
         requires { index < length (ids_in self.old Types) }
-        ensures { self.new ≡ with_ids_in Types (slice_set (ids_in self.old Types) index id) self.old }
+        ensures { self.new ≡ with_id_at Types index id self.old }
     {
         self.types.set(index, id);
     }

@@ -37,7 +37,8 @@ pub trait Visitor {
 
     /// An instruction, before what it names and the sequences in it.
     fn visit_instr(&mut self, instr: &Instr, loc: &InstrLocId) -> Result<(), Self::Fault>
-        ensures { Hears steps refuses same self.old (VisitInstruction instr.now loc.now) result self.new };
+        ensures { Hears steps refuses same self.old
+            (VisitInstruction instr.now loc.now) result self.new };
 
     /// The data segment that the instruction names.
     fn visit_data_id(&mut self, data_id: &DataId) -> Result<(), Self::Fault>

@@ -62,8 +62,10 @@ fn start_seq<'a, V: Visitor>(
     stack: &mut Vec<Open<'a>>,
 ) -> Result<(), V::Fault>
     requires { vec_len stack.old < vec_capacity stack.old }
-    ensures told { Hears V.steps V.refuses V.same visitor.old (StartSequence seq.now) result visitor.new }
-    ensures opened { OnOk result (frames stack.new.items ≡ started seq.now ∷ frames stack.old.items) }
+    ensures told { Hears V.steps V.refuses V.same visitor.old
+        (StartSequence seq.now) result visitor.new }
+    ensures opened { OnOk result
+        (frames stack.new.items ≡ started seq.now ∷ frames stack.old.items) }
     ensures len { OnOk result (vec_len stack.new ≡ vec_len stack.old + 1) }
     ensures room { vec_capacity stack.old ≤ vec_capacity stack.new }
 {
@@ -85,7 +87,8 @@ fn tell_stretch<'a, V: Visitor>(
     instrs: &'a [(Instr, InstrLocId)],
 ) -> Result<(&'a [(Instr, InstrLocId)], usize), V::Fault>
     ensures told { MatchResult result
-        (λ told. IsToldStretch instrs.now told.0.now told.1 (λ es. Folds V.steps visitor.old es visitor.new))
+        (λ told. IsToldStretch instrs.now told.0.now told.1
+        (λ es. Folds V.steps visitor.old es visitor.new))
         (λ f. IsRefusedStretch instrs.now
         (λ es. Stops V.steps V.refuses V.same visitor.old es visitor.new f)) }
     ensures all { IfOk result (λ told. told.1 ≡ 0 → told.0.now ≡ []) }
@@ -121,7 +124,8 @@ fn start_inside<'a, 'b, V: Visitor>(
         (frames stack.new.items) left.now)
         (λ f. IsRefusedNext builder.now.sequences (frame top.entry) coming.now
         (λ es. Stops V.steps V.refuses V.same visitor.old es visitor.new f)) }
-    ensures room { IfOk result (λ left. vec_len stack.new + length left.now ≤ vec_capacity stack.new) }
+    ensures room { IfOk result
+        (λ left. vec_len stack.new + length left.now ≤ vec_capacity stack.new) }
 {
     let (next, left) = coming.split_first().unwrap();
     stack
@@ -152,7 +156,8 @@ fn tell_next<'a, 'b, V: Visitor>(
         (frames stack.new.items) left.now)
         (λ f. IsRefusedNext builder.now.sequences (frame top.entry) coming.now
         (λ es. Stops V.steps V.refuses V.same visitor.old es visitor.new f)) }
-    ensures room { IfOk result (λ left. vec_len stack.new + length left.now ≤ vec_capacity stack.new) }
+    ensures room { IfOk result
+        (λ left. vec_len stack.new + length left.now ≤ vec_capacity stack.new) }
 {
     if top.inside > 0 {
         return start_inside(visitor, builder, top, coming, stack);

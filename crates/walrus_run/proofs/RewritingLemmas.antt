@@ -23,9 +23,9 @@ use Rattle.wasm_body.specs.FunctionTree.{FunctionTree}
 use Rattle.wasm_body.specs.NormalForm.{typing_of, normal_form, named_body}
 use Rattle.wasm_body.specs.Parsing.Lists.{parsed}
 use Rattle.wasm_body.specs.Bytes.{Numbers, tree_bytes}
-use Rattle.wasm_body.proofs.Parsing.Parses.{AreBytes}
+use Rattle.wasm_ops.specs.Laws.{AreBytes}
 use Rattle.wasm_body.proofs.Parsing.Answers.{Answers, answers, accepted_parsed, fault_parsed}
-use Rattle.wasm_body.proofs.Parsing.ReadingBytes.{reading_agrees}
+use Rattle.wasm_ops.proofs.ReadingBytes.{reading_agrees}
 use Rattle.wasm_body.proofs.Bytes.NumberedBodies.{HasText, body_bytes_ok}
 use Rattle.walrus_run.specs.declared.error.RewriteError.{RewriteError}
 use Rattle.walrus_run.specs.declared.error.RewriteError.TheVariants.{Parse}

@@ -4,4 +4,3 @@ pub mod Parses
 pub mod Stops
 pub mod Answers
 pub mod Longest
-pub mod ReadingBytes

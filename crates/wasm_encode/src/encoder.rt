@@ -25,7 +25,8 @@ fn write_declaration(out: &mut Vec<u8>, count: u32, ty: RawValType) -> Result<()
 /// Appends declarations of locals, each a count and a type.
 #[tactic(auto, using(crate::proofs::Appending::appending))]
 fn write_declarations(out: &mut Vec<u8>, locals: &[(u32, RawValType)]) -> Result<(), AllocError>
-    ensures ok { OnOk result (out.new.items ≡ out.old.items ++ flat_map short_declaration locals.now) }
+    ensures ok { OnOk result
+        (out.new.items ≡ out.old.items ++ flat_map short_declaration locals.now) }
     ensures kept { take (length out.old.items) out.new.items ≡ out.old.items }
 {
     for (count, ty) in locals {

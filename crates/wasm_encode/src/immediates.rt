@@ -14,7 +14,8 @@ use wasm_ops::{Immediates, RawCatch, RawMemArg, RawValType};
 /// Appends two indices.
 #[tactic(auto, using(crate::proofs::Appending::appending))]
 fn write_pair(out: &mut Vec<u8>, first: u32, second: u32) -> Result<(), AllocError>
-    ensures ok { OnOk result (out.new.items ≡ out.old.items ++ (short_number first ++ short_number second)) }
+    ensures ok { OnOk result
+        (out.new.items ≡ out.old.items ++ (short_number first ++ short_number second)) }
     ensures kept { take (length out.old.items) out.new.items ≡ out.old.items }
 {
     write_number(out, first as u64)?;
@@ -95,7 +96,8 @@ pub(crate) fn write_immediates(
     out: &mut Vec<u8>,
     immediates: &OutImmediates<'_>,
 ) -> Result<(), AllocError>
-    ensures ok { OnOk result (out.new.items ≡ out.old.items ++ short_immediates (immediates_of immediates.now)) }
+    ensures ok { OnOk result
+        (out.new.items ≡ out.old.items ++ short_immediates (immediates_of immediates.now)) }
     ensures kept { take (length out.old.items) out.new.items ≡ out.old.items }
 {
     match immediates {

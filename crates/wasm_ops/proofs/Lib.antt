@@ -5,6 +5,7 @@ pub mod NumberLaws
 pub mod TypeLaws
 pub mod ImmediateLaws
 pub mod OperationLaws
+pub mod ReadingBytes
 pub mod Fronts
 pub mod ShortestNumbers
 pub mod Shortness

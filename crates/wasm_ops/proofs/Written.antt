@@ -42,7 +42,7 @@ use Rattle.wasm_ops.proofs.ShortestImmediates.{either_way, plain_access, indexed
 
 -- ---- numbers
 
-u32_spelt : (n : ℕ) → n < 2 ^ 32 → IsU32 n (short_number n)
+pub u32_spelt : (n : ℕ) → n < 2 ^ 32 → IsU32 n (short_number n)
 u32_spelt n h = unsigned_spelt 9 32 n (omega arith) h
 
 u64_spelt : (n : ℕ) → n < 2 ^ 64 → IsU64 n (short_number n)
@@ -52,7 +52,7 @@ s32_spelt : (z : ℤ) → IsWithin (2 ^ 31) z → IsS32 z (short_integer z)
 s32_spelt (pos n) h = signed_spelt 9 32 (pos n) (omega arith) h
 s32_spelt (negsuc n) h = signed_spelt 9 32 (negsuc n) (omega arith) h
 
-s33_spelt : (n : ℕ) → n < 2 ^ 32 → IsS33 (pos n) (short_integer (pos n))
+pub s33_spelt : (n : ℕ) → n < 2 ^ 32 → IsS33 (pos n) (short_integer (pos n))
 s33_spelt n h = signed_spelt 9 33 (pos n) (omega arith) h
 
 s64_spelt : (z : ℤ) → IsWithin (2 ^ 63) z → IsS64 z (short_integer z)
@@ -95,12 +95,12 @@ block_value_spelt F64 h = inr (refl, inl (refl, (F64, refl, value_spelt F64 h)))
 block_value_spelt V128 h = inr (refl, inl (refl, (V128, refl, value_spelt V128 h)))
 block_value_spelt (Ref r) h = absurd h
 
-block_spelt : (b : BlockType) → FitsBlock b → IsBlockType b (short_block b)
+pub block_spelt : (b : BlockType) → FitsBlock b → IsBlockType b (short_block b)
 block_spelt Empty h = inl (refl, (0x40, refl, (omega arith, refl)))
 block_spelt (Value t) h = block_value_spelt t h
 block_spelt (FuncType n) h = inr (index_starts (λ b. eqb b 0x40) empty_between n, inr (index_starts _ value_between n, (pos n, refl, s33_spelt n h)))
 
-selected_spelt : (t : ValType ℕ) → IsSpeltType t → IsSelected t (1 ∷ short_value t)
+pub selected_spelt : (t : ValType ℕ) → IsSpeltType t → IsSelected t (1 ∷ short_value t)
 selected_spelt t h = ((1, t), refl, (1 ∷ [], short_value t, refl, (1, refl, (omega arith, refl)), value_spelt t h))
 
 access_spelt : (a : Access) → Fits (access a) → IsAccess a (short_access a)

@@ -1,8 +1,21 @@
 -- The laws of spellings.
-use Rattle.std.specs.Prelude.{◌≡◌, ℕ, ◌+◌, ◌⊎◌, List, ◌++◌, length}
+use Rattle.std.specs.Prelude.{◌≡◌, ◌<◌, ℕ, ◌+◌, ◌⊎◌, List, ◌++◌, length, Ok}
+use Rattle.std.specs.List.{AllByRecursion}
+use Rattle.wasm_ops.specs.Operations.{RawOperation}
 use Rattle.wasm_ops.specs.Reading.{Spelling}
+use Rattle.wasm_ops.specs.Spelling.{Spells, read_operation}
 use Rattle.wasm_ops.specs.OperatorList.{Placed, Lists}
 use Rattle.wasm_ops.specs.Shortest.{IsLeast}
+
+-- numbers that are bytes
+abbrev pub AreBytes : List ℕ → Type 0
+AreBytes bytes = AllByRecursion (λ b. b < 256) bytes
+
+-- What is spelt at a front is read there, whatever follows; and what is read at the front of bytes is spelt by what is
+-- taken, behind which stand bytes.
+pub record ReadingAgrees : Type 0 where
+  pub again : (o : RawOperation) (text rest : List ℕ) → Spells o text → read_operation (text ++ rest) ≡ Ok (o, rest)
+  pub takes : (bytes : List ℕ) (o : RawOperation) (rest : List ℕ) → AreBytes bytes → read_operation bytes ≡ Ok (o, rest) → (text : List ℕ) × (bytes ≡ text ++ rest) × Spells o text × AreBytes rest
 
 -- No spelling begins another, and none spells two values.
 abbrev pub OneSpelling : {V : Type 0} → Spelling V → Type 0

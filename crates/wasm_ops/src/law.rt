@@ -5,13 +5,19 @@ ghost use Rattle.wasm_ops.specs.Meaning.{meaning};
 ghost use Rattle.wasm_ops.specs.Numbers.{IsU32, IsU64, IsS32, IsS33, IsS64};
 ghost use Rattle.wasm_ops.specs.Spelling.{Spells};
 ghost use Rattle.wasm_ops.specs.Shortest.{short_number, short_integer, short};
-ghost use Rattle.wasm_ops.specs.Laws.{OneSpelling, ListsAgree, OneList, IsShortest};
+ghost use Rattle.wasm_ops.specs.Laws.{ReadingAgrees, OneSpelling, ListsAgree, OneList, IsShortest};
 
 use crate::branch_table::BrTable;
 use crate::catch_list::CatchList;
 use crate::immediates::Immediates;
 use crate::operator::Operator;
 use crate::types::{BlockType, Opcode, RawValType, Space};
+
+/// What is spelt at a front is read there, and what is read at the front of bytes is spelt by
+/// what is taken.
+pub fn law_reading()
+    ensures { ReadingAgrees }
+{}
 
 /// No spelling begins another, and none spells two operators.
 pub fn law_one_spelling()
@@ -89,7 +95,8 @@ fn same_clauses(a: &CatchList<'_>, b: &CatchList<'_>) -> bool
 /// What follows an opcode is compared as equal exactly where it is the same.
 #[tactic(auto, using(crate::proofs::SameLists::same_lists))]
 fn same_immediates(a: &OperatorImmediates<'_>, b: &OperatorImmediates<'_>) -> bool
-    ensures compares { result ≡ ⟦<Immediates<BrTable<'static>, CatchList<'static>> as PartialEq>⟧.eq a.now b.now }
+    ensures compares { result
+        ≡ ⟦<Immediates<BrTable<'static>, CatchList<'static>> as PartialEq>⟧.eq a.now b.now }
     ensures same { result ≡ true → a.now ≡ b.now }
     ensures equal { a.now ≡ b.now → result ≡ true }
 {

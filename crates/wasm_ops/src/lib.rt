@@ -30,7 +30,8 @@ pub use catch_list::{CatchList, Catches};
 pub use fault::{ReadError, ReadFault};
 pub use immediates::Immediates;
 pub use law::{
-    law_one_list, law_one_spelling, law_operator_equality, law_shortest, law_shortest_number,
+    law_one_list, law_one_spelling, law_operator_equality, law_reading, law_shortest,
+    law_shortest_number,
 };
 pub use operator::{Op, Operator};
 pub use reader::Reader;

@@ -34,7 +34,8 @@ macro_rules! read_number {
 /// What follows 0xfc and a number.
 #[tactic(auto, unfolding(crate::specs::Opcodes::kinds_behind))]
 pub(crate) fn read_behind_fc(number: u32, bytes: &[u8]) -> Result<(Operator<'_>, &[u8]), ReadFault>
-    ensures { Gives (λ x. (meaning x.0, x.1.now)) result (operands (Opcode.Prefixed 0xfc number) bytes.now) }
+    ensures { Gives (λ x. (meaning x.0, x.1.now)) result
+        (operands (Opcode.Prefixed 0xfc number) bytes.now) }
 {
     index_rows!(read_number, number bytes)
 }

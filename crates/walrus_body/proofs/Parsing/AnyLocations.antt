@@ -1,184 +1,60 @@
 -- Which fault is the first doesn't depend on what the location function answers.
-use Rattle.std.specs.Prelude.{◌≡◌, ℕ, zero, suc, ◌+◌, ◌-◌, List, [], ◌∷◌, map, length, nat_lt, Bool, true, false, Option, Some, None, Result, Ok, Err}
-use Rattle.std.specs.Option.{option_map}
-use Rattle.std.proofs.lemmas.List.{length-map}
+use Rattle.std.specs.Prelude.{◌≡◌, ℕ, zero, suc, ◌+◌, ◌-◌, List, [], ◌∷◌, length, Bool, true, false, Option, Some, None, Result, Ok, Err}
 use Rattle.std.proofs.Common.{refl, ap, sym, ◌∙◌}
-use Rattle.walrus_ir.specs.declared.val_type.ValType.{ValType}
-use Rattle.walrus_ir.specs.Types.{signature}
 use Rattle.wasm_ops.specs.declared.fault.ReadFault.{ReadFault}
-use Rattle.wasm_ops.specs.declared.types.BlockType.{BlockType}
-use Rattle.walrus_ir.specs.Types.{Signature}
 use Rattle.wasm_ops.specs.Operations.{RawOperation}
 use Rattle.wasm_ops.specs.OperatorList.{Placed}
 use Rattle.wasm_ops.specs.Spelling.{read_operation}
 use Rattle.wasm_body.specs.declared.error.ParseError.{ParseError}
-use Rattle.wasm_body.specs.declared.error.ParseError.TheVariants.{Read, PlaceTooGreat, Checked, NoSuchLabel, RethrowOutsideHandler}
+use Rattle.wasm_body.specs.declared.error.ParseError.TheVariants.{Read, PlaceTooGreat, Checked}
 use Rattle.wasm_body.specs.declared.error.ParseFailure.{ParseFailure}
 use Rattle.walrus_ir.specs.Results.{◌>>=◌, unless, with_fault}
-use Rattle.wasm_body.specs.Control.{Block, Loop, TryTable, If, Try, Control, Does, Opens, Else, Catch, CatchAll, End, Delegate, control_of}
+use Rattle.wasm_body.specs.Control.{control_of}
 use Rattle.wasm_body.specs.SourceTree.{Sequence, Body}
-use Rattle.wasm_body.specs.Frames.{Frame, OfFunction, OfWrapper, Consequent, Alternative, TryBody, Handler, HandlerOfAll, moves, may_stand, handler_at, outside}
-use Rattle.wasm_body.specs.Translation.{Translation, translate}
-use Rattle.wasm_body.specs.Naming.{Environment, NamedOperation, Occurrence, position_fault, naming, block_signature, construct_results, has_pick, tag_type, has_types, named_in}
+use Rattle.wasm_body.specs.Frames.{Frame, moves, may_stand}
+use Rattle.wasm_body.specs.Translation.{translate}
+use Rattle.wasm_body.specs.Naming.{Environment, NamedOperation, Occurrence, position_fault, naming, named_in}
 use Rattle.wasm_body.specs.Parsing.Accepted.{mark, has_location, location_at, Setting, Handled, handled}
 use Rattle.wasm_body.specs.Parsing.Lists.{behind, parsed_from}
 use Rattle.wasm_body.specs.Parsing.Progress.{Layer, Progress, Within, Whole, NoBody, nothing_read, frames_of, further}
 use Rattle.wasm_body.proofs.Structure.ReadFrames.{progress_frames, further_frames}
+use Rattle.wasm_body.proofs.ReadBack.FrameNames.{map_frames, behind_frames, moves_frames, stand_frames, open_frames, handler_label_frames, outer_frames, named_of, results_at, types_in, types_named}
 use Rattle.walrus_body.specs.Parsing.Checking.{placed_at}
 use Rattle.walrus_body.specs.Parsing.Settings.{Taken, taken, given_with, BothOrNone}
 use Rattle.walrus_body.proofs.Parsing.SoFars.{occurrence}
 
--- ---- frames with something else shown
-
-abbrev reframe : {A B : Type 0} → (A → B) → Frame A → Frame B
-reframe h OfFunction = OfFunction
-reframe h (OfWrapper a) = OfWrapper (h a)
-reframe h (Consequent a) = Consequent (h a)
-reframe h (Alternative a) = Alternative (h a)
-reframe h (TryBody a) = TryBody (h a)
-reframe h (Handler a) = Handler (h a)
-reframe h (HandlerOfAll a) = HandlerOfAll (h a)
-
-moves_reframed : {A B : Type 0} (h : A → B) (c : Control) (a : A) (fs : List (Frame A)) → moves c (h a) (map (reframe h) fs) ≡ option_map (map (reframe h)) (moves c a fs)
-moves_reframed h c a [] = refl
-moves_reframed h (Does action) a (f ∷ fs) = refl
-moves_reframed h (Opens Block) a (f ∷ fs) = refl
-moves_reframed h (Opens Loop) a (f ∷ fs) = refl
-moves_reframed h (Opens (TryTable cs)) a (f ∷ fs) = refl
-moves_reframed h (Opens If) a (f ∷ fs) = refl
-moves_reframed h (Opens Try) a (f ∷ fs) = refl
-moves_reframed h Else a (Consequent b ∷ fs) = refl
-moves_reframed h Else a (_ ∷ fs) = refl
-moves_reframed h (Catch t) a (TryBody b ∷ fs) = refl
-moves_reframed h (Catch t) a (Handler b ∷ fs) = refl
-moves_reframed h (Catch t) a (_ ∷ fs) = refl
-moves_reframed h CatchAll a (TryBody b ∷ fs) = refl
-moves_reframed h CatchAll a (Handler b ∷ fs) = refl
-moves_reframed h CatchAll a (_ ∷ fs) = refl
-moves_reframed h End a (f ∷ fs) = refl
-moves_reframed h (Delegate n) a (TryBody b ∷ fs) = refl
-moves_reframed h (Delegate n) a (_ ∷ fs) = refl
-
-stand_reframed : {A B : Type 0} (h : A → B) (fs : List (Frame A)) (c : Control) → may_stand (map (reframe h) fs) c ≡ may_stand fs c
-stand_reframed h [] c = refl
-stand_reframed h (f ∷ fs) (Does action) = refl
-stand_reframed h (f ∷ fs) (Opens construct) = refl
-stand_reframed h (Consequent a ∷ fs) Else = refl
-stand_reframed h (_ ∷ fs) Else = refl
-stand_reframed h (TryBody a ∷ fs) (Catch t) = refl
-stand_reframed h (Handler a ∷ fs) (Catch t) = refl
-stand_reframed h (_ ∷ fs) (Catch t) = refl
-stand_reframed h (TryBody a ∷ fs) CatchAll = refl
-stand_reframed h (Handler a ∷ fs) CatchAll = refl
-stand_reframed h (_ ∷ fs) CatchAll = refl
-stand_reframed h (f ∷ fs) End = refl
-stand_reframed h (TryBody a ∷ fs) (Delegate n) = refl
-stand_reframed h (_ ∷ fs) (Delegate n) = refl
-
-handler_reframed : {A B : Type 0} (h : A → B) (fs : List (Frame A)) (n : ℕ) → handler_at (map (reframe h) fs) n ≡ handler_at fs n
-handler_reframed h [] n = refl
-handler_reframed h (Handler a ∷ fs) zero = refl
-handler_reframed h (HandlerOfAll a ∷ fs) zero = refl
-handler_reframed h (_ ∷ fs) zero = refl
-handler_reframed h (f ∷ fs) (suc n) = handler_reframed h fs n
-
-outside_reframed : {A B : Type 0} (h : A → B) (fs : List (Frame A)) → length (outside (map (reframe h) fs)) ≡ length (outside fs)
-outside_reframed h [] = refl
-outside_reframed h (f ∷ fs) = length-map fs (reframe h)
-
 -- ---- what naming asks of frames
 
-abbrev name_of : Occurrence → NamedOperation
-name_of x = x.named
-
 abbrev shapes : List (Frame Occurrence) → List (Frame NamedOperation)
-shapes = map (reframe name_of)
-
-abbrev shape_results : List (Frame NamedOperation) → List (ValType ℕ)
-shape_results [] = []
-shape_results (OfFunction ∷ fs) = []
-shape_results (OfWrapper o ∷ fs) = (block_signature o).results
-shape_results (Consequent o ∷ fs) = (block_signature o).results
-shape_results (Alternative o ∷ fs) = (block_signature o).results
-shape_results (TryBody o ∷ fs) = (block_signature o).results
-shape_results (Handler o ∷ fs) = (block_signature o).results
-shape_results (HandlerOfAll o ∷ fs) = (block_signature o).results
-
-results_shape : (fs : List (Frame Occurrence)) → construct_results fs ≡ shape_results (shapes fs)
-results_shape [] = refl
-results_shape (OfFunction ∷ fs) = refl
-results_shape (OfWrapper x ∷ fs) = refl
-results_shape (Consequent x ∷ fs) = refl
-results_shape (Alternative x ∷ fs) = refl
-results_shape (TryBody x ∷ fs) = refl
-results_shape (Handler x ∷ fs) = refl
-results_shape (HandlerOfAll x ∷ fs) = refl
+shapes = map_frames named_of
 
 module _ (env : Environment) where
-  abbrev types_by : List (ValType ℕ) → Control → NamedOperation → Result (Unit {0}) ParseError
-  types_by results (Opens construct) o = has_pick env (block_signature o)
-  types_by results (Catch tag) o = tag_type env tag >>= λ s. has_pick env (signature s.parameters results)
-  types_by results CatchAll o = has_pick env (signature [] results)
-  types_by results (Does action) o = Ok tt
-  types_by results Else o = Ok tt
-  types_by results End o = Ok tt
-  types_by results (Delegate n) o = Ok tt
-
-  types_are : (fs : List (Frame Occurrence)) (c : Control) (o : NamedOperation) → has_types env fs c o ≡ types_by (construct_results fs) c o
-  types_are fs (Opens construct) o = refl
-  types_are fs (Catch tag) o = refl
-  types_are fs CatchAll o = refl
-  types_are fs (Does action) o = refl
-  types_are fs Else o = refl
-  types_are fs End o = refl
-  types_are fs (Delegate n) o = refl
-
-  abbrev open_by : ℕ → ℕ → Result ℕ ParseError
-  open_by count n = unless (nat_lt n count) NoSuchLabel >>= λ u. Ok n
-
-  abbrev naming_by : (count outer : ℕ) → (ℕ → Bool) → Translation ℕ BlockType ℕ Signature ParseError
-  naming_by count outer handler = record (naming {A = Occurrence} env []) {
-    label = open_by count;
-    handler = λ n. open_by count n >>= λ m. unless (handler n) RethrowOutsideHandler >>= λ u. Ok n;
-    outer = open_by outer;
-  }
-
-  abbrev named_by : RawOperation → Bool → (count outer : ℕ) → (ℕ → Bool) → List (ValType ℕ) → Result NamedOperation ParseError
-  named_by o stand count outer handler results =
-      unless stand (position_fault (control_of o)) >>= λ _.
-      translate (naming_by count outer handler) o >>= λ named.
-      types_by results (control_of named) named >>= λ _.
+  abbrev named_by : List (Frame NamedOperation) → RawOperation → Result NamedOperation ParseError
+  named_by gs o =
+      unless (may_stand gs (control_of o)) (position_fault (control_of o)) >>= λ _.
+      translate (naming env gs) o >>= λ named.
+      types_in env (results_at gs) (control_of named) named >>= λ _.
       Ok named
 
-  named_is : (fs : List (Frame Occurrence)) (o : RawOperation) → named_in env fs o ≡ named_by o (may_stand fs (control_of o)) (length fs) (length (outside fs)) (handler_at fs) (construct_results fs)
-  named_is fs o = by_stand (may_stand fs (control_of o))
-    where
-      by_name : (r : Result NamedOperation ParseError) → ◌≡◌ {A = Result NamedOperation ParseError}
-          (r >>= λ named. has_types env fs (control_of named) named >>= λ _. Ok named) (r >>= λ named. types_by (construct_results fs) (control_of named) named >>= λ _. Ok named)
-      by_name (Err e) = refl
-      by_name (Ok named) = ap (λ t. t >>= λ _. Ok named) (types_are fs (control_of named) named)
+  naming_is : (fs : List (Frame Occurrence)) → naming env fs ≡ naming env (shapes fs)
+  naming_is fs = λ i. record (naming env fs) {
+    label = λ n. (sym (open_frames named_of fs n)) i;
+    handler = λ n. (sym (handler_label_frames named_of fs n)) i;
+    outer = λ n. (sym (outer_frames named_of fs n)) i;
+  }
 
-      by_stand : (b : Bool) → ◌≡◌ {A = Result NamedOperation ParseError}
-          (unless b (position_fault (control_of o)) >>= λ _. translate (naming env fs) o >>= λ named. has_types env fs (control_of named) named >>= λ _. Ok named)
-          (unless b (position_fault (control_of o)) >>= λ _. translate (naming_by (length fs) (length (outside fs)) (handler_at fs)) o >>= λ named. types_by (construct_results fs) (control_of named) named >>= λ _. Ok named)
-      by_stand true = by_name (translate (naming env fs) o)
-      by_stand false = refl
+  named_is : (fs : List (Frame Occurrence)) (o : RawOperation) → named_in env fs o ≡ named_by (shapes fs) o
+  named_is fs o =
+      (λ i. unless ((sym (stand_frames named_of fs (control_of o))) i) (position_fault (control_of o)) >>= λ _. translate (naming_is fs i) o >>= λ named. types_named env fs (control_of named) named i >>= λ _. Ok named)
 
   -- frames that were opened by operators of the same names name an operator alike
   pub named_same : (fs gs : List (Frame Occurrence)) (o : RawOperation) → shapes fs ≡ shapes gs → named_in env fs o ≡ named_in env gs o
-  named_same fs gs o e =
-      let h = name_of in
-      let stand = sym (stand_reframed h fs (control_of o)) ∙ ap (λ s. may_stand s (control_of o)) e ∙ stand_reframed h gs (control_of o) in
-      let count : length fs ≡ length gs = sym (length-map fs (reframe h)) ∙ ap length e ∙ length-map gs (reframe h) in
-      let outer : length (outside fs) ≡ length (outside gs) = sym (outside_reframed h fs) ∙ ap (λ s. length (outside s)) e ∙ outside_reframed h gs in
-      let handler : (n : ℕ) → handler_at fs n ≡ handler_at gs n = λ n. sym (handler_reframed h fs n) ∙ ap (λ s. handler_at s n) e ∙ handler_reframed h gs n in
-      let results : construct_results fs ≡ construct_results gs = results_shape fs ∙ ap shape_results e ∙ sym (results_shape gs) in
-      named_is fs o ∙ (λ i. named_by o (stand i) (count i) (outer i) (λ n. handler n i) (results i)) ∙ sym (named_is gs o)
+  named_same fs gs o e = named_is fs o ∙ ap (λ hs. named_by hs o) e ∙ sym (named_is gs o)
 
 -- ---- one fault
 
 abbrev progress_shapes : Progress Occurrence → Option (List (Frame NamedOperation))
-progress_shapes p = option_map shapes (progress_frames p)
+progress_shapes p = behind_frames named_of (progress_frames p)
 
 within_shapes : (ls ks : List (Layer Occurrence)) (s t : Sequence Occurrence) → progress_shapes (Within ls s) ≡ progress_shapes (Within ks t) → shapes (frames_of ls) ≡ shapes (frames_of ks)
 within_shapes ls ks s t e = cc
@@ -186,11 +62,11 @@ within_shapes ls ks s t e = cc
 further_shapes : (ls ks : List (Layer Occurrence)) (s t : Sequence Occurrence) (op : RawOperation) (place l m : ℕ) (named : NamedOperation) → shapes (frames_of ls) ≡ shapes (frames_of ks) →
     progress_shapes (further (Within ls s) (mark (occurrence op place l named))) ≡ progress_shapes (further (Within ks t) (mark (occurrence op place m named)))
 further_shapes ls ks s t op place l m named e =
-    ap (option_map shapes) (further_frames (Within ls s) (mark (occurrence op place l named)))
-    ∙ sym (moves_reframed name_of (control_of named) (occurrence op place l named) (frames_of ls))
+    ap (behind_frames named_of) (further_frames (Within ls s) (mark (occurrence op place l named)))
+    ∙ moves_frames named_of (control_of named) (occurrence op place l named) (frames_of ls)
     ∙ ap (moves (control_of named) named) e
-    ∙ moves_reframed name_of (control_of named) (occurrence op place m named) (frames_of ks)
-    ∙ sym (ap (option_map shapes) (further_frames (Within ks t) (mark (occurrence op place m named))))
+    ∙ sym (moves_frames named_of (control_of named) (occurrence op place m named) (frames_of ks))
+    ∙ sym (ap (behind_frames named_of) (further_frames (Within ks t) (mark (occurrence op place m named))))
 
 module _ {S : Type 0} (env : Environment) (start : ℕ) (check : S → Placed → Result S ℕ) (first : S) where
   abbrev given : Option (ℕ → ℕ) → Setting S

@@ -2,6 +2,8 @@
 use Rattle.std.specs.Prelude.{◌≡◌, ◌≢◌, ℕ, zero, suc, ◌+◌, ◌<◌, ◌≤◌, List, [], ◌∷◌, ◌++◌, length, false, Some, slice_get}
 use Rattle.std.proofs.lemmas.List.{length_push}
 use Rattle.std.proofs.Common.{refl, ap, sym, subst, ◌∙◌, arith}
+use Rattle.walrus_ir.specs.declared.control.BlockKind.{BlockKind}
+use Rattle.walrus_ir.specs.declared.val_type.ValType.{ValType}
 use Rattle.walrus_ir.specs.declared.seq.InstrSeq.{InstrSeq}
 use Rattle.walrus_ir.specs.declared.instr.Instr.{Instr}
 use Rattle.walrus_ir.specs.declared.instr.Instr.TheVariants as instr
@@ -18,7 +20,7 @@ use Rattle.wasm_body.specs.Parsing.Progress.{append, closed, OpenConstruct, InWr
 use Rattle.wasm_body.proofs.NormalForm.ArenaLemmas.{all_rise-range, all_rise-wider, SameIn, items-same, sequences-same}
 use Rattle.walrus_body.specs.declared.local_function.frame.IfElseState.{IfElseState}
 use Rattle.walrus_body.specs.Parsing.OpenConstructs.{opener_in, kind_in, clauses_in, closed_in, type_in, added_in, sequences_joined, sequences_closed, reshown_construct}
-use Rattle.walrus_body.specs.Parsing.OpenFrames.{OpenFrame, changed_at, with_instr}
+use Rattle.walrus_body.specs.Parsing.OpenFrames.{OpenFrame, new_frame, changed_at, with_instr}
 use Rattle.walrus_body.specs.Parsing.Keeping.{slots, the_if, IsKept, TakesParameters, Encloses, IsAppended, OpensWith, Holds}
 use Rattle.walrus_body.proofs.Parsing.Closing.{normal_closed, reshown_in, same_opener}
 use Rattle.walrus_body.proofs.Parsing.Frames.{slots_changed, kept_below, holds_same, AreNormal, taken_alive, holds_takes}
@@ -49,6 +51,20 @@ pub record IsOpened (env : Environment) (slot : ℕ) (p : OpenConstruct Occurren
   pub gives : f.end_types ≡ (block_signature (opener_in p).named).results
   pub has_type : seq.ty ≡ type_in (typing_of env) (reshown_construct name_at p)
   pub has_no_end : seq.end ≡ default_location
+
+-- a new frame is that of a construct which takes and gives so
+pub is_opened : (env : Environment) (slot : ℕ) (p : OpenConstruct Occurrence) (f : OpenFrame) (seq : InstrSeq) (k : BlockKind) (takes gives : List (ValType ℕ)) → f ≡ new_frame k takes gives slot → k ≡ kind_in p → TakesParameters env p f.start_types →
+    gives ≡ (block_signature (opener_in p).named).results → seq.ty ≡ type_in (typing_of env) (reshown_construct name_at p) → seq.end ≡ default_location → IsOpened env slot p f seq
+is_opened env slot p f seq k takes gives frame kind has gives_so type no_end = record {
+  here = ap (λ (g : OpenFrame). g.sequence) frame;
+  is_empty = ap (λ (g : OpenFrame). g.instrs) frame;
+  is_alive = ap (λ (g : OpenFrame). g.dead) frame;
+  kind = ap (λ (g : OpenFrame). g.kind) frame ∙ kind;
+  takes = has;
+  gives = ap (λ (g : OpenFrame). g.end_types) frame ∙ gives_so;
+  has_type = type;
+  has_no_end = no_end;
+}
 
 -- its sequence is empty, and nothing is inside
 kept_empty : (env : Environment) (b : List InstrSeq) (high : ℕ) (f : OpenFrame) (around : List ℕ) → f.instrs ≡ [] → f.dead ≡ false → f.sequence < high → IsKept env b high f around Empty

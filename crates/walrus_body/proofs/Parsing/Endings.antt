@@ -12,24 +12,25 @@ use Rattle.walrus_ir.specs.Unfolding.{LocatedInstr}
 use Rattle.wasm_body.specs.declared.error.ParseError.{ParseError}
 use Rattle.wasm_body.specs.declared.error.ParseError.TheVariants.{Memory, NoFrame}
 use Rattle.wasm_body.specs.Control.{end_operation}
-use Rattle.wasm_body.specs.SourceTree.{Sequence, Wrapper, OfBlock, OfLoop, OfTryTable}
+use Rattle.wasm_body.specs.SourceTree.{Sequence}
 use Rattle.wasm_body.specs.Naming.{Occurrence}
 use Rattle.wasm_body.specs.NormalForm.{typing_of, normal_form, named_body}
 use Rattle.wasm_body.specs.TreeOfFunction.{HasTree}
-use Rattle.wasm_body.specs.Parsing.Progress.{OpenConstruct, InWrapper, InThen, InElse, InTry, InCatch, InCatchAll, Layer, append, closed, frame_of, frames_of}
+use Rattle.wasm_body.specs.Parsing.Progress.{OpenConstruct, InThen, Layer, append, closed, frame_of, frames_of}
 use Rattle.walrus_body.specs.declared.local_function.frame.ControlFrame.{ControlFrame}
 use Rattle.walrus_body.specs.declared.local_function.frame.IfElseState.{IfElseState}
 use Rattle.walrus_body.specs.declared.local_function.body_parser.BodyParser.{BodyParser}
 use Rattle.walrus_body.specs.Parsing.Advancing.{ParseState, Keeps, occurrence, Advances, IsStep}
 use Rattle.walrus_body.specs.Parsing.Keeping.{IsWithin, Holds}
-use Rattle.walrus_body.specs.Parsing.OpenConstructs.{wrapper_kind}
+use Rattle.walrus_body.specs.Parsing.OpenConstructs.{kind_in}
 use Rattle.walrus_body.specs.Parsing.OpenFrames.{OpenFrame, new_frame, changed_at, killed, with_instr}
-use Rattle.walrus_body.specs.Parsing.OpenTrees.{OpenTrees, Opens, EndsAt, env_of}
+use Rattle.walrus_body.specs.Parsing.OpenTrees.{OpenTrees, Pops, Opens, EndsAt, env_of}
 use Rattle.walrus_body.specs.Parsing.BodyParsers.{AddsEmpty, AppendsIf, HasNoIf, either, if_else, state_with, taking}
 use Rattle.walrus_body.proofs.Parsing.Constructs.{grown_at}
+use Rattle.walrus_body.proofs.Parsing.Kinds.{by_if, by_else}
 use Rattle.walrus_body.proofs.Parsing.Labels.{holds_length}
 use Rattle.walrus_body.proofs.Parsing.Openings.{reverse_last}
-use Rattle.walrus_body.proofs.Parsing.Partings.{Popped, seals_end}
+use Rattle.walrus_body.proofs.Parsing.Partings.{seals_end}
 use Rattle.walrus_body.proofs.Parsing.Rules.{named_end}
 use Rattle.walrus_body.proofs.Parsing.Steps.{Seals, ended, chosen, chosen_alone, ends_body}
 
@@ -40,28 +41,28 @@ last_set [] x = refl
 last_set (y ∷ b) x = ap (λ c. y ∷ c) (last_set b x)
 
 -- A frame that was opened and closed at once leaves an empty sequence.
-opened_closed : (old mid new : OpenTrees) (t : InstrSeqType) (takes gives : List (ValType ℕ)) (id block : ℕ) (c : ControlFrame) → Opens old mid kind.Else t takes gives id → Popped mid new c block → AddsEmpty old new t id
+opened_closed : (old mid new : OpenTrees) (t : InstrSeqType) (takes gives : List (ValType ℕ)) (id block : ℕ) (c : ControlFrame) → Opens old mid kind.Else t takes gives id → Pops mid new c block → AddsEmpty old new t id
 opened_closed old mid new t takes gives id block c o h =
-    let f = h.0 in
+    let f = h.frame in
     let xs = old.builder.sequences in
     let x : InstrSeq = empty_sequence (length xs) t in
     let g = new_frame kind.Else takes gives id in
-    let frames : f ∷ new.frames ≡ g ∷ old.frames = sym h.3.frames ∙ ap (λ (z : OpenTrees). z.frames) o.is in
+    let frames : f ∷ new.frames ≡ g ∷ old.frames = sym h.closes.frames ∙ ap (λ (z : OpenTrees). z.frames) o.is in
     let first : f ≡ g = cc frames in
     let rest : new.frames ≡ old.frames = cc frames in
     let here : f.sequence ≡ length xs = ap (λ (z : OpenFrame). z.sequence) first ∙ o.is_next in
     let grown : mid.builder.sequences ≡ xs ++ x ∷ [] = ap (λ (z : OpenTrees). z.builder.sequences) o.is in
-    let found : Some h.3.was ≡ Some x = sym h.3.before ∙ ap (slice_get mid.builder.sequences) here ∙ ap (λ b. slice_get b (length xs)) grown ∙ grown_at xs x in
-    let was : h.3.was ≡ x = cc found in
+    let found : Some h.closes.was ≡ Some x = sym h.closes.before ∙ ap (slice_get mid.builder.sequences) here ∙ ap (λ b. slice_get b (length xs)) grown ∙ grown_at xs x in
+    let was : h.closes.was ≡ x = cc found in
     let closed = λ (m : OpenTrees) (n : ℕ) (s : InstrSeq) (is : List _) (fs : List OpenFrame). record m { builder = with_sequence m.builder n (record s { instrs = is }); frames = fs } in
     record {
       is_next = o.is_next;
-      is = h.3.is
+      is = h.closes.is
           ∙ (λ i. closed (o.is i) (here i) (was i) (first i).instrs (rest i))
           ∙ ap (λ b. record old { builder = record old.builder { sequences = b } }) (last_set xs x);
     }
 
-pub adds_empty : (old mid new : OpenTrees) (takes gives : List (ValType ℕ)) (id block : ℕ) (c : ControlFrame) → IsSomeAnd (existing old.module.types takes gives) (λ t. Opens old mid kind.Else t takes gives id) → Popped mid new c block →
+pub adds_empty : (old mid new : OpenTrees) (takes gives : List (ValType ℕ)) (id block : ℕ) (c : ControlFrame) → IsSomeAnd (existing old.module.types takes gives) (λ t. Opens old mid kind.Else t takes gives id) → Pops mid new c block →
     IsSomeAnd (existing old.module.types takes gives) (λ t. AddsEmpty old new t id)
 adds_empty old mid new takes gives id block c o h = of_pick (existing old.module.types takes gives) o
   where
@@ -71,25 +72,25 @@ adds_empty old mid new takes gives id block c o h = of_pick (existing old.module
 
 -- ---- the frame of a construct is closed
 
-module _ (old mid end : OpenTrees) (ifs : List IfElseState) (s : Sequence Occurrence) (place location : ℕ) (c : ControlFrame) (block : ℕ) (popped : Popped old mid c block) (ended_at : EndsAt mid end block location)
+module _ (old mid end : OpenTrees) (ifs : List IfElseState) (s : Sequence Occurrence) (place location : ℕ) (c : ControlFrame) (block : ℕ) (popped : Pops old mid c block) (ended_at : EndsAt mid end block location)
     (l : Layer Occurrence) (ls : List (Layer Occurrence)) (keeps : Keeps (env_of old) (state_with old ifs) (l ∷ ls) s) where
   abbrev f : OpenFrame
-  f = popped.0
+  f = popped.frame
 
   kind_is : f.kind ≡ c.kind
-  kind_is = ap (λ (g : OpenFrame). g.kind) popped.1.is
+  kind_is = ap (λ (g : OpenFrame). g.kind) popped.shown.is
 
   abbrev Within : OpenConstruct Occurrence → Type 0
   Within p = IsWithin (env_of old) old.builder.sequences (length old.builder.sequences) f mid.frames ifs p s (Holds (env_of old) old.builder.sequences ls l.before)
 
   inside : Within l.construct
-  inside = subst (λ gs. Holds (env_of old) old.builder.sequences (l ∷ ls) s (length old.builder.sequences) gs ifs) popped.3.frames keeps
+  inside = subst (λ gs. Holds (env_of old) old.builder.sequences (l ∷ ls) s (length old.builder.sequences) gs ifs) popped.closes.frames keeps
 
   abbrev x : Occurrence
   x = occurrence end_operation place location end_operation
 
   sealed_at : Seals old.builder.sequences end.builder.sequences f (Some location)
-  sealed_at = seals_end old mid end f location popped.3 (subst (λ n. EndsAt mid end n location) popped.2 ended_at)
+  sealed_at = seals_end old mid end f location popped.closes (subst (λ n. EndsAt mid end n location) popped.is_block ended_at)
 
   frames_end : end.frames ≡ mid.frames
   frames_end = ap (λ (t : OpenTrees). t.frames) ended_at.is
@@ -100,7 +101,7 @@ module _ (old mid end : OpenTrees) (ifs : List IfElseState) (s : Sequence Occurr
   -- a construct whose instruction stands already
   pub ends_plain : c.kind ≢ kind.If → c.kind ≢ kind.Else → Advances (env_of old) (state_with end ifs) (l ∷ ls) s end_operation place location
   ends_plain not_if not_else = advances (state_with end ifs)
-      (ended (env_of old) (state_with old ifs) l ls s f mid.frames popped.3.frames keeps l.construct (state_with end ifs) x (λ e. not_if (sym kind_is ∙ e)) (λ e. not_else (sym kind_is ∙ e)) sealed_at frames_end refl inside)
+      (ended (env_of old) (state_with old ifs) l ls s f mid.frames popped.closes.frames keeps l.construct (state_with end ifs) x (λ e. not_if (sym kind_is ∙ e)) (λ e. not_else (sym kind_is ∙ e)) sealed_at frames_end refl inside)
 
   -- an `if` with an alternative
   pub ends_else : c.kind ≡ kind.Else → (top : IfElseState) (others : List IfElseState) (id : ℕ) (new : OpenTrees) → ifs ≡ top ∷ others → top.alternative ≡ Some id →
@@ -108,22 +109,17 @@ module _ (old mid end : OpenTrees) (ifs : List IfElseState) (s : Sequence Occurr
   ends_else is_else top others id new ifs_are has new_is =
       let at : OpenTrees = record end { frames = changed_at 0 (with_instr (if_else top.consequent id top.start)) end.frames } in
       subst (λ n. Advances (env_of old) (state_with n others) (l ∷ ls) s end_operation place location) (sym new_is) (advances (state_with at others)
-      (chosen (env_of old) (state_with old ifs) l ls s f mid.frames popped.3.frames keeps l.construct (state_with at others) x top others id (kind_is ∙ is_else) ifs_are has sealed_at
+      (chosen (env_of old) (state_with old ifs) l ls s f mid.frames popped.closes.frames keeps l.construct (state_with at others) x top others id (kind_is ∙ is_else) ifs_are has sealed_at
       (ap (changed_at 0 (with_instr (if_else top.consequent id top.start))) frames_end) refl inside))
 
-  no_wrapper : (w : Wrapper) → wrapper_kind w ≡ kind.If → ⊥
-  no_wrapper OfBlock e = cc
-  no_wrapper OfLoop e = cc
-  no_wrapper (OfTryTable cs) e = cc
-
-  not_then : c.kind ≡ kind.If → (k : BlockKind) → f.kind ≡ k → k ≢ kind.If → ⊥
-  not_then is_if k e n = n (sym e ∙ kind_is ∙ is_if)
+  is_kind : (k : BlockKind) → c.kind ≡ k → kind_in l.construct ≡ k
+  is_kind k e = sym inside.encloses.kind ∙ kind_is ∙ e
 
   -- an `if` without one
   module _ (takes gives : List (ValType ℕ)) (takes_is : takes ≡ c.start_types.items) (gives_is : gives ≡ c.end_types.items) where
     pub ends_if : c.kind ≡ kind.If → (top : IfElseState) (others : List IfElseState) (t : InstrSeqType) (id : ℕ) (m new : OpenTrees) → ifs ≡ top ∷ others → existing end.module.types takes gives ≡ Some t → AddsEmpty end m t id →
         new ≡ record m { frames = changed_at 0 (with_instr (if_else top.consequent id top.start)) m.frames } → Advances (env_of old) (state_with new others) (l ∷ ls) s end_operation place location
-    ends_if is_if top others t id m new ifs_are picks adds new_is = advances (state_with new others) (of_construct l.construct inside)
+    ends_if is_if top others t id m new ifs_are picks adds new_is = advances (state_with new others) (by_if (λ p. Within p → Keeps (env_of old) (state_with new others) ls (append l.before (closed p s x))) of_then l.construct (is_kind kind.If is_if) inside)
       where
         xs : List InstrSeq
         xs = end.builder.sequences
@@ -132,32 +128,27 @@ module _ (old mid end : OpenTrees) (ifs : List IfElseState) (s : Sequence Occurr
         other = empty_sequence (length xs) t
 
         same_module : end.module ≡ old.module
-        same_module = ap (λ (z : OpenTrees). z.module) ended_at.is ∙ ap (λ (z : OpenTrees). z.module) popped.3.is
+        same_module = ap (λ (z : OpenTrees). z.module) ended_at.is ∙ ap (λ (z : OpenTrees). z.module) popped.closes.is
 
-        of_construct : (p : OpenConstruct Occurrence) → Within p → Keeps (env_of old) (state_with new others) ls (append l.before (closed p s x))
-        of_construct (InThen a) h =
-            let same : top ∷ others ≡ record { start = a.location; consequent = f.sequence; alternative = None } ∷ h.other_ifs = sym ifs_are ∙ h.opens.1 in
+        of_then : (a : Occurrence) → Within (InThen a) → Keeps (env_of old) (state_with new others) ls (append l.before (closed (InThen a) s x))
+        of_then a h =
+            let same : top ∷ others ≡ record { start = a.location; consequent = f.sequence; alternative = None } ∷ h.other_ifs = sym ifs_are ∙ h.opens.kept in
             let first : top ≡ record { start = a.location; consequent = f.sequence; alternative = None } = cc same in
-            let starts : f.start_types ≡ takes = ap (λ (g : OpenFrame). g.start_types) popped.1.is ∙ sym takes_is in
-            let ends : f.end_types ≡ gives = ap (λ (g : OpenFrame). g.end_types) popped.1.is ∙ sym gives_is in
-            chosen_alone (env_of old) (state_with old ifs) l ls s f mid.frames popped.3.frames keeps (InThen a) (state_with new others) xs other x top others (kind_is ∙ is_if) ifs_are sealed_at
+            let starts : f.start_types ≡ takes = ap (λ (g : OpenFrame). g.start_types) popped.shown.is ∙ sym takes_is in
+            let ends : f.end_types ≡ gives = ap (λ (g : OpenFrame). g.end_types) popped.shown.is ∙ sym gives_is in
+            chosen_alone (env_of old) (state_with old ifs) l ls s f mid.frames popped.closes.frames keeps (InThen a) (state_with new others) xs other x top others (kind_is ∙ is_if) ifs_are sealed_at
             ((λ i. existing (sym same_module i).types (starts i) (ends i)) ∙ picks) refl refl
             (ap (λ (z : OpenTrees). z.builder.sequences) new_is ∙ ap (λ (z : OpenTrees). z.builder.sequences) adds.is)
             (ap (λ (z : OpenTrees). z.frames) new_is
             ∙ (λ i. changed_at 0 (with_instr (if_else (first i).consequent (adds.is_next i) top.start)) ((ap (λ (z : OpenTrees). z.frames) adds.is ∙ frames_end) i)))
             refl h
-        of_construct (InWrapper a w) h = absurd (no_wrapper w (sym h.encloses.kind ∙ kind_is ∙ is_if))
-        of_construct (InElse a b n) h = absurd (not_then is_if kind.Else h.encloses.kind (λ e. cc e))
-        of_construct (InTry a) h = absurd (not_then is_if kind.Try h.encloses.kind (λ e. cc e))
-        of_construct (InCatch a b cs i t) h = absurd (not_then is_if kind.Catch h.encloses.kind (λ e. cc e))
-        of_construct (InCatchAll a b cs i) h = absurd (not_then is_if kind.CatchAll h.encloses.kind (λ e. cc e))
 
   -- ---- what can't be missing
 
   some_around : mid.frames ≡ [] → ⊥
   some_around none =
       let many : length old.frames ≡ length (frames_of (l ∷ ls)) = holds_length (env_of old) old.builder.sequences (l ∷ ls) s (length old.builder.sequences) old.frames ifs keeps in
-      let frames : length old.frames ≡ length (f ∷ mid.frames) = ap length popped.3.frames in
+      let frames : length old.frames ≡ length (f ∷ mid.frames) = ap length popped.closes.frames in
       let empty : length mid.frames ≡ 0 = ap length none in
       let more = some_frame ls in
       let sum : length (frames_of (l ∷ ls)) ≡ length (frame_of l.construct ∷ frames_of ls) = refl in
@@ -174,30 +165,20 @@ module _ (old mid end : OpenTrees) (ifs : List IfElseState) (s : Sequence Occurr
     pub are : ifs ≡ top ∷ others
     pub alternative : c.kind ≡ kind.Else → (n : ℕ) × (top.alternative ≡ Some n)
 
-  no_wrapper_else : (w : Wrapper) → wrapper_kind w ≡ kind.Else → ⊥
-  no_wrapper_else OfBlock e = cc
-  no_wrapper_else OfLoop e = cc
-  no_wrapper_else (OfTryTable cs) e = cc
-
   has_if : (c.kind ≡ kind.If) ⊎ (c.kind ≡ kind.Else) → HasIf
-  has_if k = of_construct l.construct inside k
+  has_if (inl is_if) = by_if (λ p. Within p → HasIf) of_then l.construct (is_kind kind.If is_if) inside
     where
-      other : (j : BlockKind) → f.kind ≡ j → (j ≢ kind.If) → (j ≢ kind.Else) → (c.kind ≡ kind.If) ⊎ (c.kind ≡ kind.Else) → HasIf
-      other j e not_if not_else (inl is) = absurd (not_if (sym e ∙ kind_is ∙ is))
-      other j e not_if not_else (inr is) = absurd (not_else (sym e ∙ kind_is ∙ is))
-
-      of_construct : (p : OpenConstruct Occurrence) → Within p → (c.kind ≡ kind.If) ⊎ (c.kind ≡ kind.Else) → HasIf
-      of_construct (InThen a) h k = record {
+      of_then : (a : Occurrence) → Within (InThen a) → HasIf
+      of_then a h = record {
         top = record { start = a.location; consequent = f.sequence; alternative = None };
         others = h.other_ifs;
-        are = h.opens.1;
-        alternative = λ e. absurd (let q : kind.If ≡ kind.Else = sym h.encloses.kind ∙ kind_is ∙ e in cc q);
+        are = h.opens.kept;
+        alternative = λ e. absurd (let q : kind.If ≡ kind.Else = sym is_if ∙ e in cc q);
       }
-      of_construct (InElse a b n) h k = record { top = record { start = a.location; consequent = h.opens.1.0; alternative = Some f.sequence }; others = h.other_ifs; are = h.opens.1.2; alternative = λ e. (f.sequence, refl) }
-      of_construct (InWrapper a w) h k = other (wrapper_kind w) h.encloses.kind (no_wrapper w) (no_wrapper_else w) k
-      of_construct (InTry a) h k = other kind.Try h.encloses.kind (λ e. cc e) (λ e. cc e) k
-      of_construct (InCatch a b cs i t) h k = other kind.Catch h.encloses.kind (λ e. cc e) (λ e. cc e) k
-      of_construct (InCatchAll a b cs i) h k = other kind.CatchAll h.encloses.kind (λ e. cc e) (λ e. cc e) k
+  has_if (inr is_else) =
+      by_else (λ p. Within p → HasIf)
+      (λ a b n h. record { top = record { start = a.location; consequent = h.opens.consequent; alternative = Some f.sequence }; others = h.other_ifs; are = h.opens.kept; alternative = λ e. (f.sequence, refl) })
+      l.construct (is_kind kind.Else is_else) inside
 
   -- ---- the instruction of the `if`, or why it is not appended
 
@@ -208,15 +189,15 @@ module _ (old mid end : OpenTrees) (ifs : List IfElseState) (s : Sequence Occurr
       let q : [] ≡ h.top ∷ h.others = ap reverse (sym none) ∙ same ∙ h.are in cc q
   absurd_if k p same frames alternative given (inr (inl h)) =
       let own = has_if k in
-      let ifs_are : own.top ∷ own.others ≡ h.1 ∷ reverse h.0 = sym own.are ∙ sym same ∙ ap reverse h.2 ∙ reverse_last h.0 h.1 in
-      let first : own.top ≡ h.1 = cc ifs_are in
-      by_kind k first h.3
+      let ifs_are : own.top ∷ own.others ≡ h.top ∷ reverse h.front = sym own.are ∙ sym same ∙ ap reverse h.ifs ∙ reverse_last h.front h.top in
+      let first : own.top ≡ h.top = cc ifs_are in
+      by_kind k first h.none
     where
-      by_kind : (c.kind ≡ kind.If) ⊎ (c.kind ≡ kind.Else) → (has_if k).top ≡ h.1 → either alternative h.1.alternative ≡ None → ⊥
-      by_kind (inl is) e none = let n = given is in let q : Some n.0 ≡ None = ap (λ a. either a h.1.alternative) (sym n.1) ∙ none in cc q
+      by_kind : (c.kind ≡ kind.If) ⊎ (c.kind ≡ kind.Else) → (has_if k).top ≡ h.top → either alternative h.top.alternative ≡ None → ⊥
+      by_kind (inl is) e none = let n = given is in let q : Some n.0 ≡ None = ap (λ a. either a h.top.alternative) (sym n.1) ∙ none in cc q
       by_kind (inr is) e none = by_given alternative none
         where
-          by_given : (a : Option ℕ) → either a h.1.alternative ≡ None → ⊥
+          by_given : (a : Option ℕ) → either a h.top.alternative ≡ None → ⊥
           by_given (Some n) q = cc q
           by_given None q = let n = (has_if k).alternative is in let r : Some n.0 ≡ None = sym n.1 ∙ ap (λ (t : IfElseState). t.alternative) e ∙ q in cc r
   absurd_if k p same frames alternative given (inr (inr none)) = some_around (sym frames ∙ none)
@@ -259,12 +240,12 @@ of_layers old ifs P many go (l ∷ ls) s keeps = go l ls s keeps
 
 -- ---- the function's own `end`
 
-pub finishes : (old mid end : OpenTrees) (ifs : List IfElseState) (s : Sequence Occurrence) (e : Occurrence) (location : ℕ) (c : ControlFrame) (block : ℕ) → Popped old mid c block → EndsAt mid end block location → e.location ≡ location →
+pub finishes : (old mid end : OpenTrees) (ifs : List IfElseState) (s : Sequence Occurrence) (e : Occurrence) (location : ℕ) (c : ControlFrame) (block : ℕ) → Pops old mid c block → EndsAt mid end block location → e.location ≡ location →
     Keeps (env_of old) (state_with old ifs) [] s → HasTree end.builder.sequences 0 (normal_form (typing_of (env_of old)) (named_body (record { sequence = s; close = e })))
 finishes old mid end ifs s e location c block h ended_at here keeps =
-    ends_body (env_of old) old.builder.sequences end.builder.sequences h.0 mid.frames ifs s e
-    (subst (λ n. Seals old.builder.sequences end.builder.sequences h.0 (Some n)) (sym here) (seals_end old mid end h.0 location h.3 (subst (λ n. EndsAt mid end n location) h.2 ended_at)))
-    (subst (λ gs. Holds (env_of old) old.builder.sequences [] s (length old.builder.sequences) gs ifs) h.3.frames keeps)
+    ends_body (env_of old) old.builder.sequences end.builder.sequences h.frame mid.frames ifs s e
+    (subst (λ n. Seals old.builder.sequences end.builder.sequences h.frame (Some n)) (sym here) (seals_end old mid end h.frame location h.closes (subst (λ n. EndsAt mid end n location) h.is_block ended_at)))
+    (subst (λ gs. Holds (env_of old) old.builder.sequences [] s (length old.builder.sequences) gs ifs) h.closes.frames keeps)
 
 -- ---- an instruction, and what is behind it
 

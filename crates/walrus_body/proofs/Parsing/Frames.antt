@@ -30,8 +30,8 @@ slots_changed x (suc n) (f ∷ fs) = ap (λ ps. f.sequence ∷ ps) (slots_change
 -- the frames around a construct stand where they do without it
 pub slots_outside : (around before : List ℕ) (slot : ℕ) (p : OpenConstruct Occurrence) (fs outside : List OpenFrame) (ifs other_ifs : List IfElseState) → OpensWith around before slot p fs outside ifs other_ifs → slots fs ≡ slots outside
 slots_outside around before slot (InWrapper a w) fs outside ifs other_ifs o = ap slots o.0.frames ∙ slots_changed o.0.opener 0 outside
-slots_outside around before slot (InThen a) fs outside ifs other_ifs o = ap slots o.0
-slots_outside around before slot (InElse a b l) fs outside ifs other_ifs o = ap slots o.0
+slots_outside around before slot (InThen a) fs outside ifs other_ifs o = ap slots o.frames
+slots_outside around before slot (InElse a b l) fs outside ifs other_ifs o = ap slots o.frames
 slots_outside around before slot (InTry a) fs outside ifs other_ifs o = ap slots o.0.frames ∙ slots_changed o.0.opener 0 outside
 slots_outside around before slot (InCatch a b gs h t) fs outside ifs other_ifs o = ap slots o.0.frames ∙ slots_changed o.0.opener 0 outside
 slots_outside around before slot (InCatchAll a b gs h) fs outside ifs other_ifs o = ap slots o.0.frames ∙ slots_changed o.0.opener 0 outside

@@ -3,7 +3,6 @@ use Rattle.std.proofs.Common.{arith, ◌≡◌, ◌≢◌, ◌<◌, ◌+◌, ℕ
 use Rattle.std.proofs.lemmas.List.{reverse-append}
 use Rattle.std.proofs.lemmas.Option.{slice_get_within}
 use Rattle.walrus_ir.specs.declared.seq.InstrSeq.{InstrSeq}
-use Rattle.walrus_ir.specs.declared.control.BlockKind.{BlockKind}
 use Rattle.walrus_ir.specs.declared.control.BlockKind.TheVariants as kind
 use Rattle.walrus_ir.specs.declared.val_type.InstrSeqType.{InstrSeqType}
 use Rattle.walrus_ir.specs.declared.val_type.ValType.{ValType}
@@ -13,18 +12,19 @@ use Rattle.walrus_ir.specs.Types.{existing}
 use Rattle.wasm_body.specs.declared.error.ParseError.{ParseError}
 use Rattle.wasm_body.specs.declared.error.ParseError.TheVariants.{ElseOutsideIf}
 use Rattle.wasm_body.specs.Control.{else_operation}
-use Rattle.wasm_body.specs.SourceTree.{Sequence, Empty, Wrapper, OfBlock, OfLoop, OfTryTable}
+use Rattle.wasm_body.specs.SourceTree.{Sequence, Empty}
 use Rattle.wasm_body.specs.Frames.{OfFunction, else_moves}
 use Rattle.wasm_body.specs.Naming.{Environment, NamedOperation, Occurrence, named_in}
 use Rattle.wasm_body.specs.Parsing.Progress.{OpenConstruct, InWrapper, InThen, InElse, InTry, InCatch, InCatchAll, Layer, layer, frame_of, frames_of, parted_by_else, go_on_in}
 use Rattle.walrus_body.specs.declared.local_function.frame.ControlFrame.{ControlFrame}
 use Rattle.walrus_body.specs.declared.local_function.frame.IfElseState.{IfElseState}
-use Rattle.walrus_body.specs.Parsing.OpenConstructs.{kind_in, wrapper_kind}
-use Rattle.walrus_body.specs.Parsing.OpenFrames.{OpenFrame, Shows, new_frame}
-use Rattle.walrus_body.specs.Parsing.OpenTrees.{OpenTrees, Opens, Closes, EndsAt, env_of}
+use Rattle.walrus_body.specs.Parsing.OpenConstructs.{kind_in}
+use Rattle.walrus_body.specs.Parsing.OpenFrames.{OpenFrame, new_frame}
+use Rattle.walrus_body.specs.Parsing.OpenTrees.{OpenTrees, Opens, Closes, Pops, EndsAt, env_of}
 use Rattle.walrus_body.specs.Parsing.Keeping.{IsWithin, Holds}
 use Rattle.walrus_body.specs.Parsing.Advancing.{ParseState, Keeps, KeepsProgress, occurrence, Advances}
 use Rattle.walrus_body.specs.Parsing.BodyParsers.{state_with, with_alternative}
+use Rattle.walrus_body.proofs.Parsing.Kinds.{by_if}
 use Rattle.walrus_body.proofs.Parsing.Rules.{named_else}
 use Rattle.walrus_body.proofs.Parsing.Sealing.{set_written}
 use Rattle.walrus_body.proofs.Parsing.Steps.{Seals, else_parts}
@@ -90,36 +90,28 @@ some_open env p (l ∷ ls) s h e = subst (λ fs. Holds env p.arena (l ∷ ls) s 
 
 -- ---- behind the frame that is closed, as the code shows it
 
-abbrev pub Popped : OpenTrees → OpenTrees → ControlFrame → (block : ℕ) → Type 0
-Popped old mid c block = (f : OpenFrame) × Shows c f × (block ≡ f.sequence) × Closes old mid f
-
-pub stands_popped : (old mid : OpenTrees) (c : ControlFrame) (block : ℕ) → Popped old mid c block → block < length mid.builder.sequences
+pub stands_popped : (old mid : OpenTrees) (c : ControlFrame) (block : ℕ) → Pops old mid c block → block < length mid.builder.sequences
 stands_popped old mid c block h =
-    let closed : mid.builder.sequences ≡ slice_set old.builder.sequences h.0.sequence (record h.3.was { instrs = h.0.instrs }) = ap (λ (t : OpenTrees). t.builder.sequences) h.3.is in
-    let within = slice_get_within old.builder.sequences h.0.sequence h.3.was h.3.before in
-    let many : length mid.builder.sequences ≡ length old.builder.sequences = ap length closed ∙ (set_written old.builder.sequences h.0.sequence (record h.3.was { instrs = h.0.instrs }) within).as_many in
-    let here = h.2 in omega arith
+    let closed : mid.builder.sequences ≡ slice_set old.builder.sequences h.frame.sequence (record h.closes.was { instrs = h.frame.instrs }) = ap (λ (t : OpenTrees). t.builder.sequences) h.closes.is in
+    let within = slice_get_within old.builder.sequences h.frame.sequence h.closes.was h.closes.before in
+    let many : length mid.builder.sequences ≡ length old.builder.sequences = ap length closed ∙ (set_written old.builder.sequences h.frame.sequence (record h.closes.was { instrs = h.frame.instrs }) within).as_many in
+    let here = h.is_block in omega arith
 
-module _ (old mid : OpenTrees) (ifs : List IfElseState) (s : Sequence Occurrence) (place location : ℕ) (c : ControlFrame) (block : ℕ) (popped : Popped old mid c block) where
+module _ (old mid : OpenTrees) (ifs : List IfElseState) (s : Sequence Occurrence) (place location : ℕ) (c : ControlFrame) (block : ℕ) (popped : Pops old mid c block) where
   abbrev f : OpenFrame
-  f = popped.0
+  f = popped.frame
 
   kind_is : f.kind ≡ c.kind
-  kind_is = ap (λ (g : OpenFrame). g.kind) popped.1.is
+  kind_is = ap (λ (g : OpenFrame). g.kind) popped.shown.is
 
   starts : f.start_types ≡ c.start_types.items
-  starts = ap (λ (g : OpenFrame). g.start_types) popped.1.is
+  starts = ap (λ (g : OpenFrame). g.start_types) popped.shown.is
 
   ends : f.end_types ≡ c.end_types.items
-  ends = ap (λ (g : OpenFrame). g.end_types) popped.1.is
+  ends = ap (λ (g : OpenFrame). g.end_types) popped.shown.is
 
   abbrev Kept : List (Layer Occurrence) → Type 0
   Kept ls = Keeps (env_of old) (state_with old ifs) ls s
-
-  no_wrapper : (w : Wrapper) → wrapper_kind w ≡ kind.If → ⊥
-  no_wrapper OfBlock e = cc
-  no_wrapper OfLoop e = cc
-  no_wrapper (OfTryTable cs) e = cc
 
   -- ---- `else`
 
@@ -127,7 +119,7 @@ module _ (old mid : OpenTrees) (ifs : List IfElseState) (s : Sequence Occurrence
   no_else other [] keeps = named_else (env_of old) OfFunction []
   no_else other (l ∷ ls) keeps = named_else (env_of old) (frame_of l.construct) (frames_of ls)
       ∙ ap (λ b. unless b ElseOutsideIf >>= λ _. let r : Result NamedOperation ParseError = Ok else_operation in r)
-      (stays l.construct (subst (λ gs. Holds (env_of old) old.builder.sequences (l ∷ ls) s (length old.builder.sequences) gs ifs) popped.3.frames keeps).encloses.kind)
+      (stays l.construct (subst (λ gs. Holds (env_of old) old.builder.sequences (l ∷ ls) s (length old.builder.sequences) gs ifs) popped.closes.frames keeps).encloses.kind)
     where
       stays : (p : OpenConstruct Occurrence) → f.kind ≡ kind_in p → is_some (else_moves (frame_of p)) ≡ false
       stays (InThen a) e = absurd (other (sym kind_is ∙ e))
@@ -141,20 +133,21 @@ module _ (old mid : OpenTrees) (ifs : List IfElseState) (s : Sequence Occurrence
   Within l ls p = IsWithin (env_of old) old.builder.sequences (length old.builder.sequences) f mid.frames ifs p s (Holds (env_of old) old.builder.sequences ls l.before)
 
   module _ (takes gives : List (ValType ℕ)) (takes_is : takes ≡ c.start_types.items) (gives_is : gives ≡ c.end_types.items) where
+    abbrev HasPick : Type 0
+    HasPick = (t : InstrSeqType) × (existing old.module.types takes gives ≡ Some t)
+
     -- what the `if` that is open keeps
-    pub pick_kept : c.kind ≡ kind.If → (ls : List (Layer Occurrence)) → Kept ls → (t : InstrSeqType) × (existing old.module.types takes gives ≡ Some t)
+    pub pick_kept : c.kind ≡ kind.If → (ls : List (Layer Occurrence)) → Kept ls → HasPick
     pick_kept is_if [] keeps =
-        let outermost = subst (λ gs. Holds (env_of old) old.builder.sequences [] s (length old.builder.sequences) gs ifs) popped.3.frames keeps in
+        let outermost = subst (λ gs. Holds (env_of old) old.builder.sequences [] s (length old.builder.sequences) gs ifs) popped.closes.frames keeps in
         absurd (let q : kind.FunctionEntry ≡ kind.If = sym outermost.kind ∙ kind_is ∙ is_if in cc q)
-    pick_kept is_if (l ∷ ls) keeps = of_construct l.construct (subst (λ gs. Holds (env_of old) old.builder.sequences (l ∷ ls) s (length old.builder.sequences) gs ifs) popped.3.frames keeps)
+    pick_kept is_if (l ∷ ls) keeps = by_if (λ p. Within l ls p → HasPick) of_then l.construct (sym inside.encloses.kind ∙ kind_is ∙ is_if) inside
       where
-        of_construct : (p : OpenConstruct Occurrence) → Within l ls p → (t : InstrSeqType) × (existing old.module.types takes gives ≡ Some t)
-        of_construct (InThen a) h = (h.encloses.takes.1, (λ i. existing old.module.types ((takes_is ∙ sym starts ∙ h.encloses.takes.0) i) ((gives_is ∙ sym ends ∙ h.encloses.gives) i)) ∙ h.encloses.takes.2)
-        of_construct (InWrapper a w) h = absurd (no_wrapper w (sym h.encloses.kind ∙ kind_is ∙ is_if))
-        of_construct (InElse a b m) h = absurd (let q : kind.Else ≡ kind.If = sym h.encloses.kind ∙ kind_is ∙ is_if in cc q)
-        of_construct (InTry a) h = absurd (let q : kind.Try ≡ kind.If = sym h.encloses.kind ∙ kind_is ∙ is_if in cc q)
-        of_construct (InCatch a b cs i t) h = absurd (let q : kind.Catch ≡ kind.If = sym h.encloses.kind ∙ kind_is ∙ is_if in cc q)
-        of_construct (InCatchAll a b cs i) h = absurd (let q : kind.CatchAll ≡ kind.If = sym h.encloses.kind ∙ kind_is ∙ is_if in cc q)
+        inside : Within l ls l.construct
+        inside = subst (λ gs. Holds (env_of old) old.builder.sequences (l ∷ ls) s (length old.builder.sequences) gs ifs) popped.closes.frames keeps
+
+        of_then : (a : Occurrence) → Within l ls (InThen a) → HasPick
+        of_then a h = (h.encloses.takes.1, (λ i. existing old.module.types ((takes_is ∙ sym starts ∙ h.encloses.takes.0) i) ((gives_is ∙ sym ends ∙ h.encloses.gives) i)) ∙ h.encloses.takes.2)
 
     module _ (end new : OpenTrees) (alternative : ℕ) (is_if : c.kind ≡ kind.If) (ended : EndsAt mid end block location)
         (pushed : IsSomeAnd (existing end.module.types takes gives) (λ t. Opens end new kind.Else t takes gives alternative)) where
@@ -162,65 +155,55 @@ module _ (old mid : OpenTrees) (ifs : List IfElseState) (s : Sequence Occurrence
       after = state_with new (with_alternative alternative ifs)
 
       sealed_at : Seals old.builder.sequences end.builder.sequences f (Some location)
-      sealed_at = seals_end old mid end f location popped.3 (subst (λ n. EndsAt mid end n location) popped.2 ended)
+      sealed_at = seals_end old mid end f location popped.closes (subst (λ n. EndsAt mid end n location) popped.is_block ended)
 
       same_module : end.module ≡ old.module
-      same_module = ap (λ (t : OpenTrees). t.module) ended.is ∙ ap (λ (t : OpenTrees). t.module) popped.3.is
+      same_module = ap (λ (t : OpenTrees). t.module) ended.is ∙ ap (λ (t : OpenTrees). t.module) popped.closes.is
+
+      abbrev GoesOn : Layer Occurrence → List (Layer Occurrence) → OpenConstruct Occurrence → Occurrence → Type 0
+      GoesOn l ls p x = (q : OpenConstruct Occurrence) × (parted_by_else p s x ≡ Some q) × Keeps (env_of old) after (layer l.before q ∷ ls) Empty
 
       pub parts_else : (ls : List (Layer Occurrence)) → Kept ls → Advances (env_of old) after ls s else_operation place location
       parts_else [] keeps =
-          let outermost = subst (λ gs. Holds (env_of old) old.builder.sequences [] s (length old.builder.sequences) gs ifs) popped.3.frames keeps in
+          let outermost = subst (λ gs. Holds (env_of old) old.builder.sequences [] s (length old.builder.sequences) gs ifs) popped.closes.frames keeps in
           absurd (let q : kind.FunctionEntry ≡ kind.If = sym outermost.kind ∙ kind_is ∙ is_if in cc q)
       parts_else (l ∷ ls) keeps = record {
         named = else_operation;
-        is_named = named_else (env_of old) (frame_of l.construct) (frames_of ls) ∙ ap (λ b. unless b ElseOutsideIf >>= λ _. let r : Result NamedOperation ParseError = Ok else_operation in r) (moves l.construct inside);
-        keeps = let made = goes_on l.construct inside in subst (λ o. KeepsProgress (env_of old) after (go_on_in ls l.before o)) (sym made.1) made.2;
+        is_named = named_else (env_of old) (frame_of l.construct) (frames_of ls) ∙ ap (λ b. unless b ElseOutsideIf >>= λ _. let r : Result NamedOperation ParseError = Ok else_operation in r) (by_if (λ p. is_some (else_moves (frame_of p)) ≡ true) (λ a. refl) l.construct is_if_there);
+        keeps = let made = by_if (λ p. Within l ls p → GoesOn l ls p x) of_then l.construct is_if_there inside in subst (λ o. KeepsProgress (env_of old) after (go_on_in ls l.before o)) (sym made.1) made.2;
       }
         where
           x : Occurrence
           x = occurrence else_operation place location else_operation
 
           inside : Within l ls l.construct
-          inside = subst (λ gs. Holds (env_of old) old.builder.sequences (l ∷ ls) s (length old.builder.sequences) gs ifs) popped.3.frames keeps
+          inside = subst (λ gs. Holds (env_of old) old.builder.sequences (l ∷ ls) s (length old.builder.sequences) gs ifs) popped.closes.frames keeps
 
-          not_then : (k : BlockKind) → f.kind ≡ k → k ≢ kind.If → ⊥
-          not_then k e n = n (sym e ∙ kind_is ∙ is_if)
+          is_if_there : kind_in l.construct ≡ kind.If
+          is_if_there = sym inside.encloses.kind ∙ kind_is ∙ is_if
 
-          moves : (p : OpenConstruct Occurrence) → Within l ls p → is_some (else_moves (frame_of p)) ≡ true
-          moves (InThen a) h = refl
-          moves (InWrapper a w) h = absurd (no_wrapper w (sym h.encloses.kind ∙ kind_is ∙ is_if))
-          moves (InElse a b m) h = absurd (not_then kind.Else h.encloses.kind (λ e. cc e))
-          moves (InTry a) h = absurd (not_then kind.Try h.encloses.kind (λ e. cc e))
-          moves (InCatch a b cs i t) h = absurd (not_then kind.Catch h.encloses.kind (λ e. cc e))
-          moves (InCatchAll a b cs i) h = absurd (not_then kind.CatchAll h.encloses.kind (λ e. cc e))
-
-          goes_on : (p : OpenConstruct Occurrence) → Within l ls p → (q : OpenConstruct Occurrence) × (parted_by_else p s x ≡ Some q) × Keeps (env_of old) after (layer l.before q ∷ ls) Empty
-          goes_on (InThen a) h =
+          of_then : (a : Occurrence) → Within l ls (InThen a) → GoesOn l ls (InThen a) x
+          of_then a h =
               let made = some_is (existing end.module.types takes gives) pushed in
               let opens = made.2 in
               let b = end.builder.sequences in
               let g = new_frame kind.Else takes gives alternative in
               let top : IfElseState = record { start = a.location; consequent = f.sequence; alternative = None } in
               let around : end.frames ≡ mid.frames = ap (λ (t : OpenTrees). t.frames) ended.is in
-              else_parts (env_of old) (state_with old ifs) l ls s f mid.frames popped.3.frames keeps (InThen a) after b (empty_sequence (length b) made.0) g x top h.other_ifs
-              (kind_is ∙ is_if) h.opens.1 sealed_at
+              else_parts (env_of old) (state_with old ifs) l ls s f mid.frames popped.closes.frames keeps (InThen a) after b (empty_sequence (length b) made.0) g x top h.other_ifs
+              (kind_is ∙ is_if) h.opens.kept sealed_at
               ((λ i. existing (sym same_module i).types ((starts ∙ sym takes_is) i) ((ends ∙ sym gives_is) i)) ∙ made.1)
               refl
               (ap (λ (t : OpenTrees). t.builder.sequences) opens.is)
               (λ i. new_frame kind.Else ((takes_is ∙ sym starts) i) ((gives_is ∙ sym ends) i) (opens.is_next i))
               (ap (λ (t : OpenTrees). t.frames) opens.is ∙ ap (λ gs. g ∷ gs) around)
-              (ap (with_alternative alternative) h.opens.1)
+              (ap (with_alternative alternative) h.opens.kept)
               h
-          goes_on (InWrapper a w) h = absurd (no_wrapper w (sym h.encloses.kind ∙ kind_is ∙ is_if))
-          goes_on (InElse a b m) h = absurd (not_then kind.Else h.encloses.kind (λ e. cc e))
-          goes_on (InTry a) h = absurd (not_then kind.Try h.encloses.kind (λ e. cc e))
-          goes_on (InCatch a b cs i t) h = absurd (not_then kind.Catch h.encloses.kind (λ e. cc e))
-          goes_on (InCatchAll a b cs i) h = absurd (not_then kind.CatchAll h.encloses.kind (λ e. cc e))
 
 -- a pick that is there isn't missing
-pub missing : (old mid end : OpenTrees) (block location : ℕ) (c : ControlFrame) → Popped old mid c block → EndsAt mid end block location → (takes gives : List (ValType ℕ)) (t : InstrSeqType) →
+pub missing : (old mid end : OpenTrees) (block location : ℕ) (c : ControlFrame) → Pops old mid c block → EndsAt mid end block location → (takes gives : List (ValType ℕ)) (t : InstrSeqType) →
     existing old.module.types takes gives ≡ Some t → existing end.module.types takes gives ≡ None → ⊥
 missing old mid end block location c popped ended takes gives t some none =
-    let same : end.module ≡ old.module = ap (λ (t : OpenTrees). t.module) ended.is ∙ ap (λ (t : OpenTrees). t.module) popped.3.is in
+    let same : end.module ≡ old.module = ap (λ (t : OpenTrees). t.module) ended.is ∙ ap (λ (t : OpenTrees). t.module) popped.closes.is in
     let both : Some t ≡ None = sym some ∙ ap (λ m. existing m.types takes gives) (sym same) ∙ none in
     absurd (cc both)

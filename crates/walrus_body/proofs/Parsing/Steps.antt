@@ -23,17 +23,18 @@ use Rattle.wasm_body.specs.Keeping.{dead_behind}
 use Rattle.wasm_body.specs.InstructionTable.{operation_of, legacy_clause, clauses_of_try}
 use Rattle.wasm_body.specs.TreeOfFunction.{aimed, instruction_in, items_in, HasTree}
 use Rattle.wasm_body.specs.Intervals.{RiseIn}
-use Rattle.wasm_body.specs.Parsing.Progress.{append, closed, closed_clause, parted_by_catch, parted_by_catch_all, delegated, parted_by_else, opened, OpenConstruct, InWrapper, InThen, InElse, InTry, InCatch, InCatchAll, Layer, layer, frames_of, further_within}
+use Rattle.wasm_body.specs.Parsing.Progress.{append, closed, closed_clause, parted_by_catch, parted_by_catch_all, delegated, parted_by_else, opened, OpenConstruct, ClosedClause, InWrapper, InThen, InElse, InTry, InCatch, InCatchAll, Layer, layer, frames_of, further_within}
 use Rattle.wasm_body.proofs.NormalForm.ArenaLemmas.{all_rise-range, items-same, all_reached-fresh}
 use Rattle.walrus_body.specs.declared.local_function.frame.IfElseState.{IfElseState}
 use Rattle.walrus_body.specs.Parsing.OpenFrames.{OpenFrame, new_frame, changed_at, with_instr}
 use Rattle.walrus_body.specs.Parsing.Keeping.{slots, TakesParameters, the_if, IsAny, IsTry, Encloses, IsAppended, OpensWith, IsWithin, Holds}
-use Rattle.walrus_body.specs.Parsing.OpenConstructs.{reshown_closed, kind_in, type_in, wrapper_kind, sequences_closed, added_in, opener_in, clauses_in, closed_in, reshown_construct}
+use Rattle.walrus_body.specs.Parsing.OpenConstructs.{reshown_closed, kind_in, type_in, sequences_closed, added_in, opener_in, clauses_in, closed_in, reshown_construct}
 use Rattle.walrus_body.specs.Parsing.Advancing.{IsFate, IsCut, ParseState, Keeps, KeepsProgress, occurrence, Advances}
 use Rattle.walrus_body.proofs.Parsing.Frames.{holds_same, slots_changed, AreNormal, taken, holds_takes, holds_passes}
+use Rattle.walrus_body.proofs.Parsing.Kinds.{IsBehindTry, by_if, by_else, by_try, by_clause}
 use Rattle.walrus_body.proofs.Parsing.Closing.{clauses_more, closed_by_catch}
 use Rattle.walrus_body.proofs.Parsing.Clauses.{gained_places, gained_instruction, AddsClause, adds_within}
-use Rattle.walrus_body.proofs.Parsing.Constructs.{closed_range, holds_behind, sequence_closed, IsWritten, IsSealed, IsOpened, holds_opened, holds_ended, holds_chosen, holds_chosen_alone, holds_parted, if_else}
+use Rattle.walrus_body.proofs.Parsing.Constructs.{closed_range, holds_behind, sequence_closed, IsWritten, IsSealed, IsOpened, is_opened, holds_opened, holds_ended, holds_chosen, holds_chosen_alone, holds_parted, if_else}
 
 module _ (env : Environment) (old : ParseState) (ls : List (Layer Occurrence)) (s : Sequence Occurrence) (o : RawOperation) (place location : ℕ) (keeps : Keeps env old ls s) where
   abbrev at : NamedOperation → Occurrence
@@ -128,7 +129,7 @@ module _ (env : Environment) (old : ParseState) (ls : List (Layer Occurrence)) (
     is_named = is;
     keeps = subst (λ q. KeepsProgress env q (further_within (control_of named) (at named) ls s)) (sym is_new)
         (keeps_as _ named (Opens If) control
-        (holds_opened env old.arena seq ls s (InThen (at named)) g old.frames old.frames (record { start = location; consequent = g.sequence; alternative = None } ∷ old.ifs) old.ifs opens refl (refl, refl, refl, is_if) keeps));
+        (holds_opened env old.arena seq ls s (InThen (at named)) g old.frames old.frames (record { start = location; consequent = g.sequence; alternative = None } ∷ old.ifs) old.ifs opens refl (record { frames = refl; kept = refl; none_before = refl; is_if = is_if }) keeps));
   }
 
 -- ---- the innermost frame is closed
@@ -186,63 +187,51 @@ module _ (env : Environment) (old : ParseState) (l : Layer Occurrence) (ls : Lis
   -- `end` behind an alternative: the instruction of the `if` is appended
   pub chosen : (p : OpenConstruct Occurrence) (new : ParseState) (e : Occurrence) (top : IfElseState) (others : List IfElseState) (alternative : ℕ) → f.kind ≡ kind.Else → old.ifs ≡ top ∷ others → top.alternative ≡ Some alternative → Seals old.arena new.arena f (Some e.location) →
       new.frames ≡ changed_at 0 (with_instr (if_else top.consequent alternative top.start)) fs → new.ifs ≡ others → Inside p → Keeps env new ls (append l.before (closed p s e))
-  chosen (InElse a b m) new e top others alternative is_else ifs has seals gs is h =
-      let c = h.opens.1 in
-      let made : IfElseState = record { start = a.location; consequent = c.0; alternative = Some f.sequence } in
-      let both : top ∷ others ≡ made ∷ h.other_ifs = sym ifs ∙ c.2 in
-      let first : top ≡ made = cc both in
-      let rest : others ≡ h.other_ifs = cc both in
-      let there : Some alternative ≡ Some f.sequence = sym has ∙ ap (λ (t : IfElseState). t.alternative) first in
-      let same : alternative ≡ f.sequence = cc there in
-      let outer : Holds env old.arena ls l.before h.low fs h.other_ifs = subst (λ gs. Holds env old.arena ls l.before h.low gs h.other_ifs) (sym h.opens.0) h.outer in
-      let inside = subst (Encloses env old.arena h.low f (slots fs) (InElse a b m)) c.1 h.encloses in
-      let whole = holds_chosen env old.arena new.arena ls l.before b s a m e f fs h.other_ifs h.low c.0 h.opens.2 h.kept inside
-      (sealed env old.arena new.arena h.low f (slots fs) (c.0 ∷ []) (InElse a b m) (Some e.location) inside seals) outer in
-      let instr : if_else c.0 f.sequence a.location ≡ if_else top.consequent alternative top.start =
-      λ i. if_else ((sym first) i).consequent (sym same i) ((sym first) i).start in
-      subst (λ qs. Holds env new.arena ls (append l.before (closed (InElse a b m) s e)) (length new.arena) qs new.ifs) (ap (λ x. changed_at 0 (with_instr x) fs) instr ∙ sym gs)
-      (subst (λ qs. Holds env new.arena ls (append l.before (closed (InElse a b m) s e)) (length new.arena) (changed_at 0 (with_instr (if_else c.0 f.sequence a.location)) fs) qs) (sym (is ∙ rest)) whole)
-  chosen (InWrapper a w) new e top others alternative is_else ifs has seals gs is h = absurd (no_wrapper w (sym h.encloses.kind ∙ is_else))
+  chosen p new e top others alternative is_else ifs has seals gs is within =
+      by_else (λ q. Inside q → Keeps env new ls (append l.before (closed q s e))) of_else p (sym within.encloses.kind ∙ is_else) within
     where
-      no_wrapper : (v : Wrapper) → wrapper_kind v ≡ kind.Else → ⊥
-      no_wrapper OfBlock e = cc
-      no_wrapper OfLoop e = cc
-      no_wrapper (OfTryTable cs) e = cc
-  chosen (InThen a) new e top others alternative is_else ifs has seals gs is h = absurd (let q : kind.If ≡ kind.Else = sym h.encloses.kind ∙ is_else in cc q)
-  chosen (InTry a) new e top others alternative is_else ifs has seals gs is h = absurd (let q : kind.Try ≡ kind.Else = sym h.encloses.kind ∙ is_else in cc q)
-  chosen (InCatch a b cs i t) new e top others alternative is_else ifs has seals gs is h = absurd (let q : kind.Catch ≡ kind.Else = sym h.encloses.kind ∙ is_else in cc q)
-  chosen (InCatchAll a b cs i) new e top others alternative is_else ifs has seals gs is h = absurd (let q : kind.CatchAll ≡ kind.Else = sym h.encloses.kind ∙ is_else in cc q)
+      of_else : (a : Occurrence) (b : Sequence Occurrence) (m : Occurrence) → Inside (InElse a b m) → Keeps env new ls (append l.before (closed (InElse a b m) s e))
+      of_else a b m h =
+          let c = h.opens.consequent in
+          let made : IfElseState = record { start = a.location; consequent = c; alternative = Some f.sequence } in
+          let both : top ∷ others ≡ made ∷ h.other_ifs = sym ifs ∙ h.opens.kept in
+          let first : top ≡ made = cc both in
+          let rest : others ≡ h.other_ifs = cc both in
+          let there : Some alternative ≡ Some f.sequence = sym has ∙ ap (λ (t : IfElseState). t.alternative) first in
+          let same : alternative ≡ f.sequence = cc there in
+          let outer : Holds env old.arena ls l.before h.low fs h.other_ifs = subst (λ gs. Holds env old.arena ls l.before h.low gs h.other_ifs) (sym h.opens.frames) h.outer in
+          let inside = subst (Encloses env old.arena h.low f (slots fs) (InElse a b m)) h.opens.one_before h.encloses in
+          let whole = holds_chosen env old.arena new.arena ls l.before b s a m e f fs h.other_ifs h.low c h.opens.is_if h.kept inside
+          (sealed env old.arena new.arena h.low f (slots fs) (c ∷ []) (InElse a b m) (Some e.location) inside seals) outer in
+          let instr : if_else c f.sequence a.location ≡ if_else top.consequent alternative top.start =
+          λ i. if_else ((sym first) i).consequent (sym same i) ((sym first) i).start in
+          subst (λ qs. Holds env new.arena ls (append l.before (closed (InElse a b m) s e)) (length new.arena) qs new.ifs) (ap (λ x. changed_at 0 (with_instr x) fs) instr ∙ sym gs)
+          (subst (λ qs. Holds env new.arena ls (append l.before (closed (InElse a b m) s e)) (length new.arena) (changed_at 0 (with_instr (if_else c f.sequence a.location)) fs) qs) (sym (is ∙ rest)) whole)
 
   -- `end` behind a consequent: an empty alternative is made, and the instruction of the `if` is appended
   pub chosen_alone : (p : OpenConstruct Occurrence) (new : ParseState) (c : List InstrSeq) (other : InstrSeq) (e : Occurrence) (top : IfElseState) (others : List IfElseState) → f.kind ≡ kind.If → old.ifs ≡ top ∷ others → Seals old.arena c f (Some e.location) →
       pick env.types (signature f.start_types f.end_types) ≡ Some other.ty → other.instrs ≡ [] → other.end ≡ default_location → new.arena ≡ c ++ other ∷ [] →
       new.frames ≡ changed_at 0 (with_instr (if_else f.sequence (length c) top.start)) fs → new.ifs ≡ others → Inside p → Keeps env new ls (append l.before (closed p s e))
-  chosen_alone (InThen a) new c other e top others is_if ifs seals picks empty no_end arena gs is h =
-      let made : IfElseState = record { start = a.location; consequent = f.sequence; alternative = None } in
-      let both : top ∷ others ≡ made ∷ h.other_ifs = sym ifs ∙ h.opens.1 in
-      let first : top ≡ made = cc both in
-      let rest : others ≡ h.other_ifs = cc both in
-      let outer : Holds env old.arena ls l.before h.low fs h.other_ifs = subst (λ gs. Holds env old.arena ls l.before h.low gs h.other_ifs) (sym h.opens.0) h.outer in
-      let inside = subst (Encloses env old.arena h.low f (slots fs) (InThen a)) h.opens.2 h.encloses in
-      let sig : signature f.start_types f.end_types ≡ block_signature a.named = λ i. signature (h.encloses.takes.0 i) (h.encloses.gives i) in
-      let typed : other.ty ≡ construct_type (typing_of env) a.named = sym (ap (λ t. unwrap_or t (Simple None)) (sym (ap (pick env.types) sig) ∙ picks)) in
-      let whole = holds_chosen_alone env old.arena c other ls l.before s a e f fs h.other_ifs h.low h.opens.3 h.kept inside
-      (sealed env old.arena c h.low f (slots fs) [] (InThen a) (Some e.location) inside seals) typed empty no_end outer in
-      let made_of = λ (d : List InstrSeq) (qs : List OpenFrame) (js : List IfElseState). Holds env d ls (append l.before (closed (InThen a) s e)) (length d) qs js in
-      let instr : if_else f.sequence (length c) a.location ≡ if_else f.sequence (length c) top.start = λ i. if_else f.sequence (length c) ((sym first) i).start in
-      subst (λ d. made_of d new.frames new.ifs) (sym arena)
-      (subst (λ qs. made_of (c ++ other ∷ []) qs new.ifs) (ap (λ x. changed_at 0 (with_instr x) fs) instr ∙ sym gs)
-      (subst (made_of (c ++ other ∷ []) (changed_at 0 (with_instr (if_else f.sequence (length c) a.location)) fs)) (sym (is ∙ rest)) whole))
-  chosen_alone (InWrapper a w) new c other e top others is_if ifs seals picks empty no_end arena gs is h = absurd (no_wrapper w (sym h.encloses.kind ∙ is_if))
+  chosen_alone p new c other e top others is_if ifs seals picks empty no_end arena gs is within =
+      by_if (λ q. Inside q → Keeps env new ls (append l.before (closed q s e))) of_then p (sym within.encloses.kind ∙ is_if) within
     where
-      no_wrapper : (v : Wrapper) → wrapper_kind v ≡ kind.If → ⊥
-      no_wrapper OfBlock e = cc
-      no_wrapper OfLoop e = cc
-      no_wrapper (OfTryTable cs) e = cc
-  chosen_alone (InElse a b m) new c other e top others is_if ifs seals picks empty no_end arena gs is h = absurd (let q : kind.Else ≡ kind.If = sym h.encloses.kind ∙ is_if in cc q)
-  chosen_alone (InTry a) new c other e top others is_if ifs seals picks empty no_end arena gs is h = absurd (let q : kind.Try ≡ kind.If = sym h.encloses.kind ∙ is_if in cc q)
-  chosen_alone (InCatch a b cs i t) new c other e top others is_if ifs seals picks empty no_end arena gs is h = absurd (let q : kind.Catch ≡ kind.If = sym h.encloses.kind ∙ is_if in cc q)
-  chosen_alone (InCatchAll a b cs i) new c other e top others is_if ifs seals picks empty no_end arena gs is h = absurd (let q : kind.CatchAll ≡ kind.If = sym h.encloses.kind ∙ is_if in cc q)
+      of_then : (a : Occurrence) → Inside (InThen a) → Keeps env new ls (append l.before (closed (InThen a) s e))
+      of_then a h =
+          let made : IfElseState = record { start = a.location; consequent = f.sequence; alternative = None } in
+          let both : top ∷ others ≡ made ∷ h.other_ifs = sym ifs ∙ h.opens.kept in
+          let first : top ≡ made = cc both in
+          let rest : others ≡ h.other_ifs = cc both in
+          let outer : Holds env old.arena ls l.before h.low fs h.other_ifs = subst (λ gs. Holds env old.arena ls l.before h.low gs h.other_ifs) (sym h.opens.frames) h.outer in
+          let inside = subst (Encloses env old.arena h.low f (slots fs) (InThen a)) h.opens.none_before h.encloses in
+          let sig : signature f.start_types f.end_types ≡ block_signature a.named = λ i. signature (h.encloses.takes.0 i) (h.encloses.gives i) in
+          let typed : other.ty ≡ construct_type (typing_of env) a.named = sym (ap (λ t. unwrap_or t (Simple None)) (sym (ap (pick env.types) sig) ∙ picks)) in
+          let whole = holds_chosen_alone env old.arena c other ls l.before s a e f fs h.other_ifs h.low h.opens.is_if h.kept inside
+          (sealed env old.arena c h.low f (slots fs) [] (InThen a) (Some e.location) inside seals) typed empty no_end outer in
+          let made_of = λ (d : List InstrSeq) (qs : List OpenFrame) (js : List IfElseState). Holds env d ls (append l.before (closed (InThen a) s e)) (length d) qs js in
+          let instr : if_else f.sequence (length c) a.location ≡ if_else f.sequence (length c) top.start = λ i. if_else f.sequence (length c) ((sym first) i).start in
+          subst (λ d. made_of d new.frames new.ifs) (sym arena)
+          (subst (λ qs. made_of (c ++ other ∷ []) qs new.ifs) (ap (λ x. changed_at 0 (with_instr x) fs) instr ∙ sym gs)
+          (subst (made_of (c ++ other ∷ []) (changed_at 0 (with_instr (if_else f.sequence (length c) a.location)) fs)) (sym (is ∙ rest)) whole))
 
   -- ---- the next sequence of a construct
 
@@ -262,52 +251,39 @@ module _ (env : Environment) (old : ParseState) (l : Layer Occurrence) (ls : Lis
       subst (λ d. Holds env d (layer l.before q ∷ ls) Empty (length d) new.frames new.ifs) (sym m.grows)
       (subst (λ ks. Holds env (c ++ m.seq ∷ []) (layer l.before q ∷ ls) Empty (length (c ++ m.seq ∷ [])) ks new.ifs) (sym is) whole)
 
+  -- the construct goes on as this one, whose new sequence is empty
+  abbrev IsParted : ParseState → Option (OpenConstruct Occurrence) → Type 0
+  IsParted new o = (q : OpenConstruct Occurrence) × (o ≡ Some q) × Keeps env new (layer l.before q ∷ ls) Empty
+
   -- `else` behind a consequent
   pub else_parts : (p : OpenConstruct Occurrence) (new : ParseState) (c : List InstrSeq) (seq : InstrSeq) (g : OpenFrame) (x : Occurrence) (top : IfElseState) (others : List IfElseState) → f.kind ≡ kind.If → old.ifs ≡ top ∷ others → Seals old.arena c f (Some x.location) →
       pick env.types (signature f.start_types f.end_types) ≡ Some seq.ty → seq.end ≡ default_location → new.arena ≡ c ++ seq ∷ [] → g ≡ new_frame kind.Else f.start_types f.end_types (length c) →
       new.frames ≡ g ∷ fs → new.ifs ≡ record top { alternative = Some g.sequence } ∷ others → Inside p →
-      (q : OpenConstruct Occurrence) × (parted_by_else p s x ≡ Some q) × Keeps env new (layer l.before q ∷ ls) Empty
-  else_parts (InThen a) new c seq g x top others is_if ifs seals picks no_end arena frame gs is h =
-      let made : IfElseState = record { start = a.location; consequent = f.sequence; alternative = None } in
-      let both : top ∷ others ≡ made ∷ h.other_ifs = sym ifs ∙ h.opens.1 in
-      let first : top ≡ made = cc both in
-      let rest : others ≡ h.other_ifs = cc both in
-      let sig : signature f.start_types f.end_types ≡ block_signature a.named = λ i. signature (h.encloses.takes.0 i) (h.encloses.gives i) in
-      let typed : seq.ty ≡ construct_type (typing_of env) a.named = sym (ap (λ t. unwrap_or t (Simple None)) (sym (ap (pick env.types) sig) ∙ picks)) in
-      let states : new.ifs ≡ record { start = a.location; consequent = f.sequence; alternative = Some g.sequence } ∷ h.other_ifs =
-      is ∙ (λ i. record { start = (first i).start; consequent = (first i).consequent; alternative = Some g.sequence } ∷ rest i) in
-      let here : g.sequence ≡ length c = ap (λ (k : OpenFrame). k.sequence) frame in (
-        InElse a s x,
-        refl,
-        parted (InThen a) (InElse a s x) new c g fs x.location h
-            (record {
-              seals = seals;
-              seq = seq;
-              grows = arena;
-              opens = record {
-                here = here;
-                is_empty = ap (λ (k : OpenFrame). k.instrs) frame;
-                is_alive = ap (λ (k : OpenFrame). k.dead) frame;
-                kind = ap (λ (k : OpenFrame). k.kind) frame;
-                takes = tt;
-                gives = ap (λ (k : OpenFrame). k.end_types) frame ∙ h.encloses.gives;
-                has_type = typed;
-                has_no_end = no_end;
-              };
-              same = refl;
-            })
-            gs refl (h.opens.0, (f.sequence, ap (λ ps. ps ++ f.sequence ∷ []) h.opens.2, states), h.opens.3),
-      )
-  else_parts (InWrapper a w) new c seq g x top others is_if ifs seals picks no_end arena frame gs is h = absurd (no_wrapper w (sym h.encloses.kind ∙ is_if))
+      IsParted new (parted_by_else p s x)
+  else_parts p new c seq g x top others is_if ifs seals picks no_end arena frame gs is within = by_if (λ q. Inside q → IsParted new (parted_by_else q s x)) of_then p (sym within.encloses.kind ∙ is_if) within
     where
-      no_wrapper : (v : Wrapper) → wrapper_kind v ≡ kind.If → ⊥
-      no_wrapper OfBlock e = cc
-      no_wrapper OfLoop e = cc
-      no_wrapper (OfTryTable cs) e = cc
-  else_parts (InElse a b m) new c seq g x top others is_if ifs seals picks no_end arena frame gs is h = absurd (let q : kind.Else ≡ kind.If = sym h.encloses.kind ∙ is_if in cc q)
-  else_parts (InTry a) new c seq g x top others is_if ifs seals picks no_end arena frame gs is h = absurd (let q : kind.Try ≡ kind.If = sym h.encloses.kind ∙ is_if in cc q)
-  else_parts (InCatch a b cs i t) new c seq g x top others is_if ifs seals picks no_end arena frame gs is h = absurd (let q : kind.Catch ≡ kind.If = sym h.encloses.kind ∙ is_if in cc q)
-  else_parts (InCatchAll a b cs i) new c seq g x top others is_if ifs seals picks no_end arena frame gs is h = absurd (let q : kind.CatchAll ≡ kind.If = sym h.encloses.kind ∙ is_if in cc q)
+      of_then : (a : Occurrence) → Inside (InThen a) → IsParted new (parted_by_else (InThen a) s x)
+      of_then a h =
+          let made : IfElseState = record { start = a.location; consequent = f.sequence; alternative = None } in
+          let both : top ∷ others ≡ made ∷ h.other_ifs = sym ifs ∙ h.opens.kept in
+          let first : top ≡ made = cc both in
+          let rest : others ≡ h.other_ifs = cc both in
+          let sig : signature f.start_types f.end_types ≡ block_signature a.named = λ i. signature (h.encloses.takes.0 i) (h.encloses.gives i) in
+          let typed : seq.ty ≡ construct_type (typing_of env) a.named = sym (ap (λ t. unwrap_or t (Simple None)) (sym (ap (pick env.types) sig) ∙ picks)) in
+          let states : new.ifs ≡ record { start = a.location; consequent = f.sequence; alternative = Some g.sequence } ∷ h.other_ifs =
+          is ∙ (λ i. record { start = (first i).start; consequent = (first i).consequent; alternative = Some g.sequence } ∷ rest i) in (
+            InElse a s x,
+            refl,
+            parted (InThen a) (InElse a s x) new c g fs x.location h
+                (record {
+                  seals = seals;
+                  seq = seq;
+                  grows = arena;
+                  opens = is_opened env (length c) (InElse a s x) g seq kind.Else f.start_types f.end_types frame refl tt h.encloses.gives typed no_end;
+                  same = refl;
+                })
+                gs refl (record { frames = h.opens.frames; consequent = f.sequence; one_before = ap (λ ps. ps ++ f.sequence ∷ []) h.opens.none_before; kept = states; is_if = h.opens.is_if }),
+          )
 
   -- `catch` and `catch_all` behind the body of a legacy `try` or a handler
   handler_parts : (p q : OpenConstruct Occurrence) (new : ParseState) (c : List InstrSeq) (seq : InstrSeq) (g : OpenFrame) (gs : List OpenFrame) (location : ℕ) (kind : BlockKind) (parameters : List (ValType ℕ)) (clause : LegacyCatch) → Seals old.arena c f (Some location) →
@@ -327,16 +303,7 @@ module _ (env : Environment) (old : ParseState) (l : Layer Occurrence) (ls : Lis
         seals = seals;
         seq = seq;
         grows = arena;
-        opens = record {
-          here = here;
-          is_empty = ap (λ (k : OpenFrame). k.instrs) frame;
-          is_alive = ap (λ (k : OpenFrame). k.dead) frame;
-          kind = ap (λ (k : OpenFrame). k.kind) frame ∙ is_kind;
-          takes = takes g.start_types;
-          gives = ap (λ (k : OpenFrame). k.end_types) frame ∙ h.encloses.gives ∙ ap (λ (a : Occurrence). (block_signature a.named).results) (sym same);
-          has_type = typed ∙ sym type;
-          has_no_end = no_end;
-        };
+        opens = is_opened env (length c) q g seq kind parameters f.end_types frame is_kind (takes g.start_types) (h.encloses.gives ∙ ap (λ (a : Occurrence). (block_signature a.named).results) (sym same)) (typed ∙ sym type) no_end;
         same = closed_same;
       })
       gs_are same_slots
@@ -346,106 +313,88 @@ module _ (env : Environment) (old : ParseState) (l : Layer Occurrence) (ls : Lis
         is ∙ others,
       ))
 
-  -- whether a clause may stand behind the frame
-  abbrev pub IsBehindTry : BlockKind → Type 0
-  IsBehindTry kind.Try = Unit {0}
-  IsBehindTry kind.Catch = Unit {0}
-  IsBehindTry _ = ⊥
-
   pub catch_parts : (p : OpenConstruct Occurrence) (new : ParseState) (c : List InstrSeq) (seq : InstrSeq) (g : OpenFrame) (gs : List OpenFrame) (x : Occurrence) (tag : ℕ) (parameters : List (ValType ℕ)) → IsBehindTry f.kind → Seals old.arena c f (Some x.location) →
       (typing_of env).tag_parameters tag ≡ parameters → pick env.types (signature parameters f.end_types) ≡ Some seq.ty → seq.end ≡ default_location → new.arena ≡ c ++ seq ∷ [] → g ≡ new_frame kind.Catch parameters f.end_types (length c) →
       new.frames ≡ g ∷ gs → new.ifs ≡ old.ifs → slots gs ≡ slots fs → AddsClause fs gs (Catch tag (length c)) → Inside p →
-      (q : OpenConstruct Occurrence) × (parted_by_catch p s x tag ≡ Some q) × Keeps env new (layer l.before q ∷ ls) Empty
-  catch_parts (InTry a) new c seq g gs x tag parameters may seals tagged picks no_end arena frame gs_are is same_slots adds h =
-      let q = InCatch a s [] x tag in (
-        q,
-        refl,
-        handler_parts (InTry a) q new c seq g gs x.location kind.Catch parameters (Catch tag (length c)) seals picks no_end arena frame gs_are is same_slots adds refl h h.opens.0 h.opens.1
-            refl refl refl (λ ts. tt) (ap (handler_type (typing_of env) a.named) tagged) refl (λ around before slot hs outside is js o. o),
-      )
-  catch_parts (InCatch a b cs i u) new c seq g gs x tag parameters may seals tagged picks no_end arena frame gs_are is same_slots adds h =
-      let q = InCatch a b (closed_clause i u s ∷ cs) x tag in (
-        q,
-        refl,
-        handler_parts (InCatch a b cs i u) q new c seq g gs x.location kind.Catch parameters (Catch tag (length c)) seals picks no_end arena frame gs_are is same_slots adds refl h h.opens.0 h.opens.1
-            refl (clauses_more cs (handles u ∷ []) (handles tag ∷ [])) refl (λ ts. tt) (ap (handler_type (typing_of env) a.named) tagged)
-            (closed_by_catch (typing_of env) (name_at a) (map_sequence name_at b) (map_sequence name_at s) (reshown_closed name_at cs) (name_at i) (name_at x) tag u) (λ around before slot hs outside is js o. o),
-      )
-  catch_parts (InWrapper a w) new c seq g gs x tag parameters may seals tagged picks no_end arena frame gs_are is same_slots adds h = absurd (wrapper_may w (subst IsBehindTry h.encloses.kind may))
+      IsParted new (parted_by_catch p s x tag)
+  catch_parts p new c seq g gs x tag parameters may seals tagged picks no_end arena frame gs_are is same_slots adds within =
+      by_clause (λ q. Inside q → IsParted new (parted_by_catch q s x tag)) of_try of_catch p (subst IsBehindTry within.encloses.kind may) within
     where
-      wrapper_may : (v : Wrapper) → IsBehindTry (wrapper_kind v) → ⊥
-      wrapper_may OfBlock m = m
-      wrapper_may OfLoop m = m
-      wrapper_may (OfTryTable cs) m = m
-  catch_parts (InThen a) new c seq g gs x tag parameters may seals tagged picks no_end arena frame gs_are is same_slots adds h = absurd (subst IsBehindTry h.encloses.kind may)
-  catch_parts (InElse a b m) new c seq g gs x tag parameters may seals tagged picks no_end arena frame gs_are is same_slots adds h = absurd (subst IsBehindTry h.encloses.kind may)
-  catch_parts (InCatchAll a b cs i) new c seq g gs x tag parameters may seals tagged picks no_end arena frame gs_are is same_slots adds h = absurd (subst IsBehindTry h.encloses.kind may)
+      of_try : (a : Occurrence) → Inside (InTry a) → IsParted new (parted_by_catch (InTry a) s x tag)
+      of_try a h =
+          let q = InCatch a s [] x tag in (
+            q,
+            refl,
+            handler_parts (InTry a) q new c seq g gs x.location kind.Catch parameters (Catch tag (length c)) seals picks no_end arena frame gs_are is same_slots adds refl h h.opens.0 h.opens.1
+                refl refl refl (λ ts. tt) (ap (handler_type (typing_of env) a.named) tagged) refl (λ around before slot hs outside is js o. o),
+          )
+
+      of_catch : (a : Occurrence) (b : Sequence Occurrence) (cs : List (ClosedClause Occurrence)) (i : Occurrence) (u : ℕ) → Inside (InCatch a b cs i u) → IsParted new (parted_by_catch (InCatch a b cs i u) s x tag)
+      of_catch a b cs i u h =
+          let q = InCatch a b (closed_clause i u s ∷ cs) x tag in (
+            q,
+            refl,
+            handler_parts (InCatch a b cs i u) q new c seq g gs x.location kind.Catch parameters (Catch tag (length c)) seals picks no_end arena frame gs_are is same_slots adds refl h h.opens.0 h.opens.1
+                refl (clauses_more cs (handles u ∷ []) (handles tag ∷ [])) refl (λ ts. tt) (ap (handler_type (typing_of env) a.named) tagged)
+                (closed_by_catch (typing_of env) (name_at a) (map_sequence name_at b) (map_sequence name_at s) (reshown_closed name_at cs) (name_at i) (name_at x) tag u) (λ around before slot hs outside is js o. o),
+          )
 
   pub catch_all_parts : (p : OpenConstruct Occurrence) (new : ParseState) (c : List InstrSeq) (seq : InstrSeq) (g : OpenFrame) (gs : List OpenFrame) (x : Occurrence) → IsBehindTry f.kind → Seals old.arena c f (Some x.location) →
       pick env.types (signature [] f.end_types) ≡ Some seq.ty → seq.end ≡ default_location → new.arena ≡ c ++ seq ∷ [] → g ≡ new_frame kind.CatchAll [] f.end_types (length c) →
       new.frames ≡ g ∷ gs → new.ifs ≡ old.ifs → slots gs ≡ slots fs → AddsClause fs gs (CatchAll (length c)) → Inside p →
-      (q : OpenConstruct Occurrence) × (parted_by_catch_all p s x ≡ Some q) × Keeps env new (layer l.before q ∷ ls) Empty
-  catch_all_parts (InTry a) new c seq g gs x may seals picks no_end arena frame gs_are is same_slots adds h =
-      let q = InCatchAll a s [] x in (
-        q,
-        refl,
-        handler_parts (InTry a) q new c seq g gs x.location kind.CatchAll [] (CatchAll (length c)) seals picks no_end arena frame gs_are is same_slots adds refl h h.opens.0 h.opens.1
-            refl refl refl (λ ts. tt) refl refl (λ around before slot hs outside is js o. o),
-      )
-  catch_all_parts (InCatch a b cs i u) new c seq g gs x may seals picks no_end arena frame gs_are is same_slots adds h =
-      let q = InCatchAll a b (closed_clause i u s ∷ cs) x in (
-        q,
-        refl,
-        handler_parts (InCatch a b cs i u) q new c seq g gs x.location kind.CatchAll [] (CatchAll (length c)) seals picks no_end arena frame gs_are is same_slots adds refl h h.opens.0 h.opens.1
-            refl (clauses_more cs (handles u ∷ []) (handles_all ∷ [])) refl (λ ts. tt) refl
-            (closed_by_catch (typing_of env) (name_at a) (map_sequence name_at b) (map_sequence name_at s) (reshown_closed name_at cs) (name_at i) (name_at x) 0 u) (λ around before slot hs outside is js o. o),
-      )
-  catch_all_parts (InWrapper a w) new c seq g gs x may seals picks no_end arena frame gs_are is same_slots adds h = absurd (wrapper_may w (subst IsBehindTry h.encloses.kind may))
+      IsParted new (parted_by_catch_all p s x)
+  catch_all_parts p new c seq g gs x may seals picks no_end arena frame gs_are is same_slots adds within =
+      by_clause (λ q. Inside q → IsParted new (parted_by_catch_all q s x)) of_try of_catch p (subst IsBehindTry within.encloses.kind may) within
     where
-      wrapper_may : (v : Wrapper) → IsBehindTry (wrapper_kind v) → ⊥
-      wrapper_may OfBlock m = m
-      wrapper_may OfLoop m = m
-      wrapper_may (OfTryTable cs) m = m
-  catch_all_parts (InThen a) new c seq g gs x may seals picks no_end arena frame gs_are is same_slots adds h = absurd (subst IsBehindTry h.encloses.kind may)
-  catch_all_parts (InElse a b m) new c seq g gs x may seals picks no_end arena frame gs_are is same_slots adds h = absurd (subst IsBehindTry h.encloses.kind may)
-  catch_all_parts (InCatchAll a b cs i) new c seq g gs x may seals picks no_end arena frame gs_are is same_slots adds h = absurd (subst IsBehindTry h.encloses.kind may)
+      of_try : (a : Occurrence) → Inside (InTry a) → IsParted new (parted_by_catch_all (InTry a) s x)
+      of_try a h =
+          let q = InCatchAll a s [] x in (
+            q,
+            refl,
+            handler_parts (InTry a) q new c seq g gs x.location kind.CatchAll [] (CatchAll (length c)) seals picks no_end arena frame gs_are is same_slots adds refl h h.opens.0 h.opens.1
+                refl refl refl (λ ts. tt) refl refl (λ around before slot hs outside is js o. o),
+          )
+
+      of_catch : (a : Occurrence) (b : Sequence Occurrence) (cs : List (ClosedClause Occurrence)) (i : Occurrence) (u : ℕ) → Inside (InCatch a b cs i u) → IsParted new (parted_by_catch_all (InCatch a b cs i u) s x)
+      of_catch a b cs i u h =
+          let q = InCatchAll a b (closed_clause i u s ∷ cs) x in (
+            q,
+            refl,
+            handler_parts (InCatch a b cs i u) q new c seq g gs x.location kind.CatchAll [] (CatchAll (length c)) seals picks no_end arena frame gs_are is same_slots adds refl h h.opens.0 h.opens.1
+                refl (clauses_more cs (handles u ∷ []) (handles_all ∷ [])) refl (λ ts. tt) refl
+                (closed_by_catch (typing_of env) (name_at a) (map_sequence name_at b) (map_sequence name_at s) (reshown_closed name_at cs) (name_at i) (name_at x) 0 u) (λ around before slot hs outside is js o. o),
+          )
 
   -- `delegate` behind the body of a legacy `try`
   pub delegate_ends : (p : OpenConstruct Occurrence) (new : ParseState) (gs : List OpenFrame) (x : Occurrence) (n : ℕ) → f.kind ≡ kind.Try → Seals old.arena new.arena f None → new.frames ≡ gs → new.ifs ≡ old.ifs → AddsClause fs gs (Delegate n) → Inside p →
       (made : Sequence Occurrence) × (delegated p s x n ≡ Some made) × Keeps env new ls (append l.before made)
-  delegate_ends (InTry a) new gs x n is_try seals gs_are is adds h =
-      let appended : IsAppended (slots fs) h.before f.sequence (InTry a) IsTry fs h.outside = h.opens.0 in
-      let added = adds appended.opener h.outside appended.frames appended.is_opener in
-      let same_slots : slots fs ≡ slots h.outside = ap slots appended.frames ∙ slots_changed appended.opener 0 h.outside in
-      let closes = sequence_closed env old.arena new.arena h.low f (slots fs) h.before (InTry a) s default_location h.kept h.encloses
-      (sealed env old.arena new.arena h.low f (slots fs) h.before (InTry a) None h.encloses seals) in
-      let range = all_rise-range h.low h.encloses.inside f.sequence h.encloses.rise in
-      let places : slots_in added.0.0 ≡ h.before ++ f.sequence ∷ [] = gained_places appended.opener added.0 (Delegate n) added.1 ∙ append-nil (slots_in appended.opener.0) ∙ appended.places in
-      let made : instruction_in (slots fs) added.0 ≡ instruction (name_at a) (delegates n ∷ []) = gained_instruction (slots fs) appended.opener added.0 (Delegate n) a [] added.1 appended.is_instruction in
-      let more : AreNormal env new.arena h.low (length new.arena) (slots fs) (added.0 ∷ []) (TryDelegate a s x n Empty) = record {
-        items = item added.0 closes.inside no_items;
-        are_items = are_items (subst (λ ps. AreSequences new.arena ps closes.inside) (sym places) closes.are_sequences) are_no_items;
-        rise = (length new.arena, closes.rise, (let m : length new.arena ≤ length new.arena = omega arith in m));
-        is_normal = λ i. item (made i) (closes.is_normal i) no_items;
-      } in
-      let whole = holds_behind env new.arena ls l.before (TryDelegate a s x n Empty) h.low (length new.arena) h.outside h.other_ifs added.0 (closed_range closes) refl
-      (subst (λ ps. AreNormal env new.arena h.low (length new.arena) ps (added.0 ∷ []) (TryDelegate a s x n Empty)) same_slots more)
-      (holds_same env old.arena new.arena ls l.before h.low h.outside h.other_ifs (λ q m k. seals.written.elsewhere q (λ d. let at : q ≡ f.sequence = d in omega arith)) h.outer) in (
-        TryDelegate a s x n Empty,
-        refl,
-        subst (λ qs. Holds env new.arena ls (append l.before (TryDelegate a s x n Empty)) (length new.arena) qs new.ifs) (sym (gs_are ∙ added.2))
-            (subst (λ js. Holds env new.arena ls (append l.before (TryDelegate a s x n Empty)) (length new.arena) (changed_at 0 (with_instr added.0) h.outside) js) (sym (is ∙ h.opens.1)) whole),
-      )
-  delegate_ends (InWrapper a w) new gs x n is_try seals gs_are is adds h = absurd (no_wrapper w (sym h.encloses.kind ∙ is_try))
+  delegate_ends p new gs x n is_try seals gs_are is adds within =
+      by_try (λ q. Inside q → (made : Sequence Occurrence) × (delegated q s x n ≡ Some made) × Keeps env new ls (append l.before made)) of_try p (sym within.encloses.kind ∙ is_try) within
     where
-      no_wrapper : (v : Wrapper) → wrapper_kind v ≡ kind.Try → ⊥
-      no_wrapper OfBlock e = cc
-      no_wrapper OfLoop e = cc
-      no_wrapper (OfTryTable cs) e = cc
-  delegate_ends (InThen a) new gs x n is_try seals gs_are is adds h = absurd (let q : kind.If ≡ kind.Try = sym h.encloses.kind ∙ is_try in cc q)
-  delegate_ends (InElse a b m) new gs x n is_try seals gs_are is adds h = absurd (let q : kind.Else ≡ kind.Try = sym h.encloses.kind ∙ is_try in cc q)
-  delegate_ends (InCatch a b cs i t) new gs x n is_try seals gs_are is adds h = absurd (let q : kind.Catch ≡ kind.Try = sym h.encloses.kind ∙ is_try in cc q)
-  delegate_ends (InCatchAll a b cs i) new gs x n is_try seals gs_are is adds h = absurd (let q : kind.CatchAll ≡ kind.Try = sym h.encloses.kind ∙ is_try in cc q)
+      of_try : (a : Occurrence) → Inside (InTry a) → (made : Sequence Occurrence) × (delegated (InTry a) s x n ≡ Some made) × Keeps env new ls (append l.before made)
+      of_try a h =
+          let appended : IsAppended (slots fs) h.before f.sequence (InTry a) IsTry fs h.outside = h.opens.0 in
+          let added = adds appended.opener h.outside appended.frames appended.is_opener in
+          let same_slots : slots fs ≡ slots h.outside = ap slots appended.frames ∙ slots_changed appended.opener 0 h.outside in
+          let closes = sequence_closed env old.arena new.arena h.low f (slots fs) h.before (InTry a) s default_location h.kept h.encloses
+          (sealed env old.arena new.arena h.low f (slots fs) h.before (InTry a) None h.encloses seals) in
+          let range = all_rise-range h.low h.encloses.inside f.sequence h.encloses.rise in
+          let places : slots_in added.0.0 ≡ h.before ++ f.sequence ∷ [] = gained_places appended.opener added.0 (Delegate n) added.1 ∙ append-nil (slots_in appended.opener.0) ∙ appended.places in
+          let made : instruction_in (slots fs) added.0 ≡ instruction (name_at a) (delegates n ∷ []) = gained_instruction (slots fs) appended.opener added.0 (Delegate n) a [] added.1 appended.is_instruction in
+          let more : AreNormal env new.arena h.low (length new.arena) (slots fs) (added.0 ∷ []) (TryDelegate a s x n Empty) = record {
+            items = item added.0 closes.inside no_items;
+            are_items = are_items (subst (λ ps. AreSequences new.arena ps closes.inside) (sym places) closes.are_sequences) are_no_items;
+            rise = (length new.arena, closes.rise, (let m : length new.arena ≤ length new.arena = omega arith in m));
+            is_normal = λ i. item (made i) (closes.is_normal i) no_items;
+          } in
+          let whole = holds_behind env new.arena ls l.before (TryDelegate a s x n Empty) h.low (length new.arena) h.outside h.other_ifs added.0 (closed_range closes) refl
+          (subst (λ ps. AreNormal env new.arena h.low (length new.arena) ps (added.0 ∷ []) (TryDelegate a s x n Empty)) same_slots more)
+          (holds_same env old.arena new.arena ls l.before h.low h.outside h.other_ifs (λ q m k. seals.written.elsewhere q (λ d. let at : q ≡ f.sequence = d in omega arith)) h.outer) in (
+            TryDelegate a s x n Empty,
+            refl,
+            subst (λ qs. Holds env new.arena ls (append l.before (TryDelegate a s x n Empty)) (length new.arena) qs new.ifs) (sym (gs_are ∙ added.2))
+                (subst (λ js. Holds env new.arena ls (append l.before (TryDelegate a s x n Empty)) (length new.arena) (changed_at 0 (with_instr added.0) h.outside) js) (sym (is ∙ h.opens.1)) whole),
+          )
 
 -- ---- the function's own sequence is closed
 

@@ -1,18 +1,12 @@
 -- The next operator of the bytes, which a validator takes.
-use Rattle.std.specs.Prelude.{◌≡◌, ℕ, ◌+◌, ◌<◌, List, length, Bool, true, false, Option, Some, None, Result, Ok, Err, ◌⊎◌}
+use Rattle.std.specs.Prelude.{◌≡◌, ℕ, List, Bool, true, false, Option, Some, None, Result, Ok, Err, ◌⊎◌}
 use Rattle.std.specs.Borrow.{Bor}
 use Rattle.std.specs.Fn.{Shared}
-use Rattle.std.proofs.lemmas.List.{length-append}
-use Rattle.std.proofs.Common.{refl, ap, ◌∙◌, arith, inl, inr}
+use Rattle.std.proofs.Common.{refl, ap, ◌∙◌, inl, inr}
 use Rattle.wasm_ops.specs.declared.fault.ReadFault.{ReadFault}
-use Rattle.wasm_ops.specs.declared.types.Opcode.{Opcode}
-use Rattle.wasm_ops.specs.declared.types.Opcode.TheVariants.{Byte, Prefixed}
 use Rattle.wasm_ops.specs.Operations.{RawOperation}
 use Rattle.wasm_ops.specs.OperatorList.{Placed}
-use Rattle.wasm_ops.specs.Opcodes.{IsOpcode}
-use Rattle.wasm_ops.specs.Position.{Position, Moves}
-use Rattle.wasm_ops.specs.Spelling.{Spells, read_operation}
-use Rattle.wasm_ops.proofs.OperationLaws.{operations_agree}
+use Rattle.wasm_ops.specs.Spelling.{read_operation}
 use Rattle.wasm_body.specs.declared.error.ParseError.{ParseError}
 use Rattle.wasm_body.specs.declared.error.ParseError.TheVariants.{Read, PlaceTooGreat, Checked, Memory}
 use Rattle.walrus_ir.specs.Results.{◌>>=◌, unless, with_fault}
@@ -21,29 +15,6 @@ use Rattle.walrus_body.specs.declared.local_function.check.CheckError.TheVariant
 use Rattle.walrus_body.specs.Parsing.Checking.{placed_at, Checks, fault_of}
 use Rattle.walrus_body.specs.Parsing.Locating.{Locates, HasNoLocation}
 use Rattle.walrus_body.specs.Parsing.Settings.{has_place, Taken, taken}
-
--- ---- a reader that moved
-
-pub read_moved : (old new : Position) (o : RawOperation) (text : List ℕ) → Moves old text new → Spells o text → read_operation old.rest ≡ Ok (o, new.rest)
-read_moved old new o text m s = ap read_operation m.parts ∙ operations_agree.again o text new.rest s
-
--- an operator is a byte at least
-spelt_longer : (o : RawOperation) (text : List ℕ) → Spells o text → 0 < length text
-spelt_longer o text s =
-    let long : length text ≡ length s.first + length s.others = ap length s.parts ∙ length-append s.first s.others in
-    let some = opcode_longer o.opcode s.first s.opcode in omega arith
-  where
-    opcode_longer : (c : Opcode) (first : List ℕ) → IsOpcode c first → 0 < length first
-    opcode_longer (Byte b) first i = let l = ap length i.2 in omega arith
-    opcode_longer (Prefixed prefix n) first i = let l = ap length i.3 in omega arith
-
-pub moved_on : (old new : Position) (o : RawOperation) (text : List ℕ) → Moves old text new → Spells o text →
-    (new.place + length new.rest ≡ old.place + length old.rest) × (length new.rest < length old.rest)
-moved_on old new o text m s =
-    let long : length old.rest ≡ length text + length new.rest = ap length m.parts ∙ length-append text new.rest in
-    let some = spelt_longer o text s in
-    let place = m.place in
-    (omega arith, omega arith)
 
 -- ---- what is taken
 

@@ -70,9 +70,16 @@ pub record AppendsIf (old new : BodyParser) (alternative : Option ℕ) : Type 0 
   pub chosen : either alternative top.alternative ≡ Some id
   pub is : new.context ≡ record old.context { frames = changed_at 0 (with_instr (if_else top.consequent id top.start)) old.context.frames }
 
+-- The innermost `if` has no alternative, and none is given.
+pub record HasNoAlternative (p : BodyParser) (given : Option ℕ) : Type 0 where
+  pub front : List IfElseState
+  pub top : IfElseState
+  pub ifs : p.if_else.items ≡ front ++ top ∷ []
+  pub none : either given top.alternative ≡ None
+
 -- No `if` is open, or it has no alternative, or there is no frame around.
 abbrev pub HasNoIf : BodyParser → Option ℕ → Type 0
-HasNoIf old alternative = (old.if_else.items ≡ []) ⊎ (((front : List IfElseState) × (top : IfElseState) × (old.if_else.items ≡ front ++ top ∷ []) × (either alternative top.alternative ≡ None)) ⊎ (old.context.frames ≡ []))
+HasNoIf old alternative = (old.if_else.items ≡ []) ⊎ (HasNoAlternative old alternative ⊎ (old.context.frames ≡ []))
 
 -- There is one more sequence of this type, which is empty; nothing else changed.
 pub record AddsEmpty (old new : OpenTrees) (type : InstrSeqType) (id : ℕ) : Type 0 where

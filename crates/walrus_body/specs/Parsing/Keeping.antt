@@ -78,13 +78,26 @@ IsAny i = Unit {0}
 abbrev pub the_if : Occurrence → Type 0
 the_if a = kept_operation a.named ≡ operation (Byte 0x04) (block tt ∷ [])
 
+-- An `if` whose consequent is open: what is kept for it, and the other `if`s.
+pub record OpensThen (before : List ℕ) (slot : ℕ) (a : Occurrence) (fs fs' : List OpenFrame) (ifs ifs' : List IfElseState) : Type 0 where
+  pub frames : fs ≡ fs'
+  pub kept : ifs ≡ record { start = a.location; consequent = slot; alternative = None } ∷ ifs'
+  pub none_before : before ≡ []
+  pub is_if : the_if a
+
+-- An `if` whose alternative is open, behind its consequent.
+pub record OpensElse (before : List ℕ) (slot : ℕ) (a : Occurrence) (fs fs' : List OpenFrame) (ifs ifs' : List IfElseState) : Type 0 where
+  pub frames : fs ≡ fs'
+  pub consequent : ℕ
+  pub one_before : before ≡ consequent ∷ []
+  pub kept : ifs ≡ record { start = a.location; consequent = consequent; alternative = Some slot } ∷ ifs'
+  pub is_if : the_if a
+
 -- The construct's instruction: that of an `if` is still to come, with what is kept for it; any other stands behind those of
 -- the frame around. Without the construct the frames around are `fs'`, and what is kept for the other `if`s is `ifs'`.
 abbrev pub OpensWith : (around before : List ℕ) → (slot : ℕ) → OpenConstruct Occurrence → (fs fs' : List OpenFrame) → (ifs ifs' : List IfElseState) → Type 0
-OpensWith around before slot (InThen a) fs fs' ifs ifs' =
-    (fs ≡ fs') × (ifs ≡ record { start = a.location; consequent = slot; alternative = None } ∷ ifs') × (before ≡ []) × the_if a
-OpensWith around before slot (InElse a b l) fs fs' ifs ifs' =
-    (fs ≡ fs') × ((c : ℕ) × (before ≡ c ∷ []) × (ifs ≡ record { start = a.location; consequent = c; alternative = Some slot } ∷ ifs')) × the_if a
+OpensWith around before slot (InThen a) fs fs' ifs ifs' = OpensThen before slot a fs fs' ifs ifs'
+OpensWith around before slot (InElse a b l) fs fs' ifs ifs' = OpensElse before slot a fs fs' ifs ifs'
 OpensWith around before slot (InWrapper a w) fs fs' ifs ifs' = IsAppended around before slot (InWrapper a w) IsAny fs fs' × (ifs ≡ ifs')
 OpensWith around before slot p fs fs' ifs ifs' = IsAppended around before slot p IsTry fs fs' × (ifs ≡ ifs')
 

@@ -1,9 +1,11 @@
 -- What contracts see of the open frames, and what single calls do to them.
-use Rattle.std.specs.Prelude.{◌≡◌, ℕ, zero, suc, List, [], ◌∷◌, ◌++◌, Bool, true, false, cond, take}
+use Rattle.std.specs.Prelude.{◌≡◌, ◌<◌, ◌≤◌, ℕ, zero, suc, List, [], ◌∷◌, ◌++◌, length, slice_get, Some, Bool, true, false, cond, take}
 use Rattle.std.specs.List.{AllByRecursion}
 use Rattle.walrus_ir.specs.declared.control.BlockKind.{BlockKind}
 use Rattle.walrus_ir.specs.declared.val_type.ValType.{ValType}
 use Rattle.walrus_ir.specs.Unfolding.{LocatedInstr}
+use Rattle.wasm_body.specs.declared.error.ParseError.{ParseError}
+use Rattle.wasm_body.specs.declared.error.ParseError.TheVariants.{NoFrame, NoSuchLabel}
 use Rattle.walrus_body.specs.declared.local_function.frame.ControlFrame.{ControlFrame}
 
 -- An open frame: its kind, what it takes and gives, its sequence, whether what follows is dropped, and its instructions.
@@ -22,6 +24,10 @@ frame_with f instrs = record { kind = f.kind; start_types = f.start_types.items;
 -- the frame as the code shows it, whatever its instructions
 pub record Shows (f : ControlFrame) (frame : OpenFrame) : Type 0 where
   pub is : frame ≡ frame_with f frame.instrs
+
+-- the n-th frame is shown so
+abbrev pub ShowsAt : List OpenFrame → (n : ℕ) → ControlFrame → Type 0
+ShowsAt fs n f = (frame : OpenFrame) × (slice_get fs n ≡ Some frame) × Shows f frame
 
 abbrev pub AreShown : List ControlFrame → List OpenFrame → Type 0
 AreShown [] [] = Unit {0}
@@ -44,6 +50,20 @@ killed f = record f { dead = true }
 -- one more instruction, or where the frame is dead none
 abbrev pub with_instr : LocatedInstr → OpenFrame → OpenFrame
 with_instr x f = record f { instrs = cond f.dead f.instrs (f.instrs ++ x ∷ []) }
+
+-- the n-th frame is changed so, and every other is as it was
+abbrev pub ChangesAt : ℕ → (OpenFrame → OpenFrame) → (old new : List OpenFrame) → Type 0
+ChangesAt n change old new = (n < length old) × (new ≡ changed_at n change old)
+
+-- ---- why there is no frame
+
+-- no frame is open
+abbrev pub HasNoFrame : List OpenFrame → ParseError → Type 0
+HasNoFrame fs e = (e ≡ NoFrame) × (fs ≡ [])
+
+-- fewer frames are open than the label counts
+abbrev pub HasNoFrameAt : List OpenFrame → (n : ℕ) → ParseError → Type 0
+HasNoFrameAt fs n e = (e ≡ NoSuchLabel) × (length fs ≤ n)
 
 -- the frames inside the n-th have no instructions
 abbrev pub InnerAreEmpty : ℕ → List OpenFrame → Type 0

@@ -14,7 +14,8 @@ use Rattle.wasm_body.specs.Naming.{Environment, name_block, has_pick}
 use Rattle.walrus_body.specs.Environments.{environment_of}
 use Rattle.walrus_ir.specs.Function.{Function, with_new_sequence, with_sequence}
 use Rattle.walrus_body.specs.declared.indices_to_ids.IndicesToIds.{IndicesToIds}
-use Rattle.walrus_body.specs.Parsing.OpenFrames.{OpenFrame, new_frame}
+use Rattle.walrus_body.specs.declared.local_function.frame.ControlFrame.{ControlFrame}
+use Rattle.walrus_body.specs.Parsing.OpenFrames.{OpenFrame, Shows, new_frame, changed_at}
 
 -- The module and its maps, the function and its builder, and the open frames, innermost first.
 pub record OpenTrees : Type 0 where
@@ -50,6 +51,14 @@ abbrev pub OpensAs : (old new : OpenTrees) → BlockKind → (id : ℕ) → Resu
 OpensAs old new kind id (Ok s) = IsSomeAnd (pick old.module.types s) (λ type. Opens old new kind type s.parameters s.results id)
 OpensAs old new kind id (Err e) = ⊥
 
+-- The same for a block type.
+abbrev pub OpensBlock : (old new : OpenTrees) → BlockKind → BlockType → (id : ℕ) → Type 0
+OpensBlock old new kind b id = OpensAs old new kind id (name_block (env_of old) b)
+
+-- why a block type has no name, or the module not the pick for it
+abbrev pub HasNoType : OpenTrees → BlockType → ParseError → Type 0
+HasNoType c b e = opened_type (env_of c) b ≡ Err e
+
 -- The innermost frame is closed, and its sequence has its instructions; nothing else changed.
 pub record Closes (old new : OpenTrees) (frame : OpenFrame) : Type 0 where
   pub was : InstrSeq
@@ -59,6 +68,17 @@ pub record Closes (old new : OpenTrees) (frame : OpenFrame) : Type 0 where
     builder = with_sequence old.builder frame.sequence (record was { instrs = frame.instrs });
     frames = new.frames;
   }
+
+-- The innermost frame is closed, which is shown so and has this sequence.
+pub record Pops (old new : OpenTrees) (f : ControlFrame) (block : ℕ) : Type 0 where
+  pub frame : OpenFrame
+  pub shown : Shows f frame
+  pub is_block : block ≡ frame.sequence
+  pub closes : Closes old new frame
+
+-- The n-th frame is changed so; nothing else changed.
+abbrev pub ChangesFrame : ℕ → (OpenFrame → OpenFrame) → (old new : OpenTrees) → Type 0
+ChangesFrame n change old new = (n < length old.frames) × (new ≡ record old { frames = changed_at n change old.frames })
 
 -- A sequence has another end location; nothing else changed.
 pub record EndsAt (old new : OpenTrees) (sequence location : ℕ) : Type 0 where

@@ -29,7 +29,8 @@ pub trait OpCheck: Drop {
 
     /// The next operator, whose first byte stands at `pos`.
     fn op(&mut self, pos: usize, op: &Operator<'_>) -> Result<(), CheckError>
-        ensures { Checks check (state self.old) (placed_at (meaning op.now) pos) result (state self.new) };
+        ensures { Checks check (state self.old)
+            (placed_at (meaning op.now) pos) result (state self.new) };
 }
 
 /// The validator that accepts every operator. It takes no memory.

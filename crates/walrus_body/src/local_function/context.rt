@@ -1,12 +1,11 @@
 //! The sequences of a function that is parsed, some of which are open.
-ghost use Rattle.std.specs.Prelude.{reverse, ◌≡◌, ◌⊎◌, ◌≤◌, ◌<◌, [], ◌∷◌, length, slice_get, is_some, IsSome, IsSomeAnd, false, None, Some, IfOk, IfErr, OnOk, OnErr, MatchResult, Err};
+ghost use Rattle.std.specs.Prelude.{reverse, ◌≡◌, ◌⊎◌, ◌≤◌, ◌<◌, [], length, IsSomeAnd, None, IfOk, IfErr, OnOk, OnErr, MatchResult};
 ghost use Rattle.walrus_ir.specs.Types.{existing, signature_of};
 ghost use Rattle.walrus_ir.specs.declared.val_type.InstrSeqType.TheVariants.{MultiValue};
 ghost use Rattle.wasm_body.specs.declared.error.ParseError.{ParseError as Fault};
-ghost use Rattle.walrus_body.specs.Parsing.OpenFrames.{OpenFrame, AreShown, Shows, changed_at, killed, with_instr, InnerAreEmpty};
+ghost use Rattle.walrus_body.specs.Parsing.OpenFrames.{AreShown, ShowsAt, killed, with_instr, HasNoFrame, HasNoFrameAt, InnerAreEmpty};
 ghost use Rattle.wasm_ops.specs.declared.types.BlockType.TheVariants.{Value, FuncType};
-ghost use Rattle.wasm_body.specs.Naming.{name_block};
-ghost use Rattle.walrus_body.specs.Parsing.OpenTrees.{Opens, Closes, EndsAt, env_of, opened_type, OpensAs};
+ghost use Rattle.walrus_body.specs.Parsing.OpenTrees.{Opens, OpensBlock, HasNoType, Pops, ChangesFrame, EndsAt};
 
 use crate::local_function::frame::{ControlFrame, ControlStack};
 use crate::local_function::own_lists::FrameStack;
@@ -114,7 +113,8 @@ impl<'a> ValidationContext<'a> {
         start_types: &[ValType],
         end_types: &[ValType],
     ) -> Result<InstrSeqId, ParseError>
-        ensures ok { IfOk result (λ id. Opens self.old self.new kind ty start_types.now end_types.now id) }
+        ensures ok { IfOk result
+            (λ id. Opens self.old self.new kind ty start_types.now end_types.now id) }
         ensures err { IfErr result (λ e. e ≡ Fault.Memory) }
         ensures same { OnErr result (self.new ≡ self.old) }
     {
@@ -139,9 +139,11 @@ impl<'a> ValidationContext<'a> {
         start_types: &[ValType],
         end_types: &[ValType],
     ) -> Result<InstrSeqId, ParseError>
-        ensures ok { IfOk result (λ id. IsSomeAnd (existing self.old.module.types start_types.now end_types.now)
+        ensures ok { IfOk result (λ id. IsSomeAnd
+            (existing self.old.module.types start_types.now end_types.now)
             (λ ty. Opens self.old self.new kind ty start_types.now end_types.now id)) }
-        ensures err { IfErr result (λ e. (e ≡ Fault.Memory) ⊎ ((e ≡ Fault.TypeMissing) × (existing self.old.module.types start_types.now end_types.now ≡ None))) }
+        ensures err { IfErr result (λ e. (e ≡ Fault.Memory) ⊎ ((e ≡ Fault.TypeMissing)
+            × (existing self.old.module.types start_types.now end_types.now ≡ None))) }
         ensures same { OnErr result (self.new ≡ self.old) }
     {
         match InstrSeqType::existing(&self.module.types, start_types, end_types) {
@@ -158,7 +160,8 @@ impl<'a> ValidationContext<'a> {
     ) -> Result<InstrSeqId, ParseError>
         ensures ok { IfOk result (λ id. IsSomeAnd (signature_of self.old.module.types ty)
             (λ s. Opens self.old self.new kind (MultiValue ty) s.parameters s.results id)) }
-        ensures err { IfErr result (λ e. (e ≡ Fault.Memory) ⊎ ((e ≡ Fault.NotAFunctionType) × (signature_of self.old.module.types ty ≡ None))) }
+        ensures err { IfErr result (λ e. (e ≡ Fault.Memory) ⊎ ((e ≡ Fault.NotAFunctionType)
+            × (signature_of self.old.module.types ty ≡ None))) }
         ensures same { OnErr result (self.new ≡ self.old) }
     {
         let module = self.module;
@@ -171,8 +174,9 @@ impl<'a> ValidationContext<'a> {
 
     // Opens a frame that takes and gives what the function type of this old index does.
     fn push_function_type(&mut self, kind: BlockKind, index: u32) -> Result<InstrSeqId, ParseError>
-        ensures ok { IfOk result (λ id. OpensAs self.old self.new kind id (name_block (env_of self.old) (FuncType index))) }
-        ensures err { IfErr result (λ e. (e ≡ Fault.Memory) ⊎ (opened_type (env_of self.old) (FuncType index) ≡ Err e)) }
+        ensures ok { IfOk result (λ id. OpensBlock self.old self.new kind (FuncType index) id) }
+        ensures err { IfErr result (λ e. (e ≡ Fault.Memory)
+            ⊎ HasNoType self.old (FuncType index) e) }
     {
         let module = self.module;
         let id = self.indices.get_type(index)?;
@@ -185,8 +189,8 @@ impl<'a> ValidationContext<'a> {
 
     // Opens a frame that takes nothing and gives a value of this type.
     fn push_value_type(&mut self, kind: BlockKind, ty: RawValType) -> Result<InstrSeqId, ParseError>
-        ensures ok { IfOk result (λ id. OpensAs self.old self.new kind id (name_block (env_of self.old) (Value ty))) }
-        ensures err { IfErr result (λ e. (e ≡ Fault.Memory) ⊎ (opened_type (env_of self.old) (Value ty) ≡ Err e)) }
+        ensures ok { IfOk result (λ id. OpensBlock self.old self.new kind (Value ty) id) }
+        ensures err { IfErr result (λ e. (e ≡ Fault.Memory) ⊎ HasNoType self.old (Value ty) e) }
     {
         match value_type(self.indices, ty) {
             Ok(ty) => self.push_control(kind, &[], &[ty]),
@@ -200,8 +204,8 @@ impl<'a> ValidationContext<'a> {
         kind: BlockKind,
         ty: BlockType,
     ) -> Result<InstrSeqId, ParseError>
-        ensures ok { IfOk result (λ id. OpensAs self.old self.new kind id (name_block (env_of self.old) ty)) }
-        ensures err { IfErr result (λ e. (e ≡ Fault.Memory) ⊎ (opened_type (env_of self.old) ty ≡ Err e)) }
+        ensures ok { IfOk result (λ id. OpensBlock self.old self.new kind ty id) }
+        ensures err { IfErr result (λ e. (e ≡ Fault.Memory) ⊎ HasNoType self.old ty e) }
     {
         match ty {
             BlockType::Empty => self.push_control(kind, &[], &[]),
@@ -212,8 +216,8 @@ impl<'a> ValidationContext<'a> {
 
     /// Closes the innermost frame. Its sequence then owns its instructions.
     pub fn pop_control(&mut self) -> Result<(ControlFrame, InstrSeqId), ParseError>
-        ensures ok { IfOk result (λ x. (frame : OpenFrame) × Shows x.0 frame × (x.1 ≡ frame.sequence) × Closes self.old self.new frame) }
-        ensures err { IfErr result (λ e. (e ≡ Fault.Memory) ⊎ ((e ≡ Fault.NoFrame) × (self.old.frames ≡ []))) }
+        ensures ok { IfOk result (λ x. Pops self.old self.new x.0 x.1) }
+        ensures err { IfErr result (λ e. (e ≡ Fault.Memory) ⊎ HasNoFrame self.old.frames e) }
         ensures same { OnErr result (self.new ≡ self.old) }
     {
         match self.stack.pop() {
@@ -229,8 +233,8 @@ impl<'a> ValidationContext<'a> {
 
     /// What follows in the innermost frame is dropped.
     pub fn unreachable(&mut self) -> Result<(), ParseError>
-        ensures ok { OnOk result ((0 < length self.old.frames) × (self.new ≡ record self.old { frames = changed_at 0 killed self.old.frames })) }
-        ensures err { IfErr result (λ e. (e ≡ Fault.NoFrame) × (self.old.frames ≡ [])) }
+        ensures ok { OnOk result (ChangesFrame 0 killed self.old self.new) }
+        ensures err { IfErr result (HasNoFrame self.old.frames) }
         ensures same { OnErr result (self.new ≡ self.old) }
     {
         self.stack.kill()
@@ -238,7 +242,8 @@ impl<'a> ValidationContext<'a> {
 
     /// The n-th frame from the innermost.
     pub fn control(&self, n: usize) -> Result<&ControlFrame, ParseError>
-        ensures { MatchResult result (λ f. (frame : OpenFrame) × (slice_get self.now.frames n ≡ Some frame) × Shows f.now frame) (λ e. (e ≡ Fault.NoSuchLabel) × (length self.now.frames ≤ n)) }
+        ensures { MatchResult result (λ f. ShowsAt self.now.frames n f.now)
+            (HasNoFrameAt self.now.frames n) }
     {
         match self.stack.get(n) {
             Some(frame) => Ok(frame),
@@ -254,8 +259,8 @@ impl<'a> ValidationContext<'a> {
         loc: InstrLocId,
     ) -> Result<(), ParseError>
         requires { InnerAreEmpty n self.old.frames }
-        ensures ok { OnOk result ((n < length self.old.frames) × (self.new ≡ record self.old { frames = changed_at n (with_instr (instr, loc)) self.old.frames })) }
-        ensures err { IfErr result (λ e. (e ≡ Fault.Memory) ⊎ ((e ≡ Fault.NoSuchLabel) × (length self.old.frames ≤ n))) }
+        ensures ok { OnOk result (ChangesFrame n (with_instr (instr, loc)) self.old self.new) }
+        ensures err { IfErr result (λ e. (e ≡ Fault.Memory) ⊎ HasNoFrameAt self.old.frames n e) }
         ensures same { OnErr result (self.new ≡ self.old) }
     {
         self.stack.append(n, instr, loc)
@@ -263,8 +268,9 @@ impl<'a> ValidationContext<'a> {
 
     /// The same for the innermost frame.
     pub fn alloc_instr(&mut self, instr: Instr, loc: InstrLocId) -> Result<(), ParseError>
-        ensures ok { OnOk result ((0 < length self.old.frames) × (self.new ≡ record self.old { frames = changed_at 0 (with_instr (instr, loc)) self.old.frames })) }
-        ensures err { IfErr result (λ e. (e ≡ Fault.Memory) ⊎ ((e ≡ Fault.NoFrame) × (length self.old.frames ≤ 0))) }
+        ensures ok { OnOk result (ChangesFrame 0 (with_instr (instr, loc)) self.old self.new) }
+        ensures err { IfErr result (λ e. (e ≡ Fault.Memory)
+            ⊎ ((e ≡ Fault.NoFrame) × (length self.old.frames ≤ 0))) }
         ensures same { OnErr result (self.new ≡ self.old) }
     {
         match self.stack.append(0, instr, loc) {

@@ -11,7 +11,8 @@ pub fn location_at<F: Fn(&usize) -> InstrLocId>(
     place: usize,
 ) -> Option<InstrLocId>
     requires { MayAsk F.pre on_instr_pos place (place + 1) }
-    ensures { MatchOption result (HasNoLocation on_instr_pos.entry place) (λ location. Locates F.Fn on_instr_pos.entry place location) }
+    ensures { MatchOption result (HasNoLocation on_instr_pos.entry place)
+        (λ location. Locates F.Fn on_instr_pos.entry place location) }
 {
     match on_instr_pos {
         Some(locate) => Some(locate(&place)),

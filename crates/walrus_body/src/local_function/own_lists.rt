@@ -1,7 +1,7 @@
 //! The open frames, each with a list of instructions of its own.
-ghost use Rattle.std.specs.Prelude.{reverse, ◌≡◌, ◌⊎◌, ◌≤◌, ◌<◌, ◌∷◌, ◌++◌, [], List, length, slice_get, Some, MatchOption, IfOk, IfErr, OnOk, OnErr, IsSome};
+ghost use Rattle.std.specs.Prelude.{reverse, ◌≡◌, ◌⊎◌, ◌≤◌, ◌<◌, ◌∷◌, ◌++◌, [], List, length, MatchOption, IfOk, IfErr, OnOk, OnErr, IsSome};
 ghost use Rattle.wasm_body.specs.declared.error.ParseError.{ParseError as Fault};
-ghost use Rattle.walrus_body.specs.Parsing.OpenFrames.{OpenFrame, AreShown, Shows, frame_with, new_frame, changed_at, killed, with_instr, InnerAreEmpty};
+ghost use Rattle.walrus_body.specs.Parsing.OpenFrames.{OpenFrame, AreShown, ShowsAt, frame_with, new_frame, killed, with_instr, ChangesAt, HasNoFrame, HasNoFrameAt, InnerAreEmpty};
 
 use crate::ParseError;
 use crate::local_function::frame::{ControlFrame, ControlStack};
@@ -38,7 +38,8 @@ impl Model for FrameStack {
 
     ghost view = { λ s. frames_within [] s.controls.items s.lists.items };
 
-    ghost invariant = { λ s. (length s.lists.items ≡ length s.controls.items) × (s.lent.items ≡ []) };
+    ghost invariant = { λ s. (length s.lists.items ≡ length s.controls.items)
+        × (s.lent.items ≡ []) };
 }
 
 impl FrameStack {
@@ -58,7 +59,7 @@ impl FrameStack {
 
     /// The n-th frame from the innermost.
     pub fn get(&self, n: usize) -> Option<&ControlFrame>
-        ensures { MatchOption result (length self.now ≤ n) (λ f. (frame : OpenFrame) × (slice_get self.now n ≡ Some frame) × Shows f.now frame) }
+        ensures { MatchOption result (length self.now ≤ n) (λ f. ShowsAt self.now n f.now) }
     {
         if n >= self.controls.len() {
             return None;
@@ -74,7 +75,8 @@ impl FrameStack {
         end_types: Vec<ValType>,
         block: InstrSeqId,
     ) -> Result<(), ParseError>
-        ensures ok { OnOk result (self.new ≡ new_frame kind start_types.items end_types.items block ∷ self.old) }
+        ensures ok { OnOk result
+            (self.new ≡ new_frame kind start_types.items end_types.items block ∷ self.old) }
         ensures err { IfErr result (λ e. e ≡ Fault.Memory) }
         ensures same { OnErr result (self.new ≡ self.old) }
     {
@@ -102,7 +104,7 @@ impl FrameStack {
     /// Closes the innermost frame.
     pub fn pop(&mut self) -> Result<(ControlFrame, Vec<(Instr, InstrLocId)>), ParseError>
         ensures ok { IfOk result (λ x. self.old ≡ frame_with x.0 x.1.items ∷ self.new) }
-        ensures err { IfErr result (λ e. (e ≡ Fault.Memory) ⊎ ((e ≡ Fault.NoFrame) × (self.old ≡ []))) }
+        ensures err { IfErr result (λ e. (e ≡ Fault.Memory) ⊎ HasNoFrame self.old e) }
         ensures same { OnErr result (self.new ≡ self.old) }
     {
         let Some(frame) = self.controls.pop() else {
@@ -123,8 +125,8 @@ impl FrameStack {
 
     /// What follows in the innermost frame is dropped.
     pub fn kill(&mut self) -> Result<(), ParseError>
-        ensures ok { OnOk result ((0 < length self.old) × (self.new ≡ changed_at 0 killed self.old)) }
-        ensures err { IfErr result (λ e. (e ≡ Fault.NoFrame) × (self.old ≡ [])) }
+        ensures ok { OnOk result (ChangesAt 0 killed self.old self.new) }
+        ensures err { IfErr result (HasNoFrame self.old) }
         ensures same { OnErr result (self.new ≡ self.old) }
     {
         match self.controls.len().checked_sub(1) {
@@ -139,8 +141,9 @@ impl FrameStack {
     /// Appends an instruction to the n-th frame from the innermost, or drops it where that is dead.
     pub fn append(&mut self, n: usize, instr: Instr, location: InstrLocId) -> Result<(), ParseError>
         requires { InnerAreEmpty n self.old }
-        ensures ok { OnOk result ((n < length self.old) × (self.new ≡ changed_at n (with_instr (instr, location)) self.old)) }
-        ensures err { IfErr result (λ e. (e ≡ Fault.Memory) ⊎ ((e ≡ Fault.NoSuchLabel) × (length self.old ≤ n))) }
+        ensures ok { OnOk result
+            (ChangesAt n (with_instr (instr, location)) self.old self.new) }
+        ensures err { IfErr result (λ e. (e ≡ Fault.Memory) ⊎ HasNoFrameAt self.old n e) }
         ensures same { OnErr result (self.new ≡ self.old) }
     {
         if n >= self.controls.len() {

@@ -1,6 +1,7 @@
 -- Every front that stands is a front of the one before the first fault.
 use Rattle.std.proofs.Common.{◌≡◌, ℕ, ◌+◌, ◌-◌, ◌<◌, ◌≤◌, List, [], ◌∷◌, ◌++◌, length, map, Some, Result, Ok, Err, refl, sym, ap, subst, ◌∙◌, arith, length-append}
 use Rattle.wasm_ops.specs.OperatorList.{Placed, Lists}
+use Rattle.wasm_ops.specs.Laws.{ReadingAgrees}
 use Rattle.wasm_body.specs.declared.error.ParseError.{ParseError}
 use Rattle.wasm_body.specs.Frames.{Frame}
 use Rattle.wasm_body.specs.Naming.{Occurrence}
@@ -9,7 +10,7 @@ use Rattle.wasm_body.specs.Parsing.Laws.{LongestFront}
 use Rattle.wasm_body.specs.Parsing.Progress.{Layer, Progress, Within, Whole, NoBody, nothing_read, frames_of, further}
 use Rattle.wasm_body.proofs.Structure.ReadFrames.{progress_frames, behind_frames}
 use Rattle.walrus_ir.proofs.ResultLemmas.{ok_same}
-use Rattle.wasm_body.proofs.Parsing.Parses.{ReadingAgrees, Over, one_over}
+use Rattle.wasm_body.proofs.Parsing.Parses.{Over, one_over}
 use Rattle.wasm_body.proofs.Parsing.Answers.{is_ok, front_over, stands_goes}
 
 cannot_fail : {V : Type 0} (h : Handled V) (e : ParseError) → (let r : Result (Handled V) ParseError = Ok h in r) ≡ Err e → ⊥

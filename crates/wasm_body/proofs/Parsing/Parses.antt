@@ -6,6 +6,7 @@ use Rattle.wasm_ops.specs.Operations.{RawOperation}
 use Rattle.wasm_ops.specs.Opcodes.{IsOpcode}
 use Rattle.wasm_ops.specs.Spelling.{Spells, read_operation}
 use Rattle.wasm_ops.specs.OperatorList.{Lists}
+use Rattle.wasm_ops.specs.Laws.{ReadingAgrees}
 use Rattle.wasm_body.specs.SourceTree.{Sequence}
 use Rattle.wasm_body.specs.Frames.{Frame}
 use Rattle.wasm_body.specs.Naming.{Occurrence, named_in}
@@ -14,14 +15,6 @@ use Rattle.wasm_body.specs.Parsing.Progress.{Layer, Progress, Within, Whole, NoB
 use Rattle.wasm_body.specs.Parsing.Lists.{behind, parsed_from}
 use Rattle.wasm_body.proofs.Structure.ReadFrames.{progress_frames, further_frames, Goes}
 use Rattle.walrus_ir.proofs.ResultLemmas.{bind_ok}
-
-abbrev pub AreBytes : List ℕ → Type 0
-AreBytes bytes = AllByRecursion (λ b. b < 256) bytes
-
--- how reading an operator agrees with its spellings
-pub record ReadingAgrees : Type 0 where
-  pub again : (o : RawOperation) (text rest : List ℕ) → Spells o text → read_operation (text ++ rest) ≡ Ok (o, rest)
-  pub takes : (bytes : List ℕ) (o : RawOperation) (rest : List ℕ) → AreBytes bytes → read_operation bytes ≡ Ok (o, rest) → (text : List ℕ) × (bytes ≡ text ++ rest) × Spells o text × AreBytes rest
 
 -- operators that were gone over, from one progress to another
 pub record Over {V : Type 0} (given : Setting V) (p : Progress Occurrence) (v : V) (place : ℕ) (bytes : List ℕ) (xs : List Occurrence) (q : Progress Occurrence) (w : V) (at : ℕ) (rest : List ℕ) : Type 0 where

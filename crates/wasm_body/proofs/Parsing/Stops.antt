@@ -2,6 +2,7 @@
 use Rattle.std.proofs.Common.{◌≡◌, ℕ, zero, suc, ◌+◌, ◌-◌, ◌≤◌, List, [], ◌∷◌, ◌++◌, length, map, true, Some, Result, Ok, Err, refl, sym, ap, subst, ◌∙◌, arith, length-append}
 use Rattle.wasm_ops.specs.Operations.{RawOperation}
 use Rattle.wasm_ops.specs.Spelling.{Spells, read_operation}
+use Rattle.wasm_ops.specs.Laws.{AreBytes, ReadingAgrees}
 use Rattle.wasm_body.specs.declared.error.ParseError.{ParseError}
 use Rattle.wasm_body.specs.declared.error.ParseError.TheVariants.{Read, PlaceTooGreat, Checked, Trailing, MissingEnd}
 use Rattle.wasm_body.specs.declared.error.ParseFailure.{ParseFailure}
@@ -16,7 +17,7 @@ use Rattle.wasm_body.proofs.Structure.ReadTexts.{IsRead}
 use Rattle.wasm_body.proofs.Structure.ReadFrames.{progress_frames, further_frames, Goes}
 use Rattle.walrus_ir.proofs.ResultLemmas.{bind_ok, with_fault_ok, unless_ok, ok_same}
 use Rattle.wasm_body.proofs.Parsing.NamingLemmas.{named_moves}
-use Rattle.wasm_body.proofs.Parsing.Parses.{AreBytes, ReadingAgrees, Over, spelling_begins}
+use Rattle.wasm_body.proofs.Parsing.Parses.{Over, spelling_begins}
 
 -- what a handled operator has passed
 pub record Passed {V : Type 0} (given : Setting V) (v : V) (fs : List (Frame Occurrence)) (place : ℕ) (bytes : List ℕ) (h : Handled V) : Type 0 where

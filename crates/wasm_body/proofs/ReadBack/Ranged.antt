@@ -32,7 +32,7 @@ use Rattle.wasm_body.specs.ReadBack.{EachInHeap, EachInTag, EachIn, IsUndone, Is
 use Rattle.wasm_body.proofs.Bytes.Fitting.{fitting_is, fitting_answer}
 use Rattle.wasm_body.proofs.Translation.Steps.{bound, length-each}
 use Rattle.wasm_body.proofs.NormalForm.WrittenTexts.{named_by}
-use Rattle.wasm_body.proofs.ReadBack.Spellings.{IsSpellable, u32_spelt, FitsHeap, heap_spelt, empty_block_spelt, value_block_spelt, index_block_spelt, access_spelt, table_spelt, FitsTag, clause_spelt, clauses_spelt, cast_spelt, selected_spelt}
+use Rattle.wasm_body.proofs.ReadBack.Spellings.{IsSpellable, u32_spellable, FitsHeap, heap_spellable, carried_spelt, block_spellable, access_spellable, table_spellable, FitsTag, clause_spellable, clauses_spellable, cast_spellable, selected_spellable}
 
 -- ---- the kind of an immediate on any level
 
@@ -243,17 +243,17 @@ module _ (to : Numbers) (env : Environment) (t : InstrSeqType) where
   clause_again c d u e =
       let tag = bound (translate_tag (numbers_in_32_bits to).number_of c.tag) (λ g. in_32_bits c.label >>= λ l. Ok (record { by_reference = c.by_reference; tag = g; label = l })) d e in
       through (in_32_bits c.label) (λ l. record { by_reference = c.by_reference; tag = tag.0; label = l }) (IsSpellable IsClause)
-      (λ l h. clause_spelt c.by_reference tag.0 l (tag_fits c.tag u tag.0 tag.1) (fitting_is c.label l h).below) d tag.2
+      (λ l h. clause_spellable c.by_reference tag.0 l (tag_fits c.tag u tag.0 tag.1) (fitting_is c.label l h).below) d tag.2
 
   counted_is : (n : ℕ) (u : Unit {0}) → (in_32_bits n >>= λ _. Ok tt) ≡ Ok u → n < 2 ^ 32
   counted_is n u e = let q = bound (in_32_bits n) (λ _. Ok tt) u e in let fit = fitting_is n q.0 q.1 in subst (λ k. k < 2 ^ 32) fit.same fit.below
 
   block_again : (s : InstrSeqType) (c : BlockType) → IsUndoneType to env s → numbered_block to s ≡ Ok c → IsSpellable IsBlockType c
-  block_again (Simple None) c u e = at_once Empty (IsSpellable IsBlockType) empty_block_spelt c e
+  block_again (Simple None) c u e = at_once Empty (IsSpellable IsBlockType) (block_spellable Empty tt) c e
   block_again (Simple (Some v)) c u e =
       through (translate_value (numbers_in_32_bits to).number_of v) Value (IsSpellable IsBlockType)
-      (λ w h. value_block_spelt w (subst IsCarriedValue (carried_same (numbers_in_32_bits to).number_of v w u.0 h) u.0)) c e
-  block_again (MultiValue id) c u e = through ((numbers_in_32_bits to).number_of Types id) FuncType (IsSpellable IsBlockType) (λ n h. index_block_spelt n (fitting_answer (to.number_of Types id) n h).below) c e
+      (λ w h. block_spellable (Value w) (carried_spelt w (subst IsCarriedValue (carried_same (numbers_in_32_bits to).number_of v w u.0 h) u.0))) c e
+  block_again (MultiValue id) c u e = through ((numbers_in_32_bits to).number_of Types id) FuncType (IsSpellable IsBlockType) (λ n h. block_spellable (FuncType n) (fitting_answer (to.number_of Types id) n h).below) c e
 
   cast_again : (c : Cast ℕ) → Undone (cast c) → (k : RawImmediate) → translate_immediate onward (cast c) ≡ Ok k → IsSpelt k
   cast_again c u k e =
@@ -262,36 +262,36 @@ module _ (to : Numbers) (env : Environment) (t : InstrSeqType) where
       let l = bound (in_32_bits c.label) (λ l. translate_heap (numbers_in_32_bits to).number_of c.source >>= λ s. translate_heap (numbers_in_32_bits to).number_of c.target >>= λ g. Ok (from l s g)) d made in
       let s = bound (translate_heap (numbers_in_32_bits to).number_of c.source) (λ s. translate_heap (numbers_in_32_bits to).number_of c.target >>= λ g. Ok (from l.0 s g)) d l.2 in
       through (translate_heap (numbers_in_32_bits to).number_of c.target) (from l.0 s.0) (λ d. IsSpelt (cast d)) (λ g h.
-      cast_spelt l.0 s.0 g (fitting_is c.label l.0 l.1).below (heap_fits c.source u.0 s.0 s.1) (heap_fits c.target u.1 g h) c.from_nullable c.to_nullable) d s.2) k e
+      cast_spellable l.0 s.0 g (fitting_is c.label l.0 l.1).below (heap_fits c.source u.0 s.0 s.1) (heap_fits c.target u.1 g h) c.from_nullable c.to_nullable) d s.2) k e
 
   access_again : (a : Access) → (a.alignment < 32) × IsSpellable IsU64 a.offset → IsUndone to env Memories a.memory → (b : Access) → translate_access onward a ≡ Ok b → IsSpellable IsAccess b
   access_again a r u b e =
       through ((numbers_in_32_bits to).number_of Memories a.memory) (λ m. record { alignment = exponent_of (2 ^ a.alignment); memory = m; offset = a.offset }) (IsSpellable IsAccess)
-      (λ m h. access_spelt (record { alignment = exponent_of (2 ^ a.alignment); memory = m; offset = a.offset }) (subst (λ n. n < 32) (sym (exponent_of-pow a.alignment)) r.0) (fitting_answer (to.number_of Memories a.memory) m h).below r.1) b e
+      (λ m h. access_spellable (record { alignment = exponent_of (2 ^ a.alignment); memory = m; offset = a.offset }) (subst (λ n. n < 32) (sym (exponent_of-pow a.alignment)) r.0) (fitting_answer (to.number_of Memories a.memory) m h).below r.1) b e
 
   again : (j : Immediate ℕ Signature) → IsRanged j → Undone j → (k : RawImmediate) → translate_immediate onward j ≡ Ok k → IsSpelt k
-  again (index space n) r u k e = through ((numbers_in_32_bits to).number_of space n) (index space) IsSpelt (λ m h. u32_spelt m (fitting_answer (to.number_of space n) m h).below) k e
-  again (local n) r u k e = through ((numbers_in_32_bits to).local_number n) local IsSpelt (λ m h. u32_spelt m (fitting_answer (to.local_number n) m h).below) k e
-  again (label l) r u k e = through (in_32_bits l) label IsSpelt (λ m h. u32_spelt m (fitting_is l m h).below) k e
-  again (handler n) r u k e = through (in_32_bits n) handler IsSpelt (λ m h. u32_spelt m (fitting_is n m h).below) k e
-  again (outer n) r u k e = through (in_32_bits n) outer IsSpelt (λ m h. u32_spelt m (fitting_is n m h).below) k e
-  again (number n) r u k e = through (in_32_bits n) number IsSpelt (λ m h. u32_spelt m (fitting_is n m h).below) k e
+  again (index space n) r u k e = through ((numbers_in_32_bits to).number_of space n) (index space) IsSpelt (λ m h. u32_spellable m (fitting_answer (to.number_of space n) m h).below) k e
+  again (local n) r u k e = through ((numbers_in_32_bits to).local_number n) local IsSpelt (λ m h. u32_spellable m (fitting_answer (to.local_number n) m h).below) k e
+  again (label l) r u k e = through (in_32_bits l) label IsSpelt (λ m h. u32_spellable m (fitting_is l m h).below) k e
+  again (handler n) r u k e = through (in_32_bits n) handler IsSpelt (λ m h. u32_spellable m (fitting_is n m h).below) k e
+  again (outer n) r u k e = through (in_32_bits n) outer IsSpelt (λ m h. u32_spellable m (fitting_is n m h).below) k e
+  again (number n) r u k e = through (in_32_bits n) number IsSpelt (λ m h. u32_spellable m (fitting_is n m h).below) k e
   again (access a) r u k e = through (translate_access onward a) access IsSpelt (λ b h. access_again a r u b h) k e
   again (branch_table ts d) r u k e =
       let c = bound (onward.count (length ts)) (λ c. each in_32_bits ts >>= λ us. in_32_bits d >>= λ g. Ok (branch_table us g)) k e in
       let us = bound (each in_32_bits ts) (λ us. in_32_bits d >>= λ g. Ok (branch_table us g)) k c.2 in
       let count = subst (λ n. n < 2 ^ 32) (sym (length-each in_32_bits ts us.0 us.1)) (counted_is (length ts) c.0 c.1) in
-      let all = each_made in_32_bits (λ n. Unit {0}) (IsSpellable IsU32) (λ n m p h. u32_spelt m (fitting_is n m h).below) ts us.0 (trivially ts) us.1 in
-      through (in_32_bits d) (λ g. branch_table us.0 g) IsSpelt (λ g h. table_spelt us.0 g count all (fitting_is d g h).below) k us.2
+      let all = each_made in_32_bits (λ n. Unit {0}) (IsSpellable IsU32) (λ n m p h. u32_spellable m (fitting_is n m h).below) ts us.0 (trivially ts) us.1 in
+      through (in_32_bits d) (λ g. branch_table us.0 g) IsSpelt (λ g h. table_spellable us.0 g count all (fitting_is d g h).below) k us.2
   again (clauses cs) r u k e =
       let c = bound (onward.count (length cs)) (λ c. each (translate_clause onward) cs >>= λ ds. Ok (clauses ds)) k e in
       through (each (translate_clause onward) cs) clauses IsSpelt (λ ds h.
       let count = subst (λ n. n < 2 ^ 32) (sym (length-each (translate_clause onward) cs ds h)) (counted_is (length cs) c.0 c.1) in
-      clauses_spelt ds count (each_made (translate_clause onward) (λ (x : CatchClause ℕ). EachInTag (IsUndone to env) x.tag) (IsSpellable IsClause) (λ x y p g. clause_again x y p g) cs ds u h)) k c.2
+      clauses_spellable ds count (each_made (translate_clause onward) (λ (x : CatchClause ℕ). EachInTag (IsUndone to env) x.tag) (IsSpellable IsClause) (λ x y p g. clause_again x y p g) cs ds u h)) k c.2
   again (block s) r u k e = through (numbered_block to t) block IsSpelt (λ c h. block_again t c u h) k e
-  again (heap h) r u k e = through (translate_heap (numbers_in_32_bits to).number_of h) heap IsSpelt (λ g made. heap_spelt g (heap_fits h u g made)) k e
+  again (heap h) r u k e = through (translate_heap (numbers_in_32_bits to).number_of h) heap IsSpelt (λ g made. heap_spellable g (heap_fits h u g made)) k e
   again (value v) r u k e =
-      through (translate_value (numbers_in_32_bits to).number_of v) value IsSpelt (λ w h. selected_spelt w (subst IsCarriedValue (carried_same (numbers_in_32_bits to).number_of v w r h) r)) k e
+      through (translate_value (numbers_in_32_bits to).number_of v) value IsSpelt (λ w h. selected_spellable w (carried_spelt w (subst IsCarriedValue (carried_same (numbers_in_32_bits to).number_of v w r h) r))) k e
   again (cast c) r u k e = cast_again c u k e
   again (i32 z) r u k e = at_once (i32 z) IsSpelt r k e
   again (i64 z) r u k e = at_once (i64 z) IsSpelt r k e

@@ -24,7 +24,7 @@ use Rattle.wasm_body.specs.ReadBack.{EachIn, IsUndone, IsUndoneLocal, IsUndoneTy
 use Rattle.wasm_body.proofs.Structure.Along.{Each, AllMarked, Tells, all_of_each}
 use Rattle.wasm_body.proofs.Translation.Steps.{bound}
 use Rattle.wasm_body.proofs.Bytes.LawfulTyped.{each_of_follows, lawful_named}
-use Rattle.wasm_body.proofs.Parsing.ReadingBytes.{reading_agrees}
+use Rattle.wasm_ops.proofs.ReadingBytes.{reading_agrees}
 use Rattle.wasm_body.proofs.Parsing.Answers.{one_body_accepted}
 use Rattle.wasm_body.proofs.Structure.ReadFrames.{Goes, body_goes, goes_body}
 use Rattle.wasm_body.proofs.Structure.Reshown.{remarked, text_reshown, is_named_body}

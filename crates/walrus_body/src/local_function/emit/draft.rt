@@ -54,7 +54,8 @@ impl Draft {
     /// Writes an operator at a location. Where memory runs out all is as before.
     pub fn write(&mut self, op: &OutOp, location: InstrLocId) -> Result<(), EmitError>
         requires { IsWritable (meaning op.now) }
-        ensures ok { OnOk result (self.new ≡ behind self.old (at_location (meaning op.now) location)) }
+        ensures ok { OnOk result
+            (self.new ≡ behind self.old (at_location (meaning op.now) location)) }
         ensures err { IfErr result (λ e. e ≡ Memory) }
         ensures kept { OnErr result (self.new ≡ self.old) }
     {

@@ -1,6 +1,6 @@
 use Rattle.std.specs.Prelude.{Ok, Err}
 use Rattle.std.proofs.Common.{arith}
-use Rattle.wasm_body.proofs.Parsing.ReadingBytes.{each_byte}
+use Rattle.wasm_ops.proofs.ReadingBytes.{each_byte}
 use Rattle.walrus_run.proofs.RewritingLemmas.{to_demo, can_write, was_written, was_refused}
 use Rattle.walrus_run.proofs.rewriting.rewrite.Goals as goal
 

@@ -1,5 +1,5 @@
 use Rattle.std.proofs.Common.{◌≡◌, ◌⊎◌, arith}
-use Rattle.wasm_body.proofs.Parsing.ReadingBytes.{each_byte}
+use Rattle.wasm_ops.proofs.ReadingBytes.{each_byte}
 use Rattle.walrus_run.specs.declared.error.RewriteError.TheVariants.{Parse}
 use Rattle.walrus_run.specs.Rewriting.{IsNormalBytes, IsRewritten, WantsMemory, IsFaulty}
 use Rattle.walrus_run.proofs.RewritingLemmas.{is_rewritten, is_faulty, body_answered, body_not_refused, fault_not_written, fault_answered, if_ok, if_err, no_answer}

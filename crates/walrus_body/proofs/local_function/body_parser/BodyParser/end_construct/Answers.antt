@@ -46,7 +46,7 @@ pub returns : goal.returns
 returns c =
     let old = c.args.self.now in
     let ifs = reverse old.if_else.items in
-    let closes = c.in-Ok.ensures.ok.3 in record {
+    let closes = c.in-Ok.ensures.ok.closes in record {
       step = λ ls s place keeps. of_layers old.context ifs
           (λ ls s. Advances (env_of old.context) (state_with c.end_sequence.new.self ifs) ls s end_operation place c.args.location)
           c.requires.inside

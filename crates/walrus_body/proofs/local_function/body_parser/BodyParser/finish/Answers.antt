@@ -11,7 +11,7 @@ returns-clause-ok c =
     let old = c.args.self.context in
     let mid = c.pop_control.new.self in
     let end = c.end_sequence.new.self in
-    let closes = c.in-Ok.ensures.ok.3 in
+    let closes = c.in-Ok.ensures.ok.closes in
     let built = c.into_parts-builder.ensures.function in
     record {
       type = ap (λ (b : Function). b.type) built ∙ ap (λ (t : OpenTrees). t.builder.type) c.end_sequence.ensures.is ∙ ap (λ (t : OpenTrees). t.builder.type) closes.is;

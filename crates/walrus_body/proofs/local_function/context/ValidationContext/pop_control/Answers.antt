@@ -14,14 +14,14 @@ returns-in-Ok-clause-ok c =
     let closed = λ (o : OpenTrees) (s : InstrSeq). record o {
       builder = with_sequence o.builder frame.sequence (record s { instrs = frame.instrs });
       frames = rest;
-    } in (
-      frame,
-      record { is = refl },
-      refl,
-      record {
+    } in record {
+      frame = frame;
+      shown = record { is = refl };
+      is_block = refl;
+      closes = record {
         was = c.seq_mut-seq.result.now;
         before = rw (← is) c.seq_mut-seq.ensures.value;
         frames = rw (← is) c.in-Ok.ensures.ok;
         is = λ i. closed (is i) (c.seq.view_is i);
-      },
-    )
+      };
+    }

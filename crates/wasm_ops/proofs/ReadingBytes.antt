@@ -1,9 +1,9 @@
--- What is read of bytes is what is spelt there, by the codec's lemma.
+-- What is read at the front of bytes is what is spelt there.
 use Rattle.std.specs.Prelude.{ℕ, zero, suc, List, [], ◌∷◌}
 use Rattle.std.proofs.Common.{arith}
+use Rattle.wasm_ops.specs.Laws.{AreBytes, ReadingAgrees}
 use Rattle.wasm_ops.proofs.Agreement.{IsBytes}
 use Rattle.wasm_ops.proofs.OperationLaws.{operations_agree}
-use Rattle.wasm_body.proofs.Parsing.Parses.{AreBytes, ReadingAgrees}
 
 all_bytes : (bytes : List ℕ) → AreBytes bytes → IsBytes bytes
 all_bytes [] a i = omega arith
