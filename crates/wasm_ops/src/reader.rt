@@ -6,11 +6,11 @@ ghost use Rattle.walrus_ir.specs.Results.{Gives};
 ghost use Rattle.wasm_ops.specs.Spelling.{Spells, read_operation};
 ghost use Rattle.wasm_ops.specs.Meaning.{meaning};
 
-use crate::access_reader::{load_kind, read_short_memarg, store_kind};
+use crate::access_reader::{load_kind, read_memarg, store_kind};
 use crate::byte_reader::read_behind_byte;
 use crate::fault::{ReadError, ReadFault};
 use crate::index_rows;
-use crate::number::{read_short_number, read_u32};
+use crate::number::{read_s32, read_s64, read_u32};
 use crate::numeric_reader::{comparison, conversion, float_arithmetic, integer_arithmetic};
 use crate::operator::Operator;
 use crate::prefix_reader::read_behind_fc;
@@ -53,18 +53,27 @@ fn law_front(bytes: &[u8])
         → (text : List ℕ) × (bytes.now ≡ text ++ rest) × Spells o text }
 {}
 
-/// Takes the operator that has the byte and this number: those of globals and tables, and others.
-macro_rules! take_short {
+/// Answers an operator that stands at the front, and goes on behind it.
+macro_rules! answer {
+    ($reader:expr, $operator:expr, $rest:expr) => {{
+        let operator = $operator;
+        $reader.pass(&operator, $rest);
+        return Ok(operator);
+    }};
+}
+
+/// Answers the operator that has the byte and this number: those of globals and tables, and others.
+macro_rules! answer_index {
     (
         ($reader:expr, $byte:ident $number:ident $rest:ident)
         (Byte) { $($row:literal $name:ident { $field:ident $id:ident $space:ident })* }
+        (Byte) { $($more_row:literal $more:ident { $more_field:ident $more_id:ident $more_space:ident })* }
         $($others:tt)*
     ) => {
         match *$byte {
-            0x0c => return $reader.taken(Operator::Br { label: $number as u32 }, $rest),
-            $($row => return $reader.taken(Operator::$name { $field: $number as u32 }, $rest),)*
-            0x41 => return $reader.taken(Operator::I32Const { value: $number as i32 }, $rest),
-            0x42 => return $reader.taken(Operator::I64Const { value: $number as i64 }, $rest),
+            0x0c => answer!($reader, Operator::Br { label: $number }, $rest),
+            $($row => answer!($reader, Operator::$name { $field: $number }, $rest),)*
+            $($more_row => answer!($reader, Operator::$more { $more_field: $number }, $rest),)*
             _ => {}
         }
     };
@@ -120,26 +129,21 @@ impl<'a> Reader<'a> {
         self.position
     }
 
-    /// Goes on behind an operator that stands at the front, and answers it.
+    /// Goes on behind an operator that stands at the front.
     #[inline(always)]
-    fn taken(&mut self, operator: Operator<'a>, rest: &'a [u8]) -> Result<Operator<'a>, ReadError>
-        requires stands { read_operation self.old.rest ≡ Ok (meaning operator, rest.now) }
-        requires shorter { length rest.now ≤ length self.old.rest }
-        // What is read is spelt by what was taken.
-        ensures found { IfOk result (λ x. (text : List ℕ) × Moves self.old text self.new × Spells (meaning x) text) }
-        // What stands at the front is read.
+    fn pass(&mut self, operator: &Operator<'a>, rest: &'a [u8])
+        requires { read_operation self.old.rest ≡ Ok (meaning operator.now, rest.now) }
+        // It is spelt by what was passed.
+        ensures found { (text : List ℕ) × Moves self.old text self.new × Spells (meaning operator.now) text }
+        // It is what stands at the front.
         ensures only { (o : RawOperation) (text rest : List ℕ) → Spells o text → self.old.rest ≡ text ++ rest
-            → IsOkAnd result (λ x. (meaning x ≡ o) × Moves self.old text self.new) }
-        // What is read, as a function of the bytes.
-        ensures answer { IfOk result (λ x. read_operation self.old.rest ≡ Ok (meaning x, self.new.rest)) }
-        // Which fault it is, and where.
-        ensures fault { IfErr result (λ e. (read_operation self.old.rest ≡ Err e.fault) × (e.at ≡ self.old.place)) }
-        ensures err { OnErr result (self.new ≡ self.old) }
+            → (meaning operator.now ≡ o) × Moves self.old text self.new }
+        // It is read, as a function of the bytes.
+        ensures answer { read_operation self.old.rest ≡ Ok (meaning operator.now, self.new.rest) }
     {
         law_front(self.rest);
         self.position += self.rest.len() - rest.len();
         self.rest = rest;
-        Ok(operator)
     }
 
     /// The next operator, of any length.
@@ -186,28 +190,38 @@ impl<'a> Reader<'a> {
     {
         if let [byte, rest @ ..] = self.rest {
             match *byte {
-                0x0b => return self.taken(Operator::End, rest),
-                0x0f => return self.taken(Operator::Return, rest),
-                0x1a => return self.taken(Operator::Drop, rest),
+                0x0b => answer!(self, Operator::End, rest),
+                0x0f => answer!(self, Operator::Return, rest),
+                0x1a => answer!(self, Operator::Drop, rest),
                 0x28..=0x35 => {
-                    if let Some((memarg, rest)) = read_short_memarg(rest) {
+                    if let Ok((memarg, rest)) = read_memarg(rest) {
                         let kind = load_kind(*byte);
-                        return self.taken(Operator::Load { kind, memarg }, rest);
+                        answer!(self, Operator::Load { kind, memarg }, rest)
                     }
                 }
                 0x36..=0x3e => {
-                    if let Some((memarg, rest)) = read_short_memarg(rest) {
+                    if let Ok((memarg, rest)) = read_memarg(rest) {
                         let kind = store_kind(*byte);
-                        return self.taken(Operator::Store { kind, memarg }, rest);
+                        answer!(self, Operator::Store { kind, memarg }, rest)
                     }
                 }
-                0x45..=0x66 => return self.taken(comparison(*byte), rest),
-                0x67..=0x8a => return self.taken(integer_arithmetic(*byte), rest),
-                0x8b..=0xa6 => return self.taken(float_arithmetic(*byte), rest),
-                0xa7..=0xc4 => return self.taken(conversion(*byte), rest),
+                0x41 => {
+                    if let Ok((value, rest)) = read_s32(rest) {
+                        answer!(self, Operator::I32Const { value }, rest)
+                    }
+                }
+                0x42 => {
+                    if let Ok((value, rest)) = read_s64(rest) {
+                        answer!(self, Operator::I64Const { value }, rest)
+                    }
+                }
+                0x45..=0x66 => answer!(self, comparison(*byte), rest),
+                0x67..=0x8a => answer!(self, integer_arithmetic(*byte), rest),
+                0x8b..=0xa6 => answer!(self, float_arithmetic(*byte), rest),
+                0xa7..=0xc4 => answer!(self, conversion(*byte), rest),
                 _ => {
-                    if let Some((number, rest)) = read_short_number(rest) {
-                        index_rows!(take_short, self, byte number rest)
+                    if let Ok((number, rest)) = read_u32(rest) {
+                        index_rows!(answer_index, self, byte number rest)
                     }
                 }
             }
