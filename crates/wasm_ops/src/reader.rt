@@ -6,11 +6,11 @@ ghost use Rattle.walrus_ir.specs.Results.{Gives};
 ghost use Rattle.wasm_ops.specs.Spelling.{Spells, read_operation};
 ghost use Rattle.wasm_ops.specs.Meaning.{meaning};
 
-use crate::access_reader::{load_kind, read_memarg, store_kind};
+use crate::access_reader::{load_kind, read_short_memarg, store_kind};
 use crate::byte_reader::read_behind_byte;
 use crate::fault::{ReadError, ReadFault};
 use crate::index_rows;
-use crate::number::{read_s32, read_s64, read_u32};
+use crate::number::{read_short_signed, read_short_unsigned, read_u32};
 use crate::numeric_reader::{comparison, conversion, float_arithmetic, integer_arithmetic};
 use crate::operator::Operator;
 use crate::prefix_reader::read_behind_fc;
@@ -194,24 +194,25 @@ impl<'a> Reader<'a> {
                 0x0f => answer!(self, Operator::Return, rest),
                 0x1a => answer!(self, Operator::Drop, rest),
                 0x28..=0x35 => {
-                    if let Ok((memarg, rest)) = read_memarg(rest) {
+                    if let Some((memarg, rest)) = read_short_memarg(rest) {
                         let kind = load_kind(*byte);
                         answer!(self, Operator::Load { kind, memarg }, rest)
                     }
                 }
                 0x36..=0x3e => {
-                    if let Ok((memarg, rest)) = read_memarg(rest) {
+                    if let Some((memarg, rest)) = read_short_memarg(rest) {
                         let kind = store_kind(*byte);
                         answer!(self, Operator::Store { kind, memarg }, rest)
                     }
                 }
                 0x41 => {
-                    if let Ok((value, rest)) = read_s32(rest) {
+                    if let Some((value, rest)) = read_short_signed(rest) {
+                        let value = value as i32;
                         answer!(self, Operator::I32Const { value }, rest)
                     }
                 }
                 0x42 => {
-                    if let Ok((value, rest)) = read_s64(rest) {
+                    if let Some((value, rest)) = read_short_signed(rest) {
                         answer!(self, Operator::I64Const { value }, rest)
                     }
                 }
@@ -220,12 +221,17 @@ impl<'a> Reader<'a> {
                 0x8b..=0xa6 => answer!(self, float_arithmetic(*byte), rest),
                 0xa7..=0xc4 => answer!(self, conversion(*byte), rest),
                 _ => {
-                    if let Ok((number, rest)) = read_u32(rest) {
+                    if let Some((number, rest)) = read_short_unsigned(rest) {
                         index_rows!(answer_index, self, byte number rest)
                     }
                 }
             }
         }
-        self.read_at_length()
+        // Taken apart, it gets a place of its own in memory, and the answers above are built in
+        // registers.
+        match self.read_at_length() {
+            Ok(operator) => Ok(operator),
+            Err(error) => Err(error),
+        }
     }
 }
