@@ -78,6 +78,7 @@ pub(crate) fn read_memarg(bytes: &[u8]) -> Result<(RawMemArg, &[u8]), ReadFault>
 }
 
 /// What the load of a byte from 0x28 to 0x35 reads.
+#[inline(always)]
 pub(crate) fn load_kind(byte: u8) -> LoadKind
     requires low { 0x28 ≤ byte }
     requires high { byte ≤ 0x35 }
@@ -102,6 +103,7 @@ pub(crate) fn load_kind(byte: u8) -> LoadKind
 }
 
 /// What the store of a byte from 0x36 to 0x3e writes.
+#[inline(always)]
 pub(crate) fn store_kind(byte: u8) -> StoreKind
     requires low { 0x36 ≤ byte }
     requires high { byte ≤ 0x3e }

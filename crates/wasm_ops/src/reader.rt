@@ -14,6 +14,7 @@ use crate::number::{read_short_signed, read_short_unsigned, read_u32};
 use crate::numeric_reader::{comparison, conversion, float_arithmetic, integer_arithmetic};
 use crate::operator::Operator;
 use crate::prefix_reader::read_behind_fc;
+use crate::type_reader::read_short_block_type;
 use std::marker::Model;
 
 /// The operator at the front, and what follows it.
@@ -190,9 +191,17 @@ impl<'a> Reader<'a> {
     {
         if let [byte, rest @ ..] = self.rest {
             match *byte {
+                0x00 => answer!(self, Operator::Unreachable, rest),
+                0x01 => answer!(self, Operator::Nop, rest),
+                0x02 => {
+                    if let Some((ty, rest)) = read_short_block_type(rest) {
+                        answer!(self, Operator::Block { ty }, rest)
+                    }
+                }
                 0x0b => answer!(self, Operator::End, rest),
                 0x0f => answer!(self, Operator::Return, rest),
                 0x1a => answer!(self, Operator::Drop, rest),
+                0x1b => answer!(self, Operator::Select, rest),
                 0x28..=0x35 => {
                     if let Some((memarg, rest)) = read_short_memarg(rest) {
                         let kind = load_kind(*byte);

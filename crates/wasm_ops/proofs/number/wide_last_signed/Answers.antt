@@ -1,4 +1,4 @@
-use Rattle.std.proofs.Common.{arith, rules}
+use Rattle.std.proofs.Common.{rules}
 use Rattle.wasm_ops.proofs.ShortNumbers.{last_low, last_high}
 use Rattle.wasm_ops.proofs.number.wide_last_signed.Goals as goal
 
