@@ -1,6 +1,7 @@
 -- The shortest spelling is a spelling of what fits.
-use Rattle.std.proofs.Common.{◌≡◌, ℕ, zero, suc, ◌+◌, ◌*◌, ◌/◌, ◌%◌, ◌^◌, ◌<◌, ◌≤◌, true, false, eqb, List, [], ◌∷◌, map, Some, None, Ok, refl, sym, ap, subst, ◌∙◌, arith, rules, inl, inr, ℤ, pos, negsuc}
-use Rattle.std.proofs.lemmas.Bool.{eqb-true, lt-leb, cases_lt}
+use Rattle.std.proofs.Common.{◌≡◌, ℕ, zero, suc, ◌+◌, ◌*◌, ◌/◌, ◌%◌, ◌^◌, ◌<◌, ◌≤◌, Bool, true, false, eqb, leb, cond, List, [], ◌∷◌, ◌++◌, map, length, Option, Some, None, Ok, refl, sym, ap, subst, ◌∙◌, arith, rules, inl, inr, ◌⊎◌, ℤ, pos, negsuc}
+use Rattle.std.proofs.lemmas.Bool.{eqb-true, lt-leb, le-leb, cases_lt, le-ltb, lt-ltb}
+use Rattle.std.proofs.Math.Pow.{pow_mono}
 use Rattle.std.proofs.lemmas.Nat.{pow-add}
 use Rattle.walrus_ir.specs.declared.val_type.ValType.{ValType}
 use Rattle.walrus_ir.specs.declared.val_type.ValType.TheVariants.{I32, I64, F32, F64, V128, Ref}
@@ -26,13 +27,13 @@ use Rattle.wasm_ops.specs.BinaryOperations.{binary_opcode, replace_lane}
 use Rattle.wasm_ops.specs.TernaryOperations.{ternary_opcode}
 use Rattle.wasm_ops.specs.AccessOperations.{load_opcode, store_opcode}
 use Rattle.wasm_ops.specs.Reading.{Many}
-use Rattle.wasm_ops.specs.Numbers.{IsU32, IsU64, IsS32, IsS33, IsS64, IsByte, joined, AreBits}
+use Rattle.wasm_ops.specs.Numbers.{IsInteger, unsigned, signed, IsU32, IsU64, IsS32, IsS33, IsS64, IsByte, joined, AreBits}
 use Rattle.wasm_ops.specs.Types.{row_at, value_at, nullable_at, IsValueType, IsBlockType}
-use Rattle.wasm_ops.specs.Operations.{Access, RawImmediate, index, local, label, handler, outer, number, access, block, value, i32, i64, f32, f64, v128, lane, zero_byte, RawOperation}
+use Rattle.wasm_ops.specs.Operations.{Access, RawImmediate, index, local, label, handler, outer, number, access, branch_table, clauses, block, heap, value, cast, i32, i64, f32, f64, v128, lane, lanes, zero_byte, RawOperation}
 use Rattle.wasm_ops.specs.Immediates.{Kind, an_access, kind_of, IsAccess, IsSelected, SpellsImmediate, SpellsImmediates}
 use Rattle.wasm_ops.specs.Opcodes.{bulk_rows, is_prefix, kinds_of_byte, kinds_behind, kinds_of, IsOpcode}
 use Rattle.wasm_ops.specs.Spelling.{Spells}
-use Rattle.wasm_ops.specs.Shortest.{short_number, short_integer, short_bits, short_value, short_block, short_access, short_immediate, short_immediates, short_opcode, short}
+use Rattle.wasm_ops.specs.Shortest.{short_number, short_integer, short_signed, short_unsigned, short_bits, short_value, short_block, short_access, short_immediate, short_immediates, short_opcode, short}
 use Rattle.wasm_ops.specs.Fitting.{IsSpeltType, IsWithin, FitsBlock, Fits, AllFit}
 use Rattle.wasm_ops.proofs.Agreement.{chosen}
 use Rattle.wasm_ops.proofs.ShortestNumbers.{unsigned_spelt, signed_spelt}

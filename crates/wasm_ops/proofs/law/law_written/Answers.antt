@@ -1,7 +1,7 @@
-use Rattle.std.proofs.Common.{subst}
+use Rattle.std.proofs.Common.{ap, subst, sym}
 use Rattle.wasm_ops.specs.Meaning.{meaning}
 use Rattle.wasm_ops.specs.Operations.{RawOperation}
-use Rattle.wasm_ops.specs.Fitting.{AllFit}
+use Rattle.wasm_ops.specs.Fitting.{AllFit, AreSpeakable}
 use Rattle.wasm_ops.proofs.Written.{spelt, kinds_right}
 use Rattle.wasm_ops.proofs.law.law_written.Goals as goal
 
