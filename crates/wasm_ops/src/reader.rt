@@ -11,7 +11,7 @@ use crate::byte_reader::read_behind_byte;
 use crate::fault::{ReadError, ReadFault};
 use crate::index_rows;
 use crate::number::{read_short_signed, read_short_unsigned, read_u32};
-use crate::numeric_reader::{comparison, conversion, float_arithmetic, integer_arithmetic};
+use crate::numeric_reader::numeric;
 use crate::operator::Operator;
 use crate::prefix_reader::read_behind_fc;
 use crate::type_reader::read_short_block_type;
@@ -63,6 +63,15 @@ macro_rules! answer {
     }};
 }
 
+/// Answers the operator made of what was read, if it was, and goes on behind it.
+macro_rules! answer_made {
+    ($reader:expr, $read:expr, $part:pat => $operator:expr) => {
+        if let Some(($part, rest)) = $read {
+            answer!($reader, $operator, rest)
+        }
+    };
+}
+
 /// Answers the operator that has the byte and this number: those of globals and tables, and others.
 macro_rules! answer_index {
     (
@@ -71,7 +80,7 @@ macro_rules! answer_index {
         (Byte) { $($more_row:literal $more:ident { $more_field:ident $more_id:ident $more_space:ident })* }
         $($others:tt)*
     ) => {
-        match *$byte {
+        match $byte {
             0x0c => answer!($reader, Operator::Br { label: $number }, $rest),
             $($row => answer!($reader, Operator::$name { $field: $number }, $rest),)*
             $($more_row => answer!($reader, Operator::$more { $more_field: $number }, $rest),)*
@@ -176,7 +185,7 @@ impl<'a> Reader<'a> {
 
     /// The next operator. Its parts are read from left to right, and the first that can't be read
     /// decides the fault. It takes no memory.
-    #[tactic(auto, using(crate::proofs::Powers::powers), unfolding(crate::specs::Spelling::read_operation, crate::specs::Opcodes::opcode, crate::specs::Opcodes::kinds_of_byte, crate::specs::Numbers::integer))]
+    #[tactic(auto, unfolding(crate::specs::Spelling::read_operation, crate::specs::Opcodes::opcode, crate::specs::Opcodes::kinds_of_byte))]
     pub fn read(&mut self) -> Result<Operator<'a>, ReadError>
         // What is read is spelt by what was taken.
         ensures found { IfOk result (λ x. (text : List ℕ) × Moves self.old text self.new × Spells (meaning x) text) }
@@ -190,45 +199,33 @@ impl<'a> Reader<'a> {
         ensures err { OnErr result (self.new ≡ self.old) }
     {
         if let [byte, rest @ ..] = self.rest {
-            match *byte {
+            let byte = *byte;
+            match byte {
                 0x00 => answer!(self, Operator::Unreachable, rest),
                 0x01 => answer!(self, Operator::Nop, rest),
-                0x02 => {
-                    if let Some((ty, rest)) = read_short_block_type(rest) {
-                        answer!(self, Operator::Block { ty }, rest)
-                    }
-                }
+                0x02 =>
+                    answer_made!(self, read_short_block_type(rest), ty => Operator::Block { ty }),
                 0x0b => answer!(self, Operator::End, rest),
                 0x0f => answer!(self, Operator::Return, rest),
                 0x1a => answer!(self, Operator::Drop, rest),
                 0x1b => answer!(self, Operator::Select, rest),
-                0x28..=0x35 => {
-                    if let Some((memarg, rest)) = read_short_memarg(rest) {
-                        let kind = load_kind(*byte);
-                        answer!(self, Operator::Load { kind, memarg }, rest)
-                    }
-                }
-                0x36..=0x3e => {
-                    if let Some((memarg, rest)) = read_short_memarg(rest) {
-                        let kind = store_kind(*byte);
-                        answer!(self, Operator::Store { kind, memarg }, rest)
-                    }
-                }
-                0x41 => {
-                    if let Some((value, rest)) = read_short_signed(rest) {
-                        let value = value as i32;
-                        answer!(self, Operator::I32Const { value }, rest)
-                    }
-                }
-                0x42 => {
-                    if let Some((value, rest)) = read_short_signed(rest) {
-                        answer!(self, Operator::I64Const { value }, rest)
-                    }
-                }
-                0x45..=0x66 => answer!(self, comparison(*byte), rest),
-                0x67..=0x8a => answer!(self, integer_arithmetic(*byte), rest),
-                0x8b..=0xa6 => answer!(self, float_arithmetic(*byte), rest),
-                0xa7..=0xc4 => answer!(self, conversion(*byte), rest),
+                0x28..=0x35 => answer_made!(
+                    self, read_short_memarg(rest),
+                    memarg => Operator::Load { kind: load_kind(byte), memarg }
+                ),
+                0x36..=0x3e => answer_made!(
+                    self, read_short_memarg(rest),
+                    memarg => Operator::Store { kind: store_kind(byte), memarg }
+                ),
+                0x41 => answer_made!(
+                    self, read_short_signed(rest),
+                    value => Operator::I32Const { value: value as i32 }
+                ),
+                0x42 => answer_made!(
+                    self, read_short_signed(rest),
+                    value => Operator::I64Const { value }
+                ),
+                0x45..=0xc4 => answer!(self, numeric(byte), rest),
                 _ => {
                     if let Some((number, rest)) = read_short_unsigned(rest) {
                         index_rows!(answer_index, self, byte number rest)
