@@ -77,7 +77,11 @@ macro_rules! answer_index {
     (
         ($reader:expr, $byte:ident $number:ident $rest:ident)
         (Byte) { $($row:literal $name:ident { $field:ident $id:ident $space:ident })* }
-        (Byte) { $($more_row:literal $more:ident { $more_field:ident $more_id:ident $more_space:ident })* }
+        (Byte) {
+            $($more_row:literal $more:ident {
+                $more_field:ident $more_id:ident $more_space:ident
+            })*
+        }
         $($others:tt)*
     ) => {
         match $byte {
@@ -144,7 +148,8 @@ impl<'a> Reader<'a> {
     fn pass(&mut self, operator: &Operator<'a>, rest: &'a [u8])
         requires { read_operation self.old.rest ≡ Ok (meaning operator.now, rest.now) }
         // It is spelt by what was passed.
-        ensures found { (text : List ℕ) × Moves self.old text self.new × Spells (meaning operator.now) text }
+        ensures found { (text : List ℕ) × Moves self.old text self.new
+            × Spells (meaning operator.now) text }
         // It is what stands at the front.
         ensures only { (o : RawOperation) (text rest : List ℕ) → Spells o text → self.old.rest ≡ text ++ rest
             → (meaning operator.now ≡ o) × Moves self.old text self.new }
