@@ -16,6 +16,8 @@ mod lent;
 #[cfg(test)]
 mod modules;
 #[cfg(test)]
+mod printing;
+#[cfg(test)]
 mod program;
 #[cfg(test)]
 mod reading;

@@ -4,7 +4,7 @@ use std::marker::Model;
 use wasm_ops::{Immediates, Op, RawCatch};
 
 /// The labels of a `br_table` as they are written. A contract sees the labels and the default.
-#[derive(Drop)]
+#[derive(Clone, Debug, Drop)]
 pub struct OutTable<'a> {
     /// The labels, as depths.
     pub targets: &'a [u32],
@@ -21,7 +21,7 @@ impl<'a> Model for OutTable<'a> {
 }
 
 /// The clauses of a `try_table` as they are written. A contract sees the list of them.
-#[derive(Drop)]
+#[derive(Clone, Debug, Drop)]
 pub struct OutClauses<'a> {
     /// The clauses, in order.
     pub clauses: &'a [RawCatch],

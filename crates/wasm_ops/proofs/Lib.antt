@@ -15,5 +15,6 @@ pub mod ShortestOperations
 pub mod ListLaws
 pub mod Written
 pub mod Rows
+pub mod ShortNumbers
 pub mod BorrowedLists
 pub mod SameLists

@@ -1,12 +1,12 @@
 //! Reading loads and stores: their memory arguments, and the kinds of their opcodes.
 
-ghost use Rattle.std.specs.Prelude.{◌≡◌, ◌≤◌, length, IfSome, Ok};
+ghost use Rattle.std.specs.Prelude.{◌≡◌, ◌≤◌, IfSome, Ok};
 ghost use Rattle.walrus_ir.specs.Results.{Gives};
 ghost use Rattle.wasm_ops.specs.Immediates.{memory_flags, memory as memory_behind, memory_access};
 ghost use Rattle.wasm_ops.specs.AccessOperations.{load_opcode, store_opcode, access_of};
 
 use crate::fault::ReadFault;
-use crate::number::{read_u32, read_u64};
+use crate::number::{read_short_unsigned, read_u32, read_u64};
 use crate::types::{Opcode, RawMemArg};
 use walrus_ir::ExtendedLoad::{SignExtend, ZeroExtend};
 use walrus_ir::{LoadKind, StoreKind};
@@ -42,18 +42,18 @@ fn read_memory(flags: (u32, bool), bytes: &[u8]) -> Result<(u32, &[u8]), ReadFau
 #[tactic(auto, using(crate::proofs::Powers::powers), unfolding(crate::specs::Immediates::memory_access, crate::specs::Numbers::integer))]
 pub(crate) fn read_short_memarg(bytes: &[u8]) -> Option<(RawMemArg, &[u8])>
     ensures stands { IfSome result (λ x. memory_access bytes.now ≡ Ok (access_of x.0, x.1.now)) }
-    ensures shorter { IfSome result (λ x. length x.1.now ≤ length bytes.now) }
 {
-    let [flags, offset, rest @ ..] = bytes else {
+    let [flags, rest @ ..] = bytes else {
         return None;
     };
-    if *flags >= 32 || *offset >= 128 {
+    if *flags >= 32 {
         return None;
     }
+    let (offset, rest) = read_short_unsigned(rest)?;
     let memarg = RawMemArg {
         exponent: *flags as u32,
         memory: 0,
-        offset: *offset as u64,
+        offset: offset as u64,
     };
     Some((memarg, rest))
 }
@@ -78,6 +78,7 @@ pub(crate) fn read_memarg(bytes: &[u8]) -> Result<(RawMemArg, &[u8]), ReadFault>
 }
 
 /// What the load of a byte from 0x28 to 0x35 reads.
+#[inline(always)]
 pub(crate) fn load_kind(byte: u8) -> LoadKind
     requires low { 0x28 ≤ byte }
     requires high { byte ≤ 0x35 }
@@ -102,6 +103,7 @@ pub(crate) fn load_kind(byte: u8) -> LoadKind
 }
 
 /// What the store of a byte from 0x36 to 0x3e writes.
+#[inline(always)]
 pub(crate) fn store_kind(byte: u8) -> StoreKind
     requires low { 0x36 ≤ byte }
     requires high { byte ≤ 0x3e }

@@ -2,10 +2,11 @@
 
 use crate::fault::ReadFault;
 use crate::number::read_u32;
+use std::fmt;
 use std::marker::Model;
 
 /// The labels of a `br_table`, as they stand in the input. A contract sees the labels and the default.
-#[derive(Drop)]
+#[derive(Clone, Drop)]
 pub struct BrTable<'a> {
     len: u32,
     labels: &'a [u8],
@@ -99,6 +100,26 @@ impl<'a> BrTable<'a> {
             left: self.len,
             labels: self.labels,
         }
+    }
+}
+
+impl<'a> fmt::Debug for BrTable<'a> {
+    fn fmt<W: fmt::Write>(&self, f: &mut fmt::Formatter<W>) -> fmt::Result {
+        f.debug_struct("BrTable")
+            .field("targets", &self.targets())
+            .field("default", &self.default)
+            .finish()
+    }
+}
+
+/// The labels that are left.
+impl<'a> fmt::Debug for Targets<'a> {
+    fn fmt<W: fmt::Write>(&self, f: &mut fmt::Formatter<W>) -> fmt::Result {
+        let left = Targets {
+            left: self.left,
+            labels: self.labels,
+        };
+        f.debug_list().entries(left).finish()
     }
 }
 

@@ -10,7 +10,7 @@ use crate::branch_table::read_table;
 use crate::fault::ReadFault;
 use crate::index_rows;
 use crate::number::{read_f32, read_f64, read_s32, read_s64, read_u32};
-use crate::numeric_reader::{comparison, conversion, float_arithmetic, integer_arithmetic};
+use crate::numeric_reader::numeric;
 use crate::operator::Operator;
 use crate::row::{made, read_indices, read_pair};
 use crate::type_reader::{read_block_type, read_selected};
@@ -144,10 +144,7 @@ pub(crate) fn read_behind_byte(byte: u8, bytes: &[u8]) -> Result<(Operator<'_>, 
         0x28..=0x35 => read_load(byte, bytes),
         0x36..=0x3e => read_store(byte, bytes),
         0x3f..=0x44 => read_constant(byte, bytes),
-        0x45..=0x66 => Ok((comparison(byte), bytes)),
-        0x67..=0x8a => Ok((integer_arithmetic(byte), bytes)),
-        0x8b..=0xa6 => Ok((float_arithmetic(byte), bytes)),
-        0xa7..=0xc4 => Ok((conversion(byte), bytes)),
+        0x45..=0xc4 => Ok((numeric(byte), bytes)),
         _ => Err(ReadFault::UnknownOperator),
     }
 }

@@ -3,10 +3,11 @@
 use crate::fault::ReadFault;
 use crate::number::{read_byte, read_u32};
 use crate::types::RawCatch;
+use std::fmt;
 use std::marker::Model;
 
 /// The clauses of a `try_table`, as they stand in the input. A contract sees the list of them.
-#[derive(Drop)]
+#[derive(Clone, Drop)]
 pub struct CatchList<'a> {
     len: u32,
     clauses: &'a [u8],
@@ -123,6 +124,12 @@ impl<'a> CatchList<'a> {
             left: self.len,
             clauses: self.clauses,
         }
+    }
+}
+
+impl<'a> fmt::Debug for CatchList<'a> {
+    fn fmt<W: fmt::Write>(&self, f: &mut fmt::Formatter<W>) -> fmt::Result {
+        f.debug_list().entries(self.iter()).finish()
     }
 }
 

@@ -1,6 +1,7 @@
 //! Reading numbers: integers in LEB128 (WebAssembly core specification 3.0, binary format, values).
 
-ghost use Rattle.std.specs.Prelude.{◌≡◌, ◌∷◌, ◌<◌, ◌≤◌, ◌+◌, ◌-◌, ◌*◌, ◌^◌, IfOk, IfSome, pos, ◌≤ℤ◌, ◌<ℤ◌, ◌+ℤ◌, ◌*ℤ◌};
+ghost use Rattle.std.specs.Prelude.{◌≡◌, ◌<◌, ◌≤◌, ◌+◌, ◌-◌, ◌*◌, ◌^◌, ℕ, IfOk, IfSome, Some, Ok};
+ghost use Rattle.std.specs.Prelude.{pos, ◌≤ℤ◌, ◌<ℤ◌, ◌+ℤ◌, ◌*ℤ◌};
 ghost use Rattle.walrus_ir.specs.Results.{Gives};
 ghost use Rattle.wasm_ops.specs.Numbers.{unsigned, signed, unsigned_last, signed_last, integer, u32 as a_u32, u64 as a_u64, s32 as an_s32, s64 as an_s64, byte as byte_at, bits as some_bits};
 
@@ -54,6 +55,7 @@ fn join_unsigned(bits: u32, low: u8, high: u64) -> u64
 }
 
 /// The signed number of `bits` bits that has these low seven bits, and this number above them.
+#[inline(always)]
 fn join_signed(bits: u32, low: u8, high: i64) -> i64
     requires long { 7 < bits }
     requires wide { bits ≤ 64 }
@@ -216,22 +218,82 @@ pub(crate) fn read_s64(bytes: &[u8]) -> Result<(i64, &[u8]), ReadFault>
     read_s64_of_any_length(bytes)
 }
 
-/// A number below 64 of one byte at the front, and what follows it. It is so spelt with and without
-/// a sign.
+/// An unsigned number of up to three bytes at the front, and what follows it, where one stands
+/// there.
 #[inline(always)]
-pub(crate) fn read_short_number(bytes: &[u8]) -> Option<(u8, &[u8])>
-    ensures { IfSome result (λ x. (bytes.now ≡ x.0 ∷ x.1.now) × (x.0 < 64)) }
+#[tactic(auto, using(crate::proofs::Powers::powers), unfolding(crate::specs::Numbers::integer))]
+pub(crate) fn read_short_unsigned(bytes: &[u8]) -> Option<(u32, &[u8])>
+    ensures short { IfSome result (λ x. a_u32 bytes.now ≡ Ok (x.0, x.1.now)) }
+    ensures long { IfSome result (λ x. a_u64 bytes.now ≡ Ok (x.0, x.1.now)) }
 {
-    match bytes {
-        [number, rest @ ..] => {
-            if *number < 64 {
-                Some((*number, rest))
-            } else {
-                None
-            }
-        }
-        [] => None,
+    let [first, rest @ ..] = bytes else {
+        return None;
+    };
+    if *first < 128 {
+        return Some((*first as u32, rest));
     }
+    let low = *first as u32 - 128;
+    let [second, rest @ ..] = rest else {
+        return None;
+    };
+    if *second < 128 {
+        return Some((low + 128 * *second as u32, rest));
+    }
+    let middle = *second as u32 - 128;
+    let [third, rest @ ..] = rest else {
+        return None;
+    };
+    if *third < 128 {
+        return Some((low + 128 * (middle + 128 * *third as u32), rest));
+    }
+    None
+}
+
+/// What a last byte stands for in a signed number with seven bits or more left.
+#[inline(always)]
+fn wide_last_signed(byte: u8) -> i64
+    requires { byte < 128 }
+    ensures gives { (bits : ℕ) → 7 ≤ bits → signed_last bits byte ≡ Some result }
+    ensures low { pos 0 ≤ℤ (result +ℤ pos 64) }
+    ensures high { result <ℤ pos 64 }
+{
+    if byte < 64 {
+        byte as i64
+    } else {
+        byte as i64 - 128
+    }
+}
+
+/// A signed number of up to three bytes at the front, and what follows it, where one stands there.
+#[inline(always)]
+#[tactic(auto, using(crate::proofs::Powers::powers), unfolding(crate::specs::Numbers::integer))]
+pub(crate) fn read_short_signed(bytes: &[u8]) -> Option<(i64, &[u8])>
+    ensures short { IfSome result (λ x. an_s32 bytes.now ≡ Ok (x.0, x.1.now)) }
+    ensures long { IfSome result (λ x. an_s64 bytes.now ≡ Ok (x.0, x.1.now)) }
+    ensures low { IfSome result (λ x. pos 0 ≤ℤ (x.0 +ℤ pos (2 ^ 31))) }
+    ensures high { IfSome result (λ x. x.0 <ℤ pos (2 ^ 31)) }
+{
+    let [first, rest @ ..] = bytes else {
+        return None;
+    };
+    if *first < 128 {
+        return Some((wide_last_signed(*first), rest));
+    }
+    let [second, rest @ ..] = rest else {
+        return None;
+    };
+    if *second < 128 {
+        let high = wide_last_signed(*second);
+        return Some((join_signed(14, *first - 128, high), rest));
+    }
+    let [third, rest @ ..] = rest else {
+        return None;
+    };
+    if *third < 128 {
+        let high = join_signed(14, *second - 128, wide_last_signed(*third));
+        return Some((join_signed(21, *first - 128, high), rest));
+    }
+    None
 }
 
 /// A byte at the front, and what follows it.

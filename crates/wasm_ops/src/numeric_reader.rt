@@ -10,7 +10,7 @@ use walrus_ir::{BinaryOp, UnaryOp};
 
 /// The operator of a byte from 0x45 to 0x66: a test or a comparison.
 #[inline(always)]
-pub(crate) fn comparison(byte: u8) -> Operator<'static>
+fn comparison(byte: u8) -> Operator<'static>
     requires low { 0x45 ≤ byte }
     requires high { byte ≤ 0x66 }
     ensures { meaning result ≡ operation (Opcode.Byte byte) [] }
@@ -55,7 +55,7 @@ pub(crate) fn comparison(byte: u8) -> Operator<'static>
 
 /// The operator of a byte from 0x67 to 0x8a: arithmetic of integers.
 #[inline(always)]
-pub(crate) fn integer_arithmetic(byte: u8) -> Operator<'static>
+fn integer_arithmetic(byte: u8) -> Operator<'static>
     requires low { 0x67 ≤ byte }
     requires high { byte ≤ 0x8a }
     ensures { meaning result ≡ operation (Opcode.Byte byte) [] }
@@ -102,7 +102,7 @@ pub(crate) fn integer_arithmetic(byte: u8) -> Operator<'static>
 
 /// The operator of a byte from 0x8b to 0xa6: arithmetic of floats.
 #[inline(always)]
-pub(crate) fn float_arithmetic(byte: u8) -> Operator<'static>
+fn float_arithmetic(byte: u8) -> Operator<'static>
     requires low { 0x8b ≤ byte }
     requires high { byte ≤ 0xa6 }
     ensures { meaning result ≡ operation (Opcode.Byte byte) [] }
@@ -141,7 +141,7 @@ pub(crate) fn float_arithmetic(byte: u8) -> Operator<'static>
 
 /// The operator of a byte from 0xa7 to 0xc4: a conversion.
 #[inline(always)]
-pub(crate) fn conversion(byte: u8) -> Operator<'static>
+fn conversion(byte: u8) -> Operator<'static>
     requires low { 0xa7 ≤ byte }
     requires high { byte ≤ 0xc4 }
     ensures { meaning result ≡ operation (Opcode.Byte byte) [] }
@@ -177,6 +177,21 @@ pub(crate) fn conversion(byte: u8) -> Operator<'static>
         0xc2 => Operator::Unop(UnaryOp::I64Extend8S),
         0xc3 => Operator::Unop(UnaryOp::I64Extend16S),
         _ => Operator::Unop(UnaryOp::I64Extend32S),
+    }
+}
+
+/// The operator of a byte from 0x45 to 0xc4: a numeric one.
+#[inline(always)]
+pub(crate) fn numeric(byte: u8) -> Operator<'static>
+    requires low { 0x45 ≤ byte }
+    requires high { byte ≤ 0xc4 }
+    ensures { meaning result ≡ operation (Opcode.Byte byte) [] }
+{
+    match byte {
+        0x45..=0x66 => comparison(byte),
+        0x67..=0x8a => integer_arithmetic(byte),
+        0x8b..=0xa6 => float_arithmetic(byte),
+        _ => conversion(byte),
     }
 }
 

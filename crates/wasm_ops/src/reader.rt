@@ -10,10 +10,11 @@ use crate::access_reader::{load_kind, read_short_memarg, store_kind};
 use crate::byte_reader::read_behind_byte;
 use crate::fault::{ReadError, ReadFault};
 use crate::index_rows;
-use crate::number::{read_short_number, read_u32};
-use crate::numeric_reader::{comparison, conversion, float_arithmetic, integer_arithmetic};
+use crate::number::{read_short_signed, read_short_unsigned, read_u32};
+use crate::numeric_reader::numeric;
 use crate::operator::Operator;
 use crate::prefix_reader::read_behind_fc;
+use crate::type_reader::read_short_block_type;
 use std::marker::Model;
 
 /// The operator at the front, and what follows it.
@@ -53,21 +54,43 @@ fn law_front(bytes: &[u8])
         → (text : List ℕ) × (bytes.now ≡ text ++ rest) × Spells o text }
 {}
 
-/// Takes the operator that has the byte and this number: those of globals and tables, and others.
-macro_rules! take_short {
+/// Answers an operator that stands at the front, and goes on behind it.
+macro_rules! answer {
+    ($reader:expr, $operator:expr, $rest:expr) => {{
+        let operator = $operator;
+        $reader.pass(&operator, $rest);
+        return Ok(operator);
+    }};
+}
+
+/// Answers the operator made of what was read, if it was, and goes on behind it.
+macro_rules! answer_made {
+    ($reader:expr, $read:expr, $part:pat => $operator:expr) => {
+        if let Some(($part, rest)) = $read {
+            answer!($reader, $operator, rest)
+        }
+    };
+}
+
+/// Answers the operator that has the byte and this number: those of globals and tables, and others.
+macro_rules! answer_index {
     (
         ($reader:expr, $byte:ident $number:ident $rest:ident)
         $calls:tt $call_rows:tt
         (Byte) { $($row:literal $name:ident { $field:ident $id:ident $space:ident })* }
+        (Byte) {
+            $($more_row:literal $more:ident {
+                $more_field:ident $more_id:ident $more_space:ident
+            })*
+        }
         $($others:tt)*
     ) => {
-        match *$byte {
-            0x0c => return $reader.taken(Operator::Br { label: $number as u32 }, $rest),
-            0x0d => return $reader.taken(Operator::BrIf { label: $number as u32 }, $rest),
-            0x10 => return $reader.taken(Operator::Call { func: $number as u32 }, $rest),
-            $($row => return $reader.taken(Operator::$name { $field: $number as u32 }, $rest),)*
-            0x41 => return $reader.taken(Operator::I32Const { value: $number as i32 }, $rest),
-            0x42 => return $reader.taken(Operator::I64Const { value: $number as i64 }, $rest),
+        match $byte {
+            0x0c => answer!($reader, Operator::Br { label: $number }, $rest),
+            0x0d => answer!($reader, Operator::BrIf { label: $number }, $rest),
+            0x10 => answer!($reader, Operator::Call { func: $number }, $rest),
+            $($row => answer!($reader, Operator::$name { $field: $number }, $rest),)*
+            $($more_row => answer!($reader, Operator::$more { $more_field: $number }, $rest),)*
             _ => {}
         }
     };
@@ -123,26 +146,22 @@ impl<'a> Reader<'a> {
         self.position
     }
 
-    /// Goes on behind an operator that stands at the front, and answers it.
+    /// Goes on behind an operator that stands at the front.
     #[inline(always)]
-    fn taken(&mut self, operator: Operator<'a>, rest: &'a [u8]) -> Result<Operator<'a>, ReadError>
-        requires stands { read_operation self.old.rest ≡ Ok (meaning operator, rest.now) }
-        requires shorter { length rest.now ≤ length self.old.rest }
-        // What is read is spelt by what was taken.
-        ensures found { IfOk result (λ x. (text : List ℕ) × Moves self.old text self.new × Spells (meaning x) text) }
-        // What stands at the front is read.
+    fn pass(&mut self, operator: &Operator<'a>, rest: &'a [u8])
+        requires { read_operation self.old.rest ≡ Ok (meaning operator.now, rest.now) }
+        // It is spelt by what was passed.
+        ensures found { (text : List ℕ) × Moves self.old text self.new
+            × Spells (meaning operator.now) text }
+        // It is what stands at the front.
         ensures only { (o : RawOperation) (text rest : List ℕ) → Spells o text → self.old.rest ≡ text ++ rest
-            → IsOkAnd result (λ x. (meaning x ≡ o) × Moves self.old text self.new) }
-        // What is read, as a function of the bytes.
-        ensures answer { IfOk result (λ x. read_operation self.old.rest ≡ Ok (meaning x, self.new.rest)) }
-        // Which fault it is, and where.
-        ensures fault { IfErr result (λ e. (read_operation self.old.rest ≡ Err e.fault) × (e.at ≡ self.old.place)) }
-        ensures err { OnErr result (self.new ≡ self.old) }
+            → (meaning operator.now ≡ o) × Moves self.old text self.new }
+        // It is read, as a function of the bytes.
+        ensures answer { read_operation self.old.rest ≡ Ok (meaning operator.now, self.new.rest) }
     {
         law_front(self.rest);
         self.position += self.rest.len() - rest.len();
         self.rest = rest;
-        Ok(operator)
     }
 
     /// The next operator, of any length.
@@ -174,7 +193,7 @@ impl<'a> Reader<'a> {
 
     /// The next operator. Its parts are read from left to right, and the first that can't be read
     /// decides the fault. It takes no memory.
-    #[tactic(auto, using(crate::proofs::Powers::powers), unfolding(crate::specs::Spelling::read_operation, crate::specs::Opcodes::opcode, crate::specs::Opcodes::kinds_of_byte, crate::specs::Numbers::integer))]
+    #[tactic(auto, unfolding(crate::specs::Spelling::read_operation, crate::specs::Opcodes::opcode, crate::specs::Opcodes::kinds_of_byte))]
     pub fn read(&mut self) -> Result<Operator<'a>, ReadError>
         // What is read is spelt by what was taken.
         ensures found { IfOk result (λ x. (text : List ℕ) × Moves self.old text self.new × Spells (meaning x) text) }
@@ -188,34 +207,49 @@ impl<'a> Reader<'a> {
         ensures err { OnErr result (self.new ≡ self.old) }
     {
         if let [byte, rest @ ..] = self.rest {
-            match *byte {
-                0x05 => return self.taken(Operator::Else, rest),
-                0x0b => return self.taken(Operator::End, rest),
-                0x0f => return self.taken(Operator::Return, rest),
-                0x1a => return self.taken(Operator::Drop, rest),
-                0x28..=0x35 => {
-                    if let Some((memarg, rest)) = read_short_memarg(rest) {
-                        let kind = load_kind(*byte);
-                        return self.taken(Operator::Load { kind, memarg }, rest);
-                    }
-                }
-                0x36..=0x3e => {
-                    if let Some((memarg, rest)) = read_short_memarg(rest) {
-                        let kind = store_kind(*byte);
-                        return self.taken(Operator::Store { kind, memarg }, rest);
-                    }
-                }
-                0x45..=0x66 => return self.taken(comparison(*byte), rest),
-                0x67..=0x8a => return self.taken(integer_arithmetic(*byte), rest),
-                0x8b..=0xa6 => return self.taken(float_arithmetic(*byte), rest),
-                0xa7..=0xc4 => return self.taken(conversion(*byte), rest),
+            let byte = *byte;
+            match byte {
+                0x00 => answer!(self, Operator::Unreachable, rest),
+                0x01 => answer!(self, Operator::Nop, rest),
+                0x02 =>
+                    answer_made!(self, read_short_block_type(rest), ty => Operator::Block { ty }),
+                0x03 =>
+                    answer_made!(self, read_short_block_type(rest), ty => Operator::Loop { ty }),
+                0x04 => answer_made!(self, read_short_block_type(rest), ty => Operator::If { ty }),
+                0x05 => answer!(self, Operator::Else, rest),
+                0x0b => answer!(self, Operator::End, rest),
+                0x0f => answer!(self, Operator::Return, rest),
+                0x1a => answer!(self, Operator::Drop, rest),
+                0x1b => answer!(self, Operator::Select, rest),
+                0x28..=0x35 => answer_made!(
+                    self, read_short_memarg(rest),
+                    memarg => Operator::Load { kind: load_kind(byte), memarg }
+                ),
+                0x36..=0x3e => answer_made!(
+                    self, read_short_memarg(rest),
+                    memarg => Operator::Store { kind: store_kind(byte), memarg }
+                ),
+                0x41 => answer_made!(
+                    self, read_short_signed(rest),
+                    value => Operator::I32Const { value: value as i32 }
+                ),
+                0x42 => answer_made!(
+                    self, read_short_signed(rest),
+                    value => Operator::I64Const { value }
+                ),
+                0x45..=0xc4 => answer!(self, numeric(byte), rest),
                 _ => {
-                    if let Some((number, rest)) = read_short_number(rest) {
-                        index_rows!(take_short, self, byte number rest)
+                    if let Some((number, rest)) = read_short_unsigned(rest) {
+                        index_rows!(answer_index, self, byte number rest)
                     }
                 }
             }
         }
-        self.read_at_length()
+        // Taken apart, it gets a place of its own in memory, and the answers above are built in
+        // registers.
+        match self.read_at_length() {
+            Ok(operator) => Ok(operator),
+            Err(error) => Err(error),
+        }
     }
 }

@@ -1,6 +1,6 @@
 //! Reading types (WebAssembly core specification 3.0, binary format, types).
 
-ghost use Rattle.std.specs.Prelude.{◌≡◌, ◌||◌, ◌^◌, ◌<ℤ◌, pos};
+ghost use Rattle.std.specs.Prelude.{◌≡◌, ◌||◌, ◌^◌, ◌<ℤ◌, pos, IfSome, Ok};
 ghost use Rattle.walrus_ir.specs.Results.{Gives};
 ghost use Rattle.wasm_ops.specs.Immediates.{selected};
 ghost use Rattle.wasm_ops.specs.Types.{value_at, type_index as type_index_of, starts_value_type as is_value_byte, value_type, block_type};
@@ -10,6 +10,7 @@ use crate::number::{read_signed, read_u32};
 use crate::types::{BlockType, RawValType};
 
 /// The number or vector type of a byte.
+#[inline(always)]
 #[tactic(auto, unfolding(crate::specs::Types::value_at))]
 fn value_of(byte: u8) -> Option<RawValType>
     ensures { result ≡ value_at byte }
@@ -25,6 +26,7 @@ fn value_of(byte: u8) -> Option<RawValType>
 }
 
 /// Whether a value type begins with the byte.
+#[inline(always)]
 #[tactic(auto, unfolding(crate::specs::Types::nullable_at))]
 fn starts_value_type(byte: u8) -> bool
     ensures { result ≡ is_value_byte byte }
@@ -33,6 +35,7 @@ fn starts_value_type(byte: u8) -> bool
 }
 
 /// A value type at the front, and what follows it.
+#[inline(always)]
 #[tactic(auto, unfolding(crate::specs::Types::nullable_at))]
 pub(crate) fn read_value_type(bytes: &[u8]) -> Result<(RawValType, &[u8]), ReadFault>
     ensures { Gives (λ x. (x.0, x.1.now)) result (value_type bytes.now) }
@@ -73,6 +76,26 @@ pub(crate) fn read_block_type(bytes: &[u8]) -> Result<(BlockType, &[u8]), ReadFa
             } else {
                 let (value, rest) = read_signed(33, bytes)?;
                 Ok((BlockType::FuncType(type_index(value)?), rest))
+            }
+        }
+    }
+}
+
+/// A block type of one byte at the front, and what follows it, where one stands there.
+#[inline(always)]
+pub(crate) fn read_short_block_type(bytes: &[u8]) -> Option<(BlockType, &[u8])>
+    ensures { IfSome result (λ x. block_type bytes.now ≡ Ok (x.0, x.1.now)) }
+{
+    match bytes {
+        [] => None,
+        [0x40, rest @ ..] => Some((BlockType::Empty, rest)),
+        [byte, ..] => {
+            if !starts_value_type(*byte) {
+                return None;
+            }
+            match read_value_type(bytes) {
+                Ok((ty, rest)) => Some((BlockType::Value(ty), rest)),
+                Err(_) => None,
             }
         }
     }
