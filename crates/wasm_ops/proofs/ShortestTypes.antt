@@ -136,12 +136,12 @@ abbrev reference_to : Bool → HeapType ℕ → ValType ℕ
 reference_to nullable heap = Ref (record { nullable = nullable; heap_type = heap })
 
 -- A nullable reference to an abstract heap type is spelt by one byte too.
-abstract_byte : (a : AbstractHeapType) → (value_at (heap_byte a) ≡ Some (nullable_to a)) × (is_listed (nullable_at (heap_byte a)) ≡ false)
+pub abstract_byte : (a : AbstractHeapType) → (value_at (heap_byte a) ≡ Some (nullable_to a)) × (is_listed (nullable_at (heap_byte a)) ≡ false)
 unfolding nullable_at value_at heap_at
 abstract_byte abstract.NoExn = (refl, refl)
 abstract_byte _ = (refl, refl)
 
-heap_below : (a : AbstractHeapType) → heap_byte a < 256
+pub heap_below : (a : AbstractHeapType) → heap_byte a < 256
 heap_below abstract.NoExn = omega arith
 heap_below _ = omega arith
 
