@@ -9,7 +9,7 @@ use Rattle.wasm_ops.specs.Numbers.{integer}
 use Rattle.wasm_ops.specs.Opcodes.{kinds_of_byte, opcode}
 use Rattle.wasm_ops.specs.Shortest.{short_unsigned, short_signed}
 use Rattle.wasm_ops.specs.Spelling.{read_operation}
-use Rattle.wasm_ops.specs.Types.{value_at, nullable_at}
+use Rattle.wasm_ops.specs.Types.{value_at, nullable_at, heap_at}
 use Rattle.wasm_body.specs.declared.error.EmitError.{EmitError}
 use Rattle.wasm_body.specs.declared.error.EmitError.TheVariants.{Index, UnnumberedLocal}
 use Rattle.wasm_body.specs.declared.error.IndexError.TheVariants.{Unnumbered}
@@ -21,7 +21,7 @@ use Rattle.wasm_body.specs.Parsing.Accepted.{Setting}
 use Rattle.wasm_body.specs.Parsing.Lists.{parsed}
 use Rattle.wasm_body.specs.NormalForm.{typing_of, normal_form, named_body}
 use Rattle.wasm_body.specs.Bytes.{Numbers, tree_bytes}
-use Rattle.wasm_body.specs.ReadBack.{IsUndone, IsInverse, GivesNoReference}
+use Rattle.wasm_body.specs.ReadBack.{IsUndone, IsInverse}
 use Rattle.wasm_body.proofs.Examples.Modules.{nothing, environment, demo, demo_numbers}
 
 abbrev anything : Environment → Setting (Unit {0})
@@ -56,7 +56,7 @@ shortest = refl
 
 -- 41 01 02 03 1a 0b 0b: the pick
 picked : IsRewrittenAs (0x41 ∷ 0x01 ∷ 0x02 ∷ 0x03 ∷ 0x1a ∷ 0x0b ∷ 0x0b ∷ []) (0x41 ∷ 0x01 ∷ 0x02 ∷ 0x01 ∷ 0x1a ∷ 0x0b ∷ 0x0b ∷ [])
-unfolding read_operation opcode kinds_of_byte integer value_at nullable_at short_signed
+unfolding read_operation opcode kinds_of_byte integer value_at nullable_at heap_at short_signed
 picked = refl
 
 -- 02 40 0c 00 41 07 1a 0b 41 05 1a 0b
@@ -94,17 +94,6 @@ is_undone _ id n e = absurd (cc e)
 
 inverse : IsInverse swapped back
 inverse = record { indices = is_undone; locals = λ id n e. absurd (cc e) }
-
--- no type of the module takes nothing and gives one reference
-nothing_given : (v : ValType ℕ) → Some nothing ≡ Some (signature [] (v ∷ [])) → ⊥
-nothing_given v e =
-    let same : nothing ≡ signature [] (v ∷ []) = cc e in
-    let results : [] ≡ v ∷ [] = ap (λ (s : Signature). s.results) same in cc results
-
-no_reference : GivesNoReference back.types
-no_reference zero v e = absurd (nothing_given v e)
-no_reference (suc zero) v e = absurd (nothing_given v e)
-no_reference (suc (suc id)) v e = absurd (cc e)
 
 -- 23 00 24 01 0b is written as 23 01 24 00 0b, and that, read by them, as it stands
 exchanged : rewriting with_globals swapped (0x23 ∷ 0x00 ∷ 0x24 ∷ 0x01 ∷ 0x0b ∷ []) ≡ Some (Ok (0x23 ∷ 0x01 ∷ 0x24 ∷ 0x00 ∷ 0x0b ∷ []))

@@ -14,11 +14,12 @@ use Rattle.wasm_ops.specs.Numbers.{IsU32, IsU64, IsS33}
 use Rattle.wasm_ops.specs.Types.{is_listed, heap_at, IsHeapType, value_at, nullable_at, IsValueType, starts_value_type, IsBlockType}
 use Rattle.wasm_ops.specs.Immediates.{cast_flags, IsAccess, IsTable, IsClause, AreClauses, IsCast, IsSelected}
 use Rattle.wasm_ops.specs.Operations.{Access, CatchClause}
-use Rattle.wasm_ops.specs.Shortest.{short_unsigned, short_number, short_integer, heap_byte}
+use Rattle.wasm_ops.specs.Shortest.{short_unsigned, short_number, short_integer, short_heap, short_value}
 use Rattle.wasm_ops.proofs.ShortestNumbers.{unsigned_spelt, signed_spelt}
 use Rattle.wasm_ops.proofs.ShortestTypes.{index_starts, heap_between, value_between, empty_between, as_block_value}
 use Rattle.wasm_ops.proofs.ShortestImmediates.{indexed_access}
-use Rattle.wasm_body.specs.ReadBack.{IsCarriedValue}
+use Rattle.wasm_ops.specs.Fitting.{FitsHeap, FitsValue, FitsTag}
+use Rattle.wasm_ops.proofs.Written.{heap_spelt as short_heap_spelt, value_spelt as short_value_spelt}
 
 -- it has a spelling
 abbrev pub IsSpellable : {V : Type 0} → Spelling V → V → Type 0
@@ -38,42 +39,16 @@ many_spelt One (v ∷ vs) h = let others = many_spelt One vs h.1 in (h.0.0 ++ ot
 
 -- ---- types
 
-abstract_spelt : (a : AbstractHeapType) → IsHeapType (Abstract a) (heap_byte a ∷ [])
-unfolding heap_at
-abstract_spelt abstract.NoExn = inl (refl, (0x74, refl, (omega arith, refl)))
-abstract_spelt abstract.NoFunc = inl (refl, (0x73, refl, (omega arith, refl)))
-abstract_spelt abstract.NoExtern = inl (refl, (0x72, refl, (omega arith, refl)))
-abstract_spelt abstract.None = inl (refl, (0x71, refl, (omega arith, refl)))
-abstract_spelt abstract.Func = inl (refl, (0x70, refl, (omega arith, refl)))
-abstract_spelt abstract.Extern = inl (refl, (0x6f, refl, (omega arith, refl)))
-abstract_spelt abstract.Any = inl (refl, (0x6e, refl, (omega arith, refl)))
-abstract_spelt abstract.Eq = inl (refl, (0x6d, refl, (omega arith, refl)))
-abstract_spelt abstract.I31 = inl (refl, (0x6c, refl, (omega arith, refl)))
-abstract_spelt abstract.Struct = inl (refl, (0x6b, refl, (omega arith, refl)))
-abstract_spelt abstract.Array = inl (refl, (0x6a, refl, (omega arith, refl)))
-abstract_spelt abstract.Exn = inl (refl, (0x69, refl, (omega arith, refl)))
-
-abbrev pub FitsHeap : HeapType ℕ → Type 0
-FitsHeap (Abstract a) = Unit {0}
-FitsHeap (Concrete n) = n < 2 ^ 32
-
 pub heap_spelt : (h : HeapType ℕ) → FitsHeap h → IsSpellable IsHeapType h
-heap_spelt (Abstract a) h = (heap_byte a ∷ [], abstract_spelt a)
-heap_spelt (Concrete n) h = (short_integer (pos n), inr (index_starts (λ b. is_listed (heap_at b)) heap_between n, (pos n, refl, index_spelt n h)))
+heap_spelt h fits = (short_heap h, short_heap_spelt h fits)
 
-pub value_spelt : (v : ValType ℕ) → IsCarriedValue v → IsSpellable IsValueType v
-unfolding value_at nullable_at
-value_spelt I32 h = (0x7f ∷ [], inr (refl, (0x7f, refl, (omega arith, refl))))
-value_spelt I64 h = (0x7e ∷ [], inr (refl, (0x7e, refl, (omega arith, refl))))
-value_spelt F32 h = (0x7d ∷ [], inr (refl, (0x7d, refl, (omega arith, refl))))
-value_spelt F64 h = (0x7c ∷ [], inr (refl, (0x7c, refl, (omega arith, refl))))
-value_spelt V128 h = (0x7b ∷ [], inr (refl, (0x7b, refl, (omega arith, refl))))
-value_spelt (Ref r) h = absurd h
+pub value_spelt : (v : ValType ℕ) → FitsValue v → IsSpellable IsValueType v
+value_spelt v fits = (short_value v, short_value_spelt v fits)
 
 pub empty_block_spelt : IsSpellable IsBlockType Empty
 empty_block_spelt = (0x40 ∷ [], inl (refl, (0x40, refl, (omega arith, refl))))
 
-pub value_block_spelt : (v : ValType ℕ) → IsCarriedValue v → IsSpellable IsBlockType (Value v)
+pub value_block_spelt : (v : ValType ℕ) → FitsValue v → IsSpellable IsBlockType (Value v)
 value_block_spelt v h = let s = value_spelt v h in (s.0, as_block_value v s.0 s.1)
 
 pub index_block_spelt : (n : ℕ) → n < 2 ^ 32 → IsSpellable IsBlockType (FuncType n)
@@ -94,10 +69,6 @@ table_spelt ts d count targets default =
     let many = many_spelt IsU32 ts targets in
     let last = u32_spelt d default in
     (c.0 ++ (many.0 ++ last.0), ((length ts, (ts, d)), refl, (c.0, many.0 ++ last.0, refl, c.1, (many.0, last.0, refl, many.1, last.1))))
-
-abbrev pub FitsTag : Option ℕ → Type 0
-FitsTag None = Unit {0}
-FitsTag (Some n) = n < 2 ^ 32
 
 pub clause_spelt : (by_reference : Bool) (tag : Option ℕ) (l : ℕ) → FitsTag tag → l < 2 ^ 32 → IsSpellable IsClause (record { by_reference = by_reference; tag = tag; label = l })
 clause_spelt false (Some n) l t h =
@@ -137,6 +108,6 @@ module _ (l : ℕ) (s g : HeapType ℕ) (h : l < 2 ^ 32) (p : FitsHeap s) (q : F
   cast_spelt false true = with_byte 2 false true refl (omega arith)
   cast_spelt true true = with_byte 3 true true refl (omega arith)
 
-pub selected_spelt : (v : ValType ℕ) → IsCarriedValue v → IsSpellable IsSelected v
+pub selected_spelt : (v : ValType ℕ) → FitsValue v → IsSpellable IsSelected v
 unfolding short_unsigned
 selected_spelt v h = let s = value_spelt v h in let one = u32_spelt 1 (omega arith) in (one.0 ++ s.0, ((1, v), refl, (one.0, s.0, refl, (1, refl, one.1), s.1)))
