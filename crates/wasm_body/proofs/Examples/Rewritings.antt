@@ -7,7 +7,9 @@ use Rattle.wasm_ops.specs.declared.types.Space.{Space}
 use Rattle.wasm_ops.specs.declared.types.Space.TheVariants.{Globals}
 use Rattle.wasm_ops.specs.Numbers.{integer}
 use Rattle.wasm_ops.specs.Opcodes.{kinds_of_byte, opcode}
-use Rattle.wasm_ops.specs.Shortest.{short_unsigned, short_signed}
+use Rattle.wasm_ops.specs.Immediates.{label_table}
+use Rattle.wasm_ops.specs.Reading.{many}
+use Rattle.wasm_ops.specs.Shortest.{short_unsigned, short_signed, short_table}
 use Rattle.wasm_ops.specs.Spelling.{read_operation}
 use Rattle.wasm_ops.specs.Types.{value_at, nullable_at, heap_at}
 use Rattle.wasm_body.specs.declared.error.EmitError.{EmitError}
@@ -64,6 +66,39 @@ behind_dead_block : IsRewrittenAs (0x02 ∷ 0x40 ∷ 0x0c ∷ 0x00 ∷ 0x41 ∷ 
     (0x02 ∷ 0x40 ∷ 0x0c ∷ 0x00 ∷ 0x0b ∷ 0x41 ∷ 0x05 ∷ 0x1a ∷ 0x0b ∷ [])
 unfolding read_operation opcode kinds_of_byte integer short_unsigned short_signed
 behind_dead_block = refl
+
+-- 41 01 04 40 0b 0b: an alternative is added
+added_alternative : IsRewrittenAs (0x41 ∷ 0x01 ∷ 0x04 ∷ 0x40 ∷ 0x0b ∷ 0x0b ∷ []) (0x41 ∷ 0x01 ∷ 0x04 ∷ 0x40 ∷ 0x05 ∷ 0x0b ∷ 0x0b ∷ [])
+unfolding read_operation opcode kinds_of_byte integer short_signed
+added_alternative = refl
+
+-- 03 40 41 01 0d 80 00 0b 0b
+loop_with_branch : IsRewrittenAs (0x03 ∷ 0x40 ∷ 0x41 ∷ 0x01 ∷ 0x0d ∷ 0x80 ∷ 0x00 ∷ 0x0b ∷ 0x0b ∷ []) (0x03 ∷ 0x40 ∷ 0x41 ∷ 0x01 ∷ 0x0d ∷ 0x00 ∷ 0x0b ∷ 0x0b ∷ [])
+unfolding read_operation opcode kinds_of_byte integer short_unsigned short_signed
+loop_with_branch = refl
+
+-- 41 00 0e 02 00 80 00 00 01 0b: what follows the table is dropped
+table_of_labels : IsRewrittenAs (0x41 ∷ 0x00 ∷ 0x0e ∷ 0x02 ∷ 0x00 ∷ 0x80 ∷ 0x00 ∷ 0x00 ∷ 0x01 ∷ 0x0b ∷ []) (0x41 ∷ 0x00 ∷ 0x0e ∷ 0x02 ∷ 0x00 ∷ 0x00 ∷ 0x00 ∷ 0x0b ∷ [])
+unfolding read_operation opcode kinds_of_byte integer label_table many short_table short_unsigned short_signed
+table_of_labels = refl
+
+-- 10 01 11 03 00 0b: the type, then the table
+calls : IsRewrittenAs (0x10 ∷ 0x01 ∷ 0x11 ∷ 0x03 ∷ 0x00 ∷ 0x0b ∷ []) (0x10 ∷ 0x01 ∷ 0x11 ∷ 0x03 ∷ 0x00 ∷ 0x0b ∷ [])
+unfolding read_operation opcode kinds_of_byte integer short_unsigned
+calls = refl
+
+-- 02 63 70 00 0b 1a 0b, 02 63 03 00 0b 1a 0b and 02 64 6f 00 0b 1a 0b: a nullable reference to an abstract heap type is one byte
+short_reference : IsRewrittenAs (0x02 ∷ 0x63 ∷ 0x70 ∷ 0x00 ∷ 0x0b ∷ 0x1a ∷ 0x0b ∷ []) (0x02 ∷ 0x70 ∷ 0x00 ∷ 0x0b ∷ 0x1a ∷ 0x0b ∷ [])
+unfolding read_operation opcode kinds_of_byte integer value_at nullable_at heap_at
+short_reference = refl
+
+reference_to_type : IsRewrittenAs (0x02 ∷ 0x63 ∷ 0x03 ∷ 0x00 ∷ 0x0b ∷ 0x1a ∷ 0x0b ∷ []) (0x02 ∷ 0x63 ∷ 0x03 ∷ 0x00 ∷ 0x0b ∷ 0x1a ∷ 0x0b ∷ [])
+unfolding read_operation opcode kinds_of_byte integer value_at nullable_at heap_at short_signed
+reference_to_type = refl
+
+reference_not_null : IsRewrittenAs (0x02 ∷ 0x64 ∷ 0x6f ∷ 0x00 ∷ 0x0b ∷ 0x1a ∷ 0x0b ∷ []) (0x02 ∷ 0x64 ∷ 0x6f ∷ 0x00 ∷ 0x0b ∷ 0x1a ∷ 0x0b ∷ [])
+unfolding read_operation opcode kinds_of_byte integer value_at nullable_at heap_at
+reference_not_null = refl
 
 -- ---- reading back: two globals that change places
 
