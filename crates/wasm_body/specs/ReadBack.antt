@@ -1,5 +1,5 @@
 -- Reading back: the bytes of a normal form are accepted again, as a body whose normal form is the same tree.
-use Rattle.std.specs.Prelude.{◌≡◌, ℕ, List, [], ◌∷◌, map, Option, Some, None, IsOk, Ok, true}
+use Rattle.std.specs.Prelude.{◌≡◌, ℕ, List, [], map, Option, Some, None, IsOk, Ok, true}
 use Rattle.std.specs.List.{AllByRecursion}
 use Rattle.walrus_ir.specs.declared.val_type.HeapType.{HeapType}
 use Rattle.walrus_ir.specs.declared.val_type.HeapType.TheVariants.{Abstract, Concrete}
@@ -7,7 +7,6 @@ use Rattle.walrus_ir.specs.declared.val_type.ValType.{ValType}
 use Rattle.walrus_ir.specs.declared.val_type.ValType.TheVariants.{Ref}
 use Rattle.walrus_ir.specs.declared.val_type.InstrSeqType.{InstrSeqType}
 use Rattle.walrus_ir.specs.declared.val_type.InstrSeqType.TheVariants.{Simple, MultiValue}
-use Rattle.walrus_ir.specs.Types.{ModuleType, signature, signature_of}
 use Rattle.wasm_ops.specs.declared.types.Space.{Space}
 use Rattle.wasm_ops.specs.declared.types.Space.TheVariants.{Types, Memories, Tags}
 use Rattle.wasm_ops.specs.Operations.{CatchClause, Immediate, index, local, access, clauses, block, heap, value, cast, Operation}

@@ -1,8 +1,7 @@
 -- Bodies from bytes to bytes: parsed, and the bytes of their normal forms; and read back.
 use Rattle.std.specs.Prelude.{◌≡◌, ℕ, zero, suc, List, [], ◌∷◌, Option, Some, None, Result, Ok, Err, slice_get, refl}
-use Rattle.std.proofs.Common.{ap, subst}
-use Rattle.walrus_ir.specs.declared.val_type.ValType.{ValType}
-use Rattle.walrus_ir.specs.Types.{Signature, signature, Func, Entry}
+use Rattle.std.proofs.Common.{subst}
+use Rattle.walrus_ir.specs.Types.{Func, Entry}
 use Rattle.wasm_ops.specs.declared.types.Space.{Space}
 use Rattle.wasm_ops.specs.declared.types.Space.TheVariants.{Globals}
 use Rattle.wasm_ops.specs.Numbers.{integer}
@@ -24,7 +23,7 @@ use Rattle.wasm_body.specs.Parsing.Lists.{parsed}
 use Rattle.wasm_body.specs.NormalForm.{typing_of, normal_form, named_body}
 use Rattle.wasm_body.specs.Bytes.{Numbers, tree_bytes}
 use Rattle.wasm_body.specs.ReadBack.{IsUndone, IsInverse}
-use Rattle.wasm_body.proofs.Examples.Modules.{nothing, environment, demo, demo_numbers}
+use Rattle.wasm_body.proofs.Examples.Modules.{environment, demo, demo_numbers}
 
 abbrev anything : Environment → Setting (Unit {0})
 anything env = record { environment = env; start = 0; locations = None; check = λ v x. Ok tt; first = tt }

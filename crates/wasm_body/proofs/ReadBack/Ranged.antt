@@ -1,5 +1,5 @@
 -- What was spelt, once it is named, has a spelling again with numbers for its ids.
-use Rattle.std.proofs.Common.{◌≡◌, ℕ, ◌<◌, List, [], ◌∷◌, map, length, true, Option, Some, None, Result, Ok, refl, sym, ap, ◌∙◌, subst, inl, inr}
+use Rattle.std.proofs.Common.{◌≡◌, ℕ, ◌<◌, List, [], ◌∷◌, map, length, Option, Some, None, Result, Ok, refl, sym, ap, ◌∙◌, subst}
 use Rattle.std.specs.Prelude.{◌^◌, ◌++◌}
 use Rattle.std.specs.List.{AllByRecursion}
 use Rattle.walrus_ir.specs.declared.val_type.HeapType.{HeapType}
@@ -11,7 +11,6 @@ use Rattle.walrus_ir.specs.declared.val_type.InstrSeqType.TheVariants.{Simple, M
 use Rattle.walrus_ir.specs.Types.{Signature}
 use Rattle.wasm_ops.specs.declared.types.BlockType.{BlockType}
 use Rattle.wasm_ops.specs.declared.types.BlockType.TheVariants.{Empty, Value, FuncType}
-use Rattle.wasm_ops.specs.declared.types.Space.{Space}
 use Rattle.wasm_ops.specs.declared.types.Space.TheVariants.{Types, Memories, Tags}
 use Rattle.wasm_ops.specs.Reading.{Many}
 use Rattle.wasm_ops.specs.Numbers.{IsU32, IsU64, IsS32, IsS64, IsByte, AreBits}

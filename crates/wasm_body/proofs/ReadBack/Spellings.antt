@@ -2,21 +2,17 @@
 use Rattle.std.proofs.Common.{◌≡◌, ℕ, ◌+◌, ◌<◌, ◌++◌, List, [], ◌∷◌, length, Bool, true, false, eqb, Option, Some, None, Ok, refl, arith, pos, inl, inr}
 use Rattle.std.specs.Prelude.{◌^◌}
 use Rattle.std.specs.List.{AllByRecursion}
-use Rattle.walrus_ir.specs.declared.val_type.AbstractHeapType.{AbstractHeapType}
-use Rattle.walrus_ir.specs.declared.val_type.AbstractHeapType.TheVariants as abstract
 use Rattle.walrus_ir.specs.declared.val_type.HeapType.{HeapType}
-use Rattle.walrus_ir.specs.declared.val_type.HeapType.TheVariants.{Abstract, Concrete}
 use Rattle.walrus_ir.specs.declared.val_type.ValType.{ValType}
-use Rattle.walrus_ir.specs.declared.val_type.ValType.TheVariants.{I32, I64, F32, F64, V128, Ref}
 use Rattle.wasm_ops.specs.declared.types.BlockType.TheVariants.{Empty, Value, FuncType}
 use Rattle.wasm_ops.specs.Reading.{Spelling, Many}
 use Rattle.wasm_ops.specs.Numbers.{IsU32, IsU64, IsS33}
-use Rattle.wasm_ops.specs.Types.{is_listed, heap_at, IsHeapType, value_at, nullable_at, IsValueType, starts_value_type, IsBlockType}
+use Rattle.wasm_ops.specs.Types.{IsHeapType, IsValueType, starts_value_type, IsBlockType}
 use Rattle.wasm_ops.specs.Immediates.{cast_flags, IsAccess, IsTable, IsClause, AreClauses, IsCast, IsSelected}
 use Rattle.wasm_ops.specs.Operations.{Access, CatchClause}
 use Rattle.wasm_ops.specs.Shortest.{short_unsigned, short_number, short_integer, short_heap, short_value}
 use Rattle.wasm_ops.proofs.ShortestNumbers.{unsigned_spelt, signed_spelt}
-use Rattle.wasm_ops.proofs.ShortestTypes.{index_starts, heap_between, value_between, empty_between, as_block_value}
+use Rattle.wasm_ops.proofs.ShortestTypes.{index_starts, value_between, empty_between, as_block_value}
 use Rattle.wasm_ops.proofs.ShortestImmediates.{indexed_access}
 use Rattle.wasm_ops.specs.Fitting.{FitsHeap, FitsValue, FitsTag}
 use Rattle.wasm_ops.proofs.Written.{heap_spelt as short_heap_spelt, value_spelt as short_value_spelt}

@@ -1,7 +1,5 @@
 -- Maps that give each numbered id at its number undo the numbers of every lawful body's normal form.
-use Rattle.std.proofs.Common.{◌≡◌, ℕ, List, [], ◌∷◌, map, false, Option, Some, None, Ok, refl, sym, ap, ◌∙◌, subst}
-use Rattle.std.specs.Prelude.{unwrap_or}
-use Rattle.std.specs.Option.{option_map}
+use Rattle.std.proofs.Common.{◌≡◌, ℕ, List, [], ◌∷◌, map, Option, Some, None, Ok, refl, sym, ◌∙◌, subst}
 use Rattle.std.specs.List.{AllByRecursion}
 use Rattle.walrus_ir.specs.declared.val_type.HeapType.{HeapType}
 use Rattle.walrus_ir.specs.declared.val_type.HeapType.TheVariants.{Abstract, Concrete}
@@ -9,36 +7,21 @@ use Rattle.walrus_ir.specs.declared.val_type.ValType.{ValType}
 use Rattle.walrus_ir.specs.declared.val_type.ValType.TheVariants.{Ref}
 use Rattle.walrus_ir.specs.declared.val_type.InstrSeqType.{InstrSeqType}
 use Rattle.walrus_ir.specs.declared.val_type.InstrSeqType.TheVariants.{Simple, MultiValue}
-use Rattle.walrus_ir.specs.Types.{Signature, signature, ModuleType, signature_of, find, pick}
-use Rattle.wasm_ops.specs.declared.types.BlockType.{BlockType}
-use Rattle.wasm_ops.specs.declared.types.BlockType.TheVariants.{Empty, Value, FuncType}
+use Rattle.walrus_ir.specs.Types.{Signature}
 use Rattle.wasm_ops.specs.declared.types.Space.TheVariants.{Types, Memories, Tags}
-use Rattle.wasm_ops.specs.Operations.{CatchClause, Immediate, index, local, access, branch_table, clauses, block, heap, value, cast, Operation, RawImmediate}
-use Rattle.wasm_ops.specs.Types.{IsBlockType}
-use Rattle.wasm_ops.specs.Immediates.{SpellsImmediates}
-use Rattle.wasm_ops.proofs.ShortestTypes.{block_value_is}
-use Rattle.wasm_body.specs.declared.error.ParseError.TheVariants.{NotAFunctionType}
-use Rattle.walrus_ir.specs.Results.{◌>>=◌, each}
+use Rattle.wasm_ops.specs.Operations.{CatchClause, Immediate, index, local, access, clauses, block, heap, value, cast, Operation}
 use Rattle.wasm_body.specs.Control.{Control, Does, Opens, Else, Catch, CatchAll, End, Delegate, Marked, with_control}
 use Rattle.wasm_body.specs.SourceTree.{Body, body_text}
-use Rattle.wasm_body.specs.Frames.{Frame}
-use Rattle.wasm_body.specs.Translation.{Translation, translate_immediate, translate_immediates, translate_value, Located}
-use Rattle.wasm_body.specs.Naming.{Environment, Occurrence, naming, named_in, id_at, name_block, function_type, block_types, block_signature, first_signature}
-use Rattle.wasm_body.specs.Parsing.Accepted.{HasSpelling, mark, Lawful}
+use Rattle.wasm_body.specs.Translation.{Located}
+use Rattle.wasm_body.specs.Naming.{Environment, Occurrence}
+use Rattle.wasm_body.specs.Parsing.Accepted.{mark, Lawful}
 use Rattle.wasm_body.specs.NormalForm.{Typing, typing_of, construct_type, normal_form, name_at, named_body}
 use Rattle.wasm_body.specs.FlatText.{tree_text, with_ids}
 use Rattle.wasm_body.specs.Bytes.{Numbers}
 use Rattle.wasm_body.specs.ReadBack.{EachInHeap, EachInValue, EachInTag, EachIn, IsUndone, IsUndoneLocal, IsUndoneType, AreUndone, IsInverse, InverseUndoes}
 use Rattle.wasm_body.proofs.Structure.Along.{Each, AllMarked, Tells, each_of, all_of_each, each_reshown, weaker}
-use Rattle.wasm_body.proofs.Translation.Steps.{bound}
-use Rattle.walrus_ir.proofs.ResultLemmas.{some_or_ok}
-use Rattle.wasm_body.proofs.Bytes.BlockTypes.{is_block, block_kept}
-use Rattle.wasm_body.proofs.Parsing.NamingLemmas.{named_parts}
-use Rattle.wasm_body.proofs.ReadBack.FrameNames.{named_immediates}
-use Rattle.wasm_body.proofs.Bytes.LawfulTyped.{named_somewhere}
 use Rattle.wasm_body.proofs.NormalForm.Rewritten.{Named, end_at, rewritten, each_rewritten, rewritten_body}
 use Rattle.wasm_body.proofs.NormalForm.WrittenTexts.{type_at, with_type, ids_at, ids_text}
-use Rattle.wasm_body.proofs.ReadBack.Spellings.{IsSpellable}
 use Rattle.wasm_body.proofs.ReadBack.Ranged.{at_once}
 
 -- ---- ids
