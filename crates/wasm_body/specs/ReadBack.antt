@@ -104,7 +104,7 @@ ReadBack =
 -- Maps that undo all numbers undo those of the normal form of every lawful body.
 abbrev pub InverseUndoes : Type 0
 InverseUndoes =
-    (env : Environment) (xs : List Occurrence) (body : Body Occurrence) → AllByRecursion HasSpelling xs → Lawful env xs body →
+    (env : Environment) (xs : List Occurrence) (body : Body Occurrence) → Lawful env xs body →
     (to : Numbers) (again : Environment) → again.types ≡ env.types → again.tags ≡ env.tags → again.type ≡ env.type →
     IsInverse to again → Undoes to (body_tree env body) env again
 

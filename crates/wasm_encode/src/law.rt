@@ -1,7 +1,8 @@
 //! The law of what is written, the contract of a function that does nothing.
 
 ghost use Rattle.std.specs.List.{AllByRecursion};
-ghost use Rattle.wasm_ops.specs.Fitting.{FitsLabel, FitsClause, FitsValue, FitsBlock, AllFit, AreSpeakable, HasRow};
+ghost use Rattle.wasm_ops.specs.Fitting.{FitsLabel, FitsClause, FitsValue, FitsBlock};
+ghost use Rattle.wasm_ops.specs.Fitting.{AllFit, AreSpeakable, HasRow};
 ghost use Rattle.wasm_ops.specs.Meaning.{meaning};
 ghost use Rattle.wasm_ops.specs.Parts.{immediates_of};
 ghost use Rattle.wasm_ops.specs.Shortest.{short};

@@ -4,7 +4,9 @@ ghost use Rattle.std.specs.Prelude.{◌≡◌, ◌||◌, ◌^◌, ◌<ℤ◌, po
 ghost use Rattle.walrus_ir.specs.Results.{Gives};
 ghost use Rattle.walrus_ir.specs.declared.val_type.ValType.TheVariants.{Ref};
 ghost use Rattle.wasm_ops.specs.Immediates.{selected};
-ghost use Rattle.wasm_ops.specs.Types.{heap_at, value_at, nullable_at, heap_type, type_index as type_index_of, starts_value_type as is_value_byte, value_type, block_type};
+ghost use Rattle.wasm_ops.specs.Types.{heap_at, value_at, nullable_at};
+ghost use Rattle.wasm_ops.specs.Types.{heap_type, value_type, block_type};
+ghost use Rattle.wasm_ops.specs.Types.{type_index as type_index_of, starts_value_type as is_value_byte};
 
 use crate::fault::ReadFault;
 use crate::number::{read_signed, read_u32};

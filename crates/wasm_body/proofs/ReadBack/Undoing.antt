@@ -115,4 +115,4 @@ module _ (env : Environment) (xs : List Occurrence) (body : Body Occurrence) (la
       at_once (map (ids_at m) ms) (AllByRecursion (λ x. AreUndone to again x.op.immediates)) whole ys (sym text ∙ e)
 
 pub inverse_undoes : InverseUndoes
-inverse_undoes env xs body texts lawful to again types tags type inverse = record { types = types; tags = tags; type = type; ids = ids env xs body lawful to again inverse }
+inverse_undoes env xs body lawful to again types tags type inverse = record { types = types; tags = tags; type = type; ids = ids env xs body lawful to again inverse }
