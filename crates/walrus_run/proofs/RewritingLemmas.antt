@@ -14,7 +14,7 @@ use Rattle.walrus_ir.specs.Tree.{Sequences}
 use Rattle.walrus_ir.specs.Unfolding.{SequenceAt, LocatedInstr, AreSequences, are_sequences}
 use Rattle.walrus_ir.proofs.WalkLaws.{one_tree, tree_has_no_fault}
 use Rattle.wasm_ops.specs.Shortest.{short_unsigned}
-use Rattle.wasm_ops.proofs.ReadingBytes.{AreBytes, reading_agrees}
+use Rattle.wasm_ops.proofs.ReadingBytes.{reading_agrees}
 use Rattle.wasm_encode.specs.Declarations.{declarations}
 use Rattle.wasm_body.specs.declared.error.EmitError.{EmitError}
 use Rattle.wasm_body.specs.declared.error.EmitError.TheVariants.{Memory}

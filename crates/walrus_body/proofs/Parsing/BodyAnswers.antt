@@ -11,7 +11,7 @@ use Rattle.wasm_body.specs.SourceTree.{Body}
 use Rattle.wasm_body.specs.Naming.{Occurrence, entry_type_id}
 use Rattle.wasm_body.specs.Parsing.Accepted.{Accepted, FirstFault, of_entry}
 use Rattle.wasm_body.specs.Parsing.Lists.{failure, parsed_behind_entry, parsed}
-use Rattle.wasm_ops.proofs.ReadingBytes.{AreBytes}
+use Rattle.wasm_ops.specs.Laws.{AreBytes}
 use Rattle.wasm_body.proofs.Parsing.Answers.{Answers, answers, accepted_parsed, fault_parsed}
 use Rattle.wasm_ops.proofs.ReadingBytes.{reading_agrees}
 use Rattle.walrus_body.specs.declared.local_function.parse.ParsedOperators.{ParsedOperators}
