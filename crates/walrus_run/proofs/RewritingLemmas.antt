@@ -32,7 +32,7 @@ use Rattle.wasm_body.proofs.Bytes.NumberedBodies.{HasText, body_bytes_ok}
 use Rattle.walrus_body.specs.declared.indices_to_ids.IndicesToIds.{IndicesToIds}
 use Rattle.walrus_body.specs.LocalFunctions.{first_slot, HasEntry}
 use Rattle.walrus_body.specs.Parsing.Bodies.{ParseInput, input_of, IsFunction, AcceptsBody, RefusesBody}
-use Rattle.walrus_body.specs.TreeWriting.Carried.{AreCarried, IsCarried}
+use Rattle.walrus_body.specs.TreeWriting.Carrying.{AreCarried, IsCarried}
 use Rattle.walrus_body.specs.TreeWriting.Faults.{fault_of_walk}
 use Rattle.walrus_body.specs.TreeWriting.Trees.{AppendsBytes}
 use Rattle.walrus_run.specs.declared.error.RewriteError.{RewriteError}

@@ -8,7 +8,7 @@ ghost use Rattle.wasm_body.specs.Parsing.Accepted.{Accepted, FirstFault};
 ghost use Rattle.wasm_body.specs.FunctionTree.{FunctionTree};
 ghost use Rattle.wasm_body.specs.Bytes.{tree_bytes};
 ghost use Rattle.walrus_body.specs.Parsing.Bodies.{IsFunction};
-ghost use Rattle.walrus_body.specs.TreeWriting.Carried.{AreCarried};
+ghost use Rattle.walrus_body.specs.TreeWriting.Carrying.{AreCarried};
 ghost use Rattle.walrus_run.specs.declared.error.RewriteError.TheVariants.{Parse};
 ghost use Rattle.walrus_run.specs.Demo.{demo, demo_module, demo_indices, demo_numbers};
 ghost use Rattle.walrus_run.specs.Numbers.{numbers_of};
@@ -17,9 +17,7 @@ ghost use Rattle.walrus_run.specs.Rewriting.{IsNormalBytes, IsRewritten, WantsMe
 use crate::demo;
 use crate::error::RewriteError;
 use std::alloc::Global;
-use walrus_body::{
-    AcceptAll, EmitError, FunctionBody, IdsToIndices, IndicesToIds, LocalFunction,
-};
+use walrus_body::{AcceptAll, EmitError, FunctionBody, IdsToIndices, IndicesToIds, LocalFunction};
 use walrus_ir::{FunctionId, IdHashMap, InstrLocId, Module, TypeId};
 use wasm_encode::FunctionEncoder;
 
