@@ -10,7 +10,7 @@ use crate::access_reader::{load_kind, read_short_memarg, store_kind};
 use crate::byte_reader::read_behind_byte;
 use crate::fault::{ReadError, ReadFault};
 use crate::index_rows;
-use crate::number::{read_short_signed, read_short_unsigned, read_u32};
+use crate::number::{read_short_s32, read_short_s64, read_short_unsigned, read_u32};
 use crate::numeric_reader::numeric;
 use crate::operator::Operator;
 use crate::prefix_reader::read_behind_fc;
@@ -222,14 +222,10 @@ impl<'a> Reader<'a> {
                     self, read_short_memarg(rest),
                     memarg => Operator::Store { kind: store_kind(byte), memarg }
                 ),
-                0x41 => answer_made!(
-                    self, read_short_signed(rest),
-                    value => Operator::I32Const { value: value as i32 }
-                ),
-                0x42 => answer_made!(
-                    self, read_short_signed(rest),
-                    value => Operator::I64Const { value }
-                ),
+                0x41 =>
+                    answer_made!(self, read_short_s32(rest), value => Operator::I32Const { value }),
+                0x42 =>
+                    answer_made!(self, read_short_s64(rest), value => Operator::I64Const { value }),
                 0x45..=0xc4 => answer!(self, numeric(byte), rest),
                 _ => {
                     if let Some((number, rest)) = read_short_unsigned(rest) {
