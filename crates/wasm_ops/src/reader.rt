@@ -14,7 +14,7 @@ use crate::number::{read_short_s32, read_short_s64, read_short_unsigned, read_u3
 use crate::numeric_reader::numeric;
 use crate::operator::Operator;
 use crate::prefix_reader::read_behind_fc;
-use crate::type_reader::read_short_block_type;
+use crate::type_reader::read_empty_block_type;
 use std::marker::Model;
 
 /// The operator at the front, and what follows it.
@@ -209,7 +209,7 @@ impl<'a> Reader<'a> {
                 0x00 => answer!(self, Operator::Unreachable, rest),
                 0x01 => answer!(self, Operator::Nop, rest),
                 0x02 =>
-                    answer_made!(self, read_short_block_type(rest), ty => Operator::Block { ty }),
+                    answer_made!(self, read_empty_block_type(rest), ty => Operator::Block { ty }),
                 0x0b => answer!(self, Operator::End, rest),
                 0x0f => answer!(self, Operator::Return, rest),
                 0x1a => answer!(self, Operator::Drop, rest),
