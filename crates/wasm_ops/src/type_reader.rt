@@ -10,7 +10,6 @@ use crate::number::{read_signed, read_u32};
 use crate::types::{BlockType, RawValType};
 
 /// The number or vector type of a byte.
-#[inline(always)]
 #[tactic(auto, unfolding(crate::specs::Types::value_at))]
 fn value_of(byte: u8) -> Option<RawValType>
     ensures { result ≡ value_at byte }
@@ -26,7 +25,6 @@ fn value_of(byte: u8) -> Option<RawValType>
 }
 
 /// Whether a value type begins with the byte.
-#[inline(always)]
 #[tactic(auto, unfolding(crate::specs::Types::nullable_at))]
 fn starts_value_type(byte: u8) -> bool
     ensures { result ≡ is_value_byte byte }
@@ -35,7 +33,6 @@ fn starts_value_type(byte: u8) -> bool
 }
 
 /// A value type at the front, and what follows it.
-#[inline(always)]
 #[tactic(auto, unfolding(crate::specs::Types::nullable_at))]
 pub(crate) fn read_value_type(bytes: &[u8]) -> Result<(RawValType, &[u8]), ReadFault>
     ensures { Gives (λ x. (x.0, x.1.now)) result (value_type bytes.now) }
@@ -81,23 +78,14 @@ pub(crate) fn read_block_type(bytes: &[u8]) -> Result<(BlockType, &[u8]), ReadFa
     }
 }
 
-/// A block type of one byte at the front, and what follows it, where one stands there.
+/// The block type without a value at the front, and what follows it, where it stands there.
 #[inline(always)]
-pub(crate) fn read_short_block_type(bytes: &[u8]) -> Option<(BlockType, &[u8])>
+pub(crate) fn read_empty_block_type(bytes: &[u8]) -> Option<(BlockType, &[u8])>
     ensures { IfSome result (λ x. block_type bytes.now ≡ Ok (x.0, x.1.now)) }
 {
     match bytes {
-        [] => None,
         [0x40, rest @ ..] => Some((BlockType::Empty, rest)),
-        [byte, ..] => {
-            if !starts_value_type(*byte) {
-                return None;
-            }
-            match read_value_type(bytes) {
-                Ok((ty, rest)) => Some((BlockType::Value(ty), rest)),
-                Err(_) => None,
-            }
-        }
+        _ => None,
     }
 }
 
