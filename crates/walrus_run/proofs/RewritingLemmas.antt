@@ -7,8 +7,6 @@ use Rattle.std.proofs.lemmas.Option.{slice_get_within}
 use Rattle.std.proofs.Common.{inl, inr, refl, sym, ap, subst, ◌∙◌, arith}
 use Rattle.walrus_ir.specs.declared.module.Module.{Module}
 use Rattle.walrus_ir.specs.declared.seq.InstrSeq.{InstrSeq}
-use Rattle.walrus_ir.specs.declared.error.WalkError.{WalkError}
-use Rattle.walrus_ir.specs.Faults.{FirstWalkFault}
 use Rattle.walrus_ir.specs.Function.{Function}
 use Rattle.walrus_ir.specs.Tree.{Sequences}
 use Rattle.walrus_ir.specs.Unfolding.{SequenceAt, LocatedInstr, AreSequences, are_sequences}
@@ -29,15 +27,18 @@ use Rattle.wasm_body.specs.Parsing.Lists.{parsed}
 use Rattle.wasm_body.specs.Bytes.{Numbers, tree_bytes}
 use Rattle.wasm_body.proofs.Parsing.Answers.{accepted_parsed, fault_parsed}
 use Rattle.wasm_body.proofs.Bytes.NumberedBodies.{HasText, body_bytes_ok}
+use Rattle.walrus_body.specs.declared.ids_to_indices.IdsToIndices.{IdsToIndices}
 use Rattle.walrus_body.specs.declared.indices_to_ids.IndicesToIds.{IndicesToIds}
 use Rattle.walrus_body.specs.LocalFunctions.{first_slot, HasEntry}
 use Rattle.walrus_body.specs.Parsing.Bodies.{ParseInput, input_of, IsFunction, AcceptsBody, RefusesBody}
 use Rattle.walrus_body.specs.TreeWriting.Carrying.{AreCarried, IsCarried}
-use Rattle.walrus_body.specs.TreeWriting.Faults.{fault_of_walk}
+use Rattle.walrus_body.specs.TreeWriting.EmittedInstructions.{LentPairs, Left, Emits, IsUnemitted}
+use Rattle.walrus_body.specs.TreeWriting.Operators.{numbers_by}
 use Rattle.walrus_body.specs.TreeWriting.Trees.{AppendsBytes}
 use Rattle.walrus_run.specs.declared.error.RewriteError.{RewriteError}
 use Rattle.walrus_run.specs.declared.error.RewriteError.TheVariants.{Parse}
 use Rattle.walrus_run.specs.Demo.{demo_module, demo_indices, demo_environment, demo, demo_numbers}
+use Rattle.walrus_run.specs.Numbers.{numbers_of}
 use Rattle.walrus_run.specs.Rewriting.{IsNormalBytes, IsRewritten, WantsMemory, IsFaulty}
 use Rattle.walrus_run.proofs.CarriedTrees.{listed_texts, body_carried}
 use Rattle.walrus_run.proofs.DemoNumbers.{demo_has_numbers}
@@ -60,6 +61,19 @@ accepted_carried ops b a = body_carried demo_environment demo_numbers demo_has_n
 
 one_function : (b : List InstrSeq) (start : ℕ) (t u : FunctionTree) → HasTree b start t → HasTree b start u → t ≡ u
 one_function b start t u h k = sym h.is ∙ (ap tree_of (one_tree b start h.unfolded k.unfolded h.is_tree k.is_tree) ∙ k.is)
+
+not_ok : {A E : Type 0} (r : Result A E) (e : E) → IsOk r → r ≡ Err e → ⊥
+not_ok (Ok x) e h k = cc
+not_ok (Err g) e h k = cc h
+
+-- without locals
+pub numbers_alone : (m : IdsToIndices) (locals : List (ℕ × ℕ)) → locals ≡ [] → numbers_by m locals ≡ numbers_of m
+numbers_alone m locals none = ap (numbers_by m) none
+
+-- where no list of pairs is lent
+pub bytes_alone : {Z : Type 0} (f : Function) (to : Numbers) (old new : List ℕ) (exit : Left (LentPairs Z)) → Emits f to old new None exit → AppendsBytes f.sequences (first_slot f) to old new
+bytes_alone f to old new (inl none) x = x
+bytes_alone f to old new (inr left) x = absurd x
 
 module _ (f : Function) (t : FunctionTree) (has : IsFunction f t) where
   pub slot_is : first_slot f ≡ 0
@@ -92,18 +106,14 @@ module _ (f : Function) (t : FunctionTree) (has : IsFunction f t) where
         let same = one_function f.sequences (first_slot f) x.tree t x.has_tree from_slot in
         (x.bytes, ap (tree_bytes to) (sym same) ∙ x.bytes_are, x.appends ∙ ap (λ o. o ++ x.bytes) none ∙ no_declarations x.bytes)
 
-    not_both : {A E : Type 0} (r : Result A E) (e : E) → IsOk r → r ≡ Err e → ⊥
-    not_both (Ok x) e h k = cc
-    not_both (Err g) e h k = cc h
-
     -- a tree with bytes is refused for want of memory alone
     pub wants_memory : IsOk (tree_bytes to t) → (e : EmitError) →
-        (e ≡ Memory) ⊎ (((walk : WalkError) × FirstWalkFault f.sequences (first_slot f) walk × (e ≡ fault_of_walk walk)) ⊎ ((u : FunctionTree) × HasTree f.sequences (first_slot f) u × (tree_bytes to u ≡ Err e))) → e ≡ Memory
+        IsUnemitted f to e → e ≡ Memory
     wants_memory ok e (inl memory) = memory
     wants_memory ok e (inr (inl walk)) = absurd (tree_has_no_fault f.sequences (first_slot f) from_slot.unfolded walk.0 from_slot.is_tree walk.1)
     wants_memory ok e (inr (inr fault)) =
         let same = one_function f.sequences (first_slot f) fault.0 t fault.1 from_slot in
-        absurd (not_both (tree_bytes to t) e ok (ap (tree_bytes to) (sym same) ∙ fault.2))
+        absurd (not_ok (tree_bytes to t) e ok (ap (tree_bytes to) (sym same) ∙ fault.2))
 
 -- ---- over the demo module
 
