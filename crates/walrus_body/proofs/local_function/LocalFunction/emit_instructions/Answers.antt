@@ -1,4 +1,4 @@
-use Rattle.std.proofs.Common.{sym, ap, ◌∙◌, ◌≡◌, Option, Some}
+use Rattle.std.proofs.Common.{sym, ap, ◌∙◌, ◌≡◌}
 use Rattle.walrus_body.specs.FunctionParts.{FunctionParts}
 use Rattle.walrus_body.specs.LocalFunctions.{first_slot}
 use Rattle.walrus_body.proofs.local_function.LocalFunction.emit_instructions.Goals as goal
