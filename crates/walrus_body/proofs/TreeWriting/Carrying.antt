@@ -2,6 +2,7 @@
 use Rattle.std.specs.Prelude.{◌≡◌, ◌++◌, ℕ, List, [], ◌∷◌, map, Bool, true, false, Option, Some, None, IsSome, if◌then◌else◌, slice_get, Result, Ok, Err}
 use Rattle.std.proofs.Common.{refl, sym, ap, subst, ◌∙◌}
 use Rattle.walrus_ir.specs.declared.seq.InstrSeq.{InstrSeq}
+use Rattle.walrus_ir.specs.declared.val_type.InstrSeqType.{InstrSeqType}
 use Rattle.walrus_ir.specs.declared.instr.Instr.{Instr}
 use Rattle.walrus_ir.specs.declared.instr.Instr.TheVariants as instr
 use Rattle.walrus_ir.specs.Tree.{Items, no_items, item, Sequences, no_sequences, sequence, alone}
@@ -48,7 +49,7 @@ IsEmitterCarried s = AreScopesCarried s.coming × AreScopesCarried s.open_scopes
 
 never_none : {A : Type 0} (o : Option A) → IsSome o → o ≡ None → ⊥
 never_none (Some x) is none = absurd cc
-never_none None is none = is
+never_none None is none = absurd cc
 
 -- ---- the events of a carried tree
 
@@ -68,7 +69,7 @@ mutual
       → AreEventsCarried (item_events is es)
   items_carried around no_items es c h = h
   items_carried around (item x inside rest) es c h =
-      (c.0, names_carried x.0 (sequence_events inside (item_events rest es)) (sequences_carried around inside (item_events rest es) c.1.0 (items_carried around rest es c.1.1 h)))
+      (c.0, names_carried x.0 (sequence_events inside (item_events rest es)) (sequences_carried around inside (item_events rest es) c.1 (items_carried around rest es c.2 h)))
 
   sequences_carried : (around : List ℕ) (ss : Sequences SequenceAt LocatedInstr) (es : List WalkEvent) → AreCarriedIn (sequences_in around ss) → AreEventsCarried es
       → AreEventsCarried (sequence_events ss es)
@@ -80,11 +81,11 @@ mutual
 
 end_carried : IsSome (kinds_of (let o : TextOperation = end_operation in o.opcode))
 unfolding kinds_of_byte
-end_carried = tt
+end_carried = refl
 
 else_carried : IsSome (kinds_of (let o : TextOperation = else_operation in o.opcode))
 unfolding kinds_of_byte
-else_carried = tt
+else_carried = refl
 
 -- a legacy `try` isn't carried itself
 closers_carried : (i : Instr) → IsSome (kinds_of (operation_of i).opcode) → AreClosersCarried (closers_in i)
@@ -93,7 +94,7 @@ closers_carried (instr.Block x) c = (end_carried, tt)
 closers_carried (instr.Loop x) c = (end_carried, tt)
 closers_carried (instr.IfElse x) c = (else_carried, (end_carried, tt))
 closers_carried (instr.TryTable x) c = (end_carried, tt)
-closers_carried (instr.Try x) c = absurd c
+closers_carried (instr.Try x) c = absurd cc
 closers_carried _ c = tt
 
 scope_carried : (b : List InstrSeq) (p : ℕ) (c : TextOperation) (s : Scope) → IsSome (kinds_of c.opcode) → scope_at b p c ≡ Ok s → IsUncarriedCloser s.closer → ⊥
@@ -119,7 +120,7 @@ both_carried (s ∷ ss) ts h k = (h.0, both_carried ss ts h.1 k)
 
 instruction_taken : (s t : Emitter) (x : LocatedInstr) → IsSome (kinds_of (operation_of x.0).opcode) → IsEmitterCarried s → with_instruction s x ≡ Ok t → IsEmitterCarried t
 instruction_taken s t x c h e =
-    let own = λ type. opened (then_by (numbering s.numbers)) (instruction_in (slots_of s.open_scopes) x) type in
+    let own = λ (type : InstrSeqType). opened (then_by (numbering s.numbers)) (instruction_in (slots_of s.open_scopes) x) type in
     let scopes = scopes_at s.sequences (slots_in x.0) (closers_in x.0) in
     let made = λ (op : Located RawOperation) (more : List Scope). with_operator (record s { coming = more ++ s.coming }) op in
     let typed = bind_ok (first_type_at s.sequences (slots_in x.0)) (λ type. own type >>= λ op. scopes >>= λ more. Ok (made op more)) t e in
