@@ -1,13 +1,16 @@
 -- Bodies over the demo module: what is parsed is written, and what is answered is what is accepted.
-use Rattle.std.specs.Prelude.{◌≡◌, ◌⊎◌, ◌++◌, ◌<◌, ℕ, List, [], ◌∷◌, length, drop, Option, Some, None, IsOk, IsErr, IfOk, IfErr, unwrap_or, slice_get, Result, Ok, Err}
+use Rattle.std.specs.Prelude.{◌≡◌, ◌⊎◌, ◌++◌, ◌<◌, ℕ, List, [], ◌∷◌, length, Option, Some, None, IsOk, IsErr, IfOk, IfErr, unwrap_or, Result, Ok, Err}
 use Rattle.std.specs.Borrow.{Bor}
 use Rattle.std.specs.Fn.{Shared}
 use Rattle.std.specs.List.{AllByRecursion}
+use Rattle.std.specs.FinMap.{get-empty}
+use Rattle.std.specs.Ordering.{nat_cmp}
 use Rattle.std.proofs.lemmas.Option.{slice_get_within}
-use Rattle.std.proofs.Common.{inl, inr, refl, sym, ap, subst, ◌∙◌, arith}
+use Rattle.std.proofs.Common.{inl, inr, refl, sym, ap, subst, ◌∙◌}
 use Rattle.walrus_ir.specs.declared.module.Module.{Module}
 use Rattle.walrus_ir.specs.declared.seq.InstrSeq.{InstrSeq}
 use Rattle.walrus_ir.specs.Function.{Function}
+use Rattle.walrus_ir.specs.Results.{some_or}
 use Rattle.walrus_ir.specs.Tree.{Sequences}
 use Rattle.walrus_ir.specs.Unfolding.{SequenceAt, LocatedInstr, AreSequences, are_sequences}
 use Rattle.walrus_ir.proofs.WalkLaws.{one_tree, tree_has_no_fault}
@@ -15,7 +18,8 @@ use Rattle.wasm_ops.specs.Shortest.{short_unsigned}
 use Rattle.wasm_ops.proofs.ReadingBytes.{reading_agrees}
 use Rattle.wasm_encode.specs.Declarations.{declarations}
 use Rattle.wasm_body.specs.declared.error.EmitError.{EmitError}
-use Rattle.wasm_body.specs.declared.error.EmitError.TheVariants.{Memory}
+use Rattle.wasm_body.specs.declared.error.EmitError.TheVariants.{Memory, UnnumberedLocal}
+use Rattle.wasm_body.specs.declared.error.ParseError.TheVariants as parse
 use Rattle.wasm_body.specs.declared.error.ParseFailure.{ParseFailure}
 use Rattle.wasm_body.specs.SourceTree.{Body}
 use Rattle.wasm_body.specs.Naming.{Occurrence}
@@ -30,9 +34,10 @@ use Rattle.wasm_body.proofs.Bytes.NumberedBodies.{HasText, body_bytes_ok}
 use Rattle.walrus_body.specs.declared.ids_to_indices.IdsToIndices.{IdsToIndices}
 use Rattle.walrus_body.specs.declared.indices_to_ids.IndicesToIds.{IndicesToIds}
 use Rattle.walrus_body.specs.LocalFunctions.{first_slot, HasEntry}
-use Rattle.walrus_body.specs.Parsing.Bodies.{ParseInput, input_of, IsFunction, AcceptsBody, RefusesBody}
+use Rattle.walrus_body.specs.Parsing.Bodies.{ParseInput, input_of, setting_with, IsFunction, AcceptsBody}
+use Rattle.walrus_body.specs.Parsing.Settings.{BothOrNone}
 use Rattle.walrus_body.specs.TreeWriting.Carrying.{AreCarried, IsCarried}
-use Rattle.walrus_body.specs.TreeWriting.EmittedInstructions.{LentPairs, Left, Emits, IsUnemitted}
+use Rattle.walrus_body.specs.TreeWriting.EmittedInstructions.{IsUnemitted}
 use Rattle.walrus_body.specs.TreeWriting.Operators.{numbers_by}
 use Rattle.walrus_body.specs.TreeWriting.Trees.{AppendsBytes}
 use Rattle.walrus_run.specs.declared.error.RewriteError.{RewriteError}
@@ -68,12 +73,7 @@ not_ok (Err g) e h k = cc h
 
 -- without locals
 pub numbers_alone : (m : IdsToIndices) (locals : List (ℕ × ℕ)) → locals ≡ [] → numbers_by m locals ≡ numbers_of m
-numbers_alone m locals none = ap (numbers_by m) none
-
--- where no list of pairs is lent
-pub bytes_alone : {Z : Type 0} (f : Function) (to : Numbers) (old new : List ℕ) (exit : Left (LentPairs Z)) → Emits f to old new None exit → AppendsBytes f.sequences (first_slot f) to old new
-bytes_alone f to old new (inl none) x = x
-bytes_alone f to old new (inr left) x = absurd x
+numbers_alone m locals none = ap (numbers_by m) none ∙ (λ i. record { number_of = (numbers_of m).number_of; local_number = λ id. some_or (get-empty {X = ℕ} nat_cmp id i) UnnumberedLocal })
 
 module _ (f : Function) (t : FunctionTree) (has : IsFunction f t) where
   pub slot_is : first_slot f ≡ 0
@@ -129,12 +129,14 @@ module _ {F : Type 0} (g : Shared F (Bor ℕ × Unit {0}) ℕ) (m : Module) (i :
       let b = subst (λ j. AcceptsBody g j f mapping) same_input a in
       (b.body, b.accepted, b.is_function)
 
-  pub demo_refuses : (f : ParseFailure) → RefusesBody g (demo_input m i function type ops) f → WantsMemory (Parse f) ⊎ IsFaulty ops (Parse f)
-  demo_refuses f r = by_answer (subst (λ j. RefusesBody g j f) same_input r)
-    where
-      by_answer : RefusesBody g (demo_input demo_module demo_indices 0 1 ops) f → WantsMemory (Parse f) ⊎ IsFaulty ops (Parse f)
-      by_answer (inl memory) = inl memory
-      by_answer (inr fault) = inr (f, fault None tt, refl)
+-- its refusal speaks of no location function
+pub demo_refuses : (m : Module) (i : IndicesToIds) (function type : ℕ) → m ≡ demo_module → i ≡ demo_indices → function ≡ 0 → type ≡ 1 → (ops : List ℕ) (f : ParseFailure) →
+    (f.error ≡ parse.Memory) ⊎ ((locations : Option (ℕ → ℕ)) → (let none : Option (Bor ℕ) = None in BothOrNone none locations) → FirstFault (setting_with (demo_input {F = ℕ} m i function type ops) locations) ops f) →
+    WantsMemory (Parse f) ⊎ IsFaulty ops (Parse f)
+demo_refuses m i function type m_is i_is function_is type_is ops f (inl memory) = inl memory
+demo_refuses m i function type m_is i_is function_is type_is ops f (inr fault) =
+    let same : demo_input {F = ℕ} m i function type ops ≡ demo_input demo_module demo_indices 0 1 ops = λ k. demo_input (m_is k) (i_is k) (function_is k) (type_is k) ops in
+    inr (f, subst (λ j. FirstFault (setting_with j None) ops f) same (fault None tt), refl)
 
 -- ---- each body and each fault
 

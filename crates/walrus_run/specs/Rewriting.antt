@@ -1,5 +1,5 @@
 -- Rewriting a body over the demo module.
-use Rattle.std.specs.Prelude.{◌≡◌, ◌⊎◌, ℕ, List, Ok, Err}
+use Rattle.std.specs.Prelude.{◌≡◌, ℕ, List, Ok}
 use Rattle.walrus_ir.specs.declared.error.WalkError.TheVariants as walk
 use Rattle.wasm_body.specs.declared.error.ParseError.TheVariants as parse
 use Rattle.wasm_body.specs.declared.error.EmitError.TheVariants as emit
