@@ -1,0 +1,1 @@
+//! Functions, asked and changed.
