@@ -12,6 +12,9 @@ use walrus_ir::{
     ModuleItems, ModuleTypes, TableId, TypeId, ValType, dfs_in_order,
 };
 
+/// The number of the default location.
+pub(crate) const DEFAULT: u32 = u32::MAX;
+
 /// A module and the ids of its old indices.
 #[derive(Drop)]
 pub(crate) struct Example {
@@ -19,8 +22,8 @@ pub(crate) struct Example {
     pub indices: IndicesToIds,
 }
 
-// Types: 0 from nothing to nothing, 1 and 2 from an `i32` to an `i32`, 3 no function type, entry types 4 for nothing and
-// 6 for two `i32`, and 5 from an `i64` to an `f32`.
+// 0 is from nothing to nothing, 1 and 2 are from an `i32` to an `i32`, 3 is no function type, 4 is the
+// entry type for nothing, 5 is from an `i64` to an `f32`, and 6 is the entry type for two `i32`.
 fn types(alloc: Global) -> Result<ModuleTypes, AllocError> {
     let mut types = ModuleTypes::new(alloc);
     types.add_func(&[], &[])?;
@@ -112,7 +115,8 @@ pub(crate) fn parse(
     parse_checked(alloc, example, ops, AcceptAll)
 }
 
-/// The walk from the entry: a sequence's slot where it starts and its length where it ends, and an instruction's location.
+/// The walk from the entry: a sequence's slot where it starts and its length where it ends, and each
+/// instruction's location.
 pub(crate) fn tree_text(function: &LocalFunction) -> Result<String, Fail> {
     let builder = function.builder();
     let mut recorder = Recorder::new(builder.allocator(), 1000);
