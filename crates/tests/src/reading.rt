@@ -1,10 +1,9 @@
 //! Operators that are read one after the other.
 use std::test::Fail;
-use walrus_ir::{AbstractHeapType, LoadKind, RefType, UnaryOp};
+use walrus_ir::{LoadKind, UnaryOp};
 use wasm_ops::{
-    BlockType, Operator, RawHeapType, RawMemArg, RawValType, ReadError, ReadFault, Reader,
-    law_one_list, law_one_spelling, law_operator_equality, law_reading, law_shortest,
-    law_shortest_number,
+    BlockType, Operator, RawMemArg, RawValType, ReadError, ReadFault, Reader, law_one_list,
+    law_one_spelling, law_operator_equality, law_reading, law_shortest, law_shortest_number,
 };
 
 #[test]
@@ -71,34 +70,5 @@ fn reads_control_and_calls(rt: HostRuntime) -> Result<(), Fail> {
         at: 19,
     };
     assert!(rt; matches!(reader.read(), Err(error) if error == short));
-    Ok(())
-}
-
-fn reference(nullable: bool, heap_type: RawHeapType) -> RawValType {
-    RawValType::Ref(RefType {
-        nullable,
-        heap_type,
-    })
-}
-
-#[test]
-fn reads_references(rt: HostRuntime) -> Result<(), Fail> {
-    let bytes = [
-        0x02, 0x70, 0x02, 0x63, 0x6f, 0x02, 0x64, 0xc0, 0x00, 0x1c, 0x01, 0x69, 0x02, 0x64, 0x40,
-    ];
-    let mut reader = Reader::new(&bytes, 0);
-    let ty = BlockType::Value(reference(true, RawHeapType::Abstract(AbstractHeapType::Func)));
-    assert!(rt; reader.read()? == Operator::Block { ty });
-    let ty = BlockType::Value(reference(true, RawHeapType::Abstract(AbstractHeapType::Extern)));
-    assert!(rt; reader.read()? == Operator::Block { ty });
-    let ty = BlockType::Value(reference(false, RawHeapType::Concrete(64)));
-    assert!(rt; reader.read()? == Operator::Block { ty });
-    let ty = reference(true, RawHeapType::Abstract(AbstractHeapType::Exn));
-    assert!(rt; reader.read()? == Operator::TypedSelect { ty });
-    let bad = ReadError {
-        fault: ReadFault::BadType,
-        at: 12,
-    };
-    assert!(rt; matches!(reader.read(), Err(error) if error == bad));
     Ok(())
 }

@@ -1,8 +1,8 @@
 //! Operators that are written, and read again.
 use std::test::Fail;
-use walrus_ir::{AbstractHeapType, LoadKind, RefType, UnaryOp};
+use walrus_ir::{LoadKind, UnaryOp};
 use wasm_encode::{FunctionEncoder, OutClauses, OutOp, OutTable, write_op};
-use wasm_ops::{BlockType, Operator, RawCatch, RawHeapType, RawMemArg, RawValType, Reader};
+use wasm_ops::{BlockType, Operator, RawCatch, RawMemArg, RawValType, Reader};
 
 #[test]
 fn reads_what_was_written(rt: HostRuntime) -> Result<(), Fail> {
@@ -97,36 +97,6 @@ fn writes_control_and_calls(rt: HostRuntime) -> Result<(), Fail> {
         [
             0x03, 0xc0, 0x00, 0x04, 0x7c, 0x05, 0x0d, 0x80, 0x01, 0x0e, 0x02, 0x00, 0x01, 0x02,
             0x10, 0x05, 0x11, 0x00, 0x00, 0x11, 0x03, 0x01,
-        ]
-        .as_slice()
-    );
-    Ok(())
-}
-
-fn select(nullable: bool, heap_type: RawHeapType) -> OutOp<'static> {
-    let ty = RawValType::Ref(RefType {
-        nullable,
-        heap_type,
-    });
-    OutOp::TypedSelect { ty }
-}
-
-#[test]
-fn writes_references(rt: HostRuntime) -> Result<(), Fail> {
-    let mut out = Vec::new(rt.alloc());
-    write_op(
-        &select(true, RawHeapType::Abstract(AbstractHeapType::Func)),
-        &mut out,
-    )?;
-    write_op(
-        &select(false, RawHeapType::Abstract(AbstractHeapType::Any)),
-        &mut out,
-    )?;
-    write_op(&select(true, RawHeapType::Concrete(64)), &mut out)?;
-    assert_eq!(rt;
-        out.as_slice(),
-        [
-            0x1c, 0x01, 0x70, 0x1c, 0x01, 0x64, 0x6e, 0x1c, 0x01, 0x63, 0xc0, 0x00,
         ]
         .as_slice()
     );

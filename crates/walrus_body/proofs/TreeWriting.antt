@@ -6,3 +6,4 @@ pub mod Labels
 pub mod NotCarried
 pub mod Steps
 pub mod Trees
+pub mod Carrying

@@ -9,3 +9,5 @@ pub mod Operators
 pub mod Emitters
 pub mod Visiting
 pub mod Trees
+pub mod Carrying
+pub mod EmittedInstructions

@@ -1,5 +1,5 @@
 //! Functions of a module: their bodies, read and written.
-ghost use Rattle.std.specs.Prelude.{◌≡◌, ◌⊎◌, ◌≤◌, ◌<◌, ◌+◌, ◌^◌, ◌==◌, ◌↔◌, IsTrue, ℕ, [], length, drop, slice_get, Some, None, Option, IfOk, IfErr, IsErr};
+ghost use Rattle.std.specs.Prelude.{◌≡◌, ◌⊎◌, ◌≤◌, ◌<◌, ◌+◌, ◌^◌, ◌==◌, ◌↔◌, IsTrue, ℕ, [], length, drop, slice_get, Some, None, Option, IfOk, IfErr, IsErr, OnOk, OnErr};
 ghost use Rattle.std.specs.Borrow.{sem};
 ghost use Rattle.std.specs.HashSet.{contains};
 ghost use Rattle.std.specs.List.{list_all};
@@ -17,6 +17,9 @@ ghost use Rattle.walrus_body.specs.Parsing.Locating.{MayAsk};
 ghost use Rattle.walrus_body.specs.Parsing.Settings.{BothOrNone};
 ghost use Rattle.walrus_body.specs.Facts.{count, segments, TreeHas};
 ghost use Rattle.walrus_body.specs.Sizes.{IsTooLarge};
+ghost use Rattle.walrus_body.specs.TreeWriting.Carrying.{IsCarried};
+ghost use Rattle.walrus_body.specs.TreeWriting.EmittedInstructions.{Emits, IsUnemitted, KeepsPairs};
+ghost use Rattle.walrus_body.specs.TreeWriting.Operators.{numbers_by};
 
 mod body;
 mod body_parser;
@@ -31,10 +34,12 @@ mod own_lists;
 mod parse;
 mod types;
 
+use crate::local_function::emit::number_maps::NumberMaps;
+use crate::local_function::emit::{emit_with_map, emit_without_map};
 use crate::local_function::parse::parse_function;
 use crate::segments::used_data_segments;
 use crate::sizes::size;
-use crate::{IndicesToIds, ParseFailure};
+use crate::{EmitError, IdsToIndices, IndicesToIds, ParseFailure};
 pub use body::FunctionBody;
 pub use check::{AcceptAll, CheckError, OpCheck};
 pub use context::ValidationContext;
@@ -42,9 +47,10 @@ pub use frame::{ControlFrame, ControlStack, IfElseState};
 use std::marker::Model;
 use std::ops::Range;
 use walrus_ir::{
-    DataId, FunctionBuilder, FunctionId, IdHashSet, Instr, InstrLocId, InstrSeq, InstrSeqId,
-    LocalId, Module, TypeId, WalkError,
+    DataId, FunctionBuilder, FunctionId, IdHashMap, IdHashSet, Instr, InstrLocId, InstrSeq,
+    InstrSeqId, LocalId, Module, TypeId, WalkError,
 };
+use wasm_encode::FunctionEncoder;
 
 /// A function of a module that has a body. A contract sees its lists and its builder by their values.
 #[derive(Drop)]
@@ -239,6 +245,43 @@ impl LocalFunction {
             .instrs
             .iter()
             .all(|(instr, _)| matches!(instr, Instr::Const(_)))
+    }
+
+    /// Appends the operators of the function's tree to an encoder, each as its shortest spelling,
+    /// and to the list, if there is one, each operator's location with its place in the encoder. Ids
+    /// are written as the numbers that `indices` gives them, and locals as those of `local_indices`.
+    /// It asks that an operator is carried for each instruction of the tree.
+    ///
+    /// # Errors
+    ///
+    /// `UnknownSequence` or `SharedSequence` where the sequences are no tree, the first in walk
+    /// order; else the first fault in order of writing; or `Memory`. The encoder and the list are
+    /// then as before.
+    pub fn emit_instructions(
+        &self,
+        indices: &IdsToIndices,
+        local_indices: &IdHashMap<LocalId, u32>,
+        dst: &mut FunctionEncoder,
+        map: Option<&mut Vec<(InstrLocId, usize)>>,
+    ) -> Result<(), EmitError>
+        requires entry { HasEntry self.now.builder }
+        requires carried { IsCarried self.now.builder.sequences (first_slot self.now.builder) }
+        ensures ok { OnOk result (Emits self.now.builder
+            (numbers_by indices.now local_indices.now.entries) dst.old dst.new map.entry map.exit) }
+        ensures err { IfErr result (IsUnemitted self.now.builder
+            (numbers_by indices.now local_indices.now.entries)) }
+        ensures same_bytes { OnErr result (dst.new ≡ dst.old) }
+        ensures same_pairs { OnErr result (KeepsPairs map.entry map.exit) }
+    {
+        let numbers = NumberMaps {
+            ids: indices,
+            locals: local_indices,
+        };
+        let entry = self.entry_block();
+        match map {
+            Some(list) => emit_with_map(&self.builder, entry, &numbers, dst, list),
+            None => emit_without_map(&self.builder, entry, &numbers, dst),
+        }
     }
 
     /// The number of instructions in the sequences that are reached from the entry.

@@ -20,7 +20,7 @@ use Rattle.wasm_body.proofs.Structure.Along.{Each, EachIn, AllMarked, each_of, e
 use Rattle.wasm_body.proofs.Bytes.LawfulTyped.{named_somewhere}
 use Rattle.wasm_body.proofs.NormalForm.KeptNames.{kept_of}
 use Rattle.wasm_body.proofs.Bytes.NumberedBodies.{HasText, HasNumbers, translated}
-use Rattle.walrus_run.specs.Encoding.{AreCarried, AreCarriedIn}
+use Rattle.walrus_body.specs.TreeWriting.Carrying.{AreCarried, AreCarriedIn}
 
 -- ---- trees
 

@@ -18,7 +18,7 @@ use Rattle.walrus_body.specs.IndexMaps.{ids_in, locals_in, with_locals, numbers_
 use Rattle.walrus_body.specs.Numbering.{pushed}
 use Rattle.walrus_body.proofs.NumberingLemmas.{get-numbered}
 use Rattle.walrus_run.specs.Demo.{demo_indices, demo_numbers}
-use Rattle.walrus_run.specs.Writing.{numbers_of}
+use Rattle.walrus_run.specs.Numbers.{numbers_of}
 
 -- what was put into a map is in it
 pub locals_in-with_locals : (function : ℕ) (ids : List ℕ) (m : IndicesToIds) → locals_in (with_locals function ids m) function ≡ ids

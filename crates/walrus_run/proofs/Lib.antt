@@ -1,18 +1,6 @@
-mod OpenSequenceLemmas
-mod LabelLemmas
-mod StackLemmas
-mod Placements
-mod Roles
-mod ParserSteps
-mod BlockSteps
-mod NextOperators
-mod BodyParses
-mod FirstParsers
+-- the demo module's maps and numbers
 mod DemoMaps
 mod DemoNumbers
+-- what is parsed, and what is written of it
 mod CarriedTrees
 mod RewritingLemmas
-mod ScopeLemmas
-mod Emitting
-mod EmitSteps
-mod Encoded

@@ -1,168 +1,170 @@
 -- Bodies over the demo module: what is parsed is written, and what is answered is what is accepted.
-use Rattle.std.specs.Prelude.{◌≡◌, ◌⊎◌, ℕ, ◌<◌, List, [], ◌∷◌, ◌++◌, length, drop, Some, IsOk, IsErr, IfOk, IfErr, Result, Ok, Err}
+use Rattle.std.specs.Prelude.{◌≡◌, ◌⊎◌, ◌++◌, ◌<◌, ℕ, List, [], ◌∷◌, length, drop, Option, Some, None, IsOk, IsErr, IfOk, IfErr, unwrap_or, slice_get, Result, Ok, Err}
+use Rattle.std.specs.Borrow.{Bor}
+use Rattle.std.specs.Fn.{Shared}
 use Rattle.std.specs.List.{AllByRecursion}
+use Rattle.std.proofs.lemmas.Option.{slice_get_within}
 use Rattle.std.proofs.Common.{inl, inr, refl, sym, ap, subst, ◌∙◌, arith}
+use Rattle.walrus_ir.specs.declared.module.Module.{Module}
 use Rattle.walrus_ir.specs.declared.seq.InstrSeq.{InstrSeq}
-use Rattle.walrus_ir.specs.declared.builder.FunctionBuilder.{FunctionBuilder}
+use Rattle.walrus_ir.specs.Function.{Function}
+use Rattle.walrus_ir.specs.Tree.{Sequences}
+use Rattle.walrus_ir.specs.Unfolding.{SequenceAt, LocatedInstr, AreSequences, are_sequences}
 use Rattle.walrus_ir.proofs.WalkLaws.{one_tree, tree_has_no_fault}
 use Rattle.wasm_ops.specs.Shortest.{short_unsigned}
+use Rattle.wasm_ops.proofs.ReadingBytes.{reading_agrees}
 use Rattle.wasm_encode.specs.Declarations.{declarations}
 use Rattle.wasm_body.specs.declared.error.EmitError.{EmitError}
 use Rattle.wasm_body.specs.declared.error.EmitError.TheVariants.{Memory}
-use Rattle.wasm_body.specs.TreeOfFunction.{tree_of, HasTree}
-use Rattle.walrus_run.specs.declared.write_fault.WriteFault.{WriteFault}
-use Rattle.walrus_run.specs.declared.write_fault.WriteFault.TheVariants.{Emit, NotCarried}
-use Rattle.walrus_ir.specs.declared.module.Module.{Module}
-use Rattle.walrus_body.specs.declared.indices_to_ids.IndicesToIds.{IndicesToIds}
 use Rattle.wasm_body.specs.declared.error.ParseFailure.{ParseFailure}
 use Rattle.wasm_body.specs.SourceTree.{Body}
-use Rattle.walrus_body.specs.Environments.{environment_of}
-use Rattle.wasm_body.specs.Naming.{Environment, Occurrence}
-use Rattle.wasm_body.specs.Parsing.Accepted.{Accepted, FirstFault}
+use Rattle.wasm_body.specs.Naming.{Occurrence}
 use Rattle.wasm_body.specs.FunctionTree.{FunctionTree}
+use Rattle.wasm_body.specs.TreeOfFunction.{tree_of, HasTree}
 use Rattle.wasm_body.specs.NormalForm.{typing_of, normal_form, named_body}
+use Rattle.wasm_body.specs.Parsing.Accepted.{Accepted, FirstFault}
 use Rattle.wasm_body.specs.Parsing.Lists.{parsed}
 use Rattle.wasm_body.specs.Bytes.{Numbers, tree_bytes}
-use Rattle.wasm_ops.specs.Laws.{AreBytes}
-use Rattle.wasm_body.proofs.Parsing.Answers.{Answers, answers, accepted_parsed, fault_parsed}
-use Rattle.wasm_ops.proofs.ReadingBytes.{reading_agrees}
+use Rattle.wasm_body.proofs.Parsing.Answers.{accepted_parsed, fault_parsed}
 use Rattle.wasm_body.proofs.Bytes.NumberedBodies.{HasText, body_bytes_ok}
+use Rattle.walrus_body.specs.declared.ids_to_indices.IdsToIndices.{IdsToIndices}
+use Rattle.walrus_body.specs.declared.indices_to_ids.IndicesToIds.{IndicesToIds}
+use Rattle.walrus_body.specs.LocalFunctions.{first_slot, HasEntry}
+use Rattle.walrus_body.specs.Parsing.Bodies.{ParseInput, input_of, IsFunction, AcceptsBody, RefusesBody}
+use Rattle.walrus_body.specs.TreeWriting.Carrying.{AreCarried, IsCarried}
+use Rattle.walrus_body.specs.TreeWriting.EmittedInstructions.{LentPairs, Left, Emits, IsUnemitted}
+use Rattle.walrus_body.specs.TreeWriting.Operators.{numbers_by}
+use Rattle.walrus_body.specs.TreeWriting.Trees.{AppendsBytes}
 use Rattle.walrus_run.specs.declared.error.RewriteError.{RewriteError}
 use Rattle.walrus_run.specs.declared.error.RewriteError.TheVariants.{Parse}
-use Rattle.walrus_run.specs.BodyParsing.{IsFunction, ParsesBody}
-use Rattle.walrus_run.specs.Rewriting.{IsNormalBytes, IsRewritten, WantsMemory, IsFaulty}
 use Rattle.walrus_run.specs.Demo.{demo_module, demo_indices, demo_environment, demo, demo_numbers}
-use Rattle.walrus_run.specs.Encoding.{AreCarried, Encodes}
-use Rattle.walrus_run.proofs.DemoNumbers.{demo_has_numbers}
+use Rattle.walrus_run.specs.Numbers.{numbers_of}
+use Rattle.walrus_run.specs.Rewriting.{IsNormalBytes, IsRewritten, WantsMemory, IsFaulty}
 use Rattle.walrus_run.proofs.CarriedTrees.{listed_texts, body_carried}
-use Rattle.walrus_run.specs.RewritingOnLists.{IsParsedAndWritten, IsRefused}
+use Rattle.walrus_run.proofs.DemoNumbers.{demo_has_numbers}
 
 abbrev pub demo_tree : Body Occurrence → FunctionTree
 demo_tree b = normal_form (typing_of demo_environment) (named_body b)
 
--- ---- what is parsed
-
-pub parsed_accepted : (ops : List ℕ) (b : Body Occurrence) → AreBytes ops → parsed demo ops ≡ Ok b → Accepted demo ops b
-parsed_accepted ops b fits e = subst (Answers demo reading_agrees ops) e (answers demo reading_agrees ops fits)
-
-pub parsed_faulty : (ops : List ℕ) (f : ParseFailure) → AreBytes ops → parsed demo ops ≡ Err f → FirstFault demo ops f
-parsed_faulty ops f fits e = subst (Answers demo reading_agrees ops) e (answers demo reading_agrees ops fits)
+-- ---- what is accepted can be written
 
 texts : (ops : List ℕ) (b : Body Occurrence) (a : Accepted demo ops b) → AllByRecursion HasText a.operators
 texts ops b a = listed_texts a.operators _ ops [] a.all.spelt
 
--- the tree of an accepted body can be written
 pub accepted_written : (ops : List ℕ) (b : Body Occurrence) → Accepted demo ops b → IsOk (tree_bytes demo_numbers (demo_tree b))
 accepted_written ops b a = body_bytes_ok demo_environment demo_numbers demo_has_numbers a.operators b (texts ops b a) a.lawful
 
 pub accepted_carried : (ops : List ℕ) (b : Body Occurrence) → Accepted demo ops b → AreCarried (demo_tree b).items
 accepted_carried ops b a = body_carried demo_environment demo_numbers demo_has_numbers a.operators b (texts ops b a) a.lawful
 
--- ---- what is written
+-- ---- a function with a tree
 
 one_function : (b : List InstrSeq) (start : ℕ) (t u : FunctionTree) → HasTree b start t → HasTree b start u → t ≡ u
 one_function b start t u h k = sym h.is ∙ (ap tree_of (one_tree b start h.unfolded k.unfolded h.is_tree k.is_tree) ∙ k.is)
 
--- what writing a tree answers that has bytes
-abbrev pub Writes : Numbers → FunctionTree → Result (List ℕ) WriteFault → Type 0
-Writes to t (Ok encoder) = (tree_bytes to t ≡ Ok (drop 1 encoder)) × (0 < length encoder)
-Writes to t (Err (Emit e)) = e ≡ Memory
-Writes to t (Err NotCarried) = ⊥
+not_ok : {A E : Type 0} (r : Result A E) (e : E) → IsOk r → r ≡ Err e → ⊥
+not_ok (Ok x) e h k = cc
+not_ok (Err g) e h k = cc h
 
-no_declarations : (bytes : List ℕ) → declarations [] ++ bytes ≡ 0 ∷ bytes
-unfolding short_unsigned
-no_declarations bytes = refl
+-- without locals
+pub numbers_alone : (m : IdsToIndices) (locals : List (ℕ × ℕ)) → locals ≡ [] → numbers_by m locals ≡ numbers_of m
+numbers_alone m locals none = ap (numbers_by m) none
 
-module _ (b : List InstrSeq) (start : ℕ) (to : Numbers) (t : FunctionTree) (has : HasTree b start t) (bytes_ok : IsOk (tree_bytes to t)) (are_carried : AreCarried t.items) where
-  not_both : {A E : Type 0} (r : Result A E) (e : E) → IsOk r → r ≡ Err e → ⊥
-  not_both (Ok x) e h k = cc
-  not_both (Err f) e h k = cc h
+-- where no list of pairs is lent
+pub bytes_alone : {Z : Type 0} (f : Function) (to : Numbers) (old new : List ℕ) (exit : Left (LentPairs Z)) → Emits f to old new None exit → AppendsBytes f.sequences (first_slot f) to old new
+bytes_alone f to old new (inl none) x = x
+bytes_alone f to old new (inr left) x = absurd x
 
-  by_fault : (e : EmitError) → Encodes b start to (Err (Emit e)) → e ≡ Memory
-  by_fault e (inl memory) = memory
-  by_fault e (inr (inl walk)) = absurd (tree_has_no_fault b start has.unfolded walk.0 has.is_tree walk.1)
-  by_fault e (inr (inr fault)) =
-      let same = one_function b start fault.0 t fault.1 has in
-      absurd (not_both (tree_bytes to t) e bytes_ok (ap (tree_bytes to) (sym same) ∙ fault.2))
+module _ (f : Function) (t : FunctionTree) (has : IsFunction f t) where
+  pub slot_is : first_slot f ≡ 0
+  slot_is = ap (λ e. unwrap_or e 0) has.entry
 
-  pub encodes_writes : (r : Result (List ℕ) WriteFault) → Encodes b start to r → Writes to t r
-  encodes_writes (Ok encoder) x =
-      let same = one_function b start x.0 t x.1 has in
-      let encoder_is = x.2.2 ∙ no_declarations x.2.0 in
-      (ap (tree_bytes to) (sym same) ∙ (x.2.1 ∙ ap Ok (sym (ap (λ l. drop 1 l) encoder_is))), subst (λ l. 0 < length l) (sym encoder_is) (omega arith))
-  encodes_writes (Err (Emit e)) x = by_fault e x
-  encodes_writes (Err NotCarried) x = let same = one_function b start x.0 t x.1 has in x.2 (subst (λ (u : FunctionTree). AreCarried u.items) (sym same) are_carried)
+  from_slot : HasTree f.sequences (first_slot f) t
+  from_slot = subst (λ n. HasTree f.sequences n t) (sym slot_is) has.holds
 
--- of a function that begins with its tree
-pub function_writes : (builder : FunctionBuilder) (entry : ℕ) (to : Numbers) (t : FunctionTree) → builder.entry ≡ Some entry → IsFunction builder t → IsOk (tree_bytes to t) → AreCarried t.items → (r : Result (List ℕ) WriteFault)
-    → Encodes builder.sequences entry to r → Writes to t r
-function_writes builder entry to t at has ok carried r x =
-    let both : Some entry ≡ Some 0 = sym at ∙ has.entry in
-    let first : entry ≡ 0 = cc in
-    encodes_writes builder.sequences entry to t (subst (λ n. HasTree builder.sequences n t) (sym first) has.holds) ok carried r x
+  pub begins : HasEntry f
+  begins = record { is = has.entry ∙ ap Some (sym slot_is); stands = within (first_slot f) from_slot.is_tree.unfolds }
+    where
+      within : (slot : ℕ) {rest : Sequences SequenceAt LocatedInstr} → AreSequences f.sequences (slot ∷ []) rest → slot < length f.sequences
+      within slot (are_sequences stands items rest) = slice_get_within f.sequences slot _ stands
 
--- a function has one tree
-pub one_tree_of : (builder : FunctionBuilder) (t u : FunctionTree) → IsFunction builder t → IsFunction builder u → t ≡ u
-one_tree_of builder t u h k = one_function builder.sequences 0 t u h.holds k.holds
+  pub one_tree_of : (u : FunctionTree) → IsFunction f u → u ≡ t
+  one_tree_of u k = one_function f.sequences 0 u t k.holds has.holds
+
+  pub is_carried : AreCarried t.items → IsCarried f.sequences (first_slot f)
+  is_carried carried = λ u h. subst (λ (v : FunctionTree). AreCarried v.items) (one_function f.sequences (first_slot f) t u from_slot h) carried
+
+  -- ---- what is written of it
+
+  no_declarations : (bytes : List ℕ) → declarations [] ++ bytes ≡ 0 ∷ bytes
+  unfolding short_unsigned
+  no_declarations bytes = refl
+
+  module _ (to : Numbers) where
+    pub bytes_behind : (old new : List ℕ) → old ≡ declarations [] → AppendsBytes f.sequences (first_slot f) to old new → (bytes : List ℕ) × (tree_bytes to t ≡ Ok bytes) × (new ≡ 0 ∷ bytes)
+    bytes_behind old new none x =
+        let same = one_function f.sequences (first_slot f) x.tree t x.has_tree from_slot in
+        (x.bytes, ap (tree_bytes to) (sym same) ∙ x.bytes_are, x.appends ∙ ap (λ o. o ++ x.bytes) none ∙ no_declarations x.bytes)
+
+    -- a tree with bytes is refused for want of memory alone
+    pub wants_memory : IsOk (tree_bytes to t) → (e : EmitError) →
+        IsUnemitted f to e → e ≡ Memory
+    wants_memory ok e (inl memory) = memory
+    wants_memory ok e (inr (inl walk)) = absurd (tree_has_no_fault f.sequences (first_slot f) from_slot.unfolded walk.0 from_slot.is_tree walk.1)
+    wants_memory ok e (inr (inr fault)) =
+        let same = one_function f.sequences (first_slot f) fault.0 t fault.1 from_slot in
+        absurd (not_ok (tree_bytes to t) e ok (ap (tree_bytes to) (sym same) ∙ fault.2))
 
 -- ---- over the demo module
 
-pub to_demo : (m : Module) (i : IndicesToIds) (function type : ℕ) → m ≡ demo_module → i ≡ demo_indices → function ≡ 0 → type ≡ 1 → (ops : List ℕ) (r : Result FunctionBuilder ParseFailure)
-    → ParsesBody (environment_of m i function type) 0 ops r → ParsesBody demo_environment 0 ops r
-to_demo m i function type m_is i_is function_is type_is ops r h =
-    let same = ap (λ x. environment_of x i function type) m_is ∙ (ap (λ x. environment_of demo_module x function type) i_is ∙ (ap (λ x. environment_of demo_module demo_indices x type) function_is ∙ ap (environment_of demo_module demo_indices 0) type_is)) in
-    subst (λ (e : Environment). ParsesBody e 0 ops r) same h
+abbrev pub demo_input : {F : Type 0} → Module → IndicesToIds → (function type : ℕ) → List ℕ → ParseInput (Unit {0}) F
+demo_input m i function type ops = input_of m i function type 0 ops None (λ s x. Ok s) tt
 
--- what was parsed can be written
-pub can_write : (ops : List ℕ) (builder : FunctionBuilder) (to : Numbers) → AreBytes ops → to ≡ demo_numbers → ParsesBody demo_environment 0 ops (Ok builder)
-    → (t : FunctionTree) × IsFunction builder t × IsOk (tree_bytes to t) × AreCarried t.items
-can_write ops builder to fits same p =
-    let accepted = parsed_accepted ops p.0 fits p.1 in
-    (demo_tree p.0, p.2, subst (λ n. IsOk (tree_bytes n (demo_tree p.0))) (sym same) (accepted_written ops p.0 accepted), accepted_carried ops p.0 accepted)
+module _ {F : Type 0} (g : Shared F (Bor ℕ × Unit {0}) ℕ) (m : Module) (i : IndicesToIds) (function type : ℕ) (m_is : m ≡ demo_module) (i_is : i ≡ demo_indices) (function_is : function ≡ 0) (type_is : type ≡ 1) (ops : List ℕ) where
+  same_input : demo_input {F = F} m i function type ops ≡ demo_input demo_module demo_indices 0 1 ops
+  same_input = λ k. demo_input (m_is k) (i_is k) (function_is k) (type_is k) ops
 
--- what is written is its normal form
-pub was_written : (ops out : List ℕ) (builder : FunctionBuilder) (to : Numbers) → to ≡ demo_numbers → ParsesBody demo_environment 0 ops (Ok builder)
-    → ((t : FunctionTree) → IsFunction builder t → tree_bytes to t ≡ Ok out) → IsParsedAndWritten ops out
-was_written ops out builder to same p bytes = (p.0, p.1, subst (λ n. tree_bytes n (demo_tree p.0) ≡ Ok out) same (bytes (demo_tree p.0) p.2))
+  pub demo_accepts : (f : Function) (mapping : List (ℕ × ℕ)) → AcceptsBody g (demo_input m i function type ops) f mapping → (b : Body Occurrence) × Accepted demo ops b × IsFunction f (demo_tree b)
+  demo_accepts f mapping a =
+      let b = subst (λ j. AcceptsBody g j f mapping) same_input a in
+      (b.body, b.accepted, b.is_function)
 
-pub was_refused : (ops : List ℕ) (f : ParseFailure) → ParsesBody demo_environment 0 ops (Err f) → IsRefused ops (Parse f)
-was_refused ops f (inl memory) = inl memory
-was_refused ops f (inr fault) = inr (f, fault, refl)
+  pub demo_refuses : (f : ParseFailure) → RefusesBody g (demo_input m i function type ops) f → WantsMemory (Parse f) ⊎ IsFaulty ops (Parse f)
+  demo_refuses f r = by_answer (subst (λ j. RefusesBody g j f) same_input r)
+    where
+      by_answer : RefusesBody g (demo_input demo_module demo_indices 0 1 ops) f → WantsMemory (Parse f) ⊎ IsFaulty ops (Parse f)
+      by_answer (inl memory) = inl memory
+      by_answer (inr fault) = inr (f, fault None tt, refl)
 
 -- ---- each body and each fault
 
-pub is_rewritten : (ops out : List ℕ) → AreBytes ops → IsParsedAndWritten ops out → IsRewritten ops out
-is_rewritten ops out fits w = (w.0, parsed_accepted ops w.0 fits w.1, w.2)
+same_answer : {A E : Type 0} (r : Result A E) (x y : A) → r ≡ Ok x → r ≡ Ok y → x ≡ y
+same_answer {A} {E} r x y e d = let both : (let q : Result A E = Ok x in q) ≡ Ok y = sym e ∙ d in cc
 
-pub is_faulty : (ops : List ℕ) (e : RewriteError) → AreBytes ops → IsRefused ops e → WantsMemory e ⊎ IsFaulty ops e
-is_faulty ops e fits (inl memory) = inl memory
-is_faulty ops e fits (inr f) = inr (f.0, parsed_faulty ops f.0 fits f.1, f.2)
+same_refusal : {A E : Type 0} (r : Result A E) (x y : E) → r ≡ Err x → r ≡ Err y → x ≡ y
+same_refusal {A} {E} r x y e d = let both : (let q : Result A E = Err x in q) ≡ Err y = sym e ∙ d in cc
 
-same_body : (r : Result (Body Occurrence) ParseFailure) (b c : Body Occurrence) → r ≡ Ok b → r ≡ Ok c → b ≡ c
-same_body r b c e d = let both : (let x : Result (Body Occurrence) ParseFailure = Ok b in x) ≡ Ok c = sym e ∙ d in cc
-
-same_failure : (r : Result (Body Occurrence) ParseFailure) (f g : ParseFailure) → r ≡ Err f → r ≡ Err g → f ≡ g
-same_failure r f g e d = let both : (let x : Result (Body Occurrence) ParseFailure = Err f in x) ≡ Err g = sym e ∙ d in cc
-
-not_parsed_and_faulty : (r : Result (Body Occurrence) ParseFailure) (b : Body Occurrence) (f : ParseFailure) → r ≡ Ok b → r ≡ Err f → ⊥
-not_parsed_and_faulty r b f e d = let both : (let x : Result (Body Occurrence) ParseFailure = Ok b in x) ≡ Err f = sym e ∙ d in cc
+not_both : {A E : Type 0} (r : Result A E) (x : A) (y : E) → r ≡ Ok x → r ≡ Err y → ⊥
+not_both {A} {E} r x y e d = let both : (let q : Result A E = Ok x in q) ≡ Err y = sym e ∙ d in cc
 
 -- an accepted body's bytes are answered, and it is refused for want of memory only
-pub body_answered : (ops out : List ℕ) (b : Body Occurrence) → Accepted demo ops b → IsParsedAndWritten ops out → IsNormalBytes b out
+pub body_answered : (ops out : List ℕ) (b : Body Occurrence) → Accepted demo ops b → IsRewritten ops out → IsNormalBytes b out
 body_answered ops out b a w =
-    subst (λ (c : Body Occurrence). IsNormalBytes c out) (same_body (parsed demo ops) w.0 b w.1 (accepted_parsed demo reading_agrees ops b a)) w.2
+    subst (λ (c : Body Occurrence). IsNormalBytes c out)
+    (same_answer (parsed demo ops) w.0 b (accepted_parsed demo reading_agrees ops w.0 w.1) (accepted_parsed demo reading_agrees ops b a)) w.2
 
-pub body_not_refused : (ops : List ℕ) (e : RewriteError) (b : Body Occurrence) → Accepted demo ops b → IsRefused ops e → WantsMemory e
+pub body_not_refused : (ops : List ℕ) (e : RewriteError) (b : Body Occurrence) → Accepted demo ops b → WantsMemory e ⊎ IsFaulty ops e → WantsMemory e
 body_not_refused ops e b a (inl memory) = memory
-body_not_refused ops e b a (inr f) = absurd (not_parsed_and_faulty (parsed demo ops) b f.0 (accepted_parsed demo reading_agrees ops b a) f.1)
+body_not_refused ops e b a (inr f) = absurd (not_both (parsed demo ops) b f.0 (accepted_parsed demo reading_agrees ops b a) (fault_parsed demo reading_agrees ops f.0 f.1))
 
 -- what has a first fault is refused for it
-pub fault_not_written : (ops out : List ℕ) (f : ParseFailure) → FirstFault demo ops f → IsParsedAndWritten ops out → ⊥
-fault_not_written ops out f fault w = not_parsed_and_faulty (parsed demo ops) w.0 f w.1 (fault_parsed demo reading_agrees ops f fault)
+pub fault_not_written : (ops out : List ℕ) (f : ParseFailure) → FirstFault demo ops f → IsRewritten ops out → ⊥
+fault_not_written ops out f fault w = not_both (parsed demo ops) w.0 f (accepted_parsed demo reading_agrees ops w.0 w.1) (fault_parsed demo reading_agrees ops f fault)
 
-pub fault_answered : (ops : List ℕ) (e : RewriteError) (f : ParseFailure) → FirstFault demo ops f → IsRefused ops e → WantsMemory e ⊎ (e ≡ Parse f)
+pub fault_answered : (ops : List ℕ) (e : RewriteError) (f : ParseFailure) → FirstFault demo ops f → WantsMemory e ⊎ IsFaulty ops e → WantsMemory e ⊎ (e ≡ Parse f)
 fault_answered ops e f fault (inl memory) = inl memory
-fault_answered ops e f fault (inr g) = inr (g.2 ∙ ap Parse (same_failure (parsed demo ops) g.0 f g.1 (fault_parsed demo reading_agrees ops f fault)))
+fault_answered ops e f fault (inr g) =
+    inr (g.2 ∙ ap Parse (same_refusal (parsed demo ops) g.0 f (fault_parsed demo reading_agrees ops g.0 g.1) (fault_parsed demo reading_agrees ops f fault)))
 
 -- ---- what an answer has
 

@@ -1,15 +1,4 @@
-pub mod OpenSequences
-pub mod Parsers
-pub mod BlockTypes
-pub mod Placing
-pub mod OperatorKinds
-pub mod BodyParsing
+-- the module that the program parses over, and what is written of a body
 pub mod Demo
-pub mod WalkFaults
-pub mod Writing
-pub mod Scopes
+pub mod Numbers
 pub mod Rewriting
-pub mod RewritingOnLists
-pub mod Encoding
-pub mod Emission
-pub mod SameWriters

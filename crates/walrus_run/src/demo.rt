@@ -6,7 +6,7 @@ ghost use Rattle.wasm_ops.specs.declared.types.Space.TheVariants.{Tables, Types,
 ghost use Rattle.walrus_body.specs.IndexMaps.{no_ids, ids_in, with_ids_in, with_locals, numbers_in, with_numbers};
 ghost use Rattle.walrus_body.specs.Numbering.{pushed};
 ghost use Rattle.walrus_run.specs.Demo.{demo_module, demo_indices, demo_numbers};
-ghost use Rattle.walrus_run.specs.Writing.{numbers_of};
+ghost use Rattle.walrus_run.specs.Numbers.{numbers_of};
 
 use std::alloc::{AllocError, Global};
 use walrus_body::{IdsToIndices, IndexError, IndicesToIds};

@@ -7,42 +7,45 @@ ghost use Rattle.wasm_body.specs.Naming.{Occurrence};
 ghost use Rattle.wasm_body.specs.Parsing.Accepted.{Accepted, FirstFault};
 ghost use Rattle.wasm_body.specs.FunctionTree.{FunctionTree};
 ghost use Rattle.wasm_body.specs.Bytes.{tree_bytes};
+ghost use Rattle.walrus_body.specs.Parsing.Bodies.{IsFunction};
+ghost use Rattle.walrus_body.specs.TreeWriting.Carrying.{AreCarried};
 ghost use Rattle.walrus_run.specs.declared.error.RewriteError.TheVariants.{Parse};
-ghost use Rattle.walrus_run.specs.BodyParsing.{IsFunction};
 ghost use Rattle.walrus_run.specs.Demo.{demo, demo_module, demo_indices, demo_numbers};
-ghost use Rattle.walrus_run.specs.Encoding.{AreCarried};
+ghost use Rattle.walrus_run.specs.Numbers.{numbers_of};
 ghost use Rattle.walrus_run.specs.Rewriting.{IsNormalBytes, IsRewritten, WantsMemory, IsFaulty};
-ghost use Rattle.walrus_run.specs.Writing.{numbers_of};
-ghost use Rattle.walrus_run.specs.RewritingOnLists.{IsParsedAndWritten, IsRefused};
 
-use crate::body_parser::parse_body;
 use crate::demo;
 use crate::error::RewriteError;
-use crate::write_fault::WriteFault;
-use crate::writer::encode;
 use std::alloc::Global;
-use walrus_body::{EmitError, IdsToIndices, IndicesToIds};
-use walrus_ir::{FunctionBuilder, FunctionId, Module, TypeId};
+use walrus_body::{AcceptAll, EmitError, FunctionBody, IdsToIndices, IndicesToIds, LocalFunction};
+use walrus_ir::{FunctionId, IdHashMap, InstrLocId, Module, TypeId};
+use wasm_encode::FunctionEncoder;
 
 /// The operators of a function that has a tree and can be written with these new indices.
 fn written_operators(
     alloc: Global,
-    builder: &FunctionBuilder,
+    function: &LocalFunction,
     numbers: &IdsToIndices,
 ) -> Result<Vec<u8>, EmitError>
-    requires { (t : FunctionTree) × IsFunction builder.now t × IsOk (tree_bytes (numbers_of numbers.now) t) × AreCarried t.items }
-    ensures ok { IfOk result (λ out. (t : FunctionTree) → IsFunction builder.now t → tree_bytes (numbers_of numbers.now) t ≡ Ok out.items) }
+    requires { (t : FunctionTree) × IsFunction function.now.builder t
+        × IsOk (tree_bytes (numbers_of numbers.now) t) × AreCarried t.items }
+    ensures ok { IfOk result (λ out. (t : FunctionTree) → IsFunction function.now.builder t
+        → tree_bytes (numbers_of numbers.now) t ≡ Ok out.items) }
     ensures err { IfErr result (λ e. e ≡ Memory) }
 {
-    match encode(alloc, builder, builder.entry().unwrap(), numbers) {
-        Ok(encoder) => {
+    let mut encoder = match FunctionEncoder::new(alloc, &[]) {
+        Ok(encoder) => encoder,
+        Err(_) => return Err(EmitError::Memory),
+    };
+    let locals = IdHashMap::new(alloc);
+    match function.emit_instructions(numbers, &locals, &mut encoder, None) {
+        Ok(()) => {
             let mut bytes = encoder.into_raw_body();
             // The count of declarations, which is 0.
             bytes.remove(0);
             Ok(bytes)
         }
-        Err(WriteFault::Emit(error)) => Err(error),
-        Err(WriteFault::NotCarried) => unreachable!(),
+        Err(error) => Err(error),
     }
 }
 
@@ -57,12 +60,28 @@ fn rewrite(
     requires module_is { «module».now ≡ demo_module }
     requires indices_are { indices.now ≡ demo_indices }
     requires numbers_are { numbers_of numbers.now ≡ demo_numbers }
-    ensures ok { IfOk result (λ out. IsParsedAndWritten ops.now out.items) }
-    ensures err { IfErr result (λ e. IsRefused ops.now e) }
+    ensures ok { IfOk result (λ out. IsRewritten ops.now out.items) }
+    ensures err { IfErr result (λ e. WantsMemory e ⊎ IsFaulty ops.now e) }
 {
-    let (function, ty) = (FunctionId::new(0), TypeId::new(1));
-    match parse_body(alloc, module, indices, function, ty, ops, 0) {
-        Ok(builder) => match written_operators(alloc, &builder, numbers) {
+    let body = FunctionBody {
+        bytes: ops,
+        start: 0,
+        ops: 0,
+    };
+    let mut instrs = Vec::new(alloc);
+    let parsed = LocalFunction::parse(
+        module,
+        indices,
+        FunctionId::new(0),
+        TypeId::new(1),
+        Vec::new(alloc),
+        body,
+        None::<&fn(&usize) -> InstrLocId>,
+        AcceptAll,
+        &mut instrs,
+    );
+    match parsed {
+        Ok(function) => match written_operators(alloc, &function, numbers) {
             Ok(bytes) => Ok(bytes),
             Err(error) => Err(RewriteError::Emit(error)),
         },

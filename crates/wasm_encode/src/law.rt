@@ -1,16 +1,14 @@
 //! The law of what is written, the contract of a function that does nothing.
 
 ghost use Rattle.std.specs.List.{AllByRecursion};
-ghost use Rattle.wasm_ops.specs.Fitting.{FitsLabel, FitsClause, FitsValue, FitsBlock};
-ghost use Rattle.wasm_ops.specs.Fitting.{AllFit, AreSpeakable, HasRow};
+ghost use Rattle.wasm_ops.specs.Fitting.{FitsLabel, FitsClause, AllFit, AreSpeakable, HasRow};
 ghost use Rattle.wasm_ops.specs.Meaning.{meaning};
 ghost use Rattle.wasm_ops.specs.Parts.{immediates_of};
 ghost use Rattle.wasm_ops.specs.Shortest.{short};
 ghost use Rattle.wasm_ops.specs.Spelling.{Spells};
 
 use crate::out_operator::{OutClauses, OutImmediates, OutOp, OutTable};
-use walrus_ir::{HeapType, RefType, ValType};
-use wasm_ops::{BlockType, Immediates, Op, RawCatch, RawValType, index_rows, parts_of};
+use wasm_ops::{BlockType, Immediates, Op, RawCatch, index_rows, parts_of};
 
 /// Labels fit their spellings.
 fn law_labels(labels: &[u32])
@@ -43,29 +41,6 @@ fn law_clauses(clauses: &[RawCatch])
     }
 }
 
-/// The index that a value type may name fits its spelling.
-fn law_value_type(ty: RawValType)
-    ensures { FitsValue ty }
-{
-    if let ValType::Ref(RefType { heap_type, .. }) = ty {
-        match heap_type {
-            HeapType::Abstract(_) => {}
-            HeapType::Concrete(_index) => {}
-        }
-    }
-}
-
-/// The index that a block type may name fits its spelling.
-fn law_block_type(ty: BlockType)
-    ensures { FitsBlock ty }
-{
-    match ty {
-        BlockType::Empty => {}
-        BlockType::Value(ty) => law_value_type(ty),
-        BlockType::FuncType(_index) => {}
-    }
-}
-
 /// The numbers of what follows an opcode fit their spellings.
 fn law_fit(immediates: OutImmediates<'_>)
     requires { AreSpeakable (immediates_of immediates) }
@@ -83,12 +58,20 @@ fn law_fit(immediates: OutImmediates<'_>)
             },
         ) => law_labels(targets),
         Immediates::Access(_memarg) => {}
-        Immediates::Block(ty) => law_block_type(ty),
+        Immediates::Block(ty) => match ty {
+            BlockType::Empty => {}
+            BlockType::Value(_) => {}
+            BlockType::FuncType(_index) => {}
+        },
         Immediates::Clauses(ty, OutClauses { clauses }) => {
-            law_block_type(ty);
             law_clauses(clauses);
+            match ty {
+                BlockType::Empty => {}
+                BlockType::Value(_) => {}
+                BlockType::FuncType(_index) => {}
+            }
         }
-        Immediates::Value(ty) => law_value_type(ty),
+        Immediates::Value(_) => {}
         Immediates::I32(_value) => {}
         Immediates::I64(_value) => {}
         Immediates::F32(_bits) => {}
@@ -123,8 +106,8 @@ fn law_numbers(op: &OutOp<'_>)
     )
 }
 
-/// Of an operator whose opcode has a row, whose lists have fewer than 2^32 items, and whose
-/// alignment can be spelt, the shortest spelling is a spelling: what is written reads back.
+/// Of an operator whose opcode has a row, whose lists have fewer than 2^32 items, and whose types
+/// and alignment can be spelt, the shortest spelling is a spelling: what is written reads back.
 pub fn law_written(op: &OutOp<'_>)
     requires carried { HasRow (meaning op.now) }
     requires speakable { AreSpeakable (meaning op.now).immediates }

@@ -3,10 +3,6 @@ use Rattle.std.proofs.Common.{◌≡◌, ℕ, zero, suc, ◌+◌, ◌*◌, ◌/�
 use Rattle.std.proofs.lemmas.Bool.{eqb-true, lt-leb, cases_lt}
 use Rattle.std.proofs.lemmas.Nat.{pow-add}
 use Rattle.std.specs.List.{AllByRecursion, flat_map}
-use Rattle.walrus_ir.specs.declared.val_type.AbstractHeapType.{AbstractHeapType}
-use Rattle.walrus_ir.specs.declared.val_type.AbstractHeapType.TheVariants as abstract
-use Rattle.walrus_ir.specs.declared.val_type.HeapType.{HeapType}
-use Rattle.walrus_ir.specs.declared.val_type.HeapType.TheVariants.{Abstract, Concrete}
 use Rattle.walrus_ir.specs.declared.val_type.ValType.{ValType}
 use Rattle.walrus_ir.specs.declared.val_type.ValType.TheVariants.{I32, I64, F32, F64, V128, Ref}
 use Rattle.wasm_ops.specs.declared.types.BlockType.{BlockType}
@@ -32,21 +28,21 @@ use Rattle.wasm_ops.specs.TernaryOperations.{ternary_opcode}
 use Rattle.wasm_ops.specs.AccessOperations.{load_opcode, store_opcode}
 use Rattle.wasm_ops.specs.Reading.{Many}
 use Rattle.wasm_ops.specs.Numbers.{IsU32, IsU64, IsS32, IsS33, IsS64, IsByte, joined, AreBits}
-use Rattle.wasm_ops.specs.Types.{row_at, is_listed, listed, heap_at, IsHeapType, value_at, nullable_at, IsValueType, IsBlockType}
+use Rattle.wasm_ops.specs.Types.{row_at, value_at, nullable_at, IsValueType, IsBlockType}
 use Rattle.wasm_ops.specs.Operations.{Access, CatchClause, RawImmediate, index, local, label, handler, outer, number, access, branch_table, clauses, block, value, i32, i64, f32, f64, v128, lane, zero_byte, RawOperation}
 use Rattle.wasm_ops.specs.Immediates.{Kind, an_access, kind_of, IsAccess, IsTable, IsClause, AreClauses, IsSelected, SpellsImmediate, SpellsImmediates}
 use Rattle.wasm_ops.specs.Opcodes.{bulk_rows, is_prefix, kinds_of_byte, kinds_behind, kinds_of, IsOpcode}
 use Rattle.wasm_ops.specs.Spelling.{Spells}
-use Rattle.wasm_ops.specs.Shortest.{short_number, short_integer, short_bits, heap_byte, short_heap, short_reference, short_value, short_block, short_access, short_table, short_tag, short_clause, short_clauses, short_immediate, short_immediates, short_opcode, short}
-use Rattle.wasm_ops.specs.Fitting.{IsWithin, FitsHeap, FitsValue, FitsBlock, FitsTag, FitsLabel, FitsClause, Fits, AllFit, HasRow}
+use Rattle.wasm_ops.specs.Shortest.{short_number, short_integer, short_bits, short_value, short_block, short_access, short_table, short_tag, short_clause, short_clauses, short_immediate, short_immediates, short_opcode, short}
+use Rattle.wasm_ops.specs.Fitting.{IsSpeltType, IsWithin, FitsBlock, FitsTag, FitsLabel, FitsClause, Fits, AllFit, HasRow}
 use Rattle.wasm_ops.proofs.Agreement.{chosen}
 use Rattle.wasm_ops.proofs.ShortestNumbers.{unsigned_spelt, signed_spelt}
-use Rattle.wasm_ops.proofs.ShortestTypes.{row_holds, index_starts, heap_between, heap_below, abstract_byte, empty_between, value_between, as_block_value}
+use Rattle.wasm_ops.proofs.ShortestTypes.{row_holds, index_starts, empty_between, value_between}
 use Rattle.wasm_ops.proofs.ShortestImmediates.{either_way, plain_access, indexed_access, short_plain, short_indexed}
 
 -- ---- numbers
 
-u32_spelt : (n : ℕ) → n < 2 ^ 32 → IsU32 n (short_number n)
+pub u32_spelt : (n : ℕ) → n < 2 ^ 32 → IsU32 n (short_number n)
 u32_spelt n h = unsigned_spelt 9 32 n (omega arith) h
 
 u64_spelt : (n : ℕ) → n < 2 ^ 64 → IsU64 n (short_number n)
@@ -56,7 +52,7 @@ s32_spelt : (z : ℤ) → IsWithin (2 ^ 31) z → IsS32 z (short_integer z)
 s32_spelt (pos n) h = signed_spelt 9 32 (pos n) (omega arith) h
 s32_spelt (negsuc n) h = signed_spelt 9 32 (negsuc n) (omega arith) h
 
-s33_spelt : (n : ℕ) → n < 2 ^ 32 → IsS33 (pos n) (short_integer (pos n))
+pub s33_spelt : (n : ℕ) → n < 2 ^ 32 → IsS33 (pos n) (short_integer (pos n))
 s33_spelt n h = signed_spelt 9 33 (pos n) (omega arith) h
 
 s64_spelt : (z : ℤ) → IsWithin (2 ^ 63) z → IsS64 z (short_integer z)
@@ -80,53 +76,31 @@ bits_spelt count bits h = (short_bits count bits, ap (λ (n : ℕ). Ok n) (bits_
 
 -- ---- types
 
-abstract_spelt : (a : AbstractHeapType) → IsHeapType (Abstract a) (heap_byte a ∷ [])
-unfolding heap_at
-abstract_spelt abstract.NoExn = inl (refl, (0x74, refl, (omega arith, refl)))
-abstract_spelt abstract.NoFunc = inl (refl, (0x73, refl, (omega arith, refl)))
-abstract_spelt abstract.NoExtern = inl (refl, (0x72, refl, (omega arith, refl)))
-abstract_spelt abstract.None = inl (refl, (0x71, refl, (omega arith, refl)))
-abstract_spelt abstract.Func = inl (refl, (0x70, refl, (omega arith, refl)))
-abstract_spelt abstract.Extern = inl (refl, (0x6f, refl, (omega arith, refl)))
-abstract_spelt abstract.Any = inl (refl, (0x6e, refl, (omega arith, refl)))
-abstract_spelt abstract.Eq = inl (refl, (0x6d, refl, (omega arith, refl)))
-abstract_spelt abstract.I31 = inl (refl, (0x6c, refl, (omega arith, refl)))
-abstract_spelt abstract.Struct = inl (refl, (0x6b, refl, (omega arith, refl)))
-abstract_spelt abstract.Array = inl (refl, (0x6a, refl, (omega arith, refl)))
-abstract_spelt abstract.Exn = inl (refl, (0x69, refl, (omega arith, refl)))
-
-pub heap_spelt : (h : HeapType ℕ) → FitsHeap h → IsHeapType h (short_heap h)
-heap_spelt (Abstract a) h = abstract_spelt a
-heap_spelt (Concrete n) h = inr (index_starts (λ b. is_listed (heap_at b)) heap_between n, (pos n, refl, s33_spelt n h))
-
--- with a byte before the heap type
-long_spelt : (nullable : Bool) (byte : ℕ) (h : HeapType ℕ) → nullable_at byte ≡ Some nullable → byte < 256 → FitsHeap h
-    → IsValueType (Ref (record { nullable = nullable; heap_type = h })) (byte ∷ short_heap h)
-long_spelt nullable byte h is below fits =
-    inl (ap is_listed is, ((nullable, h), refl, (byte ∷ [], short_heap h, refl, (byte, ap listed is, (below, refl)), heap_spelt h fits)))
-
-reference_spelt : (nullable : Bool) (h : HeapType ℕ) → FitsHeap h
-    → IsValueType (Ref (record { nullable = nullable; heap_type = h })) (short_reference nullable h)
-unfolding nullable_at
-reference_spelt true (Abstract a) h = let one = abstract_byte a in inr (one.1, (heap_byte a, ap listed one.0, (heap_below a, refl)))
-reference_spelt true (Concrete n) h = long_spelt true 0x63 (Concrete n) refl (omega arith) h
-reference_spelt false t h = long_spelt false 0x64 t refl (omega arith) h
-
-pub value_spelt : (t : ValType ℕ) → FitsValue t → IsValueType t (short_value t)
+value_spelt : (t : ValType ℕ) → IsSpeltType t → IsValueType t (short_value t)
 unfolding value_at nullable_at
 value_spelt I32 h = inr (refl, (0x7f, refl, (omega arith, refl)))
 value_spelt I64 h = inr (refl, (0x7e, refl, (omega arith, refl)))
 value_spelt F32 h = inr (refl, (0x7d, refl, (omega arith, refl)))
 value_spelt F64 h = inr (refl, (0x7c, refl, (omega arith, refl)))
 value_spelt V128 h = inr (refl, (0x7b, refl, (omega arith, refl)))
-value_spelt (Ref r) h = reference_spelt r.nullable r.heap_type h
+value_spelt (Ref r) h = absurd h
 
-block_spelt : (b : BlockType) → FitsBlock b → IsBlockType b (short_block b)
+-- the first byte of a number type is that of a value type
+block_value_spelt : (t : ValType ℕ) → IsSpeltType t → IsBlockType (Value t) (short_value t)
+unfolding value_at nullable_at
+block_value_spelt I32 h = inr (refl, inl (refl, (I32, refl, value_spelt I32 h)))
+block_value_spelt I64 h = inr (refl, inl (refl, (I64, refl, value_spelt I64 h)))
+block_value_spelt F32 h = inr (refl, inl (refl, (F32, refl, value_spelt F32 h)))
+block_value_spelt F64 h = inr (refl, inl (refl, (F64, refl, value_spelt F64 h)))
+block_value_spelt V128 h = inr (refl, inl (refl, (V128, refl, value_spelt V128 h)))
+block_value_spelt (Ref r) h = absurd h
+
+pub block_spelt : (b : BlockType) → FitsBlock b → IsBlockType b (short_block b)
 block_spelt Empty h = inl (refl, (0x40, refl, (omega arith, refl)))
-block_spelt (Value t) h = as_block_value t (short_value t) (value_spelt t h)
+block_spelt (Value t) h = block_value_spelt t h
 block_spelt (FuncType n) h = inr (index_starts (λ b. eqb b 0x40) empty_between n, inr (index_starts _ value_between n, (pos n, refl, s33_spelt n h)))
 
-selected_spelt : (t : ValType ℕ) → FitsValue t → IsSelected t (1 ∷ short_value t)
+pub selected_spelt : (t : ValType ℕ) → IsSpeltType t → IsSelected t (1 ∷ short_value t)
 selected_spelt t h = ((1, t), refl, (1 ∷ [], short_value t, refl, (1, refl, (omega arith, refl)), value_spelt t h))
 
 access_spelt : (a : Access) → Fits (access a) → IsAccess a (short_access a)

@@ -267,7 +267,7 @@ fn wide_last_signed(byte: u8) -> i64
 /// A signed number of up to three bytes at the front, and what follows it, where one stands there.
 #[inline(always)]
 #[tactic(auto, using(crate::proofs::Powers::powers), unfolding(crate::specs::Numbers::integer))]
-pub(crate) fn read_short_signed(bytes: &[u8]) -> Option<(i64, &[u8])>
+fn read_short_signed(bytes: &[u8]) -> Option<(i64, &[u8])>
     ensures short { IfSome result (λ x. an_s32 bytes.now ≡ Ok (x.0, x.1.now)) }
     ensures long { IfSome result (λ x. an_s64 bytes.now ≡ Ok (x.0, x.1.now)) }
     ensures low { IfSome result (λ x. pos 0 ≤ℤ (x.0 +ℤ pos (2 ^ 31))) }
@@ -294,6 +294,23 @@ pub(crate) fn read_short_signed(bytes: &[u8]) -> Option<(i64, &[u8])>
         return Some((join_signed(21, *first - 128, high), rest));
     }
     None
+}
+
+/// An `s32` of up to three bytes at the front, and what follows it, where one stands there.
+#[inline(always)]
+pub(crate) fn read_short_s32(bytes: &[u8]) -> Option<(i32, &[u8])>
+    ensures { IfSome result (λ x. an_s32 bytes.now ≡ Ok (x.0, x.1.now)) }
+{
+    let (value, rest) = read_short_signed(bytes)?;
+    Some((value as i32, rest))
+}
+
+/// An `s64` of up to three bytes at the front, and what follows it, where one stands there.
+#[inline(always)]
+pub(crate) fn read_short_s64(bytes: &[u8]) -> Option<(i64, &[u8])>
+    ensures { IfSome result (λ x. an_s64 bytes.now ≡ Ok (x.0, x.1.now)) }
+{
+    read_short_signed(bytes)
 }
 
 /// A byte at the front, and what follows it.

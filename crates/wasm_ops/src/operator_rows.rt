@@ -87,20 +87,12 @@ macro_rules! parts_of {
             $crate::Op::Unreachable => $each!($with $crate::Opcode::Byte(0x00), $crate::Immediates::Nothing),
             $crate::Op::Nop => $each!($with $crate::Opcode::Byte(0x01), $crate::Immediates::Nothing),
             $crate::Op::Block { ty } => $each!($with $crate::Opcode::Byte(0x02), $crate::Immediates::Block(*ty)),
-            $crate::Op::Loop { ty } => {
-                $each!($with $crate::Opcode::Byte(0x03), $crate::Immediates::Block(*ty))
-            }
-            $crate::Op::If { ty } => {
-                $each!($with $crate::Opcode::Byte(0x04), $crate::Immediates::Block(*ty))
-            }
-            $crate::Op::Else => {
-                $each!($with $crate::Opcode::Byte(0x05), $crate::Immediates::Nothing)
-            }
+            $crate::Op::Loop { ty } => $each!($with $crate::Opcode::Byte(0x03), $crate::Immediates::Block(*ty)),
+            $crate::Op::If { ty } => $each!($with $crate::Opcode::Byte(0x04), $crate::Immediates::Block(*ty)),
+            $crate::Op::Else => $each!($with $crate::Opcode::Byte(0x05), $crate::Immediates::Nothing),
             $crate::Op::End => $each!($with $crate::Opcode::Byte(0x0b), $crate::Immediates::Nothing),
             $crate::Op::Br { label } => $each!($with $crate::Opcode::Byte(0x0c), $crate::Immediates::Label(*label)),
-            $crate::Op::BrIf { label } => {
-                $each!($with $crate::Opcode::Byte(0x0d), $crate::Immediates::Label(*label))
-            }
+            $crate::Op::BrIf { label } => $each!($with $crate::Opcode::Byte(0x0d), $crate::Immediates::Label(*label)),
             $crate::Op::Return => $each!($with $crate::Opcode::Byte(0x0f), $crate::Immediates::Nothing),
             $crate::Op::Drop => $each!($with $crate::Opcode::Byte(0x1a), $crate::Immediates::Nothing),
             $crate::Op::Select => $each!($with $crate::Opcode::Byte(0x1b), $crate::Immediates::Nothing),

@@ -10,11 +10,11 @@ use crate::access_reader::{load_kind, read_short_memarg, store_kind};
 use crate::byte_reader::read_behind_byte;
 use crate::fault::{ReadError, ReadFault};
 use crate::index_rows;
-use crate::number::{read_short_signed, read_short_unsigned, read_u32};
+use crate::number::{read_short_s32, read_short_s64, read_short_unsigned, read_u32};
 use crate::numeric_reader::numeric;
 use crate::operator::Operator;
 use crate::prefix_reader::read_behind_fc;
-use crate::type_reader::read_short_block_type;
+use crate::type_reader::read_empty_block_type;
 use std::marker::Model;
 
 /// The operator at the front, and what follows it.
@@ -212,10 +212,10 @@ impl<'a> Reader<'a> {
                 0x00 => answer!(self, Operator::Unreachable, rest),
                 0x01 => answer!(self, Operator::Nop, rest),
                 0x02 =>
-                    answer_made!(self, read_short_block_type(rest), ty => Operator::Block { ty }),
+                    answer_made!(self, read_empty_block_type(rest), ty => Operator::Block { ty }),
                 0x03 =>
-                    answer_made!(self, read_short_block_type(rest), ty => Operator::Loop { ty }),
-                0x04 => answer_made!(self, read_short_block_type(rest), ty => Operator::If { ty }),
+                    answer_made!(self, read_empty_block_type(rest), ty => Operator::Loop { ty }),
+                0x04 => answer_made!(self, read_empty_block_type(rest), ty => Operator::If { ty }),
                 0x05 => answer!(self, Operator::Else, rest),
                 0x0b => answer!(self, Operator::End, rest),
                 0x0f => answer!(self, Operator::Return, rest),
@@ -229,14 +229,10 @@ impl<'a> Reader<'a> {
                     self, read_short_memarg(rest),
                     memarg => Operator::Store { kind: store_kind(byte), memarg }
                 ),
-                0x41 => answer_made!(
-                    self, read_short_signed(rest),
-                    value => Operator::I32Const { value: value as i32 }
-                ),
-                0x42 => answer_made!(
-                    self, read_short_signed(rest),
-                    value => Operator::I64Const { value }
-                ),
+                0x41 =>
+                    answer_made!(self, read_short_s32(rest), value => Operator::I32Const { value }),
+                0x42 =>
+                    answer_made!(self, read_short_s64(rest), value => Operator::I64Const { value }),
                 0x45..=0xc4 => answer!(self, numeric(byte), rest),
                 _ => {
                     if let Some((number, rest)) = read_short_unsigned(rest) {

@@ -11,9 +11,9 @@ use Rattle.wasm_body.specs.SourceTree.{Body}
 use Rattle.wasm_body.specs.Naming.{Occurrence, entry_type_id}
 use Rattle.wasm_body.specs.Parsing.Accepted.{Accepted, FirstFault, of_entry}
 use Rattle.wasm_body.specs.Parsing.Lists.{failure, parsed_behind_entry, parsed}
-use Rattle.wasm_body.proofs.Parsing.Parses.{AreBytes}
+use Rattle.wasm_ops.specs.Laws.{AreBytes}
 use Rattle.wasm_body.proofs.Parsing.Answers.{Answers, answers, accepted_parsed, fault_parsed}
-use Rattle.wasm_body.proofs.Parsing.ReadingBytes.{reading_agrees}
+use Rattle.wasm_ops.proofs.ReadingBytes.{reading_agrees}
 use Rattle.walrus_body.specs.declared.local_function.parse.ParsedOperators.{ParsedOperators}
 use Rattle.walrus_body.specs.Parsing.Bodies.{ParseInput, setting_with, mapped_by, HoldsBody, ParsesOperators, IsRefusedAnyway, AcceptsBody, RefusesBody}
 use Rattle.walrus_body.specs.Parsing.Settings.{BothOrNone, locations_in}

@@ -23,17 +23,21 @@ use Rattle.walrus_body.specs.declared.local_function.emit.closing.Closer.{Closer
 use Rattle.walrus_body.specs.declared.local_function.emit.fault.EmitFault.{EmitFault}
 use Rattle.walrus_body.specs.declared.local_function.emit.fault.EmitFault.TheVariants.{Refused, NotCarried}
 use Rattle.walrus_body.specs.declared.local_function.emit.number_maps.NumberMaps.{NumberMaps}
+use Rattle.walrus_body.specs.declared.ids_to_indices.IdsToIndices.{IdsToIndices}
 use Rattle.walrus_body.specs.IndexMaps.{number_of}
 use Rattle.walrus_body.specs.TreeWriting.Closers.{closing}
 use Rattle.walrus_body.specs.TreeWriting.ScopeTables.{depth_in}
 
 -- the numbers that index maps and a map of the function's locals give
-abbrev pub numbers_of : NumberMaps → Numbers
-numbers_of m = record {
-  number_of = λ space id. with_fault Index (number_of m.ids.now space id);
+abbrev pub numbers_by : IdsToIndices → List (ℕ × ℕ) → Numbers
+numbers_by ids locals = record {
+  number_of = λ space id. with_fault Index (number_of ids space id);
   local_number = λ id.
-      some_or (get (from_entries {R = nat_cmp} m.locals.now.entries) id) UnnumberedLocal;
+      some_or (get (from_entries {R = nat_cmp} locals) id) UnnumberedLocal;
 }
+
+abbrev pub numbers_of : NumberMaps → Numbers
+numbers_of m = numbers_by m.ids.now m.locals.now.entries
 
 -- The operator of an instruction, where the sequences at these places are open, innermost first,
 -- and its first sequence, if it has one, has this type.

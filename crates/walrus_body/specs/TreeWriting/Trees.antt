@@ -7,6 +7,7 @@ use Rattle.walrus_ir.specs.Unfolding.{SequenceAt, LocatedInstr, IsTree}
 use Rattle.walrus_ir.specs.Faults.{FirstWalkFault}
 use Rattle.walrus_ir.specs.Events.{WalkEvent, events}
 use Rattle.wasm_ops.specs.Operations.{RawOperation}
+use Rattle.wasm_body.specs.declared.error.EmitError.{EmitError}
 use Rattle.wasm_body.specs.declared.error.EmitError.TheVariants.{Memory}
 use Rattle.wasm_body.specs.Control.{end_operation}
 use Rattle.wasm_body.specs.Translation.{Located, at_location}
@@ -88,10 +89,13 @@ pub record IsUncarriedTree (b : List InstrSeq) (entry : ℕ) (to : Numbers) : Ty
   pub has_map : Bool
   pub stops : StopsUncarried (first_emitter b to base has_map (whole_scope entry seq)) (events tree)
 
--- Memory ran out, there is no tree, or the fault is the first of the tree in order of writing; or
--- an operator isn't carried.
-abbrev pub IsUnwritten : List InstrSeq → (entry : ℕ) → Numbers → EmitFault → Type 0
-IsUnwritten b entry to (Refused e) =
+-- Memory ran out, there is no tree, or the fault is the first of the tree in order of writing.
+abbrev pub IsUnwrittenFor : List InstrSeq → (entry : ℕ) → Numbers → EmitError → Type 0
+IsUnwrittenFor b entry to e =
     (e ≡ Memory) ⊎ (((walk : WalkError) × FirstWalkFault b entry walk × (e ≡ fault_of_walk walk))
     ⊎ ((t : FunctionTree) × HasTree b entry t × (tree_bytes to t ≡ Err e)))
+
+-- It isn't for this error; or an operator isn't carried.
+abbrev pub IsUnwritten : List InstrSeq → (entry : ℕ) → Numbers → EmitFault → Type 0
+IsUnwritten b entry to (Refused e) = IsUnwrittenFor b entry to e
 IsUnwritten b entry to NotCarried = IsUncarriedTree b entry to

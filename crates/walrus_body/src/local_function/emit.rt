@@ -5,7 +5,9 @@ ghost use Rattle.walrus_body.specs.Emission.{first_type_at};
 ghost use Rattle.wasm_body.specs.InstructionTable.{clauses_of_try};
 ghost use Rattle.wasm_body.specs.FlatText.{are_lawful as lawful_clauses};
 ghost use Rattle.walrus_body.specs.TreeWriting.Operators.{numbers_of};
-ghost use Rattle.walrus_body.specs.TreeWriting.Trees.{IsFirstScope, IsDraftOf, IsUnwritten, Appends, AppendsBytes};
+ghost use Rattle.walrus_body.specs.declared.local_function.emit.fault.EmitFault.TheVariants.{Refused, NotCarried};
+ghost use Rattle.walrus_body.specs.TreeWriting.Carrying.{IsCarried};
+ghost use Rattle.walrus_body.specs.TreeWriting.Trees.{IsFirstScope, IsDraftOf, IsUnwritten, IsUnwrittenFor, Appends, AppendsBytes};
 ghost use Rattle.walrus_body.specs.TreeWriting.Emitters.{ClosesWith, IsFaultOfCloser};
 
 mod announcing;
@@ -14,7 +16,7 @@ mod closing;
 mod draft;
 mod fault;
 mod labels;
-mod number_maps;
+pub(crate) mod number_maps;
 mod open_scopes;
 mod operators;
 mod written_types;
@@ -325,5 +327,59 @@ pub(crate) fn emit_tree(
             Err(_) => Err(EmitFault::Refused(EmitError::Memory)),
         },
         Err(fault) => Err(fault),
+    }
+}
+
+/// The error of a fault that isn't `NotCarried`.
+fn refused(fault: EmitFault) -> EmitError
+    requires { (fault ≡ NotCarried) → ⊥ }
+    ensures { fault ≡ Refused result }
+{
+    match fault {
+        EmitFault::Refused(error) => error,
+        EmitFault::NotCarried => unreachable!(),
+    }
+}
+
+/// Appends a tree and its pairs, as `emit_tree_with_map`, where an operator is carried for each
+/// instruction.
+pub(crate) fn emit_with_map(
+    builder: &FunctionBuilder,
+    entry: InstrSeqId,
+    numbers: &NumberMaps<'_>,
+    encoder: &mut FunctionEncoder,
+    map: &mut Vec<(InstrLocId, usize)>,
+) -> Result<(), EmitError>
+    requires carried { IsCarried builder.now.sequences entry }
+    ensures ok { OnOk result (Appends builder.now.sequences entry (numbers_of numbers.now)
+        encoder.old encoder.new map.old.items map.new.items) }
+    ensures err { IfErr result (IsUnwrittenFor builder.now.sequences entry
+        (numbers_of numbers.now)) }
+    ensures same_bytes { OnErr result (encoder.new ≡ encoder.old) }
+    ensures same_pairs { OnErr result (map.new.items ≡ map.old.items) }
+{
+    match emit_tree_with_map(builder, entry, numbers, encoder, map) {
+        Ok(()) => Ok(()),
+        Err(fault) => Err(refused(fault)),
+    }
+}
+
+/// Appends a tree, as `emit_tree`, where an operator is carried for each instruction.
+pub(crate) fn emit_without_map(
+    builder: &FunctionBuilder,
+    entry: InstrSeqId,
+    numbers: &NumberMaps<'_>,
+    encoder: &mut FunctionEncoder,
+) -> Result<(), EmitError>
+    requires carried { IsCarried builder.now.sequences entry }
+    ensures ok { OnOk result (AppendsBytes builder.now.sequences entry (numbers_of numbers.now)
+        encoder.old encoder.new) }
+    ensures err { IfErr result (IsUnwrittenFor builder.now.sequences entry
+        (numbers_of numbers.now)) }
+    ensures same_bytes { OnErr result (encoder.new ≡ encoder.old) }
+{
+    match emit_tree(builder, entry, numbers, encoder) {
+        Ok(()) => Ok(()),
+        Err(fault) => Err(refused(fault)),
     }
 }

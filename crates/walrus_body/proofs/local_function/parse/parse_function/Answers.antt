@@ -3,7 +3,7 @@ use Rattle.wasm_body.specs.declared.error.ParseError.TheVariants.{EntryTypeMissi
 use Rattle.wasm_body.specs.Naming.{Environment, entry_type_id}
 use Rattle.wasm_ops.specs.Position.{Position}
 use Rattle.walrus_ir.specs.Results.{some_or}
-use Rattle.wasm_body.proofs.Parsing.ReadingBytes.{each_byte}
+use Rattle.wasm_ops.proofs.ReadingBytes.{each_byte}
 use Rattle.walrus_body.specs.Parsing.Bodies.{input_of, operators_input, ParsesOperators}
 use Rattle.walrus_body.specs.Parsing.OpenTrees.{env_of}
 use Rattle.walrus_body.proofs.Parsing.Beginnings.{entry_found}
