@@ -139,10 +139,6 @@ fn names_the_space_of_an_index(rt: HostRuntime) -> Result<(), Fail> {
             [0x02, 4, 0x0b, 0x0b].as_slice(),
             out_of_range(Space::Types, 4),
         ),
-        (
-            [0x1c, 1, 0x63, 5, 0x0b].as_slice(),
-            out_of_range(Space::Types, 5),
-        ),
         ([0x25, 2, 0x0b].as_slice(), out_of_range(Space::Tables, 2)),
         ([0x26, 3, 0x0b].as_slice(), out_of_range(Space::Tables, 3)),
         (

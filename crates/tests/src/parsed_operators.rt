@@ -2,12 +2,11 @@
 use crate::small_module::{Example, instr_of, parse};
 use std::test::Fail;
 use walrus_ir::{
-    AbstractHeapType, BinaryOp, Binop, Br, BrIf, BrTable, Call, CallIndirect, Const, DataDrop,
-    DataId, ElemDrop, ElementId, ExtendedLoad, FunctionId, GlobalGet, GlobalId, GlobalSet,
-    HeapType, Instr, InstrSeqId, Load, LoadKind, Loop, MemArg, MemoryCopy, MemoryFill, MemoryGrow,
-    MemoryId, MemoryInit, MemorySize, RefType, Select, Store, StoreKind, TableCopy, TableFill,
-    TableGet, TableGrow, TableId, TableInit, TableSet, TableSize, TypeId, UnaryOp, Unop, ValType,
-    Value,
+    BinaryOp, Binop, Br, BrIf, BrTable, Call, CallIndirect, Const, DataDrop, ElemDrop,
+    ExtendedLoad, GlobalGet, GlobalSet, Instr, InstrSeqId, Load, LoadKind, Loop, MemArg,
+    MemoryCopy, MemoryFill, MemoryGrow, MemoryId, MemoryInit, MemorySize, Select, Store, StoreKind,
+    TableCopy, TableFill, TableGet, TableGrow, TableInit, TableSet, TableSize, UnaryOp, Unop,
+    ValType, Value,
 };
 
 /// An instruction of plain ids, as its name and their numbers.
@@ -244,7 +243,7 @@ fn keeps_accesses(rt: HostRuntime) -> Result<(), Fail> {
 fn keeps_numeric_operators(rt: HostRuntime) -> Result<(), Fail> {
     let example = Example::new(rt.alloc())?;
     let ops = [
-        0x45, 0x6a, 0xa7, 0xc0, 0x1b, 0x1c, 1, 0x7e, 0x1c, 1, 0x64, 1, 0xfc, 0x87, 0, 0x0b,
+        0x45, 0x6a, 0xa7, 0xc0, 0x1b, 0x1c, 1, 0x7e, 0xfc, 0x87, 0, 0x0b,
     ];
     let function = parse(rt.alloc(), &example, &ops)?;
     let eqz = UnaryOp::I32Eqz;
@@ -259,15 +258,7 @@ fn keeps_numeric_operators(rt: HostRuntime) -> Result<(), Fail> {
     assert!(rt;
         matches!(instr_of(&function, 0, 3), Some(Instr::Unop(Unop { op })) if *op == extend)
     );
-    let concrete = RefType {
-        nullable: false,
-        heap_type: HeapType::Concrete(TypeId::new(2)),
-    };
-    for (position, wanted) in [
-        (4, None),
-        (5, Some(ValType::I64)),
-        (6, Some(ValType::Ref(concrete))),
-    ] {
+    for (position, wanted) in [(4, None), (5, Some(ValType::I64))] {
         match instr_of(&function, 0, position) {
             Some(Instr::Select(Select { ty })) => assert_eq!(rt; *ty, wanted, "at {position}"),
             _ => assert!(rt; false, "at {position}"),
@@ -275,7 +266,7 @@ fn keeps_numeric_operators(rt: HostRuntime) -> Result<(), Fail> {
     }
     let truncate = UnaryOp::I64TruncUSatF64;
     assert!(rt;
-        matches!(instr_of(&function, 0, 7), Some(Instr::Unop(Unop { op })) if *op == truncate)
+        matches!(instr_of(&function, 0, 6), Some(Instr::Unop(Unop { op })) if *op == truncate)
     );
     Ok(())
 }
