@@ -72,18 +72,19 @@ fn shows_its_frames(rt: HostRuntime) -> Result<(), Fail> {
     context.push_control_with_ty(BlockKind::If, TypeId::new(2))?;
     context.push_control(BlockKind::Block, &[ValType::I32], &[ValType::I32])?;
     context.unreachable()?;
-    let wanted = [
-        (BlockKind::Block, true, [ValType::I32].as_slice()),
-        (BlockKind::If, false, [ValType::I32].as_slice()),
-        (BlockKind::FunctionEntry, false, [].as_slice()),
-    ];
-    for (n, (kind, unreachable, types)) in wanted.into_iter().enumerate() {
+    let value = [ValType::I32];
+    for (n, seq, kind, unreachable, length) in [
+        (0, 2, BlockKind::Block, true, 1),
+        (1, 1, BlockKind::If, false, 1),
+        (2, 0, BlockKind::FunctionEntry, false, 0),
+    ] {
+        let types = &value[..length];
         let frame = context.control(n)?;
         assert_eq!(rt; frame.kind, kind, "at {n}");
         assert_eq!(rt; frame.unreachable, unreachable, "at {n}");
         assert_eq!(rt; frame.start_types.as_slice(), types, "at {n}");
         assert_eq!(rt; frame.end_types.as_slice(), types, "at {n}");
-        assert_eq!(rt; frame.block.index(), 2 - n.min(2), "at {n}");
+        assert_eq!(rt; frame.block.index(), seq, "at {n}");
         // Each frame has instructions of its own, which begin at the first.
         assert_eq!(rt; frame.start, 0, "at {n}");
     }

@@ -2,11 +2,10 @@
 use crate::small_module::{Example, instr_of, parse};
 use std::test::Fail;
 use walrus_ir::{
-    BinaryOp, Binop, Br, BrIf, BrTable, Call, CallIndirect, Const, DataDrop, ElemDrop,
-    ExtendedLoad, GlobalGet, GlobalSet, Instr, InstrSeqId, Load, LoadKind, Loop, MemArg,
-    MemoryCopy, MemoryFill, MemoryGrow, MemoryId, MemoryInit, MemorySize, Select, Store, StoreKind,
-    TableCopy, TableFill, TableGet, TableGrow, TableInit, TableSet, TableSize, UnaryOp, Unop,
-    ValType, Value,
+    BinaryOp, Binop, Br, BrIf, Call, CallIndirect, Const, DataDrop, ElemDrop, ExtendedLoad,
+    GlobalGet, GlobalSet, Instr, InstrSeqId, Load, LoadKind, Loop, MemArg, MemoryCopy, MemoryFill,
+    MemoryGrow, MemoryId, MemoryInit, MemorySize, Select, Store, StoreKind, TableCopy, TableFill,
+    TableGet, TableGrow, TableInit, TableSet, TableSize, UnaryOp, Unop, ValType, Value,
 };
 
 /// An instruction of plain ids, as its name and their numbers.
@@ -97,10 +96,10 @@ fn names_sequences_by_labels(rt: HostRuntime) -> Result<(), Fail> {
         assert_eq!(rt; named(instr), Some(("br_if", block, 0)), "at {position}");
     }
     match instr_of(&function, 2, 3) {
-        Some(Instr::BrTable(BrTable { blocks, default })) => {
+        Some(Instr::BrTable(table)) => {
             let targets = [InstrSeqId::new(1), InstrSeqId::new(2), InstrSeqId::new(0)];
-            assert_eq!(rt; blocks.as_slice(), targets.as_slice());
-            assert_eq!(rt; *default, InstrSeqId::new(1));
+            assert_eq!(rt; table.blocks.as_slice(), targets.as_slice());
+            assert_eq!(rt; table.default, InstrSeqId::new(1));
         }
         _ => assert!(rt; false),
     }
