@@ -16,6 +16,16 @@ mod lent;
 #[cfg(test)]
 mod modules;
 #[cfg(test)]
+mod parse_locations;
+#[cfg(test)]
+mod parse_refusals;
+#[cfg(test)]
+mod parsed_functions;
+#[cfg(test)]
+mod parsed_operators;
+#[cfg(test)]
+mod parsing;
+#[cfg(test)]
 mod printing;
 #[cfg(test)]
 mod program;
@@ -28,6 +38,9 @@ mod rewriting;
 mod segments;
 #[cfg(test)]
 mod sizes;
+#[cfg(test)]
+mod small_module;
+mod validators;
 #[cfg(test)]
 mod walk;
 #[cfg(test)]
