@@ -1,1 +1,2 @@
 pub mod Recording
+pub mod Plain
