@@ -1,2 +1,2 @@
 pub mod Recording
-pub mod Plain
+pub mod PlainTrees

@@ -78,13 +78,7 @@ fn pairs_have_the_places_in_the_encoder(rt: HostRuntime) -> Result<(), Fail> {
     let locals = IdHashMap::new(rt.alloc());
     let mut encoder = FunctionEncoder::new(rt.alloc(), &[])?;
     let mut map = Vec::new(rt.alloc());
-    let answer = write(
-        &function,
-        &indices,
-        &locals,
-        &mut encoder,
-        Some(&mut map),
-    );
+    let answer = write(&function, &indices, &locals, &mut encoder, Some(&mut map));
     assert_eq!(rt; answer, Some(Ok(())));
     assert_eq!(rt;
         encoder.bytes(),

@@ -1,7 +1,7 @@
 //! Writing functions that are made by hand of a few instructions, an operator of each of which is
 //! carried.
 ghost use Rattle.std.specs.Prelude.{◌≡◌, IsTrue};
-ghost use Rattle.tests.specs.Plain.{are_plain, AreAllPlain};
+ghost use Rattle.tests.specs.PlainTrees.{are_plain, AreAllPlain};
 
 use walrus_body::{EmitError, IdsToIndices, LocalFunction};
 use walrus_ir::{FunctionBuilder, IdHashMap, Instr, InstrLocId, InstrSeqId, LocalId};

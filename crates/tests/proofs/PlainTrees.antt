@@ -10,7 +10,7 @@ use Rattle.wasm_body.specs.FunctionTree.{FunctionTree}
 use Rattle.wasm_body.specs.InstructionTable.{operation_of}
 use Rattle.wasm_body.specs.TreeOfFunction.{items_in, sequences_in}
 use Rattle.walrus_body.specs.TreeWriting.Carrying.{AreCarried, AreCarriedIn, IsCarried}
-use Rattle.tests.specs.Plain.{is_plain, are_plain, AreAllPlain}
+use Rattle.tests.specs.PlainTrees.{is_plain, are_plain, AreAllPlain}
 
 plain_carried : (x : LocatedInstr) → is_plain x ≡ true → IsSome (kinds_of (operation_of x.0).opcode)
 unfolding kinds_of_byte
