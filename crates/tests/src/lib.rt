@@ -9,12 +9,15 @@ mod context;
 #[cfg(test)]
 mod emit;
 #[cfg(test)]
+mod emitting;
+#[cfg(test)]
 mod ids_to_indices;
 #[cfg(test)]
 mod indices_to_ids;
 mod lent;
 #[cfg(test)]
 mod modules;
+mod plain;
 #[cfg(test)]
 mod parse_locations;
 #[cfg(test)]

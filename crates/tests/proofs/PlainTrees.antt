@@ -1,0 +1,44 @@
+-- Where each instruction is plain, each is carried.
+use Rattle.std.specs.Prelude.{◌≡◌, ◌&&◌, ℕ, List, ◌∷◌, [], Bool, true, false, IsSome}
+use Rattle.std.proofs.Common.{refl, subst}
+use Rattle.walrus_ir.specs.declared.seq.InstrSeq.{InstrSeq}
+use Rattle.walrus_ir.specs.declared.instr.Instr.TheVariants.{Block, Br, Call, Drop}
+use Rattle.walrus_ir.specs.Tree.{Items, Sequences, alone}
+use Rattle.walrus_ir.specs.Unfolding.{SequenceAt, LocatedInstr, AreItems, are_no_items, are_items, AreSequences, are_no_sequences, are_sequences}
+use Rattle.wasm_ops.specs.Opcodes.{kinds_of, kinds_of_byte}
+use Rattle.wasm_body.specs.FunctionTree.{FunctionTree}
+use Rattle.wasm_body.specs.InstructionTable.{operation_of}
+use Rattle.wasm_body.specs.TreeOfFunction.{items_in, sequences_in}
+use Rattle.walrus_body.specs.TreeWriting.Carrying.{AreCarried, AreCarriedIn, IsCarried}
+use Rattle.tests.specs.PlainTrees.{is_plain, are_plain, AreAllPlain}
+
+plain_carried : (x : LocatedInstr) → is_plain x ≡ true → IsSome (kinds_of (operation_of x.0).opcode)
+unfolding kinds_of_byte
+plain_carried (Block x, location) h = refl
+plain_carried (Br x, location) h = refl
+plain_carried (Call x, location) h = refl
+plain_carried (Drop, location) h = refl
+plain_carried _ h = absurd cc
+
+both_true : (p q : Bool) → (p && q) ≡ true → (p ≡ true) × (q ≡ true)
+both_true true q h = (refl, h)
+both_true false q h = absurd cc
+
+mutual
+  items_carried : {b : List InstrSeq} {xs : List LocatedInstr} {is : Items SequenceAt LocatedInstr} (around : List ℕ) → AreAllPlain b → AreItems b xs is → are_plain xs ≡ true
+      → AreCarried (items_in around is)
+  items_carried around all are_no_items h = tt
+  items_carried around all (are_items {x = x} {xs = xs} inside rest) h =
+      let each = both_true (is_plain x) (are_plain xs) h in
+      (plain_carried x each.0, sequences_carried around all inside, items_carried around all rest each.1)
+
+  sequences_carried : {b : List InstrSeq} {ps : List ℕ} {ss : Sequences SequenceAt LocatedInstr} (around : List ℕ) → AreAllPlain b → AreSequences b ps ss
+      → AreCarriedIn (sequences_in around ss)
+  sequences_carried around all are_no_sequences = tt
+  sequences_carried around all (are_sequences {p = p} {seq = seq} e items rest) =
+      (items_carried (p ∷ around) all items (all p seq e), sequences_carried around all rest)
+
+pub carried : (b : List InstrSeq) (entry : ℕ) → AreAllPlain b → IsCarried b entry
+carried b entry all t h =
+    let whole : AreCarriedIn (sequences_in [] (alone h.unfolded)) = sequences_carried [] all h.is_tree.unfolds in
+    subst (λ (u : FunctionTree). AreCarried u.items) h.is whole.0
