@@ -17,7 +17,6 @@ mod indices_to_ids;
 mod lent;
 #[cfg(test)]
 mod modules;
-mod plain;
 #[cfg(test)]
 mod parse_locations;
 #[cfg(test)]
@@ -28,6 +27,7 @@ mod parsed_functions;
 mod parsed_operators;
 #[cfg(test)]
 mod parsing;
+mod plain;
 #[cfg(test)]
 mod printing;
 #[cfg(test)]
