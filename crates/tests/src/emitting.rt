@@ -30,11 +30,11 @@ fn written(
     let indices = IdsToIndices::new(alloc);
     let locals = IdHashMap::new(alloc);
     let mut encoder = FunctionEncoder::new(alloc, &[])?;
-    let before = (InstrLocId::new(9), 9);
-    let mut map = vec![in alloc; before]?;
+    let mut map = vec![in alloc; (InstrLocId::new(9), 9)]?;
     let answer = write(function, &indices, &locals, &mut encoder, Some(&mut map));
-    let same = encoder.bytes() == [0x00].as_slice() && map.as_slice() == [before].as_slice();
-    Ok((answer, same))
+    let same_bytes = encoder.bytes() == [0x00].as_slice();
+    let same_pairs = map.as_slice() == [(InstrLocId::new(9), 9)].as_slice();
+    Ok((answer, same_bytes && same_pairs))
 }
 
 #[test]
