@@ -15,6 +15,7 @@ pub mod Roles
 pub mod Alone
 pub mod FrameLists
 pub mod TreeChanges
+pub mod LastClauses
 pub mod Sealing
 pub mod AnyLocations
 pub mod Mappings

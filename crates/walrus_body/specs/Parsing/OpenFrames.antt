@@ -1,11 +1,14 @@
 -- What contracts see of the open frames, and what single calls do to them.
-use Rattle.std.specs.Prelude.{◌≡◌, ◌<◌, ◌≤◌, ℕ, zero, suc, List, [], ◌∷◌, ◌++◌, length, slice_get, Some, Bool, true, false, cond, take}
+use Rattle.std.specs.Prelude.{◌≡◌, ◌<◌, ◌≤◌, ℕ, zero, suc, List, [], ◌∷◌, ◌++◌, length, slice_get, Option, Some, None, option_map, Bool, true, false, cond, take, Result, Ok, Err}
 use Rattle.std.specs.List.{AllByRecursion}
 use Rattle.walrus_ir.specs.declared.control.BlockKind.{BlockKind}
+use Rattle.walrus_ir.specs.declared.control.LegacyCatch.{LegacyCatch}
+use Rattle.walrus_ir.specs.declared.instr.Instr.TheVariants as instr
+use Rattle.walrus_ir.specs.Results.{◌>>=◌, some_or}
 use Rattle.walrus_ir.specs.declared.val_type.ValType.{ValType}
 use Rattle.walrus_ir.specs.Unfolding.{LocatedInstr}
 use Rattle.wasm_body.specs.declared.error.ParseError.{ParseError}
-use Rattle.wasm_body.specs.declared.error.ParseError.TheVariants.{NoFrame, NoSuchLabel}
+use Rattle.wasm_body.specs.declared.error.ParseError.TheVariants.{NoFrame, NoSuchLabel, NoTry}
 use Rattle.walrus_body.specs.declared.local_function.frame.ControlFrame.{ControlFrame}
 
 -- An open frame: its kind, what it takes and gives, its sequence, whether what follows is dropped, and its instructions.
@@ -68,3 +71,25 @@ HasNoFrameAt fs n e = (e ≡ NoSuchLabel) × (length fs ≤ n)
 -- the frames inside the n-th have no instructions
 abbrev pub InnerAreEmpty : ℕ → List OpenFrame → Type 0
 InnerAreEmpty n fs = AllByRecursion (λ f. f.instrs ≡ []) (take n fs)
+
+-- ---- a clause of a legacy `try`
+
+-- one more clause for an instruction that is a `try`
+abbrev pub with_clause_in : LegacyCatch → LocatedInstr → Option LocatedInstr
+with_clause_in c (instr.Try t, location) = Some (instr.Try (record t { catches = t.catches ++ c ∷ [] }), location)
+with_clause_in c _ = None
+
+-- the same for the last of these instructions
+abbrev pub with_last_clause : LegacyCatch → List LocatedInstr → Option (List LocatedInstr)
+with_last_clause c [] = None
+with_last_clause c (x ∷ []) = option_map (λ y. y ∷ []) (with_clause_in c x)
+with_last_clause c (x ∷ y ∷ xs) = option_map (λ ys. x ∷ ys) (with_last_clause c (y ∷ xs))
+
+-- the same in a frame, or where that is dead no change
+abbrev pub with_clause : LegacyCatch → OpenFrame → Option OpenFrame
+with_clause c f = cond f.dead (Some f) (option_map (λ xs. record f { instrs = xs }) (with_last_clause c f.instrs))
+
+-- the same in the frame around the innermost
+abbrev pub with_clause_around : LegacyCatch → List OpenFrame → Result (List OpenFrame) ParseError
+with_clause_around c (g ∷ f ∷ fs) = some_or (with_clause c f) NoTry >>= λ h. Ok (g ∷ h ∷ fs)
+with_clause_around c _ = Err NoSuchLabel

@@ -2,6 +2,7 @@
 use Rattle.std.specs.Prelude.{◌≡◌, ◌<◌, ℕ, List, ◌∷◌, length, Some, IsSomeAnd, slice_get, Result, Ok, Err}
 use Rattle.std.specs.List.{AllByRecursion}
 use Rattle.walrus_ir.specs.declared.control.BlockKind.{BlockKind}
+use Rattle.walrus_ir.specs.declared.control.LegacyCatch.{LegacyCatch}
 use Rattle.walrus_ir.specs.declared.module.Module.{Module}
 use Rattle.walrus_ir.specs.declared.seq.InstrSeq.{InstrSeq}
 use Rattle.walrus_ir.specs.declared.val_type.InstrSeqType.{InstrSeqType}
@@ -15,7 +16,7 @@ use Rattle.walrus_body.specs.Environments.{environment_of}
 use Rattle.walrus_ir.specs.Function.{Function, with_new_sequence, with_sequence}
 use Rattle.walrus_body.specs.declared.indices_to_ids.IndicesToIds.{IndicesToIds}
 use Rattle.walrus_body.specs.declared.local_function.frame.ControlFrame.{ControlFrame}
-use Rattle.walrus_body.specs.Parsing.OpenFrames.{OpenFrame, Shows, new_frame, changed_at}
+use Rattle.walrus_body.specs.Parsing.OpenFrames.{OpenFrame, Shows, new_frame, changed_at, with_clause_around}
 
 -- The module and its maps, the function and its builder, and the open frames, innermost first.
 pub record OpenTrees : Type 0 where
@@ -79,6 +80,10 @@ pub record Pops (old new : OpenTrees) (f : ControlFrame) (block : ℕ) : Type 0 
 -- The n-th frame is changed so; nothing else changed.
 abbrev pub ChangesFrame : ℕ → (OpenFrame → OpenFrame) → (old new : OpenTrees) → Type 0
 ChangesFrame n change old new = (n < length old.frames) × (new ≡ record old { frames = changed_at n change old.frames })
+
+-- The frame around the innermost has one more clause; nothing else changed.
+abbrev pub AddsClauseAround : LegacyCatch → (old new : OpenTrees) → Type 0
+AddsClauseAround c old new = (with_clause_around c old.frames ≡ Ok new.frames) × (new ≡ record old { frames = new.frames })
 
 -- A sequence has another end location; nothing else changed.
 pub record EndsAt (old new : OpenTrees) (sequence location : ℕ) : Type 0 where

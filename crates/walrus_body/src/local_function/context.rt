@@ -3,9 +3,9 @@ ghost use Rattle.std.specs.Prelude.{reverse, ◌≡◌, ◌⊎◌, ◌≤◌, �
 ghost use Rattle.walrus_ir.specs.Types.{existing, signature_of};
 ghost use Rattle.walrus_ir.specs.declared.val_type.InstrSeqType.TheVariants.{MultiValue};
 ghost use Rattle.wasm_body.specs.declared.error.ParseError.{ParseError as Fault};
-ghost use Rattle.walrus_body.specs.Parsing.OpenFrames.{AreShown, ShowsAt, killed, with_instr, HasNoFrame, HasNoFrameAt, InnerAreEmpty};
+ghost use Rattle.walrus_body.specs.Parsing.OpenFrames.{AreShown, ShowsAt, killed, with_instr, HasNoFrame, HasNoFrameAt, InnerAreEmpty, with_clause_around};
 ghost use Rattle.wasm_ops.specs.declared.types.BlockType.TheVariants.{Value, FuncType};
-ghost use Rattle.walrus_body.specs.Parsing.OpenTrees.{Opens, OpensBlock, HasNoType, Pops, ChangesFrame, EndsAt};
+ghost use Rattle.walrus_body.specs.Parsing.OpenTrees.{Opens, OpensBlock, HasNoType, Pops, ChangesFrame, AddsClauseAround, EndsAt};
 
 use crate::local_function::frame::{ControlFrame, ControlStack};
 use crate::local_function::own_lists::FrameStack;
@@ -14,8 +14,8 @@ use crate::{IndicesToIds, ParseError};
 use std::alloc::Global;
 use std::marker::Model;
 use walrus_ir::{
-    BlockKind, FunctionBuilder, FunctionId, Instr, InstrLocId, InstrSeqId, InstrSeqType, Module,
-    TypeId, ValType,
+    BlockKind, FunctionBuilder, FunctionId, Instr, InstrLocId, InstrSeqId, InstrSeqType,
+    LegacyCatch, Module, TypeId, ValType,
 };
 use wasm_ops::{BlockType, RawValType};
 
@@ -278,6 +278,22 @@ impl<'a> ValidationContext<'a> {
             Err(ParseError::NoSuchLabel) => Err(ParseError::NoFrame),
             Err(error) => Err(error),
         }
+    }
+
+    /// Adds a clause to the legacy `try` that ends the frame around the innermost, or drops it where
+    /// that frame is dead. So the innermost frame is the body of the `try`, for `delegate`, or the
+    /// clause's own handler.
+    ///
+    /// # Errors
+    ///
+    /// `NoSuchLabel` where no frame is around the innermost, `NoTry` where no `try` ends it, `Memory`.
+    pub fn add_legacy_catch(&mut self, catch: LegacyCatch) -> Result<(), ParseError>
+        ensures ok { OnOk result (AddsClauseAround catch self.old self.new) }
+        ensures err { IfErr result (λ e. (e ≡ Fault.Memory)
+            ⊎ (with_clause_around catch self.old.frames ≡ Err e)) }
+        ensures same { OnErr result (self.new ≡ self.old) }
+    {
+        self.stack.add_clause(catch)
     }
 
     /// The function, the open frames as they are shown, the innermost last, and the list of instructions, which is empty

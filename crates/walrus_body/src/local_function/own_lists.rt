@@ -1,12 +1,12 @@
 //! The open frames, each with a list of instructions of its own.
-ghost use Rattle.std.specs.Prelude.{reverse, ◌≡◌, ◌⊎◌, ◌≤◌, ◌<◌, ◌∷◌, ◌++◌, [], List, length, MatchOption, IfOk, IfErr, OnOk, OnErr, IsSome};
+ghost use Rattle.std.specs.Prelude.{reverse, ◌≡◌, ◌⊎◌, ◌≤◌, ◌<◌, ◌∷◌, ◌++◌, [], List, length, MatchOption, IfOk, IfErr, OnOk, OnErr, IsSome, None, Ok, Err};
 ghost use Rattle.wasm_body.specs.declared.error.ParseError.{ParseError as Fault};
-ghost use Rattle.walrus_body.specs.Parsing.OpenFrames.{OpenFrame, AreShown, ShowsAt, frame_with, new_frame, killed, with_instr, ChangesAt, HasNoFrame, HasNoFrameAt, InnerAreEmpty};
+ghost use Rattle.walrus_body.specs.Parsing.OpenFrames.{OpenFrame, AreShown, ShowsAt, frame_with, new_frame, killed, with_instr, ChangesAt, HasNoFrame, HasNoFrameAt, InnerAreEmpty, with_last_clause, with_clause_around};
 
 use crate::ParseError;
 use crate::local_function::frame::{ControlFrame, ControlStack};
 use std::marker::Model;
-use walrus_ir::{BlockKind, Instr, InstrLocId, InstrSeqId, ValType};
+use walrus_ir::{BlockKind, Instr, InstrLocId, InstrSeqId, LegacyCatch, ValType};
 
 /// Pushes an item, or leaves the list as it was.
 pub(crate) fn pushed<T: Drop>(list: &mut Vec<T>, item: T) -> Result<(), ParseError>
@@ -17,6 +17,32 @@ pub(crate) fn pushed<T: Drop>(list: &mut Vec<T>, item: T) -> Result<(), ParseErr
     match list.push(item) {
         Ok(()) => Ok(()),
         Err(_) => Err(ParseError::Memory),
+    }
+}
+
+/// Adds a clause to the `try` that ends a list of instructions.
+fn add_last_clause(
+    instrs: &mut Vec<(Instr, InstrLocId)>,
+    catch: LegacyCatch,
+) -> Result<(), ParseError>
+    ensures ok { OnOk result (with_last_clause catch instrs.old.items ≡ Some instrs.new.items) }
+    ensures err { IfErr result (λ e. (e ≡ Fault.Memory)
+        ⊎ ((e ≡ Fault.NoTry) × (with_last_clause catch instrs.old.items ≡ None))) }
+    ensures same { OnErr result (instrs.new.items ≡ instrs.old.items) }
+{
+    let Some((instr, location)) = instrs.pop() else {
+        return Err(ParseError::NoTry);
+    };
+    match instr {
+        Instr::Try(mut x) => {
+            let added = pushed(&mut x.catches, catch);
+            instrs.push((Instr::Try(x), location)).unwrap();
+            added
+        }
+        other => {
+            instrs.push((other, location)).unwrap();
+            Err(ParseError::NoTry)
+        }
     }
 }
 
@@ -154,6 +180,24 @@ impl FrameStack {
             return Ok(());
         }
         pushed(&mut self.lists[index], (instr, location))
+    }
+
+    /// Adds a clause to the `try` that ends the frame around the innermost, or drops it where that is
+    /// dead.
+    pub fn add_clause(&mut self, catch: LegacyCatch) -> Result<(), ParseError>
+        ensures ok { OnOk result (with_clause_around catch self.old ≡ Ok self.new) }
+        ensures err { IfErr result (λ e. (e ≡ Fault.Memory)
+            ⊎ (with_clause_around catch self.old ≡ Err e)) }
+        ensures same { OnErr result (self.new ≡ self.old) }
+    {
+        if self.controls.len() < 2 {
+            return Err(ParseError::NoSuchLabel);
+        }
+        let index = self.controls.len() - 2;
+        if self.controls[index].unreachable {
+            return Ok(());
+        }
+        add_last_clause(&mut self.lists[index], catch)
     }
 
     /// The frames as they are shown, the innermost last, and a list without instructions.
