@@ -17,6 +17,9 @@ use Rattle.walrus_body.specs.Parsing.OpenTrees.{StandIn}
 use Rattle.walrus_body.specs.Parsing.OwnLists.{frames_within}
 use Rattle.walrus_body.proofs.Parsing.FrameLists.{get, set_list, unchanged_at}
 
+some_same : {A : Type 0} (x y : A) → Some x ≡ Some y → x ≡ y
+some_same x y e = cc
+
 -- ---- the last instruction
 
 map_twice : {A B C : Type 0} → (f : B → C) (g : A → B) (o : Option A) → option_map f (option_map g o) ≡ option_map (λ x. f (g x)) o
@@ -60,7 +63,7 @@ module _ (c : LegacyCatch) where
     here : slice_get (frames_within [] cs ls) 1 ≡ Some (frame_with f l.items)
     here =
         let found = get [] cs ls i 1 f same is at in
-        found.2 ∙ ap (λ (k : Vec LocatedInstr Z). Some (frame_with f k.items)) (let both : Some found.0 ≡ Some l = sym found.1 ∙ in_lists in cc)
+        found.2 ∙ ap (λ (k : Vec LocatedInstr Z). Some (frame_with f k.items)) (some_same found.0 l (sym found.1 ∙ in_lists))
 
     pub adds : (k : Vec LocatedInstr Z) → f.unreachable ≡ false → with_last_clause c l.items ≡ Some k.items → with_clause_around c (frames_within [] cs ls) ≡ Ok (frames_within [] cs (slice_set ls i k))
     adds k alive added =
@@ -104,5 +107,5 @@ stand_with_clause arena c (g ∷ f ∷ fs) new (Ok u) ok err h = by_clause (with
         let same : g ∷ k ∷ fs ≡ new = cc in
         let kept = clause_kept c f k e in
         let low = h.1.0 in
-        subst (StandIn arena) same (h.0, (omega arith), h.1.1)
+        subst (StandIn arena) same (h.0, (omega arith, h.1.1))
     by_clause None e is = absurd cc
