@@ -23,7 +23,7 @@ pub(crate) struct Example {
 }
 
 // 0 is from nothing to nothing, 1 and 2 are from an `i32` to an `i32`, 3 is no function type, 4 is
-// the entry type for nothing, 5 is from an `i64` to an `f32`, and 6 is the entry type for two `i32`.
+// the entry type for nothing, 5 is from an `i64` to an `f32`, and 6 the entry type for two `i32`.
 fn types(alloc: Global) -> Result<ModuleTypes, AllocError> {
     let mut types = ModuleTypes::new(alloc);
     types.add_func(&[], &[])?;
