@@ -24,8 +24,6 @@ mod parse_refusals;
 #[cfg(test)]
 mod parsed_functions;
 #[cfg(test)]
-mod parsed_operators;
-#[cfg(test)]
 mod parsing;
 mod plain;
 #[cfg(test)]
