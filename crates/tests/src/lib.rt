@@ -18,8 +18,6 @@ mod lent;
 #[cfg(test)]
 mod modules;
 #[cfg(test)]
-mod parse_locations;
-#[cfg(test)]
 mod parse_refusals;
 #[cfg(test)]
 mod parsed_functions;
