@@ -18,13 +18,9 @@ mod lent;
 #[cfg(test)]
 mod modules;
 #[cfg(test)]
-mod parse_locations;
-#[cfg(test)]
 mod parse_refusals;
 #[cfg(test)]
 mod parsed_functions;
-#[cfg(test)]
-mod parsed_operators;
 #[cfg(test)]
 mod parsing;
 mod plain;

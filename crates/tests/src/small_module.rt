@@ -22,8 +22,8 @@ pub(crate) struct Example {
     pub indices: IndicesToIds,
 }
 
-// 0 is from nothing to nothing, 1 and 2 are from an `i32` to an `i32`, 3 is no function type, 4 is the
-// entry type for nothing, 5 is from an `i64` to an `f32`, and 6 is the entry type for two `i32`.
+// 0 is from nothing to nothing, 1 and 2 are from an `i32` to an `i32`, 3 is no function type, 4 is
+// the entry type for nothing, 5 is from an `i64` to an `f32`, and 6 the entry type for two `i32`.
 fn types(alloc: Global) -> Result<ModuleTypes, AllocError> {
     let mut types = ModuleTypes::new(alloc);
     types.add_func(&[], &[])?;
@@ -73,7 +73,8 @@ impl Example {
     }
 }
 
-/// Parses operators, the first of which stands at the place 0, as a function from nothing to nothing.
+/// Parses operators, the first of which stands at the place 0, of a function without arguments and
+/// results.
 pub(crate) fn parse_checked<V: OpCheck>(
     alloc: Global,
     example: &Example,
@@ -115,8 +116,8 @@ pub(crate) fn parse(
     parse_checked(alloc, example, ops, AcceptAll)
 }
 
-/// The walk from the entry: a sequence's slot where it starts and its length where it ends, and each
-/// instruction's location.
+/// The walk from the entry: where a sequence starts its slot, where it ends its length, and the
+/// location of each instruction.
 pub(crate) fn tree_text(function: &LocalFunction) -> Result<String, Fail> {
     let builder = function.builder();
     let mut recorder = Recorder::new(builder.allocator(), 1000);
