@@ -52,7 +52,8 @@ use walrus_ir::{
 };
 use wasm_encode::FunctionEncoder;
 
-/// A function of a module that has a body. A contract sees its lists and its builder by their values.
+/// A function of a module that has a body. A contract sees its lists and its builder by their
+/// values.
 #[derive(Drop)]
 pub struct LocalFunction {
     builder: FunctionBuilder,
@@ -123,8 +124,8 @@ impl LocalFunction {
             (body.start + length body.bytes.now) }
         // What is answered has the normal form of the accepted body, and what is refused is so for
         // the first fault.
-        ensures accepted { IfOk result (λ made. AcceptsBody F.Fn (body_input «module».now indices.now
-            id ty body.entry on_instr_pos.entry V.check (V.state validator))
+        ensures accepted { IfOk result (λ made. AcceptsBody F.Fn (body_input «module».now
+            indices.now id ty body.entry on_instr_pos.entry V.check (V.state validator))
             made.builder made.instruction_mapping) }
         ensures refused { IfErr result (RefusesBody F.Fn (body_input «module».now indices.now
             id ty body.entry on_instr_pos.entry V.check (V.state validator))) }

@@ -58,7 +58,8 @@ fn push_types(indices: &mut IndicesToIds) -> Result<(), IndexError>
 fn push_funcs_and_tags(indices: &mut IndicesToIds) -> Result<(), IndexError>
     requires funcs { ids_in indices.old Funcs ≡ [] }
     requires tags { ids_in indices.old Tags ≡ [] }
-    ensures ok { OnOk result (indices.new ≡ with_ids_in Tags (0 ∷ 1 ∷ []) (with_ids_in Funcs (0 ∷ 1 ∷ []) indices.old)) }
+    ensures ok { OnOk result (indices.new ≡ with_ids_in Tags (0 ∷ 1 ∷ [])
+        (with_ids_in Funcs (0 ∷ 1 ∷ []) indices.old)) }
     ensures err { IfErr result (λ e. e ≡ Memory) }
 {
     indices.push_func(FunctionId::new(0))?;
@@ -75,7 +76,9 @@ fn push_storage(indices: &mut IndicesToIds) -> Result<(), IndexError>
     requires globals { ids_in indices.old Globals ≡ [] }
     requires data_segments { ids_in indices.old Data ≡ [] }
     requires elements { ids_in indices.old Elements ≡ [] }
-    ensures ok { OnOk result (indices.new ≡ with_ids_in Elements (0 ∷ []) (with_ids_in Data (0 ∷ []) (with_ids_in Globals (0 ∷ []) (with_ids_in Memories (0 ∷ []) (with_ids_in Tables (0 ∷ []) indices.old))))) }
+    ensures ok { OnOk result (indices.new ≡ with_ids_in Elements (0 ∷ [])
+        (with_ids_in Data (0 ∷ []) (with_ids_in Globals (0 ∷ [])
+        (with_ids_in Memories (0 ∷ []) (with_ids_in Tables (0 ∷ []) indices.old))))) }
     ensures err { IfErr result (λ e. e ≡ Memory) }
 {
     indices.push_table(TableId::new(0))?;
@@ -134,7 +137,8 @@ fn number_types(numbers: &mut IdsToIndices) -> Result<(), IndexError>
 fn number_funcs_and_tags(numbers: &mut IdsToIndices) -> Result<(), IndexError>
     requires funcs { numbers_in numbers.old Funcs ≡ map.empty }
     requires tags { numbers_in numbers.old Tags ≡ map.empty }
-    ensures ok { OnOk result (numbers.new ≡ pushed Tags (0 ∷ 1 ∷ []) (pushed Funcs (0 ∷ 1 ∷ []) numbers.old)) }
+    ensures ok { OnOk result (numbers.new
+        ≡ pushed Tags (0 ∷ 1 ∷ []) (pushed Funcs (0 ∷ 1 ∷ []) numbers.old)) }
     ensures err { IfErr result (λ e. e ≡ Memory) }
 {
     numbers.push_func(FunctionId::new(0))?;
@@ -151,7 +155,10 @@ fn number_storage(numbers: &mut IdsToIndices) -> Result<(), IndexError>
     requires memories { numbers_in numbers.old Memories ≡ map.empty }
     requires globals { numbers_in numbers.old Globals ≡ map.empty }
     requires elements { numbers_in numbers.old Elements ≡ map.empty }
-    ensures ok { OnOk result (numbers.new ≡ with_numbers Data (map.insert (numbers_in numbers.old Data) 0 0) (pushed Elements (0 ∷ []) (pushed Globals (0 ∷ []) (pushed Memories (0 ∷ []) (pushed Tables (0 ∷ []) numbers.old))))) }
+    ensures ok { OnOk result (numbers.new
+        ≡ with_numbers Data (map.insert (numbers_in numbers.old Data) 0 0)
+        (pushed Elements (0 ∷ []) (pushed Globals (0 ∷ [])
+        (pushed Memories (0 ∷ []) (pushed Tables (0 ∷ []) numbers.old))))) }
     ensures err { IfErr result (λ e. e ≡ Memory) }
 {
     numbers.push_table(TableId::new(0))?;

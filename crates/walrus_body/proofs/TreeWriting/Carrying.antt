@@ -1,6 +1,6 @@
 -- Where an operator is carried for each instruction of a tree, writing it asks for no other.
-use Rattle.std.specs.Prelude.{◌≡◌, ◌++◌, ℕ, List, [], ◌∷◌, map, Bool, true, false, Option, Some, None, IsSome, if◌then◌else◌, slice_get, Result, Ok, Err}
-use Rattle.std.proofs.Common.{refl, sym, ap, subst, ◌∙◌}
+use Rattle.std.specs.Prelude.{◌≡◌, ◌++◌, ℕ, List, [], ◌∷◌, Option, Some, None, IsSome, slice_get, Ok}
+use Rattle.std.proofs.Common.{refl, sym, ap, subst}
 use Rattle.walrus_ir.specs.declared.seq.InstrSeq.{InstrSeq}
 use Rattle.walrus_ir.specs.declared.val_type.InstrSeqType.{InstrSeqType}
 use Rattle.walrus_ir.specs.declared.instr.Instr.{Instr}
@@ -12,7 +12,6 @@ use Rattle.walrus_ir.specs.Results.{◌>>=◌, some_or}
 use Rattle.walrus_ir.proofs.ResultLemmas.{bind_ok, ok_same}
 use Rattle.wasm_ops.specs.Opcodes.{kinds_of, kinds_of_byte}
 use Rattle.wasm_ops.specs.Operations.{RawOperation}
-use Rattle.wasm_body.specs.declared.error.EmitError.{EmitError}
 use Rattle.wasm_body.specs.declared.error.EmitError.TheVariants.{UnknownSequence}
 use Rattle.wasm_body.specs.Control.{end_operation, else_operation}
 use Rattle.wasm_body.specs.Translation.{Located, at_location}

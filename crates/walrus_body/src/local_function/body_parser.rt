@@ -48,7 +48,8 @@ impl<'a> BodyParser<'a> {
         entry: TypeId,
     ) -> Result<BodyParser<'a>, ParseError>
         requires { entry_type_of (environment_of «module».now indices.now function ty) ≡ Ok entry }
-        ensures env { IfOk result (λ p. env_of p.context ≡ environment_of «module».now indices.now function ty) }
+        ensures env { IfOk result (λ p.
+            env_of p.context ≡ environment_of «module».now indices.now function ty) }
         ensures ok { IfOk result Begins }
         ensures err { IfErr result (λ e. e ≡ ParseFault.Memory) }
     {
@@ -79,7 +80,8 @@ impl BodyParser<'_> {
 
     /// Takes a `block`.
     fn open_block(&mut self, ty: BlockType, location: InstrLocId) -> Result<(), ParseError>
-        ensures step { Steps self.old self.new (operation (Byte 0x02) (block ty ∷ [])) location result }
+        ensures step { Steps self.old self.new (operation (Byte 0x02) (block ty ∷ []))
+            location result }
         ensures rest { OnOk result (IsSameBody self.old.context self.new.context) }
     {
         match self.context.push_block(BlockKind::Block, ty) {
@@ -93,7 +95,8 @@ impl BodyParser<'_> {
 
     /// Takes a `loop`.
     fn open_loop(&mut self, ty: BlockType, location: InstrLocId) -> Result<(), ParseError>
-        ensures step { Steps self.old self.new (operation (Byte 0x03) (block ty ∷ [])) location result }
+        ensures step { Steps self.old self.new (operation (Byte 0x03) (block ty ∷ []))
+            location result }
         ensures rest { OnOk result (IsSameBody self.old.context self.new.context) }
     {
         match self.context.push_block(BlockKind::Loop, ty) {
@@ -107,7 +110,8 @@ impl BodyParser<'_> {
 
     /// Takes an `if`, whose instruction is appended at its `end`.
     fn open_if(&mut self, ty: BlockType, start: InstrLocId) -> Result<(), ParseError>
-        ensures step { Steps self.old self.new (operation (Byte 0x04) (block ty ∷ [])) start result }
+        ensures step { Steps self.old self.new (operation (Byte 0x04) (block ty ∷ []))
+            start result }
         ensures rest { OnOk result (IsSameBody self.old.context self.new.context) }
     {
         match self.context.push_block(BlockKind::If, ty) {
@@ -126,7 +130,8 @@ impl BodyParser<'_> {
     /// The innermost `if` goes on with this alternative.
     fn begin_alternative(&mut self, alternative: InstrSeqId)
         ensures context { self.new.context ≡ self.old.context }
-        ensures ifs { reverse self.new.if_else.items ≡ with_alternative alternative (reverse self.old.if_else.items) }
+        ensures ifs { reverse self.new.if_else.items
+            ≡ with_alternative alternative (reverse self.old.if_else.items) }
     {
         if let Some(index) = self.if_else.len().checked_sub(1) {
             self.if_else[index].alternative = Some(alternative);
@@ -183,10 +188,12 @@ impl BodyParser<'_> {
         start_types: &[ValType],
         end_types: &[ValType],
     ) -> Result<InstrSeqId, ParseError>
-        ensures ok { IfOk result (λ id. IsSomeAnd (existing self.old.context.module.types start_types.now end_types.now)
+        ensures ok { IfOk result (λ id. IsSomeAnd
+            (existing self.old.context.module.types start_types.now end_types.now)
             (λ ty. AddsEmpty self.old.context self.new.context ty id)) }
         ensures err { IfErr result (λ e. (e ≡ ParseFault.Memory)
-            ⊎ ((e ≡ ParseFault.TypeMissing) × (existing self.old.context.module.types start_types.now end_types.now ≡ None))) }
+            ⊎ ((e ≡ ParseFault.TypeMissing)
+            × (existing self.old.context.module.types start_types.now end_types.now ≡ None))) }
         ensures ifs { self.new.if_else ≡ self.old.if_else }
     {
         let alternative = match self
@@ -226,10 +233,13 @@ impl BodyParser<'_> {
         }
     }
 
-    /// Appends an instruction to the innermost frame, behind which nothing of it is executed where it cuts.
+    /// Appends an instruction to the innermost frame, behind which nothing of it is executed where
+    /// it cuts.
     fn take(&mut self, instr: Instr, location: InstrLocId, cuts: bool) -> Result<(), ParseError>
         ensures ok { OnOk result ((0 < length self.old.context.frames)
-            × (self.new.context ≡ record self.old.context { frames = changed_at 0 (taking (instr, location) cuts) self.old.context.frames })) }
+            × (self.new.context ≡ record self.old.context {
+              frames = changed_at 0 (taking (instr, location) cuts) self.old.context.frames;
+            })) }
         ensures err { IfErr result (λ e. (e ≡ ParseFault.Memory)
             ⊎ ((e ≡ ParseFault.NoFrame) × (length self.old.context.frames ≤ 0))) }
         ensures ifs { self.new.if_else ≡ self.old.if_else }

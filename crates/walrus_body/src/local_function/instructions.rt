@@ -95,7 +95,8 @@ impl BodyParser<'_> {
 
     /// The sequences that the labels of a table name.
     fn blocks(&self, table: &BrTable<'_>) -> Result<Vec<InstrSeqId>, ParseError>
-        ensures ok { IfOk result (λ blocks. each (sequence_at self.now) table.now.0 ≡ Ok blocks.items) }
+        ensures ok { IfOk result (λ blocks.
+            each (sequence_at self.now) table.now.0 ≡ Ok blocks.items) }
         ensures err { IfErr result (λ e. (e ≡ ParseFault.Memory)
             ⊎ (each (sequence_at self.now) table.now.0 ≡ Err e)) }
     {
@@ -117,7 +118,8 @@ impl BodyParser<'_> {
     /// The instruction of a `br_table`.
     fn branch_table(&self, table: &BrTable<'_>) -> Result<Instr, ParseError>
         ensures placed { (around : List (Frame Occurrence))
-            → GivesOrMemory operation_of result (placed_in self.now around (meaning (op.BrTable table.now))) }
+            → GivesOrMemory operation_of result
+            (placed_in self.now around (meaning (op.BrTable table.now))) }
         ensures plain { IfOk result (λ i. (slots_in i ≡ []) × (clauses_of_try i ≡ [])) }
     {
         let blocks = match self.blocks(table) {

@@ -30,21 +30,29 @@ fn checked(error: CheckError) -> ParseError
     }
 }
 
-/// The next operator and its location: it is read, then it gets its location, and then the validator is asked.
+/// The next operator and its location: it is read, then it gets its location, and then the validator
+/// is asked.
 pub fn next_operator<'a, V: OpCheck, F: Fn(&usize) -> InstrLocId>(
     reader: &mut Reader<'a>,
     on_instr_pos: Option<&F>,
     validator: &mut V,
 ) -> Result<(Operator<'a>, InstrLocId), ParseFailure>
     requires { MayAsk F.pre on_instr_pos reader.old.place (reader.old.place + 1) }
-    ensures ok { IfOk result (λ x. taken (has_place on_instr_pos.entry) V.check (V.state validator.old) reader.old.place reader.old.rest
-        ≡ Ok (record { spelt = meaning x.0; rest = reader.new.rest; state = V.state validator.new })) }
+    ensures ok { IfOk result (λ x. taken (has_place on_instr_pos.entry) V.check
+        (V.state validator.old) reader.old.place reader.old.rest ≡ Ok (record {
+          spelt = meaning x.0;
+          rest = reader.new.rest;
+          state = V.state validator.new;
+        })) }
     ensures located { IfOk result (λ x. Locates F.Fn on_instr_pos.entry reader.old.place x.1) }
     ensures carried { IfOk result (λ x. HasRow (meaning x.0)) }
     ensures writable { IfOk result (λ x. IsWritable (meaning x.0)) }
-    ensures moves { IfOk result (λ x. (reader.new.place + length reader.new.rest ≡ reader.old.place + length reader.old.rest) × (length reader.new.rest < length reader.old.rest)) }
+    ensures moves { IfOk result (λ x.
+        (reader.new.place + length reader.new.rest ≡ reader.old.place + length reader.old.rest)
+        × (length reader.new.rest < length reader.old.rest)) }
     ensures err { IfErr result (λ f. (f.at ≡ reader.old.place) × ((f.error ≡ ParseFault.Memory)
-        ⊎ (taken (has_place on_instr_pos.entry) V.check (V.state validator.old) reader.old.place reader.old.rest ≡ Err f.error))) }
+        ⊎ (taken (has_place on_instr_pos.entry) V.check (V.state validator.old)
+        reader.old.place reader.old.rest ≡ Err f.error))) }
 {
     let at = reader.original_position();
     let operator = match reader.read() {

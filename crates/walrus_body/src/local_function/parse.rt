@@ -81,7 +81,8 @@ pub(crate) fn parse_operators<V: OpCheck, F: Fn(&usize) -> InstrLocId>(
     Err(failure(ParseError::MissingEnd, reader.original_position()))
 }
 
-/// Parses the operators of the body of this function, the first of which stands at the place `start`.
+/// Parses the operators of the body of this function, the first of which stands at the place
+/// `start`.
 pub(crate) fn parse_function<V: OpCheck, F: Fn(&usize) -> InstrLocId>(
     alloc: Global,
     module: &Module,

@@ -1,10 +1,8 @@
-use Rattle.std.proofs.Common.{◌≡◌, ◌++◌, ◌∷◌, [], Some, None, ap, sym, ◌∙◌, inr, refl, List, option_map}
+use Rattle.std.proofs.Common.{◌≡◌, ◌++◌, ◌∷◌, [], Some, ap, sym, ◌∙◌, inr, refl, option_map}
 use Rattle.std.proofs.lemmas.Result.{on_ok_weaker}
-use Rattle.walrus_ir.specs.Clauses.{Guarded}
 use Rattle.walrus_ir.specs.declared.control.Try.{Try}
 use Rattle.walrus_ir.specs.declared.instr.Instr.TheVariants as instr
-use Rattle.walrus_ir.specs.Unfolding.{LocatedInstr}
-use Rattle.walrus_body.specs.Parsing.OpenFrames.{with_clause_in, with_last_clause}
+use Rattle.walrus_body.specs.Parsing.OpenFrames.{with_last_clause}
 use Rattle.walrus_body.proofs.Parsing.LastClauses.{last_clause, no_try}
 use Rattle.walrus_body.proofs.local_function.own_lists.add_last_clause.Goals as goal
 

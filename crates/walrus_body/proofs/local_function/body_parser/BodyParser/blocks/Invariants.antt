@@ -1,5 +1,5 @@
 -- What is listed stands before the sequences of the labels that are left.
-use Rattle.std.proofs.Common.{◌≡◌, length}
+use Rattle.std.proofs.Common.{◌≡◌}
 use Rattle.walrus_ir.specs.Results.{each}
 use Rattle.walrus_body.specs.Parsing.BodyParsers.{sequence_at}
 use Rattle.walrus_body.proofs.Listed.{behind_these}

@@ -1,9 +1,7 @@
-use Rattle.std.proofs.Common.{◌≡◌, ◌<◌, ◌+◌, ◌-◌, [], length, Some, None, slice_get, refl, ap, sym, ◌∙◌, arith, inl, inr, OnErr, OnOk, IfErr, Result, Ok, Err, ◌⊎◌}
+use Rattle.std.proofs.Common.{◌≡◌, ◌<◌, ◌+◌, ◌-◌, [], length, Some, slice_get, ap, sym, ◌∙◌, arith, inl, inr, OnErr, IfErr, Result, Ok, Err}
 use Rattle.std.proofs.lemmas.Option.{slice_get-get_or}
 use Rattle.std.proofs.lemmas.Result.{on_ok_weaker}
-use Rattle.wasm_body.specs.declared.error.ParseError.{ParseError}
-use Rattle.wasm_body.specs.declared.error.ParseError.TheVariants.{Memory, NoTry}
-use Rattle.walrus_body.specs.Parsing.OpenFrames.{with_last_clause, with_clause_around}
+use Rattle.walrus_body.specs.Parsing.OpenFrames.{with_clause_around}
 use Rattle.walrus_body.proofs.Parsing.FrameLists.{count}
 use Rattle.walrus_body.proofs.Parsing.LastClauses.{few, adds, has_none, passes, stays}
 use Rattle.walrus_body.proofs.local_function.own_lists.FrameStack.add_clause.Goals as goal
