@@ -16,6 +16,9 @@ pub mod Alone
 pub mod FrameLists
 pub mod TreeChanges
 pub mod LastClauses
+pub mod Handlers
+pub mod Delegates
+pub mod TryTables
 pub mod Sealing
 pub mod AnyLocations
 pub mod Mappings

@@ -10,5 +10,6 @@ pub mod Keeping
 pub mod Placing
 pub mod Advancing
 pub mod OperatorKinds
+pub mod Handlers
 pub mod BodyParsers
 pub mod Bodies

@@ -28,10 +28,12 @@ mod context;
 mod emit;
 mod frame;
 mod instructions;
+mod legacy_try;
 mod locating;
 mod next;
 mod own_lists;
 mod parse;
+mod try_tables;
 mod types;
 
 use crate::local_function::emit::number_maps::NumberMaps;

@@ -1,6 +1,5 @@
 -- How an operator by itself advances a parse: it has a name where its ids and labels were found, and its instruction is kept.
 use Rattle.std.specs.Prelude.{◌≡◌, ◌⊎◌, ◌<◌, ◌≤◌, ℕ, suc, List, [], ◌∷◌, length, Bool, true, false, Some, Result, Ok, Err, OnOk, IfErr}
-use Rattle.std.proofs.lemmas.List.{length-map}
 use Rattle.std.proofs.Common.{refl, inl, inr, ap, sym, subst, ◌∙◌, arith, reverse}
 use Rattle.walrus_ir.specs.declared.instr.Instr.{Instr}
 use Rattle.walrus_ir.specs.Unfolding.{LocatedInstr, slots_in}
@@ -20,12 +19,11 @@ use Rattle.walrus_body.specs.declared.local_function.frame.IfElseState.{IfElseSt
 use Rattle.walrus_body.specs.declared.local_function.body_parser.BodyParser.{BodyParser}
 use Rattle.walrus_body.specs.Parsing.OpenFrames.{OpenFrame, changed_at}
 use Rattle.walrus_body.specs.Parsing.OpenTrees.{OpenTrees, env_of}
-use Rattle.walrus_body.specs.Parsing.Keeping.{slots}
 use Rattle.walrus_body.specs.Parsing.Advancing.{Keeps, Advances, IsFate, IsStep}
 use Rattle.walrus_body.specs.Parsing.BodyParsers.{state_with, state_of, taking, IsSameBody}
 use Rattle.walrus_body.specs.Parsing.Placing.{placing}
 use Rattle.walrus_body.proofs.Parsing.Frames.{taken, taken_alive, taken_dead}
-use Rattle.walrus_body.proofs.Parsing.Labels.{holds_fall, holds_length}
+use Rattle.walrus_body.proofs.Parsing.Labels.{holds_length, AreSeenAs, holds_seen}
 use Rattle.walrus_body.proofs.Parsing.Partings.{some_open}
 use Rattle.walrus_body.proofs.Parsing.Placements.{placed_named, placed_refused}
 use Rattle.walrus_body.proofs.Parsing.Roles.{DoesAs, does_as, fate_by, fate_of_role}
@@ -65,18 +63,17 @@ module _ (env : Environment) (o : RawOperation) (cut : Bool) (role : fate_of_rol
 
 module _ (c d : OpenTrees) (ifs : List IfElseState) (ls : List (Layer Occurrence)) (s : Sequence Occurrence) (o : RawOperation) (place location : ℕ) (cut : Bool)
     (role : fate_of_role (role_of o.opcode) ≡ Some (fate_by cut)) (keeps : Keeps (env_of c) (state_with c ifs) ls s) where
-  as_many : length (slots c.frames) ≡ length (frames_of ls)
-  as_many = length-map c.frames (λ (f : OpenFrame). f.sequence) ∙ holds_length (env_of c) c.builder.sequences ls s (length c.builder.sequences) c.frames ifs keeps
+  seen : AreSeenAs (frames_of ls) c.frames
+  seen = holds_seen (env_of c) c.builder.sequences ls s (length c.builder.sequences) c.frames ifs keeps
 
   -- an id or a label isn't found
-  pub refused_alone : (e : ParseError) → translate (placing (env_of c) (frames_of ls) (slots c.frames)) o ≡ Err e → named_in (env_of c) (frames_of ls) o ≡ Err e
-  refused_alone e is = named_as_translated (env_of c) o cut role ls ∙ placed_refused (env_of c) (frames_of ls) (slots c.frames) as_many o e is
+  pub refused_alone : (e : ParseError) → translate (placing (env_of c) c.frames) o ≡ Err e → named_in (env_of c) (frames_of ls) o ≡ Err e
+  refused_alone e is = named_as_translated (env_of c) o cut role ls ∙ placed_refused (env_of c) (frames_of ls) c.frames seen o e is
 
-  module _ (i : Instr) (placed : translate (placing (env_of c) (frames_of ls) (slots c.frames)) o ≡ Ok (operation_of i)) (alone : slots_in i ≡ []) (no_clauses : clauses_of_try i ≡ []) where
+  module _ (i : Instr) (placed : translate (placing (env_of c) c.frames) o ≡ Ok (operation_of i)) (alone : slots_in i ≡ []) (no_clauses : clauses_of_try i ≡ []) where
     kept_alone : (f : OpenFrame) (fs : List OpenFrame) → c.frames ≡ f ∷ fs → d ≡ record c { frames = changed_at 0 (taking (i, location) cut) c.frames } → Advances (env_of c) (state_with d ifs) ls s o place location
     kept_alone f fs frames is =
-        let fall = holds_fall (env_of c) c.builder.sequences ls s (length c.builder.sequences) c.frames ifs keeps in
-        let n = placed_named (env_of c) (frames_of ls) (slots c.frames) fall as_many o (operation_of i) placed in
+        let n = placed_named (env_of c) (frames_of ls) c.frames seen o (operation_of i) placed in
         let does = named_does (env_of c) o cut role (frames_of ls) n.named n.is_named in
         steps_alone (env_of c) (state_with c ifs) ls s o place location keeps (state_with d ifs) f fs n.named does.action i cut frames
         (named_as_translated (env_of c) o cut role ls ∙ n.is_named) does.does (is_cut does.action cut _ does.has_fate) alone no_clauses n.kept

@@ -30,7 +30,7 @@ use Rattle.walrus_body.proofs.Parsing.Constructs.{grown_at}
 use Rattle.walrus_body.proofs.Parsing.Kinds.{by_if, by_else}
 use Rattle.walrus_body.proofs.Parsing.Labels.{holds_length}
 use Rattle.walrus_body.proofs.Parsing.Openings.{reverse_last}
-use Rattle.walrus_body.proofs.Parsing.Partings.{seals_end}
+use Rattle.walrus_body.proofs.Parsing.Partings.{seals_end, some_around}
 use Rattle.walrus_body.proofs.Parsing.Rules.{named_end}
 use Rattle.walrus_body.proofs.Parsing.Steps.{Seals, ended, chosen, chosen_alone, ends_body}
 
@@ -145,19 +145,6 @@ module _ (old mid end : OpenTrees) (ifs : List IfElseState) (s : Sequence Occurr
 
   -- ---- what can't be missing
 
-  some_around : mid.frames ≡ [] → ⊥
-  some_around none =
-      let many : length old.frames ≡ length (frames_of (l ∷ ls)) = holds_length (env_of old) old.builder.sequences (l ∷ ls) s (length old.builder.sequences) old.frames ifs keeps in
-      let frames : length old.frames ≡ length (f ∷ mid.frames) = ap length popped.closes.frames in
-      let empty : length mid.frames ≡ 0 = ap length none in
-      let more = some_frame ls in
-      let sum : length (frames_of (l ∷ ls)) ≡ length (frame_of l.construct ∷ frames_of ls) = refl in
-      absurd (omega arith)
-    where
-      some_frame : (ks : List (Layer Occurrence)) → 0 < length (frames_of ks)
-      some_frame [] = (let z : 0 < 1 = omega arith in z)
-      some_frame (k ∷ ks) = (let z : 0 < length (frame_of k.construct ∷ frames_of ks) = omega arith in z)
-
   -- the `if` of the frame
   record HasIf : Type 0 where
     pub top : IfElseState
@@ -200,7 +187,7 @@ module _ (old mid end : OpenTrees) (ifs : List IfElseState) (s : Sequence Occurr
           by_given : (a : Option ℕ) → either a h.top.alternative ≡ None → ⊥
           by_given (Some n) q = cc q
           by_given None q = let n = (has_if k).alternative is in let r : Some n.0 ≡ None = sym n.1 ∙ ap (λ (t : IfElseState). t.alternative) e ∙ q in cc r
-  absurd_if k p same frames alternative given (inr (inr none)) = some_around (sym frames ∙ none)
+  absurd_if k p same frames alternative given (inr (inr none)) = some_around (env_of old) (state_with old ifs) l ls s f mid.frames keeps popped.closes.frames (sym frames ∙ none)
 
   -- behind an alternative
   pub steps_else : c.kind ≡ kind.Else → (p q : BodyParser) → p.context ≡ end → reverse p.if_else.items ≡ ifs → (r : Result (Unit {0}) ParseError) → OnOk r (AppendsIf p q None) → IfErr r (λ e. (e ≡ Memory) ⊎ HasNoIf p None) →

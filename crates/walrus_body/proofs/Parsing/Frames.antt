@@ -27,14 +27,19 @@ slots_changed x n [] = refl
 slots_changed x zero (f ∷ fs) = refl
 slots_changed x (suc n) (f ∷ fs) = ap (λ ps. f.sequence ∷ ps) (slots_changed x n fs)
 
+-- what no instruction changes of frames is the same around a construct as without it
+pub same_outside : {B : Type 0} → (view : List OpenFrame → B) → ((x : LocatedInstr) (gs : List OpenFrame) → view (changed_at 0 (with_instr x) gs) ≡ view gs) →
+    (around before : List ℕ) (slot : ℕ) (p : OpenConstruct Occurrence) (fs outside : List OpenFrame) (ifs other_ifs : List IfElseState) → OpensWith around before slot p fs outside ifs other_ifs → view fs ≡ view outside
+same_outside view same around before slot (InWrapper a w) fs outside ifs other_ifs o = ap view o.0.frames ∙ same o.0.opener outside
+same_outside view same around before slot (InThen a) fs outside ifs other_ifs o = ap view o.frames
+same_outside view same around before slot (InElse a b l) fs outside ifs other_ifs o = ap view o.frames
+same_outside view same around before slot (InTry a) fs outside ifs other_ifs o = ap view o.0.frames ∙ same o.0.opener outside
+same_outside view same around before slot (InCatch a b gs h t) fs outside ifs other_ifs o = ap view o.0.frames ∙ same o.0.opener outside
+same_outside view same around before slot (InCatchAll a b gs h) fs outside ifs other_ifs o = ap view o.0.frames ∙ same o.0.opener outside
+
 -- the frames around a construct stand where they do without it
 pub slots_outside : (around before : List ℕ) (slot : ℕ) (p : OpenConstruct Occurrence) (fs outside : List OpenFrame) (ifs other_ifs : List IfElseState) → OpensWith around before slot p fs outside ifs other_ifs → slots fs ≡ slots outside
-slots_outside around before slot (InWrapper a w) fs outside ifs other_ifs o = ap slots o.0.frames ∙ slots_changed o.0.opener 0 outside
-slots_outside around before slot (InThen a) fs outside ifs other_ifs o = ap slots o.frames
-slots_outside around before slot (InElse a b l) fs outside ifs other_ifs o = ap slots o.frames
-slots_outside around before slot (InTry a) fs outside ifs other_ifs o = ap slots o.0.frames ∙ slots_changed o.0.opener 0 outside
-slots_outside around before slot (InCatch a b gs h t) fs outside ifs other_ifs o = ap slots o.0.frames ∙ slots_changed o.0.opener 0 outside
-slots_outside around before slot (InCatchAll a b gs h) fs outside ifs other_ifs o = ap slots o.0.frames ∙ slots_changed o.0.opener 0 outside
+slots_outside = same_outside slots (λ x gs. slots_changed x 0 gs)
 
 -- ---- the same in another arena, or with more room
 

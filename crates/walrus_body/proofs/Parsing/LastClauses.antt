@@ -88,7 +88,7 @@ module _ (c : LegacyCatch) where
 
 -- ---- frames that stand in an arena
 
-clause_kept : (c : LegacyCatch) (f h : OpenFrame) → with_clause c f ≡ Some h → h.sequence ≡ f.sequence
+pub clause_kept : (c : LegacyCatch) (f h : OpenFrame) → with_clause c f ≡ Some h → h.sequence ≡ f.sequence
 clause_kept c f h is = by_dead f.dead (with_last_clause c f.instrs) is
   where
     by_dead : (d : Bool) (o : Option (List LocatedInstr)) → cond d (Some f) (option_map (λ xs. record f { instrs = xs }) o) ≡ Some h → h.sequence ≡ f.sequence

@@ -25,6 +25,7 @@ use Rattle.walrus_body.specs.Parsing.Keeping.{IsWithin, Holds}
 use Rattle.walrus_body.specs.Parsing.Advancing.{ParseState, Keeps, KeepsProgress, occurrence, Advances}
 use Rattle.walrus_body.specs.Parsing.BodyParsers.{state_with, with_alternative}
 use Rattle.walrus_body.proofs.Parsing.Kinds.{by_if}
+use Rattle.walrus_body.proofs.Parsing.Labels.{some_frame, holds_length}
 use Rattle.walrus_body.proofs.Parsing.Rules.{named_else}
 use Rattle.walrus_body.proofs.Parsing.Sealing.{set_written}
 use Rattle.walrus_body.proofs.Parsing.Steps.{Seals, else_parts}
@@ -79,7 +80,7 @@ seals_end old mid end f location h e =
       end_is = refl;
     }
 
-some_is : {A : Type 0} {P : A → Type 0} (o : Option A) → IsSomeAnd o P → (x : A) × (o ≡ Some x) × P x
+pub some_is : {A : Type 0} {P : A → Type 0} (o : Option A) → IsSomeAnd o P → (x : A) × (o ≡ Some x) × P x
 some_is (Some x) h = (x, refl, h)
 some_is None h = absurd h
 
@@ -87,6 +88,16 @@ some_is None h = absurd h
 pub some_open : (env : Environment) (p : ParseState) (ls : List (Layer Occurrence)) (s : Sequence Occurrence) → Keeps env p ls s → p.frames ≡ [] → ⊥
 some_open env p [] s h e = subst (λ fs. Holds env p.arena [] s (length p.arena) fs p.ifs) e h
 some_open env p (l ∷ ls) s h e = subst (λ fs. Holds env p.arena (l ∷ ls) s (length p.arena) fs p.ifs) e h
+
+-- and one around it, where a construct is open
+pub some_around : (env : Environment) (p : ParseState) (l : Layer Occurrence) (ls : List (Layer Occurrence)) (s : Sequence Occurrence) (f : OpenFrame) (fs : List OpenFrame) → Keeps env p (l ∷ ls) s → p.frames ≡ f ∷ fs → fs ≢ []
+some_around env p l ls s f fs keeps frames none =
+    let many : length p.frames ≡ length (frames_of (l ∷ ls)) = holds_length env p.arena (l ∷ ls) s (length p.arena) p.frames p.ifs keeps in
+    let shown : length p.frames ≡ length (f ∷ fs) = ap length frames in
+    let empty : length fs ≡ 0 = ap length none in
+    let more = some_frame ls in
+    let sum : length (frames_of (l ∷ ls)) ≡ length (frame_of l.construct ∷ frames_of ls) = refl in
+    absurd (omega arith)
 
 -- ---- behind the frame that is closed, as the code shows it
 

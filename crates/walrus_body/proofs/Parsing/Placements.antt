@@ -1,7 +1,8 @@
 -- An operator with places for labels, and its name: both are made, or both are refused for the same fault, and the tree holds
 -- the same operator.
-use Rattle.std.specs.Prelude.{◌≡◌, ℕ, nat_lt, List, length, Bool, true, false, Option, Some, None, slice_get, Result, Ok, Err}
+use Rattle.std.specs.Prelude.{◌≡◌, ℕ, nat_lt, List, [], ◌∷◌, length, drop, Bool, true, false, Option, Some, None, slice_get, Result, Ok, Err}
 use Rattle.std.proofs.lemmas.Bool.{ltb-true, ltb-false}
+use Rattle.std.proofs.lemmas.List.{length-map}
 use Rattle.std.proofs.lemmas.Option.{slice_get_past, slice_get-get_or}
 use Rattle.std.proofs.Common.{refl, ap, sym, ◌∙◌, arith}
 use Rattle.wasm_ops.specs.Operations.{Immediate, operation, RawOperation}
@@ -20,24 +21,41 @@ use Rattle.wasm_body.proofs.Translation.Steps.{Leads, bound, all_of}
 use Rattle.wasm_body.proofs.Translation.Translations.{LeadAll, lead_all, translate_leads}
 use Rattle.wasm_body.proofs.NormalForm.KeptNames.{kept_raw, number_leads, open_same, handler_same, same_leads, kept_of}
 use Rattle.wasm_body.proofs.Translation.Outcomes.{outcome, Alike, AreAlike, translate_alike}
-use Rattle.walrus_body.specs.Parsing.Placing.{placing}
-use Rattle.walrus_body.proofs.Parsing.Labels.{Fall, target_of_label}
+use Rattle.walrus_body.specs.Parsing.OpenFrames.{OpenFrame}
+use Rattle.walrus_body.specs.Parsing.Keeping.{slots}
+use Rattle.walrus_body.specs.Parsing.Placing.{depth_around, placing}
+use Rattle.walrus_body.proofs.Parsing.Labels.{AreSeenAs, target_of_label}
 
-module _ {A : Type 0} (env : Environment) (fs : List (Frame A)) (ps : List ℕ) where
-  place_leads : Fall ps → (n q : ℕ) → some_or (slice_get ps n) NoSuchLabel ≡ Ok q → (let s : Result Target ⊥ = Ok (target_in ps q) in s) ≡ Ok (Depth n)
-  place_leads f n q e = by_place (slice_get ps n) refl e
+module _ {A : Type 0} (env : Environment) (fs : List (Frame A)) (open_frames : List OpenFrame) (seen : AreSeenAs fs open_frames) where
+  abbrev ps : List ℕ
+  ps = slots open_frames
+
+  long : length ps ≡ length fs
+  long = length-map open_frames (λ (f : OpenFrame). f.sequence) ∙ seen.as_many
+
+  place_leads : (n q : ℕ) → some_or (slice_get ps n) NoSuchLabel ≡ Ok q → (let s : Result Target ⊥ = Ok (target_in ps q) in s) ≡ Ok (Depth n)
+  place_leads n q e = by_place (slice_get ps n) refl e
     where
       by_place : (o : Option ℕ) → slice_get ps n ≡ o → some_or o NoSuchLabel ≡ Ok q → (let s : Result Target ⊥ = Ok (target_in ps q) in s) ≡ Ok (Depth n)
       by_place None is e = absurd cc
-      by_place (Some p) is e = let same : p ≡ q = cc e in ap Ok (target_of_label ps n q f (is ∙ ap Some same))
+      by_place (Some p) is e = let same : p ≡ q = cc e in ap Ok (target_of_label ps n q seen.fall (is ∙ ap Some same))
 
-  placed_lead : Fall ps → LeadAll (placing env fs ps) (aiming ps) (kept_raw env)
-  placed_lead f = record {
+  depth_same : (n : ℕ) → depth_around open_frames n ≡ open_label (outside fs) n
+  depth_same n = ap (λ many. unless (nat_lt n many) NoSuchLabel >>= λ u. let r : Result ℕ ParseError = Ok n in r) (outer_many open_frames fs seen.as_many)
+    where
+      outer_many : (os : List OpenFrame) (gs : List (Frame A)) → length os ≡ length gs → length (drop 1 os) ≡ length (outside gs)
+      outer_many [] [] e = refl
+      outer_many [] (g ∷ gs) e = absurd (omega arith)
+      outer_many (o ∷ os) [] e = absurd (omega arith)
+      outer_many (o ∷ os) (g ∷ gs) e = (let same : length os ≡ length gs = omega arith in same)
+
+  placed_lead : LeadAll (placing env open_frames) (aiming ps) (kept_raw env)
+  placed_lead = record {
     indices = λ space n q e. number_leads (id_at env space n) q e;
     locals = λ n q e. number_leads ((naming env fs).local n) q e;
-    labels = λ n q e. place_leads f n q e;
-    handlers = λ n q e. same_leads n q (handler_same fs n q e);
-    outers = λ n q e. same_leads n q (open_same (outside fs) n q e);
+    labels = place_leads;
+    handlers = λ n q e. same_leads n q (handler_same fs n q (sym (seen.handlers n) ∙ e));
+    outers = λ n q e. same_leads n q (open_same (outside fs) n q (sym (depth_same n) ∙ e));
     numbers = λ n q e. let same : n ≡ q = cc e in same_leads n q (sym same);
     alignments = λ n. refl;
     counts = λ n u e. refl;
@@ -45,8 +63,8 @@ module _ {A : Type 0} (env : Environment) (fs : List (Frame A)) (ps : List ℕ) 
 
   -- ---- they are refused alike
 
-  label_alike : length ps ≡ length fs → (n : ℕ) → Alike {E = ParseError} (some_or (slice_get ps n) NoSuchLabel) (open_label fs n)
-  label_alike e n = by_test (nat_lt n (length fs)) refl
+  label_alike : (n : ℕ) → Alike {E = ParseError} (some_or (slice_get ps n) NoSuchLabel) (open_label fs n)
+  label_alike n = by_test (nat_lt n (length fs)) refl
     where
       open_as : (b : Bool) → nat_lt n (length fs) ≡ b → open_label fs n ≡ (unless b NoSuchLabel >>= λ u. Ok n)
       open_as b is = ap (λ t. unless t NoSuchLabel >>= λ u. Ok n) is
@@ -54,22 +72,24 @@ module _ {A : Type 0} (env : Environment) (fs : List (Frame A)) (ps : List ℕ) 
       by_test : (b : Bool) → nat_lt n (length fs) ≡ b → Alike {E = ParseError} (some_or (slice_get ps n) NoSuchLabel) (open_label fs n)
       by_test true is =
           let l = ltb-true n (length fs) is in
+          let e = long in
           ap (λ o. outcome {E = ParseError} (some_or o NoSuchLabel)) (slice_get-get_or ps n 0 (omega arith)) ∙ sym (ap outcome (open_as true is))
       by_test false is =
           let l = ltb-false n (length fs) is in
+          let e = long in
           ap (λ o. outcome {E = ParseError} (some_or o NoSuchLabel)) (slice_get_past ps n (omega arith)) ∙ sym (ap outcome (open_as false is))
 
   made_alike : (r : Result Signature ParseError) → Alike {B = Signature} (let t : Result (Unit {0}) ParseError = r >>= (λ s. Ok tt) in t) r
   made_alike (Ok s) = refl
   made_alike (Err f) = refl
 
-  placing_alike : length ps ≡ length fs → AreAlike (placing env fs ps) (naming env fs)
-  placing_alike e = record {
+  placing_alike : AreAlike (placing env open_frames) (naming env fs)
+  placing_alike = record {
     indices = λ space n. refl;
     locals = λ n. refl;
-    labels = label_alike e;
-    handlers = λ n. refl;
-    outers = λ n. refl;
+    labels = label_alike;
+    handlers = λ n. ap outcome (seen.handlers n);
+    outers = λ n. ap outcome (depth_same n);
     numbers = λ n. refl;
     blocks = λ b. made_alike (name_block env b);
     counts = λ n. refl;
@@ -88,14 +108,14 @@ module _ {A : Type 0} (env : Environment) (fs : List (Frame A)) (ps : List ℕ) 
   alike_ok r (Ok y) x a e = (y, refl)
   alike_ok r (Err f) x a e = absurd (let b : Ok tt ≡ Err f = ap outcome (sym e) ∙ a in cc b)
 
-  pub placed_named : Fall ps → length ps ≡ length fs → (o : RawOperation) (placed : PlacedOperation) → translate (placing env fs ps) o ≡ Ok placed → IsNamedAs o placed
-  placed_named fall long o placed e =
-      let first = bound (translate_immediates (placing env fs ps) o.immediates) (λ is. Ok (record { opcode = o.opcode; immediates = is })) placed e in
+  pub placed_named : (o : RawOperation) (placed : PlacedOperation) → translate (placing env open_frames) o ≡ Ok placed → IsNamedAs o placed
+  placed_named o placed e =
+      let first = bound (translate_immediates (placing env open_frames) o.immediates) (λ is. Ok (record { opcode = o.opcode; immediates = is })) placed e in
       let is : placed ≡ record { opcode = o.opcode; immediates = first.0 } = cc first.2 in
-      let alike = translate_alike (placing env fs ps) (naming env fs) (placing_alike long) o.immediates in
-      let second = alike_ok (translate_immediates (placing env fs ps) o.immediates) (translate_immediates (naming env fs) o.immediates) first.0 alike first.1 in
-      let aims = translate_leads (placing env fs ps) (aiming ps) (kept_raw env) o.immediates
-      (lead_all (placing env fs ps) (aiming ps) (kept_raw env) (placed_lead fall) o.immediates (all_of (Leads (placing env fs ps).block (aiming ps).block (kept_raw env).block) (λ b d h. refl) (block_types o.immediates)))
+      let alike = translate_alike (placing env open_frames) (naming env fs) placing_alike o.immediates in
+      let second = alike_ok (translate_immediates (placing env open_frames) o.immediates) (translate_immediates (naming env fs) o.immediates) first.0 alike first.1 in
+      let aims = translate_leads (placing env open_frames) (aiming ps) (kept_raw env) o.immediates
+      (lead_all (placing env open_frames) (aiming ps) (kept_raw env) placed_lead o.immediates (all_of (Leads (placing env open_frames).block (aiming ps).block (kept_raw env).block) (λ b d h. refl) (block_types o.immediates)))
       first.0 first.1 in
       let named : NamedOperation = record { opcode = o.opcode; immediates = second.0 } in
       let is_named : translate (naming env fs) o ≡ Ok named = ap (λ r. r >>= λ is. Ok (record { opcode = o.opcode; immediates = is })) second.1 in
@@ -107,10 +127,10 @@ module _ {A : Type 0} (env : Environment) (fs : List (Frame A)) (ps : List ℕ) 
         kept = ap (aimed ps) is ∙ (λ i. record { opcode = o.opcode; immediates = sure (same i) });
       }
 
-  pub placed_refused : length ps ≡ length fs → (o : RawOperation) (f : ParseError) → translate (placing env fs ps) o ≡ Err f → translate (naming env fs) o ≡ Err f
-  placed_refused long o f e =
-      let alike = translate_alike (placing env fs ps) (naming env fs) (placing_alike long) o.immediates in
-      by_answers (translate_immediates (placing env fs ps) o.immediates) (translate_immediates (naming env fs) o.immediates) alike e
+  pub placed_refused : (o : RawOperation) (f : ParseError) → translate (placing env open_frames) o ≡ Err f → translate (naming env fs) o ≡ Err f
+  placed_refused o f e =
+      let alike = translate_alike (placing env open_frames) (naming env fs) placing_alike o.immediates in
+      by_answers (translate_immediates (placing env open_frames) o.immediates) (translate_immediates (naming env fs) o.immediates) alike e
     where
       by_answers : (r : Result (List (Immediate ℕ (Unit {0}))) ParseError) (t : Result (List (Immediate ℕ Signature)) ParseError) → Alike r t →
           (r >>= λ is. Ok (operation o.opcode is)) ≡ Err f → (t >>= λ is. Ok (operation o.opcode is)) ≡ Err f

@@ -4,12 +4,10 @@ use Rattle.walrus_ir.specs.declared.instr.Instr.TheVariants as instr
 use Rattle.walrus_ir.specs.declared.val_type.InstrSeqType.{InstrSeqType}
 use Rattle.walrus_ir.specs.Function.{Function, with_new_sequence}
 use Rattle.walrus_ir.specs.Unfolding.{LocatedInstr}
-use Rattle.wasm_ops.specs.Operations.{RawOperation}
+use Rattle.wasm_ops.specs.Operations.{CatchClause, RawOperation}
 use Rattle.wasm_body.specs.declared.error.ParseError.{ParseError}
-use Rattle.wasm_body.specs.declared.error.ParseError.TheVariants.{NoSuchLabel, Memory}
-use Rattle.walrus_ir.specs.Results.{some_or}
-use Rattle.wasm_body.specs.Frames.{Frame}
-use Rattle.wasm_body.specs.Translation.{translate}
+use Rattle.wasm_body.specs.declared.error.ParseError.TheVariants.{Memory}
+use Rattle.wasm_body.specs.Translation.{translate, translate_clause}
 use Rattle.wasm_body.specs.InstructionTable.{PlacedOperation}
 use Rattle.wasm_body.specs.SourceTree.{Sequence, Empty}
 use Rattle.wasm_body.specs.Naming.{Occurrence}
@@ -20,7 +18,6 @@ use Rattle.walrus_body.specs.declared.local_function.body_parser.BodyParser.{Bod
 use Rattle.walrus_body.specs.declared.local_function.frame.IfElseState.{IfElseState}
 use Rattle.walrus_body.specs.Parsing.OpenFrames.{OpenFrame, changed_at, killed, with_instr}
 use Rattle.walrus_body.specs.Parsing.OpenTrees.{OpenTrees, env_of}
-use Rattle.walrus_body.specs.Parsing.Keeping.{slots}
 use Rattle.walrus_body.specs.Parsing.Placing.{placing}
 use Rattle.walrus_body.specs.Parsing.Advancing.{ParseState, Keeps, IsStep}
 
@@ -35,13 +32,13 @@ pub record Begins (p : BodyParser) : Type 0 where
   pub keeps : Keeps (env_of p.context) (state_of p) [] Empty
   pub entry : p.context.builder.entry ≡ Some 0
 
--- the sequence that a label names
-abbrev pub sequence_at : BodyParser → ℕ → Result ℕ ParseError
-sequence_at p depth = some_or (slice_get (slots p.context.frames) depth) NoSuchLabel
-
 -- an operator with its ids and with the sequences that its labels name
-abbrev pub placed_in : BodyParser → List (Frame Occurrence) → RawOperation → Result PlacedOperation ParseError
-placed_in p around o = translate (placing (env_of p.context) around (slots p.context.frames)) o
+abbrev pub placed_in : BodyParser → RawOperation → Result PlacedOperation ParseError
+placed_in p o = translate (placing (env_of p.context) p.context.frames) o
+
+-- a clause of a `try_table` with the id of its tag and the sequence that its label names
+abbrev pub clause_in : BodyParser → CatchClause ℕ → Result (CatchClause ℕ) ParseError
+clause_in p c = translate_clause (placing (env_of p.context) p.context.frames) c
 
 -- What was answered, seen by `view`, is what is given; or memory ran out.
 abbrev pub GivesOrMemory : {A B : Type 0} → (A → B) → Result A ParseError → Result B ParseError → Type 0

@@ -5,7 +5,8 @@ ghost use Rattle.walrus_ir.specs.declared.val_type.InstrSeqType.TheVariants.{Mul
 ghost use Rattle.wasm_body.specs.declared.error.ParseError.{ParseError as Fault};
 ghost use Rattle.walrus_body.specs.Parsing.OpenFrames.{AreShown, ShowsAt, killed, with_instr, HasNoFrame, HasNoFrameAt, InnerAreEmpty, with_clause_around};
 ghost use Rattle.wasm_ops.specs.declared.types.BlockType.TheVariants.{Value, FuncType};
-ghost use Rattle.walrus_body.specs.Parsing.OpenTrees.{Opens, OpensBlock, HasNoType, Pops, ChangesFrame, AddsClauseAround, EndsAt};
+ghost use Rattle.walrus_body.specs.Parsing.Placing.{block_found, kind_at};
+ghost use Rattle.walrus_body.specs.Parsing.OpenTrees.{env_of, Opens, OpensBlock, HasNoType, Pops, ChangesFrame, AddsClauseAround, EndsAt};
 
 use crate::local_function::frame::{ControlFrame, ControlStack};
 use crate::local_function::own_lists::FrameStack;
@@ -94,6 +95,44 @@ impl<'a> ValidationContext<'a> {
         ensures { result.now ≡ self.now.indices }
     {
         self.indices
+    }
+
+    /// The module of the function.
+    pub(crate) fn module(&self) -> &'a Module
+        ensures { result.now ≡ self.now.«module» }
+    {
+        self.module
+    }
+
+    /// Whether a block type names types that are there: where it names a type by an old index, a function type.
+    pub(crate) fn has_block_type(&self, ty: BlockType) -> Result<(), ParseError>
+        ensures { result ≡ block_found (env_of self.now) ty }
+    {
+        match ty {
+            BlockType::Empty => Ok(()),
+            BlockType::Value(ty) => match value_type(self.indices, ty) {
+                Ok(_) => Ok(()),
+                Err(error) => Err(error),
+            },
+            BlockType::FuncType(index) => {
+                let id = self.indices.get_type(index)?;
+                if self.module.types.is_func(id) {
+                    Ok(())
+                } else {
+                    Err(ParseError::NotAFunctionType)
+                }
+            }
+        }
+    }
+
+    /// What the sequence of the n-th frame from the innermost is.
+    pub(crate) fn kind_at(&self, n: usize) -> Result<BlockKind, ParseError>
+        ensures { result ≡ kind_at self.now.frames n }
+    {
+        match self.control(n) {
+            Ok(frame) => Ok(frame.kind),
+            Err(error) => Err(error),
+        }
     }
 
     /// Sets where a sequence ends.

@@ -8,11 +8,10 @@ ghost use Rattle.wasm_ops.specs.declared.operator.Op.TheVariants as op;
 ghost use Rattle.wasm_ops.specs.Meaning.{meaning};
 ghost use Rattle.wasm_encode.specs.Writable.{IsWritable};
 ghost use Rattle.wasm_body.specs.declared.error.ParseError.{ParseError as ParseFault};
-ghost use Rattle.wasm_body.specs.Frames.{Frame};
-ghost use Rattle.wasm_body.specs.Naming.{Occurrence};
 ghost use Rattle.wasm_body.specs.InstructionTable.{operation_of, clauses_of_try};
 ghost use Rattle.walrus_body.specs.Parsing.OperatorKinds.{is_instruction};
-ghost use Rattle.walrus_body.specs.Parsing.BodyParsers.{sequence_at, placed_in, GivesOrMemory};
+ghost use Rattle.walrus_body.specs.Parsing.BodyParsers.{placed_in, GivesOrMemory};
+ghost use Rattle.walrus_body.specs.Parsing.Placing.{place_at};
 
 use crate::ParseError;
 use crate::local_function::body_parser::BodyParser;
@@ -85,7 +84,7 @@ macro_rules! instruction_row {
 impl BodyParser<'_> {
     /// The sequence that a label names.
     pub fn label(&self, depth: u32) -> Result<InstrSeqId, ParseError>
-        ensures { result ≡ sequence_at self.now depth }
+        ensures { result ≡ place_at self.now.context.frames depth }
     {
         match self.context.control(depth as usize) {
             Ok(frame) => Ok(frame.block),
@@ -96,9 +95,9 @@ impl BodyParser<'_> {
     /// The sequences that the labels of a table name.
     fn blocks(&self, table: &BrTable<'_>) -> Result<Vec<InstrSeqId>, ParseError>
         ensures ok { IfOk result (λ blocks.
-            each (sequence_at self.now) table.now.0 ≡ Ok blocks.items) }
+            each (place_at self.now.context.frames) table.now.0 ≡ Ok blocks.items) }
         ensures err { IfErr result (λ e. (e ≡ ParseFault.Memory)
-            ⊎ (each (sequence_at self.now) table.now.0 ≡ Err e)) }
+            ⊎ (each (place_at self.now.context.frames) table.now.0 ≡ Err e)) }
     {
         let mut blocks = Vec::new(*self.if_else.allocator());
         let mut targets = table.targets();
@@ -117,9 +116,8 @@ impl BodyParser<'_> {
 
     /// The instruction of a `br_table`.
     fn branch_table(&self, table: &BrTable<'_>) -> Result<Instr, ParseError>
-        ensures placed { (around : List (Frame Occurrence))
-            → GivesOrMemory operation_of result
-            (placed_in self.now around (meaning (op.BrTable table.now))) }
+        ensures placed { GivesOrMemory operation_of result
+            (placed_in self.now (meaning (op.BrTable table.now))) }
         ensures plain { IfOk result (λ i. (slots_in i ≡ []) × (clauses_of_try i ≡ [])) }
     {
         let blocks = match self.blocks(table) {
@@ -136,8 +134,8 @@ impl BodyParser<'_> {
     pub fn instruction(&self, operator: &Operator<'_>) -> Result<Instr, ParseError>
         requires kind { is_instruction operator.now ≡ true }
         requires writable { IsWritable (meaning operator.now) }
-        ensures placed { (around : List (Frame Occurrence))
-            → GivesOrMemory operation_of result (placed_in self.now around (meaning operator.now)) }
+        ensures placed { GivesOrMemory operation_of result
+            (placed_in self.now (meaning operator.now)) }
         ensures plain { IfOk result (λ i. (slots_in i ≡ []) × (clauses_of_try i ≡ [])) }
     {
         let indices = self.context.indices();

@@ -1,10 +1,10 @@
 -- What is listed stands before the sequences of the labels that are left.
 use Rattle.std.proofs.Common.{◌≡◌}
 use Rattle.walrus_ir.specs.Results.{each}
-use Rattle.walrus_body.specs.Parsing.BodyParsers.{sequence_at}
+use Rattle.walrus_body.specs.Parsing.Placing.{place_at}
 use Rattle.walrus_body.proofs.Listed.{behind_these}
 use Rattle.walrus_body.proofs.local_function.body_parser.BodyParser.blocks.Given as goal
 
 abbrev pub invariant-targets : goal.invariant-targets
 invariant-targets l =
-    (goal.iterator-targets).can_next l.targets × (goal.iterator-targets).is_finite l.targets × (behind_these l.blocks.items (each (sequence_at l.self) l.targets) ≡ each (sequence_at l.self) l.table.0)
+    (goal.iterator-targets).can_next l.targets × (goal.iterator-targets).is_finite l.targets × (behind_these l.blocks.items (each (place_at l.self.context.frames) l.targets) ≡ each (place_at l.self.context.frames) l.table.0)

@@ -5,5 +5,4 @@ use Rattle.walrus_body.specs.Parsing.BodyParsers.{placed_in, GivesOrMemory}
 use Rattle.walrus_body.proofs.local_function.body_parser.BodyParser.instruction.Goals as goal
 
 pub returns-in-BrTable-clause-placed : goal.returns-in-BrTable-clause-placed
-returns-in-BrTable-clause-placed c = λ around.
-    subst (λ o. GivesOrMemory operation_of c.branch_table.result (placed_in c.args.self.now around (meaning o))) (sym c.in-BrTable.is) (c.branch_table.ensures.placed around)
+returns-in-BrTable-clause-placed c = subst (λ o. GivesOrMemory operation_of c.branch_table.result (placed_in c.args.self.now (meaning o))) (sym c.in-BrTable.is) c.branch_table.ensures.placed

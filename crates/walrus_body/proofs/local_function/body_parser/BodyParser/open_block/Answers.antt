@@ -5,7 +5,8 @@ use Rattle.wasm_body.specs.Control.{Block}
 use Rattle.walrus_ir.specs.declared.instr.Instr.TheVariants as instr
 use Rattle.walrus_ir.specs.declared.control.BlockKind.TheVariants as kind
 use Rattle.walrus_body.specs.Parsing.OpenTrees.{env_of}
-use Rattle.walrus_body.proofs.Parsing.Openings.{opens_block, opener_faults, appended_steps}
+use Rattle.walrus_body.specs.Parsing.Keeping.{IsAny}
+use Rattle.walrus_body.proofs.Parsing.Openings.{block_at_once, opens_block_type, opener_faults, appended_steps}
 use Rattle.walrus_body.proofs.local_function.body_parser.BodyParser.open_block.Goals as goal
 
 pub returns-in-Ok-clause-step : goal.returns-in-Ok-clause-step
@@ -16,7 +17,7 @@ returns-in-Ok-clause-step c = λ ls s place keeps.
     let ifs = reverse old.if_else.items in
     let done = c.alloc_instr_in_control in
     appended_steps old.context m n ifs ls s place c.args.location c.args.ty c.in-Ok.seq keeps kind.Block c.in-Ok.ensures.ok (instr.Block (record { seq = c.in-Ok.seq })) (operation (Byte 0x02) (block c.args.ty ∷ [])) done.result done.ensures.ok done.ensures.err
-    (opens_block old.context m n ifs ls s place c.args.location c.args.ty c.in-Ok.seq keeps c.in-Ok.ensures.ok)
+    (opens_block_type old.context m n ifs ls s place c.args.location c.args.ty c.in-Ok.seq keeps (Byte 0x02) Block kind.Block IsAny (instr.Block (record { seq = c.in-Ok.seq })) (block_at_once (env_of old.context)) refl (λ z. refl) refl refl refl tt c.in-Ok.ensures.ok)
 
 pub returns-in-Err-clause-step : goal.returns-in-Err-clause-step
 returns-in-Err-clause-step c = λ ls s place keeps. elim c.in-Err.ensures.err [ inl is ↦ inl is | inr is ↦ inr (opener_faults (env_of c.args.self.now.context) ls (Byte 0x02) Block c.args.ty c.in-Err.error refl (λ z. refl) is) ]

@@ -1,6 +1,5 @@
 use Rattle.std.proofs.Common.{Some, inl, inr, reverse, sym, ap, ◌∙◌, subst}
 use Rattle.wasm_ops.specs.Meaning.{meaning}
-use Rattle.wasm_body.specs.Parsing.Progress.{frames_of}
 use Rattle.walrus_body.specs.Parsing.OpenTrees.{env_of}
 use Rattle.walrus_body.specs.Parsing.OperatorKinds.{is_cut}
 use Rattle.walrus_body.specs.Parsing.Advancing.{IsStep}
@@ -21,7 +20,7 @@ returns-in-Ok c =
       step = λ ls s place keeps.
           subst (λ js. IsStep (env_of old.context) (state_with new.context js) ls s (meaning op) place c.args.location c.take.result)
           (ap (λ v. reverse v.items) (sym c.take.ensures.ifs))
-          (appended_alone old.context new.context ifs ls s (meaning op) place c.args.location cut role keeps c.in-Ok.instr (c.in-Ok.ensures.placed (frames_of ls)) c.in-Ok.ensures.plain.0 c.in-Ok.ensures.plain.1
+          (appended_alone old.context new.context ifs ls s (meaning op) place c.args.location cut role keeps c.in-Ok.instr c.in-Ok.ensures.placed c.in-Ok.ensures.plain.0 c.in-Ok.ensures.plain.1
           c.take.result c.take.ensures.ok c.take.ensures.err);
       rest = same_body old.context new.context (c.in-Ok.instr, c.args.location) cut c.take.result c.take.ensures.ok;
     }
@@ -31,7 +30,7 @@ returns-in-Err c =
     let old = c.args.self.now in
     let op = c.args.operator.now in
     record {
-      step = λ ls s place keeps. elim (c.in-Err.ensures.placed (frames_of ls)) [
+      step = λ ls s place keeps. elim c.in-Err.ensures.placed [
         | inl is ↦ inl is
         | inr is ↦ inr (refused_alone old.context old.context (reverse old.if_else.items) ls s (meaning op) place c.args.location (is_cut op) (fate_of_operator op c.requires.kind) keeps c.in-Err.error is)
       ];
