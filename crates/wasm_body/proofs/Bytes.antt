@@ -5,5 +5,6 @@ pub mod Picks
 pub mod LawfulTyped
 pub mod WritableTexts
 pub mod CarriedKinds
+pub mod ClauseKinds
 pub mod Fitting
 pub mod NumberedBodies

@@ -1,7 +1,6 @@
 -- The bytes of a normal form are read back.
 pub mod FrameNames
 pub mod Related
-pub mod CarriedClosers
 pub mod Spellings
 pub mod Ranged
 pub mod Sound

@@ -1,5 +1,6 @@
 -- Translations of operators, one after the other and refused alike.
 pub mod Steps
+pub mod Kinds
 pub mod Translations
 pub mod Outcomes
 pub mod Answering

@@ -105,6 +105,8 @@ pub(crate) fn write_immediates(
         Immediates::Index(_, index) => write_number(out, *index as u64),
         Immediates::Pair(_, first, _, second) => write_pair(out, *first, *second),
         Immediates::Label(depth) => write_number(out, *depth as u64),
+        Immediates::Handler(depth) => write_number(out, *depth as u64),
+        Immediates::Outer(depth) => write_number(out, *depth as u64),
         Immediates::Table(OutTable { targets, default }) => write_table(out, targets, *default),
         Immediates::Access(memarg) => write_memarg(out, *memarg),
         Immediates::Block(ty) => write_block_type(out, *ty),

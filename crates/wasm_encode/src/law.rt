@@ -51,6 +51,8 @@ fn law_fit(immediates: OutImmediates<'_>)
         Immediates::Index(_, _index) => {}
         Immediates::Pair(_, _first, _, _second) => {}
         Immediates::Label(_depth) => {}
+        Immediates::Handler(_depth) => {}
+        Immediates::Outer(_depth) => {}
         Immediates::Table(
             OutTable {
                 targets,

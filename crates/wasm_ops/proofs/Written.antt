@@ -306,7 +306,6 @@ kinds_of_store (store.I64_32 false) ks e = cc
 -- what follows an opcode of the code is what its row says
 kinds_right : (op : Listed) (ks : List Kind) → kinds_of (meaning op).opcode ≡ Some ks → kinds_of (meaning op).opcode ≡ Some (map kind_of (meaning op).immediates)
 unfolding kinds_of_byte kinds_behind
-kinds_right (operator.TryTable type catches) ks e = cc
 kinds_right (operator.Unop op) ks e = kinds_of_unary op ks e
 kinds_right (operator.Binop op) ks e = kinds_of_binary op ks e
 kinds_right (operator.TernOp op) ks e = kinds_of_ternary op ks e

@@ -1,5 +1,5 @@
 -- Which operators have a spelling, as far as their immediates say.
-use Rattle.std.specs.Prelude.{◌≡◌, ℕ, ◌^◌, ◌<◌, List, [], ◌∷◌, length, map, Option, Some, None, ℤ, pos, negsuc}
+use Rattle.std.specs.Prelude.{◌≡◌, ℕ, ◌^◌, ◌<◌, List, [], ◌∷◌, length, Option, Some, None, ℤ, pos, negsuc}
 use Rattle.std.specs.List.{AllByRecursion}
 use Rattle.walrus_ir.specs.declared.val_type.ValType.{ValType}
 use Rattle.walrus_ir.specs.declared.val_type.ValType.TheVariants.{Ref}

@@ -3,8 +3,8 @@ use Rattle.std.specs.Prelude.{ℕ, List, [], ◌∷◌}
 use Rattle.wasm_ops.specs.declared.operator.Op.{Op}
 use Rattle.wasm_ops.specs.declared.operator.Op.TheVariants as operator
 use Rattle.wasm_ops.specs.declared.types.Opcode.TheVariants.{Byte, Prefixed}
-use Rattle.wasm_ops.specs.declared.types.Space.TheVariants.{Tables, Types, Funcs, Globals, Memories, Elements, Data}
-use Rattle.wasm_ops.specs.Operations.{CatchClause, index, label, branch_table, clauses, block, value, i32, i64, f32, f64, RawOperation, operation}
+use Rattle.wasm_ops.specs.declared.types.Space.TheVariants.{Tables, Types, Funcs, Globals, Memories, Elements, Data, Tags}
+use Rattle.wasm_ops.specs.Operations.{CatchClause, index, label, handler, outer, branch_table, clauses, block, value, i32, i64, f32, f64, RawOperation, operation}
 use Rattle.wasm_ops.specs.Immediates.{Table}
 use Rattle.wasm_ops.specs.UnaryOperations.{unary_operation}
 use Rattle.wasm_ops.specs.BinaryOperations.{binary_operation}
@@ -23,6 +23,11 @@ meaning (operator.Block type) = operation (Byte 0x02) (block type ∷ [])
 meaning (operator.Loop type) = operation (Byte 0x03) (block type ∷ [])
 meaning (operator.If type) = operation (Byte 0x04) (block type ∷ [])
 meaning operator.Else = operation (Byte 0x05) []
+meaning (operator.Try type) = operation (Byte 0x06) (block type ∷ [])
+meaning (operator.Catch tag) = operation (Byte 0x07) (index Tags tag ∷ [])
+meaning (operator.Throw tag) = operation (Byte 0x08) (index Tags tag ∷ [])
+meaning (operator.Rethrow depth) = operation (Byte 0x09) (handler depth ∷ [])
+meaning operator.ThrowRef = operation (Byte 0x0a) []
 meaning operator.End = operation (Byte 0x0b) []
 meaning (operator.Br depth) = operation (Byte 0x0c) (label depth ∷ [])
 meaning (operator.BrIf depth) = operation (Byte 0x0d) (label depth ∷ [])
@@ -30,6 +35,8 @@ meaning (operator.BrTable t) = operation (Byte 0x0e) (branch_table t.0 t.1 ∷ [
 meaning operator.Return = operation (Byte 0x0f) []
 meaning (operator.Call func) = operation (Byte 0x10) (index Funcs func ∷ [])
 meaning (operator.CallIndirect type table) = operation (Byte 0x11) (index Types type ∷ index Tables table ∷ [])
+meaning (operator.Delegate depth) = operation (Byte 0x18) (outer depth ∷ [])
+meaning operator.CatchAll = operation (Byte 0x19) []
 meaning operator.Drop = operation (Byte 0x1a) []
 meaning operator.Select = operation (Byte 0x1b) []
 meaning (operator.TypedSelect type) = operation (Byte 0x1c) (value type ∷ [])

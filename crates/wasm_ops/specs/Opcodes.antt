@@ -4,11 +4,11 @@ use Rattle.std.specs.Prelude.{◌≡◌, ℕ, ◌<◌, Bool, true, false, List, 
 use Rattle.wasm_ops.specs.declared.fault.ReadFault.TheVariants.{Truncated}
 use Rattle.wasm_ops.specs.declared.types.Opcode.{Opcode}
 use Rattle.wasm_ops.specs.declared.types.Opcode.TheVariants.{Byte, Prefixed}
-use Rattle.wasm_ops.specs.declared.types.Space.TheVariants.{Tables, Types, Funcs, Globals, Memories, Elements, Data}
+use Rattle.wasm_ops.specs.declared.types.Space.TheVariants.{Tables, Types, Funcs, Globals, Memories, Elements, Data, Tags}
 use Rattle.wasm_ops.specs.Reading.{Spelling, Reader}
 use Rattle.wasm_ops.specs.Numbers.{IsU32, u32}
 use Rattle.wasm_ops.specs.Types.{row_at}
-use Rattle.wasm_ops.specs.Immediates.{Kind, an_index, a_label, a_branch_table, an_access, a_block, a_value, an_i32, an_i64, an_f32, an_f64}
+use Rattle.wasm_ops.specs.Immediates.{Kind, an_index, a_label, a_handler, an_outer, a_branch_table, an_access, some_clauses, a_block, a_value, an_i32, an_i64, an_f32, an_f64}
 use Rattle.walrus_ir.specs.Results.{◌>>=◌}
 
 -- ---- opcodes of one byte
@@ -22,6 +22,11 @@ control_rows =
     (0x03, a_block ∷ []) ∷  -- loop
     (0x04, a_block ∷ []) ∷  -- if
     (0x05, []) ∷  -- else
+    (0x06, a_block ∷ []) ∷  -- try
+    (0x07, an_index Tags ∷ []) ∷  -- catch
+    (0x08, an_index Tags ∷ []) ∷  -- throw
+    (0x09, a_handler ∷ []) ∷  -- rethrow
+    (0x0a, []) ∷  -- throw_ref
     (0x0b, []) ∷  -- end
     (0x0c, a_label ∷ []) ∷  -- br
     (0x0d, a_label ∷ []) ∷  -- br_if
@@ -29,9 +34,12 @@ control_rows =
     (0x0f, []) ∷  -- return
     (0x10, an_index Funcs ∷ []) ∷  -- call
     (0x11, an_index Types ∷ an_index Tables ∷ []) ∷  -- call_indirect
+    (0x18, an_outer ∷ []) ∷  -- delegate
+    (0x19, []) ∷  -- catch_all
     (0x1a, []) ∷  -- drop
     (0x1b, []) ∷  -- select
     (0x1c, a_value ∷ []) ∷  -- select with a type
+    (0x1f, a_block ∷ some_clauses ∷ []) ∷  -- try_table
     []
 
 -- 0x20 to 0x27

@@ -3,7 +3,7 @@ use Rattle.std.specs.Prelude.{ℕ, List, [], ◌∷◌, Option, Some, None}
 use Rattle.wasm_ops.specs.declared.types.Opcode.{Opcode}
 use Rattle.wasm_ops.specs.declared.immediates.Immediates.{Immediates}
 use Rattle.wasm_ops.specs.declared.immediates.Immediates.TheVariants as immediates
-use Rattle.wasm_ops.specs.Operations.{CatchClause, RawImmediate, index, label, branch_table, clauses, access, block, value, i32, i64, f32, f64, v128, lane, RawOperation}
+use Rattle.wasm_ops.specs.Operations.{CatchClause, RawImmediate, index, label, handler, outer, branch_table, clauses, access, block, value, i32, i64, f32, f64, v128, lane, RawOperation}
 use Rattle.wasm_ops.specs.Immediates.{Table}
 use Rattle.wasm_ops.specs.AccessOperations.{access_of, memarg_of}
 
@@ -17,6 +17,8 @@ immediates_of immediates.Nothing = []
 immediates_of (immediates.Index space n) = index space n ∷ []
 immediates_of (immediates.Pair first m second n) = index first m ∷ index second n ∷ []
 immediates_of (immediates.Label depth) = label depth ∷ []
+immediates_of (immediates.Handler depth) = handler depth ∷ []
+immediates_of (immediates.Outer depth) = outer depth ∷ []
 immediates_of (immediates.Table t) = branch_table t.0 t.1 ∷ []
 immediates_of (immediates.Access memarg) = access (access_of memarg) ∷ []
 immediates_of (immediates.Block type) = block type ∷ []
@@ -34,6 +36,8 @@ abbrev pub shape_of : List RawImmediate → ListedImmediates
 shape_of (index space n ∷ []) = immediates.Index space n
 shape_of (index first m ∷ index second n ∷ is) = immediates.Pair first m second n
 shape_of (label depth ∷ is) = immediates.Label depth
+shape_of (handler depth ∷ is) = immediates.Handler depth
+shape_of (outer depth ∷ is) = immediates.Outer depth
 shape_of (branch_table targets default ∷ is) = immediates.Table (targets, default)
 shape_of (access a ∷ is) = immediates.Access (memarg_of a)
 shape_of (block type ∷ clauses cs ∷ is) = immediates.Clauses type cs

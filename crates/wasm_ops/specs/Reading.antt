@@ -1,7 +1,7 @@
 -- Spellings one behind the other, and reading them from left to right: the first part that can't be read is the fault.
 -- A spelling is a relation between a value and the bytes that spell it. Reading is a function from the bytes that are
 -- there to a value and the bytes behind its spelling. Each pair of definitions below is one way to put them together.
-use Rattle.std.specs.Prelude.{◌≡◌, ℕ, zero, suc, List, [], ◌∷◌, ◌++◌, Bool, true, false, if◌then◌else◌, ◌⊎◌, Result, Ok, Err}
+use Rattle.std.specs.Prelude.{◌≡◌, ℕ, zero, suc, List, [], ◌∷◌, ◌++◌, Bool, true, false, if◌then◌else◌, ◌⊎◌, Result, Ok}
 use Rattle.walrus_ir.specs.Results.{◌>>=◌}
 use Rattle.wasm_ops.specs.declared.fault.ReadFault.{ReadFault}
 

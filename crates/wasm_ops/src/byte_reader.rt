@@ -7,6 +7,7 @@ ghost use Rattle.wasm_ops.specs.Meaning.{meaning};
 
 use crate::access_reader::{load_kind, read_memarg, store_kind};
 use crate::branch_table::read_table;
+use crate::catch_list::read_clauses;
 use crate::fault::ReadFault;
 use crate::index_rows;
 use crate::number::{read_f32, read_f64, read_s32, read_s64, read_u32};
@@ -15,6 +16,16 @@ use crate::operator::Operator;
 use crate::row::{made, read_indices, read_pair};
 use crate::type_reader::{read_block_type, read_selected};
 use crate::types::Opcode;
+
+/// What follows the opcode of a `try_table`: its block type, and its clauses.
+#[tactic(auto, unfolding(crate::specs::Opcodes::kinds_of_byte))]
+fn read_try_table(bytes: &[u8]) -> Result<(Operator<'_>, &[u8]), ReadFault>
+    ensures { Gives (λ x. (meaning x.0, x.1.now)) result (operands (Opcode.Byte 0x1f) bytes.now) }
+{
+    let (ty, rest) = read_block_type(bytes)?;
+    let (catches, rest) = read_clauses(rest)?;
+    Ok((Operator::TryTable { ty, catches }, rest))
+}
 
 /// Reads the operator of control that has the byte: calls, and others.
 macro_rules! read_control_byte {
@@ -32,15 +43,22 @@ macro_rules! read_control_byte {
             0x03 => made!(read_block_type($bytes), ty => Operator::Loop { ty }),
             0x04 => made!(read_block_type($bytes), ty => Operator::If { ty }),
             0x05 => Ok((Operator::Else, $bytes)),
+            0x06 => made!(read_block_type($bytes), ty => Operator::Try { ty }),
+            0x07 => made!(read_u32($bytes), tag => Operator::Catch { tag }),
+            0x09 => made!(read_u32($bytes), depth => Operator::Rethrow { depth }),
+            0x0a => Ok((Operator::ThrowRef, $bytes)),
             0x0b => Ok((Operator::End, $bytes)),
             0x0c => made!(read_u32($bytes), label => Operator::Br { label }),
             0x0d => made!(read_u32($bytes), label => Operator::BrIf { label }),
             0x0e => made!(read_table($bytes), table => Operator::BrTable(table)),
             0x0f => Ok((Operator::Return, $bytes)),
             $($row => read_indices!($bytes $name $($field)*),)*
+            0x18 => made!(read_u32($bytes), depth => Operator::Delegate { depth }),
+            0x19 => Ok((Operator::CatchAll, $bytes)),
             0x1a => Ok((Operator::Drop, $bytes)),
             0x1b => Ok((Operator::Select, $bytes)),
             0x1c => made!(read_selected($bytes), ty => Operator::TypedSelect { ty }),
+            0x1f => read_try_table($bytes),
             _ => Err(ReadFault::UnknownOperator),
         }
     };

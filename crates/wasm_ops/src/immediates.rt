@@ -13,6 +13,10 @@ pub enum Immediates<T, C> {
     Pair(Space, u32, Space, u32),
     /// A label.
     Label(u32),
+    /// Which of the handlers around, of a `rethrow`.
+    Handler(u32),
+    /// A label counted from outside its construct, of a `delegate`.
+    Outer(u32),
     /// The labels of a `br_table`.
     Table(T),
     /// A memory argument.

@@ -112,6 +112,8 @@ fn same_immediates(a: &OperatorImmediates<'_>, b: &OperatorImmediates<'_>) -> bo
             a == b
         }
         Immediates::Label(_) => a == b,
+        Immediates::Handler(_) => a == b,
+        Immediates::Outer(_) => a == b,
         Immediates::Table(_) => a == b,
         Immediates::Access(_) => a == b,
         Immediates::Block(ty) => {

@@ -22,6 +22,16 @@ pub enum Op<T, C> {
     If { ty: BlockType },
     /// `else`
     Else,
+    /// `try`
+    Try { ty: BlockType },
+    /// `catch`
+    Catch { tag: u32 },
+    /// `throw`
+    Throw { tag: u32 },
+    /// `rethrow`: which handler, as a depth
+    Rethrow { depth: u32 },
+    /// `throw_ref`
+    ThrowRef,
     /// `end`
     End,
     /// `br`
@@ -36,6 +46,10 @@ pub enum Op<T, C> {
     Call { func: u32 },
     /// `call_indirect`
     CallIndirect { ty: u32, table: u32 },
+    /// `delegate`: which construct, as a depth from outside its own
+    Delegate { depth: u32 },
+    /// `catch_all`
+    CatchAll,
     /// `drop`
     Drop,
     /// `select`

@@ -10,6 +10,7 @@ macro_rules! index_rows {
         $with! {
             ($($context)*)
             (Byte) {
+                0x08 Throw { tag tag Tags }
                 0x10 Call { func func Funcs }
                 0x11 CallIndirect { ty ty Types, table table Tables }
             }
@@ -90,10 +91,16 @@ macro_rules! parts_of {
             $crate::Op::Loop { ty } => $each!($with $crate::Opcode::Byte(0x03), $crate::Immediates::Block(*ty)),
             $crate::Op::If { ty } => $each!($with $crate::Opcode::Byte(0x04), $crate::Immediates::Block(*ty)),
             $crate::Op::Else => $each!($with $crate::Opcode::Byte(0x05), $crate::Immediates::Nothing),
+            $crate::Op::Try { ty } => $each!($with $crate::Opcode::Byte(0x06), $crate::Immediates::Block(*ty)),
+            $crate::Op::Catch { tag } => $each!($with $crate::Opcode::Byte(0x07), $crate::Immediates::Index($crate::Space::Tags, *tag)),
+            $crate::Op::Rethrow { depth } => $each!($with $crate::Opcode::Byte(0x09), $crate::Immediates::Handler(*depth)),
+            $crate::Op::ThrowRef => $each!($with $crate::Opcode::Byte(0x0a), $crate::Immediates::Nothing),
             $crate::Op::End => $each!($with $crate::Opcode::Byte(0x0b), $crate::Immediates::Nothing),
             $crate::Op::Br { label } => $each!($with $crate::Opcode::Byte(0x0c), $crate::Immediates::Label(*label)),
             $crate::Op::BrIf { label } => $each!($with $crate::Opcode::Byte(0x0d), $crate::Immediates::Label(*label)),
             $crate::Op::Return => $each!($with $crate::Opcode::Byte(0x0f), $crate::Immediates::Nothing),
+            $crate::Op::Delegate { depth } => $each!($with $crate::Opcode::Byte(0x18), $crate::Immediates::Outer(*depth)),
+            $crate::Op::CatchAll => $each!($with $crate::Opcode::Byte(0x19), $crate::Immediates::Nothing),
             $crate::Op::Drop => $each!($with $crate::Opcode::Byte(0x1a), $crate::Immediates::Nothing),
             $crate::Op::Select => $each!($with $crate::Opcode::Byte(0x1b), $crate::Immediates::Nothing),
             $crate::Op::TypedSelect { ty } => $each!($with $crate::Opcode::Byte(0x1c), $crate::Immediates::Value(*ty)),

@@ -1,22 +1,25 @@
 -- An accepted body's normal form has bytes, under numbers for all ids that its old indices and the types of its sequences
 -- stand for.
-use Rattle.std.specs.Prelude.{◌≡◌, ℕ, suc, zero, List, [], ◌∷◌, length, map, true, false, Option, Some, None, unwrap_or, IsOk, is_ok, Result, Ok, Err}
+use Rattle.std.specs.Prelude.{◌≡◌, ℕ, suc, zero, List, [], ◌∷◌, length, map, true, Option, Some, None, unwrap_or, IsOk, is_ok, Result, Ok, Err}
 use Rattle.std.specs.List.{AllByRecursion}
 use Rattle.std.proofs.lemmas.Bool.{and_parts}
 use Rattle.std.proofs.Common.{refl, ap, sym, subst, ◌∙◌}
 use Rattle.wasm_ops.specs.Reading.{Many}
 use Rattle.wasm_ops.specs.Numbers.{IsU32}
-use Rattle.wasm_ops.specs.Immediates.{kind_of, SpellsImmediate, SpellsImmediates, IsClause}
-use Rattle.wasm_ops.specs.Operations.{CatchClause, Cast, Immediate, RawImmediate, index, local, label, handler, outer, number, branch_table, clauses, cast, RawOperation}
+use Rattle.wasm_ops.specs.Immediates.{an_index, an_outer, kind_of, SpellsImmediate, SpellsImmediates, IsClause}
+use Rattle.wasm_ops.specs.Operations.{CatchClause, Cast, Immediate, RawImmediate, index, local, label, handler, outer, number, branch_table, clauses, cast, operation, RawOperation}
 use Rattle.wasm_ops.specs.declared.types.BlockType.{BlockType}
 use Rattle.wasm_ops.specs.declared.types.Space.{Space}
+use Rattle.wasm_ops.specs.declared.types.Space.TheVariants.{Tags}
+use Rattle.wasm_ops.specs.Opcodes.{kinds_of}
 use Rattle.wasm_ops.specs.Spelling.{Spells}
 use Rattle.wasm_ops.proofs.ShortestNumbers.{unsigned_below}
 use Rattle.wasm_ops.proofs.Shortness.{many_length}
 use Rattle.wasm_body.proofs.Bytes.BlockTypes.{FromBlock, blocks_from}
 use Rattle.wasm_body.proofs.Bytes.Fitting.{fits}
 use Rattle.wasm_body.proofs.Bytes.WritableTexts.{Writes, CanWrite, normal_text}
-use Rattle.wasm_body.proofs.Bytes.CarriedKinds.{is_no_local, no_locals, carried_kinds, parts_try, carried_parts}
+use Rattle.wasm_body.proofs.Bytes.CarriedKinds.{is_no_local, no_locals, carried_kinds}
+use Rattle.wasm_body.proofs.Bytes.ClauseKinds.{Asks, asks}
 use Rattle.wasm_body.specs.declared.error.EmitError.{EmitError}
 use Rattle.walrus_ir.specs.declared.val_type.InstrSeqType.{InstrSeqType}
 use Rattle.walrus_ir.specs.declared.val_type.InstrSeqType.TheVariants.{Simple}
@@ -24,13 +27,13 @@ use Rattle.walrus_ir.specs.Types.{Signature, pick}
 use Rattle.wasm_body.specs.declared.error.IndexError.{IndexError}
 use Rattle.wasm_body.specs.declared.error.ParseError.TheVariants.{Index}
 use Rattle.wasm_body.specs.declared.error.ParseError.{ParseError}
-use Rattle.walrus_ir.specs.Results.{◌>>=◌, with_fault}
-use Rattle.wasm_body.specs.Control.{Role, a_block, a_loop, an_if, a_try, a_try_table, a_catch, a_catch_all, a_delegate, an_else, an_end, role_of, Control, End, control_by, control_of, with_control}
+use Rattle.walrus_ir.specs.Results.{◌>>=◌, sure, with_fault}
+use Rattle.wasm_body.specs.Control.{Role, a_block, a_loop, an_if, a_try, a_try_table, a_catch, a_catch_all, a_delegate, an_else, an_end, role_of, Control, End, first_index, first_depth, control_by, control_of, with_control}
 use Rattle.wasm_body.specs.Frames.{Frame}
-use Rattle.wasm_body.specs.Translation.{Translation, translate, translate_immediates, Located}
+use Rattle.wasm_body.specs.Translation.{Translation, translate, translate_immediate, translate_immediates, Located}
 use Rattle.wasm_body.specs.Naming.{Environment, NamedOperation, Occurrence, naming, id_at, name_block, block_types, first_signature, stands, has_types, named_in}
 use Rattle.wasm_body.specs.FunctionTree.{Target, Depth}
-use Rattle.wasm_body.specs.NormalForm.{typing_of, construct_type, kept_operation, name_at, named_body, normal_form}
+use Rattle.wasm_body.specs.NormalForm.{typing_of, construct_type, kept, kept_operation, name_at, named_body, normal_form}
 use Rattle.wasm_body.specs.FlatText.{Writing, then_by, typed}
 use Rattle.wasm_body.specs.Bytes.{Numbers, in_32_bits, numbers_in_32_bits, numbered_block, numbering, numbered_text, bytes_of, tree_bytes}
 use Rattle.wasm_body.specs.SourceTree.{Body}
@@ -41,7 +44,8 @@ use Rattle.wasm_body.proofs.Translation.Steps.{Leads, bound, all_of}
 use Rattle.wasm_body.proofs.Translation.Translations.{LeadAll, lead_all, translate_leads}
 use Rattle.wasm_body.proofs.NormalForm.Kept.{exponent_of-pow}
 use Rattle.wasm_body.proofs.NormalForm.KeptNames.{sure_number, kept_raw, kept_of}
-use Rattle.wasm_body.proofs.Translation.Answering.{AnswersWhere, OthersOk, last_ok, immediates_answer}
+use Rattle.wasm_body.proofs.Translation.Answering.{AnswersWhere, OthersOk, first_ok, last_ok, all_ok, immediates_answer}
+use Rattle.wasm_body.proofs.Translation.Kinds.{kind_in, raw_kinds, kinds_kept, only_tag, only_outer}
 
 -- ---- what is spelt fits 32 bits
 
@@ -117,6 +121,16 @@ spelt_fits _ text s k = tt
 all_spelt : (is : List RawImmediate) (text : List ℕ) → SpellsImmediates is text → no_locals (map kind_of is) ≡ true → AllByRecursion Fits is
 all_spelt [] text s k = tt
 all_spelt (i ∷ is) text s k = let both = and_parts (is_no_local (kind_of i)) (no_locals (map kind_of is)) k in (spelt_fits i s.0 s.3 both.0, all_spelt is s.1 s.4 both.1)
+
+-- an operator that is named asks for as much as it did
+pub named_kinds : {A : Type 0} (env : Environment) (fs : List (Frame A)) (o : RawOperation) (named : NamedOperation) → translate (naming env fs) o ≡ Ok named
+    → kinds_of o.opcode ≡ Some (map kind_of o.immediates) → kinds_of named.opcode ≡ Some (map kind_in named.immediates)
+named_kinds env fs o named is kinds =
+    let first = bound (translate_immediates (naming env fs) o.immediates) (λ js. Ok (operation o.opcode js)) named is in
+    let made : operation o.opcode first.0 ≡ named = cc first.2 in
+    let kept = kinds_kept (naming env fs) o.immediates first.0 first.1 in
+    subst (λ (n : NamedOperation). kinds_of n.opcode ≡ Some (map kind_in n.immediates)) made
+    (kinds ∙ ap (λ ks. Some ks) (sym (raw_kinds o.immediates) ∙ sym kept))
 
 -- it has a spelling
 abbrev pub HasText : Occurrence → Type 0
@@ -234,20 +248,43 @@ module _ (env : Environment) (to : Numbers) (has : HasNumbers env to) where
       let same : found.0 ≡ named = cc typed.2 in
       found.1 ∙ ap Ok same
 
-  writes_by_role : (r : Role) (is : List (Immediate ℕ Signature)) (a : Located NamedOperation) → parts_try r ≡ false →
+  -- what is written of an operator's one immediate
+  alone_ok : (o : NamedOperation) (i : Immediate ℕ Signature) (k : Immediate Target (Unit {0})) → o.immediates ≡ i ∷ [] → sure (translate_immediates kept (i ∷ [])) ≡ k ∷ [] →
+      IsOk (translate (typed writing (Simple None)) (kept_operation o)) → IsOk (translate_immediate (typed writing (Simple None)) k)
+  alone_ok o i k e kept_so h =
+      let t = typed writing (Simple None) in
+      let all = first_ok (translate_immediates t (kept_operation o).immediates) (λ is. Ok (operation o.opcode is)) h in
+      let alone : (kept_operation o).immediates ≡ k ∷ [] = ap (λ is. sure (translate_immediates kept is)) e ∙ kept_so in
+      (all_ok (translate_immediate t) (k ∷ []) (subst (λ is. IsOk (translate_immediates t is)) alone all)).0
+
+  tag_ok : (o : NamedOperation) → map kind_in o.immediates ≡ an_index Tags ∷ [] → IsOk (translate (typed writing (Simple None)) (kept_operation o)) → IsOk (writing.index Tags (first_index o.immediates))
+  tag_ok o p h =
+      let t = only_tag o.immediates p in
+      let made : ℕ → Immediate ℕ BlockType = λ m. index Tags m in
+      subst (λ is. IsOk (writing.index Tags (first_index is))) (sym t.1)
+      (first_ok (writing.index Tags t.0) (λ m. Ok (made m)) (alone_ok o (index Tags t.0) (index Tags t.0) t.1 refl h))
+
+  outer_ok : (o : NamedOperation) → map kind_in o.immediates ≡ an_outer ∷ [] → IsOk (translate (typed writing (Simple None)) (kept_operation o)) → IsOk (writing.outer (first_depth o.immediates))
+  outer_ok o p h =
+      let d = only_outer o.immediates p in
+      let made : ℕ → Immediate ℕ BlockType = λ m. outer m in
+      subst (λ is. IsOk (writing.outer (first_depth is))) (sym d.1)
+      (first_ok (writing.outer d.0) (λ m. Ok (made m)) (alone_ok o (outer d.0) (outer d.0) d.1 refl h))
+
+  by_role : (r : Role) (a : Located NamedOperation) → Asks r (map kind_in a.op.immediates) →
       IsOk (translate (typed writing (Simple None)) (kept_operation a.op)) → IsOk (translate (typed writing (construct_type (typing_of env) a.op)) (kept_operation a.op)) →
-      Writes writing (typing_of env) a (control_by r is)
-  writes_by_role a_block is a p single opener = opener
-  writes_by_role a_loop is a p single opener = opener
-  writes_by_role an_if is a p single opener = opener
-  writes_by_role a_try is a p single opener = opener
-  writes_by_role a_try_table is a p single opener = opener
-  writes_by_role a_catch is a p single opener = absurd cc
-  writes_by_role a_catch_all is a p single opener = absurd cc
-  writes_by_role a_delegate is a p single opener = absurd cc
-  writes_by_role an_else is a p single opener = tt
-  writes_by_role an_end is a p single opener = tt
-  writes_by_role _ is a p single opener = single
+      Writes writing (typing_of env) a (control_by r a.op.immediates)
+  by_role a_block a p single opener = opener
+  by_role a_loop a p single opener = opener
+  by_role an_if a p single opener = opener
+  by_role a_try a p single opener = opener
+  by_role a_try_table a p single opener = opener
+  by_role a_catch a p single opener = tag_ok a.op p single
+  by_role a_catch_all a p single opener = tt
+  by_role a_delegate a p single opener = outer_ok a.op p single
+  by_role an_else a p single opener = tt
+  by_role an_end a p single opener = tt
+  by_role _ a p single opener = single
 
   abbrev Written : Occurrence → Control → Type 0
   Written x c = CanWrite writing (typing_of env) (name_at x) c
@@ -256,11 +293,9 @@ module _ (env : Environment) (to : Numbers) (has : HasNumbers env to) where
   writes_occurrence x fs is has_text =
       let spelt = has_text.1 in
       let named = translated fs x.spelt x.named is in
-      let same = (kept_of env fs x.spelt x.named named).opcode in
-      let parts : parts_try (role_of x.named.opcode) ≡ false = ap (λ c. parts_try (role_of c)) same ∙ carried_parts x.spelt.opcode (map kind_of x.spelt.immediates) spelt.kinds in (
+      let asked = asks x.named.opcode (map kind_in x.named.immediates) (named_kinds env fs x.spelt x.named named spelt.kinds) (role_of x.named.opcode) refl in (
         refl,
-        writes_by_role (role_of x.named.opcode) x.named.immediates (name_at x) parts
-            (written_operation fs (Simple None) x.spelt has_text.0 x.named spelt named refl)
+        by_role (role_of x.named.opcode) (name_at x) asked (written_operation fs (Simple None) x.spelt has_text.0 x.named spelt named refl)
             (written_operation fs (construct_type (typing_of env) x.named) x.spelt has_text.0 x.named spelt named (type_ok fs x.spelt x.named named)),
       )
 

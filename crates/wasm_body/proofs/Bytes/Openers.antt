@@ -92,7 +92,7 @@ module _ (marks : Role → Bool) (plain : marks a_plain ≡ false) where
       let both = and_parts (not (marks row.1) || test row.0) (roles_pass test rows) h in
       role_row test row (row_at rows b) b (b == row.0) refl both.0 f (none_marked test rows both.1 b f)
 
-  pub past_marked : roles_pass (λ n. nat_le n 0x1f) byte_roles ≡ true → (b : ℕ) → nat_le b 0x1f ≡ false → marks (role_of (Byte b)) ≡ false
+  past_marked : roles_pass (λ n. nat_le n 0x1f) byte_roles ≡ true → (b : ℕ) → nat_le b 0x1f ≡ false → marks (role_of (Byte b)) ≡ false
   past_marked h b f = none_marked (λ n. nat_le n 0x1f) byte_roles h b f
 
   pub prefixed_marked : roles_pass (λ n. false) aggregate_roles ≡ true → (prefix n : ℕ) → marks (role_of (Prefixed prefix n)) ≡ false

@@ -36,7 +36,8 @@ use Rattle.wasm_body.proofs.NormalForm.NormalAgain.{again as rewritten_again, no
 use Rattle.wasm_body.proofs.NormalForm.SameTexts.{same_bytes}
 use Rattle.wasm_body.proofs.NormalForm.WrittenTexts.{type_at, with_type, ids_at, ids_text, numbering_at, spelt_as, IsNumbered, bytes_as, numbered_bytes}
 use Rattle.wasm_body.proofs.ReadBack.FrameNames.{map_frames, named_of, IsRuled, has_name}
-use Rattle.wasm_body.proofs.ReadBack.Ranged.{raw_kinds, kinds_kept, all_again}
+use Rattle.wasm_body.proofs.Translation.Kinds.{raw_kinds, kinds_kept}
+use Rattle.wasm_body.proofs.ReadBack.Ranged.{all_again}
 use Rattle.wasm_body.proofs.ReadBack.Sound.{CanSpell, IsSound, IsSpeltThere, occurrence_sound, rewritten_sound, close_sound}
 use Rattle.wasm_body.proofs.ReadBack.NamedAgain.{named_again}
 use Rattle.wasm_body.proofs.ReadBack.Related.{AllRelated, goes_related}

@@ -5,10 +5,9 @@ use Rattle.std.specs.List.{AllByRecursion}
 use Rattle.walrus_ir.specs.Types.{Signature}
 use Rattle.wasm_ops.specs.declared.types.Opcode.TheVariants.{Byte}
 use Rattle.wasm_ops.specs.Operations.{Immediate, outer, RawOperation}
-use Rattle.wasm_ops.specs.Immediates.{an_outer}
 use Rattle.wasm_ops.specs.Opcodes.{IsOpcode, kinds_of, kinds_of_byte}
 use Rattle.wasm_ops.specs.Spelling.{Spells}
-use Rattle.wasm_body.specs.Control.{Role, an_if, a_catch, a_catch_all, a_delegate, role_of, Control, Does, Opens, Else, Catch, CatchAll, End, Delegate, If, control_of, control_by, Action, Marked, with_control}
+use Rattle.wasm_body.specs.Control.{Role, a_delegate, role_of, Control, Does, Else, Catch, CatchAll, End, Delegate, control_of, control_by, Action, Marked, with_control}
 use Rattle.wasm_body.specs.SourceTree.{Sequence, Empty, Single, Wrapped, IfThen, IfElse, TryCatch, TryDelegate, Clauses, Ended, Catches, CatchesAll}
 use Rattle.wasm_body.specs.Frames.{Frame, OfWrapper, Consequent, Alternative, TryBody, Handler, HandlerOfAll, Follows, FollowsIn, may_stand}
 use Rattle.wasm_body.specs.Translation.{translate, translate_immediates}
@@ -19,16 +18,17 @@ use Rattle.wasm_body.specs.FunctionTree.{default_location}
 use Rattle.wasm_body.specs.Typed.{StandsFor}
 use Rattle.wasm_body.proofs.Structure.Along.{Tells}
 use Rattle.wasm_body.proofs.Parsing.NamingLemmas.{same_opcode, named_parts}
-use Rattle.wasm_body.proofs.Bytes.NumberedBodies.{HasText}
+use Rattle.wasm_body.proofs.Bytes.NumberedBodies.{HasText, named_kinds}
 use Rattle.wasm_body.proofs.Bytes.LawfulTyped.{named_typed}
 use Rattle.wasm_body.proofs.NormalForm.Rewritten.{Named, typed_told, end_at, else_at, catch_at, catch_all_at, delegate_at, single_with_fate, rewritten, rewritten_clauses}
 use Rattle.wasm_body.proofs.NormalForm.WrittenTexts.{type_at}
 use Rattle.wasm_body.proofs.NormalForm.ByNames.{op_of}
 use Rattle.wasm_body.proofs.NormalForm.NamedTexts.{stands_at}
 use Rattle.wasm_body.proofs.ReadBack.FrameNames.{map_frames, named_of, results_at, types_in, ruling, IsRuled, is_ruled, named_immediates}
-use Rattle.wasm_body.proofs.ReadBack.CarriedClosers.{else_carried, catch_carried, catch_all_carried, delegate_carried, delegate_kinds}
+use Rattle.wasm_body.proofs.Bytes.ClauseKinds.{delegate_asks}
+use Rattle.wasm_body.proofs.Translation.Kinds.{kind_in, only_outer}
 use Rattle.wasm_body.proofs.ReadBack.Spellings.{IsSpellable}
-use Rattle.wasm_body.proofs.ReadBack.Ranged.{kind_in, raw_kinds, kinds_kept, IsRanged, all_ranged}
+use Rattle.wasm_body.proofs.ReadBack.Ranged.{IsRanged, all_ranged}
 
 -- What has to be known of a named operator for it to be spelt, its ids and labels aside.
 pub record CanSpell (o : NamedOperation) : Type 0 where
@@ -51,7 +51,7 @@ can_spell env fs o named text s e =
     let immediates = named_immediates env fs o named e in
     record {
       opcode = subst (IsSpellable IsOpcode) (sym opcode) (s.first, s.opcode);
-      kinds = ap kinds_of opcode ∙ (s.kinds ∙ ap (λ ks. Some ks) (sym (raw_kinds o.immediates) ∙ sym (kinds_kept (naming env fs) o.immediates named.immediates immediates)));
+      kinds = named_kinds env fs o named e s.kinds;
       ranged = all_ranged env fs o.immediates s.others s.immediates named.immediates immediates;
     }
 
@@ -73,27 +73,9 @@ occurrence_sound env fs gs x c same e p =
 
 -- ---- the operators that part and close constructs
 
-if_role : (r : Role) (is : List (Immediate ℕ Signature)) → control_by r is ≡ Opens If → r ≡ an_if
-if_role an_if is e = refl
-if_role _ is e = absurd cc
-
-catch_role : (r : Role) (is : List (Immediate ℕ Signature)) (t : ℕ) → control_by r is ≡ Catch t → r ≡ a_catch
-catch_role a_catch is t e = refl
-catch_role _ is t e = absurd cc
-
-catch_all_role : (r : Role) (is : List (Immediate ℕ Signature)) → control_by r is ≡ CatchAll → r ≡ a_catch_all
-catch_all_role a_catch_all is e = refl
-catch_all_role _ is e = absurd cc
-
 delegate_role : (r : Role) (is : List (Immediate ℕ Signature)) (n : ℕ) → control_by r is ≡ Delegate n → r ≡ a_delegate
 delegate_role a_delegate is n e = refl
 delegate_role _ is n e = absurd cc
-
-only_outer : (is : List (Immediate ℕ Signature)) → map kind_in is ≡ an_outer ∷ [] → (d : ℕ) × (is ≡ outer d ∷ [])
-only_outer [] e = absurd cc
-only_outer (outer d ∷ []) e = (d, refl)
-only_outer (outer d ∷ j ∷ js) e = absurd cc
-only_outer (_ ∷ is) e = absurd cc
 
 one_byte : (b : ℕ) → IsOpcode (Byte b) (b ∷ []) → IsSpellable IsOpcode (Byte b)
 one_byte b h = (b ∷ [], h)
@@ -108,19 +90,17 @@ module _ (env : Environment) where
     spellable = record { opcode = one_byte 0x0b (refl, omega arith, refl); kinds = refl; ranged = tt };
   }
 
-  else_sound : (a : Named) (fs : List (Frame Named)) (l : ℕ) → IsSound env fs (with_control a (Opens If)) → IsSound env (Consequent a ∷ fs) (with_control (else_at l) Else)
-  else_sound a fs l s = record {
+  else_sound : (a : Named) (fs : List (Frame Named)) (l : ℕ) → IsSound env (Consequent a ∷ fs) (with_control (else_at l) Else)
+  unfolding kinds_of_byte
+  else_sound a fs l = record {
     ruled = record { stands = refl; keeps = refl; typed = refl };
     tells = refl;
     stands_for = tt;
-    spellable = record {
-      opcode = one_byte 0x05 (refl, omega arith, refl);
-      kinds = else_carried a.op.opcode (map kind_in a.op.immediates) s.spellable.kinds (if_role (role_of a.op.opcode) a.op.immediates s.tells);
-      ranged = tt;
-    };
+    spellable = record { opcode = one_byte 0x05 (refl, omega arith, refl); kinds = refl; ranged = tt };
   }
 
   catch_sound : (fs : List (Frame Named)) (h : Named) (t l : ℕ) → IsSound env fs (with_control h (Catch t)) → IsSound env fs (with_control (catch_at t l) (Catch t))
+  unfolding kinds_of_byte
   catch_sound fs h t l s = record {
     ruled = record {
       stands = subst (λ c. may_stand (map_frames op_of fs) c ≡ true) s.tells s.ruled.stands;
@@ -129,14 +109,11 @@ module _ (env : Environment) where
     };
     tells = refl;
     stands_for = tt;
-    spellable = record {
-      opcode = one_byte 0x07 (refl, omega arith, refl);
-      kinds = catch_carried h.op.opcode (map kind_in h.op.immediates) s.spellable.kinds (catch_role (role_of h.op.opcode) h.op.immediates t s.tells);
-      ranged = (tt, tt);
-    };
+    spellable = record { opcode = one_byte 0x07 (refl, omega arith, refl); kinds = refl; ranged = (tt, tt) };
   }
 
   catch_all_sound : (fs : List (Frame Named)) (h : Named) (l : ℕ) → IsSound env fs (with_control h CatchAll) → IsSound env fs (with_control (catch_all_at l) CatchAll)
+  unfolding kinds_of_byte
   catch_all_sound fs h l s = record {
     ruled = record {
       stands = subst (λ c. may_stand (map_frames op_of fs) c ≡ true) s.tells s.ruled.stands;
@@ -145,18 +122,14 @@ module _ (env : Environment) where
     };
     tells = refl;
     stands_for = tt;
-    spellable = record {
-      opcode = one_byte 0x19 (refl, omega arith, refl);
-      kinds = catch_all_carried h.op.opcode (map kind_in h.op.immediates) s.spellable.kinds (catch_all_role (role_of h.op.opcode) h.op.immediates s.tells);
-      ranged = tt;
-    };
+    spellable = record { opcode = one_byte 0x19 (refl, omega arith, refl); kinds = refl; ranged = tt };
   }
 
   -- a `delegate` has its depth alone
   delegate_depth : (fs : List (Frame Named)) (e : Named) (n : ℕ) → IsSound env fs (with_control e (Delegate n)) → e.op.immediates ≡ outer n ∷ []
   delegate_depth fs e n s =
       let role = delegate_role (role_of e.op.opcode) e.op.immediates n s.tells in
-      let kinds = delegate_kinds e.op.opcode (map kind_in e.op.immediates) s.spellable.kinds role in
+      let kinds = delegate_asks e.op.opcode (map kind_in e.op.immediates) s.spellable.kinds role in
       let depth = only_outer e.op.immediates kinds in
       let alone : List (Immediate ℕ Signature) = outer depth.0 ∷ [] in
       let control : control_by a_delegate alone ≡ Delegate n =
@@ -165,8 +138,8 @@ module _ (env : Environment) where
       depth.1 ∙ ap (λ k. outer k ∷ []) same
 
   delegate_sound : (fs : List (Frame Named)) (e : Named) (n l : ℕ) → IsSound env fs (with_control e (Delegate n)) → IsSound env fs (with_control (delegate_at n l) (Delegate n))
+  unfolding kinds_of_byte
   delegate_sound fs e n l s =
-      let role = delegate_role (role_of e.op.opcode) e.op.immediates n s.tells in
       let depth = delegate_depth fs e n s in
       record {
         ruled = record {
@@ -178,7 +151,7 @@ module _ (env : Environment) where
         stands_for = tt;
         spellable = record {
           opcode = one_byte 0x18 (refl, omega arith, refl);
-          kinds = delegate_carried e.op.opcode (map kind_in e.op.immediates) s.spellable.kinds role;
+          kinds = refl;
           ranged = subst (λ is. AllByRecursion (λ (i : Immediate ℕ Signature). IsRanged i) is) depth s.spellable.ranged;
         };
       }
@@ -198,7 +171,7 @@ module _ (env : Environment) where
     rewritten_sound fs (IfThen a b e r) h = (
       h.0,
       rewritten_sound (Consequent a ∷ fs) b h.1,
-      else_sound a fs e.location h.0,
+      else_sound a fs e.location,
       tt,
       end_sound (Alternative a) fs default_location,
       rewritten_sound fs r h.3,
@@ -206,7 +179,7 @@ module _ (env : Environment) where
     rewritten_sound fs (IfElse a b l c e r) h = (
       h.0,
       rewritten_sound (Consequent a ∷ fs) b h.1,
-      else_sound a fs l.location h.0,
+      else_sound a fs l.location,
       rewritten_sound (Alternative a ∷ fs) c h.3,
       end_sound (Alternative a) fs e.location,
       rewritten_sound fs r h.5,

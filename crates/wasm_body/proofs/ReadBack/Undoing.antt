@@ -39,7 +39,8 @@ use Rattle.wasm_body.proofs.Bytes.LawfulTyped.{named_somewhere}
 use Rattle.wasm_body.proofs.NormalForm.Rewritten.{Named, end_at, rewritten, each_rewritten, rewritten_body}
 use Rattle.wasm_body.proofs.NormalForm.WrittenTexts.{type_at, with_type, ids_at, ids_text}
 use Rattle.wasm_body.proofs.ReadBack.Spellings.{IsSpellable}
-use Rattle.wasm_body.proofs.ReadBack.Ranged.{through, at_once, value_carried, carried_same}
+use Rattle.wasm_body.proofs.Translation.Kinds.{through, at_once}
+use Rattle.wasm_body.proofs.ReadBack.Ranged.{value_carried, carried_same}
 
 -- ---- block types that were spelt
 

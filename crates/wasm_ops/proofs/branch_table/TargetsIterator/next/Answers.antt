@@ -1,4 +1,4 @@
-use Rattle.std.proofs.Common.{rules, ◌≡◌, ℕ, ◌<◌, arith, sym, ◌∙◌, length}
+use Rattle.std.proofs.Common.{rules, arith, sym, ◌∙◌}
 use Rattle.wasm_ops.specs.Numbers.{u32}
 use Rattle.wasm_ops.proofs.BorrowedLists.{next_item, no_item}
 use Rattle.wasm_ops.proofs.branch_table.TargetsIterator.next.Goals as goal

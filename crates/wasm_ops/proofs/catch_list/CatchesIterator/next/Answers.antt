@@ -1,4 +1,4 @@
-use Rattle.std.proofs.Common.{rules, ◌≡◌, ◌<◌, arith, sym, ◌∙◌, ap}
+use Rattle.std.proofs.Common.{rules, arith, sym, ◌∙◌}
 use Rattle.wasm_ops.specs.Immediates.{clause}
 use Rattle.wasm_ops.proofs.BorrowedLists.{next_item, no_item}
 use Rattle.wasm_ops.proofs.catch_list.CatchesIterator.next.Goals as goal
