@@ -14,15 +14,13 @@ use Rattle.walrus_ir.specs.declared.memory.StoreKind.{StoreKind}
 use Rattle.walrus_ir.specs.declared.memory.StoreKind.TheVariants as store
 use Rattle.wasm_ops.specs.declared.operator.Op.TheVariants as operator
 use Rattle.wasm_ops.specs.declared.types.BlockType.{BlockType}
-use Rattle.wasm_ops.specs.Operations.{Immediate, branch_table}
-use Rattle.wasm_ops.specs.Opcodes.{kinds_of_byte}
-use Rattle.wasm_ops.specs.Fitting.{HasRow}
+use Rattle.wasm_ops.specs.Operations.{CatchClause, Immediate, branch_table}
 use Rattle.wasm_ops.specs.Meaning.{Listed, meaning}
 use Rattle.wasm_ops.specs.UnaryOperations.{unary_opcode}
 use Rattle.wasm_ops.specs.BinaryOperations.{binary_opcode}
 use Rattle.wasm_ops.specs.TernaryOperations.{ternary_opcode}
 use Rattle.wasm_ops.specs.AccessOperations.{load_opcode, store_opcode}
-use Rattle.wasm_body.specs.Control.{Role, an_unreachable, a_branch, a_conditional_branch, a_table_branch, a_return, a_plain, role_of, Action, Plain, Return, Unreachable, Branch, ConditionalBranch, Control, Does, control_by, first_label, branches}
+use Rattle.wasm_body.specs.Control.{Role, an_unreachable, a_branch, a_conditional_branch, a_table_branch, a_return, a_throw, a_rethrow, a_throw_ref, a_plain, role_of, Action, Plain, Return, Unreachable, Branch, ConditionalBranch, Throw, Rethrow, ThrowRef, Control, Does, control_by, first_index, first_depth, first_label, branches}
 use Rattle.wasm_body.specs.NormalForm.{Fate, Stays, Cuts, fate}
 use Rattle.walrus_body.specs.Parsing.OperatorKinds.{is_instruction, is_cut}
 
@@ -92,6 +90,9 @@ fate_of_role a_branch = Some Cuts
 fate_of_role a_conditional_branch = Some Stays
 fate_of_role a_table_branch = Some Cuts
 fate_of_role a_return = Some Cuts
+fate_of_role a_throw = Some Cuts
+fate_of_role a_rethrow = Some Cuts
+fate_of_role a_throw_ref = Some Cuts
 fate_of_role a_plain = Some Stays
 fate_of_role _ = None
 
@@ -106,6 +107,10 @@ fate_of_operator (operator.Loop type) i = absurd cc
 fate_of_operator (operator.If type) i = absurd cc
 fate_of_operator operator.Else i = absurd cc
 fate_of_operator operator.End i = absurd cc
+fate_of_operator (operator.Try type) i = absurd cc
+fate_of_operator (operator.Catch tag) i = absurd cc
+fate_of_operator operator.CatchAll i = absurd cc
+fate_of_operator (operator.Delegate depth) i = absurd cc
 fate_of_operator (operator.TryTable type catches) i = absurd cc
 fate_of_operator (operator.Unop op) i = ap fate_of_role (plain_unary op)
 fate_of_operator (operator.Binop op) i = ap fate_of_role (plain_binary op)
@@ -131,21 +136,25 @@ does_as a_branch t is e = record { action = Branch (first_label is); does = refl
 does_as a_conditional_branch t is e = record { action = ConditionalBranch (first_label is); does = refl; has_fate = cc e }
 does_as a_table_branch t is e = record { action = branches is; does = refl; has_fate = branches_cut is ∙ (let same : Cuts ≡ t = cc e in same) }
 does_as a_return t is e = record { action = Return; does = refl; has_fate = cc e }
+does_as a_throw t is e = record { action = Throw (first_index is); does = refl; has_fate = cc e }
+does_as a_rethrow t is e = record { action = Rethrow (first_depth is); does = refl; has_fate = cc e }
+does_as a_throw_ref t is e = record { action = ThrowRef; does = refl; has_fate = cc e }
 does_as a_plain t is e = record { action = Plain; does = refl; has_fate = cc e }
 does_as _ t is e = absurd cc
 
-none_some : {A : Type 0} (x : A) → None ≡ Some x → ⊥
-none_some x e = cc
-
--- Any other operator that has a row than these makes an instruction.
-pub makes_instruction : (op : Listed) → HasRow (meaning op) → op ≢ operator.Nop → ((type : BlockType) → op ≢ operator.Block type) → ((type : BlockType) → op ≢ operator.Loop type) → ((type : BlockType) → op ≢ operator.If type) →
-    op ≢ operator.Else → op ≢ operator.End → is_instruction op ≡ true
-unfolding kinds_of_byte
-makes_instruction operator.Nop row a b l i e c = absurd (a refl)
-makes_instruction (operator.Block type) row a b l i e c = absurd (b type refl)
-makes_instruction (operator.Loop type) row a b l i e c = absurd (l type refl)
-makes_instruction (operator.If type) row a b l i e c = absurd (i type refl)
-makes_instruction operator.Else row a b l i e c = absurd (e refl)
-makes_instruction operator.End row a b l i e c = absurd (c refl)
-makes_instruction (operator.TryTable type catches) row a b l i e c = absurd (none_some row.0 row.1)
-makes_instruction _ row a b l i e c = refl
+-- Any other operator than these makes an instruction.
+pub makes_instruction : (op : Listed) → op ≢ operator.Nop → ((type : BlockType) → op ≢ operator.Block type) → ((type : BlockType) → op ≢ operator.Loop type) → ((type : BlockType) → op ≢ operator.If type) →
+    op ≢ operator.Else → ((type : BlockType) → op ≢ operator.Try type) → ((tag : ℕ) → op ≢ operator.Catch tag) → op ≢ operator.CatchAll → ((depth : ℕ) → op ≢ operator.Delegate depth) →
+    ((type : BlockType) (catches : List (CatchClause ℕ)) → op ≢ operator.TryTable type catches) → op ≢ operator.End → is_instruction op ≡ true
+makes_instruction operator.Nop n b l i e t c a d table z = absurd (n refl)
+makes_instruction (operator.Block type) n b l i e t c a d table z = absurd (b type refl)
+makes_instruction (operator.Loop type) n b l i e t c a d table z = absurd (l type refl)
+makes_instruction (operator.If type) n b l i e t c a d table z = absurd (i type refl)
+makes_instruction operator.Else n b l i e t c a d table z = absurd (e refl)
+makes_instruction (operator.Try type) n b l i e t c a d table z = absurd (t type refl)
+makes_instruction (operator.Catch tag) n b l i e t c a d table z = absurd (c tag refl)
+makes_instruction operator.CatchAll n b l i e t c a d table z = absurd (a refl)
+makes_instruction (operator.Delegate depth) n b l i e t c a d table z = absurd (d depth refl)
+makes_instruction (operator.TryTable type catches) n b l i e t c a d table z = absurd (table type catches refl)
+makes_instruction operator.End n b l i e t c a d table z = absurd (z refl)
+makes_instruction _ n b l i e t c a d table z = refl

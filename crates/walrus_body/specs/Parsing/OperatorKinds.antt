@@ -1,7 +1,7 @@
 -- Kinds of operators, by what they become.
 use Rattle.std.specs.Prelude.{Bool, true, false}
 use Rattle.wasm_ops.specs.Meaning.{Listed}
-use Rattle.wasm_ops.specs.declared.operator.Op.TheVariants.{Unreachable, Nop, Block, Loop, If, Else, End, Br, BrTable, TryTable, Return}
+use Rattle.wasm_ops.specs.declared.operator.Op.TheVariants.{Unreachable, Nop, Block, Loop, If, Else, Try, Catch, Throw, Rethrow, ThrowRef, End, Br, BrTable, Return, Delegate, CatchAll, TryTable}
 
 -- those that make an instruction by themselves, of the operators that are carried
 abbrev pub is_instruction : Listed → Bool
@@ -11,6 +11,10 @@ is_instruction (Loop type) = false
 is_instruction (If type) = false
 is_instruction Else = false
 is_instruction End = false
+is_instruction (Try type) = false
+is_instruction (Catch tag) = false
+is_instruction CatchAll = false
+is_instruction (Delegate depth) = false
 is_instruction (TryTable type catches) = false
 is_instruction _ = true
 
@@ -20,4 +24,7 @@ is_cut Unreachable = true
 is_cut (Br depth) = true
 is_cut (BrTable table) = true
 is_cut Return = true
+is_cut (Throw tag) = true
+is_cut (Rethrow depth) = true
+is_cut ThrowRef = true
 is_cut _ = false

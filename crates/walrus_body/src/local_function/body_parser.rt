@@ -281,6 +281,11 @@ impl BodyParser<'_> {
             Operator::Loop { ty } => self.open_loop(*ty, location),
             Operator::If { ty } => self.open_if(*ty, location),
             Operator::Else => self.part_else(location),
+            Operator::Try { ty } => self.open_try(*ty, location),
+            Operator::Catch { tag } => self.part_try(Some(*tag), location),
+            Operator::CatchAll => self.part_try(None, location),
+            Operator::Delegate { depth } => self.close_delegate(*depth),
+            Operator::TryTable { ty, catches } => self.open_try_table(*ty, catches, location),
             Operator::End => self.end_construct(location),
             _ => self.take_alone(operator, location),
         }
@@ -308,6 +313,12 @@ fn is_cut(operator: &Operator<'_>) -> bool
 {
     matches!(
         operator,
-        Operator::Unreachable | Operator::Br { .. } | Operator::BrTable(_) | Operator::Return
+        Operator::Unreachable
+            | Operator::Br { .. }
+            | Operator::BrTable(_)
+            | Operator::Return
+            | Operator::Throw { .. }
+            | Operator::Rethrow { .. }
+            | Operator::ThrowRef
     )
 }

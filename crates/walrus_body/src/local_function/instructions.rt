@@ -62,6 +62,9 @@ macro_rules! id {
     ($indices:ident Data $index:ident) => {
         $indices.get_data($index)?
     };
+    ($indices:ident Tags $index:ident) => {
+        $indices.get_tag($index)?
+    };
 }
 
 /// The instruction of an operator: the rows, and those of the other operators.
@@ -142,6 +145,8 @@ impl BodyParser<'_> {
         index_rows!(
             instruction_row, indices operator,
             Operator::Unreachable => Ok(Instr::Unreachable),
+            Operator::Rethrow { depth } => self.rethrow(depth),
+            Operator::ThrowRef => Ok(Instr::ThrowRef),
             Operator::Br { label } => Ok(Instr::Br(Br {
                 block: self.label(label)?,
             })),
@@ -177,6 +182,10 @@ impl BodyParser<'_> {
             | Operator::Loop { .. }
             | Operator::If { .. }
             | Operator::Else
+            | Operator::Try { .. }
+            | Operator::Catch { .. }
+            | Operator::CatchAll
+            | Operator::Delegate { .. }
             | Operator::End
             | Operator::TryTable { .. } => unreachable!(),
         )

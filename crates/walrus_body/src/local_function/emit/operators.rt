@@ -60,6 +60,9 @@ macro_rules! index {
     ($numbers:ident Data $id:expr) => {
         $numbers.ids.get_data_index($id)?
     };
+    ($numbers:ident Tags $id:expr) => {
+        $numbers.ids.get_tag_index($id)?
+    };
 }
 
 /// The operator of an instruction: the rows, and those of the other instructions.

@@ -6,3 +6,6 @@ use Rattle.walrus_body.proofs.local_function.body_parser.BodyParser.instruction.
 
 pub returns-in-BrTable-clause-placed : goal.returns-in-BrTable-clause-placed
 returns-in-BrTable-clause-placed c = subst (λ o. GivesOrMemory operation_of c.branch_table.result (placed_in c.args.self.now (meaning o))) (sym c.in-BrTable.is) c.branch_table.ensures.placed
+
+pub returns-in-Rethrow-clause-placed : goal.returns-in-Rethrow-clause-placed
+returns-in-Rethrow-clause-placed c = subst (λ o. GivesOrMemory operation_of c.rethrow.result (placed_in c.args.self.now (meaning o))) (sym c.in-Rethrow.is) c.rethrow.ensures.placed

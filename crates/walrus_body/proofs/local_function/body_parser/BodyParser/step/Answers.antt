@@ -27,7 +27,22 @@ returns-in-Else-clause-step c = subst (λ o. Steps c.args.self.now c.part_else.n
 pub returns-in-End-clause-step : goal.returns-in-End-clause-step
 returns-in-End-clause-step c = subst (λ o. Steps c.args.self.now c.end_construct.new.self (meaning o) c.args.location c.end_construct.result) (sym c.in-End.is) c.end_construct.ensures.step
 
+pub returns-in-Try-clause-step : goal.returns-in-Try-clause-step
+returns-in-Try-clause-step c = subst (λ o. Steps c.args.self.now c.open_try.new.self (meaning o) c.args.location c.open_try.result) (sym c.in-Try.is) c.open_try.ensures.step
+
+pub returns-in-Catch-clause-step : goal.returns-in-Catch-clause-step
+returns-in-Catch-clause-step c = subst (λ o. Steps c.args.self.now c.part_try.new.self (meaning o) c.args.location c.part_try.result) (sym c.in-Catch.is) c.part_try.ensures.step
+
+pub returns-in-CatchAll-clause-step : goal.returns-in-CatchAll-clause-step
+returns-in-CatchAll-clause-step c = subst (λ o. Steps c.args.self.now c.part_try-in-CatchAll.new.self (meaning o) c.args.location c.part_try-in-CatchAll.result) (sym c.in-CatchAll.is) c.part_try-in-CatchAll.ensures.step
+
+pub returns-in-Delegate-clause-step : goal.returns-in-Delegate-clause-step
+returns-in-Delegate-clause-step c = subst (λ o. Steps c.args.self.now c.close_delegate.new.self (meaning o) c.args.location c.close_delegate.result) (sym c.in-Delegate.is) (c.close_delegate.ensures.step c.args.location)
+
+pub returns-in-TryTable-clause-step : goal.returns-in-TryTable-clause-step
+returns-in-TryTable-clause-step c = subst (λ o. Steps c.args.self.now c.open_try_table.new.self (meaning o) c.args.location c.open_try_table.result) (sym c.in-TryTable.is) c.open_try_table.ensures.step
+
 pub take_alone-requires-clause-kind : goal.take_alone-requires-clause-kind
 take_alone-requires-clause-kind c =
     let other = c.in_default in
-    makes_instruction c.args.operator.now c.requires.carried other.not-Nop other.not-Block other.not-Loop other.not-If other.not-Else other.not-End
+    makes_instruction c.args.operator.now other.not-Nop other.not-Block other.not-Loop other.not-If other.not-Else other.not-Try other.not-Catch other.not-CatchAll other.not-Delegate other.not-TryTable other.not-End
