@@ -1,16 +1,13 @@
 -- The operators that aren't carried, of instructions of which each has several.
-use Rattle.std.specs.Prelude.{◌≡◌, ◌⊎◌, ℕ, Bool, true, false, None}
-use Rattle.std.proofs.Common.{refl, ap, inl, inr}
+use Rattle.std.specs.Prelude.{◌≡◌, ℕ, Bool, true, false, None}
+use Rattle.std.proofs.Common.{refl, ap}
 use Rattle.walrus_ir.specs.declared.memory.LoadSimdKind.{LoadSimdKind}
 use Rattle.walrus_ir.specs.declared.memory.LoadSimdKind.TheVariants.{V128Load8x8S}
 use Rattle.walrus_ir.specs.declared.value.Value.{Value}
 use Rattle.walrus_ir.specs.declared.value.Value.TheVariants.{V128}
-use Rattle.wasm_ops.specs.Opcodes.{kinds_of, kinds_of_byte, kinds_behind}
+use Rattle.wasm_ops.specs.Opcodes.{kinds_of, kinds_behind}
 use Rattle.wasm_ops.specs.VectorAccessOpcodes.{vector_access_opcode}
 use Rattle.wasm_body.specs.InstructionTable.{const_operation, by_null, wait_opcode}
-use Rattle.walrus_body.specs.declared.local_function.emit.closing.Closer.{Closer}
-use Rattle.walrus_body.specs.declared.local_function.emit.closing.Closer.TheVariants as closer
-use Rattle.walrus_body.specs.TreeWriting.Closers.{closing}
 
 pub vector_access : (kind : LoadSimdKind) → kinds_of (vector_access_opcode kind) ≡ None
 unfolding kinds_behind
@@ -37,11 +34,3 @@ ref_cast true = refl
 ref_cast false = refl
 
 pub ruleset not_carried = (vector_access, wait, ref_test, ref_cast)
-
-pub closer_not_carried : (k : Closer)
-    → ((tag : ℕ) × (k ≡ closer.Catch tag)) ⊎ ((k ≡ closer.CatchAll) ⊎ ((n : ℕ) × (k ≡ closer.Delegate n)))
-    → kinds_of (closing k).opcode ≡ None
-unfolding kinds_of_byte
-closer_not_carried k (inl h) = ap (λ c. kinds_of (closing c).opcode) h.1
-closer_not_carried k (inr (inl h)) = ap (λ c. kinds_of (closing c).opcode) h
-closer_not_carried k (inr (inr h)) = ap (λ c. kinds_of (closing c).opcode) h.1

@@ -1,17 +1,16 @@
 -- What the code keeps while a tree is written, as an emitter, and why that refuses an event.
-use Rattle.std.specs.Prelude.{◌≡◌, ◌⊎◌, ℕ, List, [], ◌∷◌, Option, None, Some, Ok, Err}
+use Rattle.std.specs.Prelude.{◌≡◌, ◌⊎◌, ℕ, List, Option, None, Ok, Err}
 use Rattle.walrus_ir.specs.declared.seq.InstrSeq.{InstrSeq}
-use Rattle.walrus_ir.specs.Events.{WalkEvent, EndSequence, VisitInstruction}
+use Rattle.walrus_ir.specs.Events.{WalkEvent, VisitInstruction}
 use Rattle.wasm_ops.specs.Opcodes.{kinds_of}
+use Rattle.wasm_body.specs.declared.error.EmitError.{EmitError}
 use Rattle.wasm_body.specs.declared.error.EmitError.TheVariants.{Memory}
-use Rattle.wasm_body.specs.Translation.{Located}
 use Rattle.wasm_body.specs.InstructionTable.{operation_of}
-use Rattle.wasm_body.specs.FlatText.{TextOperation}
 use Rattle.wasm_body.specs.Bytes.{Numbers}
 use Rattle.walrus_body.specs.declared.local_function.emit.closing.Closer.{Closer}
 use Rattle.walrus_body.specs.declared.local_function.emit.fault.EmitFault.{EmitFault}
 use Rattle.walrus_body.specs.declared.local_function.emit.fault.EmitFault.TheVariants.{Refused, NotCarried}
-use Rattle.walrus_body.specs.Emission.{Scope, Emitter, with_closer, emitter_behind}
+use Rattle.walrus_body.specs.Emission.{Emitter, with_closer, emitter_behind}
 use Rattle.walrus_body.specs.TreeWriting.Closers.{closer_at, scopes_of}
 use Rattle.walrus_body.specs.TreeWriting.Drafts.{Drafted}
 use Rattle.walrus_body.specs.TreeWriting.ScopeLists.{ScopeLists}
@@ -30,25 +29,15 @@ emitter_at b to scopes draft = record {
 
 -- ---- why an event is refused
 
-abbrev pub IsUncarriedCloser : Option (Located TextOperation) → Type 0
-IsUncarriedCloser None = ⊥
-IsUncarriedCloser (Some c) = kinds_of c.op.opcode ≡ None
-
-abbrev pub IsUncarriedEnd : List Scope → Type 0
-IsUncarriedEnd [] = ⊥
-IsUncarriedEnd (c ∷ cs) = IsUncarriedCloser c.closer
-
--- the operator that is to be written isn't carried: an instruction's own, or what closes the
--- innermost sequence
-abbrev pub IsUncarried : Emitter → WalkEvent → Type 0
-IsUncarried s (VisitInstruction i l) = kinds_of (operation_of i).opcode ≡ None
-IsUncarried s (EndSequence seq) = IsUncarriedEnd s.open_scopes
-IsUncarried s _ = ⊥
+-- an instruction's own operator isn't carried
+abbrev pub IsUncarried : WalkEvent → Type 0
+IsUncarried (VisitInstruction i l) = kinds_of (operation_of i).opcode ≡ None
+IsUncarried _ = ⊥
 
 -- memory ran out, or the emitter answers this fault; or an operator isn't carried
 abbrev pub IsFaultAt : Emitter → WalkEvent → EmitFault → Type 0
 IsFaultAt s e (Refused f) = (f ≡ Memory) ⊎ (emitter_behind s e ≡ Err f)
-IsFaultAt s e NotCarried = IsUncarried s e
+IsFaultAt s e NotCarried = IsUncarried e
 
 -- ---- what closes a sequence, wherever it stands
 
@@ -56,8 +45,7 @@ abbrev pub ClosesWith : Numbers → Option (Closer × ℕ) → Drafted → Draft
 ClosesWith to c old new = (b : List InstrSeq) (scopes : ScopeLists)
     → with_closer (emitter_at b to scopes old) (closer_at c) ≡ Ok (emitter_at b to scopes new)
 
-abbrev pub IsFaultOfCloser : Numbers → Option (Closer × ℕ) → Drafted → EmitFault → Type 0
-IsFaultOfCloser to c old (Refused f) = (f ≡ Memory)
+abbrev pub IsFaultOfCloser : Numbers → Option (Closer × ℕ) → Drafted → EmitError → Type 0
+IsFaultOfCloser to c old f = (f ≡ Memory)
     ⊎ ((b : List InstrSeq) (scopes : ScopeLists)
     → with_closer (emitter_at b to scopes old) (closer_at c) ≡ Err f)
-IsFaultOfCloser to c old NotCarried = IsUncarriedCloser (closer_at c)

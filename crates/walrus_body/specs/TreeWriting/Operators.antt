@@ -4,20 +4,21 @@ use Rattle.std.specs.Ordering.{nat_cmp}
 use Rattle.std.specs.FinMap.{get, from_entries}
 use Rattle.walrus_ir.specs.declared.val_type.InstrSeqType.{InstrSeqType}
 use Rattle.walrus_ir.specs.declared.instr.Instr.{Instr}
+use Rattle.walrus_ir.specs.declared.control.TryTableCatch.{TryTableCatch}
 use Rattle.wasm_ops.specs.declared.types.Opcode.{Opcode}
 use Rattle.wasm_ops.specs.Meaning.{Listed, meaning}
 use Rattle.wasm_ops.specs.Opcodes.{kinds_of}
-use Rattle.wasm_ops.specs.Operations.{RawOperation}
+use Rattle.wasm_ops.specs.Operations.{CatchClause, RawOperation}
 use Rattle.wasm_ops.specs.Immediates.{Table}
 use Rattle.walrus_ir.specs.Clauses.{Targets}
 use Rattle.wasm_encode.specs.Writable.{IsWritable}
 use Rattle.wasm_body.specs.declared.error.EmitError.{EmitError}
 use Rattle.wasm_body.specs.declared.error.EmitError.TheVariants.{Index, Memory, UnnumberedLocal}
 use Rattle.walrus_ir.specs.Results.{◌>>=◌, with_fault, some_or, each}
-use Rattle.wasm_body.specs.Translation.{translate}
-use Rattle.wasm_body.specs.Bytes.{Numbers, numbering, in_32_bits}
+use Rattle.wasm_body.specs.Translation.{translate, translate_tag}
+use Rattle.wasm_body.specs.Bytes.{Numbers, numbers_in_32_bits, numbering, in_32_bits}
 use Rattle.wasm_body.specs.FlatText.{then_by, typed}
-use Rattle.wasm_body.specs.InstructionTable.{operation_of}
+use Rattle.wasm_body.specs.InstructionTable.{table_clause, operation_of}
 use Rattle.wasm_body.specs.TreeOfFunction.{aimed}
 use Rattle.walrus_body.specs.declared.local_function.emit.closing.Closer.{Closer}
 use Rattle.walrus_body.specs.declared.local_function.emit.fault.EmitFault.{EmitFault}
@@ -52,6 +53,19 @@ numbered_table around t =
     in_32_bits (length t.blocks) >>= λ n. each (depth_in around) t.blocks >>= λ labels.
     depth_in around t.default >>= λ default. Ok (labels, default)
 
+-- A clause of a `try_table`: the number of its tag, and the depth of its label.
+abbrev pub numbered_clause : Numbers → List ℕ → TryTableCatch → Result (CatchClause ℕ) EmitError
+numbered_clause to around c =
+    translate_tag (numbers_in_32_bits to).number_of (table_clause c).tag >>= λ tag.
+    depth_in around (table_clause c).label >>= λ label.
+    Ok (record { by_reference = (table_clause c).by_reference; tag = tag; label = label })
+
+-- Clauses: a number of them that fits 32 bits, and each.
+abbrev pub numbered_clauses : Numbers → List ℕ → List TryTableCatch
+    → Result (List (CatchClause ℕ)) EmitError
+numbered_clauses to around cs =
+    in_32_bits (length cs) >>= λ n. each (numbered_clause to around) cs
+
 -- what closes a sequence
 abbrev pub numbered_closer : Numbers → Closer → Result RawOperation EmitError
 numbered_closer to c = translate (then_by (numbering to)) (closing c)
@@ -67,6 +81,3 @@ abbrev pub IsOperatorOf : Numbers → List ℕ → InstrSeqType → Instr → Re
     → Type 0
 IsOperatorOf to around type i r =
     IsOperator (numbered_operator to around type i) (operation_of i).opcode r
-
-abbrev pub IsCloserOf : Numbers → Closer → Result Listed EmitFault → Type 0
-IsCloserOf to c r = IsOperator (numbered_closer to c) (closing c).opcode r

@@ -73,7 +73,7 @@ pub record StopsUncarried (s : Emitter) (es : List WalkEvent) : Type 0 where
   pub splits : es ≡ before ++ event ∷ after
   pub emitter : Emitter
   pub behind : emitter_behind_all s before ≡ Ok emitter
-  pub why : IsUncarried emitter event
+  pub why : IsUncarried event
 
 -- the scope of a whole tree: that of its sequence, which an `end` closes
 abbrev pub whole_scope : ℕ → InstrSeq → Scope

@@ -16,9 +16,11 @@ mod closing;
 mod draft;
 mod fault;
 mod labels;
+mod lists;
 pub(crate) mod number_maps;
 mod open_scopes;
 mod operators;
+mod table_clauses;
 mod written_types;
 
 use crate::EmitError;
@@ -27,6 +29,7 @@ use clauses::are_lawful;
 use closing::Closer;
 use draft::Draft;
 use fault::EmitFault;
+use lists::Lists;
 use number_maps::NumberMaps;
 use open_scopes::Scopes;
 use operators::{closing_operator, operator_of};
@@ -86,7 +89,7 @@ fn write_closer(
     draft: &mut Draft,
     closer: Option<(Closer, InstrLocId)>,
     numbers: &NumberMaps<'_>,
-) -> Result<(), EmitFault>
+) -> Result<(), EmitError>
     ensures ok { OnOk result (ClosesWith (numbers_of numbers.now) closer draft.old draft.new) }
     ensures err { IfErr result (IsFaultOfCloser (numbers_of numbers.now) closer draft.old) }
     ensures kept { OnErr result (draft.new ≡ draft.old) }
@@ -95,7 +98,7 @@ fn write_closer(
         return Ok(());
     };
     match closing_operator(closer, numbers) {
-        Ok(op) => Ok(draft.write(&op, location)?),
+        Ok(op) => draft.write(&op, location),
         Err(fault) => Err(fault),
     }
 }
@@ -112,8 +115,8 @@ impl<'a> EmitVisitor<'a> {
         ensures kept { OnErr result (Same self.old self.new) }
     {
         let ty = InstrSeqType::Simple(None);
-        let mut labels = Vec::new(self.builder.allocator());
-        match operator_of(instr, ty, &self.scopes, &self.numbers, &mut labels) {
+        let mut lists = Lists::new(self.builder.allocator());
+        match operator_of(instr, ty, &self.scopes, &self.numbers, &mut lists) {
             Ok(op) => Ok(self.draft.write(&op, location)?),
             Err(fault) => Err(fault),
         }
@@ -132,8 +135,8 @@ impl<'a> EmitVisitor<'a> {
         if !has_lawful_clauses(instr) {
             return Err(EmitFault::Refused(EmitError::BadClauses));
         }
-        let mut labels = Vec::new(self.builder.allocator());
-        match operator_of(instr, ty, &self.scopes, &self.numbers, &mut labels) {
+        let mut lists = Lists::new(self.builder.allocator());
+        match operator_of(instr, ty, &self.scopes, &self.numbers, &mut lists) {
             Ok(op) => match announce(&mut self.scopes, self.builder, instr) {
                 Ok(()) => Ok(self.draft.write(&op, location)?),
                 Err(fault) => Err(EmitFault::Refused(fault)),
@@ -199,7 +202,7 @@ impl Visitor for EmitVisitor<'_> {
                 self.scopes.leave();
                 Ok(())
             }
-            Err(fault) => Err(fault),
+            Err(fault) => Err(EmitFault::Refused(fault)),
         }
     }
 

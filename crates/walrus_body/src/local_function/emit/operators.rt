@@ -1,20 +1,24 @@
 //! The operators that instructions are written as: ids are looked up in the order in which their
 //! numbers are written.
 ghost use Rattle.std.specs.Prelude.{◌≡◌, ◌<◌, ℕ, List, true, IfOk};
+ghost use Rattle.walrus_ir.specs.Results.{Gives};
 ghost use Rattle.wasm_ops.specs.Meaning.{meaning};
 ghost use Rattle.wasm_encode.specs.Writable.{IsWritable};
 ghost use Rattle.wasm_body.specs.FlatText.{exponent_of};
 ghost use Rattle.walrus_ir.specs.declared.val_type.InstrSeqType.{InstrSeqType as SequenceType};
 ghost use Rattle.walrus_body.specs.TreeWriting.Closers.{places_of};
-ghost use Rattle.walrus_body.specs.TreeWriting.Operators.{numbers_of, IsOperatorOf, IsCloserOf};
+ghost use Rattle.walrus_body.specs.TreeWriting.Operators.{numbers_of, IsOperatorOf, numbered_closer};
 
+use crate::EmitError;
 use crate::local_function::emit::closing::Closer;
 use crate::local_function::emit::fault::EmitFault;
 use crate::local_function::emit::labels::branch_table;
+use crate::local_function::emit::lists::Lists;
 use crate::local_function::emit::number_maps::NumberMaps;
 use crate::local_function::emit::open_scopes::Scopes;
+use crate::local_function::emit::table_clauses::table_clauses;
 use crate::local_function::emit::written_types::{block_type, value_type};
-use walrus_ir::{Instr, InstrSeqType, MemArg, Select, Value};
+use walrus_ir::{Instr, InstrSeqType, MemArg, Rethrow, Select, Value};
 use wasm_encode::OutOp;
 use wasm_ops::{RawMemArg, index_rows};
 
@@ -84,13 +88,14 @@ macro_rules! operator_row {
 }
 
 /// The operator of an instruction whose first sequence, if it has one, has this type. The labels of
-/// a `br_table` are put into the list, in place of what is there.
+/// a `br_table`, and the clauses of a `try_table`, are put into their list, in place of what is
+/// there.
 pub(crate) fn operator_of<'t>(
     instr: &Instr,
     ty: InstrSeqType,
     scopes: &Scopes,
     numbers: &NumberMaps<'_>,
-    labels: &'t mut Vec<u32>,
+    lists: &'t mut Lists,
 ) -> Result<OutOp<'t>, EmitFault>
     ensures writable { IfOk result (λ op. IsWritable (meaning op)) }
     ensures operator { IsOperatorOf (numbers_of numbers.now) (places_of scopes.now.open_scopes)
@@ -108,13 +113,27 @@ pub(crate) fn operator_of<'t>(
         Instr::IfElse(_) => Ok(OutOp::If {
             ty: block_type(numbers, ty)?,
         }),
+        Instr::Try(_) => Ok(OutOp::Try {
+            ty: block_type(numbers, ty)?,
+        }),
+        Instr::TryTable(construct) => {
+            let ty = block_type(numbers, ty)?;
+            match table_clauses(construct, scopes, numbers, &mut lists.clauses) {
+                Ok(catches) => Ok(OutOp::TryTable { ty, catches }),
+                Err(fault) => Err(EmitFault::Refused(fault)),
+            }
+        }
+        Instr::Rethrow(Rethrow { relative_depth }) => Ok(OutOp::Rethrow {
+            depth: *relative_depth,
+        }),
+        Instr::ThrowRef => Ok(OutOp::ThrowRef),
         Instr::Br(branch) => Ok(OutOp::Br {
             label: scopes.depth(branch.block)?,
         }),
         Instr::BrIf(branch) => Ok(OutOp::BrIf {
             label: scopes.depth(branch.block)?,
         }),
-        Instr::BrTable(table) => match branch_table(table, scopes, labels) {
+        Instr::BrTable(table) => match branch_table(table, scopes, &mut lists.labels) {
             Ok(table) => Ok(OutOp::BrTable(table)),
             Err(fault) => Err(EmitFault::Refused(fault)),
         },
@@ -151,15 +170,20 @@ pub(crate) fn operator_of<'t>(
 pub(crate) fn closing_operator(
     closer: Closer,
     numbers: &NumberMaps<'_>,
-) -> Result<OutOp<'static>, EmitFault>
+) -> Result<OutOp<'static>, EmitError>
     ensures writable { IfOk result (λ op. IsWritable (meaning op)) }
-    ensures operator { IsCloserOf (numbers_of numbers.now) closer result }
+    ensures operator { Gives meaning result (numbered_closer (numbers_of numbers.now) closer) }
 {
     match closer {
         Closer::End => Ok(OutOp::End),
         Closer::Else => Ok(OutOp::Else),
-        Closer::Catch { .. } | Closer::CatchAll | Closer::Delegate { .. } => {
-            Err(EmitFault::NotCarried)
-        }
+        Closer::Catch { tag } => match numbers.ids.get_tag_index(tag) {
+            Ok(tag) => Ok(OutOp::Catch { tag }),
+            Err(fault) => Err(EmitError::Index(fault)),
+        },
+        Closer::CatchAll => Ok(OutOp::CatchAll),
+        Closer::Delegate { relative_depth } => Ok(OutOp::Delegate {
+            depth: relative_depth,
+        }),
     }
 }
