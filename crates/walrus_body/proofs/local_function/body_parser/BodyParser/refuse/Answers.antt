@@ -1,0 +1,19 @@
+use Rattle.std.proofs.Common.{Some, inl, inr, reverse, sym, ap, ◌∙◌, subst}
+use Rattle.wasm_ops.specs.Meaning.{meaning}
+use Rattle.wasm_body.specs.Parsing.Progress.{frames_of}
+use Rattle.walrus_body.specs.Parsing.OpenTrees.{env_of}
+use Rattle.walrus_body.specs.Parsing.OperatorKinds.{is_cut}
+use Rattle.walrus_body.specs.Parsing.Advancing.{IsStep}
+use Rattle.walrus_body.specs.Parsing.BodyParsers.{state_with}
+use Rattle.walrus_body.proofs.Parsing.Alone.{refused_alone, appended_alone, same_body}
+use Rattle.walrus_body.proofs.Parsing.Roles.{fate_by, fate_of_operator}
+use Rattle.walrus_body.proofs.local_function.body_parser.BodyParser.refuse.Goals as goal
+
+pub returns : goal.returns
+returns c =
+    let old = c.args.self.now in
+    let op = c.args.operator.now in
+    record {
+      step = λ ls s place keeps. inr (refused_alone old.context old.context (reverse old.if_else.items) ls s (meaning op) place c.args.location (is_cut op) (fate_of_operator op c.requires.kind) keeps c.args.error (c.requires.placed (frames_of ls)));
+      rest = tt;
+    }
