@@ -1,11 +1,9 @@
-use Rattle.std.proofs.Common.{◌≡◌, List, ℕ, ◌⊎◌, inl, inr, Ok, Err, sym, ap, subst, ◌∙◌}
+use Rattle.std.proofs.Common.{inl, inr, Err, sym, ap, ◌∙◌}
 use Rattle.wasm_ops.specs.Meaning.{meaning}
-use Rattle.wasm_ops.specs.Spelling.{read_operation}
 use Rattle.wasm_body.specs.declared.error.ParseFailure.{ParseFailure}
-use Rattle.wasm_body.specs.declared.error.ParseError.TheVariants.{Memory}
 use Rattle.wasm_body.specs.Parsing.Lists.{failure}
 use Rattle.walrus_body.specs.Parsing.Locating.{HasNoLocation, Locates}
-use Rattle.walrus_body.specs.Parsing.Settings.{has_place, taken}
+use Rattle.walrus_body.specs.Parsing.Settings.{has_place}
 use Rattle.walrus_body.proofs.Parsing.Taking.{is_taken, is_not_taken_there, is_too_great, located_fits, unlocated_fits}
 use Rattle.walrus_body.proofs.local_function.next.accepted_at.Goals as goal
 

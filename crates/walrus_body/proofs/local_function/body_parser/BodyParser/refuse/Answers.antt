@@ -1,12 +1,9 @@
-use Rattle.std.proofs.Common.{Some, inl, inr, reverse, sym, ap, ◌∙◌, subst}
+use Rattle.std.proofs.Common.{inr, reverse}
 use Rattle.wasm_ops.specs.Meaning.{meaning}
 use Rattle.wasm_body.specs.Parsing.Progress.{frames_of}
-use Rattle.walrus_body.specs.Parsing.OpenTrees.{env_of}
 use Rattle.walrus_body.specs.Parsing.OperatorKinds.{is_cut}
-use Rattle.walrus_body.specs.Parsing.Advancing.{IsStep}
-use Rattle.walrus_body.specs.Parsing.BodyParsers.{state_with}
-use Rattle.walrus_body.proofs.Parsing.Alone.{refused_alone, appended_alone, same_body}
-use Rattle.walrus_body.proofs.Parsing.Roles.{fate_by, fate_of_operator}
+use Rattle.walrus_body.proofs.Parsing.Alone.{refused_alone}
+use Rattle.walrus_body.proofs.Parsing.Roles.{fate_of_operator}
 use Rattle.walrus_body.proofs.local_function.body_parser.BodyParser.refuse.Goals as goal
 
 pub returns : goal.returns
