@@ -7,6 +7,7 @@ ghost use Rattle.wasm_ops.specs.Shortest.{short_unsigned, short_number, low_bits
 use std::alloc::AllocError;
 
 /// Appends a byte.
+#[inline(always)]
 pub(crate) fn write_byte(out: &mut Vec<u8>, byte: u8) -> Result<(), AllocError>
     ensures ok { OnOk result (out.new.items ≡ out.old.items ++ byte ∷ []) }
     ensures kept { take (length out.old.items) out.new.items ≡ out.old.items }

@@ -53,6 +53,7 @@ macro_rules! written {
 }
 
 /// Appends an operator, or a front of its bytes where memory runs out.
+#[inline(always)]
 #[tactic(auto, using(crate::proofs::Appending::appending))]
 fn write_whole(out: &mut Vec<u8>, op: &OutOp<'_>) -> Result<(), AllocError>
     ensures ok { OnOk result (out.new.items ≡ out.old.items ++ short (meaning op.now)) }
@@ -73,6 +74,7 @@ fn write_whole(out: &mut Vec<u8>, op: &OutOp<'_>) -> Result<(), AllocError>
 
 /// Appends the shortest spelling of an operator. It asks that the exponent of a memory argument is at most 31. Where memory
 /// runs out the list is as before.
+#[inline(always)]
 pub fn write_op(op: &OutOp<'_>, out: &mut Vec<u8>) -> Result<(), AllocError>
     requires { IsWritable (meaning op.now) }
     ensures ok { OnOk result (out.new.items ≡ out.old.items ++ short (meaning op.now)) }

@@ -41,10 +41,14 @@ module _ {S : Type 0} (fits : ℕ → Bool) (check : S → Placed → Result S �
   is_refused bytes rest o n read fit checked = ap by_read read ∙ ap (by_place o rest) fit ∙ ap (by_check o rest) checked
 
   -- the validator refused it, or wants memory
-  pub is_not_taken : (bytes rest : List ℕ) (o : RawOperation) (e : CheckError) (t : S) → read_operation bytes ≡ Ok (o, rest) → fits place ≡ true → Checks check s (placed_at o place) (Err e) t →
-      (fault_of e ≡ Memory) ⊎ (taken fits check s place bytes ≡ Err (fault_of e))
-  is_not_taken bytes rest o (Refused n) t read fit checked = inr (is_refused bytes rest o n read fit checked)
-  is_not_taken bytes rest o wants_memory t read fit checked = inl refl
+  pub is_not_taken_there : (o : RawOperation) (e : CheckError) (t : S) → fits place ≡ true → Checks check s (placed_at o place) (Err e) t →
+      (fault_of e ≡ Memory) ⊎ ((bytes rest : List ℕ) → read_operation bytes ≡ Ok (o, rest) → taken fits check s place bytes ≡ Err (fault_of e))
+  is_not_taken_there o (Refused n) t fit checked = inr (λ bytes rest read. is_refused bytes rest o n read fit checked)
+  is_not_taken_there o wants_memory t fit checked = inl refl
+
+  -- it isn't read
+  pub is_not_read : (bytes : List ℕ) (fault : ReadFault) → read_operation bytes ≡ Err fault → taken fits check s place bytes ≡ Err (Read (record { fault = fault; at = place }))
+  is_not_read bytes fault unread = ap by_read unread
 
   pub is_too_great : (bytes rest : List ℕ) (o : RawOperation) → read_operation bytes ≡ Ok (o, rest) → fits place ≡ false → taken fits check s place bytes ≡ Err PlaceTooGreat
   is_too_great bytes rest o read fit = ap by_read read ∙ ap (by_place o rest) fit

@@ -5,28 +5,31 @@ ghost use Rattle.wasm_ops.specs.declared.types.Opcode.TheVariants.{Byte};
 ghost use Rattle.wasm_ops.specs.Operations.{operation, block};
 ghost use Rattle.wasm_ops.specs.declared.operator.Op.TheVariants as op;
 ghost use Rattle.wasm_ops.specs.Meaning.{meaning};
-ghost use Rattle.wasm_ops.specs.Fitting.{HasRow};
 ghost use Rattle.wasm_encode.specs.Writable.{IsWritable};
 ghost use Rattle.walrus_body.specs.Parsing.OperatorKinds.{is_instruction, is_cut};
 ghost use Rattle.wasm_body.specs.declared.error.ParseError.{ParseError as ParseFault};
 ghost use Rattle.wasm_body.specs.Control.{end_operation, else_operation};
+ghost use Rattle.walrus_ir.specs.Unfolding.{slots_in};
+ghost use Rattle.wasm_body.specs.InstructionTable.{operation_of, clauses_of_try};
 ghost use Rattle.wasm_body.specs.Naming.{entry_type_id as entry_type_of};
 ghost use Rattle.walrus_body.specs.Environments.{environment_of};
 ghost use Rattle.walrus_body.specs.Parsing.OpenFrames.{changed_at};
 ghost use Rattle.walrus_body.specs.Parsing.OpenTrees.{env_of};
-ghost use Rattle.walrus_body.specs.Parsing.BodyParsers.{Begins, IsSameBody, Steps, with_alternative, AppendsIf, HasNoIf, AddsEmpty, Finishes, taking};
+ghost use Rattle.walrus_body.specs.Parsing.BodyParsers.{Begins, IsSameBody, Steps, with_alternative, AppendsIf, HasNoIf, AddsEmpty, Finishes, taking, placed_in};
 
 use crate::local_function::context::ValidationContext;
 use crate::local_function::frame::IfElseState;
+use crate::local_function::instructions::{constant, memory_argument};
 use crate::local_function::own_lists::pushed;
 use crate::local_function::types::value_type;
 use crate::{IndicesToIds, ParseError};
 use std::alloc::Global;
 use walrus_ir::{
-    Block, BlockKind, FunctionBuilder, FunctionId, IfElse, Instr, InstrLocId, InstrSeqId,
-    InstrSeqType, Loop, Module, TypeId, ValType,
+    Binop, Block, BlockKind, BrIf, FunctionBuilder, FunctionId, IfElse, Instr, InstrLocId,
+    InstrSeqId, InstrSeqType, Load, LoadKind, Loop, Module, Store, StoreKind, TypeId, Unop,
+    ValType, Value,
 };
-use wasm_ops::{BlockType, Operator};
+use wasm_ops::{BlockType, Operator, RawMemArg};
 
 /// What is kept while a body is parsed.
 #[derive(Drop)]
@@ -235,6 +238,7 @@ impl BodyParser<'_> {
 
     /// Appends an instruction to the innermost frame, behind which nothing of it is executed where
     /// it cuts.
+    #[inline(always)]
     fn take(&mut self, instr: Instr, location: InstrLocId, cuts: bool) -> Result<(), ParseError>
         ensures ok { OnOk result ((0 < length self.old.context.frames)
             × (self.new.context ≡ record self.old.context {
@@ -250,7 +254,27 @@ impl BodyParser<'_> {
         }
     }
 
+    /// Takes an operator by itself, of which this instruction is made.
+    #[inline(always)]
+    fn take_made(
+        &mut self,
+        operator: &Operator<'_>,
+        instr: Instr,
+        location: InstrLocId,
+        cuts: bool,
+    ) -> Result<(), ParseError>
+        requires kind { is_instruction operator.now ≡ true }
+        requires cuts { cuts ≡ is_cut operator.now }
+        requires placed { placed_in self.old (meaning operator.now) ≡ Ok (operation_of instr) }
+        requires plain { (slots_in instr ≡ []) × (clauses_of_try instr ≡ []) }
+        ensures step { Steps self.old self.new (meaning operator.now) location result }
+        ensures rest { OnOk result (IsSameBody self.old.context self.new.context) }
+    {
+        self.take(instr, location, cuts)
+    }
+
     /// Takes an operator by itself, that isn't `nop`.
+    #[inline(never)]
     fn take_alone(
         &mut self,
         operator: &Operator<'_>,
@@ -262,15 +286,95 @@ impl BodyParser<'_> {
         ensures rest { OnOk result (IsSameBody self.old.context self.new.context) }
     {
         match self.instruction(operator) {
-            Ok(instr) => self.take(instr, location, is_cut(operator)),
+            Ok(instr) => self.take_made(operator, instr, location, is_cut(operator)),
             Err(error) => Err(error),
+        }
+    }
+
+    /// Refuses an operator by itself, of which no instruction is made for this error.
+    fn refuse(
+        &mut self,
+        operator: &Operator<'_>,
+        location: InstrLocId,
+        error: ParseError,
+    ) -> Result<(), ParseError>
+        requires kind { is_instruction operator.now ≡ true }
+        requires placed { placed_in self.old (meaning operator.now) ≡ Err error }
+        ensures step { Steps self.old self.new (meaning operator.now) location result }
+        ensures rest { OnOk result (IsSameBody self.old.context self.new.context) }
+    {
+        Err(error)
+    }
+
+    /// Takes a load.
+    #[inline(never)]
+    fn take_load(
+        &mut self,
+        operator: &Operator<'_>,
+        kind: LoadKind,
+        memarg: RawMemArg,
+        location: InstrLocId,
+    ) -> Result<(), ParseError>
+        requires is { operator.now ≡ op.Load kind memarg }
+        requires exponent { memarg.exponent < 32 }
+        ensures step { Steps self.old self.new (meaning operator.now) location result }
+        ensures rest { OnOk result (IsSameBody self.old.context self.new.context) }
+    {
+        match self.context.indices().get_memory(memarg.memory) {
+            Ok(memory) => {
+                let arg = memory_argument(memarg);
+                let load = Load { memory, kind, arg };
+                self.take_made(operator, Instr::Load(load), location, false)
+            }
+            Err(error) => self.refuse(operator, location, ParseError::Index(error)),
+        }
+    }
+
+    /// Takes a store.
+    #[inline(never)]
+    fn take_store(
+        &mut self,
+        operator: &Operator<'_>,
+        kind: StoreKind,
+        memarg: RawMemArg,
+        location: InstrLocId,
+    ) -> Result<(), ParseError>
+        requires is { operator.now ≡ op.Store kind memarg }
+        requires exponent { memarg.exponent < 32 }
+        ensures step { Steps self.old self.new (meaning operator.now) location result }
+        ensures rest { OnOk result (IsSameBody self.old.context self.new.context) }
+    {
+        match self.context.indices().get_memory(memarg.memory) {
+            Ok(memory) => {
+                let arg = memory_argument(memarg);
+                let store = Store { memory, kind, arg };
+                self.take_made(operator, Instr::Store(store), location, false)
+            }
+            Err(error) => self.refuse(operator, location, ParseError::Index(error)),
+        }
+    }
+
+    /// Takes a `br_if`.
+    #[inline(never)]
+    fn take_br_if(
+        &mut self,
+        operator: &Operator<'_>,
+        label: u32,
+        location: InstrLocId,
+    ) -> Result<(), ParseError>
+        requires { operator.now ≡ op.BrIf label }
+        ensures step { Steps self.old self.new (meaning operator.now) location result }
+        ensures rest { OnOk result (IsSameBody self.old.context self.new.context) }
+    {
+        match self.label(label) {
+            Ok(block) => self.take_made(operator, Instr::BrIf(BrIf { block }), location, false),
+            Err(error) => self.refuse(operator, location, error),
         }
     }
 
     /// Takes the next operator, which isn't the function's own `end`.
     pub fn step(&mut self, operator: &Operator<'_>, location: InstrLocId) -> Result<(), ParseError>
         requires inside { operator.now ≡ op.End → 1 < length self.old.context.frames }
-        requires carried { HasRow (meaning operator.now) }
         requires writable { IsWritable (meaning operator.now) }
         ensures step { Steps self.old self.new (meaning operator.now) location result }
         ensures rest { OnOk result (IsSameBody self.old.context self.new.context) }
@@ -287,6 +391,26 @@ impl BodyParser<'_> {
             Operator::Delegate { depth } => self.close_delegate(*depth),
             Operator::TryTable { ty, catches } => self.open_try_table(*ty, catches, location),
             Operator::End => self.end_construct(location),
+            Operator::Drop => self.take_made(operator, Instr::Drop, location, false),
+            Operator::I32Const { value } => {
+                self.take_made(operator, constant(Value::I32(*value)), location, false)
+            }
+            Operator::I64Const { value } => {
+                self.take_made(operator, constant(Value::I64(*value)), location, false)
+            }
+            Operator::Unop(op) => {
+                self.take_made(operator, Instr::Unop(Unop { op: *op }), location, false)
+            }
+            Operator::Binop(op) => {
+                self.take_made(operator, Instr::Binop(Binop { op: *op }), location, false)
+            }
+            Operator::Load { kind, memarg } => {
+                self.take_load(operator, *kind, *memarg, location)
+            }
+            Operator::Store { kind, memarg } => {
+                self.take_store(operator, *kind, *memarg, location)
+            }
+            Operator::BrIf { label } => self.take_br_if(operator, *label, location),
             _ => self.take_alone(operator, location),
         }
     }

@@ -306,6 +306,7 @@ impl<'a> ValidationContext<'a> {
     }
 
     /// The same for the innermost frame.
+    #[inline(always)]
     pub fn alloc_instr(&mut self, instr: Instr, loc: InstrLocId) -> Result<(), ParseError>
         ensures ok { OnOk result (ChangesFrame 0 (with_instr (instr, loc)) self.old self.new) }
         ensures err { IfErr result (λ e. (e ≡ Fault.Memory)

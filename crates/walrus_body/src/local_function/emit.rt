@@ -1,10 +1,13 @@
 //! Writing a function's tree.
-ghost use Rattle.std.specs.Prelude.{◌≡◌, ◌∷◌, [], ◌<◌, length, OnOk, OnErr, IfOk, IfErr};
+ghost use Rattle.std.specs.Prelude.{◌≡◌, ◌∷◌, [], ◌<◌, length, None, Ok, OnOk, OnErr, IfOk, IfErr};
+ghost use Rattle.walrus_ir.specs.declared.val_type.InstrSeqType.TheVariants.{Simple};
+ghost use Rattle.walrus_ir.specs.declared.instr.Instr.TheVariants as instruction;
 ghost use Rattle.walrus_ir.specs.Unfolding.{slots_in};
 ghost use Rattle.walrus_body.specs.Emission.{first_type_at};
 ghost use Rattle.wasm_body.specs.InstructionTable.{clauses_of_try};
 ghost use Rattle.wasm_body.specs.FlatText.{are_lawful as lawful_clauses};
-ghost use Rattle.walrus_body.specs.TreeWriting.Operators.{numbers_of};
+ghost use Rattle.walrus_body.specs.TreeWriting.Closers.{places_of};
+ghost use Rattle.walrus_body.specs.TreeWriting.Operators.{numbers_of, IsOperatorOf};
 ghost use Rattle.walrus_body.specs.declared.local_function.emit.fault.EmitFault.TheVariants.{Refused, NotCarried};
 ghost use Rattle.walrus_body.specs.TreeWriting.Carrying.{IsCarried};
 ghost use Rattle.walrus_body.specs.TreeWriting.Trees.{IsFirstScope, IsDraftOf, IsUnwritten, IsUnwrittenFor, Appends, AppendsBytes};
@@ -32,13 +35,13 @@ use fault::EmitFault;
 use lists::Lists;
 use number_maps::NumberMaps;
 use open_scopes::Scopes;
-use operators::{closing_operator, operator_of};
+use operators::{closing_operator, memory_argument, operator_of};
 use std::alloc::AllocError;
 use walrus_ir::{
-    DataId, FunctionBuilder, Instr, InstrLocId, InstrSeq, InstrSeqId, InstrSeqType, LocalId,
-    RefFunc, Visitor, dfs_in_order,
+    DataId, FunctionBuilder, Instr, InstrLocId, InstrSeq, InstrSeqId, InstrSeqType, Load, LocalId,
+    RefFunc, Store, Value, Visitor, dfs_in_order,
 };
-use wasm_encode::FunctionEncoder;
+use wasm_encode::{FunctionEncoder, OutOp};
 
 /// Writes the operators of the events that it is told of, aside.
 #[derive(Drop)]
@@ -98,7 +101,7 @@ fn write_closer(
         return Ok(());
     };
     match closing_operator(closer, numbers) {
-        Ok(op) => draft.write(&op, location),
+        Ok(op) => draft.write_any(&op, location),
         Err(fault) => Err(fault),
     }
 }
@@ -107,8 +110,30 @@ impl<'a> EmitVisitor<'a> {
     ghost use Rattle.walrus_ir.specs.Events.{VisitInstruction};
     ghost use Rattle.walrus_body.specs.TreeWriting.Visiting.{Steps, Refuses, Same, HasOnlyMore};
 
-    /// An instruction without sequences.
-    fn visit_plain(&mut self, instr: &Instr, location: InstrLocId) -> Result<(), EmitFault>
+    /// An instruction without sequences, whose operator is this one.
+    #[inline(always)]
+    fn write_plain(
+        &mut self,
+        instr: &Instr,
+        op: &OutOp<'_>,
+        location: InstrLocId,
+    ) -> Result<(), EmitFault>
+        requires plain { slots_in instr.now ≡ [] }
+        requires operator { IsOperatorOf (numbers_of self.old.numbers)
+            (places_of self.old.scopes.open_scopes) (Simple None) instr.now (Ok op.now) }
+        ensures ok { OnOk result (Steps self.old (VisitInstruction instr.now location) self.new) }
+        ensures err { IfErr result (Refuses self.old (VisitInstruction instr.now location)) }
+        ensures kept { OnErr result (Same self.old self.new) }
+    {
+        match self.draft.write(op, location) {
+            Ok(()) => Ok(()),
+            Err(fault) => Err(EmitFault::Refused(fault)),
+        }
+    }
+
+    /// An instruction without sequences, of any kind.
+    #[inline(never)]
+    fn visit_at_length(&mut self, instr: &Instr, location: InstrLocId) -> Result<(), EmitFault>
         requires { slots_in instr.now ≡ [] }
         ensures ok { OnOk result (Steps self.old (VisitInstruction instr.now location) self.new) }
         ensures err { IfErr result (Refuses self.old (VisitInstruction instr.now location)) }
@@ -117,8 +142,111 @@ impl<'a> EmitVisitor<'a> {
         let ty = InstrSeqType::Simple(None);
         let mut lists = Lists::new(self.builder.allocator());
         match operator_of(instr, ty, &self.scopes, &self.numbers, &mut lists) {
-            Ok(op) => Ok(self.draft.write(&op, location)?),
+            Ok(op) => Ok(self.draft.write_any(&op, location)?),
             Err(fault) => Err(fault),
+        }
+    }
+
+    /// A load.
+    fn visit_load(
+        &mut self,
+        instr: &Instr,
+        load: &Load,
+        location: InstrLocId,
+    ) -> Result<(), EmitFault>
+        requires { instr.now ≡ instruction.Load load.now }
+        ensures ok { OnOk result (Steps self.old (VisitInstruction instr.now location) self.new) }
+        ensures err { IfErr result (Refuses self.old (VisitInstruction instr.now location)) }
+        ensures kept { OnErr result (Same self.old self.new) }
+    {
+        let memory = match self.numbers.ids.get_memory_index(load.memory) {
+            Ok(memory) => memory,
+            Err(fault) => return Err(EmitFault::Refused(EmitError::Index(fault))),
+        };
+        let memarg = memory_argument(load.arg, memory);
+        let kind = load.kind;
+        self.write_plain(instr, &OutOp::Load { kind, memarg }, location)
+    }
+
+    /// A store.
+    fn visit_store(
+        &mut self,
+        instr: &Instr,
+        store: &Store,
+        location: InstrLocId,
+    ) -> Result<(), EmitFault>
+        requires { instr.now ≡ instruction.Store store.now }
+        ensures ok { OnOk result (Steps self.old (VisitInstruction instr.now location) self.new) }
+        ensures err { IfErr result (Refuses self.old (VisitInstruction instr.now location)) }
+        ensures kept { OnErr result (Same self.old self.new) }
+    {
+        let memory = match self.numbers.ids.get_memory_index(store.memory) {
+            Ok(memory) => memory,
+            Err(fault) => return Err(EmitFault::Refused(EmitError::Index(fault))),
+        };
+        let memarg = memory_argument(store.arg, memory);
+        let kind = store.kind;
+        self.write_plain(instr, &OutOp::Store { kind, memarg }, location)
+    }
+
+    /// A `br`.
+    fn visit_br(
+        &mut self,
+        instr: &Instr,
+        block: InstrSeqId,
+        location: InstrLocId,
+    ) -> Result<(), EmitFault>
+        requires { instr.now ≡ instruction.Br (record { block = block }) }
+        ensures ok { OnOk result (Steps self.old (VisitInstruction instr.now location) self.new) }
+        ensures err { IfErr result (Refuses self.old (VisitInstruction instr.now location)) }
+        ensures kept { OnErr result (Same self.old self.new) }
+    {
+        match self.scopes.depth(block) {
+            Ok(label) => self.write_plain(instr, &OutOp::Br { label }, location),
+            Err(fault) => Err(EmitFault::Refused(fault)),
+        }
+    }
+
+    /// A `br_if`.
+    fn visit_br_if(
+        &mut self,
+        instr: &Instr,
+        block: InstrSeqId,
+        location: InstrLocId,
+    ) -> Result<(), EmitFault>
+        requires { instr.now ≡ instruction.BrIf (record { block = block }) }
+        ensures ok { OnOk result (Steps self.old (VisitInstruction instr.now location) self.new) }
+        ensures err { IfErr result (Refuses self.old (VisitInstruction instr.now location)) }
+        ensures kept { OnErr result (Same self.old self.new) }
+    {
+        match self.scopes.depth(block) {
+            Ok(label) => self.write_plain(instr, &OutOp::BrIf { label }, location),
+            Err(fault) => Err(EmitFault::Refused(fault)),
+        }
+    }
+
+    /// An instruction without sequences. The common ones are written here, each where its operator
+    /// is made.
+    fn visit_plain(&mut self, instr: &Instr, location: InstrLocId) -> Result<(), EmitFault>
+        requires { slots_in instr.now ≡ [] }
+        ensures ok { OnOk result (Steps self.old (VisitInstruction instr.now location) self.new) }
+        ensures err { IfErr result (Refuses self.old (VisitInstruction instr.now location)) }
+        ensures kept { OnErr result (Same self.old self.new) }
+    {
+        match instr {
+            Instr::Drop => self.write_plain(instr, &OutOp::Drop, location),
+            Instr::Const(constant) => match constant.value {
+                Value::I32(value) => self.write_plain(instr, &OutOp::I32Const { value }, location),
+                Value::I64(value) => self.write_plain(instr, &OutOp::I64Const { value }, location),
+                _ => self.visit_at_length(instr, location),
+            },
+            Instr::Unop(unop) => self.write_plain(instr, &OutOp::Unop(unop.op), location),
+            Instr::Binop(binop) => self.write_plain(instr, &OutOp::Binop(binop.op), location),
+            Instr::Load(load) => self.visit_load(instr, load, location),
+            Instr::Store(store) => self.visit_store(instr, store, location),
+            Instr::Br(branch) => self.visit_br(instr, branch.block, location),
+            Instr::BrIf(branch) => self.visit_br_if(instr, branch.block, location),
+            _ => self.visit_at_length(instr, location),
         }
     }
 
@@ -138,7 +266,7 @@ impl<'a> EmitVisitor<'a> {
         let mut lists = Lists::new(self.builder.allocator());
         match operator_of(instr, ty, &self.scopes, &self.numbers, &mut lists) {
             Ok(op) => match announce(&mut self.scopes, self.builder, instr) {
-                Ok(()) => Ok(self.draft.write(&op, location)?),
+                Ok(()) => Ok(self.draft.write_any(&op, location)?),
                 Err(fault) => Err(EmitFault::Refused(fault)),
             },
             Err(fault) => Err(fault),

@@ -23,7 +23,7 @@ use walrus_ir::{
 use wasm_ops::{BrTable, Operator, RawMemArg, index_rows};
 
 /// An access with its alignment as a number of bytes.
-fn memory_argument(memarg: RawMemArg) -> MemArg
+pub fn memory_argument(memarg: RawMemArg) -> MemArg
     requires { memarg.exponent < 32 }
     ensures { (result.align ≡ 2 ^ memarg.exponent) × (result.offset ≡ memarg.offset) }
 {
@@ -33,7 +33,7 @@ fn memory_argument(memarg: RawMemArg) -> MemArg
     }
 }
 
-fn constant(value: Value) -> Instr
+pub fn constant(value: Value) -> Instr
     ensures { result ≡ instr.Const (record { value = value }) }
 {
     Instr::Const(Const { value })

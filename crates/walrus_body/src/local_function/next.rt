@@ -1,7 +1,7 @@
 //! The next operator, its location, and whether the validator takes it.
-ghost use Rattle.std.specs.Prelude.{◌≡◌, ◌⊎◌, ◌+◌, ◌<◌, length, IfOk, IfErr, Ok, Err};
+ghost use Rattle.std.specs.Prelude.{◌≡◌, ◌⊎◌, ◌+◌, ◌<◌, ℕ, List, length, IfOk, IfErr, Ok, Err};
+ghost use Rattle.wasm_ops.specs.Spelling.{read_operation};
 ghost use Rattle.wasm_ops.specs.Meaning.{meaning};
-ghost use Rattle.wasm_ops.specs.Fitting.{HasRow};
 ghost use Rattle.wasm_encode.specs.Writable.{IsWritable};
 ghost use Rattle.wasm_body.specs.declared.error.ParseError.{ParseError as ParseFault};
 ghost use Rattle.wasm_body.specs.Parsing.Lists.{failure};
@@ -13,7 +13,7 @@ use crate::local_function::check::{CheckError, OpCheck};
 use crate::local_function::locating::location_at;
 use crate::{ParseError, ParseFailure};
 use walrus_ir::InstrLocId;
-use wasm_ops::{Operator, Reader};
+use wasm_ops::{Operator, ReadError, Reader};
 
 fn failure(error: ParseError, at: usize) -> ParseFailure
     ensures { result ≡ failure error at }
@@ -30,40 +30,49 @@ fn checked(error: CheckError) -> ParseError
     }
 }
 
-/// The next operator and its location: it is read, then it gets its location, and then the validator
-/// is asked.
-pub fn next_operator<'a, V: OpCheck, F: Fn(&usize) -> InstrLocId>(
-    reader: &mut Reader<'a>,
-    on_instr_pos: Option<&F>,
-    validator: &mut V,
-) -> Result<(Operator<'a>, InstrLocId), ParseFailure>
-    requires { MayAsk F.pre on_instr_pos reader.old.place (reader.old.place + 1) }
-    ensures ok { IfOk result (λ x. taken (has_place on_instr_pos.entry) V.check
-        (V.state validator.old) reader.old.place reader.old.rest ≡ Ok (record {
-          spelt = meaning x.0;
-          rest = reader.new.rest;
-          state = V.state validator.new;
-        })) }
-    ensures located { IfOk result (λ x. Locates F.Fn on_instr_pos.entry reader.old.place x.1) }
-    ensures carried { IfOk result (λ x. HasRow (meaning x.0)) }
-    ensures writable { IfOk result (λ x. IsWritable (meaning x.0)) }
+/// The next operator.
+#[inline(always)]
+pub fn read_next<'a>(reader: &mut Reader<'a>) -> Result<Operator<'a>, ReadError>
+    ensures answer { IfOk result (λ x.
+        read_operation reader.old.rest ≡ Ok (meaning x, reader.new.rest)) }
+    ensures writable { IfOk result (λ x. IsWritable (meaning x)) }
     ensures moves { IfOk result (λ x.
         (reader.new.place + length reader.new.rest ≡ reader.old.place + length reader.old.rest)
         × (length reader.new.rest < length reader.old.rest)) }
-    ensures err { IfErr result (λ f. (f.at ≡ reader.old.place) × ((f.error ≡ ParseFault.Memory)
-        ⊎ (taken (has_place on_instr_pos.entry) V.check (V.state validator.old)
-        reader.old.place reader.old.rest ≡ Err f.error))) }
+    ensures err { IfErr result (λ e. (read_operation reader.old.rest ≡ Err e.fault)
+        × (e.at ≡ reader.old.place)) }
 {
-    let at = reader.original_position();
-    let operator = match reader.read() {
-        Ok(operator) => operator,
-        Err(error) => return Err(failure(ParseError::Read(error), at)),
-    };
+    reader.read()
+}
+
+/// The location of an operator that was read at this place, behind which the validator was asked.
+#[inline(always)]
+pub fn accepted_at<V: OpCheck, F: Fn(&usize) -> InstrLocId>(
+    at: usize,
+    operator: &Operator<'_>,
+    on_instr_pos: Option<&F>,
+    validator: &mut V,
+) -> Result<InstrLocId, ParseFailure>
+    requires { MayAsk F.pre on_instr_pos at (at + 1) }
+    ensures ok { IfOk result (λ _. (bytes rest : List ℕ)
+        → read_operation bytes ≡ Ok (meaning operator.now, rest)
+        → taken (has_place on_instr_pos.entry) V.check (V.state validator.old) at bytes
+        ≡ Ok (record {
+          spelt = meaning operator.now;
+          rest = rest;
+          state = V.state validator.new;
+        })) }
+    ensures located { IfOk result (λ location. Locates F.Fn on_instr_pos.entry at location) }
+    ensures err { IfErr result (λ f. (f.at ≡ at) × ((f.error ≡ ParseFault.Memory)
+        ⊎ ((bytes rest : List ℕ) → read_operation bytes ≡ Ok (meaning operator.now, rest)
+        → taken (has_place on_instr_pos.entry) V.check (V.state validator.old) at bytes
+        ≡ Err f.error))) }
+{
     let Some(location) = location_at(on_instr_pos, at) else {
         return Err(failure(ParseError::PlaceTooGreat, at));
     };
-    match validator.op(at, &operator) {
-        Ok(()) => Ok((operator, location)),
+    match validator.op(at, operator) {
+        Ok(()) => Ok(location),
         Err(error) => Err(failure(checked(error), at)),
     }
 }

@@ -9,6 +9,7 @@ use std::marker::Model;
 use walrus_ir::{BlockKind, Instr, InstrLocId, InstrSeqId, LegacyCatch, ValType};
 
 /// Pushes an item, or leaves the list as it was.
+#[inline(always)]
 pub(crate) fn pushed<T: Drop>(list: &mut Vec<T>, item: T) -> Result<(), ParseError>
     ensures ok { OnOk result (list.new.items ≡ list.old.items ++ item ∷ []) }
     ensures err { IfErr result (λ e. e ≡ Fault.Memory) }
@@ -165,6 +166,7 @@ impl FrameStack {
     }
 
     /// Appends an instruction to the n-th frame from the innermost, or drops it where that is dead.
+    #[inline(always)]
     pub fn append(&mut self, n: usize, instr: Instr, location: InstrLocId) -> Result<(), ParseError>
         requires { InnerAreEmpty n self.old }
         ensures ok { OnOk result

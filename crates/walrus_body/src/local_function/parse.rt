@@ -12,7 +12,7 @@ ghost use Rattle.walrus_body.specs.Parsing.Bodies.{input_of, operators_input, Pa
 
 use crate::local_function::body_parser::BodyParser;
 use crate::local_function::check::OpCheck;
-use crate::local_function::next::next_operator;
+use crate::local_function::next::{accepted_at, read_next};
 use crate::{IndicesToIds, ParseError, ParseFailure};
 use std::alloc::Global;
 use walrus_ir::{FunctionBuilder, FunctionId, InstrLocId, Module, TypeId};
@@ -51,8 +51,13 @@ pub(crate) fn parse_operators<V: OpCheck, F: Fn(&usize) -> InstrLocId>(
     let mut instruction_mapping = Vec::new(alloc);
     while !reader.eof() {
         let at = reader.original_position();
-        let (operator, location) = match next_operator(reader, on_instr_pos, &mut validator) {
-            Ok(next) => next,
+        let read = read_next(reader);
+        let operator = match &read {
+            Ok(operator) => operator,
+            Err(error) => return Err(failure(ParseError::Read(*error), at)),
+        };
+        let location = match accepted_at(at, operator, on_instr_pos, &mut validator) {
+            Ok(location) => location,
             Err(failure) => return Err(failure),
         };
         match instruction_mapping.push((at - code_offset, location)) {
@@ -73,7 +78,7 @@ pub(crate) fn parse_operators<V: OpCheck, F: Fn(&usize) -> InstrLocId>(
                 Err(error) => return Err(failure(error, at)),
             }
         }
-        match parser.step(&operator, location) {
+        match parser.step(operator, location) {
             Ok(()) => {}
             Err(error) => return Err(failure(error, at)),
         }

@@ -52,6 +52,7 @@ impl Draft {
     }
 
     /// Writes an operator at a location. Where memory runs out all is as before.
+    #[inline(always)]
     pub fn write(&mut self, op: &OutOp, location: InstrLocId) -> Result<(), EmitError>
         requires { IsWritable (meaning op.now) }
         ensures ok { OnOk result
@@ -70,6 +71,18 @@ impl Draft {
         write_op(op, &mut self.bytes)?;
         self.pairs.push((location, place)).unwrap();
         Ok(())
+    }
+
+    /// Writes an operator of any kind, as `write`.
+    #[inline(never)]
+    pub fn write_any(&mut self, op: &OutOp, location: InstrLocId) -> Result<(), EmitError>
+        requires { IsWritable (meaning op.now) }
+        ensures ok { OnOk result
+            (self.new ≡ behind self.old (at_location (meaning op.now) location)) }
+        ensures err { IfErr result (λ e. e ≡ Memory) }
+        ensures kept { OnErr result (self.new ≡ self.old) }
+    {
+        self.write(op, location)
     }
 
     /// Appends what is written, the pairs where they are asked for. Where memory runs out both are

@@ -30,7 +30,7 @@ fn exponent_of(align: u32) -> u32
 }
 
 /// An access to the memory with this number, with its alignment as an exponent.
-fn memory_argument(arg: MemArg, memory: u32) -> RawMemArg
+pub(crate) fn memory_argument(arg: MemArg, memory: u32) -> RawMemArg
     ensures { (result.exponent ≡ exponent_of arg.align) × (result.exponent < 32)
         × (result.memory ≡ memory) × (result.offset ≡ arg.offset) }
 {
