@@ -116,6 +116,7 @@ impl BodyParser<'_> {
     }
 
     /// The instruction of a `br_table`.
+    #[inline(never)]
     fn branch_table(&self, table: &BrTable<'_>) -> Result<Instr, ParseError>
         ensures placed { (around : List (Frame Occurrence))
             → GivesOrMemory operation_of result
