@@ -33,10 +33,15 @@ fn write_unsigned(out: &mut Vec<u8>, more: u32, n: u64) -> Result<(), AllocError
 }
 
 /// Appends the shortest spelling of an unsigned number.
+#[inline(always)]
+#[tactic(auto, unfolding(wasm_ops::specs::Shortest::short_unsigned))]
 pub(crate) fn write_number(out: &mut Vec<u8>, n: u64) -> Result<(), AllocError>
     ensures ok { OnOk result (out.new.items ≡ out.old.items ++ short_number n) }
     ensures kept { take (length out.old.items) out.new.items ≡ out.old.items }
 {
+    if n <= 127 {
+        return write_byte(out, n as u8);
+    }
     write_unsigned(out, 9, n)
 }
 

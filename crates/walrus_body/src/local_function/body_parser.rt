@@ -25,9 +25,9 @@ use crate::local_function::types::value_type;
 use crate::{IndicesToIds, ParseError};
 use std::alloc::Global;
 use walrus_ir::{
-    Binop, Block, BlockKind, BrIf, FunctionBuilder, FunctionId, IfElse, Instr, InstrLocId,
-    InstrSeqId, InstrSeqType, Load, LoadKind, Loop, Module, Store, StoreKind, TypeId, Unop,
-    ValType, Value,
+    Binop, Block, BlockKind, BrIf, Call, FunctionBuilder, FunctionId, GlobalGet, GlobalSet, IfElse,
+    Instr, InstrLocId, InstrSeqId, InstrSeqType, Load, LoadKind, Loop, Module, Store, StoreKind,
+    TypeId, Unop, ValType, Value,
 };
 use wasm_ops::{BlockType, Operator, RawMemArg};
 
@@ -354,6 +354,69 @@ impl BodyParser<'_> {
         }
     }
 
+    /// Takes a `call`.
+    #[inline(never)]
+    fn take_call(
+        &mut self,
+        operator: &Operator<'_>,
+        index: u32,
+        location: InstrLocId,
+    ) -> Result<(), ParseError>
+        requires { operator.now ≡ op.Call index }
+        ensures step { Steps self.old self.new (meaning operator.now) location result }
+        ensures rest { OnOk result (IsSameBody self.old.context self.new.context) }
+    {
+        match self.context.indices().get_func(index) {
+            Ok(func) => {
+                let instr = Instr::Call(Call { func });
+                self.take_made(operator, instr, location, false)
+            }
+            Err(error) => self.refuse(operator, location, ParseError::Index(error)),
+        }
+    }
+
+    /// Takes a `global.get`.
+    #[inline(never)]
+    fn take_global_get(
+        &mut self,
+        operator: &Operator<'_>,
+        index: u32,
+        location: InstrLocId,
+    ) -> Result<(), ParseError>
+        requires { operator.now ≡ op.GlobalGet index }
+        ensures step { Steps self.old self.new (meaning operator.now) location result }
+        ensures rest { OnOk result (IsSameBody self.old.context self.new.context) }
+    {
+        match self.context.indices().get_global(index) {
+            Ok(global) => {
+                let instr = Instr::GlobalGet(GlobalGet { global });
+                self.take_made(operator, instr, location, false)
+            }
+            Err(error) => self.refuse(operator, location, ParseError::Index(error)),
+        }
+    }
+
+    /// Takes a `global.set`.
+    #[inline(never)]
+    fn take_global_set(
+        &mut self,
+        operator: &Operator<'_>,
+        index: u32,
+        location: InstrLocId,
+    ) -> Result<(), ParseError>
+        requires { operator.now ≡ op.GlobalSet index }
+        ensures step { Steps self.old self.new (meaning operator.now) location result }
+        ensures rest { OnOk result (IsSameBody self.old.context self.new.context) }
+    {
+        match self.context.indices().get_global(index) {
+            Ok(global) => {
+                let instr = Instr::GlobalSet(GlobalSet { global });
+                self.take_made(operator, instr, location, false)
+            }
+            Err(error) => self.refuse(operator, location, ParseError::Index(error)),
+        }
+    }
+
     /// Takes a `br_if`.
     #[inline(never)]
     fn take_br_if(
@@ -410,6 +473,9 @@ impl BodyParser<'_> {
             Operator::Store { kind, memarg } => {
                 self.take_store(operator, *kind, *memarg, location)
             }
+            Operator::Call { func } => self.take_call(operator, *func, location),
+            Operator::GlobalGet { global } => self.take_global_get(operator, *global, location),
+            Operator::GlobalSet { global } => self.take_global_set(operator, *global, location),
             Operator::BrIf { label } => self.take_br_if(operator, *label, location),
             _ => self.take_alone(operator, location),
         }

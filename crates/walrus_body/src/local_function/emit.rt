@@ -38,8 +38,8 @@ use open_scopes::Scopes;
 use operators::{closing_operator, memory_argument, operator_of};
 use std::alloc::AllocError;
 use walrus_ir::{
-    DataId, FunctionBuilder, Instr, InstrLocId, InstrSeq, InstrSeqId, InstrSeqType, Load, LocalId,
-    RefFunc, Store, Value, Visitor, dfs_in_order,
+    Call, DataId, FunctionBuilder, GlobalGet, GlobalSet, Instr, InstrLocId, InstrSeq, InstrSeqId,
+    InstrSeqType, Load, LocalId, RefFunc, Store, Value, Visitor, dfs_in_order,
 };
 use wasm_encode::{FunctionEncoder, OutOp};
 
@@ -148,6 +148,7 @@ impl<'a> EmitVisitor<'a> {
     }
 
     /// A load.
+    #[inline(never)]
     fn visit_load(
         &mut self,
         instr: &Instr,
@@ -169,6 +170,7 @@ impl<'a> EmitVisitor<'a> {
     }
 
     /// A store.
+    #[inline(never)]
     fn visit_store(
         &mut self,
         instr: &Instr,
@@ -189,7 +191,65 @@ impl<'a> EmitVisitor<'a> {
         self.write_plain(instr, &OutOp::Store { kind, memarg }, location)
     }
 
+    /// A `call`.
+    #[inline(never)]
+    fn visit_call(
+        &mut self,
+        instr: &Instr,
+        call: &Call,
+        location: InstrLocId,
+    ) -> Result<(), EmitFault>
+        requires { instr.now ≡ instruction.Call call.now }
+        ensures ok { OnOk result (Steps self.old (VisitInstruction instr.now location) self.new) }
+        ensures err { IfErr result (Refuses self.old (VisitInstruction instr.now location)) }
+        ensures kept { OnErr result (Same self.old self.new) }
+    {
+        match self.numbers.ids.get_func_index(call.func) {
+            Ok(func) => self.write_plain(instr, &OutOp::Call { func }, location),
+            Err(fault) => Err(EmitFault::Refused(EmitError::Index(fault))),
+        }
+    }
+
+    /// A `global.get`.
+    #[inline(never)]
+    fn visit_global_get(
+        &mut self,
+        instr: &Instr,
+        get: &GlobalGet,
+        location: InstrLocId,
+    ) -> Result<(), EmitFault>
+        requires { instr.now ≡ instruction.GlobalGet get.now }
+        ensures ok { OnOk result (Steps self.old (VisitInstruction instr.now location) self.new) }
+        ensures err { IfErr result (Refuses self.old (VisitInstruction instr.now location)) }
+        ensures kept { OnErr result (Same self.old self.new) }
+    {
+        match self.numbers.ids.get_global_index(get.global) {
+            Ok(global) => self.write_plain(instr, &OutOp::GlobalGet { global }, location),
+            Err(fault) => Err(EmitFault::Refused(EmitError::Index(fault))),
+        }
+    }
+
+    /// A `global.set`.
+    #[inline(never)]
+    fn visit_global_set(
+        &mut self,
+        instr: &Instr,
+        set: &GlobalSet,
+        location: InstrLocId,
+    ) -> Result<(), EmitFault>
+        requires { instr.now ≡ instruction.GlobalSet set.now }
+        ensures ok { OnOk result (Steps self.old (VisitInstruction instr.now location) self.new) }
+        ensures err { IfErr result (Refuses self.old (VisitInstruction instr.now location)) }
+        ensures kept { OnErr result (Same self.old self.new) }
+    {
+        match self.numbers.ids.get_global_index(set.global) {
+            Ok(global) => self.write_plain(instr, &OutOp::GlobalSet { global }, location),
+            Err(fault) => Err(EmitFault::Refused(EmitError::Index(fault))),
+        }
+    }
+
     /// A `br`.
+    #[inline(never)]
     fn visit_br(
         &mut self,
         instr: &Instr,
@@ -208,6 +268,7 @@ impl<'a> EmitVisitor<'a> {
     }
 
     /// A `br_if`.
+    #[inline(never)]
     fn visit_br_if(
         &mut self,
         instr: &Instr,
@@ -244,6 +305,9 @@ impl<'a> EmitVisitor<'a> {
             Instr::Binop(binop) => self.write_plain(instr, &OutOp::Binop(binop.op), location),
             Instr::Load(load) => self.visit_load(instr, load, location),
             Instr::Store(store) => self.visit_store(instr, store, location),
+            Instr::Call(call) => self.visit_call(instr, call, location),
+            Instr::GlobalGet(get) => self.visit_global_get(instr, get, location),
+            Instr::GlobalSet(set) => self.visit_global_set(instr, set, location),
             Instr::Br(branch) => self.visit_br(instr, branch.block, location),
             Instr::BrIf(branch) => self.visit_br_if(instr, branch.block, location),
             _ => self.visit_at_length(instr, location),

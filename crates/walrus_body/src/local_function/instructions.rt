@@ -118,6 +118,7 @@ impl BodyParser<'_> {
     }
 
     /// The instruction of a `br_table`.
+    #[inline(never)]
     fn branch_table(&self, table: &BrTable<'_>) -> Result<Instr, ParseError>
         ensures placed { GivesOrMemory operation_of result
             (placed_in self.now (meaning (op.BrTable table.now))) }

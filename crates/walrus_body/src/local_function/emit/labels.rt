@@ -48,6 +48,7 @@ fn list_depths(
 ///
 /// `TooLarge` where their number doesn't fit 32 bits, that of the first place that has no depth, or
 /// `Memory`.
+#[inline(never)]
 pub(crate) fn branch_table<'t>(
     table: &BrTable,
     scopes: &Scopes,
