@@ -38,7 +38,8 @@ fn write_parts(
     opcode: Opcode,
     immediates: &OutImmediates<'_>,
 ) -> Result<(), AllocError>
-    ensures ok { OnOk result (out.new.items ≡ out.old.items ++ short (operation opcode (immediates_of immediates.now))) }
+    ensures ok { OnOk result (out.new.items
+        ≡ out.old.items ++ short (operation opcode (immediates_of immediates.now))) }
     ensures kept { take (length out.old.items) out.new.items ≡ out.old.items }
 {
     write_opcode(out, opcode)?;

@@ -172,7 +172,8 @@ fn are_same(mut a: Targets<'_>, mut b: Targets<'_>) -> bool
 
 /// What follows so many labels.
 fn skip_labels(count: u32, bytes: &[u8]) -> Result<&[u8], ReadFault>
-    ensures { Gives (λ rest. (labels_of count bytes.now, rest.now)) result (many a_u32 count bytes.now) }
+    ensures { Gives (λ rest. (labels_of count bytes.now, rest.now)) result
+        (many a_u32 count bytes.now) }
 {
     let mut rest = bytes;
     for _ in 0..count {

@@ -170,7 +170,8 @@ fn are_same(mut a: Catches<'_>, mut b: Catches<'_>) -> bool
 
 /// What follows so many clauses.
 fn skip_clauses(count: u32, bytes: &[u8]) -> Result<&[u8], ReadFault>
-    ensures { Gives (λ rest. (clauses_of count bytes.now, rest.now)) result (many clause count bytes.now) }
+    ensures { Gives (λ rest. (clauses_of count bytes.now, rest.now)) result
+        (many clause count bytes.now) }
 {
     let mut rest = bytes;
     for _ in 0..count {

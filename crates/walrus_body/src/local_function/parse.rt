@@ -45,8 +45,8 @@ pub(crate) fn parse_operators<V: OpCheck, F: Fn(&usize) -> InstrLocId>(
     requires offset { code_offset ≤ reader.old.place }
     requires may_ask { MayAsk F.pre on_instr_pos reader.old.place
         (reader.old.place + length reader.old.rest) }
-    ensures { ParsesOperators F.Fn (operators_input (env_of parser.entry.context) reader.old code_offset
-        on_instr_pos.entry V.check (V.state validator)) result }
+    ensures { ParsesOperators F.Fn (operators_input (env_of parser.entry.context) reader.old
+        code_offset on_instr_pos.entry V.check (V.state validator)) result }
 {
     let mut instruction_mapping = Vec::new(alloc);
     while !reader.eof() {
@@ -102,8 +102,8 @@ pub(crate) fn parse_function<V: OpCheck, F: Fn(&usize) -> InstrLocId>(
     requires offset { «module».now.code_section_offset ≤ start }
     requires fits { start + length ops.now < 2 ^ 64 }
     requires may_ask { MayAsk F.pre on_instr_pos start (start + length ops.now) }
-    ensures ok { IfOk result (λ made. AcceptsBody F.Fn (input_of «module».now indices.now function ty
-        start ops.now on_instr_pos.entry V.check (V.state validator))
+    ensures ok { IfOk result (λ made. AcceptsBody F.Fn (input_of «module».now indices.now function
+        ty start ops.now on_instr_pos.entry V.check (V.state validator))
         made.builder made.instruction_mapping.items) }
     ensures err { IfErr result (RefusesBody F.Fn (input_of «module».now indices.now function ty
         start ops.now on_instr_pos.entry V.check (V.state validator))) }
