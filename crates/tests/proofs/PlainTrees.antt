@@ -2,7 +2,8 @@
 use Rattle.std.specs.Prelude.{◌≡◌, ◌&&◌, ℕ, List, ◌∷◌, [], Bool, true, false, IsSome}
 use Rattle.std.proofs.Common.{refl, subst}
 use Rattle.walrus_ir.specs.declared.seq.InstrSeq.{InstrSeq}
-use Rattle.walrus_ir.specs.declared.instr.Instr.TheVariants.{Block, Br, Call, Drop}
+use Rattle.walrus_ir.specs.declared.instr.Instr.TheVariants.{Block, IfElse, Br, Call, Drop, Const}
+use Rattle.walrus_ir.specs.declared.value.Value.TheVariants.{I32}
 use Rattle.walrus_ir.specs.Tree.{Items, Sequences, alone}
 use Rattle.walrus_ir.specs.Unfolding.{SequenceAt, LocatedInstr, AreItems, are_no_items, are_items, AreSequences, are_no_sequences, are_sequences}
 use Rattle.wasm_ops.specs.Opcodes.{kinds_of, kinds_of_byte}
@@ -15,9 +16,11 @@ use Rattle.tests.specs.PlainTrees.{is_plain, are_plain, AreAllPlain}
 plain_carried : (x : LocatedInstr) → is_plain x ≡ true → IsSome (kinds_of (operation_of x.0).opcode)
 unfolding kinds_of_byte
 plain_carried (Block x, location) h = refl
+plain_carried (IfElse x, location) h = refl
 plain_carried (Br x, location) h = refl
 plain_carried (Call x, location) h = refl
 plain_carried (Drop, location) h = refl
+plain_carried (Const (record { value = I32 n }), location) h = refl
 plain_carried _ h = absurd cc
 
 both_true : (p q : Bool) → (p && q) ≡ true → (p ≡ true) × (q ≡ true)

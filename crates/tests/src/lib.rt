@@ -11,6 +11,10 @@ mod emit;
 #[cfg(test)]
 mod emitting;
 #[cfg(test)]
+mod facts;
+#[cfg(test)]
+mod function_text;
+#[cfg(test)]
 mod ids_to_indices;
 #[cfg(test)]
 mod indices_to_ids;
@@ -19,8 +23,6 @@ mod lent;
 mod modules;
 #[cfg(test)]
 mod parse_refusals;
-#[cfg(test)]
-mod parsed_functions;
 #[cfg(test)]
 mod parsing;
 mod plain;
@@ -33,10 +35,6 @@ mod reading;
 mod recorder;
 #[cfg(test)]
 mod rewriting;
-#[cfg(test)]
-mod segments;
-#[cfg(test)]
-mod sizes;
 #[cfg(test)]
 mod small_module;
 mod validators;

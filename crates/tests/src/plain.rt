@@ -4,17 +4,24 @@ ghost use Rattle.std.specs.Prelude.{◌≡◌, IsTrue};
 ghost use Rattle.tests.specs.PlainTrees.{are_plain, AreAllPlain};
 
 use walrus_body::{EmitError, IdsToIndices, LocalFunction};
-use walrus_ir::{FunctionBuilder, IdHashMap, Instr, InstrLocId, InstrSeqId, LocalId};
+use walrus_ir::{
+    Const, FunctionBuilder, IdHashMap, Instr, InstrLocId, InstrSeqId, LocalId, Value,
+};
 use wasm_encode::FunctionEncoder;
 
-/// Whether each is a `block`, a `br`, a `call` or a `drop`.
+/// Whether each is a `block`, an `if`, a `br`, a `call`, a `drop` or an `i32.const`.
 fn are_plain(instrs: &[(Instr, InstrLocId)]) -> bool
     ensures { result ≡ are_plain instrs.now }
 {
     instrs.iter().all(|(instr, _)| {
         matches!(
             instr,
-            Instr::Block(_) | Instr::Br(_) | Instr::Call(_) | Instr::Drop
+            Instr::Block(_)
+                | Instr::IfElse(_)
+                | Instr::Br(_)
+                | Instr::Call(_)
+                | Instr::Drop
+                | Instr::Const(Const { value: Value::I32(_) })
         )
     })
 }
