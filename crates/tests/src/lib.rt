@@ -15,9 +15,7 @@ mod facts;
 #[cfg(test)]
 mod function_text;
 #[cfg(test)]
-mod ids_to_indices;
-#[cfg(test)]
-mod indices_to_ids;
+mod index_maps;
 mod lent;
 #[cfg(test)]
 mod modules;
