@@ -25,8 +25,6 @@ mod parse_refusals;
 mod parsing;
 mod plain;
 #[cfg(test)]
-mod printing;
-#[cfg(test)]
 mod program;
 #[cfg(test)]
 mod reading;
