@@ -106,11 +106,11 @@ pub(crate) fn put(
     Ok(())
 }
 
-/// Appends instructions, each to the sequence at a slot and with a location.
-pub(crate) fn put_all(
-    builder: &mut FunctionBuilder,
-    instrs: &[(usize, Made, u16)],
-) -> Result<(), AllocError> {
+/// An instruction, with the slot of its sequence before it and its location behind it.
+pub(crate) type Item = (usize, Made, u16);
+
+/// Appends instructions.
+pub(crate) fn put_all(builder: &mut FunctionBuilder, instrs: &[Item]) -> Result<(), AllocError> {
     for (slot, made, location) in instrs {
         put(builder, *slot, instr(*made), *location)?;
     }
@@ -131,7 +131,7 @@ pub(crate) fn sequences(alloc: Global, count: usize) -> Result<FunctionBuilder, 
 pub(crate) fn function(
     alloc: Global,
     count: usize,
-    instrs: &[(usize, Made, u16)],
+    instrs: &[Item],
 ) -> Result<FunctionBuilder, AllocError> {
     let mut builder = sequences(alloc, count)?;
     put_all(&mut builder, instrs)?;

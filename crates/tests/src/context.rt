@@ -3,6 +3,7 @@ use crate::by_hand::{Made, instr};
 use crate::function_text::push_sequence;
 use crate::small_module::Example;
 use std::alloc::{AllocError, Global};
+use std::process::Abort;
 use std::test::Fail;
 use walrus_body::{ControlFrame, ParseError, ValidationContext};
 use walrus_ir::{
@@ -39,11 +40,21 @@ fn push_frame(text: &mut String, frame: &ControlFrame) -> Result<(), AllocError>
     write!(text, " {:?} {block} {life} {takes:?} {gives:?} {start}", frame.kind)
 }
 
-// Appends an answer without a value.
-fn push_answer(text: &mut String, fault: Option<ParseError>) -> Result<(), AllocError> {
-    match fault {
-        None => write!(text, " ok"),
-        Some(error) => write!(text, " {error:?}"),
+fn kill(context: &mut ValidationContext<'_>, text: &mut String) -> Result<(), AllocError> {
+    match context.unreachable() {
+        Ok(()) => write!(text, " ok"),
+        Err(error) => write!(text, " {error:?}"),
+    }
+}
+
+fn add_clause(
+    context: &mut ValidationContext<'_>,
+    clause: LegacyCatch,
+    text: &mut String,
+) -> Result<(), AllocError> {
+    match context.add_legacy_catch(clause) {
+        Ok(()) => write!(text, " ok"),
+        Err(error) => write!(text, " {error:?}"),
     }
 }
 
@@ -75,25 +86,45 @@ fn show(context: &ValidationContext<'_>, n: usize, text: &mut String) -> Result<
     }
 }
 
-fn put(context: &mut ValidationContext<'_>, instr: Instr, location: u16) -> Option<ParseError> {
+fn put(
+    context: &mut ValidationContext<'_>,
+    instr: Instr,
+    location: u16,
+    text: &mut String,
+) -> Result<(), AllocError> {
     let location = InstrLocId::new(u32::from(location));
-    context.alloc_instr(instr, location).err()
+    match context.alloc_instr(instr, location) {
+        Ok(()) => write!(text, " ok"),
+        Err(error) => write!(text, " {error:?}"),
+    }
 }
 
-fn put_here(context: &mut ValidationContext<'_>, made: Made, location: u16) -> Option<ParseError> {
+fn put_here(
+    context: &mut ValidationContext<'_>,
+    made: Made,
+    location: u16,
+    text: &mut String,
+) -> Result<(), AllocError> {
     let location = InstrLocId::new(u32::from(location));
-    context.alloc_instr_in_control(0, instr(made), location).err()
+    match context.alloc_instr_in_control(0, instr(made), location) {
+        Ok(()) => write!(text, " ok"),
+        Err(error) => write!(text, " {error:?}"),
+    }
 }
 
 fn put_around(
     context: &mut ValidationContext<'_>,
     made: Made,
     location: u16,
-) -> Option<ParseError> {
+    text: &mut String,
+) -> Result<(), AllocError> {
     let location = InstrLocId::new(u32::from(location));
-    match context.push_control(BlockKind::Block, &[], &[]) {
-        Ok(_) => context.alloc_instr_in_control(1, instr(made), location).err(),
-        Err(error) => Some(error),
+    if let Err(error) = context.push_control(BlockKind::Block, &[], &[]) {
+        return write!(text, " {error:?}");
+    }
+    match context.alloc_instr_in_control(1, instr(made), location) {
+        Ok(()) => write!(text, " ok"),
+        Err(error) => write!(text, " {error:?}"),
     }
 }
 
@@ -114,19 +145,19 @@ fn call(
             push_opened(text, context.push_control_with_ty(kind, TypeId::new(ty)))
         }
         Step::Pop => pop(context, text),
-        Step::Kill => push_answer(text, context.unreachable().err()),
+        Step::Kill => kill(context, text),
         Step::Show(n) => show(context, n, text),
-        Step::Put(made, location) => push_answer(text, put(context, instr(made), location)),
+        Step::Put(made, location) => put(context, instr(made), location, text),
         Step::PutTry(seq) => {
             let seq = InstrSeqId::new(seq);
             let catches = Vec::new(alloc);
-            push_answer(text, put(context, Instr::Try(Try { seq, catches }), 0))
+            put(context, Instr::Try(Try { seq, catches }), 0, text)
         }
-        Step::PutHere(made, location) => push_answer(text, put_here(context, made, location)),
-        Step::PutAround(made, location) => push_answer(text, put_around(context, made, location)),
+        Step::PutHere(made, location) => put_here(context, made, location, text),
+        Step::PutAround(made, location) => put_around(context, made, location, text),
         Step::Delegate(relative_depth) => {
             let clause = LegacyCatch::Delegate { relative_depth };
-            push_answer(text, context.add_legacy_catch(clause).err())
+            add_clause(context, clause, text)
         }
     }
 }
@@ -159,6 +190,19 @@ fn called(alloc: Global, steps: &[Step]) -> Result<String, Fail> {
         }
     }
     Ok(text)
+}
+
+// Makes calls, each list of which stands before what is wanted.
+fn check_calls(
+    rt: &impl Abort,
+    alloc: Global,
+    cases: &[(&[Step], &str)],
+) -> Result<(), Fail> {
+    for (steps, want) in cases {
+        let found = called(alloc, steps)?;
+        assert_eq!(rt; found.as_str(), *want);
+    }
+    Ok(())
 }
 
 const ENTRY: Step = Step::Push(BlockKind::FunctionEntry, 0, 0);
@@ -197,7 +241,7 @@ fn opens_and_closes_frames(rt: HostRuntime) -> Result<(), Fail> {
         Step::Pop,
         Step::Pop,
     ];
-    for (steps, want) in [
+    let cases = [
         (
             closed.as_slice(),
             " 0 ok 1 ok ok ok Loop 1 dead [] [I32] 0 of 1 | FunctionEntry 0 alive [] [] 0 \
@@ -214,10 +258,8 @@ fn opens_and_closes_frames(rt: HostRuntime) -> Result<(), Fail> {
             " 0 ok ok Block 1 alive [] [] 0 of 1 ok ok Block 2 alive [] [] 0 of 2 \
             FunctionEntry 0 dead [] [] 0 of 0 | ()[ drop@6 ]- ()[ call 3@7 ]- ()[ ]-",
         ),
-    ] {
-        assert_eq!(rt; called(rt.alloc(), steps)?.as_str(), want);
-    }
-    Ok(())
+    ];
+    check_calls(&rt, rt.alloc(), &cases)
 }
 
 /// A clause is added to the `try` that ends the frame around, or dropped where that is dead.
@@ -238,7 +280,7 @@ fn adds_clauses_to_a_try(rt: HostRuntime) -> Result<(), Fail> {
         Step::Pop,
     ];
     let dropped = [ENTRY, Step::Kill, Step::PutTry(1), tries, Step::Delegate(4)];
-    for (steps, want) in [
+    let cases = [
         (
             added.as_slice(),
             " 0 NoSuchLabel ok 1 ok ok 2 NoTry Block 2 alive [] [] 0 of 2 \
@@ -249,10 +291,8 @@ fn adds_clauses_to_a_try(rt: HostRuntime) -> Result<(), Fail> {
             dropped.as_slice(),
             " 0 ok ok 1 ok | FunctionEntry 0 dead [] [] 0 Try 1 alive [] [] 0 ()[ ]- ()[ ]-",
         ),
-    ] {
-        assert_eq!(rt; called(rt.alloc(), steps)?.as_str(), want);
-    }
-    Ok(())
+    ];
+    check_calls(&rt, rt.alloc(), &cases)
 }
 
 /// What is refused where no frame is open, and frames whose type the module doesn't have.
@@ -274,7 +314,7 @@ fn refuses_calls(rt: HostRuntime) -> Result<(), Fail> {
         Step::PushWithTy(BlockKind::Block, 3),
         Step::PushWithTy(BlockKind::Block, 7),
     ];
-    for (steps, want) in [
+    let cases = [
         (
             closed.as_slice(),
             " NoFrame NoSuchLabel NoFrame NoFrame NoSuchLabel NoSuchLabel NoSuchLabel | \
@@ -284,8 +324,6 @@ fn refuses_calls(rt: HostRuntime) -> Result<(), Fail> {
             untyped.as_slice(),
             " TypeMissing TypeMissing TypeMissing NotAFunctionType NotAFunctionType |",
         ),
-    ] {
-        assert_eq!(rt; called(rt.alloc(), steps)?.as_str(), want);
-    }
-    Ok(())
+    ];
+    check_calls(&rt, rt.alloc(), &cases)
 }

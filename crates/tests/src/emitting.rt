@@ -1,8 +1,9 @@
 //! Functions that are written: those that are made by hand, and those that are parsed.
 use crate::by_hand::{Made, function};
+use crate::cases::{About, AboutMade, check, check_made};
 use crate::function_text::{At, push_sequences};
 use crate::plain::write;
-use crate::small_module::{Source, parse};
+use crate::small_module::Setting;
 use std::alloc::Global;
 use std::test::Fail;
 use walrus_body::{IdsToIndices, IndexError, LocalFunction};
@@ -29,7 +30,7 @@ fn numbers(alloc: Global) -> Result<IdsToIndices, IndexError> {
 
 // What stands in an encoder of no declarations and in a list of one pair when a function is written
 // behind them, and before that the fault.
-fn written(alloc: Global, function: &LocalFunction) -> Result<String, Fail> {
+pub(crate) fn written(alloc: Global, function: &LocalFunction) -> Result<String, Fail> {
     let numbers = numbers(alloc)?;
     let locals = IdHashMap::new(alloc);
     let mut encoder = FunctionEncoder::new(alloc, &[])?;
@@ -67,7 +68,7 @@ fn writes_what_is_made_by_hand(rt: HostRuntime) -> Result<(), Fail> {
         (0, Made::Call(0), 3),
     ];
     let unnumbered = [(0, Made::Drop, 1), (0, Made::Call(0), 2), (0, Made::Br(1), 3)];
-    for (instrs, want) in [
+    let cases = [
         (nested.as_slice(), "001a02400c0110000b0b 9@9 1@1 2@2 3@4 4@6 -@8 -@9"),
         (choice.as_slice(), "0041ac020440050b0b 9@9 1@1 2@4 -@6 -@7 -@8"),
         (unknown.as_slice(), "UnknownSequence 00 9@9"),
@@ -75,18 +76,14 @@ fn writes_what_is_made_by_hand(rt: HostRuntime) -> Result<(), Fail> {
         (shared.as_slice(), "SharedSequence 00 9@9"),
         (outside.as_slice(), "BranchOutside 00 9@9"),
         (unnumbered.as_slice(), "Index(Unnumbered { space: Funcs }) 00 9@9"),
-    ] {
-        let builder = function(rt.alloc(), 3, instrs)?;
-        let function = LocalFunction::new(Vec::new(rt.alloc()), builder);
-        assert_eq!(rt; written(rt.alloc(), &function)?.as_str(), want);
-    }
-    Ok(())
+    ];
+    check_made(&rt, rt.alloc(), AboutMade::Written, &cases)
 }
 
-/// Bodies of which the places are known: those of a code section that begins at 90, and at 0.
+/// Bodies whose places are known: of code that begins at 90, and at 0.
 #[test]
 fn writes_what_is_parsed(rt: HostRuntime) -> Result<(), Fail> {
-    for (offset, before, bytes, want) in [
+    for (offset, before, body, want) in [
         (90, 10, "00010b", "000b 9@9 102@1"),
         (
             0,
@@ -95,16 +92,14 @@ fn writes_what_is_parsed(rt: HostRuntime) -> Result<(), Fail> {
             "0041010440050b0b 9@9 1@1 3@3 5@5 -@6 6@7",
         ),
     ] {
-        let source = Source {
+        let setting = Setting {
             ty: 0,
             offset,
             before,
             ops: 1,
-            bytes,
             located: false,
         };
-        let function = parse(rt.alloc(), source)?;
-        assert_eq!(rt; written(rt.alloc(), &function)?.as_str(), want, "of {bytes}");
+        check(&rt, rt.alloc(), About::Written(setting), &[(body, want)])?;
     }
     Ok(())
 }

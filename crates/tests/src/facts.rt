@@ -1,6 +1,6 @@
 //! Facts about functions: their sizes, their data segments, and whether they are constant.
-use crate::by_hand::{Made, Use, deep, example, function};
-use crate::small_module::{Source, parse};
+use crate::by_hand::{Made, Use, deep, example};
+use crate::cases::{About, AboutMade, check, check_made};
 use std::alloc::{AllocError, Global};
 use std::test::Fail;
 use walrus_body::{DataSegmentsVisitor, LocalFunction, SizeVisitor};
@@ -38,7 +38,7 @@ fn push_segments(text: &mut String, segments: &IdHashSet<DataId>) -> Result<(), 
 }
 
 // What visitors find from the first sequence on: the size and the data segments, or the fault.
-fn visited(alloc: Global, builder: &FunctionBuilder) -> Result<String, AllocError> {
+pub(crate) fn visited(alloc: Global, builder: &FunctionBuilder) -> Result<String, AllocError> {
     let entry = InstrSeqId::new(0);
     let mut text = format!(in alloc; "{:?}", size(builder, entry))?;
     match segments(alloc, builder, entry) {
@@ -49,7 +49,7 @@ fn visited(alloc: Global, builder: &FunctionBuilder) -> Result<String, AllocErro
 }
 
 // What a function answers about itself.
-fn answered(alloc: Global, function: &LocalFunction) -> Result<String, AllocError> {
+pub(crate) fn answered(alloc: Global, function: &LocalFunction) -> Result<String, AllocError> {
     let mut text = String::new(alloc);
     if function.has_entry() {
         write!(text, "{:?}", function.size())?;
@@ -67,7 +67,6 @@ fn answered(alloc: Global, function: &LocalFunction) -> Result<String, AllocErro
 /// Functions that are made by hand, by visitors and as the function answers.
 #[test]
 fn finds_facts(rt: HostRuntime) -> Result<(), Fail> {
-    let alloc = rt.alloc();
     let reached = [
         (0, Made::Block(1), 0),
         (0, Made::Data(Use::Init, 4), 0),
@@ -81,24 +80,25 @@ fn finds_facts(rt: HostRuntime) -> Result<(), Fail> {
     ];
     let own = [(0, Made::Data(Use::Drop, 0), 0), (0, Made::Block(0), 0)];
     let unknown = [(0, Made::Block(7), 0)];
-    for (instrs, want) in [
-        (reached.as_slice(), "Ok(4) 4 5"),
-        (arrays.as_slice(), "Ok(2) 0 2"),
-        (own.as_slice(), "Err(SharedSequence) SharedSequence"),
-        (unknown.as_slice(), "Err(UnknownSequence) UnknownSequence"),
-    ] {
-        let builder = function(alloc, 3, instrs)?;
-        assert_eq!(rt; visited(alloc, &builder)?.as_str(), want);
-        let function = LocalFunction::new(Vec::new(alloc), builder);
-        assert_eq!(rt; answered(alloc, &function)?.as_str(), want);
-    }
-    Ok(())
+    let cases = [
+        (reached.as_slice(), "Ok(4) 4 5; Ok(4) 4 5"),
+        (arrays.as_slice(), "Ok(2) 0 2; Ok(2) 0 2"),
+        (
+            own.as_slice(),
+            "Err(SharedSequence) SharedSequence; Err(SharedSequence) SharedSequence",
+        ),
+        (
+            unknown.as_slice(),
+            "Err(UnknownSequence) UnknownSequence; Err(UnknownSequence) UnknownSequence",
+        ),
+    ];
+    check_made(&rt, rt.alloc(), AboutMade::Facts, &cases)
 }
 
 /// What is reached from the entry is counted, and `is_const` looks at the entry alone.
 #[test]
 fn finds_facts_of_parsed_functions(rt: HostRuntime) -> Result<(), Fail> {
-    for (ops, want) in [
+    let cases = [
         ("0b", "Ok(0) const"),
         ("41010b", "Ok(1) const"),
         ("410142020b", "Ok(2) const"),
@@ -109,11 +109,8 @@ fn finds_facts_of_parsed_functions(rt: HostRuntime) -> Result<(), Fail> {
         ("024041011a0b010f0b", "Ok(4)"),
         ("0c00024041011a0b0b", "Ok(1)"),
         ("0240fc09010b0f0240fc09000b0b", "Ok(3) 61"),
-    ] {
-        let function = parse(rt.alloc(), Source::of(ops))?;
-        assert_eq!(rt; answered(rt.alloc(), &function)?.as_str(), want, "of {ops}");
-    }
-    Ok(())
+    ];
+    check(&rt, rt.alloc(), About::Facts, &cases)
 }
 
 /// The size of a tree with every kind of sequence, up to what 64 bits hold, and of a deep one.

@@ -5,6 +5,8 @@
 #[cfg(test)]
 mod by_hand;
 #[cfg(test)]
+mod cases;
+#[cfg(test)]
 mod context;
 #[cfg(test)]
 mod emit;

@@ -1,25 +1,15 @@
 //! Functions that are parsed: their trees, their mappings and the places of their bodies.
-use crate::function_text::{function_text, push_sequence};
-use crate::small_module::{Source, parse, parse_lent, parsed};
-use std::alloc::Global;
+use crate::cases::{About, check};
+use crate::function_text::function_text;
+use crate::small_module::{Setting, parse_lent, parsed};
 use std::test::Fail;
 use walrus_body::AcceptAll;
 use walrus_ir::{Instr, InstrLocId};
 
-/// The entry of the function that these operators give.
-fn first_text(alloc: Global, ops: &str) -> Result<String, Fail> {
-    let function = parse(alloc, Source::of(ops))?;
-    let mut text = String::new(alloc);
-    if function.has_entry() {
-        push_sequence(&mut text, function.block(function.entry_block()))?;
-    }
-    Ok(text)
-}
-
 /// Trees of bodies that begin at the place 0, with the location of each operator.
 #[test]
 fn gives_trees_and_mappings(rt: HostRuntime) -> Result<(), Fail> {
-    for (ops, want) in [
+    let cases = [
         ("010b", "0..2 0:0 1:1 type4[ ]1"),
         ("0f41071a0b", "0..5 0:0 1:1 3:3 4:4 type4[ return@0 ]4"),
         ("00000b", "0..3 0:0 1:1 2:2 type4[ unreachable@0 ]2"),
@@ -60,16 +50,14 @@ fn gives_trees_and_mappings(rt: HostRuntime) -> Result<(), Fail> {
             ()[ loop 2@2 ]17 \
             ()[ br_if 2@4 br_if 1@6 br_if 0@8 br_table 1 2 0 1@10 ]16",
         ),
-    ] {
-        assert_eq!(rt; parsed(rt.alloc(), Source::of(ops))?.as_str(), want, "of {ops}");
-    }
-    Ok(())
+    ];
+    check(&rt, rt.alloc(), About::Function(Setting::PLAIN), &cases)
 }
 
 /// The instructions that operators become, with the ids of their old indices.
 #[test]
 fn gives_instructions(rt: HostRuntime) -> Result<(), Fail> {
-    for (ops, want) in [
+    let cases = [
         (
             "1001110100110001000b",
             " type4[ call 11@0 call_indirect 2 22@2 call_indirect 0 21@5 unreachable@8 ]9",
@@ -113,74 +101,78 @@ fn gives_instructions(rt: HostRuntime) -> Result<(), Fail> {
             " type4[ load F32 41 1 5@0 load F64 41 2147483648 5@3 \
             load I32_8 { kind: SignExtend } 41 1 0@6 store I32_8 { atomic: false } 41 1 7@9 ]12",
         ),
+    ];
+    check(&rt, rt.alloc(), About::Entry, &cases)
+}
+
+// A body that stands so many bytes behind the beginning of the code, and whose operators begin so
+// many bytes further.
+fn at(offset: u32, before: u32, ops: usize) -> About {
+    About::Function(Setting {
+        ty: 0,
+        offset,
+        before,
+        ops,
+        located: false,
+    })
+}
+
+/// Places count from where the body stands, less where the code begins, and locations are places;
+/// those from 2^32 - 1 on are too great.
+#[test]
+fn counts_places(rt: HostRuntime) -> Result<(), Fail> {
+    let refused = "PlaceTooGreat at 4294967295";
+    for (about, body, want) in [
+        (at(90, 10, 1), "00010b", "10..13 11:101 12:102 type4[ ]102"),
+        (
+            at(0, 0, 1),
+            "00410104400b0b",
+            "0..7 1:1 3:3 5:5 6:6 type4[ i32.const 1@1 if 1 2@3 ]6 ()[ ]5 ()[ ]-",
+        ),
+        (
+            at(4, 6, 2),
+            "0000410104400b0b",
+            "6..14 8:12 10:14 12:16 13:17 type4[ i32.const 1@12 if 1 2@14 ]17 ()[ ]16 ()[ ]-",
+        ),
+        (
+            at(0, 4294967292, 1),
+            "00010b",
+            "4294967292..4294967295 4294967293:4294967293 4294967294:4294967294 \
+            type4[ ]4294967294",
+        ),
+        (at(0, 4294967293, 1), "00010b", refused),
+        (at(0, 4294967293, 2), "00010b", refused),
+        (at(0, 4294967294, 1), "00010b", refused),
+        (at(0, 4294967295, 1), "00010b", "PlaceTooGreat at 4294967296"),
     ] {
-        let text = first_text(rt.alloc(), ops)?;
-        assert_eq!(rt; text.as_str(), want, "of {ops}");
+        check(&rt, rt.alloc(), about, &[(body, want)])?;
     }
     Ok(())
 }
 
-/// Places and locations of bodies that stand elsewhere, and those that are too great.
+/// Locations are what the caller's function answers, also for places that are too great without it.
 #[test]
-fn counts_places(rt: HostRuntime) -> Result<(), Fail> {
-    let alloc = rt.alloc();
-    for (offset, before, ops, bytes, located, want) in [
-        (90, 10, 1, "00010b", false, "10..13 11:101 12:102 type4[ ]102"),
+fn asks_for_locations(rt: HostRuntime) -> Result<(), Fail> {
+    for (before, body, want) in [
         (
-            0,
-            0,
-            1,
-            "00410104400b0b",
-            false,
-            "0..7 1:1 3:3 5:5 6:6 type4[ i32.const 1@1 if 1 2@3 ]6 ()[ ]5 ()[ ]-",
-        ),
-        (
-            4,
-            6,
-            2,
-            "0000410104400b0b",
-            false,
-            "6..14 8:12 10:14 12:16 13:17 type4[ i32.const 1@12 if 1 2@14 ]17 ()[ ]16 ()[ ]-",
-        ),
-        (
-            0,
             20,
-            1,
             "00410104400b0b",
-            true,
             "20..27 21:42 23:46 25:50 26:52 type4[ i32.const 1@42 if 1 2@46 ]52 ()[ ]50 ()[ ]-",
         ),
         (
-            0,
-            4294967292,
-            1,
-            "00010b",
-            false,
-            "4294967292..4294967295 4294967293:4294967293 4294967294:4294967294 \
-            type4[ ]4294967294",
-        ),
-        (0, 4294967293, 1, "00010b", false, "PlaceTooGreat at 4294967295"),
-        (0, 4294967293, 2, "00010b", false, "PlaceTooGreat at 4294967295"),
-        (0, 4294967294, 1, "00010b", false, "PlaceTooGreat at 4294967295"),
-        (0, 4294967295, 1, "00010b", false, "PlaceTooGreat at 4294967296"),
-        (
-            0,
             4294967293,
-            1,
             "00010b",
-            true,
             "4294967293..4294967296 4294967294:589934588 4294967295:589934590 type4[ ]589934590",
         ),
     ] {
-        let source = Source {
+        let setting = Setting {
             ty: 0,
-            offset,
+            offset: 0,
             before,
-            ops,
-            bytes,
-            located,
+            ops: 1,
+            located: true,
         };
-        assert_eq!(rt; parsed(alloc, source)?.as_str(), want, "of {bytes} behind {before}");
+        check(&rt, rt.alloc(), About::Function(setting), &[(body, want)])?;
     }
     Ok(())
 }
@@ -188,15 +180,15 @@ fn counts_places(rt: HostRuntime) -> Result<(), Fail> {
 /// What the list holds that is lent makes no difference.
 #[test]
 fn clears_the_lent_list(rt: HostRuntime) -> Result<(), Fail> {
-    let alloc = rt.alloc();
-    let mut instrs = Vec::new(alloc);
+    let mut instrs = Vec::new(rt.alloc());
     for location in 70..73 {
         instrs.push((Instr::Return, InstrLocId::new(location)))?;
     }
-    let ops = "410104400b0b";
-    let function = parse_lent(alloc, Source::of(ops), AcceptAll, &mut instrs)?;
-    let want = parsed(alloc, Source::of(ops))?;
-    assert_eq!(rt; function_text(&function)?.as_str(), want.as_str());
+    let (setting, body) = (Setting::PLAIN, "410104400b0b");
+    let function = parse_lent(rt.alloc(), setting, body, AcceptAll, &mut instrs)?;
+    let found = function_text(&function)?;
+    let want = parsed(rt.alloc(), setting, body)?;
+    assert_eq!(rt; found.as_str(), want.as_str());
     assert!(rt; instrs.is_empty());
     Ok(())
 }

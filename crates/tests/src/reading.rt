@@ -1,4 +1,5 @@
 //! Operators that are read one after the other, printed and compared.
+use crate::cases::{About, check};
 use std::alloc::Global;
 use std::test::Fail;
 use wasm_ops::{
@@ -8,7 +9,7 @@ use wasm_ops::{
 
 // The operators in hexadecimal text that begins at a place, each with the place behind it, and last
 // the fault where there is one.
-fn read_all(alloc: Global, bytes: &str, start: u32) -> Result<String, Fail> {
+pub(crate) fn read_all(alloc: Global, bytes: &str, start: u32) -> Result<String, Fail> {
     let bytes = hex::decode(alloc, bytes)?;
     let mut text = String::new(alloc);
     let mut reader = Reader::new(&bytes, start as usize);
@@ -28,36 +29,27 @@ fn read_all(alloc: Global, bytes: &str, start: u32) -> Result<String, Fail> {
 /// Operators as they are printed, with the places behind them; a fault has its operator's place.
 #[test]
 fn reads_one_after_the_other(rt: HostRuntime) -> Result<(), Fail> {
-    for (bytes, start, want) in [
+    let cases = [
         (
             "427ffc870028028080808010",
-            100,
             " I64Const { value: -1 } 102 Unop(I64TruncUSatF64) 105 \
             Load { kind: I32 { atomic: false }, \
             memarg: RawMemArg { exponent: 2, memory: 0, offset: 4294967296 } } 112",
         ),
-        (
-            "010141",
-            110,
-            " Nop 111 Nop 112 ReadError { fault: Truncated, at: 112 }",
-        ),
+        ("010141", " Nop 101 Nop 102 ReadError { fault: Truncated, at: 102 }"),
         (
             "02400340047f050d01",
-            0,
-            " Block { ty: Empty } 2 Loop { ty: Empty } 4 If { ty: Value(I32) } 6 Else 7 \
-            BrIf { label: 1 } 9",
+            " Block { ty: Empty } 102 Loop { ty: Empty } 104 If { ty: Value(I32) } 106 Else 107 \
+            BrIf { label: 1 } 109",
         ),
         (
             "0c83011085001180010045",
-            0,
-            " Br { label: 131 } 3 Call { func: 5 } 6 CallIndirect { ty: 128, table: 0 } 10 \
-            Unop(I32Eqz) 11",
+            " Br { label: 131 } 103 Call { func: 5 } 106 CallIndirect { ty: 128, table: 0 } 110 \
+            Unop(I32Eqz) 111",
         ),
-        ("0e0100", 19, " ReadError { fault: Truncated, at: 19 }"),
-    ] {
-        assert_eq!(rt; read_all(rt.alloc(), bytes, start)?.as_str(), want, "of {bytes}");
-    }
-    Ok(())
+        ("0e0100", " ReadError { fault: Truncated, at: 100 }"),
+    ];
+    check(&rt, rt.alloc(), About::Read(100), &cases)
 }
 
 /// The labels of a branch table, which stand in the input.

@@ -1,4 +1,5 @@
 //! Bodies rewritten over the demo module.
+use crate::cases::{About, check};
 use std::alloc::{AllocError, Global};
 use std::test::Fail;
 use walrus_body::ParseFailure;
@@ -6,7 +7,7 @@ use walrus_run::{RewriteError, rewrite_demo};
 
 // The rewritten operators of a body that is given as hexadecimal text, as such text; or its fault,
 // and at which place.
-fn rewritten(alloc: Global, ops: &str) -> Result<String, AllocError> {
+pub(crate) fn rewritten(alloc: Global, ops: &str) -> Result<String, AllocError> {
     let Ok(ops) = hex::decode(alloc, ops) else {
         return Err(AllocError);
     };
@@ -22,7 +23,7 @@ fn rewritten(alloc: Global, ops: &str) -> Result<String, AllocError> {
 /// Worked bodies, with what is written.
 #[test]
 fn rewrites_bodies(rt: HostRuntime) -> Result<(), Fail> {
-    for (ops, want) in [
+    let cases = [
         ("010b", "0b"),
         ("01010b", "0b"),
         ("0f41071a0b", "0f0b"),
@@ -43,16 +44,14 @@ fn rewrites_bodies(rt: HostRuntime) -> Result<(), Fail> {
         ("230024000b", "230024000b"),
         ("fc0e00000b", "fc0e00000b"),
         ("430000c07f1a0b", "430000c07f1a0b"),
-    ] {
-        assert_eq!(rt; rewritten(rt.alloc(), ops)?.as_str(), want, "of {ops}");
-    }
-    Ok(())
+    ];
+    check(&rt, rt.alloc(), About::Rewritten, &cases)
 }
 
 /// Worked bodies that are refused.
 #[test]
 fn refuses_bodies(rt: HostRuntime) -> Result<(), Fail> {
-    for (ops, want) in [
+    let cases = [
         ("", "MissingEnd at 0"),
         ("02400b", "MissingEnd at 3"),
         ("0b0b", "Trailing at 1"),
@@ -79,10 +78,8 @@ fn refuses_bodies(rt: HostRuntime) -> Result<(), Fail> {
         ),
         ("23010b", "Index(OutOfRange { space: Globals, index: 1 }) at 0"),
         ("fc088100000b", "Index(OutOfRange { space: Data, index: 1 }) at 0"),
-    ] {
-        assert_eq!(rt; rewritten(rt.alloc(), ops)?.as_str(), want, "of {ops}");
-    }
-    Ok(())
+    ];
+    check(&rt, rt.alloc(), About::Rewritten, &cases)
 }
 
 /// A rewriting takes no stack for each level.

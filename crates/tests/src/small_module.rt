@@ -1,8 +1,10 @@
 //! A module whose ids aren't its old indices, and what its functions' bodies give.
 ghost use Rattle.std.specs.Prelude.{◌≡◌, IfOk};
 
-use crate::function_text::function_text;
+use crate::function_text::{function_text, push_sequence};
+use crate::validators::Telling;
 use std::alloc::{AllocError, Global};
+use std::test::Fail;
 use walrus_body::{
     AcceptAll, FunctionBody, IndexError, IndicesToIds, LocalFunction, OpCheck, ParseError, ParseFailure,
 };
@@ -69,9 +71,9 @@ impl Example {
     }
 }
 
-/// A body of a function of the module.
+/// Where a body stands, and how it is parsed.
 #[derive(Clone, Copy)]
-pub(crate) struct Source<'a> {
+pub(crate) struct Setting {
     /// The function's type.
     pub ty: usize,
     /// Where the module's code begins.
@@ -80,24 +82,19 @@ pub(crate) struct Source<'a> {
     pub before: u32,
     /// The position of the first operator.
     pub ops: usize,
-    /// The bytes, as hexadecimal text.
-    pub bytes: &'a str,
     /// Whether locations are asked for, which are then twice the places.
     pub located: bool,
 }
 
-impl<'a> Source<'a> {
+impl Setting {
     /// Operators that stand at the place 0, of a function without arguments and results.
-    pub(crate) fn of(bytes: &'a str) -> Source<'a> {
-        Source {
-            ty: 0,
-            offset: 0,
-            before: 0,
-            ops: 0,
-            bytes,
-            located: false,
-        }
-    }
+    pub(crate) const PLAIN: Setting = Setting {
+        ty: 0,
+        offset: 0,
+        before: 0,
+        ops: 0,
+        located: false,
+    };
 }
 
 // Twice the place, where that fits.
@@ -110,29 +107,27 @@ const OUT_OF_MEMORY: ParseFailure = ParseFailure {
     at: 0,
 };
 
-/// Parses a function, with the list that is lent.
+/// Parses a function, whose body is hexadecimal text, with the list that is lent.
 pub(crate) fn parse_lent<V: OpCheck>(
     alloc: Global,
-    source: Source<'_>,
+    setting: Setting,
+    body: &str,
     validator: V,
     instrs: &mut Vec<(Instr, InstrLocId)>,
 ) -> Result<LocalFunction, ParseFailure> {
-    let start = source.offset as usize + source.before as usize;
-    let Ok(bytes) = hex::decode(alloc, source.bytes) else {
-        return Err(OUT_OF_MEMORY);
-    };
-    let Ok(example) = Example::new(alloc, source.offset as usize) else {
+    let offset = setting.offset as usize;
+    let (Ok(bytes), Ok(example)) = (hex::decode(alloc, body), Example::new(alloc, offset)) else {
         return Err(OUT_OF_MEMORY);
     };
     let body = FunctionBody {
         bytes: &bytes,
-        start,
-        ops: source.ops.min(bytes.len()),
+        start: offset + setting.before as usize,
+        ops: setting.ops.min(bytes.len()),
     };
     let (module, indices) = (&example.module, &example.indices);
-    let (id, ty) = (FunctionId::new(12), TypeId::new(source.ty));
+    let (id, ty) = (FunctionId::new(12), TypeId::new(setting.ty));
     let args: Vec<LocalId> = Vec::new(alloc);
-    if source.located {
+    if setting.located {
         let locate = |place: &usize| doubled(*place);
         LocalFunction::parse(
             module, indices, id, ty, args, body, Some(&locate), validator, instrs,
@@ -144,25 +139,49 @@ pub(crate) fn parse_lent<V: OpCheck>(
 }
 
 /// Parses a function that no validator refuses.
-pub(crate) fn parse(alloc: Global, source: Source<'_>) -> Result<LocalFunction, ParseFailure> {
+pub(crate) fn parse(
+    alloc: Global,
+    setting: Setting,
+    body: &str,
+) -> Result<LocalFunction, ParseFailure> {
     let mut instrs = Vec::new(alloc);
-    parse_lent(alloc, source, AcceptAll, &mut instrs)
+    parse_lent(alloc, setting, body, AcceptAll, &mut instrs)
 }
 
 /// What a parse answers, as text: the function, or the fault and its place.
 pub(crate) fn parsed_by<V: OpCheck>(
     alloc: Global,
-    source: Source<'_>,
+    setting: Setting,
+    body: &str,
     validator: V,
 ) -> Result<String, AllocError> {
     let mut instrs = Vec::new(alloc);
-    match parse_lent(alloc, source, validator, &mut instrs) {
+    match parse_lent(alloc, setting, body, validator, &mut instrs) {
         Ok(function) => function_text(&function),
         Err(failure) => format!(in alloc; "{:?} at {}", failure.error, failure.at),
     }
 }
 
 /// What a parse answers where no validator refuses anything.
-pub(crate) fn parsed(alloc: Global, source: Source<'_>) -> Result<String, AllocError> {
-    parsed_by(alloc, source, AcceptAll)
+pub(crate) fn parsed(alloc: Global, setting: Setting, body: &str) -> Result<String, AllocError> {
+    parsed_by(alloc, setting, body, AcceptAll)
+}
+
+/// The places of the operators that a validator is asked about.
+pub(crate) fn told(alloc: Global, body: &str) -> Result<String, AllocError> {
+    let mut told = Vec::new(alloc);
+    let mut instrs = Vec::new(alloc);
+    let telling = Telling { told: &mut told };
+    let _ = parse_lent(alloc, Setting::PLAIN, body, telling, &mut instrs).is_ok();
+    format!(in alloc; "{told:?}")
+}
+
+/// The entry of the function that these operators give.
+pub(crate) fn entry_text(alloc: Global, body: &str) -> Result<String, Fail> {
+    let function = parse(alloc, Setting::PLAIN, body)?;
+    let mut text = String::new(alloc);
+    if function.has_entry() {
+        push_sequence(&mut text, function.block(function.entry_block()))?;
+    }
+    Ok(text)
 }

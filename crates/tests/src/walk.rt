@@ -1,12 +1,13 @@
 //! Walks over functions that are made by hand.
-use crate::by_hand::{Access, Made, Use, deep, example, function};
+use crate::by_hand::{Access, Made, Use, deep, example};
+use crate::cases::{AboutMade, check_made};
 use crate::recorder::Recorder;
 use std::alloc::{AllocError, Global};
 use std::test::Fail;
 use walrus_ir::{FunctionBuilder, InstrSeqId, dfs_in_order};
 
 /// What a recorder that takes so many calls is told of the walk from a sequence on, and the fault.
-fn walked(
+pub(crate) fn walked(
     alloc: Global,
     builder: &FunctionBuilder,
     start: usize,
@@ -21,20 +22,20 @@ fn walked(
     Ok(text)
 }
 
-/// The whole walk, and one that the visitor refuses at its third call.
+/// The whole walk, one that the visitor refuses at its third call, and one from nowhere.
 #[test]
 fn walks_in_order(rt: HostRuntime) -> Result<(), Fail> {
     let builder = example(rt.alloc())?;
-    for (calls, want) in [
-        (
-            1000,
-            " start0 const1 drop0 block0 start1 const2 drop0 if-else0 start2 const3 drop0 end2 \
-            start3 const4 drop0 end2 const5 drop0 end5 const6 drop0 try0 start4 const7 drop0 end2 \
-            start5 const8 drop0 end2 start6 const9 drop0 end2 const10 drop0 end8",
-        ),
-        (2, " start0 const1 TooLarge"),
+    let whole =
+        " start0 const1 drop0 block0 start1 const2 drop0 if-else0 start2 const3 drop0 end2 \
+        start3 const4 drop0 end2 const5 drop0 end5 const6 drop0 try0 start4 const7 drop0 end2 \
+        start5 const8 drop0 end2 start6 const9 drop0 end2 const10 drop0 end8";
+    for (start, calls, want) in [
+        (0, 1000, whole),
+        (0, 2, " start0 const1 TooLarge"),
+        (9, 1000, " UnknownSequence"),
     ] {
-        assert_eq!(rt; walked(rt.alloc(), &builder, 0, calls)?.as_str(), want);
+        assert_eq!(rt; walked(rt.alloc(), &builder, start, calls)?.as_str(), want);
     }
     Ok(())
 }
@@ -63,17 +64,13 @@ fn tells_names_and_faults(rt: HostRuntime) -> Result<(), Fail> {
         (0, Made::Block(1), 0),
         (0, Made::Block(7), 0),
     ];
-    for (instrs, start, want) in [
-        (names.as_slice(), 0, told),
-        (own.as_slice(), 0, " SharedSequence"),
-        (unknown.as_slice(), 0, " UnknownSequence"),
-        (twice.as_slice(), 0, " SharedSequence"),
-        (twice.as_slice(), 7, " UnknownSequence"),
-    ] {
-        let builder = function(rt.alloc(), 2, instrs)?;
-        assert_eq!(rt; walked(rt.alloc(), &builder, start, 1000)?.as_str(), want);
-    }
-    Ok(())
+    let cases = [
+        (names.as_slice(), told),
+        (own.as_slice(), " SharedSequence"),
+        (unknown.as_slice(), " UnknownSequence"),
+        (twice.as_slice(), " SharedSequence"),
+    ];
+    check_made(&rt, rt.alloc(), AboutMade::Walk, &cases)
 }
 
 /// A walk takes no stack for each level.
