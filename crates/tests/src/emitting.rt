@@ -4,7 +4,7 @@ use crate::cases::{About, AboutMade, check, check_made};
 use crate::function_text::{At, push_sequences};
 use crate::plain::write;
 use crate::small_module::Setting;
-use std::alloc::Global;
+use std::alloc::{AllocError, Global};
 use std::test::Fail;
 use walrus_body::{IdsToIndices, IndexError, LocalFunction};
 use walrus_ir::{
@@ -104,46 +104,65 @@ fn writes_what_is_parsed(rt: HostRuntime) -> Result<(), Fail> {
     Ok(())
 }
 
-/// A sequence that is changed through `block_mut` is changed alone, and its type is written as it is
-/// named, not as an equal one.
-#[test]
-fn changes_one_sequence(rt: HostRuntime) -> Result<(), Fail> {
-    let alloc = rt.alloc();
-    let builder = function(alloc, 2, &[(0, Made::Block(1), 1), (0, Made::Drop, 2)])?;
-    let mut function = LocalFunction::new(Vec::new(alloc), builder);
+// Changes the type and the end of the second sequence.
+fn change_second(function: &mut LocalFunction) {
     let second = InstrSeqId::new(1);
     if function.has_block(second) {
         let sequence = function.block_mut(second);
         sequence.ty = InstrSeqType::MultiValue(TypeId::new(5));
         sequence.end = InstrLocId::new(77);
     }
-    let mut text = String::new(alloc);
-    push_sequences(&mut text, &function)?;
-    assert_eq!(rt; text.as_str(), " ()[ block 1@1 drop@2 ]- type5[ ]77");
-    assert_eq!(rt; written(alloc, &function)?.as_str(), "0002030b1a0b 9@9 1@1 77@3 2@4 -@5");
+}
+
+// A function whose second sequence was changed.
+fn changed(alloc: Global) -> Result<LocalFunction, AllocError> {
+    let builder = function(alloc, 2, &[(0, Made::Block(1), 1), (0, Made::Drop, 2)])?;
+    let mut function = LocalFunction::new(Vec::new(alloc), builder);
+    change_second(&mut function);
+    Ok(function)
+}
+
+/// A sequence that is changed through `block_mut` is changed alone, and its type is written as it is
+/// named, not as an equal one.
+#[test]
+fn changes_one_sequence(rt: HostRuntime) -> Result<(), Fail> {
+    let mut text = written(rt.alloc(), &changed(rt.alloc())?)?;
+    push_sequences(&mut text, &changed(rt.alloc())?)?;
+    assert_eq!(rt;
+        text.as_str(),
+        "0002030b1a0b 9@9 1@1 77@3 2@4 -@5 ()[ block 1@1 drop@2 ]- type5[ ]77"
+    );
     Ok(())
 }
 
-/// A function holds what it is made of, and nothing that was read.
+// What a function answers about itself.
+fn push_shape(text: &mut String, function: &LocalFunction) -> Result<(), AllocError> {
+    let pairs = function.instruction_mapping.len();
+    write!(text, " type{} {pairs} {:?}", function.ty().index(), function.original_range)?;
+    for local in &function.args {
+        write!(text, " local{}", local.index())?;
+    }
+    if function.has_entry() {
+        let entry = function.entry_block();
+        write!(text, " entry{} {}", entry.index(), function.block(entry).len())?;
+    }
+    Ok(())
+}
+
+/// A function holds what it is made of, and nothing that was read; its entry can be set.
 #[test]
 fn has_what_it_was_made_of(rt: HostRuntime) -> Result<(), Fail> {
-    let alloc = rt.alloc();
-    let args = vec![in alloc; LocalId::new(3), LocalId::new(1)]?;
-    let mut function = LocalFunction::new(args, function(alloc, 2, &[(1, Made::Drop, 5)])?);
-    let wanted = [LocalId::new(3), LocalId::new(1)];
-    assert_eq!(rt; function.args.as_slice(), wanted.as_slice());
-    assert!(rt; function.instruction_mapping.is_empty());
-    assert_eq!(rt; function.original_range, None);
-    assert_eq!(rt; function.ty(), TypeId::new(0));
-    for (entry, has) in [(2, false), (1, true)] {
-        let entry = InstrSeqId::new(entry);
-        assert_eq!(rt; function.has_block(entry), has);
-        function.builder_mut().set_entry(entry);
-        assert_eq!(rt; function.has_entry(), has);
-        if function.has_entry() {
-            assert_eq!(rt; function.entry_block(), entry);
-            assert_eq!(rt; function.block(entry).len(), 1);
-        }
+    let args = vec![in rt.alloc(); LocalId::new(3), LocalId::new(1)]?;
+    let builder = function(rt.alloc(), 2, &[(1, Made::Drop, 5)])?;
+    let mut function = LocalFunction::new(args, builder);
+    let mut text = String::new(rt.alloc());
+    for entry in [2, 1] {
+        function.builder_mut().set_entry(InstrSeqId::new(entry));
+        push_shape(&mut text, &function)?;
     }
+    assert_eq!(rt;
+        text.as_str(),
+        " type0 0 None local3 local1 type0 0 None local3 local1 entry1 1"
+    );
     Ok(())
 }

@@ -1,5 +1,5 @@
 //! Facts about functions: their sizes, their data segments, and whether they are constant.
-use crate::by_hand::{Made, Use, deep, example};
+use crate::by_hand::{Made, Use, example};
 use crate::cases::{About, AboutMade, check, check_made};
 use std::alloc::{AllocError, Global};
 use std::test::Fail;
@@ -9,7 +9,7 @@ use walrus_ir::{
 };
 
 // The number of instructions from a sequence on.
-fn size(builder: &FunctionBuilder, start: InstrSeqId) -> Result<u64, WalkError> {
+pub(crate) fn size(builder: &FunctionBuilder, start: InstrSeqId) -> Result<u64, WalkError> {
     let mut visitor = SizeVisitor::new();
     dfs_in_order(&mut visitor, builder, start)?;
     Ok(visitor.size)
@@ -113,18 +113,28 @@ fn finds_facts_of_parsed_functions(rt: HostRuntime) -> Result<(), Fail> {
     check(&rt, rt.alloc(), About::Facts, &cases)
 }
 
-/// The size of a tree with every kind of sequence, up to what 64 bits hold, and of a deep one.
+// What counting answers that begins with a number, and what it has then counted.
+fn counted_from(
+    alloc: Global,
+    builder: &FunctionBuilder,
+    before: u64,
+) -> Result<String, AllocError> {
+    let mut visitor = SizeVisitor { size: before };
+    let answer = dfs_in_order(&mut visitor, builder, InstrSeqId::new(0));
+    format!(in alloc; "{answer:?} {}", visitor.size)
+}
+
+/// The size of a tree with every kind of sequence, up to what 64 bits hold.
 #[test]
-fn counts_trees(rt: HostRuntime) -> Result<(), Fail> {
+fn counts_up_to_64_bits(rt: HostRuntime) -> Result<(), Fail> {
     let builder = example(rt.alloc())?;
-    assert_eq!(rt; visited(rt.alloc(), &builder)?.as_str(), "Ok(23)");
-    let mut visitor = SizeVisitor {
-        size: u64::MAX - 22,
-    };
-    let refused = dfs_in_order(&mut visitor, &builder, InstrSeqId::new(0));
-    assert_eq!(rt; refused, Err(WalkError::TooLarge));
-    assert_eq!(rt; visitor.size, u64::MAX);
-    let builder = deep(rt.alloc(), 100_000)?;
-    assert_eq!(rt; size(&builder, InstrSeqId::new(0)), Ok(100_000));
+    for (before, want) in [
+        (0, "Ok(()) 23"),
+        (u64::MAX - 23, "Ok(()) 18446744073709551615"),
+        (u64::MAX - 22, "Err(TooLarge) 18446744073709551615"),
+    ] {
+        let found = counted_from(rt.alloc(), &builder, before)?;
+        assert_eq!(rt; found.as_str(), want);
+    }
     Ok(())
 }

@@ -61,26 +61,34 @@ fn each_space_has_its_ids(rt: HostRuntime) -> Result<(), Fail> {
     let alloc = rt.alloc();
     let mut ids = IndicesToIds::new(alloc);
     for (space, id, _) in SPACES {
-        assert_eq!(rt; push(&mut ids, space, id), Ok(0));
+        push(&mut ids, space, id)?;
     }
     for (space, id, text) in SPACES {
         assert_eq!(rt; get(&ids, space, 0), Ok(id));
-        assert_eq!(rt; shown(alloc, get(&ids, space, 5))?.as_str(), text);
+        let found = shown(alloc, get(&ids, space, 5))?;
+        assert_eq!(rt; found.as_str(), text);
     }
+    Ok(())
+}
+
+// Gives two types old indices, and the first of these to another type.
+fn remap(ids: &mut IndicesToIds) -> Result<(), IndexError> {
+    ids.push_type(TypeId::new(2))?;
+    ids.push_type(TypeId::new(0))?;
+    ids.remap_type(0, TypeId::new(3));
     Ok(())
 }
 
 /// An old index that is given to another id, and the indices beside it.
 #[test]
-fn an_index_is_remapped(rt: HostRuntime) {
+fn an_index_is_remapped(rt: HostRuntime) -> Result<(), Fail> {
     let mut ids = IndicesToIds::new(rt.alloc());
-    assert_eq!(rt; ids.push_type(TypeId::new(2)), Ok(0));
-    assert_eq!(rt; ids.push_type(TypeId::new(0)), Ok(1));
-    ids.remap_type(0, TypeId::new(3));
-    assert_eq!(rt; ids.get_type(0), Ok(TypeId::new(3)));
-    assert_eq!(rt; ids.get_type(1), Ok(TypeId::new(0)));
-    let (space, index) = (Space::Types, 2);
-    assert_eq!(rt; ids.get_type(2), Err(IndexError::OutOfRange { space, index }));
+    remap(&mut ids)?;
+    for (index, want) in [(0, "3"), (1, "0"), (2, "index `2` is out of bounds for types")] {
+        let found = shown(rt.alloc(), get(&ids, Space::Types, index))?;
+        assert_eq!(rt; found.as_str(), want);
+    }
+    Ok(())
 }
 
 /// Each function has locals of its own, in the order in which they were pushed.
@@ -89,8 +97,8 @@ fn each_function_has_its_locals(rt: HostRuntime) -> Result<(), Fail> {
     let alloc = rt.alloc();
     let mut ids = IndicesToIds::new(alloc);
     let function = FunctionId::new(3);
-    for (local, index) in [(7, 0), (4, 1)] {
-        assert_eq!(rt; ids.push_local(function, LocalId::new(local)), Ok(index));
+    for local in [7, 4] {
+        ids.push_local(function, LocalId::new(local))?;
     }
     for (function, index, want) in [
         (3, 0, "7"),
@@ -137,38 +145,46 @@ fn give(numbers: &mut IdsToIndices, space: Space, id: usize) -> Result<(), Index
     }
 }
 
-/// Each space has new indices of its own.
-#[test]
-fn each_space_has_its_numbers(rt: HostRuntime) {
-    let mut numbers = IdsToIndices::new(rt.alloc());
-    for (space, id, _) in SPACES {
-        let unnumbered = IndexError::Unnumbered { space };
-        assert_eq!(rt; number(&numbers, space, id), Err(unnumbered));
-        assert_eq!(rt; give(&mut numbers, space, id), Ok(()));
-        assert_eq!(rt; number(&numbers, space, id), Ok(0));
+// The new index of an id, or the text of the fault.
+fn number_text(
+    alloc: Global,
+    numbers: &IdsToIndices,
+    space: Space,
+    id: usize,
+) -> Result<String, AllocError> {
+    match number(numbers, space, id) {
+        Ok(number) => number.to_string(alloc),
+        Err(error) => error.to_string(alloc),
     }
 }
 
-/// Functions are numbered in the order in which they were pushed.
+/// Each space has new indices of its own, in the order in which ids were pushed.
 #[test]
-fn functions_are_numbered_in_order(rt: HostRuntime) {
+fn each_space_has_its_numbers(rt: HostRuntime) -> Result<(), Fail> {
     let mut numbers = IdsToIndices::new(rt.alloc());
+    for (space, id, _) in SPACES {
+        give(&mut numbers, space, id)?;
+        let found = number_text(rt.alloc(), &numbers, space, id)?;
+        assert_eq!(rt; found.as_str(), "0");
+    }
     for id in [5, 2] {
-        assert_eq!(rt; give(&mut numbers, Space::Funcs, id), Ok(()));
+        give(&mut numbers, Space::Funcs, id)?;
     }
-    let space = Space::Funcs;
-    for (id, want) in [(5, Ok(0)), (2, Ok(1)), (7, Err(IndexError::Unnumbered { space }))] {
-        assert_eq!(rt; number(&numbers, space, id), want);
+    for (id, want) in [(5, "1"), (2, "2"), (7, "an id has no index among funcs")] {
+        let found = number_text(rt.alloc(), &numbers, Space::Funcs, id)?;
+        assert_eq!(rt; found.as_str(), want);
     }
+    Ok(())
 }
 
 /// The new index of a data segment is replaced.
 #[test]
-fn a_data_index_is_replaced(rt: HostRuntime) {
+fn a_data_index_is_replaced(rt: HostRuntime) -> Result<(), Fail> {
     let mut numbers = IdsToIndices::new(rt.alloc());
-    let segment = DataId::new(1);
     for index in [9, 4] {
-        assert_eq!(rt; numbers.set_data_index(segment, index), Ok(()));
+        numbers.set_data_index(DataId::new(1), index)?;
     }
-    assert_eq!(rt; numbers.get_data_index(segment), Ok(4));
+    let found = number_text(rt.alloc(), &numbers, Space::Data, 1)?;
+    assert_eq!(rt; found.as_str(), "4");
+    Ok(())
 }

@@ -20,18 +20,25 @@ pub(crate) struct Example {
     pub indices: IndicesToIds,
 }
 
-// 0 is from nothing to nothing, 1 and 2 are from an `i32` to an `i32`, 3 is no function type, 4 is
-// the entry type for nothing, 5 is from an `i64` to an `f32`, and 6 the entry type for two `i32`.
-fn types(alloc: Global) -> Result<ModuleTypes, AllocError> {
+/// 0 is from nothing to nothing, 1 and 2 are from an `i32` to an `i32`, 3 is no function type, 4 is
+/// the entry type for nothing, 5 is from an `i64` to an `f32`, and 6 the entry type for two `i32`.
+pub(crate) fn types(alloc: Global) -> Result<ModuleTypes, AllocError> {
     let mut types = ModuleTypes::new(alloc);
-    types.add_func(&[], &[])?;
-    types.add_func(&[ValType::I32], &[ValType::I32])?;
-    types.add_func(&[ValType::I32], &[ValType::I32])?;
-    types.add_other()?;
-    types.add_entry(&[])?;
-    types.add_func(&[ValType::I64], &[ValType::F32])?;
-    types.add_entry(&[ValType::I32, ValType::I32])?;
+    for id in 0..7 {
+        add_type(&mut types, id)?;
+    }
     Ok(types)
+}
+
+fn add_type(types: &mut ModuleTypes, id: usize) -> Result<TypeId, AllocError> {
+    match id {
+        0 => types.add_func(&[], &[]),
+        1 | 2 => types.add_func(&[ValType::I32], &[ValType::I32]),
+        3 => types.add_other(),
+        4 => types.add_entry(&[]),
+        5 => types.add_func(&[ValType::I64], &[ValType::F32]),
+        _ => types.add_entry(&[ValType::I32, ValType::I32]),
+    }
 }
 
 // The old types 0 to 3 have the ids 0, 2, 3 and 6; of all else there are one or two.

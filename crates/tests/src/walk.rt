@@ -1,6 +1,7 @@
 //! Walks over functions that are made by hand.
 use crate::by_hand::{Access, Made, Use, deep, example};
 use crate::cases::{AboutMade, check_made};
+use crate::facts::size;
 use crate::recorder::Recorder;
 use std::alloc::{AllocError, Global};
 use std::test::Fail;
@@ -73,7 +74,7 @@ fn tells_names_and_faults(rt: HostRuntime) -> Result<(), Fail> {
     check_made(&rt, rt.alloc(), AboutMade::Walk, &cases)
 }
 
-/// A walk takes no stack for each level.
+/// Neither a walk nor counting takes stack for each level.
 #[test]
 fn walks_a_deep_tree(rt: HostRuntime) -> Result<(), Fail> {
     let builder = deep(rt.alloc(), 100_000)?;
@@ -81,5 +82,6 @@ fn walks_a_deep_tree(rt: HostRuntime) -> Result<(), Fail> {
     let answer = dfs_in_order(&mut recorder, &builder, InstrSeqId::new(0));
     assert_eq!(rt; answer, Ok(()));
     assert_eq!(rt; recorder.calls_left, 0);
+    assert_eq!(rt; size(&builder, InstrSeqId::new(0)), Ok(100_000));
     Ok(())
 }
