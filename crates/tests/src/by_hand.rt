@@ -187,7 +187,10 @@ pub(crate) fn example(alloc: Global) -> Result<FunctionBuilder, AllocError> {
         ],
     )?;
     put(&mut builder, 0, legacy_try(alloc)?, 0)?;
-    put_all(&mut builder, &[(0, Made::Const(10), 10), (0, Made::Drop, 0)])?;
+    put_all(
+        &mut builder,
+        &[(0, Made::Const(10), 10), (0, Made::Drop, 0)],
+    )?;
     Ok(builder)
 }
 
@@ -195,7 +198,12 @@ pub(crate) fn example(alloc: Global) -> Result<FunctionBuilder, AllocError> {
 pub(crate) fn deep(alloc: Global, depth: usize) -> Result<FunctionBuilder, AllocError> {
     let mut builder = sequences(alloc, depth.saturating_add(1))?;
     for slot in 0..depth {
-        put(&mut builder, slot, instr(Made::Block(slot.saturating_add(1))), 0)?;
+        put(
+            &mut builder,
+            slot,
+            instr(Made::Block(slot.saturating_add(1))),
+            0,
+        )?;
     }
     Ok(builder)
 }

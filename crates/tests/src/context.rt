@@ -37,7 +37,11 @@ fn push_frame(text: &mut String, frame: &ControlFrame) -> Result<(), AllocError>
     let (block, start) = (frame.block.index(), frame.start);
     let life = if frame.unreachable { "dead" } else { "alive" };
     let (takes, gives) = (frame.start_types.as_slice(), frame.end_types.as_slice());
-    write!(text, " {:?} {block} {life} {takes:?} {gives:?} {start}", frame.kind)
+    write!(
+        text,
+        " {:?} {block} {life} {takes:?} {gives:?} {start}",
+        frame.kind
+    )
 }
 
 fn kill(context: &mut ValidationContext<'_>, text: &mut String) -> Result<(), AllocError> {
@@ -193,11 +197,7 @@ fn called(alloc: Global, steps: &[Step]) -> Result<String, Fail> {
 }
 
 // Makes calls, each list of which stands before what is wanted.
-fn check_calls(
-    rt: &impl Abort,
-    alloc: Global,
-    cases: &[(&[Step], &str)],
-) -> Result<(), Fail> {
+fn check_calls(rt: &impl Abort, alloc: Global, cases: &[(&[Step], &str)]) -> Result<(), Fail> {
     for (steps, want) in cases {
         let found = called(alloc, steps)?;
         assert_eq!(rt; found.as_str(), *want);
@@ -206,6 +206,7 @@ fn check_calls(
 }
 
 const ENTRY: Step = Step::Push(BlockKind::FunctionEntry, 0, 0);
+
 const BLOCK: Step = Step::Push(BlockKind::Block, 0, 0);
 
 /// Frames that are opened, shown and closed, each with instructions of its own.

@@ -97,9 +97,16 @@ fn a_refused_part_leaves_what_was_written(rt: HostRuntime) -> Result<(), Fail> {
     };
     let location = InstrLocId::new(7);
     let written = emit_three(&Nop { location }, &mut cx);
-    let EmitContext { bytes, code_transform, .. } = cx;
+    let EmitContext {
+        bytes,
+        code_transform,
+        ..
+    } = cx;
     assert_eq!(rt; written, 2);
     assert_eq!(rt; bytes.as_slice(), [0x01, 0x01].as_slice());
-    assert_eq!(rt; code_transform.as_slice(), [(location, 0), (location, 1)].as_slice());
+    assert_eq!(rt;
+        code_transform.as_slice(),
+        [(location, 0), (location, 1)].as_slice()
+    );
     Ok(())
 }

@@ -7,9 +7,7 @@ use crate::small_module::Setting;
 use std::alloc::{AllocError, Global};
 use std::test::Fail;
 use walrus_body::{IdsToIndices, IndexError, LocalFunction};
-use walrus_ir::{
-    FunctionId, IdHashMap, InstrLocId, InstrSeqId, InstrSeqType, LocalId, TypeId,
-};
+use walrus_ir::{FunctionId, IdHashMap, InstrLocId, InstrSeqId, InstrSeqType, LocalId, TypeId};
 use wasm_encode::FunctionEncoder;
 
 // The types 8, 2, 6 and 5 have the new indices 0 to 3, and the function 7 has 0.
@@ -67,15 +65,28 @@ fn writes_what_is_made_by_hand(rt: HostRuntime) -> Result<(), Fail> {
         (0, Made::Br(1), 2),
         (0, Made::Call(0), 3),
     ];
-    let unnumbered = [(0, Made::Drop, 1), (0, Made::Call(0), 2), (0, Made::Br(1), 3)];
+    let unnumbered = [
+        (0, Made::Drop, 1),
+        (0, Made::Call(0), 2),
+        (0, Made::Br(1), 3),
+    ];
     let cases = [
-        (nested.as_slice(), "001a02400c0110000b0b 9@9 1@1 2@2 3@4 4@6 -@8 -@9"),
-        (choice.as_slice(), "0041ac020440050b0b 9@9 1@1 2@4 -@6 -@7 -@8"),
+        (
+            nested.as_slice(),
+            "001a02400c0110000b0b 9@9 1@1 2@2 3@4 4@6 -@8 -@9",
+        ),
+        (
+            choice.as_slice(),
+            "0041ac020440050b0b 9@9 1@1 2@4 -@6 -@7 -@8",
+        ),
         (unknown.as_slice(), "UnknownSequence 00 9@9"),
         (own.as_slice(), "SharedSequence 00 9@9"),
         (shared.as_slice(), "SharedSequence 00 9@9"),
         (outside.as_slice(), "BranchOutside 00 9@9"),
-        (unnumbered.as_slice(), "Index(Unnumbered { space: Funcs }) 00 9@9"),
+        (
+            unnumbered.as_slice(),
+            "Index(Unnumbered { space: Funcs }) 00 9@9",
+        ),
     ];
     check_made(&rt, rt.alloc(), AboutMade::Written, &cases)
 }
@@ -101,6 +112,26 @@ fn writes_what_is_parsed(rt: HostRuntime) -> Result<(), Fail> {
         };
         check(&rt, rt.alloc(), About::Written(setting), &[(body, want)])?;
     }
+    Ok(())
+}
+
+// The bytes of a function that is written without a list of pairs, or the fault.
+fn unlisted(alloc: Global, function: &LocalFunction) -> Result<String, Fail> {
+    let numbers = numbers(alloc)?;
+    let locals = IdHashMap::new(alloc);
+    let mut encoder = FunctionEncoder::new(alloc, &[])?;
+    let answer = write(function, &numbers, &locals, &mut encoder, None);
+    if answer != Some(Ok(())) {
+        return Ok(format!(in alloc; "{answer:?}")?);
+    }
+    Ok(hex::encode(alloc, encoder.bytes())?)
+}
+
+/// A function that is written without a list of pairs has the same bytes.
+#[test]
+fn writes_without_pairs(rt: HostRuntime) -> Result<(), Fail> {
+    let text = unlisted(rt.alloc(), &changed(rt.alloc())?)?;
+    assert_eq!(rt; text.as_str(), "0002030b1a0b");
     Ok(())
 }
 
@@ -138,13 +169,23 @@ fn changes_one_sequence(rt: HostRuntime) -> Result<(), Fail> {
 // What a function answers about itself.
 fn push_shape(text: &mut String, function: &LocalFunction) -> Result<(), AllocError> {
     let pairs = function.instruction_mapping.len();
-    write!(text, " type{} {pairs} {:?}", function.ty().index(), function.original_range)?;
+    write!(
+        text,
+        " type{} {pairs} {:?}",
+        function.ty().index(),
+        function.original_range
+    )?;
     for local in &function.args {
         write!(text, " local{}", local.index())?;
     }
     if function.has_entry() {
         let entry = function.entry_block();
-        write!(text, " entry{} {}", entry.index(), function.block(entry).len())?;
+        write!(
+            text,
+            " entry{} {}",
+            entry.index(),
+            function.block(entry).len()
+        )?;
     }
     Ok(())
 }

@@ -4,9 +4,7 @@ use crate::cases::{About, AboutMade, check, check_made};
 use std::alloc::{AllocError, Global};
 use std::test::Fail;
 use walrus_body::{DataSegmentsVisitor, LocalFunction, SizeVisitor};
-use walrus_ir::{
-    DataId, FunctionBuilder, IdHashSet, InstrSeqId, WalkError, dfs_in_order,
-};
+use walrus_ir::{DataId, FunctionBuilder, IdHashSet, InstrSeqId, WalkError, dfs_in_order};
 
 // The number of instructions from a sequence on.
 pub(crate) fn size(builder: &FunctionBuilder, start: InstrSeqId) -> Result<u64, WalkError> {

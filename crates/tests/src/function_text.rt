@@ -127,7 +127,7 @@ impl fmt::Display for At {
 
 /// The type of a sequence: the number of a type, or the one that it gives.
 #[derive(Clone, Copy)]
-struct Type(InstrSeqType);
+pub(crate) struct Type(pub InstrSeqType);
 
 impl fmt::Display for Type {
     fn fmt<W: fmt::Write>(&self, f: &mut fmt::Formatter<W>) -> fmt::Result {

@@ -9,16 +9,16 @@ use walrus_ir::{
     DataId, ElementId, FunctionId, GlobalId, LocalId, MemoryId, TableId, TagId, TypeId,
 };
 
-// Each space, the number of an id in it, and what is answered where no id has the old index 5.
-const SPACES: [(Space, usize, &str); 8] = [
-    (Space::Tables, 10, "index `5` is out of bounds for tables"),
-    (Space::Types, 11, "index `5` is out of bounds for types"),
-    (Space::Funcs, 12, "index `5` is out of bounds for funcs"),
-    (Space::Globals, 13, "index `5` is out of bounds for globals"),
-    (Space::Memories, 14, "index `5` is out of bounds for memories"),
-    (Space::Elements, 15, "index `5` is out of bounds for elements"),
-    (Space::Data, 16, "index `5` is out of bounds for data"),
-    (Space::Tags, 17, "index `5` is out of bounds for tags"),
+// Each space, and the number of an id in it.
+const SPACES: [(Space, usize); 8] = [
+    (Space::Tables, 10),
+    (Space::Types, 11),
+    (Space::Funcs, 12),
+    (Space::Globals, 13),
+    (Space::Memories, 14),
+    (Space::Elements, 15),
+    (Space::Data, 16),
+    (Space::Tags, 17),
 ];
 
 fn push(ids: &mut IndicesToIds, space: Space, id: usize) -> Result<u32, IndexError> {
@@ -55,18 +55,45 @@ fn shown(alloc: Global, answer: Result<usize, IndexError>) -> Result<String, All
     }
 }
 
+// An id in each space.
+fn ids_of_spaces(alloc: Global) -> Result<IndicesToIds, IndexError> {
+    let mut ids = IndicesToIds::new(alloc);
+    for (space, id) in SPACES {
+        push(&mut ids, space, id)?;
+    }
+    Ok(ids)
+}
+
+// What is answered in a space about the old indices 0 and 5.
+fn answers(alloc: Global, ids: &IndicesToIds, space: Space) -> Result<String, AllocError> {
+    let mut text = shown(alloc, get(ids, space, 0))?;
+    write!(text, ", ")?;
+    text.push_str(shown(alloc, get(ids, space, 5))?.as_str())?;
+    Ok(text)
+}
+
 /// Each space has ids of its own, and is named where an index has none.
 #[test]
 fn each_space_has_its_ids(rt: HostRuntime) -> Result<(), Fail> {
-    let alloc = rt.alloc();
-    let mut ids = IndicesToIds::new(alloc);
-    for (space, id, _) in SPACES {
-        push(&mut ids, space, id)?;
-    }
-    for (space, id, text) in SPACES {
-        assert_eq!(rt; get(&ids, space, 0), Ok(id));
-        let found = shown(alloc, get(&ids, space, 5))?;
-        assert_eq!(rt; found.as_str(), text);
+    let ids = ids_of_spaces(rt.alloc())?;
+    for (space, want) in [
+        (Space::Tables, "10, index `5` is out of bounds for tables"),
+        (Space::Types, "11, index `5` is out of bounds for types"),
+        (Space::Funcs, "12, index `5` is out of bounds for funcs"),
+        (Space::Globals, "13, index `5` is out of bounds for globals"),
+        (
+            Space::Memories,
+            "14, index `5` is out of bounds for memories",
+        ),
+        (
+            Space::Elements,
+            "15, index `5` is out of bounds for elements",
+        ),
+        (Space::Data, "16, index `5` is out of bounds for data"),
+        (Space::Tags, "17, index `5` is out of bounds for tags"),
+    ] {
+        let found = answers(rt.alloc(), &ids, space)?;
+        assert_eq!(rt; found.as_str(), want);
     }
     Ok(())
 }
@@ -84,7 +111,11 @@ fn remap(ids: &mut IndicesToIds) -> Result<(), IndexError> {
 fn an_index_is_remapped(rt: HostRuntime) -> Result<(), Fail> {
     let mut ids = IndicesToIds::new(rt.alloc());
     remap(&mut ids)?;
-    for (index, want) in [(0, "3"), (1, "0"), (2, "index `2` is out of bounds for types")] {
+    for (index, want) in [
+        (0, "3"),
+        (1, "0"),
+        (2, "index `2` is out of bounds for types"),
+    ] {
         let found = shown(rt.alloc(), get(&ids, Space::Types, index))?;
         assert_eq!(rt; found.as_str(), want);
     }
@@ -106,7 +137,9 @@ fn each_function_has_its_locals(rt: HostRuntime) -> Result<(), Fail> {
         (3, 5, "index `5` in function `3` is out of bounds for local"),
         (2, 0, "function index `2` is out of bounds for local"),
     ] {
-        let found = ids.get_local(FunctionId::new(function), index).map(LocalId::index);
+        let found = ids
+            .get_local(FunctionId::new(function), index)
+            .map(LocalId::index);
         assert_eq!(rt; shown(alloc, found)?.as_str(), want);
     }
     Ok(())
@@ -158,20 +191,37 @@ fn number_text(
     }
 }
 
-/// Each space has new indices of its own, in the order in which ids were pushed.
-#[test]
-fn each_space_has_its_numbers(rt: HostRuntime) -> Result<(), Fail> {
-    let mut numbers = IdsToIndices::new(rt.alloc());
-    for (space, id, _) in SPACES {
+// An id in each space, and two functions more.
+fn numbers_of_spaces(alloc: Global) -> Result<IdsToIndices, IndexError> {
+    let mut numbers = IdsToIndices::new(alloc);
+    for (space, id) in SPACES {
         give(&mut numbers, space, id)?;
-        let found = number_text(rt.alloc(), &numbers, space, id)?;
-        assert_eq!(rt; found.as_str(), "0");
     }
     for id in [5, 2] {
         give(&mut numbers, Space::Funcs, id)?;
     }
-    for (id, want) in [(5, "1"), (2, "2"), (7, "an id has no index among funcs")] {
-        let found = number_text(rt.alloc(), &numbers, Space::Funcs, id)?;
+    Ok(numbers)
+}
+
+/// Each space has new indices of its own, in the order in which ids were pushed.
+#[test]
+fn each_space_has_its_numbers(rt: HostRuntime) -> Result<(), Fail> {
+    let numbers = numbers_of_spaces(rt.alloc())?;
+    for (space, id, want) in [
+        (Space::Tables, 10, "0"),
+        (Space::Types, 11, "0"),
+        (Space::Funcs, 12, "0"),
+        (Space::Funcs, 5, "1"),
+        (Space::Funcs, 2, "2"),
+        (Space::Funcs, 7, "an id has no index among funcs"),
+        (Space::Globals, 13, "0"),
+        (Space::Memories, 14, "0"),
+        (Space::Elements, 15, "0"),
+        (Space::Data, 16, "0"),
+        (Space::Tags, 17, "0"),
+        (Space::Tags, 10, "an id has no index among tags"),
+    ] {
+        let found = number_text(rt.alloc(), &numbers, space, id)?;
         assert_eq!(rt; found.as_str(), want);
     }
     Ok(())

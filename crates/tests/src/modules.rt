@@ -1,5 +1,7 @@
 //! Modules, and the types that they hold.
+use crate::function_text::Type;
 use crate::small_module::types;
+use std::alloc::{AllocError, Global};
 use std::test::Fail;
 use walrus_ir::{
     InstrLocId, InstrSeqType, ModuleLocals, ModuleTags, ModuleTypes, TagId, TypeId, ValType,
@@ -13,13 +15,16 @@ fn number(ty: Option<TypeId>) -> usize {
     }
 }
 
-// The type that is picked from and to so many `i32`: its number, or 50 and the number of results.
-fn picked(types: &ModuleTypes, params: &[ValType], results: &[ValType]) -> usize {
+// The type that is picked for these lists.
+fn picked(
+    alloc: Global,
+    types: &ModuleTypes,
+    params: &[ValType],
+    results: &[ValType],
+) -> Result<String, AllocError> {
     match InstrSeqType::existing(types, params, results) {
-        Some(InstrSeqType::MultiValue(ty)) => ty.index(),
-        Some(InstrSeqType::Simple(None)) => 50,
-        Some(InstrSeqType::Simple(Some(_))) => 51,
-        None => 100,
+        Some(ty) => format!(in alloc; "{}", Type(ty)),
+        None => "none".to_string(alloc),
     }
 }
 
@@ -29,21 +34,32 @@ fn finds_types(rt: HostRuntime) -> Result<(), Fail> {
     let types = types(rt.alloc())?;
     let values = [ValType::I32, ValType::I32];
     for (params, results, pick, found) in [
-        (0, 0, 50, 0),
-        (0, 1, 51, 100),
-        (0, 2, 100, 100),
-        (1, 0, 100, 100),
-        (1, 1, 1, 1),
-        (2, 1, 100, 100),
+        (0, 0, "()", 0),
+        (0, 1, "I32", 100),
+        (0, 2, "none", 100),
+        (1, 0, "none", 100),
+        (1, 1, "type1", 1),
+        (2, 1, "none", 100),
     ] {
         let (params, results) = (&values[..params], &values[..results]);
-        assert_eq!(rt; picked(&types, params, results), pick);
+        let found_pick = picked(rt.alloc(), &types, params, results)?;
+        assert_eq!(rt; found_pick.as_str(), pick);
         assert_eq!(rt; number(types.find(params, results)), found);
     }
     for (results, want) in [(0, 4), (1, 100), (2, 6)] {
-        assert_eq!(rt; number(types.find_for_function_entry(&values[..results])), want);
+        assert_eq!(rt;
+            number(types.find_for_function_entry(&values[..results])),
+            want
+        );
     }
-    for (id, want) in [(0, true), (2, true), (3, false), (4, true), (6, true), (7, false)] {
+    for (id, want) in [
+        (0, true),
+        (2, true),
+        (3, false),
+        (4, true),
+        (6, true),
+        (7, false),
+    ] {
         assert_eq!(rt; types.is_func(TypeId::new(id)), want, "at {id}");
     }
     Ok(())

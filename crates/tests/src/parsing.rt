@@ -62,7 +62,10 @@ fn gives_instructions(rt: HostRuntime) -> Result<(), Fail> {
             "1001110100110001000b",
             " type4[ call 11@0 call_indirect 2 22@2 call_indirect 0 21@5 unreachable@8 ]9",
         ),
-        ("230024001a0b", " type4[ global.get 31@0 global.set 31@2 drop@4 ]5"),
+        (
+            "230024001a0b",
+            " type4[ global.get 31@0 global.set 31@2 drop@4 ]5",
+        ),
         (
             "25012600fc0f01fc1000fc11010b",
             " type4[ table.get 21@0 table.set 22@2 table.grow 21@4 table.size 22@7 \
@@ -143,7 +146,11 @@ fn counts_places(rt: HostRuntime) -> Result<(), Fail> {
         (at(0, 4294967293, 1), "00010b", refused),
         (at(0, 4294967293, 2), "00010b", refused),
         (at(0, 4294967294, 1), "00010b", refused),
-        (at(0, 4294967295, 1), "00010b", "PlaceTooGreat at 4294967296"),
+        (
+            at(0, 4294967295, 1),
+            "00010b",
+            "PlaceTooGreat at 4294967296",
+        ),
     ] {
         check(&rt, rt.alloc(), about, &[(body, want)])?;
     }

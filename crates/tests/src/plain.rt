@@ -4,9 +4,7 @@ ghost use Rattle.std.specs.Prelude.{◌≡◌, IsTrue};
 ghost use Rattle.tests.specs.PlainTrees.{is_plain, are_plain, AreAllPlain};
 
 use walrus_body::{EmitError, IdsToIndices, LocalFunction};
-use walrus_ir::{
-    Const, FunctionBuilder, IdHashMap, Instr, InstrLocId, InstrSeqId, LocalId, Value,
-};
+use walrus_ir::{Const, FunctionBuilder, IdHashMap, Instr, InstrLocId, InstrSeqId, LocalId, Value};
 use wasm_encode::FunctionEncoder;
 
 /// Whether it is a `block`, an `if`, a `br`, a `call`, a `drop` or an `i32.const`.

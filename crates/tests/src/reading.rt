@@ -36,7 +36,10 @@ fn reads_one_after_the_other(rt: HostRuntime) -> Result<(), Fail> {
             Load { kind: I32 { atomic: false }, \
             memarg: RawMemArg { exponent: 2, memory: 0, offset: 4294967296 } } 112",
         ),
-        ("010141", " Nop 101 Nop 102 ReadError { fault: Truncated, at: 102 }"),
+        (
+            "010141",
+            " Nop 101 Nop 102 ReadError { fault: Truncated, at: 102 }",
+        ),
         (
             "02400340047f050d01",
             " Block { ty: Empty } 102 Loop { ty: Empty } 104 If { ty: Value(I32) } 106 Else 107 \

@@ -63,21 +63,39 @@ fn refuses_bodies(rt: HostRuntime) -> Result<(), Fail> {
         ),
         ("0f0c050b", "NoSuchLabel at 1"),
         ("02400c020b0b", "NoSuchLabel at 2"),
-        ("02040b0b", "Index(OutOfRange { space: Types, index: 4 }) at 0"),
+        (
+            "02040b0b",
+            "Index(OutOfRange { space: Types, index: 4 }) at 0",
+        ),
         ("02500b0b", "Read(ReadError { fault: BadType, at: 0 }) at 0"),
         (
             "41002820001a0b",
             "Read(ReadError { fault: BadMemArg, at: 2 }) at 2",
         ),
-        ("288001000b", "Read(ReadError { fault: BadMemArg, at: 0 }) at 0"),
-        ("284101000b", "Index(OutOfRange { space: Memories, index: 1 }) at 0"),
-        ("1c027f7f0b", "Read(ReadError { fault: BadSelect, at: 0 }) at 0"),
+        (
+            "288001000b",
+            "Read(ReadError { fault: BadMemArg, at: 0 }) at 0",
+        ),
+        (
+            "284101000b",
+            "Index(OutOfRange { space: Memories, index: 1 }) at 0",
+        ),
+        (
+            "1c027f7f0b",
+            "Read(ReadError { fault: BadSelect, at: 0 }) at 0",
+        ),
         (
             "fc12000b",
             "Read(ReadError { fault: UnknownOperator, at: 0 }) at 0",
         ),
-        ("23010b", "Index(OutOfRange { space: Globals, index: 1 }) at 0"),
-        ("fc088100000b", "Index(OutOfRange { space: Data, index: 1 }) at 0"),
+        (
+            "23010b",
+            "Index(OutOfRange { space: Globals, index: 1 }) at 0",
+        ),
+        (
+            "fc088100000b",
+            "Index(OutOfRange { space: Data, index: 1 }) at 0",
+        ),
     ];
     check(&rt, rt.alloc(), About::Rewritten, &cases)
 }

@@ -6,7 +6,8 @@ use crate::validators::Telling;
 use std::alloc::{AllocError, Global};
 use std::test::Fail;
 use walrus_body::{
-    AcceptAll, FunctionBody, IndexError, IndicesToIds, LocalFunction, OpCheck, ParseError, ParseFailure,
+    AcceptAll, FunctionBody, IndexError, IndicesToIds, LocalFunction, OpCheck, ParseError,
+    ParseFailure,
 };
 use walrus_ir::{
     DataId, ElementId, FunctionId, GlobalId, Instr, InstrLocId, LocalId, MemoryId, Module,
@@ -137,11 +138,21 @@ pub(crate) fn parse_lent<V: OpCheck>(
     if setting.located {
         let locate = |place: &usize| doubled(*place);
         LocalFunction::parse(
-            module, indices, id, ty, args, body, Some(&locate), validator, instrs,
+            module,
+            indices,
+            id,
+            ty,
+            args,
+            body,
+            Some(&locate),
+            validator,
+            instrs,
         )
     } else {
         let locate: Option<&fn(&usize) -> InstrLocId> = None;
-        LocalFunction::parse(module, indices, id, ty, args, body, locate, validator, instrs)
+        LocalFunction::parse(
+            module, indices, id, ty, args, body, locate, validator, instrs,
+        )
     }
 }
 

@@ -27,8 +27,7 @@ pub(crate) fn walked(
 #[test]
 fn walks_in_order(rt: HostRuntime) -> Result<(), Fail> {
     let builder = example(rt.alloc())?;
-    let whole =
-        " start0 const1 drop0 block0 start1 const2 drop0 if-else0 start2 const3 drop0 end2 \
+    let whole = " start0 const1 drop0 block0 start1 const2 drop0 if-else0 start2 const3 drop0 end2 \
         start3 const4 drop0 end2 const5 drop0 end5 const6 drop0 try0 start4 const7 drop0 end2 \
         start5 const8 drop0 end2 start6 const9 drop0 end2 const10 drop0 end8";
     for (start, calls, want) in [

@@ -39,7 +39,10 @@ fn writes_operators(rt: HostRuntime) -> Result<(), Fail> {
     write_op(&OutOp::CallIndirect { ty: 0, table: 0 }, &mut out)?;
     write_op(&OutOp::CallIndirect { ty: 3, table: 1 }, &mut out)?;
     let text = hex::encode(rt.alloc(), out)?;
-    assert_eq!(rt; text.as_str(), "2802808080801003c000047c050d80011005110000110301");
+    assert_eq!(rt;
+        text.as_str(),
+        "2802808080801003c000047c050d80011005110000110301"
+    );
     Ok(())
 }
 
