@@ -166,8 +166,8 @@ fn call(
     }
 }
 
-// What calls answer in a context without open frames, and behind a bar the frames that are then open
-// and all sequences.
+// What calls answer in a context without open frames, and behind a bar the frames that are then
+// open and all sequences.
 fn called(alloc: Global, steps: &[Step]) -> Result<String, Fail> {
     let example = Example::new(alloc, 0)?;
     let mut text = String::new(alloc);
@@ -232,16 +232,6 @@ fn opens_and_closes_frames(rt: HostRuntime) -> Result<(), Fail> {
         Step::Show(2),
         Step::Show(3),
     ];
-    let around = [
-        ENTRY,
-        Step::PutAround(Made::Drop, 6),
-        Step::PutHere(Made::Call(3), 7),
-        Step::Pop,
-        Step::Kill,
-        Step::PutAround(Made::Drop, 8),
-        Step::Pop,
-        Step::Pop,
-    ];
     let cases = [
         (
             closed.as_slice(),
@@ -254,12 +244,28 @@ fn opens_and_closes_frames(rt: HostRuntime) -> Result<(), Fail> {
             FunctionEntry 0 alive [] [] 0 NoSuchLabel | FunctionEntry 0 alive [] [] 0 \
             If 1 alive [I32] [I32] 0 Block 2 dead [I32] [I32] 0 type4[ ]- type2[ ]- type1[ ]-",
         ),
-        (
-            around.as_slice(),
-            " 0 ok ok Block 1 alive [] [] 0 of 1 ok ok Block 2 alive [] [] 0 of 2 \
-            FunctionEntry 0 dead [] [] 0 of 0 | ()[ drop@6 ]- ()[ call 3@7 ]- ()[ ]-",
-        ),
     ];
+    check_calls(&rt, rt.alloc(), &cases)
+}
+
+/// Instructions go to the innermost frame or to the one around it, and nowhere where it is dead.
+#[test]
+fn appends_to_frames(rt: HostRuntime) -> Result<(), Fail> {
+    let around = [
+        ENTRY,
+        Step::PutAround(Made::Drop, 6),
+        Step::PutHere(Made::Call(3), 7),
+        Step::Pop,
+        Step::Kill,
+        Step::PutAround(Made::Drop, 8),
+        Step::Pop,
+        Step::Pop,
+    ];
+    let cases = [(
+        around.as_slice(),
+        " 0 ok ok Block 1 alive [] [] 0 of 1 ok ok Block 2 alive [] [] 0 of 2 \
+            FunctionEntry 0 dead [] [] 0 of 0 | ()[ drop@6 ]- ()[ call 3@7 ]- ()[ ]-",
+    )];
     check_calls(&rt, rt.alloc(), &cases)
 }
 

@@ -153,8 +153,8 @@ fn changed(alloc: Global) -> Result<LocalFunction, AllocError> {
     Ok(function)
 }
 
-/// A sequence that is changed through `block_mut` is changed alone, and its type is written as it is
-/// named, not as an equal one.
+/// A sequence that is changed through `block_mut` is changed alone, and its type is written as it
+/// is named, not as an equal one.
 #[test]
 fn changes_one_sequence(rt: HostRuntime) -> Result<(), Fail> {
     let mut text = written(rt.alloc(), &changed(rt.alloc())?)?;

@@ -2,11 +2,12 @@
 
 use std::alloc::AllocError;
 use std::fmt;
-use walrus_body::LocalFunction;
+use walrus_body::{IndexError, LocalFunction, ParseError};
 use walrus_ir::{
     BinaryOp, BrTable, Const, Instr, InstrLocId, InstrSeq, InstrSeqId, InstrSeqType, Load, Store,
     UnaryOp, ValType, Value,
 };
+use wasm_ops::ReadError;
 
 /// An instruction: its name, and the numbers of its ids.
 #[derive(Clone, Copy)]
@@ -175,4 +176,20 @@ pub(crate) fn function_text(function: &LocalFunction) -> Result<String, AllocErr
     }
     push_sequences(&mut text, function)?;
     Ok(text)
+}
+
+/// Why a body isn't parsed: the name of the fault, with what it holds.
+#[derive(Clone, Copy)]
+pub(crate) struct Fault(pub ParseError);
+
+impl fmt::Display for Fault {
+    fn fmt<W: fmt::Write>(&self, f: &mut fmt::Formatter<W>) -> fmt::Result {
+        match self.0 {
+            ParseError::Read(ReadError { fault, at }) => write!(f, "{fault:?} {at}"),
+            ParseError::Index(IndexError::OutOfRange { space, index }) => {
+                write!(f, "{space:?} {index}")
+            }
+            error => write!(f, "{error:?}"),
+        }
+    }
 }

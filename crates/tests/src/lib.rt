@@ -1,5 +1,7 @@
-//! Tests of what no contract says: worked rows and cases from outside, printed texts, the laws' calls, and that each call
-//! that takes memory succeeds where memory is left.
+//! Tests of what no contract says: worked rows and cases from outside, printed texts, the laws'
+//! calls, and that each call that takes memory succeeds where memory is left. A test is a table of
+//! texts or of functions that are made by hand, each beside the text that is wanted (`cases`): a
+//! function that holds a large value over many calls or assertions takes minutes to prove.
 #![tactic(auto)]
 
 #[cfg(test)]

@@ -80,6 +80,14 @@ fn gives_instructions(rt: HostRuntime) -> Result<(), Fail> {
             " type4[ memory.size 41@0 memory.grow 41@2 memory.init 61 41@4 data.drop 62@8 \
             memory.copy 41 41@11 memory.fill 41@15 ]18",
         ),
+    ];
+    check(&rt, rt.alloc(), About::Entry, &cases)
+}
+
+/// Constants, numeric operators, and accesses with their alignments and offsets.
+#[test]
+fn gives_constants_and_accesses(rt: HostRuntime) -> Result<(), Fail> {
+    let cases = [
         (
             "417f4181004240430000c07f0b",
             " type4[ i32.const -1@0 i32.const 1@2 i64.const -64@5 f32.const 2143289344@7 ]12",

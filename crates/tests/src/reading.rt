@@ -13,7 +13,10 @@ pub(crate) fn read_all(alloc: Global, bytes: &str, start: u32) -> Result<String,
     let bytes = hex::decode(alloc, bytes)?;
     let mut text = String::new(alloc);
     let mut reader = Reader::new(&bytes, start as usize);
-    while !reader.eof() {
+    for _ in 0..bytes.len() {
+        if reader.eof() {
+            break;
+        }
         match reader.read() {
             Ok(operator) => write!(text, " {operator:?}")?,
             Err(error) => {

@@ -1,7 +1,7 @@
 //! A module whose ids aren't its old indices, and what its functions' bodies give.
 ghost use Rattle.std.specs.Prelude.{◌≡◌, IfOk};
 
-use crate::function_text::{function_text, push_sequence};
+use crate::function_text::{Fault, function_text, push_sequence};
 use crate::validators::Telling;
 use std::alloc::{AllocError, Global};
 use std::test::Fail;
@@ -176,7 +176,7 @@ pub(crate) fn parsed_by<V: OpCheck>(
     let mut instrs = Vec::new(alloc);
     match parse_lent(alloc, setting, body, validator, &mut instrs) {
         Ok(function) => function_text(&function),
-        Err(failure) => format!(in alloc; "{:?} at {}", failure.error, failure.at),
+        Err(failure) => format!(in alloc; "{} at {}", Fault(failure.error), failure.at),
     }
 }
 
