@@ -2,76 +2,208 @@
 use crate::lent::append;
 use std::alloc::{AllocError, Global};
 use walrus_ir::{
-    Block, Const, FunctionBuilder, IfElse, Instr, InstrLocId, InstrSeqId, InstrSeqType,
-    LegacyCatch, TagId, Try, TypeId, Value,
+    ArrayInitData, ArrayNewData, Block, Br, Call, Const, DataDrop, DataId, FunctionBuilder,
+    FunctionId, IfElse, Instr, InstrLocId, InstrSeqId, InstrSeqType, LegacyCatch, LocalGet,
+    LocalId, LocalSet, LocalTee, MemoryId, MemoryInit, RefFunc, TagId, Try, TypeId, Value,
 };
 
-// Appends an instruction to a sequence.
+/// An instruction, with the numbers of its ids.
+#[derive(Clone, Copy)]
+pub(crate) enum Made {
+    Drop,
+    Const(u16),
+    Block(usize),
+    IfElse(usize, usize),
+    Br(usize),
+    Call(usize),
+    Local(Access, usize),
+    RefFunc(usize),
+    Data(Use, usize),
+}
+
+/// What is done with a local.
+#[derive(Clone, Copy)]
+pub(crate) enum Access {
+    Get,
+    Set,
+    Tee,
+}
+
+/// What is done with a data segment.
+#[derive(Clone, Copy)]
+pub(crate) enum Use {
+    Init,
+    Drop,
+    NewArray,
+    InitArray,
+}
+
+fn on_local(access: Access, local: LocalId) -> Instr {
+    match access {
+        Access::Get => Instr::LocalGet(LocalGet { local }),
+        Access::Set => Instr::LocalSet(LocalSet { local }),
+        Access::Tee => Instr::LocalTee(LocalTee { local }),
+    }
+}
+
+fn on_data(usage: Use, data_id: DataId) -> Instr {
+    let ty = TypeId::new(0);
+    let memory = MemoryId::new(0);
+    match usage {
+        Use::Init => Instr::MemoryInit(MemoryInit { memory, data_id }),
+        Use::Drop => Instr::DataDrop(DataDrop { data_id }),
+        Use::NewArray => Instr::ArrayNewData(ArrayNewData { ty, data_id }),
+        Use::InitArray => Instr::ArrayInitData(ArrayInitData { ty, data_id }),
+    }
+}
+
+fn if_else(consequent: usize, alternative: usize) -> Instr {
+    let (consequent, alternative) = (InstrSeqId::new(consequent), InstrSeqId::new(alternative));
+    Instr::IfElse(IfElse {
+        consequent,
+        alternative,
+    })
+}
+
+fn constant(value: u16) -> Instr {
+    let value = Value::I32(i32::from(value));
+    Instr::Const(Const { value })
+}
+
+pub(crate) fn instr(made: Made) -> Instr {
+    match made {
+        Made::Drop => Instr::Drop,
+        Made::Const(value) => constant(value),
+        Made::Block(n) => Instr::Block(Block {
+            seq: InstrSeqId::new(n),
+        }),
+        Made::IfElse(consequent, alternative) => if_else(consequent, alternative),
+        Made::Br(n) => Instr::Br(Br {
+            block: InstrSeqId::new(n),
+        }),
+        Made::Call(n) => Instr::Call(Call {
+            func: FunctionId::new(n),
+        }),
+        Made::Local(access, n) => on_local(access, LocalId::new(n)),
+        Made::RefFunc(n) => Instr::RefFunc(RefFunc {
+            func: FunctionId::new(n),
+        }),
+        Made::Data(usage, n) => on_data(usage, DataId::new(n)),
+    }
+}
+
+/// Appends an instruction to the sequence at a slot, where there is one.
 pub(crate) fn put(
     builder: &mut FunctionBuilder,
-    seq: InstrSeqId,
+    slot: usize,
     instr: Instr,
-    loc: u32,
+    location: u16,
 ) -> Result<(), AllocError> {
-    if builder.has(seq) && loc != u32::MAX {
-        append(builder, seq, instr, InstrLocId::new(loc))?;
+    let seq = InstrSeqId::new(slot);
+    if builder.has(seq) {
+        append(builder, seq, instr, InstrLocId::new(u32::from(location)))?;
     }
     Ok(())
 }
 
-// A constant, at the location that is its value, and a `drop`.
-pub(crate) fn put_const(
-    builder: &mut FunctionBuilder,
-    seq: InstrSeqId,
-    value: u16,
-) -> Result<(), AllocError> {
-    let constant = Const {
-        value: Value::I32(i32::from(value)),
-    };
-    put(builder, seq, Instr::Const(constant), u32::from(value))?;
-    put(builder, seq, Instr::Drop, 0)
+/// An instruction, with the slot of its sequence before it and its location behind it.
+pub(crate) type Item = (usize, Made, u16);
+
+/// Appends instructions.
+pub(crate) fn put_all(builder: &mut FunctionBuilder, instrs: &[Item]) -> Result<(), AllocError> {
+    for (slot, made, location) in instrs {
+        put(builder, *slot, instr(*made), *location)?;
+    }
+    Ok(())
 }
 
-pub(crate) fn empty(builder: &mut FunctionBuilder) -> Result<InstrSeqId, AllocError> {
-    builder.alloc(InstrSeqType::Simple(None))
-}
-
-// An entry of 8 instructions; in it a block of 5, in which an if-else has 2 and 2, and a `try` with a body and two
-// handlers of 2 each. One sequence more has 2 and is in no other.
-pub(crate) fn example(alloc: Global) -> Result<(FunctionBuilder, InstrSeqId), AllocError> {
+/// A builder with so many sequences from nothing to nothing, of which the first is the entry.
+pub(crate) fn sequences(alloc: Global, count: usize) -> Result<FunctionBuilder, AllocError> {
     let mut builder = FunctionBuilder::without_entry(alloc, TypeId::new(0));
-    let b = &mut builder;
-    let entry = empty(b)?;
-    let block = empty(b)?;
-    let consequent = empty(b)?;
-    let alternative = empty(b)?;
-    let body = empty(b)?;
-    let first = empty(b)?;
-    let second = empty(b)?;
-    let unused = empty(b)?;
-    put_const(b, entry, 1)?;
-    put(b, entry, Instr::Block(Block { seq: block }), 0)?;
-    put_const(b, entry, 6)?;
-    let mut catches = Vec::new(alloc);
-    catches.push(LegacyCatch::Catch {
-        tag: TagId::new(0),
-        handler: first,
-    })?;
-    catches.push(LegacyCatch::CatchAll { handler: second })?;
-    put(b, entry, Instr::Try(Try { seq: body, catches }), 0)?;
-    put_const(b, entry, 10)?;
-    put_const(b, block, 2)?;
-    let choice = IfElse {
-        consequent,
-        alternative,
-    };
-    put(b, block, Instr::IfElse(choice), 0)?;
-    put_const(b, block, 5)?;
-    put_const(b, consequent, 3)?;
-    put_const(b, alternative, 4)?;
-    put_const(b, body, 7)?;
-    put_const(b, first, 8)?;
-    put_const(b, second, 9)?;
-    put_const(b, unused, 11)?;
-    Ok((builder, entry))
+    for _ in 0..count {
+        builder.alloc(InstrSeqType::Simple(None))?;
+    }
+    builder.set_entry(InstrSeqId::new(0));
+    Ok(builder)
+}
+
+/// So many sequences, with these instructions.
+pub(crate) fn function(
+    alloc: Global,
+    count: usize,
+    instrs: &[Item],
+) -> Result<FunctionBuilder, AllocError> {
+    let mut builder = sequences(alloc, count)?;
+    put_all(&mut builder, instrs)?;
+    Ok(builder)
+}
+
+// A `try` of the sequence 4, with a `catch` that has 5 and a `catch_all` that has 6.
+fn legacy_try(alloc: Global) -> Result<Instr, AllocError> {
+    let clauses = [
+        LegacyCatch::Catch {
+            tag: TagId::new(0),
+            handler: InstrSeqId::new(5),
+        },
+        LegacyCatch::CatchAll {
+            handler: InstrSeqId::new(6),
+        },
+    ];
+    let seq = InstrSeqId::new(4);
+    let catches = Vec::from_slice(alloc, &clauses)?;
+    Ok(Instr::Try(Try { seq, catches }))
+}
+
+/// An entry of 8 instructions; in it a block of 5, in which an if-else has 2 and 2, and a `try`
+/// with a body and two handlers of 2 each. One sequence more has 2 and is in no other. Each constant has
+/// the location that is its value.
+pub(crate) fn example(alloc: Global) -> Result<FunctionBuilder, AllocError> {
+    let mut builder = function(
+        alloc,
+        8,
+        &[
+            (0, Made::Const(1), 1),
+            (0, Made::Drop, 0),
+            (0, Made::Block(1), 0),
+            (0, Made::Const(6), 6),
+            (0, Made::Drop, 0),
+            (1, Made::Const(2), 2),
+            (1, Made::Drop, 0),
+            (1, Made::IfElse(2, 3), 0),
+            (1, Made::Const(5), 5),
+            (1, Made::Drop, 0),
+            (2, Made::Const(3), 3),
+            (2, Made::Drop, 0),
+            (3, Made::Const(4), 4),
+            (3, Made::Drop, 0),
+            (4, Made::Const(7), 7),
+            (4, Made::Drop, 0),
+            (5, Made::Const(8), 8),
+            (5, Made::Drop, 0),
+            (6, Made::Const(9), 9),
+            (6, Made::Drop, 0),
+            (7, Made::Const(11), 11),
+            (7, Made::Drop, 0),
+        ],
+    )?;
+    put(&mut builder, 0, legacy_try(alloc)?, 0)?;
+    put_all(
+        &mut builder,
+        &[(0, Made::Const(10), 10), (0, Made::Drop, 0)],
+    )?;
+    Ok(builder)
+}
+
+/// Sequences in one another, so many.
+pub(crate) fn deep(alloc: Global, depth: usize) -> Result<FunctionBuilder, AllocError> {
+    let mut builder = sequences(alloc, depth.saturating_add(1))?;
+    for slot in 0..depth {
+        put(
+            &mut builder,
+            slot,
+            instr(Made::Block(slot.saturating_add(1))),
+            0,
+        )?;
+    }
+    Ok(builder)
 }

@@ -1,101 +1,336 @@
 //! Contexts of a parse, whose calls are made by hand.
+use crate::by_hand::{Made, instr};
+use crate::function_text::push_sequence;
+use crate::small_module::Example;
+use std::alloc::{AllocError, Global};
+use std::process::Abort;
 use std::test::Fail;
-use walrus_body::{IndicesToIds, ParseError, ValidationContext};
+use walrus_body::{ControlFrame, ParseError, ValidationContext};
 use walrus_ir::{
-    BlockKind, FunctionBuilder, FunctionId, Instr, InstrLocId, InstrSeqId, LegacyCatch, Module,
-    ModuleItems, ModuleTypes, Try, TypeId, ValType,
+    BlockKind, FunctionBuilder, FunctionId, Instr, InstrLocId, InstrSeqId, LegacyCatch, Try,
+    TypeId, ValType,
 };
 
-#[test]
-fn opens_and_closes_frames(rt: HostRuntime) -> Result<(), Fail> {
-    let module = Module {
-        types: ModuleTypes::new(rt.alloc()),
-        tags: ModuleItems::new(rt.alloc()),
-        locals: ModuleItems::new(rt.alloc()),
-        code_section_offset: 0,
-    };
-    let indices = IndicesToIds::new(rt.alloc());
-    let builder = FunctionBuilder::without_entry(rt.alloc(), TypeId::new(0));
+/// A call of a context.
+#[derive(Clone, Copy)]
+enum Step {
+    /// `push_control` of a frame that takes and gives so many `i32`.
+    Push(BlockKind, usize, usize),
+    PushWithTy(BlockKind, usize),
+    Pop,
+    Kill,
+    Show(usize),
+    /// `alloc_instr`, at a location.
+    Put(Made, u16),
+    /// `alloc_instr` of a `try` of a sequence, without clauses.
+    PutTry(usize),
+    /// `alloc_instr_in_control` of the innermost frame.
+    PutHere(Made, u16),
+    /// `push_control` of a block, and `alloc_instr_in_control` of the frame around it.
+    PutAround(Made, u16),
+    /// `add_legacy_catch`.
+    Delegate(u32),
+}
+
+// Appends what a frame is.
+fn push_frame(text: &mut String, frame: &ControlFrame) -> Result<(), AllocError> {
+    let (block, start) = (frame.block.index(), frame.start);
+    let life = if frame.unreachable { "dead" } else { "alive" };
+    let (takes, gives) = (frame.start_types.as_slice(), frame.end_types.as_slice());
+    write!(
+        text,
+        " {:?} {block} {life} {takes:?} {gives:?} {start}",
+        frame.kind
+    )
+}
+
+fn kill(context: &mut ValidationContext<'_>, text: &mut String) -> Result<(), AllocError> {
+    match context.unreachable() {
+        Ok(()) => write!(text, " ok"),
+        Err(error) => write!(text, " {error:?}"),
+    }
+}
+
+fn add_clause(
+    context: &mut ValidationContext<'_>,
+    clause: LegacyCatch,
+    text: &mut String,
+) -> Result<(), AllocError> {
+    match context.add_legacy_catch(clause) {
+        Ok(()) => write!(text, " ok"),
+        Err(error) => write!(text, " {error:?}"),
+    }
+}
+
+// Appends an answer of a sequence.
+fn push_opened(
+    text: &mut String,
+    answer: Result<InstrSeqId, ParseError>,
+) -> Result<(), AllocError> {
+    match answer {
+        Ok(seq) => write!(text, " {}", seq.index()),
+        Err(error) => write!(text, " {error:?}"),
+    }
+}
+
+fn pop(context: &mut ValidationContext<'_>, text: &mut String) -> Result<(), AllocError> {
+    match context.pop_control() {
+        Ok((frame, seq)) => {
+            push_frame(text, &frame)?;
+            write!(text, " of {}", seq.index())
+        }
+        Err(error) => write!(text, " {error:?}"),
+    }
+}
+
+fn show(context: &ValidationContext<'_>, n: usize, text: &mut String) -> Result<(), AllocError> {
+    match context.control(n) {
+        Ok(frame) => push_frame(text, frame),
+        Err(error) => write!(text, " {error:?}"),
+    }
+}
+
+fn put(
+    context: &mut ValidationContext<'_>,
+    instr: Instr,
+    location: u16,
+    text: &mut String,
+) -> Result<(), AllocError> {
+    let location = InstrLocId::new(u32::from(location));
+    match context.alloc_instr(instr, location) {
+        Ok(()) => write!(text, " ok"),
+        Err(error) => write!(text, " {error:?}"),
+    }
+}
+
+fn put_here(
+    context: &mut ValidationContext<'_>,
+    made: Made,
+    location: u16,
+    text: &mut String,
+) -> Result<(), AllocError> {
+    let location = InstrLocId::new(u32::from(location));
+    match context.alloc_instr_in_control(0, instr(made), location) {
+        Ok(()) => write!(text, " ok"),
+        Err(error) => write!(text, " {error:?}"),
+    }
+}
+
+fn put_around(
+    context: &mut ValidationContext<'_>,
+    made: Made,
+    location: u16,
+    text: &mut String,
+) -> Result<(), AllocError> {
+    let location = InstrLocId::new(u32::from(location));
+    if let Err(error) = context.push_control(BlockKind::Block, &[], &[]) {
+        return write!(text, " {error:?}");
+    }
+    match context.alloc_instr_in_control(1, instr(made), location) {
+        Ok(()) => write!(text, " ok"),
+        Err(error) => write!(text, " {error:?}"),
+    }
+}
+
+// Makes a call, and appends what it answers.
+fn call(
+    alloc: Global,
+    context: &mut ValidationContext<'_>,
+    step: Step,
+    text: &mut String,
+) -> Result<(), AllocError> {
+    match step {
+        Step::Push(kind, takes, gives) => {
+            let lists = [ValType::I32, ValType::I32];
+            let (takes, gives) = (&lists[..takes.min(2)], &lists[..gives.min(2)]);
+            push_opened(text, context.push_control(kind, takes, gives))
+        }
+        Step::PushWithTy(kind, ty) => {
+            push_opened(text, context.push_control_with_ty(kind, TypeId::new(ty)))
+        }
+        Step::Pop => pop(context, text),
+        Step::Kill => kill(context, text),
+        Step::Show(n) => show(context, n, text),
+        Step::Put(made, location) => put(context, instr(made), location, text),
+        Step::PutTry(seq) => {
+            let seq = InstrSeqId::new(seq);
+            let catches = Vec::new(alloc);
+            put(context, Instr::Try(Try { seq, catches }), 0, text)
+        }
+        Step::PutHere(made, location) => put_here(context, made, location, text),
+        Step::PutAround(made, location) => put_around(context, made, location, text),
+        Step::Delegate(relative_depth) => {
+            let clause = LegacyCatch::Delegate { relative_depth };
+            add_clause(context, clause, text)
+        }
+    }
+}
+
+// What calls answer in a context without open frames, and behind a bar the frames that are then
+// open and all sequences.
+fn called(alloc: Global, steps: &[Step]) -> Result<String, Fail> {
+    let example = Example::new(alloc, 0)?;
+    let mut text = String::new(alloc);
     let mut context = ValidationContext::new(
-        &module,
-        &indices,
-        FunctionId::new(0),
-        builder,
-        Vec::new(rt.alloc()),
-        Vec::new(rt.alloc()),
+        &example.module,
+        &example.indices,
+        FunctionId::new(12),
+        FunctionBuilder::without_entry(alloc, TypeId::new(0)),
+        Vec::new(alloc),
+        Vec::new(alloc),
     );
-    assert_eq!(rt; context.unreachable().err(), Some(ParseError::NoFrame));
-    let outer = context.push_control(BlockKind::FunctionEntry, &[], &[]);
-    assert_eq!(rt; outer.ok(), Some(InstrSeqId::new(0)));
-    let missing = context.push_control(BlockKind::Block, &[ValType::I32], &[]);
-    assert_eq!(rt; missing.err(), Some(ParseError::TypeMissing));
-    let inner = context.push_control(BlockKind::Block, &[], &[ValType::I32]);
-    assert_eq!(rt; inner.ok(), Some(InstrSeqId::new(1)));
-    assert!(rt;
-        context
-            .alloc_instr(Instr::Unreachable, InstrLocId::new(7))
-            .is_ok()
-    );
-    assert!(rt; context.unreachable().is_ok());
-    assert!(rt;
-        context
-            .alloc_instr(Instr::Return, InstrLocId::new(8))
-            .is_ok()
-    );
-    assert_eq!(rt; context.control(2).err(), Some(ParseError::NoSuchLabel));
-    assert!(rt; context.pop_control().is_ok());
-    let (builder, controls, instrs) = context.into_parts();
-    assert_eq!(rt; builder.count(), 2);
-    assert_eq!(rt; controls.len(), 1);
-    assert!(rt; instrs.is_empty());
+    for step in steps {
+        call(alloc, &mut context, *step, &mut text)?;
+    }
+    let (builder, controls, _instrs) = context.into_parts();
+    text.push_str(" |")?;
+    for frame in &controls {
+        push_frame(&mut text, frame)?;
+    }
+    for slot in 0..builder.count() {
+        let id = InstrSeqId::new(slot);
+        if builder.has(id) {
+            push_sequence(&mut text, builder.seq(id))?;
+        }
+    }
+    Ok(text)
+}
+
+// Makes calls, each list of which stands before what is wanted.
+fn check_calls(rt: &impl Abort, alloc: Global, cases: &[(&[Step], &str)]) -> Result<(), Fail> {
+    for (steps, want) in cases {
+        let found = called(alloc, steps)?;
+        assert_eq!(rt; found.as_str(), *want);
+    }
     Ok(())
 }
 
+const ENTRY: Step = Step::Push(BlockKind::FunctionEntry, 0, 0);
+
+const BLOCK: Step = Step::Push(BlockKind::Block, 0, 0);
+
+/// Frames that are opened, shown and closed, each with instructions of its own.
+#[test]
+fn opens_and_closes_frames(rt: HostRuntime) -> Result<(), Fail> {
+    let closed = [
+        ENTRY,
+        Step::Put(Made::Drop, 6),
+        Step::Push(BlockKind::Loop, 0, 1),
+        Step::Put(Made::Call(3), 7),
+        Step::Kill,
+        Step::Put(Made::Drop, 8),
+        Step::Pop,
+    ];
+    let shown = [
+        Step::PushWithTy(BlockKind::FunctionEntry, 4),
+        Step::Put(Made::Drop, 6),
+        Step::PushWithTy(BlockKind::If, 2),
+        Step::Push(BlockKind::Block, 1, 1),
+        Step::Kill,
+        Step::Show(0),
+        Step::Show(1),
+        Step::Show(2),
+        Step::Show(3),
+    ];
+    let cases = [
+        (
+            closed.as_slice(),
+            " 0 ok 1 ok ok ok Loop 1 dead [] [I32] 0 of 1 | FunctionEntry 0 alive [] [] 0 \
+            ()[ ]- I32[ call 3@7 ]-",
+        ),
+        (
+            shown.as_slice(),
+            " 0 ok 1 2 ok Block 2 dead [I32] [I32] 0 If 1 alive [I32] [I32] 0 \
+            FunctionEntry 0 alive [] [] 0 NoSuchLabel | FunctionEntry 0 alive [] [] 0 \
+            If 1 alive [I32] [I32] 0 Block 2 dead [I32] [I32] 0 type4[ ]- type2[ ]- type1[ ]-",
+        ),
+    ];
+    check_calls(&rt, rt.alloc(), &cases)
+}
+
+/// Instructions go to the innermost frame or to the one around it, and nowhere where it is dead.
+#[test]
+fn appends_to_frames(rt: HostRuntime) -> Result<(), Fail> {
+    let around = [
+        ENTRY,
+        Step::PutAround(Made::Drop, 6),
+        Step::PutHere(Made::Call(3), 7),
+        Step::Pop,
+        Step::Kill,
+        Step::PutAround(Made::Drop, 8),
+        Step::Pop,
+        Step::Pop,
+    ];
+    let cases = [(
+        around.as_slice(),
+        " 0 ok ok Block 1 alive [] [] 0 of 1 ok ok Block 2 alive [] [] 0 of 2 \
+            FunctionEntry 0 dead [] [] 0 of 0 | ()[ drop@6 ]- ()[ call 3@7 ]- ()[ ]-",
+    )];
+    check_calls(&rt, rt.alloc(), &cases)
+}
+
+/// A clause is added to the `try` that ends the frame around, or dropped where that is dead.
 #[test]
 fn adds_clauses_to_a_try(rt: HostRuntime) -> Result<(), Fail> {
-    let module = Module {
-        types: ModuleTypes::new(rt.alloc()),
-        tags: ModuleItems::new(rt.alloc()),
-        locals: ModuleItems::new(rt.alloc()),
-        code_section_offset: 0,
-    };
-    let indices = IndicesToIds::new(rt.alloc());
-    let builder = FunctionBuilder::without_entry(rt.alloc(), TypeId::new(0));
-    let mut context = ValidationContext::new(
-        &module,
-        &indices,
-        FunctionId::new(0),
-        builder,
-        Vec::new(rt.alloc()),
-        Vec::new(rt.alloc()),
-    );
-    let delegate = LegacyCatch::Delegate { relative_depth: 4 };
-    let outer = context.push_control(BlockKind::FunctionEntry, &[], &[]);
-    assert_eq!(rt; outer.ok(), Some(InstrSeqId::new(0)));
-    let alone = context.add_legacy_catch(delegate);
-    assert_eq!(rt; alone.err(), Some(ParseError::NoSuchLabel));
-    let body = InstrSeqId::new(1);
-    let catches = Vec::new(rt.alloc());
-    let instr = Instr::Try(Try { seq: body, catches });
-    assert!(rt; context.alloc_instr(instr, InstrLocId::new(7)).is_ok());
-    let inner = context.push_control(BlockKind::Try, &[], &[]);
-    assert_eq!(rt; inner.ok(), Some(body));
-    assert!(rt; context.add_legacy_catch(delegate).is_ok());
-    assert!(rt; context.alloc_instr(Instr::Drop, InstrLocId::new(8)).is_ok());
-    let within = context.push_control(BlockKind::Block, &[], &[]);
-    assert_eq!(rt; within.ok(), Some(InstrSeqId::new(2)));
-    let no_try = context.add_legacy_catch(delegate);
-    assert_eq!(rt; no_try.err(), Some(ParseError::NoTry));
-    for _ in 0..3 {
-        assert!(rt; context.pop_control().is_ok());
-    }
-    let (builder, _controls, _instrs) = context.into_parts();
-    assert!(rt; builder.has(InstrSeqId::new(0)));
-    assert!(rt;
-        matches!(
-            builder.seq(InstrSeqId::new(0)).instrs.first(),
-            Some((Instr::Try(x), _)) if x.seq == body && x.catches.len() == 1
-        )
-    );
-    Ok(())
+    let tries = Step::Push(BlockKind::Try, 0, 0);
+    let added = [
+        ENTRY,
+        Step::Delegate(4),
+        Step::PutTry(1),
+        tries,
+        Step::Delegate(4),
+        Step::Put(Made::Drop, 8),
+        BLOCK,
+        Step::Delegate(4),
+        Step::Pop,
+        Step::Pop,
+        Step::Pop,
+    ];
+    let dropped = [ENTRY, Step::Kill, Step::PutTry(1), tries, Step::Delegate(4)];
+    let cases = [
+        (
+            added.as_slice(),
+            " 0 NoSuchLabel ok 1 ok ok 2 NoTry Block 2 alive [] [] 0 of 2 \
+            Try 1 alive [] [] 0 of 1 FunctionEntry 0 alive [] [] 0 of 0 | \
+            ()[ try 1 1@0 ]- ()[ drop@8 ]- ()[ ]-",
+        ),
+        (
+            dropped.as_slice(),
+            " 0 ok ok 1 ok | FunctionEntry 0 dead [] [] 0 Try 1 alive [] [] 0 ()[ ]- ()[ ]-",
+        ),
+    ];
+    check_calls(&rt, rt.alloc(), &cases)
+}
+
+/// What is refused where no frame is open, and frames whose type the module doesn't have.
+#[test]
+fn refuses_calls(rt: HostRuntime) -> Result<(), Fail> {
+    let closed = [
+        Step::Put(Made::Drop, 1),
+        Step::PutHere(Made::Drop, 1),
+        Step::Pop,
+        Step::Kill,
+        Step::Show(0),
+        Step::Delegate(0),
+        Step::PutAround(Made::Drop, 1),
+    ];
+    let untyped = [
+        Step::Push(BlockKind::Block, 0, 2),
+        Step::Push(BlockKind::Block, 1, 0),
+        Step::Push(BlockKind::Block, 2, 1),
+        Step::PushWithTy(BlockKind::Block, 3),
+        Step::PushWithTy(BlockKind::Block, 7),
+    ];
+    let cases = [
+        (
+            closed.as_slice(),
+            " NoFrame NoSuchLabel NoFrame NoFrame NoSuchLabel NoSuchLabel NoSuchLabel | \
+            Block 0 alive [] [] 0 ()[ ]-",
+        ),
+        (
+            untyped.as_slice(),
+            " TypeMissing TypeMissing TypeMissing NotAFunctionType NotAFunctionType |",
+        ),
+    ];
+    check_calls(&rt, rt.alloc(), &cases)
 }

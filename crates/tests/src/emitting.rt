@@ -1,167 +1,209 @@
-//! Functions that are made by hand, written.
-use crate::by_hand::{empty, put};
+//! Functions that are written: those that are made by hand, and those that are parsed.
+use crate::by_hand::{Made, function};
+use crate::cases::{About, AboutMade, check, check_made};
+use crate::function_text::{At, push_sequences};
 use crate::plain::write;
+use crate::small_module::Setting;
 use std::alloc::{AllocError, Global};
 use std::test::Fail;
-use walrus_body::{EmitError, IdsToIndices, IndexError, LocalFunction, Space};
-use walrus_ir::{
-    Block, Br, Call, FunctionBuilder, FunctionId, IdHashMap, Instr, InstrLocId, InstrSeqId,
-    InstrSeqType, LocalId, TypeId,
-};
+use walrus_body::{IdsToIndices, IndexError, LocalFunction};
+use walrus_ir::{FunctionId, IdHashMap, InstrLocId, InstrSeqId, InstrSeqType, LocalId, TypeId};
 use wasm_encode::FunctionEncoder;
 
-// A function without sequences.
-fn nothing(alloc: Global) -> FunctionBuilder {
-    FunctionBuilder::without_entry(alloc, TypeId::new(0))
+// The types 8, 2, 6 and 5 have the new indices 0 to 3, and the function 7 has 0.
+fn numbers(alloc: Global) -> Result<IdsToIndices, IndexError> {
+    let mut numbers = IdsToIndices::new(alloc);
+    for id in [8, 2, 6, 5] {
+        let ty = TypeId::new(id);
+        if numbers.get_type_index(ty).is_err() {
+            numbers.push_type(ty)?;
+        }
+    }
+    let func = FunctionId::new(7);
+    if numbers.get_func_index(func).is_err() {
+        numbers.push_func(func)?;
+    }
+    Ok(numbers)
 }
 
-// The function of a builder that begins with this sequence.
-fn function_of(alloc: Global, mut builder: FunctionBuilder, entry: InstrSeqId) -> LocalFunction {
-    builder.set_entry(entry);
-    LocalFunction::new(Vec::new(alloc), builder)
-}
-
-// What becomes of an encoder of no declarations and a list of one pair: the answer, and whether they
-// are as before.
-fn written(
-    alloc: Global,
-    function: &LocalFunction,
-) -> Result<(Option<Result<(), EmitError>>, bool), AllocError> {
-    let indices = IdsToIndices::new(alloc);
+// What stands in an encoder of no declarations and in a list of one pair when a function is written
+// behind them, and before that the fault.
+pub(crate) fn written(alloc: Global, function: &LocalFunction) -> Result<String, Fail> {
+    let numbers = numbers(alloc)?;
     let locals = IdHashMap::new(alloc);
     let mut encoder = FunctionEncoder::new(alloc, &[])?;
     let mut map = vec![in alloc; (InstrLocId::new(9), 9)]?;
-    let answer = write(function, &indices, &locals, &mut encoder, Some(&mut map));
-    let same_bytes = encoder.bytes() == [0x00].as_slice();
-    let same_pairs = map.as_slice() == [(InstrLocId::new(9), 9)].as_slice();
-    Ok((answer, same_bytes && same_pairs))
-}
-
-#[test]
-fn a_type_is_named_as_the_tree_names_it(rt: HostRuntime) -> Result<(), Fail> {
-    let mut indices = IdsToIndices::new(rt.alloc());
-    for id in [8, 2, 6, 5] {
-        let ty = TypeId::new(id);
-        if indices.get_type_index(ty).is_err() {
-            assert_eq!(rt; indices.push_type(ty), Ok(()));
-        }
+    let mut text = String::new(alloc);
+    match write(function, &numbers, &locals, &mut encoder, Some(&mut map)) {
+        Some(Ok(())) => {}
+        Some(Err(error)) => write!(text, "{error:?} ")?,
+        None => write!(text, "not plain ")?,
     }
-    let mut builder = nothing(rt.alloc());
-    let entry = empty(&mut builder)?;
-    let seq = builder.alloc(InstrSeqType::MultiValue(TypeId::new(5)))?;
-    put(&mut builder, entry, Instr::Block(Block { seq }), 1)?;
-    let function = function_of(rt.alloc(), builder, entry);
-    let locals = IdHashMap::new(rt.alloc());
-    let mut encoder = FunctionEncoder::new(rt.alloc(), &[])?;
-    let answer = write(&function, &indices, &locals, &mut encoder, None);
-    assert_eq!(rt; answer, Some(Ok(())));
-    assert_eq!(rt; encoder.bytes(), [0x00, 0x02, 0x03, 0x0b, 0x0b].as_slice());
-    Ok(())
-}
-
-#[test]
-fn pairs_have_the_places_in_the_encoder(rt: HostRuntime) -> Result<(), Fail> {
-    let mut indices = IdsToIndices::new(rt.alloc());
-    let func = FunctionId::new(7);
-    if indices.get_func_index(func).is_err() {
-        assert_eq!(rt; indices.push_func(func), Ok(()));
+    text.push_str(hex::encode(alloc, encoder.bytes())?.as_str())?;
+    for (location, place) in &map {
+        write!(text, " {}@{place}", At(*location))?;
     }
-    let mut builder = nothing(rt.alloc());
-    let b = &mut builder;
-    let entry = empty(b)?;
-    let seq = empty(b)?;
-    put(b, entry, Instr::Drop, 1)?;
-    put(b, entry, Instr::Block(Block { seq }), 2)?;
-    put(b, seq, Instr::Br(Br { block: entry }), 3)?;
-    put(b, seq, Instr::Call(Call { func }), 4)?;
-    let function = function_of(rt.alloc(), builder, entry);
-    let locals = IdHashMap::new(rt.alloc());
-    let mut encoder = FunctionEncoder::new(rt.alloc(), &[])?;
-    let mut map = Vec::new(rt.alloc());
-    let answer = write(&function, &indices, &locals, &mut encoder, Some(&mut map));
-    assert_eq!(rt; answer, Some(Ok(())));
+    Ok(text)
+}
+
+/// Bytes and pairs of functions that are made by hand; tree faults first, then the first fault in
+/// order of writing, which leaves bytes and pairs as they were.
+#[test]
+fn writes_what_is_made_by_hand(rt: HostRuntime) -> Result<(), Fail> {
+    let nested = [
+        (0, Made::Drop, 1),
+        (0, Made::Block(1), 2),
+        (1, Made::Br(0), 3),
+        (1, Made::Call(7), 4),
+    ];
+    let choice = [(0, Made::Const(300), 1), (0, Made::IfElse(1, 2), 2)];
+    let unknown = [(0, Made::Call(0), 1), (0, Made::Block(7), 1)];
+    let own = [(0, Made::Block(0), 1)];
+    let shared = [(0, Made::Block(1), 1), (0, Made::Block(1), 2)];
+    let outside = [
+        (0, Made::Block(1), 1),
+        (0, Made::Br(1), 2),
+        (0, Made::Call(0), 3),
+    ];
+    let unnumbered = [
+        (0, Made::Drop, 1),
+        (0, Made::Call(0), 2),
+        (0, Made::Br(1), 3),
+    ];
+    let cases = [
+        (
+            nested.as_slice(),
+            "001a02400c0110000b0b 9@9 1@1 2@2 3@4 4@6 -@8 -@9",
+        ),
+        (
+            choice.as_slice(),
+            "0041ac020440050b0b 9@9 1@1 2@4 -@6 -@7 -@8",
+        ),
+        (unknown.as_slice(), "UnknownSequence 00 9@9"),
+        (own.as_slice(), "SharedSequence 00 9@9"),
+        (shared.as_slice(), "SharedSequence 00 9@9"),
+        (outside.as_slice(), "BranchOutside 00 9@9"),
+        (
+            unnumbered.as_slice(),
+            "Index(Unnumbered { space: Funcs }) 00 9@9",
+        ),
+    ];
+    check_made(&rt, rt.alloc(), AboutMade::Written, &cases)
+}
+
+/// Bodies whose places are known: of code that begins at 90, and at 0.
+#[test]
+fn writes_what_is_parsed(rt: HostRuntime) -> Result<(), Fail> {
+    for (offset, before, body, want) in [
+        (90, 10, "00010b", "000b 9@9 102@1"),
+        (
+            0,
+            0,
+            "00410104400b0b",
+            "0041010440050b0b 9@9 1@1 3@3 5@5 -@6 6@7",
+        ),
+    ] {
+        let setting = Setting {
+            ty: 0,
+            offset,
+            before,
+            ops: 1,
+            located: false,
+        };
+        check(&rt, rt.alloc(), About::Written(setting), &[(body, want)])?;
+    }
+    Ok(())
+}
+
+// The bytes of a function that is written without a list of pairs, or the fault.
+fn unlisted(alloc: Global, function: &LocalFunction) -> Result<String, Fail> {
+    let numbers = numbers(alloc)?;
+    let locals = IdHashMap::new(alloc);
+    let mut encoder = FunctionEncoder::new(alloc, &[])?;
+    let answer = write(function, &numbers, &locals, &mut encoder, None);
+    if answer != Some(Ok(())) {
+        return Ok(format!(in alloc; "{answer:?}")?);
+    }
+    Ok(hex::encode(alloc, encoder.bytes())?)
+}
+
+/// A function that is written without a list of pairs has the same bytes.
+#[test]
+fn writes_without_pairs(rt: HostRuntime) -> Result<(), Fail> {
+    let text = unlisted(rt.alloc(), &changed(rt.alloc())?)?;
+    assert_eq!(rt; text.as_str(), "0002030b1a0b");
+    Ok(())
+}
+
+// Changes the type and the end of the second sequence.
+fn change_second(function: &mut LocalFunction) {
+    let second = InstrSeqId::new(1);
+    if function.has_block(second) {
+        let sequence = function.block_mut(second);
+        sequence.ty = InstrSeqType::MultiValue(TypeId::new(5));
+        sequence.end = InstrLocId::new(77);
+    }
+}
+
+// A function whose second sequence was changed.
+fn changed(alloc: Global) -> Result<LocalFunction, AllocError> {
+    let builder = function(alloc, 2, &[(0, Made::Block(1), 1), (0, Made::Drop, 2)])?;
+    let mut function = LocalFunction::new(Vec::new(alloc), builder);
+    change_second(&mut function);
+    Ok(function)
+}
+
+/// A sequence that is changed through `block_mut` is changed alone, and its type is written as it
+/// is named, not as an equal one.
+#[test]
+fn changes_one_sequence(rt: HostRuntime) -> Result<(), Fail> {
+    let mut text = written(rt.alloc(), &changed(rt.alloc())?)?;
+    push_sequences(&mut text, &changed(rt.alloc())?)?;
     assert_eq!(rt;
-        encoder.bytes(),
-        [0x00, 0x1a, 0x02, 0x40, 0x0c, 0x01, 0x10, 0x00, 0x0b, 0x0b].as_slice()
-    );
-    let end = InstrLocId::default();
-    assert_eq!(rt;
-        map.as_slice(),
-        [
-            (InstrLocId::new(1), 1),
-            (InstrLocId::new(2), 2),
-            (InstrLocId::new(3), 4),
-            (InstrLocId::new(4), 6),
-            (end, 8),
-            (end, 9),
-        ]
-        .as_slice()
+        text.as_str(),
+        "0002030b1a0b 9@9 1@1 77@3 2@4 -@5 ()[ block 1@1 drop@2 ]- type5[ ]77"
     );
     Ok(())
 }
 
-#[test]
-fn what_is_no_tree_is_refused(rt: HostRuntime) -> Result<(), Fail> {
-    let mut builder = nothing(rt.alloc());
-    let entry = empty(&mut builder)?;
-    let nowhere = InstrSeqId::new(7);
-    put(&mut builder, entry, Instr::Block(Block { seq: nowhere }), 1)?;
-    let unknown = function_of(rt.alloc(), builder, entry);
-    let (answer, same) = written(rt.alloc(), &unknown)?;
-    assert_eq!(rt; answer, Some(Err(EmitError::UnknownSequence)));
-    assert!(rt; same);
-
-    let mut builder = nothing(rt.alloc());
-    let entry = empty(&mut builder)?;
-    let seq = empty(&mut builder)?;
-    put(&mut builder, entry, Instr::Block(Block { seq }), 1)?;
-    put(&mut builder, entry, Instr::Block(Block { seq }), 2)?;
-    let shared = function_of(rt.alloc(), builder, entry);
-    let (answer, same) = written(rt.alloc(), &shared)?;
-    assert_eq!(rt; answer, Some(Err(EmitError::SharedSequence)));
-    assert!(rt; same);
+// What a function answers about itself.
+fn push_shape(text: &mut String, function: &LocalFunction) -> Result<(), AllocError> {
+    let pairs = function.instruction_mapping.len();
+    write!(
+        text,
+        " type{} {pairs} {:?}",
+        function.ty().index(),
+        function.original_range
+    )?;
+    for local in &function.args {
+        write!(text, " local{}", local.index())?;
+    }
+    if function.has_entry() {
+        let entry = function.entry_block();
+        write!(
+            text,
+            " entry{} {}",
+            entry.index(),
+            function.block(entry).len()
+        )?;
+    }
     Ok(())
 }
 
+/// A function holds what it is made of, and nothing that was read; its entry can be set.
 #[test]
-fn the_first_fault_in_order_of_writing_is_answered(rt: HostRuntime) -> Result<(), Fail> {
-    let mut builder = nothing(rt.alloc());
-    let b = &mut builder;
-    let entry = empty(b)?;
-    let seq = empty(b)?;
-    put(b, entry, Instr::Block(Block { seq }), 1)?;
-    put(b, entry, Instr::Br(Br { block: seq }), 2)?;
-    let func = FunctionId::new(0);
-    put(b, entry, Instr::Call(Call { func }), 3)?;
-    let outside = function_of(rt.alloc(), builder, entry);
-    let (answer, same) = written(rt.alloc(), &outside)?;
-    assert_eq!(rt; answer, Some(Err(EmitError::BranchOutside)));
-    assert!(rt; same);
-
-    let mut builder = nothing(rt.alloc());
-    let b = &mut builder;
-    let entry = empty(b)?;
-    put(b, entry, Instr::Drop, 1)?;
-    put(b, entry, Instr::Call(Call { func }), 2)?;
-    let unnumbered = function_of(rt.alloc(), builder, entry);
-    let (answer, same) = written(rt.alloc(), &unnumbered)?;
-    let fault = IndexError::Unnumbered {
-        space: Space::Funcs,
-    };
-    assert_eq!(rt; answer, Some(Err(EmitError::Index(fault))));
-    assert!(rt; same);
-    Ok(())
-}
-
-#[test]
-fn a_function_keeps_its_arguments(rt: HostRuntime) -> Result<(), Fail> {
-    let args = vec![in rt.alloc(); LocalId::new(4), LocalId::new(2)]?;
-    let function = LocalFunction::new(args, nothing(rt.alloc()));
+fn has_what_it_was_made_of(rt: HostRuntime) -> Result<(), Fail> {
+    let args = vec![in rt.alloc(); LocalId::new(3), LocalId::new(1)]?;
+    let builder = function(rt.alloc(), 2, &[(1, Made::Drop, 5)])?;
+    let mut function = LocalFunction::new(args, builder);
+    let mut text = String::new(rt.alloc());
+    for entry in [2, 1] {
+        function.builder_mut().set_entry(InstrSeqId::new(entry));
+        push_shape(&mut text, &function)?;
+    }
     assert_eq!(rt;
-        function.args.as_slice(),
-        [LocalId::new(4), LocalId::new(2)].as_slice()
+        text.as_str(),
+        " type0 0 None local3 local1 type0 0 None local3 local1 entry1 1"
     );
-    assert!(rt; function.instruction_mapping.is_empty());
-    assert_eq!(rt; function.original_range, None);
     Ok(())
 }

@@ -1,9 +1,13 @@
-//! Tests of what no contract says: worked rows and cases from outside, printed texts, the laws' calls, and that each call
-//! that takes memory succeeds where memory is left.
+//! Tests of what no contract says: worked rows and cases from outside, printed texts, the laws'
+//! calls, and that each call that takes memory succeeds where memory is left. A test is a table of
+//! texts or of functions that are made by hand, each beside the text that is wanted (`cases`): a
+//! function that holds a large value over many calls or assertions takes minutes to prove.
 #![tactic(auto)]
 
 #[cfg(test)]
 mod by_hand;
+#[cfg(test)]
+mod cases;
 #[cfg(test)]
 mod context;
 #[cfg(test)]
@@ -11,21 +15,19 @@ mod emit;
 #[cfg(test)]
 mod emitting;
 #[cfg(test)]
-mod ids_to_indices;
+mod facts;
 #[cfg(test)]
-mod indices_to_ids;
+mod function_text;
+#[cfg(test)]
+mod index_maps;
 mod lent;
 #[cfg(test)]
 mod modules;
 #[cfg(test)]
 mod parse_refusals;
 #[cfg(test)]
-mod parsed_functions;
-#[cfg(test)]
 mod parsing;
 mod plain;
-#[cfg(test)]
-mod printing;
 #[cfg(test)]
 mod program;
 #[cfg(test)]
@@ -33,10 +35,6 @@ mod reading;
 mod recorder;
 #[cfg(test)]
 mod rewriting;
-#[cfg(test)]
-mod segments;
-#[cfg(test)]
-mod sizes;
 #[cfg(test)]
 mod small_module;
 mod validators;

@@ -1,45 +1,71 @@
 //! Modules, and the types that they hold.
+use crate::function_text::Type;
+use crate::small_module::types;
+use std::alloc::{AllocError, Global};
 use std::test::Fail;
 use walrus_ir::{
     InstrLocId, InstrSeqType, ModuleLocals, ModuleTags, ModuleTypes, TagId, TypeId, ValType,
 };
 
-#[test]
-fn picks_types(rt: HostRuntime) -> Result<(), Fail> {
-    let mut types = ModuleTypes::new(rt.alloc());
-    types.add_func(&[], &[])?;
-    types.add_func(&[ValType::I32], &[])?;
-    types.add_func(&[ValType::I32, ValType::I32], &[ValType::I32])?;
-    types.add_func(&[ValType::I32], &[])?;
-    types.add_entry(&[])?;
-    types.add_entry(&[ValType::I32, ValType::I32])?;
-    types.add_other()?;
-    for (params, results, wanted) in [
-        (0, 0, Some(InstrSeqType::Simple(None))),
-        (0, 1, Some(InstrSeqType::Simple(Some(ValType::I32)))),
-        (0, 2, None),
-        (1, 0, Some(InstrSeqType::MultiValue(TypeId::new(1)))),
-        (1, 1, None),
-        (2, 1, Some(InstrSeqType::MultiValue(TypeId::new(2)))),
-    ] {
-        let lists = [ValType::I32, ValType::I32];
-        let pick = InstrSeqType::existing(&types, &lists[..params], &lists[..results]);
-        assert_eq!(rt; pick, wanted, "from {params} to {results}");
+// A number, or 100 where there is none.
+fn number(ty: Option<TypeId>) -> usize {
+    match ty {
+        Some(ty) => ty.index(),
+        None => 100,
     }
-    assert_eq!(rt; types.find(&[], &[]), Some(TypeId::new(0)));
-    assert_eq!(rt; types.find(&[ValType::I64], &[]), None);
-    assert_eq!(rt; types.find_for_function_entry(&[]), Some(TypeId::new(4)));
-    assert_eq!(rt;
-        types.find_for_function_entry(&[ValType::I32, ValType::I32]),
-        Some(TypeId::new(5))
-    );
-    assert_eq!(rt; types.find_for_function_entry(&[ValType::I32]), None);
-    for (id, wanted) in [(0, true), (3, true), (5, true), (6, false), (7, false)] {
-        assert_eq!(rt; types.is_func(TypeId::new(id)), wanted, "at {id}");
+}
+
+// The type that is picked for these lists.
+fn picked(
+    alloc: Global,
+    types: &ModuleTypes,
+    params: &[ValType],
+    results: &[ValType],
+) -> Result<String, AllocError> {
+    match InstrSeqType::existing(types, params, results) {
+        Some(ty) => format!(in alloc; "{}", Type(ty)),
+        None => "none".to_string(alloc),
+    }
+}
+
+/// Of the module's types the first by its number is found; entry types are apart.
+#[test]
+fn finds_types(rt: HostRuntime) -> Result<(), Fail> {
+    let types = types(rt.alloc())?;
+    let values = [ValType::I32, ValType::I32];
+    for (params, results, pick, found) in [
+        (0, 0, "()", 0),
+        (0, 1, "I32", 100),
+        (0, 2, "none", 100),
+        (1, 0, "none", 100),
+        (1, 1, "type1", 1),
+        (2, 1, "none", 100),
+    ] {
+        let (params, results) = (&values[..params], &values[..results]);
+        let found_pick = picked(rt.alloc(), &types, params, results)?;
+        assert_eq!(rt; found_pick.as_str(), pick);
+        assert_eq!(rt; number(types.find(params, results)), found);
+    }
+    for (results, want) in [(0, 4), (1, 100), (2, 6)] {
+        assert_eq!(rt;
+            number(types.find_for_function_entry(&values[..results])),
+            want
+        );
+    }
+    for (id, want) in [
+        (0, true),
+        (2, true),
+        (3, false),
+        (4, true),
+        (6, true),
+        (7, false),
+    ] {
+        assert_eq!(rt; types.is_func(TypeId::new(id)), want, "at {id}");
     }
     Ok(())
 }
 
+/// Tags and locals have the numbers of their places.
 #[test]
 fn keeps_tags_and_locals(rt: HostRuntime) -> Result<(), Fail> {
     let mut tags = ModuleTags::new(rt.alloc());
@@ -54,11 +80,14 @@ fn keeps_tags_and_locals(rt: HostRuntime) -> Result<(), Fail> {
     Ok(())
 }
 
+/// The default location has the greatest number.
 #[test]
 fn tells_locations_apart(rt: HostRuntime) {
-    let location = InstrLocId::new(5);
-    assert_eq!(rt; location.data(), 5);
-    assert!(rt; !location.is_default());
-    assert_eq!(rt; InstrLocId::default().data(), 0xffff_ffff);
-    assert!(rt; InstrLocId::default().is_default());
+    for (location, number, default) in [
+        (InstrLocId::new(5), 5, false),
+        (InstrLocId::default(), 0xffff_ffff, true),
+    ] {
+        assert_eq!(rt; location.data(), number);
+        assert_eq!(rt; location.is_default(), default);
+    }
 }

@@ -1,22 +1,28 @@
 //! Writing functions that are made by hand of a few instructions, an operator of each of which is
 //! carried.
 ghost use Rattle.std.specs.Prelude.{◌≡◌, IsTrue};
-ghost use Rattle.tests.specs.PlainTrees.{are_plain, AreAllPlain};
+ghost use Rattle.tests.specs.PlainTrees.{is_plain, are_plain, AreAllPlain};
 
 use walrus_body::{EmitError, IdsToIndices, LocalFunction};
-use walrus_ir::{FunctionBuilder, IdHashMap, Instr, InstrLocId, InstrSeqId, LocalId};
+use walrus_ir::{Const, FunctionBuilder, IdHashMap, Instr, InstrLocId, InstrSeqId, LocalId, Value};
 use wasm_encode::FunctionEncoder;
 
-/// Whether each is a `block`, a `br`, a `call` or a `drop`.
+/// Whether it is a `block`, an `if`, a `br`, a `call`, a `drop` or an `i32.const`.
+fn is_plain(instr: &Instr) -> bool
+    ensures { result ≡ is_plain instr.now }
+{
+    match instr {
+        Instr::Block(_) | Instr::IfElse(_) | Instr::Br(_) | Instr::Call(_) | Instr::Drop => true,
+        Instr::Const(Const { value }) => matches!(value, Value::I32(_)),
+        _ => false,
+    }
+}
+
+/// Whether each is one of these.
 fn are_plain(instrs: &[(Instr, InstrLocId)]) -> bool
     ensures { result ≡ are_plain instrs.now }
 {
-    instrs.iter().all(|(instr, _)| {
-        matches!(
-            instr,
-            Instr::Block(_) | Instr::Br(_) | Instr::Call(_) | Instr::Drop
-        )
-    })
+    instrs.iter().all(|(instr, _)| is_plain(instr))
 }
 
 /// Whether each instruction of each sequence is one of these.

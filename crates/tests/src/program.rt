@@ -1,4 +1,5 @@
 //! What the program `wbody` prints, and its status.
+use crate::cases::{About, check};
 use std::alloc::{AllocError, Global};
 use std::io;
 use std::io::Write;
@@ -28,46 +29,33 @@ fn list(alloc: Global, words: &str) -> Result<Vec<String>, AllocError> {
     Ok(list)
 }
 
-#[test]
-fn prints_what_is_rewritten(rt: HostRuntime) -> Result<(), Fail> {
-    let (mut out, mut err) = (Vec::new(rt.alloc()), Vec::new(rt.alloc()));
-    let words = list(rt.alloc(), "rewrite 010B")?;
-    assert_eq!(rt; run_words(rt.alloc(), &words, &mut out, &mut err), 0);
-    assert_eq!(rt; out.as_slice(), b"0b\n".as_slice());
-    assert!(rt; err.is_empty());
-    Ok(())
+/// The status for these words, what is printed, and behind a bar what is printed to standard error.
+pub(crate) fn printed(alloc: Global, words: &str) -> Result<String, AllocError> {
+    let (mut out, mut err) = (Vec::new(alloc), Vec::new(alloc));
+    let status = run_words(alloc, &list(alloc, words)?, &mut out, &mut err);
+    let out = String::from_utf8_lossy(alloc, &out)?;
+    let err = String::from_utf8_lossy(alloc, &err)?;
+    format!(in alloc; "{status} {out}|{err}")
 }
 
+/// What is rewritten, the fault and its place, and wrong use.
 #[test]
-fn names_the_fault_and_its_place(rt: HostRuntime) -> Result<(), Fail> {
-    let (mut out, mut err) = (Vec::new(rt.alloc()), Vec::new(rt.alloc()));
-    let words = list(rt.alloc(), "rewrite 0f0c050b")?;
-    assert_eq!(rt; run_words(rt.alloc(), &words, &mut out, &mut err), 1);
-    assert!(rt; out.is_empty());
-    assert_eq!(rt; err.as_slice(), b"refused: NoSuchLabel at 1\n".as_slice());
-    Ok(())
+fn prints(rt: HostRuntime) -> Result<(), Fail> {
+    let usage = "2 |usage: wbody rewrite HEX | wbody trace TURNS OUTCOMES HEX\n";
+    let cases = [
+        ("rewrite 010B", "0 0b\n|"),
+        ("rewrite 0f0c050b", "1 |refused: NoSuchLabel at 1\n"),
+        ("rewrite 0", usage),
+        ("rewrite 0g", usage),
+        ("rewrite", usage),
+        ("rewrite 0b 0b", usage),
+        ("trace 0 g 0b", usage),
+        ("", usage),
+    ];
+    check(&rt, rt.alloc(), About::Printed, &cases)
 }
 
-#[test]
-fn tells_of_wrong_use(rt: HostRuntime) -> Result<(), Fail> {
-    let usage = b"usage: wbody rewrite HEX | wbody trace TURNS OUTCOMES HEX\n";
-    for words in [
-        "rewrite 0",
-        "rewrite 0g",
-        "rewrite",
-        "rewrite 0b 0b",
-        "trace 0 g 0b",
-        "",
-    ] {
-        let (mut out, mut err) = (Vec::new(rt.alloc()), Vec::new(rt.alloc()));
-        let words = list(rt.alloc(), words)?;
-        assert_eq!(rt; run_words(rt.alloc(), &words, &mut out, &mut err), 2);
-        assert!(rt; out.is_empty());
-        assert_eq!(rt; err.as_slice(), usage.as_slice());
-    }
-    Ok(())
-}
-
+/// Nothing more is written behind a write that fails, and the status is 1.
 #[test]
 fn writes_nothing_more_where_a_write_fails(rt: HostRuntime) -> Result<(), Fail> {
     let mut err = Vec::new(rt.alloc());

@@ -1,74 +1,96 @@
-//! Operators that are read one after the other.
+//! Operators that are read one after the other, printed and compared.
+use crate::cases::{About, check};
+use std::alloc::Global;
 use std::test::Fail;
-use walrus_ir::{LoadKind, UnaryOp};
 use wasm_ops::{
-    BlockType, Operator, RawMemArg, RawValType, ReadError, ReadFault, Reader, law_one_list,
-    law_one_spelling, law_operator_equality, law_reading, law_shortest, law_shortest_number,
+    Operator, Reader, law_one_list, law_one_spelling, law_operator_equality, law_reading,
+    law_shortest, law_shortest_number,
 };
 
+// The operators in hexadecimal text that begins at a place, each with the place behind it, and last
+// the fault where there is one.
+pub(crate) fn read_all(alloc: Global, bytes: &str, start: u32) -> Result<String, Fail> {
+    let bytes = hex::decode(alloc, bytes)?;
+    let mut text = String::new(alloc);
+    let mut reader = Reader::new(&bytes, start as usize);
+    for _ in 0..bytes.len() {
+        if reader.eof() {
+            break;
+        }
+        match reader.read() {
+            Ok(operator) => write!(text, " {operator:?}")?,
+            Err(error) => {
+                write!(text, " {error:?}")?;
+                return Ok(text);
+            }
+        }
+        write!(text, " {}", reader.original_position())?;
+    }
+    Ok(text)
+}
+
+/// Operators as they are printed, with the places behind them; a fault has its operator's place.
 #[test]
 fn reads_one_after_the_other(rt: HostRuntime) -> Result<(), Fail> {
-    let bytes = [
-        0x42, 0x7f, 0xfc, 0x87, 0x00, 0x28, 0x02, 0x80, 0x80, 0x80, 0x80, 0x10, 0x41,
+    let cases = [
+        (
+            "427ffc870028028080808010",
+            " I64Const { value: -1 } 102 Unop(I64TruncUSatF64) 105 \
+            Load { kind: I32 { atomic: false }, \
+            memarg: RawMemArg { exponent: 2, memory: 0, offset: 4294967296 } } 112",
+        ),
+        (
+            "010141",
+            " Nop 101 Nop 102 ReadError { fault: Truncated, at: 102 }",
+        ),
+        (
+            "02400340047f050d01",
+            " Block { ty: Empty } 102 Loop { ty: Empty } 104 If { ty: Value(I32) } 106 Else 107 \
+            BrIf { label: 1 } 109",
+        ),
+        (
+            "0c83011085001180010045",
+            " Br { label: 131 } 103 Call { func: 5 } 106 CallIndirect { ty: 128, table: 0 } 110 \
+            Unop(I32Eqz) 111",
+        ),
+        ("0e0100", " ReadError { fault: Truncated, at: 100 }"),
     ];
-    let mut reader = Reader::new(&bytes, 100);
-    assert!(rt; reader.read()? == Operator::I64Const { value: -1 });
-    assert_eq!(rt; reader.original_position(), 102);
-    assert!(rt; reader.read()? == Operator::Unop(UnaryOp::I64TruncUSatF64));
-    let memarg = RawMemArg {
-        exponent: 2,
-        memory: 0,
-        offset: 4294967296,
+    check(&rt, rt.alloc(), About::Read(100), &cases)
+}
+
+/// The labels of a branch table, which stand in the input.
+#[test]
+fn reads_labels(rt: HostRuntime) -> Result<(), Fail> {
+    let mut reader = Reader::new(&[0x0e, 2, 0, 1, 2], 7);
+    let text = match reader.read()? {
+        Operator::BrTable(table) => {
+            let mut text = format!(in rt.alloc(); "{} {}:", table.len(), table.default())?;
+            for label in table.targets() {
+                write!(text, " {label}")?;
+            }
+            text
+        }
+        _ => String::new(rt.alloc()),
     };
-    let kind = LoadKind::I32 { atomic: false };
-    assert!(rt; reader.read()? == Operator::Load { kind, memarg });
-    assert!(rt; !reader.eof());
-    let end = ReadError {
-        fault: ReadFault::Truncated,
-        at: 112,
-    };
-    assert!(rt; matches!(reader.read(), Err(error) if error == end));
-    let nop = Operator::Nop;
-    assert!(rt; !law_operator_equality(&nop, &Operator::Drop));
+    assert_eq!(rt; text.as_str(), "2 2: 0 1");
+    assert_eq!(rt; reader.original_position(), 12);
+    Ok(())
+}
+
+/// The laws of reading can be called, and operators are compared and cloned by their meanings.
+#[test]
+fn calls_the_laws_of_reading(rt: HostRuntime) -> Result<(), Fail> {
+    let branch = Operator::Br { label: 131 };
+    for (bytes, same) in [([0x0c, 0x83, 0x01], true), ([0x0c, 0x83, 0x02], false)] {
+        let mut reader = Reader::new(&bytes, 0);
+        let read = reader.read()?.clone()?;
+        assert_eq!(rt; law_operator_equality(&read, &branch), same);
+        assert_eq!(rt; read == branch, same);
+    }
     law_reading();
     law_one_spelling();
     law_one_list();
     law_shortest_number();
     law_shortest();
-    Ok(())
-}
-
-#[test]
-fn reads_control_and_calls(rt: HostRuntime) -> Result<(), Fail> {
-    let bytes = [
-        0x03, 0x40, 0x04, 0x7f, 0x05, 0x0d, 0x01, 0x0e, 0x02, 0x00, 0x01, 0x02, 0x10, 0x85, 0x00,
-        0x11, 0x80, 0x01, 0x00, 0x0e, 0x01, 0x00,
-    ];
-    let mut reader = Reader::new(&bytes, 0);
-    let ty = BlockType::Empty;
-    assert!(rt; reader.read()? == Operator::Loop { ty });
-    let ty = BlockType::Value(RawValType::I32);
-    assert!(rt; reader.read()? == Operator::If { ty });
-    assert!(rt; reader.read()? == Operator::Else);
-    assert!(rt; reader.read()? == Operator::BrIf { label: 1 });
-    match reader.read()? {
-        Operator::BrTable(table) => {
-            assert_eq!(rt; table.len(), 2);
-            assert_eq!(rt; table.default(), 2);
-            let mut targets = table.targets();
-            assert_eq!(rt; targets.next(), Some(0));
-            assert_eq!(rt; targets.next(), Some(1));
-            assert_eq!(rt; targets.next(), None);
-        }
-        _ => assert!(rt; false),
-    }
-    assert_eq!(rt; reader.original_position(), 12);
-    assert!(rt; reader.read()? == Operator::Call { func: 5 });
-    assert!(rt; reader.read()? == Operator::CallIndirect { ty: 128, table: 0 });
-    let short = ReadError {
-        fault: ReadFault::Truncated,
-        at: 19,
-    };
-    assert!(rt; matches!(reader.read(), Err(error) if error == short));
     Ok(())
 }

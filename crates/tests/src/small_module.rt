@@ -1,19 +1,18 @@
 //! A module whose ids aren't its old indices, and what its functions' bodies give.
 ghost use Rattle.std.specs.Prelude.{◌≡◌, IfOk};
 
-use crate::recorder::Recorder;
+use crate::function_text::{Fault, function_text, push_sequence};
+use crate::validators::Telling;
 use std::alloc::{AllocError, Global};
 use std::test::Fail;
 use walrus_body::{
-    AcceptAll, FunctionBody, IndexError, IndicesToIds, LocalFunction, OpCheck, ParseFailure,
+    AcceptAll, FunctionBody, IndexError, IndicesToIds, LocalFunction, OpCheck, ParseError,
+    ParseFailure,
 };
 use walrus_ir::{
-    DataId, ElementId, FunctionId, GlobalId, Instr, InstrLocId, InstrSeqId, MemoryId, Module,
-    ModuleItems, ModuleTypes, TableId, TypeId, ValType, dfs_in_order,
+    DataId, ElementId, FunctionId, GlobalId, Instr, InstrLocId, LocalId, MemoryId, Module,
+    ModuleItems, ModuleTypes, TableId, TypeId, ValType,
 };
-
-/// The number of the default location.
-pub(crate) const DEFAULT: u32 = u32::MAX;
 
 /// A module and the ids of its old indices.
 #[derive(Drop)]
@@ -22,18 +21,25 @@ pub(crate) struct Example {
     pub indices: IndicesToIds,
 }
 
-// 0 is from nothing to nothing, 1 and 2 are from an `i32` to an `i32`, 3 is no function type, 4 is
-// the entry type for nothing, 5 is from an `i64` to an `f32`, and 6 the entry type for two `i32`.
-fn types(alloc: Global) -> Result<ModuleTypes, AllocError> {
+/// 0 is from nothing to nothing, 1 and 2 are from an `i32` to an `i32`, 3 is no function type, 4 is
+/// the entry type for nothing, 5 is from an `i64` to an `f32`, and 6 the entry type for two `i32`.
+pub(crate) fn types(alloc: Global) -> Result<ModuleTypes, AllocError> {
     let mut types = ModuleTypes::new(alloc);
-    types.add_func(&[], &[])?;
-    types.add_func(&[ValType::I32], &[ValType::I32])?;
-    types.add_func(&[ValType::I32], &[ValType::I32])?;
-    types.add_other()?;
-    types.add_entry(&[])?;
-    types.add_func(&[ValType::I64], &[ValType::F32])?;
-    types.add_entry(&[ValType::I32, ValType::I32])?;
+    for id in 0..7 {
+        add_type(&mut types, id)?;
+    }
     Ok(types)
+}
+
+fn add_type(types: &mut ModuleTypes, id: usize) -> Result<TypeId, AllocError> {
+    match id {
+        0 => types.add_func(&[], &[]),
+        1 | 2 => types.add_func(&[ValType::I32], &[ValType::I32]),
+        3 => types.add_other(),
+        4 => types.add_entry(&[]),
+        5 => types.add_func(&[ValType::I64], &[ValType::F32]),
+        _ => types.add_entry(&[ValType::I32, ValType::I32]),
+    }
 }
 
 // The old types 0 to 3 have the ids 0, 2, 3 and 6; of all else there are one or two.
@@ -42,22 +48,22 @@ fn indices(alloc: Global) -> Result<IndicesToIds, IndexError> {
     for ty in [0, 2, 3, 6] {
         indices.push_type(TypeId::new(ty))?;
     }
-    indices.push_func(FunctionId::new(12))?;
-    indices.push_func(FunctionId::new(11))?;
-    indices.push_table(TableId::new(22))?;
-    indices.push_table(TableId::new(21))?;
+    for number in [2, 1] {
+        indices.push_func(FunctionId::new(number + 10))?;
+        indices.push_table(TableId::new(number + 20))?;
+        indices.push_data(DataId::new(number + 60))?;
+    }
     indices.push_global(GlobalId::new(31))?;
     indices.push_memory(MemoryId::new(41))?;
     indices.push_element(ElementId::new(51))?;
-    indices.push_data(DataId::new(62))?;
-    indices.push_data(DataId::new(61))?;
     Ok(indices)
 }
 
 impl Example {
-    /// The module, whose code begins at the place 0.
-    pub(crate) fn new(alloc: Global) -> Result<Example, IndexError>
-        ensures { IfOk result (λ example. example.module.code_section_offset ≡ 0) }
+    /// The module, whose code begins at this place.
+    pub(crate) fn new(alloc: Global, code_section_offset: usize) -> Result<Example, IndexError>
+        ensures { IfOk result (λ example.
+            example.module.code_section_offset ≡ code_section_offset) }
     {
         let Ok(types) = types(alloc) else {
             return Err(IndexError::Memory);
@@ -67,89 +73,133 @@ impl Example {
             types,
             tags: ModuleItems::new(alloc),
             locals: ModuleItems::new(alloc),
-            code_section_offset: 0,
+            code_section_offset,
         };
         Ok(Example { module, indices })
     }
 }
 
-/// Parses operators, the first of which stands at the place 0, of a function without arguments and
-/// results.
-pub(crate) fn parse_checked<V: OpCheck>(
-    alloc: Global,
-    example: &Example,
-    ops: &[u8],
-    validator: V,
-) -> Result<LocalFunction, ParseFailure>
-    requires { example.now.module.code_section_offset ≡ 0 }
-{
-    let body = FunctionBody {
-        bytes: ops,
-        start: 0,
+/// Where a body stands, and how it is parsed.
+#[derive(Clone, Copy)]
+pub(crate) struct Setting {
+    /// The function's type.
+    pub ty: usize,
+    /// Where the module's code begins.
+    pub offset: u32,
+    /// The number of bytes between that and the body.
+    pub before: u32,
+    /// The position of the first operator.
+    pub ops: usize,
+    /// Whether locations are asked for, which are then twice the places.
+    pub located: bool,
+}
+
+impl Setting {
+    /// Operators that stand at the place 0, of a function without arguments and results.
+    pub(crate) const PLAIN: Setting = Setting {
+        ty: 0,
+        offset: 0,
+        before: 0,
         ops: 0,
+        located: false,
+    };
+}
+
+// Twice the place, where that fits.
+fn doubled(place: usize) -> InstrLocId {
+    InstrLocId::new((place % 1_000_000_000) as u32 * 2)
+}
+
+const OUT_OF_MEMORY: ParseFailure = ParseFailure {
+    error: ParseError::Memory,
+    at: 0,
+};
+
+/// Parses a function, whose body is hexadecimal text, with the list that is lent.
+pub(crate) fn parse_lent<V: OpCheck>(
+    alloc: Global,
+    setting: Setting,
+    body: &str,
+    validator: V,
+    instrs: &mut Vec<(Instr, InstrLocId)>,
+) -> Result<LocalFunction, ParseFailure> {
+    let offset = setting.offset as usize;
+    let (Ok(bytes), Ok(example)) = (hex::decode(alloc, body), Example::new(alloc, offset)) else {
+        return Err(OUT_OF_MEMORY);
+    };
+    let body = FunctionBody {
+        bytes: &bytes,
+        start: offset + setting.before as usize,
+        ops: setting.ops.min(bytes.len()),
     };
     let (module, indices) = (&example.module, &example.indices);
-    let (id, ty) = (FunctionId::new(12), TypeId::new(0));
-    let locate: Option<&fn(&usize) -> InstrLocId> = None;
-    let (args, mut instrs) = (Vec::new(alloc), Vec::new(alloc));
-    LocalFunction::parse(
-        module,
-        indices,
-        id,
-        ty,
-        args,
-        body,
-        locate,
-        validator,
-        &mut instrs,
-    )
+    let (id, ty) = (FunctionId::new(12), TypeId::new(setting.ty));
+    let args: Vec<LocalId> = Vec::new(alloc);
+    if setting.located {
+        let locate = |place: &usize| doubled(*place);
+        LocalFunction::parse(
+            module,
+            indices,
+            id,
+            ty,
+            args,
+            body,
+            Some(&locate),
+            validator,
+            instrs,
+        )
+    } else {
+        let locate: Option<&fn(&usize) -> InstrLocId> = None;
+        LocalFunction::parse(
+            module, indices, id, ty, args, body, locate, validator, instrs,
+        )
+    }
 }
 
-/// Parses operators that no validator refuses.
+/// Parses a function that no validator refuses.
 pub(crate) fn parse(
     alloc: Global,
-    example: &Example,
-    ops: &[u8],
-) -> Result<LocalFunction, ParseFailure>
-    requires { example.now.module.code_section_offset ≡ 0 }
-{
-    parse_checked(alloc, example, ops, AcceptAll)
+    setting: Setting,
+    body: &str,
+) -> Result<LocalFunction, ParseFailure> {
+    let mut instrs = Vec::new(alloc);
+    parse_lent(alloc, setting, body, AcceptAll, &mut instrs)
 }
 
-/// The walk from the entry: where a sequence starts its slot, where it ends its length, and the
-/// location of each instruction.
-pub(crate) fn tree_text(function: &LocalFunction) -> Result<String, Fail> {
-    let builder = function.builder();
-    let mut recorder = Recorder::new(builder.allocator(), 1000);
-    let entry = builder.entry().ok_or("no entry")?;
-    dfs_in_order(&mut recorder, builder, entry)?;
-    Ok(recorder.text()?)
-}
-
-/// An instruction of a sequence.
-pub(crate) fn instr_of(function: &LocalFunction, seq: usize, position: usize) -> Option<&Instr> {
-    let id = InstrSeqId::new(seq);
-    if !function.has_block(id) {
-        return None;
+/// What a parse answers, as text: the function, or the fault and its place.
+pub(crate) fn parsed_by<V: OpCheck>(
+    alloc: Global,
+    setting: Setting,
+    body: &str,
+    validator: V,
+) -> Result<String, AllocError> {
+    let mut instrs = Vec::new(alloc);
+    match parse_lent(alloc, setting, body, validator, &mut instrs) {
+        Ok(function) => function_text(&function),
+        Err(failure) => format!(in alloc; "{} at {}", Fault(failure.error), failure.at),
     }
-    let (instr, _) = function.block(id).instrs.get(position)?;
-    Some(instr)
 }
 
-/// Where a sequence ends.
-pub(crate) fn end_of(function: &LocalFunction, seq: usize) -> Option<u32> {
-    let id = InstrSeqId::new(seq);
-    if !function.has_block(id) {
-        return None;
-    }
-    Some(function.block(id).end.data())
+/// What a parse answers where no validator refuses anything.
+pub(crate) fn parsed(alloc: Global, setting: Setting, body: &str) -> Result<String, AllocError> {
+    parsed_by(alloc, setting, body, AcceptAll)
 }
 
-/// The pairs of a mapping, each as a place and its location.
-pub(crate) fn mapping_text(function: &LocalFunction) -> Result<String, AllocError> {
-    let mut text = String::new(function.builder().allocator());
-    for (place, location) in &function.instruction_mapping {
-        write!(text, " {place}:{}", location.data())?;
+/// The places of the operators that a validator is asked about.
+pub(crate) fn told(alloc: Global, body: &str) -> Result<String, AllocError> {
+    let mut told = Vec::new(alloc);
+    let mut instrs = Vec::new(alloc);
+    let telling = Telling { told: &mut told };
+    let _ = parse_lent(alloc, Setting::PLAIN, body, telling, &mut instrs).is_ok();
+    format!(in alloc; "{told:?}")
+}
+
+/// The entry of the function that these operators give.
+pub(crate) fn entry_text(alloc: Global, body: &str) -> Result<String, Fail> {
+    let function = parse(alloc, Setting::PLAIN, body)?;
+    let mut text = String::new(alloc);
+    if function.has_entry() {
+        push_sequence(&mut text, function.block(function.entry_block()))?;
     }
     Ok(text)
 }

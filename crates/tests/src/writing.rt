@@ -1,53 +1,61 @@
-//! Operators that are written, and read again.
+//! Operators that are written and printed.
 use std::test::Fail;
 use walrus_ir::{LoadKind, UnaryOp};
 use wasm_encode::{FunctionEncoder, OutClauses, OutOp, OutTable, write_op};
-use wasm_ops::{BlockType, Operator, RawCatch, RawMemArg, RawValType, Reader};
+use wasm_ops::{BlockType, RawCatch, RawMemArg, RawValType};
 
+/// The bytes of an encoder: declarations, operators, and bytes as they are.
 #[test]
-fn reads_what_was_written(rt: HostRuntime) -> Result<(), Fail> {
+fn encodes_a_body(rt: HostRuntime) -> Result<(), Fail> {
     let mut encoder = FunctionEncoder::new(rt.alloc(), &[(2, RawValType::I64)])?;
     assert_eq!(rt; encoder.bytes(), [0x01, 0x02, 0x7e].as_slice());
     assert_eq!(rt; encoder.byte_len(), 3);
+    encoder.instruction(&OutOp::I64Const { value: -1 })?;
+    encoder.instruction(&OutOp::Unop(UnaryOp::I64TruncUSatF64))?;
+    encoder.raw(&[0x0b])?;
+    let text = hex::encode(rt.alloc(), encoder.into_raw_body())?;
+    assert_eq!(rt; text.as_str(), "01027e427ffc070b");
+    Ok(())
+}
 
-    let constant = OutOp::I64Const { value: -1 };
-    let conversion = OutOp::Unop(UnaryOp::I64TruncUSatF64);
+/// The shortest spellings of operators without lists.
+#[test]
+fn writes_operators(rt: HostRuntime) -> Result<(), Fail> {
+    let mut out = Vec::new(rt.alloc());
     let kind = LoadKind::I32 { atomic: false };
     let memarg = RawMemArg {
         exponent: 2,
         memory: 0,
         offset: 4294967296,
     };
-    let load = OutOp::Load { kind, memarg };
-    encoder.instruction(&constant)?;
-    encoder.instruction(&conversion)?;
-    encoder.raw(&[0x0b])?;
-    let body = encoder.into_raw_body();
+    write_op(&OutOp::Load { kind, memarg }, &mut out)?;
+    let ty = BlockType::FuncType(64);
+    write_op(&OutOp::Loop { ty }, &mut out)?;
+    let ty = BlockType::Value(RawValType::F64);
+    write_op(&OutOp::If { ty }, &mut out)?;
+    write_op(&OutOp::Else, &mut out)?;
+    write_op(&OutOp::BrIf { label: 128 }, &mut out)?;
+    write_op(&OutOp::Call { func: 5 }, &mut out)?;
+    write_op(&OutOp::CallIndirect { ty: 0, table: 0 }, &mut out)?;
+    write_op(&OutOp::CallIndirect { ty: 3, table: 1 }, &mut out)?;
+    let text = hex::encode(rt.alloc(), out)?;
     assert_eq!(rt;
-        body.as_slice(),
-        [0x01, 0x02, 0x7e, 0x42, 0x7f, 0xfc, 0x07, 0x0b].as_slice()
+        text.as_str(),
+        "2802808080801003c000047c050d80011005110000110301"
     );
-
-    let mut out = Vec::new(rt.alloc());
-    write_op(&load, &mut out)?;
-    assert_eq!(rt;
-        out.as_slice(),
-        [0x28, 0x02, 0x80, 0x80, 0x80, 0x80, 0x10].as_slice()
-    );
-    let mut reader = Reader::new(out.as_slice(), 0);
-    assert!(rt; reader.read()? == Operator::Load { kind, memarg });
-    assert!(rt; reader.eof());
     Ok(())
 }
 
+/// Operators with lists, as they are written and as they are printed.
 #[test]
 fn writes_lists(rt: HostRuntime) -> Result<(), Fail> {
-    let mut out = Vec::new(rt.alloc());
-    let table = OutTable {
+    let alloc = rt.alloc();
+    let mut out = Vec::new(alloc);
+    let table = OutOp::BrTable(OutTable {
         targets: &[0, 300],
         default: 1,
-    };
-    write_op(&OutOp::BrTable(table), &mut out)?;
+    });
+    write_op(&table, &mut out)?;
     let clauses = [
         RawCatch {
             by_reference: false,
@@ -64,41 +72,18 @@ fn writes_lists(rt: HostRuntime) -> Result<(), Fail> {
         clauses: clauses.as_slice(),
     };
     let ty = BlockType::Empty;
-    write_op(&OutOp::TryTable { ty, catches }, &mut out)?;
+    let handled = OutOp::TryTable { ty, catches };
+    write_op(&handled, &mut out)?;
+    let text = hex::encode(alloc, out)?;
+    assert_eq!(rt; text.as_str(), "0e0200ac02011f40020005000302");
+    let again = handled.clone()?;
+    let printed = format!(in alloc; "{table:?} {again:?}")?;
     assert_eq!(rt;
-        out.as_slice(),
-        [
-            0x0e, 0x02, 0x00, 0xac, 0x02, 0x01, 0x1f, 0x40, 0x02, 0x00, 0x05, 0x00, 0x03, 0x02,
-        ]
-        .as_slice()
-    );
-    Ok(())
-}
-
-#[test]
-fn writes_control_and_calls(rt: HostRuntime) -> Result<(), Fail> {
-    let mut out = Vec::new(rt.alloc());
-    let ty = BlockType::FuncType(64);
-    write_op(&OutOp::Loop { ty }, &mut out)?;
-    let ty = BlockType::Value(RawValType::F64);
-    write_op(&OutOp::If { ty }, &mut out)?;
-    write_op(&OutOp::Else, &mut out)?;
-    write_op(&OutOp::BrIf { label: 128 }, &mut out)?;
-    let table = OutTable {
-        targets: &[0, 1],
-        default: 2,
-    };
-    write_op(&OutOp::BrTable(table), &mut out)?;
-    write_op(&OutOp::Call { func: 5 }, &mut out)?;
-    write_op(&OutOp::CallIndirect { ty: 0, table: 0 }, &mut out)?;
-    write_op(&OutOp::CallIndirect { ty: 3, table: 1 }, &mut out)?;
-    assert_eq!(rt;
-        out.as_slice(),
-        [
-            0x03, 0xc0, 0x00, 0x04, 0x7c, 0x05, 0x0d, 0x80, 0x01, 0x0e, 0x02, 0x00, 0x01, 0x02,
-            0x10, 0x05, 0x11, 0x00, 0x00, 0x11, 0x03, 0x01,
-        ]
-        .as_slice()
+        printed.as_str(),
+        "BrTable(OutTable { targets: [0, 300], default: 1 }) \
+        TryTable { ty: Empty, catches: OutClauses { clauses: [\
+        RawCatch { by_reference: false, tag: Some(5), label: 0 }, \
+        RawCatch { by_reference: true, tag: None, label: 2 }] } }"
     );
     Ok(())
 }

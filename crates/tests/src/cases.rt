@@ -1,0 +1,111 @@
+//! Tables of cases: what is answered about each text or function, as text, beside what is wanted.
+use crate::by_hand::{Item, function};
+use crate::emitting::written;
+use crate::facts::{answered, visited};
+use crate::program::printed;
+use crate::reading::read_all;
+use crate::rewriting::rewritten;
+use crate::small_module::{Setting, entry_text, parse, parsed, parsed_by, told};
+use crate::validators::{Counting, Keeping};
+use crate::walk::walked;
+use std::alloc::Global;
+use std::process::Abort;
+use std::test::Fail;
+use walrus_body::LocalFunction;
+
+/// What is asked about a text.
+#[derive(Clone, Copy)]
+pub(crate) enum About {
+    /// The function that a body gives, or its first fault.
+    Function(Setting),
+    /// The first sequence of that function.
+    Entry,
+    /// The function's size and data segments, and whether it is constant.
+    Facts,
+    /// The function's bytes and pairs when it is written.
+    Written(Setting),
+    /// The function where a validator refuses the third operator with 7.
+    Counted,
+    /// The function where a validator keeps places, and refuses the fourth operator with 9.
+    Kept,
+    /// The places of the operators that a validator is asked about.
+    Told,
+    /// The body that is written over the demo module.
+    Rewritten,
+    /// The operators that are read from a place on.
+    Read(u32),
+    /// What the program prints.
+    Printed,
+}
+
+fn answer(alloc: Global, about: About, text: &str) -> Result<String, Fail> {
+    match about {
+        About::Function(setting) => Ok(parsed(alloc, setting, text)?),
+        About::Entry => entry_text(alloc, text),
+        About::Facts => Ok(answered(alloc, &parse(alloc, Setting::PLAIN, text)?)?),
+        About::Written(setting) => written(alloc, &parse(alloc, setting, text)?),
+        About::Counted => Ok(parsed_by(alloc, Setting::PLAIN, text, Counting { left: 2 })?),
+        About::Kept => {
+            let places = Vec::new(alloc);
+            Ok(parsed_by(alloc, Setting::PLAIN, text, Keeping { places })?)
+        }
+        About::Told => Ok(told(alloc, text)?),
+        About::Rewritten => Ok(rewritten(alloc, text)?),
+        About::Read(start) => read_all(alloc, text, start),
+        About::Printed => Ok(printed(alloc, text)?),
+    }
+}
+
+/// Asks about texts, each of which stands before the answer that is wanted.
+pub(crate) fn check(
+    rt: &impl Abort,
+    alloc: Global,
+    about: About,
+    cases: &[(&str, &str)],
+) -> Result<(), Fail> {
+    for (text, want) in cases {
+        let found = answer(alloc, about, text)?;
+        assert_eq!(rt; found.as_str(), *want, "of {text}");
+    }
+    Ok(())
+}
+
+/// What is asked about a function that is made by hand.
+#[derive(Clone, Copy)]
+pub(crate) enum AboutMade {
+    /// What a walk tells.
+    Walk,
+    /// Its size and data segments, as visitors find them and as it answers itself.
+    Facts,
+    /// Its bytes and pairs when it is written.
+    Written,
+}
+
+fn answer_made(alloc: Global, about: AboutMade, instrs: &[Item]) -> Result<String, Fail> {
+    let builder = function(alloc, 3, instrs)?;
+    match about {
+        AboutMade::Walk => Ok(walked(alloc, &builder, 0, 1000)?),
+        AboutMade::Facts => {
+            let mut text = visited(alloc, &builder)?;
+            text.push_str("; ")?;
+            let function = LocalFunction::new(Vec::new(alloc), builder);
+            text.push_str(answered(alloc, &function)?.as_str())?;
+            Ok(text)
+        }
+        AboutMade::Written => written(alloc, &LocalFunction::new(Vec::new(alloc), builder)),
+    }
+}
+
+/// Asks about functions of three sequences that are made by hand.
+pub(crate) fn check_made(
+    rt: &impl Abort,
+    alloc: Global,
+    about: AboutMade,
+    cases: &[(&[Item], &str)],
+) -> Result<(), Fail> {
+    for (instrs, want) in cases {
+        let found = answer_made(alloc, about, instrs)?;
+        assert_eq!(rt; found.as_str(), *want);
+    }
+    Ok(())
+}

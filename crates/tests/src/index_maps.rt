@@ -1,0 +1,240 @@
+//! Ids of old indices, new indices of ids, and the texts of what is refused.
+ghost use Rattle.std.specs.Prelude.{◌≡◌};
+ghost use Rattle.walrus_body.specs.IndexMaps.{number_of};
+
+use std::alloc::{AllocError, Global};
+use std::test::Fail;
+use walrus_body::{IdsToIndices, IndexError, IndicesToIds, Space};
+use walrus_ir::{
+    DataId, ElementId, FunctionId, GlobalId, LocalId, MemoryId, TableId, TagId, TypeId,
+};
+
+// Each space, and the number of an id in it.
+const SPACES: [(Space, usize); 8] = [
+    (Space::Tables, 10),
+    (Space::Types, 11),
+    (Space::Funcs, 12),
+    (Space::Globals, 13),
+    (Space::Memories, 14),
+    (Space::Elements, 15),
+    (Space::Data, 16),
+    (Space::Tags, 17),
+];
+
+fn push(ids: &mut IndicesToIds, space: Space, id: usize) -> Result<u32, IndexError> {
+    match space {
+        Space::Tables => ids.push_table(TableId::new(id)),
+        Space::Types => ids.push_type(TypeId::new(id)),
+        Space::Funcs => ids.push_func(FunctionId::new(id)),
+        Space::Globals => ids.push_global(GlobalId::new(id)),
+        Space::Memories => ids.push_memory(MemoryId::new(id)),
+        Space::Elements => ids.push_element(ElementId::new(id)),
+        Space::Data => ids.push_data(DataId::new(id)),
+        Space::Tags => ids.push_tag(TagId::new(id)),
+    }
+}
+
+fn get(ids: &IndicesToIds, space: Space, index: u32) -> Result<usize, IndexError> {
+    match space {
+        Space::Tables => ids.get_table(index).map(TableId::index),
+        Space::Types => ids.get_type(index).map(TypeId::index),
+        Space::Funcs => ids.get_func(index).map(FunctionId::index),
+        Space::Globals => ids.get_global(index).map(GlobalId::index),
+        Space::Memories => ids.get_memory(index).map(MemoryId::index),
+        Space::Elements => ids.get_element(index).map(ElementId::index),
+        Space::Data => ids.get_data(index).map(DataId::index),
+        Space::Tags => ids.get_tag(index).map(TagId::index),
+    }
+}
+
+// A number, or the text of the fault.
+fn shown(alloc: Global, answer: Result<usize, IndexError>) -> Result<String, AllocError> {
+    match answer {
+        Ok(number) => number.to_string(alloc),
+        Err(error) => error.to_string(alloc),
+    }
+}
+
+// An id in each space.
+fn ids_of_spaces(alloc: Global) -> Result<IndicesToIds, IndexError> {
+    let mut ids = IndicesToIds::new(alloc);
+    for (space, id) in SPACES {
+        push(&mut ids, space, id)?;
+    }
+    Ok(ids)
+}
+
+// What is answered in a space about the old indices 0 and 5.
+fn answers(alloc: Global, ids: &IndicesToIds, space: Space) -> Result<String, AllocError> {
+    let mut text = shown(alloc, get(ids, space, 0))?;
+    write!(text, ", ")?;
+    text.push_str(shown(alloc, get(ids, space, 5))?.as_str())?;
+    Ok(text)
+}
+
+/// Each space has ids of its own, and is named where an index has none.
+#[test]
+fn each_space_has_its_ids(rt: HostRuntime) -> Result<(), Fail> {
+    let ids = ids_of_spaces(rt.alloc())?;
+    for (space, want) in [
+        (Space::Tables, "10, index `5` is out of bounds for tables"),
+        (Space::Types, "11, index `5` is out of bounds for types"),
+        (Space::Funcs, "12, index `5` is out of bounds for funcs"),
+        (Space::Globals, "13, index `5` is out of bounds for globals"),
+        (
+            Space::Memories,
+            "14, index `5` is out of bounds for memories",
+        ),
+        (
+            Space::Elements,
+            "15, index `5` is out of bounds for elements",
+        ),
+        (Space::Data, "16, index `5` is out of bounds for data"),
+        (Space::Tags, "17, index `5` is out of bounds for tags"),
+    ] {
+        let found = answers(rt.alloc(), &ids, space)?;
+        assert_eq!(rt; found.as_str(), want);
+    }
+    Ok(())
+}
+
+// Gives two types old indices, and the first of these to another type.
+fn remap(ids: &mut IndicesToIds) -> Result<(), IndexError> {
+    ids.push_type(TypeId::new(2))?;
+    ids.push_type(TypeId::new(0))?;
+    ids.remap_type(0, TypeId::new(3));
+    Ok(())
+}
+
+/// An old index that is given to another id, and the indices beside it.
+#[test]
+fn an_index_is_remapped(rt: HostRuntime) -> Result<(), Fail> {
+    let mut ids = IndicesToIds::new(rt.alloc());
+    remap(&mut ids)?;
+    for (index, want) in [
+        (0, "3"),
+        (1, "0"),
+        (2, "index `2` is out of bounds for types"),
+    ] {
+        let found = shown(rt.alloc(), get(&ids, Space::Types, index))?;
+        assert_eq!(rt; found.as_str(), want);
+    }
+    Ok(())
+}
+
+/// Each function has locals of its own, in the order in which they were pushed.
+#[test]
+fn each_function_has_its_locals(rt: HostRuntime) -> Result<(), Fail> {
+    let alloc = rt.alloc();
+    let mut ids = IndicesToIds::new(alloc);
+    let function = FunctionId::new(3);
+    for local in [7, 4] {
+        ids.push_local(function, LocalId::new(local))?;
+    }
+    for (function, index, want) in [
+        (3, 0, "7"),
+        (3, 1, "4"),
+        (3, 5, "index `5` in function `3` is out of bounds for local"),
+        (2, 0, "function index `2` is out of bounds for local"),
+    ] {
+        let found = ids
+            .get_local(FunctionId::new(function), index)
+            .map(LocalId::index);
+        assert_eq!(rt; shown(alloc, found)?.as_str(), want);
+    }
+    Ok(())
+}
+
+// The new index of an id.
+fn number(numbers: &IdsToIndices, space: Space, id: usize) -> Result<u32, IndexError>
+    ensures { result ≡ number_of numbers.now space id }
+{
+    match space {
+        Space::Tables => numbers.get_table_index(TableId::new(id)),
+        Space::Types => numbers.get_type_index(TypeId::new(id)),
+        Space::Funcs => numbers.get_func_index(FunctionId::new(id)),
+        Space::Globals => numbers.get_global_index(GlobalId::new(id)),
+        Space::Memories => numbers.get_memory_index(MemoryId::new(id)),
+        Space::Elements => numbers.get_element_index(ElementId::new(id)),
+        Space::Data => numbers.get_data_index(DataId::new(id)),
+        Space::Tags => numbers.get_tag_index(TagId::new(id)),
+    }
+}
+
+// Gives an id that has none the next new index, and a data segment 0.
+fn give(numbers: &mut IdsToIndices, space: Space, id: usize) -> Result<(), IndexError> {
+    if number(numbers, space, id).is_ok() {
+        return Ok(());
+    }
+    match space {
+        Space::Tables => numbers.push_table(TableId::new(id)),
+        Space::Types => numbers.push_type(TypeId::new(id)),
+        Space::Funcs => numbers.push_func(FunctionId::new(id)),
+        Space::Globals => numbers.push_global(GlobalId::new(id)),
+        Space::Memories => numbers.push_memory(MemoryId::new(id)),
+        Space::Elements => numbers.push_element(ElementId::new(id)),
+        Space::Data => numbers.set_data_index(DataId::new(id), 0),
+        Space::Tags => numbers.push_tag(TagId::new(id)),
+    }
+}
+
+// The new index of an id, or the text of the fault.
+fn number_text(
+    alloc: Global,
+    numbers: &IdsToIndices,
+    space: Space,
+    id: usize,
+) -> Result<String, AllocError> {
+    match number(numbers, space, id) {
+        Ok(number) => number.to_string(alloc),
+        Err(error) => error.to_string(alloc),
+    }
+}
+
+// An id in each space, and two functions more.
+fn numbers_of_spaces(alloc: Global) -> Result<IdsToIndices, IndexError> {
+    let mut numbers = IdsToIndices::new(alloc);
+    for (space, id) in SPACES {
+        give(&mut numbers, space, id)?;
+    }
+    for id in [5, 2] {
+        give(&mut numbers, Space::Funcs, id)?;
+    }
+    Ok(numbers)
+}
+
+/// Each space has new indices of its own, in the order in which ids were pushed.
+#[test]
+fn each_space_has_its_numbers(rt: HostRuntime) -> Result<(), Fail> {
+    let numbers = numbers_of_spaces(rt.alloc())?;
+    for (space, id, want) in [
+        (Space::Tables, 10, "0"),
+        (Space::Types, 11, "0"),
+        (Space::Funcs, 12, "0"),
+        (Space::Funcs, 5, "1"),
+        (Space::Funcs, 2, "2"),
+        (Space::Funcs, 7, "an id has no index among funcs"),
+        (Space::Globals, 13, "0"),
+        (Space::Memories, 14, "0"),
+        (Space::Elements, 15, "0"),
+        (Space::Data, 16, "0"),
+        (Space::Tags, 17, "0"),
+        (Space::Tags, 10, "an id has no index among tags"),
+    ] {
+        let found = number_text(rt.alloc(), &numbers, space, id)?;
+        assert_eq!(rt; found.as_str(), want);
+    }
+    Ok(())
+}
+
+/// The new index of a data segment is replaced.
+#[test]
+fn a_data_index_is_replaced(rt: HostRuntime) -> Result<(), Fail> {
+    let mut numbers = IdsToIndices::new(rt.alloc());
+    for index in [9, 4] {
+        numbers.set_data_index(DataId::new(1), index)?;
+    }
+    let found = number_text(rt.alloc(), &numbers, Space::Data, 1)?;
+    assert_eq!(rt; found.as_str(), "4");
+    Ok(())
+}
