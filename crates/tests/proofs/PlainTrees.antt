@@ -2,7 +2,7 @@
 use Rattle.std.specs.Prelude.{◌≡◌, ◌&&◌, ℕ, List, ◌∷◌, [], Bool, true, false, IsSome}
 use Rattle.std.proofs.Common.{refl, subst}
 use Rattle.walrus_ir.specs.declared.seq.InstrSeq.{InstrSeq}
-use Rattle.walrus_ir.specs.declared.instr.Instr.TheVariants.{Block, IfElse, Br, Call, Drop, Const}
+use Rattle.walrus_ir.specs.declared.instr.Instr.TheVariants.{Block, IfElse, Try, Br, Call, Drop, Const}
 use Rattle.walrus_ir.specs.declared.instr.Instr.{Instr}
 use Rattle.walrus_ir.specs.declared.value.Value.{Value}
 use Rattle.walrus_ir.specs.declared.value.Value.TheVariants.{I32}
@@ -24,6 +24,7 @@ plain_carried : (i : Instr) → is_plain i ≡ true → IsSome (kinds_of (operat
 unfolding kinds_of_byte
 plain_carried (Block x) h = refl
 plain_carried (IfElse x) h = refl
+plain_carried (Try x) h = refl
 plain_carried (Br x) h = refl
 plain_carried (Call x) h = refl
 plain_carried Drop h = refl

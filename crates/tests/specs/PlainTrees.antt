@@ -2,7 +2,7 @@
 use Rattle.std.specs.Prelude.{◌≡◌, ℕ, List, Bool, true, false, Some, slice_get}
 use Rattle.std.specs.List.{list_all}
 use Rattle.walrus_ir.specs.declared.seq.InstrSeq.{InstrSeq}
-use Rattle.walrus_ir.specs.declared.instr.Instr.TheVariants.{Block, IfElse, Br, Call, Drop, Const}
+use Rattle.walrus_ir.specs.declared.instr.Instr.TheVariants.{Block, IfElse, Try, Br, Call, Drop, Const}
 use Rattle.walrus_ir.specs.declared.instr.Instr.{Instr}
 use Rattle.walrus_ir.specs.declared.value.Value.{Value}
 use Rattle.walrus_ir.specs.declared.value.Value.TheVariants.{I32}
@@ -15,6 +15,7 @@ is_i32 _ = false
 abbrev pub is_plain : Instr → Bool
 is_plain (Block x) = true
 is_plain (IfElse x) = true
+is_plain (Try x) = true
 is_plain (Br x) = true
 is_plain (Call x) = true
 is_plain Drop = true

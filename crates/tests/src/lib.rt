@@ -15,6 +15,8 @@ mod emit;
 #[cfg(test)]
 mod emitting;
 #[cfg(test)]
+mod exceptions;
+#[cfg(test)]
 mod facts;
 #[cfg(test)]
 mod function_text;

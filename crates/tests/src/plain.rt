@@ -7,12 +7,17 @@ use walrus_body::{EmitError, IdsToIndices, LocalFunction};
 use walrus_ir::{Const, FunctionBuilder, IdHashMap, Instr, InstrLocId, InstrSeqId, LocalId, Value};
 use wasm_encode::FunctionEncoder;
 
-/// Whether it is a `block`, an `if`, a `br`, a `call`, a `drop` or an `i32.const`.
+/// Whether it is a `block`, an `if`, a `try`, a `br`, a `call`, a `drop` or an `i32.const`.
 fn is_plain(instr: &Instr) -> bool
     ensures { result ≡ is_plain instr.now }
 {
     match instr {
-        Instr::Block(_) | Instr::IfElse(_) | Instr::Br(_) | Instr::Call(_) | Instr::Drop => true,
+        Instr::Block(_)
+        | Instr::IfElse(_)
+        | Instr::Try(_)
+        | Instr::Br(_)
+        | Instr::Call(_)
+        | Instr::Drop => true,
         Instr::Const(Const { value }) => matches!(value, Value::I32(_)),
         _ => false,
     }

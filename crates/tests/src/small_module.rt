@@ -11,7 +11,7 @@ use walrus_body::{
 };
 use walrus_ir::{
     DataId, ElementId, FunctionId, GlobalId, Instr, InstrLocId, LocalId, MemoryId, Module,
-    ModuleItems, ModuleTypes, TableId, TypeId, ValType,
+    ModuleItems, ModuleTags, ModuleTypes, TableId, TagId, TypeId, ValType,
 };
 
 /// A module and the ids of its old indices.
@@ -42,7 +42,17 @@ fn add_type(types: &mut ModuleTypes, id: usize) -> Result<TypeId, AllocError> {
     }
 }
 
-// The old types 0 to 3 have the ids 0, 2, 3 and 6; of all else there are one or two.
+// Of the types 0, 3 and 1.
+fn tags(alloc: Global) -> Result<ModuleTags, AllocError> {
+    let mut tags = ModuleTags::new(alloc);
+    for ty in [0, 3, 1] {
+        tags.add(TypeId::new(ty))?;
+    }
+    Ok(tags)
+}
+
+// The old types 0 to 3 have the ids 0, 2, 3 and 6; of all else there are
+// one or two, but of tags four, the last of which the module doesn't hold.
 fn indices(alloc: Global) -> Result<IndicesToIds, IndexError> {
     let mut indices = IndicesToIds::new(alloc);
     for ty in [0, 2, 3, 6] {
@@ -56,6 +66,9 @@ fn indices(alloc: Global) -> Result<IndicesToIds, IndexError> {
     indices.push_global(GlobalId::new(31))?;
     indices.push_memory(MemoryId::new(41))?;
     indices.push_element(ElementId::new(51))?;
+    for tag in [0, 1, 2, 71] {
+        indices.push_tag(TagId::new(tag))?;
+    }
     Ok(indices)
 }
 
@@ -65,13 +78,13 @@ impl Example {
         ensures { IfOk result (λ example.
             example.module.code_section_offset ≡ code_section_offset) }
     {
-        let Ok(types) = types(alloc) else {
+        let (Ok(types), Ok(tags)) = (types(alloc), tags(alloc)) else {
             return Err(IndexError::Memory);
         };
         let indices = indices(alloc)?;
         let module = Module {
             types,
-            tags: ModuleItems::new(alloc),
+            tags,
             locals: ModuleItems::new(alloc),
             code_section_offset,
         };

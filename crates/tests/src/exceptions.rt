@@ -1,0 +1,148 @@
+//! Exceptions of both kinds: `try_table`, and the `try` of the legacy proposal.
+use crate::by_hand::put;
+use crate::cases::{About, check};
+use crate::emitting::written;
+use crate::small_module::Setting;
+use std::alloc::{AllocError, Global};
+use std::test::Fail;
+use walrus_body::LocalFunction;
+use walrus_ir::{
+    FunctionBuilder, Instr, InstrSeqId, InstrSeqType, LegacyCatch, TagId, Try, TypeId,
+};
+use walrus_run::rewrite_demo;
+
+/// Bodies over the demo module, whose tag 0 has no parameters, and 1 an `i32`.
+#[test]
+fn rewrites_exceptions(rt: HostRuntime) -> Result<(), Fail> {
+    let cases = [
+        ("06404105080107011a190b0b", "06404105080107011a190b0b"),
+        ("064008000141070700190b0b", "064008000700190b0b"),
+        ("06400700190b0b", "06400700190b0b"),
+        ("0f064018000b", "0f0b"),
+        ("02401f400102000b0b0b", "02401f400102000b0b0b"),
+        ("1f400102000b0b", "1f400102000b0b"),
+        ("06401907000b0b", "CatchOutsideTry at 3"),
+        ("190b", "CatchOutsideTry at 0"),
+        ("0640070018000b", "DelegateOutsideTry at 4"),
+        ("18000b", "DelegateOutsideTry at 0"),
+        ("064018010b", "NoSuchLabel at 2"),
+        ("0640090007000b0b", "RethrowOutsideHandler at 2"),
+        ("09000b", "RethrowOutsideHandler at 0"),
+        ("0640070009050b0b", "NoSuchLabel at 4"),
+        ("067f410107010b1a0b", "TypeMissing at 4"),
+        ("1f400104000b0b", "BadCatchKind 0 at 0"),
+        ("1f40010005090b0b", "Tags 5 at 0"),
+        ("1f40010000010b0b", "NoSuchLabel at 0"),
+    ];
+    check(&rt, rt.alloc(), About::Rewritten, &cases)
+}
+
+/// Clauses of a legacy `try` in the tree, and the faults of a `catch` in the order of its rules:
+/// its tag's old index, that the module holds the tag, that this has a function type, and that
+/// there is a type for the handler.
+#[test]
+fn parses_clauses(rt: HostRuntime) -> Result<(), Fail> {
+    let cases = [
+        (
+            "064007000b0b",
+            "0..6 0:0 2:2 4:4 5:5 type4[ try 1 1@0 ]5 ()[ ]2 ()[ ]4",
+        ),
+        (
+            "06400700190b0b",
+            "0..7 0:0 2:2 4:4 5:5 6:6 type4[ try 1 2@0 ]6 ()[ ]2 ()[ ]4 ()[ ]5",
+        ),
+        // The body of a `try` that `delegate` closes ends nowhere.
+        ("064018000b", "0..5 0:0 2:2 4:4 type4[ try 1 1@0 ]4 ()[ ]-"),
+        ("064007040b0b", "Tags 4 at 2"),
+        ("064007030b0b", "UnknownId at 2"),
+        ("064007010b0b", "NotAFunctionType at 2"),
+        ("064007020b0b", "TypeMissing at 2"),
+        ("08040b", "Tags 4 at 0"),
+    ];
+    check(&rt, rt.alloc(), About::Function(Setting::PLAIN), &cases)
+}
+
+/// A `delegate` has the default location, since the sequence that it closes ends nowhere.
+#[test]
+fn writes_a_delegate_nowhere(rt: HostRuntime) -> Result<(), Fail> {
+    let setting = Setting {
+        ty: 0,
+        offset: 0,
+        before: 0,
+        ops: 1,
+        located: false,
+    };
+    let cases = [("00064018000b", "00064018000b 9@9 1@1 -@3 5@5")];
+    check(&rt, rt.alloc(), About::Written(setting), &cases)
+}
+
+// A function whose entry is a `try` with these clauses, and the type of its body this.
+fn with_clauses(
+    alloc: Global,
+    ty: InstrSeqType,
+    clauses: &[LegacyCatch],
+) -> Result<LocalFunction, AllocError> {
+    let mut builder = FunctionBuilder::without_entry(alloc, TypeId::new(0));
+    for ty in [InstrSeqType::Simple(None), ty] {
+        builder.alloc(ty)?;
+    }
+    for _ in 2..4 {
+        builder.alloc(InstrSeqType::Simple(None))?;
+    }
+    builder.set_entry(InstrSeqId::new(0));
+    let seq = InstrSeqId::new(1);
+    let catches = Vec::from_slice(alloc, clauses)?;
+    put(&mut builder, 0, Instr::Try(Try { seq, catches }), 1)?;
+    Ok(LocalFunction::new(Vec::new(alloc), builder))
+}
+
+fn catch(handler: usize) -> LegacyCatch {
+    LegacyCatch::Catch {
+        tag: TagId::new(0),
+        handler: InstrSeqId::new(handler),
+    }
+}
+
+fn catch_all(handler: usize) -> LegacyCatch {
+    LegacyCatch::CatchAll {
+        handler: InstrSeqId::new(handler),
+    }
+}
+
+/// A `try` whose clauses are in no lawful order isn't written, also where its type has no number;
+/// bytes and pairs are as before.
+#[test]
+fn refuses_unlawful_clauses(rt: HostRuntime) -> Result<(), Fail> {
+    let delegate = LegacyCatch::Delegate { relative_depth: 0 };
+    let lists = [
+        [catch_all(2), catch(3)],
+        [catch_all(2), catch_all(3)],
+        [catch(2), delegate],
+        [delegate, catch_all(2)],
+    ];
+    for ty in [
+        InstrSeqType::Simple(None),
+        InstrSeqType::MultiValue(TypeId::new(77)),
+    ] {
+        for clauses in &lists {
+            let text = written(rt.alloc(), &with_clauses(rt.alloc(), ty, clauses)?)?;
+            assert_eq!(rt; text.as_str(), "BadClauses 00 9@9");
+        }
+    }
+    let plain = with_clauses(rt.alloc(), InstrSeqType::Simple(None), &[catch_all(2)])?;
+    let text = written(rt.alloc(), &plain)?;
+    assert_eq!(rt; text.as_str(), "000640190b0b 9@9 1@1 -@3 -@4 -@5");
+    Ok(())
+}
+
+/// A rewriting takes no stack for each `try`.
+#[test]
+fn rewrites_deeply_nested_tries(rt: HostRuntime) -> Result<(), Fail> {
+    let mut ops: Vec<u8> = Vec::new(rt.alloc());
+    for _ in 0..100_000 {
+        ops.extend_from_slice(&[0x06, 0x40])?;
+    }
+    ops.resize(300_001, 0x0b)?;
+    assert!(rt; rewrite_demo(rt.alloc(), &ops)? == ops);
+    Ok(())
+}
