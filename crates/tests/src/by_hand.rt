@@ -155,8 +155,8 @@ fn legacy_try(alloc: Global) -> Result<Instr, AllocError> {
 }
 
 /// An entry of 8 instructions; in it a block of 5, in which an if-else has 2 and 2, and a `try`
-/// with a body and two handlers of 2 each. One sequence more has 2 and is in no other. Each constant has
-/// the location that is its value.
+/// with a body and two handlers of 2 each. One sequence more has 2 and is in no other. Each
+/// constant has the location that is its value.
 pub(crate) fn example(alloc: Global) -> Result<FunctionBuilder, AllocError> {
     let mut builder = function(
         alloc,

@@ -12,7 +12,8 @@ use std::alloc::Global;
 use std::marker::Model;
 use walrus_ir::{FunctionId, IdHashMap, LocalId, kind};
 
-/// The locals of each function, by old index. A contract sees a finite map from function to the list of its locals.
+/// The locals of each function, by old index. A contract sees a finite map from function to the
+/// list of its locals.
 #[derive(Drop)]
 pub(crate) struct FunctionLocals {
     lists: IdHashMap<FunctionId, IdList<kind::Local>>,
@@ -51,8 +52,8 @@ impl FunctionLocals {
         }
     }
 
-    // The same for a function that has no list. The list goes in once it holds the local, so that no empty one stays
-    // behind a refusal.
+    // The same for a function that has no list. The list goes in once it holds the local, so that
+    // no empty one stays behind a refusal.
     fn push_first(&mut self, function: FunctionId, local: LocalId) -> Result<u32, IndexError>
         ensures index { IfOk result (λ n. n ≡ 0) }
         ensures ok { OnOk result (self.new ≡ map.insert self.old function (local ∷ [])) }

@@ -16,7 +16,8 @@ use walrus_ir::{
 };
 use wasm_ops::Space;
 
-/// The new indices of ids, which are the numbers that are written for them. Each space counts its indices from 0 on.
+/// The new indices of ids, which are the numbers that are written for them. Each space counts its
+/// indices from 0 on.
 #[derive(Drop)]
 pub struct IdsToIndices {
     tables: IdNumbers<kind::Table>,
@@ -50,7 +51,8 @@ impl IdsToIndices {
         }
     }
 
-    /// Gives a table that has no new index the next one. Errors: `TooMany` where 2^32 have one, and `Memory`.
+    /// Gives a table that has no new index the next one. Errors: `TooMany` where 2^32 have one, and
+    /// `Memory`.
     pub fn push_table(&mut self, id: TableId) -> Result<(), IndexError>
         requires { IsErr (number_of self.old Tables id) }
         ensures ok { OnOk result (self.new ≡ with_next_number Tables id self.old) }
@@ -60,7 +62,8 @@ impl IdsToIndices {
         self.tables.push(id)
     }
 
-    /// Gives a type that has no new index the next one. Errors: `TooMany` where 2^32 have one, and `Memory`.
+    /// Gives a type that has no new index the next one. Errors: `TooMany` where 2^32 have one, and
+    /// `Memory`.
     pub fn push_type(&mut self, id: TypeId) -> Result<(), IndexError>
         requires { IsErr (number_of self.old Types id) }
         ensures ok { OnOk result (self.new ≡ with_next_number Types id self.old) }
@@ -70,7 +73,8 @@ impl IdsToIndices {
         self.types.push(id)
     }
 
-    /// Gives a function that has no new index the next one. Errors: `TooMany` where 2^32 have one, and `Memory`.
+    /// Gives a function that has no new index the next one. Errors: `TooMany` where 2^32 have one,
+    /// and `Memory`.
     pub fn push_func(&mut self, id: FunctionId) -> Result<(), IndexError>
         requires { IsErr (number_of self.old Funcs id) }
         ensures ok { OnOk result (self.new ≡ with_next_number Funcs id self.old) }
@@ -80,7 +84,8 @@ impl IdsToIndices {
         self.funcs.push(id)
     }
 
-    /// Gives a global that has no new index the next one. Errors: `TooMany` where 2^32 have one, and `Memory`.
+    /// Gives a global that has no new index the next one. Errors: `TooMany` where 2^32 have one,
+    /// and `Memory`.
     pub fn push_global(&mut self, id: GlobalId) -> Result<(), IndexError>
         requires { IsErr (number_of self.old Globals id) }
         ensures ok { OnOk result (self.new ≡ with_next_number Globals id self.old) }
@@ -90,7 +95,8 @@ impl IdsToIndices {
         self.globals.push(id)
     }
 
-    /// Gives a memory that has no new index the next one. Errors: `TooMany` where 2^32 have one, and `Memory`.
+    /// Gives a memory that has no new index the next one. Errors: `TooMany` where 2^32 have one,
+    /// and `Memory`.
     pub fn push_memory(&mut self, id: MemoryId) -> Result<(), IndexError>
         requires { IsErr (number_of self.old Memories id) }
         ensures ok { OnOk result (self.new ≡ with_next_number Memories id self.old) }
@@ -100,7 +106,8 @@ impl IdsToIndices {
         self.memories.push(id)
     }
 
-    /// Gives an element segment that has no new index the next one. Errors: `TooMany` where 2^32 have one, and `Memory`.
+    /// Gives an element segment that has no new index the next one. Errors: `TooMany` where 2^32
+    /// have one, and `Memory`.
     pub fn push_element(&mut self, id: ElementId) -> Result<(), IndexError>
         requires { IsErr (number_of self.old Elements id) }
         ensures ok { OnOk result (self.new ≡ with_next_number Elements id self.old) }
@@ -110,7 +117,8 @@ impl IdsToIndices {
         self.elements.push(id)
     }
 
-    /// Gives a tag that has no new index the next one. Errors: `TooMany` where 2^32 have one, and `Memory`.
+    /// Gives a tag that has no new index the next one. Errors: `TooMany` where 2^32 have one, and
+    /// `Memory`.
     pub fn push_tag(&mut self, id: TagId) -> Result<(), IndexError>
         requires { IsErr (number_of self.old Tags id) }
         ensures ok { OnOk result (self.new ≡ with_next_number Tags id self.old) }
@@ -120,7 +128,8 @@ impl IdsToIndices {
         self.tags.push(id)
     }
 
-    /// Gives a data segment this new index, in the place of the one that it has. The only error is `Memory`.
+    /// Gives a data segment this new index, in the place of the one that it has. The only error is
+    /// `Memory`.
     pub fn set_data_index(&mut self, id: DataId, index: u32) -> Result<(), IndexError>
         ensures ok { OnOk result (self.new ≡ with_number Data id index self.old) }
         ensures err { OnErr result (self.new ≡ self.old) }
@@ -186,8 +195,8 @@ impl IdsToIndices {
     }
 }
 
-/// Distinct ids, pushed into a space where no id has a new index, are numbered in their order, from 0 on without gaps. No
-/// other id gets a number, and no two get the same one.
+/// Distinct ids, pushed into a space where no id has a new index, are numbered in their order, from
+/// 0 on without gaps. No other id gets a number, and no two get the same one.
 pub fn law_numbers_of_pushes()
     ensures { PushesNumberInOrder }
 {}

@@ -13,8 +13,8 @@ use walrus_ir::{
 };
 use wasm_ops::Space;
 
-/// The ids that the old indices of a module stand for, those of the bytes that it was read from. Each space counts its
-/// indices from 0 on, and so does each function those of its locals.
+/// The ids that the old indices of a module stand for, those of the bytes that it was read from.
+/// Each space counts its indices from 0 on, and so does each function those of its locals.
 #[derive(Drop)]
 pub struct IndicesToIds {
     tables: IdList<kind::Table>,
@@ -46,7 +46,8 @@ impl IndicesToIds {
         }
     }
 
-    /// Adds a table, and answers its index, the next one. Errors: `TooMany` where there are 2^32, and `Memory`.
+    /// Adds a table, and answers its index, the next one. Errors: `TooMany` where there are 2^32,
+    /// and `Memory`.
     pub fn push_table(&mut self, id: TableId) -> Result<u32, IndexError>
         ensures index { IfOk result (λ n. n ≡ length (ids_in self.old Tables)) }
         ensures ok { OnOk result (self.new ≡ with_next_id Tables id self.old) }
@@ -56,7 +57,8 @@ impl IndicesToIds {
         self.tables.push(id)
     }
 
-    /// Adds a type, and answers its index, the next one. Errors: `TooMany` where there are 2^32, and `Memory`.
+    /// Adds a type, and answers its index, the next one. Errors: `TooMany` where there are 2^32,
+    /// and `Memory`.
     pub fn push_type(&mut self, id: TypeId) -> Result<u32, IndexError>
         ensures index { IfOk result (λ n. n ≡ length (ids_in self.old Types)) }
         ensures ok { OnOk result (self.new ≡ with_next_id Types id self.old) }
@@ -66,7 +68,8 @@ impl IndicesToIds {
         self.types.push(id)
     }
 
-    /// Adds a function, and answers its index, the next one. Errors: `TooMany` where there are 2^32, and `Memory`.
+    /// Adds a function, and answers its index, the next one. Errors: `TooMany` where there are
+    /// 2^32, and `Memory`.
     pub fn push_func(&mut self, id: FunctionId) -> Result<u32, IndexError>
         ensures index { IfOk result (λ n. n ≡ length (ids_in self.old Funcs)) }
         ensures ok { OnOk result (self.new ≡ with_next_id Funcs id self.old) }
@@ -76,7 +79,8 @@ impl IndicesToIds {
         self.funcs.push(id)
     }
 
-    /// Adds a global, and answers its index, the next one. Errors: `TooMany` where there are 2^32, and `Memory`.
+    /// Adds a global, and answers its index, the next one. Errors: `TooMany` where there are 2^32,
+    /// and `Memory`.
     pub fn push_global(&mut self, id: GlobalId) -> Result<u32, IndexError>
         ensures index { IfOk result (λ n. n ≡ length (ids_in self.old Globals)) }
         ensures ok { OnOk result (self.new ≡ with_next_id Globals id self.old) }
@@ -86,7 +90,8 @@ impl IndicesToIds {
         self.globals.push(id)
     }
 
-    /// Adds a memory, and answers its index, the next one. Errors: `TooMany` where there are 2^32, and `Memory`.
+    /// Adds a memory, and answers its index, the next one. Errors: `TooMany` where there are 2^32,
+    /// and `Memory`.
     pub fn push_memory(&mut self, id: MemoryId) -> Result<u32, IndexError>
         ensures index { IfOk result (λ n. n ≡ length (ids_in self.old Memories)) }
         ensures ok { OnOk result (self.new ≡ with_next_id Memories id self.old) }
@@ -96,7 +101,8 @@ impl IndicesToIds {
         self.memories.push(id)
     }
 
-    /// Adds an element segment, and answers its index, the next one. Errors: `TooMany` where there are 2^32, and `Memory`.
+    /// Adds an element segment, and answers its index, the next one. Errors: `TooMany` where there
+    /// are 2^32, and `Memory`.
     pub fn push_element(&mut self, id: ElementId) -> Result<u32, IndexError>
         ensures index { IfOk result (λ n. n ≡ length (ids_in self.old Elements)) }
         ensures ok { OnOk result (self.new ≡ with_next_id Elements id self.old) }
@@ -106,7 +112,8 @@ impl IndicesToIds {
         self.elements.push(id)
     }
 
-    /// Adds a data segment, and answers its index, the next one. Errors: `TooMany` where there are 2^32, and `Memory`.
+    /// Adds a data segment, and answers its index, the next one. Errors: `TooMany` where there are
+    /// 2^32, and `Memory`.
     pub fn push_data(&mut self, id: DataId) -> Result<u32, IndexError>
         ensures index { IfOk result (λ n. n ≡ length (ids_in self.old Data)) }
         ensures ok { OnOk result (self.new ≡ with_next_id Data id self.old) }
@@ -116,7 +123,8 @@ impl IndicesToIds {
         self.data.push(id)
     }
 
-    /// Adds a tag, and answers its index, the next one. Errors: `TooMany` where there are 2^32, and `Memory`.
+    /// Adds a tag, and answers its index, the next one. Errors: `TooMany` where there are 2^32, and
+    /// `Memory`.
     pub fn push_tag(&mut self, id: TagId) -> Result<u32, IndexError>
         ensures index { IfOk result (λ n. n ≡ length (ids_in self.old Tags)) }
         ensures ok { OnOk result (self.new ≡ with_next_id Tags id self.old) }
@@ -126,8 +134,8 @@ impl IndicesToIds {
         self.tags.push(id)
     }
 
-    /// Adds a local of a function, and answers its index, the next one of the function. Errors: `TooMany` where the
-    /// function has 2^32, and `Memory`.
+    /// Adds a local of a function, and answers its index, the next one of the function. Errors:
+    /// `TooMany` where the function has 2^32, and `Memory`.
     pub fn push_local(&mut self, function: FunctionId, local: LocalId) -> Result<u32, IndexError>
         ensures index { IfOk result (λ n. n ≡ length (locals_in self.old function)) }
         ensures ok { OnOk result (self.new ≡ with_next_local function local self.old) }
@@ -193,8 +201,8 @@ impl IndicesToIds {
         self.tags.get_in(Space::Tags, index)
     }
 
-    /// The local of a function with this index, `NoLocals` where the function has no locals, or `LocalOutOfRange`. It
-    /// takes no memory.
+    /// The local of a function with this index, `NoLocals` where the function has no locals, or
+    /// `LocalOutOfRange`. It takes no memory.
     pub fn get_local(&self, function: FunctionId, index: u32) -> Result<LocalId, IndexError>
         ensures { result ≡ local_of self.now function index }
     {

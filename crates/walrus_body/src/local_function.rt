@@ -251,9 +251,9 @@ impl LocalFunction {
     }
 
     /// Appends the operators of the function's tree to an encoder, each as its shortest spelling,
-    /// and to the list, if there is one, each operator's location with its place in the encoder. Ids
-    /// are written as the numbers that `indices` gives them, and locals as those of `local_indices`.
-    /// It asks that an operator is carried for each instruction of the tree.
+    /// and to the list, if there is one, each operator's location with its place in the encoder.
+    /// Ids are written as the numbers that `indices` gives them, and locals as those of
+    /// `local_indices`. It asks that an operator is carried for each instruction of the tree.
     ///
     /// # Errors
     ///

@@ -29,7 +29,8 @@ impl DataSegmentsVisitor {
     }
 }
 
-/// It refuses a data segment with `WalkError::Memory`, where no memory was left for it, and nothing else.
+/// It refuses a data segment with `WalkError::Memory`, where no memory was left for it, and nothing
+/// else.
 impl Visitor for DataSegmentsVisitor {
     type Fault = WalkError;
 
@@ -80,13 +81,13 @@ impl Visitor for DataSegmentsVisitor {
     }
 }
 
-/// The data segments that instructions name in the sequence `start` and in those inside of it: of `memory.init`,
-/// `data.drop`, `array.new_data` and `array.init_data`.
+/// The data segments that instructions name in the sequence `start` and in those inside of it: of
+/// `memory.init`, `data.drop`, `array.new_data` and `array.init_data`.
 ///
 /// # Errors
 ///
-/// `WalkError::UnknownSequence` or `WalkError::SharedSequence` where the sequences are no tree, the first in walk order;
-/// `WalkError::Memory` where none was left for the walk or for the set.
+/// `WalkError::UnknownSequence` or `WalkError::SharedSequence` where the sequences are no tree, the
+/// first in walk order; `WalkError::Memory` where none was left for the walk or for the set.
 pub(crate) fn used_data_segments(
     builder: &FunctionBuilder,
     start: InstrSeqId,

@@ -25,7 +25,8 @@ impl SizeVisitor {
     }
 }
 
-/// It refuses an instruction with `WalkError::TooLarge`, where the count would pass `u64::MAX`, and nothing else.
+/// It refuses an instruction with `WalkError::TooLarge`, where the count would pass `u64::MAX`, and
+/// nothing else.
 impl Visitor for SizeVisitor {
     type Fault = WalkError;
 
@@ -83,8 +84,9 @@ impl Visitor for SizeVisitor {
 ///
 /// # Errors
 ///
-/// `WalkError::UnknownSequence` or `WalkError::SharedSequence` where the sequences are no tree, the first in walk order;
-/// `WalkError::TooLarge` where the number doesn't fit 64 bits; `WalkError::Memory` where none was left for the walk.
+/// `WalkError::UnknownSequence` or `WalkError::SharedSequence` where the sequences are no tree, the
+/// first in walk order; `WalkError::TooLarge` where the number doesn't fit 64 bits;
+/// `WalkError::Memory` where none was left for the walk.
 pub(crate) fn size(builder: &FunctionBuilder, start: InstrSeqId) -> Result<u64, WalkError>
     ensures ok { IfOk result (λ n. TreeHas builder.now.sequences start (λ t. n ≡ count t.items)) }
     ensures err { IfErr result (λ e. HasNoWalk builder.now.sequences start e

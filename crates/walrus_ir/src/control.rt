@@ -41,8 +41,8 @@ pub struct IfElse {
     pub alternative: InstrSeqId,
 }
 
-/// A clause of a `try_table`: which exceptions it takes, and where it goes with them. A clause with `Ref` hands the
-/// exception on too.
+/// A clause of a `try_table`: which exceptions it takes, and where it goes with them. A clause with
+/// `Ref` hands the exception on too.
 #[derive(Clone, Copy)]
 pub enum TryTableCatch {
     Catch { tag: TagId, label: InstrSeqId },
@@ -67,8 +67,9 @@ impl Model for TryTable {
     ghost view = { λ x. record { seq = x.seq; catches = x.catches.items } };
 }
 
-/// A clause of a legacy `try`: which exceptions it takes, and the sequence that handles them; or, for `Delegate`, the
-/// number of constructs between the `try` and the one that the exception is handed to.
+/// A clause of a legacy `try`: which exceptions it takes, and the sequence that handles them; or,
+/// for `Delegate`, the number of constructs between the `try` and the one that the exception is
+/// handed to.
 #[derive(Clone, Copy)]
 pub enum LegacyCatch {
     Catch { tag: TagId, handler: InstrSeqId },
@@ -141,7 +142,8 @@ pub struct BrOnCast {
     pub to_heap_type: HeapType,
 }
 
-/// `br_on_cast_fail`: goes to a sequence around it, if its operand, of the first type, isn't of the second.
+/// `br_on_cast_fail`: goes to a sequence around it, if its operand, of the first type, isn't of the
+/// second.
 #[derive(Clone, Copy)]
 pub struct BrOnCastFail {
     pub block: InstrSeqId,
@@ -157,7 +159,8 @@ pub struct Throw {
     pub tag: TagId,
 }
 
-/// `rethrow` of the legacy proposal: raises what the handler took that stands this many constructs outwards.
+/// `rethrow` of the legacy proposal: raises what the handler took that stands this many constructs
+/// outwards.
 #[derive(Clone, Copy)]
 pub struct Rethrow {
     pub relative_depth: u32,

@@ -23,8 +23,9 @@ use crate::table::{
     ElemDrop, TableCopy, TableFill, TableGet, TableGrow, TableInit, TableSet, TableSize,
 };
 
-/// An instruction of the WebAssembly core specification 3.0, or of its proposals of legacy exception handling, threads
-/// and wide arithmetic. Those that hold sequences name them by their slots in the function's builder.
+/// An instruction of the WebAssembly core specification 3.0, or of its proposals of legacy
+/// exception handling, threads and wide arithmetic. Those that hold sequences name them by their
+/// slots in the function's builder.
 #[derive(Drop)]
 pub enum Instr {
     // Structured control, branches and exceptions.

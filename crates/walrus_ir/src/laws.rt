@@ -16,8 +16,8 @@ pub fn law_ids<K>()
     ensures comparison { (m n : ℕ) → ⟦<Id<K> as PartialOrd>⟧.partial_cmp m n ≡ Some (nat_cmp m n) }
 {}
 
-/// The comparisons of value types: `==` is true exactly of a type and itself, and the order is that in which locals are
-/// grouped.
+/// The comparisons of value types: `==` is true exactly of a type and itself, and the order is that
+/// in which locals are grouped.
 pub fn law_type_order()
     ensures equality { (t u : ValueType ℕ) → IsTrue (⟦<ValType as PartialEq>⟧.eq t u) ↔ (t ≡ u) }
     ensures order { (t u : ValueType ℕ) → ⟦<ValType as Ord>⟧.cmp t u ≡ type_order t u }
@@ -25,8 +25,8 @@ pub fn law_type_order()
         → ⟦<ValType as PartialOrd>⟧.partial_cmp t u ≡ Some (type_order t u) }
 {}
 
-/// From a sequence on a function has either one tree or one first fault; a tree is walked to its end, and a walk that comes
-/// to its end has gone through a tree.
+/// From a sequence on a function has either one tree or one first fault; a tree is walked to its
+/// end, and a walk that comes to its end has gone through a tree.
 pub fn law_walk()
     ensures one_tree { OneTree }
     ensures no_fault { TreeHasNoFault }

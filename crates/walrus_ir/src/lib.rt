@@ -1,4 +1,5 @@
-//! The intermediate representation of function bodies: ids, types, instructions, and the walk over them.
+//! The intermediate representation of function bodies: ids, types, instructions, and the walk over
+//! them.
 #![tactic(auto)]
 
 mod access;

@@ -4,8 +4,8 @@ ghost use Rattle.walrus_ir.specs.Locations.{default_location};
 
 use std::marker::Model;
 
-/// Where an instruction stands in its source, as a number that whoever reads the source chooses. A contract sees the
-/// number.
+/// Where an instruction stands in its source, as a number that whoever reads the source chooses. A
+/// contract sees the number.
 #[derive(Clone, Copy, Debug, PartialEq, Eq, PartialOrd, Ord, Hash)]
 pub struct InstrLocId {
     number: u32,

@@ -17,7 +17,8 @@ pub enum ExtendedLoad {
     ZeroExtendAtomic,
 }
 
-/// What a load reads: the type that it gives, and for a narrow one the number of bits that it reads.
+/// What a load reads: the type that it gives, and for a narrow one the number of bits that it
+/// reads.
 #[derive(Clone, Copy, Debug, PartialEq, Eq)]
 pub enum LoadKind {
     I32 { atomic: bool },
@@ -32,7 +33,8 @@ pub enum LoadKind {
     I64_32 { kind: ExtendedLoad },
 }
 
-/// What a store writes: the type that it takes, and for a narrow one the number of bits that it writes.
+/// What a store writes: the type that it takes, and for a narrow one the number of bits that it
+/// writes.
 #[derive(Clone, Copy, Debug, PartialEq, Eq)]
 pub enum StoreKind {
     I32 { atomic: bool },
@@ -47,8 +49,8 @@ pub enum StoreKind {
     I64_32 { atomic: bool },
 }
 
-/// A vector access that is no plain load or store of a `v128`: a load that splats, widens or zeroes, or a load or store
-/// of one lane, whose number the variant holds.
+/// A vector access that is no plain load or store of a `v128`: a load that splats, widens or
+/// zeroes, or a load or store of one lane, whose number the variant holds.
 #[derive(Clone, Copy)]
 pub enum LoadSimdKind {
     Splat8,
@@ -84,7 +86,8 @@ pub enum AtomicOp {
     Xchg,
 }
 
-/// The type of an atomic read-modify-write, and for a narrow one the number of bits that it accesses.
+/// The type of an atomic read-modify-write, and for a narrow one the number of bits that it
+/// accesses.
 #[derive(Clone, Copy)]
 pub enum AtomicWidth {
     I32,

@@ -170,7 +170,8 @@ impl ModuleTypes {
         }
     }
 
-    /// The first type of functions with these lists, by id. Types of entries don't count. It takes no memory.
+    /// The first type of functions with these lists, by id. Types of entries don't count. It takes
+    /// no memory.
     pub fn find(&self, params: &[ValType], results: &[ValType]) -> Option<TypeId>
         ensures { result ≡ find self.now params.now results.now }
     {

@@ -180,8 +180,9 @@ impl<'a> Plan<'a> {
     }
 }
 
-/// The sequences from one on, each by its slot, in the order in which a walk enters them, if they are a tree. Beside the
-/// result it takes memory for a mark a sequence of the builder, and for the sequences that are open at once.
+/// The sequences from one on, each by its slot, in the order in which a walk enters them, if they
+/// are a tree. Beside the result it takes memory for a mark a sequence of the builder, and for the
+/// sequences that are open at once.
 pub(crate) fn walk_order(
     builder: &FunctionBuilder,
     start: InstrSeqId,

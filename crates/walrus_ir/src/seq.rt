@@ -34,8 +34,8 @@ impl Model for InstrSeq {
 }
 
 impl InstrSeq {
-    /// The id that `FunctionBuilder::alloc` gave it. It moves with the sequence where two are swapped, so it need not
-    /// be the slot where the sequence stands.
+    /// The id that `FunctionBuilder::alloc` gave it. It moves with the sequence where two are
+    /// swapped, so it need not be the slot where the sequence stands.
     pub fn id(&self) -> InstrSeqId
         ensures { result ≡ self.now.id }
     {

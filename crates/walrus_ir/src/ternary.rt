@@ -1,6 +1,7 @@
 //! Operators of three operands.
 
-/// A vector operator of three operands. The names are those of the WebAssembly core specification in camel case.
+/// A vector operator of three operands. The names are those of the WebAssembly core specification
+/// in camel case.
 #[derive(Clone, Copy, Debug, PartialEq, Eq)]
 pub enum TernaryOp {
     F32x4RelaxedMadd,

@@ -3,8 +3,8 @@
 use crate::id::TypeId;
 use crate::module_types::ModuleTypes;
 
-/// The abstract heap types (WebAssembly core specification 3.0, heap types), in the order in which references to
-/// them are sorted.
+/// The abstract heap types (WebAssembly core specification 3.0, heap types), in the order in which
+/// references to them are sorted.
 #[derive(Clone, Copy, Debug, PartialEq, Eq, PartialOrd, Ord, Hash)]
 pub enum AbstractHeapType {
     NoExn,
@@ -21,15 +21,16 @@ pub enum AbstractHeapType {
     Exn,
 }
 
-/// What a reference refers to. `T` is how a type of the module is named: by its id, or where an operator is spelt by
-/// its raw index.
+/// What a reference refers to. `T` is how a type of the module is named: by its id, or where an
+/// operator is spelt by its raw index.
 #[derive(Clone, Copy, Debug, PartialEq, Eq, PartialOrd, Ord, Hash)]
 pub enum HeapType<T = TypeId> {
     Abstract(AbstractHeapType),
     Concrete(T),
 }
 
-/// The type of a reference. Those that aren't nullable come first in the order, then abstract before concrete.
+/// The type of a reference. Those that aren't nullable come first in the order, then abstract
+/// before concrete.
 #[derive(Clone, Copy, Debug, PartialEq, Eq, PartialOrd, Ord, Hash)]
 pub struct RefType<T = TypeId> {
     pub nullable: bool,
@@ -60,9 +61,9 @@ impl InstrSeqType {
     ghost use Rattle.std.specs.Prelude.{◌≡◌};
     ghost use Rattle.walrus_ir.specs.Types.{existing};
 
-    /// The type of a sequence that takes and gives these values. Where it takes nothing and gives at most one value it
-    /// is simple; else it is the first function type of the module with these lists, by id, if there is one. It takes
-    /// no memory.
+    /// The type of a sequence that takes and gives these values. Where it takes nothing and gives
+    /// at most one value it is simple; else it is the first function type of the module with these
+    /// lists, by id, if there is one. It takes no memory.
     pub fn existing(
         types: &ModuleTypes,
         params: &[ValType],

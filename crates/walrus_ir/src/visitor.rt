@@ -7,11 +7,12 @@ use crate::location::InstrLocId;
 use crate::reference::RefFunc;
 use crate::seq::InstrSeq;
 
-/// What is told of the events of a walk. Each call may refuse, which ends the walk, and then leaves the visitor as it
-/// was.
+/// What is told of the events of a walk. Each call may refuse, which ends the walk, and then leaves
+/// the visitor as it was.
 ///
-/// A visitor says what it means: `steps s e t`, at the state `s` it may take the event `e`, and is then at `t`;
-/// `refuses s e f`, at `s` it may refuse `e` with the fault `f`; `same s t`, at `t` it is as it was at `s`.
+/// A visitor says what it means: `steps s e t`, at the state `s` it may take the event `e`, and is
+/// then at `t`; `refuses s e f`, at `s` it may refuse `e` with the fault `f`; `same s t`, at `t` it
+/// is as it was at `s`.
 pub trait Visitor {
     /// Why a call is refused, or the walk not made.
     type Fault: From<WalkError>;

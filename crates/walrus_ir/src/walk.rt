@@ -80,8 +80,8 @@ fn start_seq<'a, V: Visitor>(
     Ok(())
 }
 
-// Tells a visitor instructions, up to the first that holds sequences, and answers those behind it and how many it holds:
-// none where no instruction is left.
+// Tells a visitor instructions, up to the first that holds sequences, and answers those behind it
+// and how many it holds: none where no instruction is left.
 fn tell_stretch<'a, V: Visitor>(
     visitor: &mut V,
     instrs: &'a [(Instr, InstrLocId)],
@@ -105,8 +105,8 @@ fn tell_stretch<'a, V: Visitor>(
     Ok((left, 0))
 }
 
-// Starts the next sequence inside the last instruction of an open one, which is taken off the stack, and answers what is
-// then to come.
+// Starts the next sequence inside the last instruction of an open one, which is taken off the
+// stack, and answers what is then to come.
 fn start_inside<'a, 'b, V: Visitor>(
     visitor: &mut V,
     builder: &'a FunctionBuilder,
@@ -139,7 +139,8 @@ fn start_inside<'a, 'b, V: Visitor>(
     Ok(left)
 }
 
-// Tells what comes next at the innermost open sequence, which is taken off the stack, and answers what is then to come.
+// Tells what comes next at the innermost open sequence, which is taken off the stack, and answers
+// what is then to come.
 fn tell_next<'a, 'b, V: Visitor>(
     visitor: &mut V,
     builder: &'a FunctionBuilder,
@@ -193,14 +194,14 @@ fn plan<'a>(
     Ok((order, stack))
 }
 
-/// Walks over the sequences from one on, in order. Whether they are a tree is found out before the visitor is called, and
-/// all memory that the walk itself needs is taken before: a slot and a mark a sequence, and what is kept of those that
-/// are open.
+/// Walks over the sequences from one on, in order. Whether they are a tree is found out before the
+/// visitor is called, and all memory that the walk itself needs is taken before: a slot and a mark
+/// a sequence, and what is kept of those that are open.
 ///
 /// # Errors
 ///
-/// Where there is no tree, the first fault in walk order, or `WalkError::Memory`, turned into the visitor's fault; the
-/// visitor was not called. Else the visitor's own fault, which ends the walk.
+/// Where there is no tree, the first fault in walk order, or `WalkError::Memory`, turned into the
+/// visitor's fault; the visitor was not called. Else the visitor's own fault, which ends the walk.
 pub fn dfs_in_order<V: Visitor>(
     visitor: &mut V,
     builder: &FunctionBuilder,

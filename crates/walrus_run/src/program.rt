@@ -8,7 +8,8 @@ use std::io::Write;
 use thiserror::Error;
 use walrus_body::ParseError;
 
-/// Why nothing is printed to standard output; its text is the line that is printed to standard error instead.
+/// Why nothing is printed to standard output; its text is the line that is printed to standard
+/// error instead.
 #[derive(Debug, Drop, Error)]
 enum Stop {
     #[error("usage: wbody rewrite HEX | wbody trace TURNS OUTCOMES HEX")]
@@ -77,9 +78,10 @@ fn answer(alloc: Global, words: &[String]) -> Result<String, Stop> {
 
 /// Runs the program with these words, without its own name, and answers its status.
 ///
-/// `rewrite HEX` prints the written operators of the body that HEX spells, in lower case, and a line end to `out`, with
-/// status 0. A body that is refused prints `refused: ` with the fault's name and its place to `err`, with status 1; any
-/// other words print how the program is used to `err`, with status 2. Where a write fails the status is 1.
+/// `rewrite HEX` prints the written operators of the body that HEX spells, in lower case, and a
+/// line end to `out`, with status 0. A body that is refused prints `refused: ` with the fault's
+/// name and its place to `err`, with status 1; any other words print how the program is used to
+/// `err`, with status 2. Where a write fails the status is 1.
 pub fn run_words<W: Write, E: Write>(
     alloc: Global,
     words: &[String],

@@ -89,15 +89,17 @@ fn rewrite(
     }
 }
 
-/// Rewrites the operators of a body over the demo module: they are parsed as the body of its function 0, which begins at
-/// place 0, and the tree is written again with the same indices. The answer is the written operators, without
-/// declarations of locals.
+/// Rewrites the operators of a body over the demo module: they are parsed as the body of its
+/// function 0, which begins at place 0, and the tree is written again with the same indices. The
+/// answer is the written operators, without declarations of locals.
 ///
 /// # Errors
 ///
-/// `Parse` where the operators are not accepted, with the first fault and its place, and every variant's `Memory`.
+/// `Parse` where the operators are not accepted, with the first fault and its place, and every
+/// variant's `Memory`.
 pub fn rewrite_demo(alloc: Global, ops: &[u8]) -> Result<Vec<u8>, RewriteError>
-    // What is answered are the bytes of an accepted body's normal form, and what is refused is so for the first fault.
+    // What is answered are the bytes of an accepted body's normal form, and what is refused is so
+    // for the first fault.
     ensures written { IfOk result (λ out. IsRewritten ops.now out.items) }
     ensures refused { IfErr result (λ e. WantsMemory e ⊎ IsFaulty ops.now e) }
 

@@ -69,7 +69,8 @@ pub enum ParseError {
     /// An `else` stands elsewhere than behind the consequent of an `if`.
     #[error("`else` outside of `if`")]
     ElseOutsideIf,
-    /// A `catch` or `catch_all` stands elsewhere than behind the body of a `try` or a `catch` handler.
+    /// A `catch` or `catch_all` stands elsewhere than behind the body of a `try` or a `catch`
+    /// handler.
     #[error("`catch` outside of `try`")]
     CatchOutsideTry,
     /// A `delegate` stands elsewhere than behind the body of a `try`.
@@ -84,7 +85,8 @@ pub enum ParseError {
     /// The bytes end before the last `end`.
     #[error("an `end` is missing")]
     MissingEnd,
-    /// No legacy `try` stands at the end of the sequence around the innermost one. No parse answers it.
+    /// No legacy `try` stands at the end of the sequence around the innermost one. No parse answers
+    /// it.
     #[error("no `try` stands at the end of the sequence around")]
     NoTry,
     /// No sequence is open. No parse answers it.

@@ -5,14 +5,15 @@ ghost use Rattle.wasm_body.specs.ReadBack.{ReadBack, NormalFormAgain, SameBytes,
 ghost use Rattle.wasm_body.specs.TextLaws.{LawfulAreTyped, HaveTexts, NormalAgain, OneBody, OneSequence, SameTexts};
 ghost use Rattle.wasm_body.specs.Parsing.Laws.{OneBodyAccepted, AcceptedHasNoFault, OneFirstFault, AcceptedOrFault, LongestFront};
 
-/// A list is the text of one body at most, and begins in one way with a sequence and an operator that ends it.
+/// A list is the text of one body at most, and begins in one way with a sequence and an operator
+/// that ends it.
 pub fn law_unique_reading<A>()
     ensures of_bodies { OneBody A }
     ensures of_sequences { OneSequence A }
 {}
 
-/// Bytes are accepted as one body, or have one first fault, and never both; the front before a first fault is the longest
-/// that stands. `V` is what a validator's state is.
+/// Bytes are accepted as one body, or have one first fault, and never both; the front before a
+/// first fault is the longest that stands. `V` is what a validator's state is.
 pub fn law_one_answer<V>()
     ensures one_body { OneBodyAccepted V }
     ensures no_fault { AcceptedHasNoFault V }
@@ -21,29 +22,32 @@ pub fn law_one_answer<V>()
     ensures longest { LongestFront V }
 {}
 
-/// The normal form of a body has a text, and the text is a body again: of each body of named operators that are typed, that
-/// is, in which each opener's pick stands for its block type and no other operator has one. Operators that lawfully are a
-/// body and have spellings, as those of every accepted body, are typed.
+/// The normal form of a body has a text, and the text is a body again: of each body of named
+/// operators that are typed, that is, in which each opener's pick stands for its block type and no
+/// other operator has one. Operators that lawfully are a body and have spellings, as those of every
+/// accepted body, are typed.
 pub fn law_normal_form_texts()
     ensures texts { HaveTexts }
     ensures lawful { LawfulAreTyped }
 {}
 
-/// The text of the normal form of a typed body, read as a body again, has a normal form that is the same tree.
+/// The text of the normal form of a typed body, read as a body again, has a normal form that is the
+/// same tree.
 pub fn law_normal_again()
     ensures { NormalAgain }
 {}
 
-/// Trees that are the same are written by the same operators, or refused for the same fault, in every way of writing: `M` is
-/// what is written for a label, `C` for a block type.
+/// Trees that are the same are written by the same operators, or refused for the same fault, in
+/// every way of writing: `M` is what is written for a label, `C` for a block type.
 pub fn law_same_texts<M, C>()
     ensures { SameTexts M C }
 {}
 
-/// The normal form of a body has a text, and the two execute the same operators, at the same locations, and end alike: for
-/// all outcomes and turns. It holds of each typed body of named operators, whatever constructs it has, and so of every
-/// accepted body. Each event of a run has its operator, and the count of operators by which a run's turns are bounded
-/// suffices: a run that ends Returned has returned.
+/// The normal form of a body has a text, and the two execute the same operators, at the same
+/// locations, and end alike: for all outcomes and turns. It holds of each typed body of named
+/// operators, whatever constructs it has, and so of every accepted body. Each event of a run has
+/// its operator, and the count of operators by which a run's turns are bounded suffices: a run that
+/// ends Returned has returned.
 pub fn law_executions()
     ensures named { NamedExecutionsKept }
     ensures accepted { ExecutionsKept }
@@ -51,10 +55,11 @@ pub fn law_executions()
     ensures count_suffices { CountSuffices }
 {}
 
-/// Location pairs are honest along every run. The places of the pairs that are written for a tree strictly increase. Those of
-/// a body's normal form are one for each operator of its text, at its location; and whatever stands before the bytes, the
-/// pair at the place of the operator of an event holds the location of the operator of the same event of the source's run
-/// (of an exception that is taken, of the openers).
+/// Location pairs are honest along every run. The places of the pairs that are written for a tree
+/// strictly increase. Those of a body's normal form are one for each operator of its text, at its
+/// location; and whatever stands before the bytes, the pair at the place of the operator of an
+/// event holds the location of the operator of the same event of the source's run (of an exception
+/// that is taken, of the openers).
 pub fn law_locations()
     ensures increase { PlacesIncrease }
     ensures of_text { PairsMatchText }
@@ -62,24 +67,25 @@ pub fn law_locations()
     ensures accepted { LocationsAreHonest }
 {}
 
-/// The bytes of a normal form, read back by maps that undo the numbers, are a body whose normal form is the same tree and
-/// has the same bytes; the text of a normal form, read as a body, has a normal form that is the same tree; and trees that
-/// are the same have the same bytes.
+/// The bytes of a normal form, read back by maps that undo the numbers, are a body whose normal
+/// form is the same tree and has the same bytes; the text of a normal form, read as a body, has a
+/// normal form that is the same tree; and trees that are the same have the same bytes.
 pub fn law_read_back()
     ensures read_back { ReadBack }
     ensures normal_again { NormalFormAgain }
     ensures same_bytes { SameBytes }
 {}
 
-/// Maps that give each numbered id at its number undo the numbers of the normal form of every lawful body, where no type of
-/// the module takes nothing and gives one reference.
+/// Maps that give each numbered id at its number undo the numbers of the normal form of every
+/// lawful body, where no type of the module takes nothing and gives one reference.
 pub fn law_inverse_undoes()
     ensures { InverseUndoes }
 {}
 
-/// The bytes of the normal form of an accepted body are accepted again, by maps that undo the numbers, where their operators
-/// have locations and pass the validator; and of each body as which they are the normal form is the same tree, and has the
-/// same bytes. `V` and `W` are what the states of the validators are.
+/// The bytes of the normal form of an accepted body are accepted again, by maps that undo the
+/// numbers, where their operators have locations and pass the validator; and of each body as which
+/// they are the normal form is the same tree, and has the same bytes. `V` and `W` are what the
+/// states of the validators are.
 pub fn law_accepted_again<V, W>()
     ensures { AcceptedAgain V W }
 {}

@@ -35,8 +35,8 @@ fn write_declarations(out: &mut Vec<u8>, locals: &[(u32, RawValType)]) -> Result
     Ok(())
 }
 
-/// The bytes of a function's body: its declarations of locals, and the operators written so far. A contract sees the
-/// list of the bytes.
+/// The bytes of a function's body: its declarations of locals, and the operators written so far. A
+/// contract sees the list of the bytes.
 #[derive(Drop)]
 pub struct FunctionEncoder {
     bytes: Vec<u8>,
@@ -57,8 +57,8 @@ impl FunctionEncoder {
     ghost use Rattle.wasm_encode.specs.Declarations.{declarations};
     ghost use Rattle.wasm_encode.specs.Writable.{IsWritable};
 
-    /// An encoder that holds the declarations of these locals: how many pairs there are, and each pair of a count and a
-    /// type.
+    /// An encoder that holds the declarations of these locals: how many pairs there are, and each
+    /// pair of a count and a type.
     pub fn new(alloc: Global, locals: &[(u32, RawValType)]) -> Result<Self, AllocError>
         requires { length locals.now < 2 ^ 32 }
         ensures { IfOk result (λ e. e ≡ declarations locals.now) }
@@ -76,8 +76,8 @@ impl FunctionEncoder {
         self.bytes.len()
     }
 
-    /// Appends the shortest spelling of an operator. It asks that the exponent of a memory argument is at most 31. Where
-    /// memory runs out the encoder is as before.
+    /// Appends the shortest spelling of an operator. It asks that the exponent of a memory argument
+    /// is at most 31. Where memory runs out the encoder is as before.
     pub fn instruction(&mut self, op: &OutOp<'_>) -> Result<(), AllocError>
         requires { IsWritable (meaning op.now) }
         ensures ok { OnOk result (self.new ≡ self.old ++ short (meaning op.now)) }

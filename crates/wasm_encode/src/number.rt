@@ -1,5 +1,5 @@
-//! Writing numbers: integers in LEB128 (WebAssembly core specification 3.0, binary format, values), by as few bytes as
-//! can be.
+//! Writing numbers: integers in LEB128 (WebAssembly core specification 3.0, binary format, values),
+//! by as few bytes as can be.
 
 ghost use Rattle.std.specs.Prelude.{◌≡◌, ◌<◌, ◌^◌, ◌++◌, ◌∷◌, [], OnOk, take, length, ◌<ℤ◌, pos, negsuc};
 ghost use Rattle.wasm_ops.specs.Shortest.{short_unsigned, short_number, low_bits, high_bits, short_signed, short_integer, short_bits};

@@ -73,8 +73,8 @@ fn write_whole(out: &mut Vec<u8>, op: &OutOp<'_>) -> Result<(), AllocError>
     )
 }
 
-/// Appends the shortest spelling of an operator. It asks that the exponent of a memory argument is at most 31. Where memory
-/// runs out the list is as before.
+/// Appends the shortest spelling of an operator. It asks that the exponent of a memory argument is
+/// at most 31. Where memory runs out the list is as before.
 #[inline(always)]
 pub fn write_op(op: &OutOp<'_>, out: &mut Vec<u8>) -> Result<(), AllocError>
     requires { IsWritable (meaning op.now) }

@@ -5,7 +5,8 @@ use crate::number::read_u32;
 use std::fmt;
 use std::marker::Model;
 
-/// The labels of a `br_table`, as they stand in the input. A contract sees the labels and the default.
+/// The labels of a `br_table`, as they stand in the input. A contract sees the labels and the
+/// default.
 #[derive(Clone, Drop)]
 pub struct BrTable<'a> {
     len: u32,

@@ -51,7 +51,8 @@ ghost use Rattle.wasm_ops.specs.Immediates.{clause, catch_clauses};
 ghost use Rattle.wasm_ops.specs.Lists.{clauses_of, clause_of, clause_eq};
 ghost use Rattle.walrus_ir.specs.Results.{Gives};
 
-/// A clause at the front: whether it hands on a reference, its tag and its label; and what follows it.
+/// A clause at the front: whether it hands on a reference, its tag and its label; and what follows
+/// it.
 fn read_clause(bytes: &[u8]) -> Result<((bool, Option<u32>, u32), &[u8]), ReadFault>
     ensures { Gives (λ x. (clause_of x.0, x.1.now)) result (clause bytes.now) }
 {

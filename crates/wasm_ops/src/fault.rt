@@ -2,7 +2,8 @@
 
 use thiserror::Error;
 
-/// What is wrong with the bytes of an operator: the first part, from left to right, that can't be read.
+/// What is wrong with the bytes of an operator: the first part, from left to right, that can't be
+/// read.
 #[derive(Clone, Copy, Debug, PartialEq, Eq, Error)]
 pub enum ReadFault {
     #[error("the bytes end inside an operator")]

@@ -6,8 +6,8 @@ use crate::types::{BlockType, RawMemArg, RawValType};
 use walrus_ir::{BinaryOp, LoadKind, StoreKind, TernaryOp, UnaryOp};
 
 /// An operator as it is spelt (WebAssembly core specification 3.0, binary format, instructions):
-/// with raw indices, and labels as depths. `T` is the labels of a `br_table`, and `C` the clauses of
-/// a `try_table`.
+/// with raw indices, and labels as depths. `T` is the labels of a `br_table`, and `C` the clauses
+/// of a `try_table`.
 #[derive(Clone, Debug, Drop)]
 pub enum Op<T, C> {
     /// `unreachable`

@@ -1,8 +1,8 @@
 //! Rows of operators, one for each operator, for every place that has a row for each operator.
 
 /// Hands the operators of one index or two to the macro `$with`, behind what it takes beside them.
-/// Each group says what its numbers stand behind. A row has the number, the name of the operator and
-/// of its instruction, and each index: its name in the operator and in the instruction, and its
+/// Each group says what its numbers stand behind. A row has the number, the name of the operator
+/// and of its instruction, and each index: its name in the operator and in the instruction, and its
 /// space.
 #[macro_export]
 macro_rules! index_rows {
@@ -73,9 +73,9 @@ macro_rules! lane_of {
     };
 }
 
-/// Takes an operator apart, and hands its opcode and what follows it to the macro `$each`, behind what
-/// that takes beside them. The rows of operators with lists come from outside, since lists are handed
-/// on in other ways where an operator is read and where it is written.
+/// Takes an operator apart, and hands its opcode and what follows it to the macro `$each`, behind
+/// what that takes beside them. The rows of operators with lists come from outside, since lists are
+/// handed on in other ways where an operator is read and where it is written.
 #[macro_export]
 macro_rules! parts_of {
     (

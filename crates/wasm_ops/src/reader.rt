@@ -96,7 +96,8 @@ macro_rules! answer_index {
     };
 }
 
-/// Reads operators one after the other. A contract sees what is left of the bytes, and the place of its first byte.
+/// Reads operators one after the other. A contract sees what is left of the bytes, and the place of
+/// its first byte.
 #[derive(Drop)]
 pub struct Reader<'a> {
     rest: &'a [u8],

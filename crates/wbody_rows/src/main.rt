@@ -1,4 +1,5 @@
-//! The program `wbody_rows`: runs the cases that it reads from standard input through the program `wbody`, over memory.
+//! The program `wbody_rows`: runs the cases that it reads from standard input through the program
+//! `wbody`, over memory.
 #![tactic(auto)]
 
 use std::alloc::{AllocError, Global};
@@ -6,7 +7,8 @@ use std::io;
 use std::io::{BufRead, BufReader};
 use walrus_run::run_words;
 
-/// What a run gives: its status, the lines of standard output with `;` between them, and those of standard error.
+/// What a run gives: its status, the lines of standard output with `;` between them, and those of
+/// standard error.
 #[derive(Drop, PartialEq, Eq)]
 struct Answer {
     status: String,
@@ -43,8 +45,8 @@ fn found(alloc: Global, words: &str) -> Result<Answer, AllocError> {
     })
 }
 
-/// Whether the case, four fields with a tab between them, has the answer that it names; its words, and what was found
-/// instead, otherwise.
+/// Whether the case, four fields with a tab between them, has the answer that it names; its words,
+/// and what was found instead, otherwise.
 fn difference(alloc: Global, case: &str) -> Result<Option<String>, AllocError> {
     let mut fields = case.split('\t');
     let words = fields.next().unwrap_or("");

@@ -4,7 +4,8 @@ ghost use Rattle.walrus_body.specs.FunctionParts.{range_at};
 
 use std::ops::Range;
 
-/// The bytes of a function's body: its operators begin at `bytes[ops]`, and `bytes[i]` stands at the place `start + i`.
+/// The bytes of a function's body: its operators begin at `bytes[ops]`, and `bytes[i]` stands at
+/// the place `start + i`.
 #[derive(Clone, Copy, Debug)]
 pub struct FunctionBody<'a> {
     pub bytes: &'a [u8],

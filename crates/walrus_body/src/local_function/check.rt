@@ -13,8 +13,9 @@ pub enum CheckError {
 
 /// A validator, which is asked at each operator in turn.
 ///
-/// A validator says what it means: `state` is what its answers depend on, and `check` takes a state and an operator with
-/// its place to the next state, or refuses the operator with a number. Besides it may want memory.
+/// A validator says what it means: `state` is what its answers depend on, and `check` takes a state
+/// and an operator with its place to the next state, or refuses the operator with a number. Besides
+/// it may want memory.
 pub trait OpCheck: Drop {
     ghost use Rattle.std.specs.Prelude.{ℕ, Result};
     ghost use Rattle.wasm_ops.specs.OperatorList.{Placed};

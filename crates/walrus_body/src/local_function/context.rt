@@ -20,8 +20,8 @@ use walrus_ir::{
 };
 use wasm_ops::{BlockType, RawValType};
 
-/// The sequences of a function that is parsed, some of which are open. A contract sees the sequences and the open frames,
-/// innermost first, each with its instructions.
+/// The sequences of a function that is parsed, some of which are open. A contract sees the
+/// sequences and the open frames, innermost first, each with its instructions.
 #[derive(Drop)]
 pub struct ValidationContext<'a> {
     module: &'a Module,
@@ -104,7 +104,8 @@ impl<'a> ValidationContext<'a> {
         self.module
     }
 
-    /// Whether a block type names types that are there: where it names a type by an old index, a function type.
+    /// Whether a block type names types that are there: where it names a type by an old index, a
+    /// function type.
     pub(crate) fn has_block_type(&self, ty: BlockType) -> Result<(), ParseError>
         ensures { result ≡ block_found (env_of self.now) ty }
     {
@@ -171,7 +172,8 @@ impl<'a> ValidationContext<'a> {
         }
     }
 
-    /// Opens a frame that takes and gives these, whose sequence has the type that is picked for them.
+    /// Opens a frame that takes and gives these, whose sequence has the type that is picked for
+    /// them.
     pub fn push_control(
         &mut self,
         kind: BlockKind,
@@ -191,7 +193,8 @@ impl<'a> ValidationContext<'a> {
         }
     }
 
-    /// Opens a frame that takes and gives what a function type does, which is the type of its sequence.
+    /// Opens a frame that takes and gives what a function type does, which is the type of its
+    /// sequence.
     pub fn push_control_with_ty(
         &mut self,
         kind: BlockKind,
@@ -320,13 +323,14 @@ impl<'a> ValidationContext<'a> {
         }
     }
 
-    /// Adds a clause to the legacy `try` that ends the frame around the innermost, or drops it where
-    /// that frame is dead. So the innermost frame is the body of the `try`, for `delegate`, or the
-    /// clause's own handler.
+    /// Adds a clause to the legacy `try` that ends the frame around the innermost, or drops it
+    /// where that frame is dead. So the innermost frame is the body of the `try`, for `delegate`,
+    /// or the clause's own handler.
     ///
     /// # Errors
     ///
-    /// `NoSuchLabel` where no frame is around the innermost, `NoTry` where no `try` ends it, `Memory`.
+    /// `NoSuchLabel` where no frame is around the innermost, `NoTry` where no `try` ends it,
+    /// `Memory`.
     pub fn add_legacy_catch(&mut self, catch: LegacyCatch) -> Result<(), ParseError>
         ensures ok { OnOk result (AddsClauseAround catch self.old self.new) }
         ensures err { IfErr result (λ e. (e ≡ Fault.Memory)
@@ -336,8 +340,8 @@ impl<'a> ValidationContext<'a> {
         self.stack.add_clause(catch)
     }
 
-    /// The function, the open frames as they are shown, the innermost last, and the list of instructions, which is empty
-    /// where no frame is open.
+    /// The function, the open frames as they are shown, the innermost last, and the list of
+    /// instructions, which is empty where no frame is open.
     pub fn into_parts(self) -> (FunctionBuilder, ControlStack, Vec<(Instr, InstrLocId)>)
         ensures function { result.0 ≡ self.entry.builder }
         ensures frames { AreShown (reverse result.1.items) self.entry.frames }

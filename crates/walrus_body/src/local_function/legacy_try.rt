@@ -96,7 +96,8 @@ impl BodyParser<'_> {
         }
     }
 
-    /// Takes a clause of a legacy `try`: the `catch` of the tag with this old index, or `catch_all`.
+    /// Takes a clause of a legacy `try`: the `catch` of the tag with this old index, or
+    /// `catch_all`.
     pub fn part_try(&mut self, tag: Option<u32>, location: InstrLocId) -> Result<(), ParseError>
         ensures step { Steps self.old self.new (clause_operation tag) location result }
         ensures rest { OnOk result (IsSameBody self.old.context self.new.context) }
@@ -118,7 +119,9 @@ impl BodyParser<'_> {
             .context
             .push_control(kind, handled.parameters, &frame.end_types);
         match pushed {
-            Ok(handler) => self.context.add_legacy_catch(clause_of(handled.tag, handler)),
+            Ok(handler) => self
+                .context
+                .add_legacy_catch(clause_of(handled.tag, handler)),
             Err(error) => Err(error),
         }
     }
@@ -159,7 +162,7 @@ impl BodyParser<'_> {
         ensures placed { GivesOrMemory operation_of result
             (placed_in self.now (operation (Byte 0x09) (handler relative_depth ∷ []))) }
         ensures plain { IfOk result (λ i. i ≡ instr.Rethrow (record {
-          relative_depth = relative_depth
+          relative_depth = relative_depth;
         })) }
     {
         match self.context.kind_at(relative_depth as usize) {

@@ -4,8 +4,8 @@ ghost use Rattle.walrus_body.specs.Parsing.Locating.{MayAsk, Locates, HasNoLocat
 
 use walrus_ir::InstrLocId;
 
-/// The location of the operator at this place: the answer of the function, or the place itself where there is none and it
-/// is small enough.
+/// The location of the operator at this place: the answer of the function, or the place itself
+/// where there is none and it is small enough.
 pub fn location_at<F: Fn(&usize) -> InstrLocId>(
     on_instr_pos: Option<&F>,
     place: usize,

@@ -184,8 +184,8 @@ impl FrameStack {
         pushed(&mut self.lists[index], (instr, location))
     }
 
-    /// Adds a clause to the `try` that ends the frame around the innermost, or drops it where that is
-    /// dead.
+    /// Adds a clause to the `try` that ends the frame around the innermost, or drops it where that
+    /// is dead.
     pub fn add_clause(&mut self, catch: LegacyCatch) -> Result<(), ParseError>
         ensures ok { OnOk result (with_clause_around catch self.old ≡ Ok self.new) }
         ensures err { IfErr result (λ e. (e ≡ Fault.Memory)
