@@ -4,7 +4,7 @@ use Rattle.wasm_ops.specs.declared.operator.Op.{Op}
 use Rattle.wasm_ops.specs.declared.operator.Op.TheVariants as operator
 use Rattle.wasm_ops.specs.declared.types.Opcode.TheVariants.{Byte, Prefixed}
 use Rattle.wasm_ops.specs.declared.types.Space.TheVariants.{Tables, Types, Funcs, Globals, Memories, Elements, Data, Tags}
-use Rattle.wasm_ops.specs.Operations.{CatchClause, index, label, handler, outer, branch_table, clauses, block, value, i32, i64, f32, f64, RawOperation, operation}
+use Rattle.wasm_ops.specs.Operations.{CatchClause, index, label, handler, outer, branch_table, clauses, block, value, i32, i64, f32, f64, v128, RawOperation, operation}
 use Rattle.wasm_ops.specs.Immediates.{Table}
 use Rattle.wasm_ops.specs.UnaryOperations.{unary_operation}
 use Rattle.wasm_ops.specs.BinaryOperations.{binary_operation}
@@ -66,3 +66,10 @@ meaning (operator.TableCopy target source) = operation (Prefixed 0xfc 14) (index
 meaning (operator.TableGrow table) = operation (Prefixed 0xfc 15) (index Tables table ∷ [])
 meaning (operator.TableSize table) = operation (Prefixed 0xfc 16) (index Tables table ∷ [])
 meaning (operator.TableFill table) = operation (Prefixed 0xfc 17) (index Tables table ∷ [])
+meaning operator.I64Add128 = operation (Prefixed 0xfc 19) []
+meaning operator.I64Sub128 = operation (Prefixed 0xfc 20) []
+meaning operator.I64MulWideS = operation (Prefixed 0xfc 21) []
+meaning operator.I64MulWideU = operation (Prefixed 0xfc 22) []
+meaning (operator.V128Const bits) = operation (Prefixed 0xfd 12) (v128 bits ∷ [])
+meaning operator.I8x16Swizzle = operation (Prefixed 0xfd 14) []
+meaning operator.V128Bitselect = operation (Prefixed 0xfd 82) []

@@ -22,6 +22,7 @@ mod ternary_rows;
 mod type_reader;
 mod types;
 mod unary_rows;
+mod vector_reader;
 
 pub use access_rows::{load_opcode, store_opcode};
 pub use binary_rows::{binary_opcode, replace_lane};

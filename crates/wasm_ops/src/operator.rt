@@ -108,6 +108,20 @@ pub enum Op<T, C> {
     TableSize { table: u32 },
     /// `table.fill`
     TableFill { table: u32 },
+    /// `i64.add128`
+    I64Add128,
+    /// `i64.sub128`
+    I64Sub128,
+    /// `i64.mul_wide_s`
+    I64MulWideS,
+    /// `i64.mul_wide_u`
+    I64MulWideU,
+    /// `v128.const`, by its bits
+    V128Const { bits: u128 },
+    /// `i8x16.swizzle`
+    I8x16Swizzle,
+    /// `v128.bitselect`
+    V128Bitselect,
 }
 
 /// An operator as it is read, whose lists stand in the input. Two are equal where their meanings

@@ -113,6 +113,13 @@ macro_rules! parts_of {
             $crate::Op::Unop(op) => $each!($with $crate::unary_opcode(*op), $crate::lane_of!($crate::extract_lane(*op))),
             $crate::Op::Binop(op) => $each!($with $crate::binary_opcode(*op), $crate::lane_of!($crate::replace_lane(*op))),
             $crate::Op::TernOp(op) => $each!($with $crate::ternary_opcode(*op), $crate::Immediates::Nothing),
+            $crate::Op::I64Add128 => $each!($with $crate::Opcode::Prefixed(0xfc, 19), $crate::Immediates::Nothing),
+            $crate::Op::I64Sub128 => $each!($with $crate::Opcode::Prefixed(0xfc, 20), $crate::Immediates::Nothing),
+            $crate::Op::I64MulWideS => $each!($with $crate::Opcode::Prefixed(0xfc, 21), $crate::Immediates::Nothing),
+            $crate::Op::I64MulWideU => $each!($with $crate::Opcode::Prefixed(0xfc, 22), $crate::Immediates::Nothing),
+            $crate::Op::V128Const { bits } => $each!($with $crate::Opcode::Prefixed(0xfd, 12), $crate::Immediates::V128(*bits)),
+            $crate::Op::I8x16Swizzle => $each!($with $crate::Opcode::Prefixed(0xfd, 14), $crate::Immediates::Nothing),
+            $crate::Op::V128Bitselect => $each!($with $crate::Opcode::Prefixed(0xfd, 82), $crate::Immediates::Nothing),
             $($lists)*
             $($($crate::Op::$name { $($field),* } => $each!(
                 $with $crate::opcode_at!($form $row), $crate::indices_of!($($space $field)*)

@@ -13,7 +13,7 @@ use crate::index_rows;
 use crate::number::{read_short_s32, read_short_s64, read_short_unsigned, read_u32};
 use crate::numeric_reader::numeric;
 use crate::operator::Operator;
-use crate::prefix_reader::read_behind_fc;
+use crate::prefix_reader::{read_behind_fc, read_behind_fd};
 use crate::type_reader::read_empty_block_type;
 use std::marker::Model;
 
@@ -27,6 +27,10 @@ fn read_operator(bytes: &[u8]) -> Result<(Operator<'_>, &[u8]), ReadFault>
         [0xfc, rest @ ..] => {
             let (number, rest) = read_u32(rest)?;
             read_behind_fc(number, rest)
+        }
+        [0xfd, rest @ ..] => {
+            let (number, rest) = read_u32(rest)?;
+            read_behind_fd(number, rest)
         }
         [byte, rest @ ..] => read_behind_byte(*byte, rest),
     }
