@@ -8,7 +8,7 @@ use Rattle.wasm_ops.specs.declared.types.Space.TheVariants.{Tables, Types, Funcs
 use Rattle.wasm_ops.specs.Reading.{Spelling, Reader}
 use Rattle.wasm_ops.specs.Numbers.{IsU32, u32}
 use Rattle.wasm_ops.specs.Types.{row_at}
-use Rattle.wasm_ops.specs.Immediates.{Kind, an_index, a_label, a_handler, an_outer, a_branch_table, an_access, some_clauses, a_block, a_value, an_i32, an_i64, an_f32, an_f64, a_v128, a_lane}
+use Rattle.wasm_ops.specs.Immediates.{Kind, an_index, a_label, a_handler, an_outer, a_branch_table, an_access, some_clauses, a_block, a_value, an_i32, an_i64, an_f32, an_f64, a_v128, a_lane, a_zero_byte}
 use Rattle.walrus_ir.specs.Results.{◌>>=◌}
 
 -- ---- opcodes of one byte
@@ -75,7 +75,7 @@ kinds_of_byte b =
 
 -- the prefix bytes behind which an operator is carried
 abbrev pub is_prefix : ℕ → Bool
-is_prefix b = b == 0xfc || b == 0xfd
+is_prefix b = b == 0xfc || b == 0xfd || b == 0xfe
 
 -- 0xfc 8 to 22
 abbrev pub bulk_rows : List (ℕ × List Kind)
@@ -104,15 +104,14 @@ range_at (row ∷ rows) n = if nat_le n row.0 then row.1 else range_at rows n
 -- 0xfd 0 to 275: ranges of numbers that have an operator, and of numbers that have none
 abbrev pub vector_ranges : List (ℕ × Option (List Kind))
 vector_ranges =
-    (0, Some (an_access ∷ [])) ∷  -- v128.load
-    (10, None) ∷  -- loads that widen or splat are not carried yet
-    (11, Some (an_access ∷ [])) ∷  -- v128.store
+    (11, Some (an_access ∷ [])) ∷  -- loads and stores of whole vectors
     (12, Some (a_v128 ∷ [])) ∷  -- v128.const
     (13, None) ∷  -- i8x16.shuffle is not carried yet
     (20, Some []) ∷  -- i8x16.swizzle, splats
     (34, Some (a_lane ∷ [])) ∷  -- lanes that are read or replaced
     (83, Some []) ∷  -- comparisons, operators on all bits
-    (93, None) ∷  -- accesses of one lane are not carried yet
+    (91, Some (an_access ∷ a_lane ∷ [])) ∷  -- loads and stores of one lane
+    (93, Some (an_access ∷ [])) ∷  -- loads that zero
     (153, Some []) ∷
     (154, None) ∷
     (161, Some []) ∷
@@ -140,12 +139,22 @@ vector_ranges =
     (275, Some []) ∷  -- and relaxed operators
     []
 
+-- 0xfe 0 to 0x4e: so too
+abbrev pub atomic_ranges : List (ℕ × Option (List Kind))
+atomic_ranges =
+    (2, Some (an_access ∷ [])) ∷  -- memory.atomic.notify, wait32, wait64
+    (3, Some (a_zero_byte ∷ [])) ∷  -- atomic.fence
+    (0xf, None) ∷
+    (0x4e, Some (an_access ∷ [])) ∷  -- loads, stores, and what reads and writes
+    []
+
 unfoldable pub kinds_behind : ℕ → ℕ → Option (List Kind)
 kinds_behind prefix n =
     if prefix == 0xfc then
     (if nat_le n 7 then Some []  -- conversions that saturate
     else row_at bulk_rows n)
     else if prefix == 0xfd then range_at vector_ranges n
+    else if prefix == 0xfe then range_at atomic_ranges n
     else None
 
 -- ---- any opcode

@@ -12,11 +12,12 @@ use crate::numeric_reader::saturating_conversion;
 use crate::operator::Operator;
 use crate::row::{made, read_indices, read_pair};
 use crate::types::Opcode;
+use crate::vector_access_rows::{read_lane_access, read_wide_load};
 use crate::vector_reader::{
     read_bitwise, read_float_vector, read_i16x8, read_i32x4, read_i64x2, read_lane,
     read_narrow_vector, read_relaxed_vector, read_splat, read_vector_comparison,
 };
-use walrus_ir::{LoadKind, StoreKind};
+use walrus_ir::{LoadKind, LoadSimdKind, StoreKind};
 
 /// Reads the operator that has the number: those of the rows behind 0xfc, and the others.
 macro_rules! read_number {
@@ -60,7 +61,7 @@ pub(crate) fn read_behind_fd(number: u32, bytes: &[u8]) -> Result<(Operator<'_>,
         0 => made!(
             read_memarg(bytes), memarg => Operator::Load { kind: LoadKind::V128, memarg }
         ),
-        1..=10 => Err(ReadFault::UnknownOperator),
+        1..=10 => read_wide_load(number, bytes),
         11 => made!(
             read_memarg(bytes), memarg => Operator::Store { kind: StoreKind::V128, memarg }
         ),
@@ -70,7 +71,15 @@ pub(crate) fn read_behind_fd(number: u32, bytes: &[u8]) -> Result<(Operator<'_>,
         21..=34 => read_lane(number, bytes),
         35..=76 => read_vector_comparison(number, bytes),
         77..=83 => read_bitwise(number, bytes),
-        84..=93 => Err(ReadFault::UnknownOperator),
+        84..=91 => read_lane_access(number, bytes),
+        92 => made!(
+            read_memarg(bytes),
+            memarg => Operator::LoadSimd { kind: LoadSimdKind::V128Load32Zero, memarg }
+        ),
+        93 => made!(
+            read_memarg(bytes),
+            memarg => Operator::LoadSimd { kind: LoadSimdKind::V128Load64Zero, memarg }
+        ),
         94..=127 => read_narrow_vector(number, bytes),
         128..=159 => read_i16x8(number, bytes),
         160..=191 => read_i32x4(number, bytes),

@@ -6,6 +6,7 @@ ghost use Rattle.walrus_ir.specs.Results.{Gives};
 ghost use Rattle.wasm_ops.specs.Spelling.{Spells, read_operation};
 ghost use Rattle.wasm_ops.specs.Meaning.{meaning};
 
+use crate::atomic_rows::read_behind_fe;
 use crate::access_reader::{load_kind, read_short_memarg, store_kind};
 use crate::byte_reader::read_behind_byte;
 use crate::fault::{ReadError, ReadFault};
@@ -31,6 +32,10 @@ fn read_operator(bytes: &[u8]) -> Result<(Operator<'_>, &[u8]), ReadFault>
         [0xfd, rest @ ..] => {
             let (number, rest) = read_u32(rest)?;
             read_behind_fd(number, rest)
+        }
+        [0xfe, rest @ ..] => {
+            let (number, rest) = read_u32(rest)?;
+            read_behind_fe(number, rest)
         }
         [byte, rest @ ..] => read_behind_byte(*byte, rest),
     }
