@@ -1,6 +1,6 @@
 -- The shortest spelling is a spelling of what fits.
-use Rattle.std.proofs.Common.{◌≡◌, ℕ, zero, suc, ◌+◌, ◌*◌, ◌/◌, ◌%◌, ◌^◌, ◌<◌, ◌≤◌, Bool, true, false, eqb, List, [], ◌∷◌, ◌++◌, map, length, append_assoc, Option, Some, None, Ok, refl, sym, ap, subst, ◌∙◌, arith, rules, inl, inr, ℤ, pos, negsuc}
-use Rattle.std.proofs.lemmas.Bool.{eqb-true, lt-leb, cases_lt}
+use Rattle.std.proofs.Common.{◌≡◌, ℕ, zero, suc, ◌+◌, ◌*◌, ◌/◌, ◌%◌, ◌^◌, ◌<◌, ◌≤◌, Bool, true, false, eqb, List, [], ◌∷◌, ◌++◌, map, length, append_assoc, Option, Some, None, Ok, refl, sym, ap, subst, ◌∙◌, arith, rules, inl, inr, ◌⊎◌, leb, ℤ, pos, negsuc}
+use Rattle.std.proofs.lemmas.Bool.{eqb-true, leb-true, lt-leb, cases_lt}
 use Rattle.std.proofs.lemmas.Nat.{pow-add}
 use Rattle.std.specs.List.{AllByRecursion, flat_map}
 use Rattle.walrus_ir.specs.declared.val_type.ValType.{ValType}
@@ -20,20 +20,30 @@ use Rattle.walrus_ir.specs.declared.memory.LoadKind.{LoadKind}
 use Rattle.walrus_ir.specs.declared.memory.LoadKind.TheVariants as load
 use Rattle.walrus_ir.specs.declared.memory.StoreKind.{StoreKind}
 use Rattle.walrus_ir.specs.declared.memory.StoreKind.TheVariants as store
+use Rattle.walrus_ir.specs.declared.memory.LoadSimdKind.{LoadSimdKind}
+use Rattle.walrus_ir.specs.declared.memory.LoadSimdKind.TheVariants as vector_access
+use Rattle.walrus_ir.specs.declared.memory.AtomicOp.{AtomicOp}
+use Rattle.walrus_ir.specs.declared.memory.AtomicOp.TheVariants as atomic_op
+use Rattle.walrus_ir.specs.declared.memory.AtomicWidth.{AtomicWidth}
+use Rattle.walrus_ir.specs.declared.memory.AtomicWidth.TheVariants as width
+use Rattle.wasm_ops.specs.declared.types.AtomicKind.{AtomicKind}
+use Rattle.wasm_ops.specs.declared.types.AtomicKind.TheVariants as atomic
 use Rattle.wasm_ops.specs.declared.operator.Op.TheVariants as operator
 use Rattle.wasm_ops.specs.Meaning.{Listed, meaning}
 use Rattle.wasm_ops.specs.UnaryOperations.{unary_opcode, extract_lane}
 use Rattle.wasm_ops.specs.BinaryOperations.{binary_opcode, replace_lane}
 use Rattle.wasm_ops.specs.TernaryOperations.{ternary_opcode}
-use Rattle.wasm_ops.specs.AccessOperations.{load_opcode, store_opcode}
+use Rattle.wasm_ops.specs.AccessOperations.{access_of, load_opcode, store_opcode}
+use Rattle.wasm_ops.specs.VectorAccessOpcodes.{vector_access_opcode, access_lane}
+use Rattle.wasm_ops.specs.AtomicOpcodes.{rmw_opcode, cmpxchg_opcode, atomic_opcode}
 use Rattle.wasm_ops.specs.Reading.{Many}
 use Rattle.wasm_ops.specs.Numbers.{IsU32, IsU64, IsS32, IsS33, IsS64, IsByte, joined, AreBits}
 use Rattle.wasm_ops.specs.Types.{row_at, value_at, nullable_at, IsValueType, IsBlockType}
 use Rattle.wasm_ops.specs.Operations.{Access, CatchClause, RawImmediate, index, local, label, handler, outer, number, access, branch_table, clauses, block, value, i32, i64, f32, f64, v128, lane, zero_byte, RawOperation}
 use Rattle.wasm_ops.specs.Immediates.{Kind, an_access, kind_of, IsAccess, IsTable, IsClause, AreClauses, IsSelected, SpellsImmediate, SpellsImmediates}
-use Rattle.wasm_ops.specs.Opcodes.{bulk_rows, is_prefix, kinds_of_byte, kinds_behind, kinds_of, IsOpcode}
+use Rattle.wasm_ops.specs.Opcodes.{bulk_rows, range_at, vector_ranges, atomic_ranges, is_prefix, kinds_of_byte, kinds_behind, kinds_of, IsOpcode}
 use Rattle.wasm_ops.specs.Spelling.{Spells}
-use Rattle.wasm_ops.specs.Shortest.{short_number, short_integer, short_bits, short_value, short_block, short_access, short_table, short_tag, short_clause, short_clauses, short_immediate, short_immediates, short_opcode, short}
+use Rattle.wasm_ops.specs.Shortest.{short_number, short_integer, short_bits, short_vector, short_value, short_block, short_access, short_table, short_tag, short_clause, short_clauses, short_immediate, short_immediates, short_opcode, short}
 use Rattle.wasm_ops.specs.Fitting.{IsSpeltType, IsWithin, FitsBlock, FitsTag, FitsLabel, FitsClause, Fits, AllFit, HasRow}
 use Rattle.wasm_ops.proofs.Agreement.{chosen}
 use Rattle.wasm_ops.proofs.ShortestNumbers.{unsigned_spelt, signed_spelt}
@@ -73,6 +83,10 @@ bits_joined (suc count) bits h =
 
 bits_spelt : (count bits : ℕ) → bits < 2 ^ (8 * count) → AreBits count bits (short_bits count bits)
 bits_spelt count bits h = (short_bits count bits, ap (λ (n : ℕ). Ok n) (bits_joined count bits h), bytes_spelt count bits)
+
+vector_spelt : (bits : ℕ) → bits < 2 ^ 128 → AreBits 16 bits (short_vector bits)
+unfolding short_vector
+vector_spelt bits h = bits_spelt 16 bits h
 
 -- ---- types
 
@@ -182,7 +196,7 @@ immediate_spelt (i32 z) h = s32_spelt z h
 immediate_spelt (i64 z) h = s64_spelt z h
 immediate_spelt (f32 bits) h = bits_spelt 4 bits h
 immediate_spelt (f64 bits) h = bits_spelt 8 bits h
-immediate_spelt (v128 bits) h = bits_spelt 16 bits h
+immediate_spelt (v128 bits) h = vector_spelt bits h
 immediate_spelt (lane n) h = (h, refl)
 immediate_spelt zero_byte h = refl
 immediate_spelt _ h = absurd h
@@ -208,26 +222,71 @@ none_some x e = cc
 byte_below : (b : ℕ) (ks : List Kind) → kinds_of_byte b ≡ Some ks → b ≤ 0xc4
 byte_below b ks e = elim (cases_lt 0xc4 b) [ inl lt ↦ absurd (none_some ks (sym (byte_past b lt) ∙ e)) | inr le ↦ le ]
 
+-- no byte below a prefix is that prefix
+no_equal : (b c : ℕ) → b < c → eqb b c ≡ false
+no_equal b c h = elim (either_way (eqb b c)) [ inl e ↦ absurd (let is = eqb-true b c e in omega arith) | inr e ↦ e ]
+
 no_prefix : (b : ℕ) → b ≤ 0xc4 → is_prefix b ≡ false
-no_prefix b h = elim (either_way (eqb b 0xfc)) [ inl e ↦ absurd (let is = eqb-true b 0xfc e in omega arith) | inr e ↦ e ]
+no_prefix b h = rw (no_equal b 0xfc (omega arith), no_equal b 0xfd (omega arith), no_equal b 0xfe (omega arith)) refl
 
 bulk_below : (n : ℕ) (ks : List Kind) → row_at bulk_rows n ≡ Some ks → n < 2 ^ 32
 bulk_below = row_holds (λ n ks. n < 2 ^ 32) bulk_rows (search rules)
 
-behind : (prefix n : ℕ) (ks : List Kind) → kinds_behind prefix n ≡ Some ks → (is_prefix prefix ≡ true) × (prefix < 256) × (n < 2 ^ 32)
+-- the last number of each range is within the limit
+abbrev EachWithin : {V : Type 0} → ℕ → List (ℕ × Option V) → Type 0
+EachWithin limit [] = Unit {0}
+EachWithin limit (row ∷ rows) = (row.0 < limit) × EachWithin limit rows
+
+range_within : {V : Type 0} (limit : ℕ) (rows : List (ℕ × Option V)) → EachWithin limit rows → (n : ℕ) (v : V) → range_at rows n ≡ Some v → n < limit
+range_within limit [] each n v e = absurd (none_some v e)
+range_within limit (row ∷ rows) each n v e =
+    elim (chosen (leb n row.0) row.1 (range_at rows n) (Some v) e) [
+      | inl p ↦ let le = leb-true n row.0 p.0 in let lt = each.0 in omega arith
+      | inr p ↦ range_within limit rows each.1 n v p.1
+    ]
+
+behind_fc : (n : ℕ) (ks : List Kind) → kinds_behind 0xfc n ≡ Some ks → n < 2 ^ 32
 unfolding kinds_behind
+behind_fc n ks e =
+    elim (cases_lt n 8) [
+      | inl lt ↦ omega arith
+      | inr le ↦ bulk_below n ks (let q = e in rw (lt-leb n 7 (omega arith)) at q)
+    ]
+
+behind_fd : (n : ℕ) (ks : List Kind) → kinds_behind 0xfd n ≡ Some ks → n < 2 ^ 32
+unfolding kinds_behind
+behind_fd n ks e = range_within (2 ^ 32) vector_ranges (search rules) n ks e
+
+behind_fe : (n : ℕ) (ks : List Kind) → kinds_behind 0xfe n ≡ Some ks → n < 2 ^ 32
+unfolding kinds_behind
+behind_fe n ks e = range_within (2 ^ 32) atomic_ranges (search rules) n ks e
+
+-- a prefix behind which an operator stands
+prefixes : (prefix n : ℕ) (ks : List Kind) → kinds_behind prefix n ≡ Some ks → (prefix ≡ 0xfc) ⊎ ((prefix ≡ 0xfd) ⊎ (prefix ≡ 0xfe))
+unfolding kinds_behind
+prefixes prefix n ks e =
+    elim (chosen (eqb prefix 0xfc) _ _ (Some ks) e) [
+      | inl p ↦ inl (eqb-true prefix 0xfc p.0)
+      | inr p ↦
+          elim (chosen (eqb prefix 0xfd) _ _ (Some ks) p.1) [
+            | inl q ↦ inr (inl (eqb-true prefix 0xfd q.0))
+            | inr q ↦
+                elim (chosen (eqb prefix 0xfe) _ None (Some ks) q.1) [
+                  | inl r ↦ inr (inr (eqb-true prefix 0xfe r.0))
+                  | inr r ↦ absurd (none_some ks r.1)
+                ]
+          ]
+    ]
+
+behind : (prefix n : ℕ) (ks : List Kind) → kinds_behind prefix n ≡ Some ks → (is_prefix prefix ≡ true) × (prefix < 256) × (n < 2 ^ 32)
 behind prefix n ks e =
-    elim (chosen (eqb prefix 0xfc) _ None (Some ks) e) [
-      | inl p ↦
-          let is : prefix ≡ 0xfc = eqb-true prefix 0xfc p.0 in (
-            p.0,
-            omega arith,
-            elim (cases_lt n 8) [
-              | inl lt ↦ omega arith
-              | inr le ↦ bulk_below n ks (let q = p.1 in rw (lt-leb n 7 (omega arith)) at q)
-            ],
-          )
-      | inr p ↦ absurd (none_some ks p.1)
+    elim (prefixes prefix n ks e) [
+      | inl is ↦ let q = e in rw is (refl, omega arith, behind_fc n ks (rw is at q))
+      | inr others ↦
+          elim others [
+            | inl is ↦ let q = e in rw is (refl, omega arith, behind_fd n ks (rw is at q))
+            | inr is ↦ let q = e in rw is (refl, omega arith, behind_fe n ks (rw is at q))
+          ]
     ]
 
 opcode_spelt : (o : Opcode) (ks : List Kind) → kinds_of o ≡ Some ks → IsOpcode o (short_opcode o)
@@ -303,6 +362,32 @@ kinds_of_store (store.I64_16 false) ks e = cc
 kinds_of_store (store.I64_32 true) ks e = cc
 kinds_of_store (store.I64_32 false) ks e = cc
 
+kinds_of_vector_access : (kind : LoadSimdKind) (a : Access) → kinds_of (vector_access_opcode kind) ≡ Some (map kind_of (access a ∷ access_lane kind))
+unfolding kinds_behind
+kinds_of_vector_access vector_access.Splat8 a = refl
+kinds_of_vector_access _ a = refl
+
+kinds_of_rmw : (op : AtomicOp) (width : AtomicWidth) → kinds_of (rmw_opcode op width) ≡ Some (an_access ∷ [])
+unfolding kinds_behind
+kinds_of_rmw atomic_op.Add width.I32 = refl
+kinds_of_rmw atomic_op.Sub width.I32 = refl
+kinds_of_rmw atomic_op.And width.I32 = refl
+kinds_of_rmw atomic_op.Or width.I32 = refl
+kinds_of_rmw atomic_op.Xor width.I32 = refl
+kinds_of_rmw atomic_op.Xchg width.I32 = refl
+kinds_of_rmw _ _ = refl
+
+kinds_of_cmpxchg : (width : AtomicWidth) → kinds_of (cmpxchg_opcode width) ≡ Some (an_access ∷ [])
+unfolding kinds_behind
+kinds_of_cmpxchg width.I32 = refl
+kinds_of_cmpxchg _ = refl
+
+kinds_of_atomic : (kind : AtomicKind) → kinds_of (atomic_opcode kind) ≡ Some (an_access ∷ [])
+unfolding kinds_behind
+kinds_of_atomic (atomic.Rmw op width) = kinds_of_rmw op width
+kinds_of_atomic (atomic.Cmpxchg width) = kinds_of_cmpxchg width
+kinds_of_atomic _ = refl
+
 -- what follows an opcode of the code is what its row says
 kinds_right : (op : Listed) (ks : List Kind) → kinds_of (meaning op).opcode ≡ Some ks → kinds_of (meaning op).opcode ≡ Some (map kind_of (meaning op).immediates)
 unfolding kinds_of_byte kinds_behind
@@ -311,6 +396,8 @@ kinds_right (operator.Binop op) ks e = kinds_of_binary op ks e
 kinds_right (operator.TernOp op) ks e = kinds_of_ternary op ks e
 kinds_right (operator.Load kind memarg) ks e = kinds_of_load kind ks e
 kinds_right (operator.Store kind memarg) ks e = kinds_of_store kind ks e
+kinds_right (operator.LoadSimd kind memarg) ks e = kinds_of_vector_access kind (access_of memarg)
+kinds_right (operator.Atomic kind memarg) ks e = kinds_of_atomic kind
 kinds_right _ ks e = refl
 
 -- so of an operator of the code whose opcode has a row, and whose numbers fit, the shortest spelling is a spelling

@@ -1,6 +1,6 @@
 -- Which opcodes there are, and which immediates follow each: a row an opcode or a range of opcodes (WebAssembly core
 -- specification 3.0, binary format, instructions). An operator is carried where its opcode has a row here.
-use Rattle.std.specs.Prelude.{◌≡◌, ℕ, ◌<◌, Bool, true, false, List, [], ◌∷◌, Option, Some, None, Ok, Err, nat_le, ◌==◌, if◌then◌else◌}
+use Rattle.std.specs.Prelude.{◌≡◌, ℕ, ◌<◌, Bool, true, false, ◌||◌, List, [], ◌∷◌, Option, Some, None, Ok, Err, nat_le, ◌==◌, if◌then◌else◌}
 use Rattle.wasm_ops.specs.declared.fault.ReadFault.TheVariants.{Truncated}
 use Rattle.wasm_ops.specs.declared.types.Opcode.{Opcode}
 use Rattle.wasm_ops.specs.declared.types.Opcode.TheVariants.{Byte, Prefixed}
@@ -8,7 +8,7 @@ use Rattle.wasm_ops.specs.declared.types.Space.TheVariants.{Tables, Types, Funcs
 use Rattle.wasm_ops.specs.Reading.{Spelling, Reader}
 use Rattle.wasm_ops.specs.Numbers.{IsU32, u32}
 use Rattle.wasm_ops.specs.Types.{row_at}
-use Rattle.wasm_ops.specs.Immediates.{Kind, an_index, a_label, a_handler, an_outer, a_branch_table, an_access, some_clauses, a_block, a_value, an_i32, an_i64, an_f32, an_f64}
+use Rattle.wasm_ops.specs.Immediates.{Kind, an_index, a_label, a_handler, an_outer, a_branch_table, an_access, some_clauses, a_block, a_value, an_i32, an_i64, an_f32, an_f64, a_v128, a_lane, a_zero_byte}
 use Rattle.walrus_ir.specs.Results.{◌>>=◌}
 
 -- ---- opcodes of one byte
@@ -75,9 +75,9 @@ kinds_of_byte b =
 
 -- the prefix bytes behind which an operator is carried
 abbrev pub is_prefix : ℕ → Bool
-is_prefix b = b == 0xfc
+is_prefix b = b == 0xfc || b == 0xfd || b == 0xfe
 
--- 0xfc 8 to 17
+-- 0xfc 8 to 22
 abbrev pub bulk_rows : List (ℕ × List Kind)
 bulk_rows =
     (8, an_index Data ∷ an_index Memories ∷ []) ∷  -- memory.init
@@ -90,6 +90,62 @@ bulk_rows =
     (15, an_index Tables ∷ []) ∷  -- table.grow
     (16, an_index Tables ∷ []) ∷  -- table.size
     (17, an_index Tables ∷ []) ∷  -- table.fill
+    (19, []) ∷  -- i64.add128
+    (20, []) ∷  -- i64.sub128
+    (21, []) ∷  -- i64.mul_wide_s
+    (22, []) ∷  -- i64.mul_wide_u
+    []
+
+-- what a table of ranges has at a number: each row has the last number of its range, and ranges follow each other
+abbrev pub range_at : {V : Type 0} → List (ℕ × Option V) → ℕ → Option V
+range_at [] n = None
+range_at (row ∷ rows) n = if nat_le n row.0 then row.1 else range_at rows n
+
+-- 0xfd 0 to 275: ranges of numbers that have an operator, and of numbers that have none
+abbrev pub vector_ranges : List (ℕ × Option (List Kind))
+vector_ranges =
+    (11, Some (an_access ∷ [])) ∷  -- loads and stores of whole vectors
+    (12, Some (a_v128 ∷ [])) ∷  -- v128.const
+    (13, None) ∷  -- i8x16.shuffle is not carried yet
+    (20, Some []) ∷  -- i8x16.swizzle, splats
+    (34, Some (a_lane ∷ [])) ∷  -- lanes that are read or replaced
+    (83, Some []) ∷  -- comparisons, operators on all bits
+    (91, Some (an_access ∷ a_lane ∷ [])) ∷  -- loads and stores of one lane
+    (93, Some (an_access ∷ [])) ∷  -- loads that zero
+    (153, Some []) ∷
+    (154, None) ∷
+    (161, Some []) ∷
+    (162, None) ∷
+    (164, Some []) ∷
+    (166, None) ∷
+    (174, Some []) ∷
+    (176, None) ∷
+    (177, Some []) ∷
+    (180, None) ∷
+    (186, Some []) ∷
+    (187, None) ∷
+    (193, Some []) ∷
+    (194, None) ∷
+    (196, Some []) ∷
+    (198, None) ∷
+    (206, Some []) ∷
+    (208, None) ∷
+    (209, Some []) ∷
+    (212, None) ∷
+    (225, Some []) ∷
+    (226, None) ∷
+    (237, Some []) ∷
+    (238, None) ∷
+    (275, Some []) ∷  -- and relaxed operators
+    []
+
+-- 0xfe 0 to 0x4e: so too
+abbrev pub atomic_ranges : List (ℕ × Option (List Kind))
+atomic_ranges =
+    (2, Some (an_access ∷ [])) ∷  -- memory.atomic.notify, wait32, wait64
+    (3, Some (a_zero_byte ∷ [])) ∷  -- atomic.fence
+    (0xf, None) ∷
+    (0x4e, Some (an_access ∷ [])) ∷  -- loads, stores, and what reads and writes
     []
 
 unfoldable pub kinds_behind : ℕ → ℕ → Option (List Kind)
@@ -97,6 +153,8 @@ kinds_behind prefix n =
     if prefix == 0xfc then
     (if nat_le n 7 then Some []  -- conversions that saturate
     else row_at bulk_rows n)
+    else if prefix == 0xfd then range_at vector_ranges n
+    else if prefix == 0xfe then range_at atomic_ranges n
     else None
 
 -- ---- any opcode

@@ -3,7 +3,7 @@ use Rattle.std.specs.Prelude.{ℕ, List, [], ◌∷◌, Option, Some, None}
 use Rattle.wasm_ops.specs.declared.types.Opcode.{Opcode}
 use Rattle.wasm_ops.specs.declared.immediates.Immediates.{Immediates}
 use Rattle.wasm_ops.specs.declared.immediates.Immediates.TheVariants as immediates
-use Rattle.wasm_ops.specs.Operations.{CatchClause, RawImmediate, index, label, handler, outer, branch_table, clauses, access, block, value, i32, i64, f32, f64, v128, lane, RawOperation}
+use Rattle.wasm_ops.specs.Operations.{CatchClause, RawImmediate, index, label, handler, outer, branch_table, clauses, access, block, value, i32, i64, f32, f64, v128, lane, zero_byte, RawOperation}
 use Rattle.wasm_ops.specs.Immediates.{Table}
 use Rattle.wasm_ops.specs.AccessOperations.{access_of, memarg_of}
 
@@ -21,6 +21,7 @@ immediates_of (immediates.Handler depth) = handler depth ∷ []
 immediates_of (immediates.Outer depth) = outer depth ∷ []
 immediates_of (immediates.Table t) = branch_table t.0 t.1 ∷ []
 immediates_of (immediates.Access memarg) = access (access_of memarg) ∷ []
+immediates_of (immediates.LaneAccess memarg n) = access (access_of memarg) ∷ lane n ∷ []
 immediates_of (immediates.Block type) = block type ∷ []
 immediates_of (immediates.Clauses type cs) = block type ∷ clauses cs ∷ []
 immediates_of (immediates.Value type) = value type ∷ []
@@ -30,6 +31,7 @@ immediates_of (immediates.F32 bits) = f32 bits ∷ []
 immediates_of (immediates.F64 bits) = f64 bits ∷ []
 immediates_of (immediates.V128 bits) = v128 bits ∷ []
 immediates_of (immediates.Lane n) = lane n ∷ []
+immediates_of immediates.ZeroByte = zero_byte ∷ []
 
 -- The immediates as one of these, which they are where they follow an opcode of the code.
 abbrev pub shape_of : List RawImmediate → ListedImmediates
@@ -39,6 +41,7 @@ shape_of (label depth ∷ is) = immediates.Label depth
 shape_of (handler depth ∷ is) = immediates.Handler depth
 shape_of (outer depth ∷ is) = immediates.Outer depth
 shape_of (branch_table targets default ∷ is) = immediates.Table (targets, default)
+shape_of (access a ∷ lane n ∷ is) = immediates.LaneAccess (memarg_of a) n
 shape_of (access a ∷ is) = immediates.Access (memarg_of a)
 shape_of (block type ∷ clauses cs ∷ is) = immediates.Clauses type cs
 shape_of (block type ∷ is) = immediates.Block type
@@ -49,6 +52,7 @@ shape_of (f32 bits ∷ is) = immediates.F32 bits
 shape_of (f64 bits ∷ is) = immediates.F64 bits
 shape_of (v128 bits ∷ is) = immediates.V128 bits
 shape_of (lane n ∷ is) = immediates.Lane n
+shape_of (zero_byte ∷ is) = immediates.ZeroByte
 shape_of _ = immediates.Nothing
 
 abbrev pub parts_of : RawOperation → Opcode × ListedImmediates

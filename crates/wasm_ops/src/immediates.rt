@@ -21,6 +21,8 @@ pub enum Immediates<T, C> {
     Table(T),
     /// A memory argument.
     Access(RawMemArg),
+    /// A memory argument, and a lane.
+    LaneAccess(RawMemArg, u8),
     /// A block type.
     Block(BlockType),
     /// A block type, and the clauses of a `try_table`.
@@ -39,4 +41,6 @@ pub enum Immediates<T, C> {
     V128(u128),
     /// A lane.
     Lane(u8),
+    /// The byte behind a fence.
+    ZeroByte,
 }

@@ -116,6 +116,7 @@ fn same_immediates(a: &OperatorImmediates<'_>, b: &OperatorImmediates<'_>) -> bo
         Immediates::Outer(_) => a == b,
         Immediates::Table(_) => a == b,
         Immediates::Access(_) => a == b,
+        Immediates::LaneAccess(..) => a == b,
         Immediates::Block(ty) => {
             if let Immediates::Block(other) = b {
                 let _same = same_block_type(ty, other);
@@ -142,6 +143,7 @@ fn same_immediates(a: &OperatorImmediates<'_>, b: &OperatorImmediates<'_>) -> bo
         Immediates::F64(_) => a == b,
         Immediates::V128(_) => a == b,
         Immediates::Lane(_) => a == b,
+        Immediates::ZeroByte => a == b,
     }
 }
 

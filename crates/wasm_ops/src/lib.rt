@@ -3,6 +3,7 @@
 
 mod access_reader;
 mod access_rows;
+mod atomic_rows;
 mod binary_rows;
 mod branch_table;
 mod byte_reader;
@@ -22,8 +23,11 @@ mod ternary_rows;
 mod type_reader;
 mod types;
 mod unary_rows;
+mod vector_access_rows;
+mod vector_reader;
 
 pub use access_rows::{load_opcode, store_opcode};
+pub use atomic_rows::atomic_opcode;
 pub use binary_rows::{binary_opcode, replace_lane};
 pub use branch_table::{BrTable, Targets};
 pub use catch_list::{CatchList, Catches};
@@ -36,5 +40,6 @@ pub use law::{
 pub use operator::{Op, Operator};
 pub use reader::Reader;
 pub use ternary_rows::ternary_opcode;
-pub use types::{BlockType, Opcode, RawCatch, RawHeapType, RawMemArg, RawValType, Space};
+pub use types::{AtomicKind, BlockType, Opcode, RawCatch, RawHeapType, RawMemArg, RawValType, Space};
 pub use unary_rows::{extract_lane, unary_opcode};
+pub use vector_access_rows::{access_lane, vector_access_opcode};

@@ -2,8 +2,8 @@
 
 use crate::branch_table::BrTable;
 use crate::catch_list::CatchList;
-use crate::types::{BlockType, RawMemArg, RawValType};
-use walrus_ir::{BinaryOp, LoadKind, StoreKind, TernaryOp, UnaryOp};
+use crate::types::{AtomicKind, BlockType, RawMemArg, RawValType};
+use walrus_ir::{BinaryOp, LoadKind, LoadSimdKind, StoreKind, TernaryOp, UnaryOp};
 
 /// An operator as it is spelt (WebAssembly core specification 3.0, binary format, instructions):
 /// with raw indices, and labels as depths. `T` is the labels of a `br_table`, and `C` the clauses
@@ -70,6 +70,12 @@ pub enum Op<T, C> {
     Load { kind: LoadKind, memarg: RawMemArg },
     /// a store, as `i64.store`
     Store { kind: StoreKind, memarg: RawMemArg },
+    /// a vector access that is no plain load or store, as `v128.load8_splat`
+    LoadSimd { kind: LoadSimdKind, memarg: RawMemArg },
+    /// an atomic access that is no plain load or store, as `i32.atomic.rmw.add`
+    Atomic { kind: AtomicKind, memarg: RawMemArg },
+    /// `atomic.fence`
+    AtomicFence,
     /// `memory.size`
     MemorySize { memory: u32 },
     /// `memory.grow`
@@ -108,6 +114,20 @@ pub enum Op<T, C> {
     TableSize { table: u32 },
     /// `table.fill`
     TableFill { table: u32 },
+    /// `i64.add128`
+    I64Add128,
+    /// `i64.sub128`
+    I64Sub128,
+    /// `i64.mul_wide_s`
+    I64MulWideS,
+    /// `i64.mul_wide_u`
+    I64MulWideU,
+    /// `v128.const`, by its bits
+    V128Const { bits: u128 },
+    /// `i8x16.swizzle`
+    I8x16Swizzle,
+    /// `v128.bitselect`
+    V128Bitselect,
 }
 
 /// An operator as it is read, whose lists stand in the input. Two are equal where their meanings

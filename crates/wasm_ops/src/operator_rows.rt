@@ -73,6 +73,17 @@ macro_rules! lane_of {
     };
 }
 
+/// What follows the opcode of an access to memory that may name a lane.
+#[macro_export]
+macro_rules! access_of {
+    ($memarg:expr, $lane:expr) => {
+        match $lane {
+            Some(idx) => $crate::Immediates::LaneAccess($memarg, idx),
+            None => $crate::Immediates::Access($memarg),
+        }
+    };
+}
+
 /// Takes an operator apart, and hands its opcode and what follows it to the macro `$each`, behind
 /// what that takes beside them. The rows of operators with lists come from outside, since lists are
 /// handed on in other ways where an operator is read and where it is written.
@@ -106,6 +117,9 @@ macro_rules! parts_of {
             $crate::Op::TypedSelect { ty } => $each!($with $crate::Opcode::Byte(0x1c), $crate::Immediates::Value(*ty)),
             $crate::Op::Load { kind, memarg } => $each!($with $crate::load_opcode(*kind), $crate::Immediates::Access(*memarg)),
             $crate::Op::Store { kind, memarg } => $each!($with $crate::store_opcode(*kind), $crate::Immediates::Access(*memarg)),
+            $crate::Op::LoadSimd { kind, memarg } => $each!($with $crate::vector_access_opcode(*kind), $crate::access_of!(*memarg, $crate::access_lane(*kind))),
+            $crate::Op::Atomic { kind, memarg } => $each!($with $crate::atomic_opcode(*kind), $crate::Immediates::Access(*memarg)),
+            $crate::Op::AtomicFence => $each!($with $crate::Opcode::Prefixed(0xfe, 3), $crate::Immediates::ZeroByte),
             $crate::Op::I32Const { value } => $each!($with $crate::Opcode::Byte(0x41), $crate::Immediates::I32(*value)),
             $crate::Op::I64Const { value } => $each!($with $crate::Opcode::Byte(0x42), $crate::Immediates::I64(*value)),
             $crate::Op::F32Const { bits } => $each!($with $crate::Opcode::Byte(0x43), $crate::Immediates::F32(*bits)),
@@ -113,6 +127,13 @@ macro_rules! parts_of {
             $crate::Op::Unop(op) => $each!($with $crate::unary_opcode(*op), $crate::lane_of!($crate::extract_lane(*op))),
             $crate::Op::Binop(op) => $each!($with $crate::binary_opcode(*op), $crate::lane_of!($crate::replace_lane(*op))),
             $crate::Op::TernOp(op) => $each!($with $crate::ternary_opcode(*op), $crate::Immediates::Nothing),
+            $crate::Op::I64Add128 => $each!($with $crate::Opcode::Prefixed(0xfc, 19), $crate::Immediates::Nothing),
+            $crate::Op::I64Sub128 => $each!($with $crate::Opcode::Prefixed(0xfc, 20), $crate::Immediates::Nothing),
+            $crate::Op::I64MulWideS => $each!($with $crate::Opcode::Prefixed(0xfc, 21), $crate::Immediates::Nothing),
+            $crate::Op::I64MulWideU => $each!($with $crate::Opcode::Prefixed(0xfc, 22), $crate::Immediates::Nothing),
+            $crate::Op::V128Const { bits } => $each!($with $crate::Opcode::Prefixed(0xfd, 12), $crate::Immediates::V128(*bits)),
+            $crate::Op::I8x16Swizzle => $each!($with $crate::Opcode::Prefixed(0xfd, 14), $crate::Immediates::Nothing),
+            $crate::Op::V128Bitselect => $each!($with $crate::Opcode::Prefixed(0xfd, 82), $crate::Immediates::Nothing),
             $($lists)*
             $($($crate::Op::$name { $($field),* } => $each!(
                 $with $crate::opcode_at!($form $row), $crate::indices_of!($($space $field)*)

@@ -6,6 +6,7 @@ ghost use Rattle.walrus_ir.specs.Results.{Gives};
 ghost use Rattle.wasm_ops.specs.Spelling.{Spells, read_operation};
 ghost use Rattle.wasm_ops.specs.Meaning.{meaning};
 
+use crate::atomic_rows::read_behind_fe;
 use crate::access_reader::{load_kind, read_short_memarg, store_kind};
 use crate::byte_reader::read_behind_byte;
 use crate::fault::{ReadError, ReadFault};
@@ -13,7 +14,7 @@ use crate::index_rows;
 use crate::number::{read_short_s32, read_short_s64, read_short_unsigned, read_u32};
 use crate::numeric_reader::numeric;
 use crate::operator::Operator;
-use crate::prefix_reader::read_behind_fc;
+use crate::prefix_reader::{read_behind_fc, read_behind_fd};
 use crate::type_reader::read_empty_block_type;
 use std::marker::Model;
 
@@ -27,6 +28,14 @@ fn read_operator(bytes: &[u8]) -> Result<(Operator<'_>, &[u8]), ReadFault>
         [0xfc, rest @ ..] => {
             let (number, rest) = read_u32(rest)?;
             read_behind_fc(number, rest)
+        }
+        [0xfd, rest @ ..] => {
+            let (number, rest) = read_u32(rest)?;
+            read_behind_fd(number, rest)
+        }
+        [0xfe, rest @ ..] => {
+            let (number, rest) = read_u32(rest)?;
+            read_behind_fe(number, rest)
         }
         [byte, rest @ ..] => read_behind_byte(*byte, rest),
     }

@@ -6,7 +6,7 @@ use Rattle.wasm_ops.specs.declared.types.Opcode.{Opcode}
 use Rattle.wasm_ops.specs.declared.types.Opcode.TheVariants.{Byte, Prefixed}
 use Rattle.wasm_ops.specs.Types.{row_at}
 use Rattle.wasm_ops.specs.Immediates.{Kind, a_local, an_access}
-use Rattle.wasm_ops.specs.Opcodes.{control_rows, variable_rows, constant_rows, bulk_rows, kinds_of_byte, kinds_behind, kinds_of}
+use Rattle.wasm_ops.specs.Opcodes.{control_rows, variable_rows, constant_rows, bulk_rows, range_at, vector_ranges, kinds_of_byte, kinds_behind, kinds_of}
 
 abbrev pub is_no_local : Kind → Bool
 is_no_local a_local = false
@@ -38,6 +38,23 @@ by_rows [] h b = no_answer
 by_rows (row ∷ rows) h b =
     let both = and_parts (no_locals row.1) (rows_pass rows) h in either (b == row.0) (Some row.1) (row_at rows b) (some_answer row.1 both.0) (by_rows rows both.1 b)
 
+abbrev answer_passes : Option (List Kind) → Bool
+answer_passes None = true
+answer_passes (Some ks) = no_locals ks
+
+passed : (answer : Option (List Kind)) → answer_passes answer ≡ true → NoLocals answer
+passed None h = no_answer
+passed (Some ks) h = some_answer ks h
+
+abbrev ranges_pass : List (ℕ × Option (List Kind)) → Bool
+ranges_pass [] = true
+ranges_pass (row ∷ rows) = answer_passes row.1 && ranges_pass rows
+
+by_ranges : (rows : List (ℕ × Option (List Kind))) → ranges_pass rows ≡ true → (n : ℕ) → NoLocals (range_at rows n)
+by_ranges [] h n = no_answer
+by_ranges (row ∷ rows) h n =
+    let both = and_parts (answer_passes row.1) (ranges_pass rows) h in either (nat_le n row.0) row.1 (range_at rows n) (passed row.1 both.0) (by_ranges rows both.1 n)
+
 by_byte : (b : ℕ) → NoLocals (kinds_of_byte b)
 unfolding kinds_of_byte
 by_byte b =
@@ -49,7 +66,9 @@ by_byte b =
 
 behind_prefix : (prefix n : ℕ) → NoLocals (kinds_behind prefix n)
 unfolding kinds_behind
-behind_prefix prefix n = either (prefix == 0xfc) _ _ (either (nat_le n 7) _ _ (some_answer [] refl) (by_rows bulk_rows refl n)) no_answer
+behind_prefix prefix n =
+    either (prefix == 0xfc) _ _ (either (nat_le n 7) _ _ (some_answer [] refl) (by_rows bulk_rows refl n))
+    (either (prefix == 0xfd) _ _ (by_ranges vector_ranges refl n) no_answer)
 
 pub carried_kinds : (o : Opcode) (ks : List Kind) → kinds_of o ≡ Some ks → no_locals ks ≡ true
 carried_kinds (Byte b) ks e = by_byte b ks e
