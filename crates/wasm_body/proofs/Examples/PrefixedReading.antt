@@ -6,7 +6,7 @@ use Rattle.wasm_ops.specs.Numbers.{integer}
 use Rattle.wasm_ops.specs.Reading.{many}
 use Rattle.wasm_ops.specs.Immediates.{memory_access}
 use Rattle.wasm_ops.specs.Opcodes.{kinds_behind, opcode}
-use Rattle.wasm_ops.specs.Operations.{Access, access, lane, v128, zero_byte, RawOperation, operation}
+use Rattle.wasm_ops.specs.Operations.{access, lane, v128, zero_byte, RawOperation, operation}
 use Rattle.wasm_ops.specs.Shortest.{short_unsigned, short_access, short_vector, short}
 use Rattle.wasm_ops.specs.Spelling.{read_operation}
 
