@@ -133,7 +133,8 @@ pub(crate) fn read_bitwise(number: u32, bytes: &[u8]) -> Result<(Operator<'_>, &
     }
 }
 
-/// What follows 0xfd and a number from 94 to 127: conversions of floats, and operators on lanes of a byte and others.
+/// What follows 0xfd and a number from 94 to 127: conversions of floats, operators on lanes of a
+/// byte, and others.
 #[tactic(auto, unfolding(crate::specs::Opcodes::kinds_behind))]
 pub(crate) fn read_narrow_vector(
     number: u32,
