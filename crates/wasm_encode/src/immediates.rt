@@ -2,7 +2,7 @@
 
 ghost use Rattle.std.specs.Prelude.{◌≡◌, ◌++◌, ◌∷◌, OnOk, take, length};
 ghost use Rattle.wasm_ops.specs.AccessOperations.{access_of};
-ghost use Rattle.wasm_ops.specs.Shortest.{short_number, short_value, short_access, short_table, short_clause, short_clauses, short_immediates};
+ghost use Rattle.wasm_ops.specs.Shortest.{short_number, short_vector, short_value, short_access, short_table, short_clause, short_clauses, short_immediates};
 ghost use Rattle.wasm_ops.specs.Parts.{immediates_of};
 
 use crate::number::{write_bits, write_byte, write_integer, write_number};
@@ -45,6 +45,15 @@ fn write_selected(out: &mut Vec<u8>, ty: RawValType) -> Result<(), AllocError>
 {
     write_byte(out, 1)?;
     write_value_type(out, ty)
+}
+
+/// Appends the bits of a vector.
+#[tactic(auto, using(crate::proofs::Appending::appending), unfolding(wasm_ops::specs::Shortest::short_vector))]
+fn write_vector(out: &mut Vec<u8>, bits: u128) -> Result<(), AllocError>
+    ensures ok { OnOk result (out.new.items ≡ out.old.items ++ short_vector bits) }
+    ensures kept { take (length out.old.items) out.new.items ≡ out.old.items }
+{
+    write_bits(out, 16, bits)
 }
 
 /// Appends the labels of a `br_table`.
@@ -109,6 +118,10 @@ pub(crate) fn write_immediates(
         Immediates::Outer(depth) => write_number(out, *depth as u64),
         Immediates::Table(OutTable { targets, default }) => write_table(out, targets, *default),
         Immediates::Access(memarg) => write_memarg(out, *memarg),
+        Immediates::LaneAccess(memarg, idx) => {
+            write_memarg(out, *memarg)?;
+            write_byte(out, *idx)
+        }
         Immediates::Block(ty) => write_block_type(out, *ty),
         Immediates::Clauses(ty, OutClauses { clauses }) => {
             write_block_type(out, *ty)?;
@@ -119,7 +132,8 @@ pub(crate) fn write_immediates(
         Immediates::I64(value) => write_integer(out, *value),
         Immediates::F32(bits) => write_bits(out, 4, *bits as u128),
         Immediates::F64(bits) => write_bits(out, 8, *bits as u128),
-        Immediates::V128(bits) => write_bits(out, 16, *bits),
+        Immediates::V128(bits) => write_vector(out, *bits),
         Immediates::Lane(idx) => write_byte(out, *idx),
+        Immediates::ZeroByte => write_byte(out, 0),
     }
 }

@@ -1,5 +1,6 @@
 //! The law of what is written, the contract of a function that does nothing.
 
+ghost use Rattle.std.specs.Prelude.{◌≡◌};
 ghost use Rattle.std.specs.List.{AllByRecursion};
 ghost use Rattle.wasm_ops.specs.Fitting.{FitsLabel, FitsClause, AllFit, AreSpeakable, HasRow};
 ghost use Rattle.wasm_ops.specs.Meaning.{meaning};
@@ -60,6 +61,7 @@ fn law_fit(immediates: OutImmediates<'_>)
             },
         ) => law_labels(targets),
         Immediates::Access(_memarg) => {}
+        Immediates::LaneAccess(_memarg, _idx) => {}
         Immediates::Block(ty) => match ty {
             BlockType::Empty => {}
             BlockType::Value(_) => {}
@@ -80,14 +82,30 @@ fn law_fit(immediates: OutImmediates<'_>)
         Immediates::F64(_bits) => {}
         Immediates::V128(_bits) => {}
         Immediates::Lane(_idx) => {}
+        Immediates::ZeroByte => {}
     }
 }
 
-/// The numbers of what follows an opcode fit their spellings.
-macro_rules! fits {
+/// What follows an opcode.
+macro_rules! behind {
     (() $opcode:expr, $immediates:expr) => {
-        law_fit($immediates)
+        $immediates
     };
+}
+
+/// What follows the opcode of an operator.
+fn behind_opcode<'a>(op: &OutOp<'a>) -> OutImmediates<'a>
+    ensures { immediates_of result ≡ (meaning op.now).immediates }
+{
+    index_rows!(
+        parts_of, behind () op,
+        Op::BrTable(OutTable { targets, default }) => {
+            Immediates::Table(OutTable { targets: *targets, default: *default })
+        }
+        Op::TryTable { ty, catches: OutClauses { clauses } } => {
+            Immediates::Clauses(*ty, OutClauses { clauses: *clauses })
+        }
+    )
 }
 
 /// The numbers of an operator fit their spellings.
@@ -95,17 +113,7 @@ fn law_numbers(op: &OutOp<'_>)
     requires { AreSpeakable (meaning op.now).immediates }
     ensures { AllFit (meaning op.now).immediates }
 {
-    index_rows!(
-        parts_of, fits () op,
-        Op::BrTable(OutTable { targets, default }) => {
-            let table = OutTable { targets: *targets, default: *default };
-            fits!(() Opcode::Byte(0x0e), Immediates::Table(table))
-        }
-        Op::TryTable { ty, catches: OutClauses { clauses } } => {
-            let clauses = OutClauses { clauses: *clauses };
-            fits!(() Opcode::Byte(0x1f), Immediates::Clauses(*ty, clauses))
-        }
-    )
+    law_fit(behind_opcode(op));
 }
 
 /// Of an operator whose opcode has a row, whose lists have fewer than 2^32 items, and whose types

@@ -102,11 +102,21 @@ fn atomic_load_kind(number: u32) -> LoadKind
     match number {
         0x10 => LoadKind::I32 { atomic: true },
         0x11 => LoadKind::I64 { atomic: true },
-        0x12 => LoadKind::I32_8 { kind: ZeroExtendAtomic },
-        0x13 => LoadKind::I32_16 { kind: ZeroExtendAtomic },
-        0x14 => LoadKind::I64_8 { kind: ZeroExtendAtomic },
-        0x15 => LoadKind::I64_16 { kind: ZeroExtendAtomic },
-        _ => LoadKind::I64_32 { kind: ZeroExtendAtomic },
+        0x12 => LoadKind::I32_8 {
+            kind: ZeroExtendAtomic,
+        },
+        0x13 => LoadKind::I32_16 {
+            kind: ZeroExtendAtomic,
+        },
+        0x14 => LoadKind::I64_8 {
+            kind: ZeroExtendAtomic,
+        },
+        0x15 => LoadKind::I64_16 {
+            kind: ZeroExtendAtomic,
+        },
+        _ => LoadKind::I64_32 {
+            kind: ZeroExtendAtomic,
+        },
     }
 }
 

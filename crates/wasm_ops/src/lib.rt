@@ -40,6 +40,8 @@ pub use law::{
 pub use operator::{Op, Operator};
 pub use reader::Reader;
 pub use ternary_rows::ternary_opcode;
-pub use types::{AtomicKind, BlockType, Opcode, RawCatch, RawHeapType, RawMemArg, RawValType, Space};
+pub use types::{
+    AtomicKind, BlockType, Opcode, RawCatch, RawHeapType, RawMemArg, RawValType, Space,
+};
 pub use unary_rows::{extract_lane, unary_opcode};
 pub use vector_access_rows::{access_lane, vector_access_opcode};

@@ -6,8 +6,8 @@ ghost use Rattle.walrus_ir.specs.Results.{Gives};
 ghost use Rattle.wasm_ops.specs.Spelling.{Spells, read_operation};
 ghost use Rattle.wasm_ops.specs.Meaning.{meaning};
 
-use crate::atomic_rows::read_behind_fe;
 use crate::access_reader::{load_kind, read_short_memarg, store_kind};
+use crate::atomic_rows::read_behind_fe;
 use crate::byte_reader::read_behind_byte;
 use crate::fault::{ReadError, ReadFault};
 use crate::index_rows;

@@ -59,7 +59,10 @@ pub(crate) fn read_lane(number: u32, bytes: &[u8]) -> Result<(Operator<'_>, &[u8
 
 /// What follows 0xfd and a number from 35 to 76: comparisons.
 #[tactic(auto, unfolding(crate::specs::Opcodes::kinds_behind))]
-pub(crate) fn read_vector_comparison(number: u32, bytes: &[u8]) -> Result<(Operator<'_>, &[u8]), ReadFault>
+pub(crate) fn read_vector_comparison(
+    number: u32,
+    bytes: &[u8],
+) -> Result<(Operator<'_>, &[u8]), ReadFault>
     requires low { 35 ≤ number }
     requires high { number ≤ 76 }
     ensures { Gives (λ x. (meaning x.0, x.1.now)) result
@@ -130,10 +133,13 @@ pub(crate) fn read_bitwise(number: u32, bytes: &[u8]) -> Result<(Operator<'_>, &
     }
 }
 
-/// What follows 0xfd and a number from 94 to 127: conversions of floats, and operators on lanes of
-/// a byte and others.
+/// What follows 0xfd and a number from 94 to 127: conversions of floats, operators on lanes of a
+/// byte, and others.
 #[tactic(auto, unfolding(crate::specs::Opcodes::kinds_behind))]
-pub(crate) fn read_narrow_vector(number: u32, bytes: &[u8]) -> Result<(Operator<'_>, &[u8]), ReadFault>
+pub(crate) fn read_narrow_vector(
+    number: u32,
+    bytes: &[u8],
+) -> Result<(Operator<'_>, &[u8]), ReadFault>
     requires low { 94 ≤ number }
     requires high { number ≤ 127 }
     ensures { Gives (λ x. (meaning x.0, x.1.now)) result
@@ -296,7 +302,10 @@ pub(crate) fn read_i64x2(number: u32, bytes: &[u8]) -> Result<(Operator<'_>, &[u
 
 /// What follows 0xfd and a number from 224 to 255: operators on lanes of floats, and conversions.
 #[tactic(auto, unfolding(crate::specs::Opcodes::kinds_behind))]
-pub(crate) fn read_float_vector(number: u32, bytes: &[u8]) -> Result<(Operator<'_>, &[u8]), ReadFault>
+pub(crate) fn read_float_vector(
+    number: u32,
+    bytes: &[u8],
+) -> Result<(Operator<'_>, &[u8]), ReadFault>
     requires low { 224 ≤ number }
     requires high { number ≤ 255 }
     ensures { Gives (λ x. (meaning x.0, x.1.now)) result
@@ -339,7 +348,10 @@ pub(crate) fn read_float_vector(number: u32, bytes: &[u8]) -> Result<(Operator<'
 
 /// What follows 0xfd and a number from 256 to 275: relaxed operators.
 #[tactic(auto, unfolding(crate::specs::Opcodes::kinds_behind))]
-pub(crate) fn read_relaxed_vector(number: u32, bytes: &[u8]) -> Result<(Operator<'_>, &[u8]), ReadFault>
+pub(crate) fn read_relaxed_vector(
+    number: u32,
+    bytes: &[u8],
+) -> Result<(Operator<'_>, &[u8]), ReadFault>
     requires low { 256 ≤ number }
     requires high { number ≤ 275 }
     ensures { Gives (λ x. (meaning x.0, x.1.now)) result
@@ -365,6 +377,9 @@ pub(crate) fn read_relaxed_vector(number: u32, bytes: &[u8]) -> Result<(Operator
         272 => Ok((Operator::Binop(BinaryOp::F64x2RelaxedMax), bytes)),
         273 => Ok((Operator::Binop(BinaryOp::I16x8RelaxedQ15mulrS), bytes)),
         274 => Ok((Operator::Binop(BinaryOp::I16x8RelaxedDotI8x16I7x16S), bytes)),
-        _ => Ok((Operator::TernOp(TernaryOp::I32x4RelaxedDotI8x16I7x16AddS), bytes)),
+        _ => Ok((
+            Operator::TernOp(TernaryOp::I32x4RelaxedDotI8x16I7x16AddS),
+            bytes,
+        )),
     }
 }

@@ -6,7 +6,7 @@ use Rattle.wasm_ops.specs.declared.types.Opcode.{Opcode}
 use Rattle.wasm_ops.specs.declared.types.Opcode.TheVariants.{Byte, Prefixed}
 use Rattle.wasm_ops.specs.Types.{row_at}
 use Rattle.wasm_ops.specs.Immediates.{Kind, a_local, an_access}
-use Rattle.wasm_ops.specs.Opcodes.{control_rows, variable_rows, constant_rows, bulk_rows, range_at, vector_ranges, kinds_of_byte, kinds_behind, kinds_of}
+use Rattle.wasm_ops.specs.Opcodes.{control_rows, variable_rows, constant_rows, bulk_rows, range_at, vector_ranges, atomic_ranges, kinds_of_byte, kinds_behind, kinds_of}
 
 abbrev pub is_no_local : Kind → Bool
 is_no_local a_local = false
@@ -68,7 +68,8 @@ behind_prefix : (prefix n : ℕ) → NoLocals (kinds_behind prefix n)
 unfolding kinds_behind
 behind_prefix prefix n =
     either (prefix == 0xfc) _ _ (either (nat_le n 7) _ _ (some_answer [] refl) (by_rows bulk_rows refl n))
-    (either (prefix == 0xfd) _ _ (by_ranges vector_ranges refl n) no_answer)
+    (either (prefix == 0xfd) _ _ (by_ranges vector_ranges refl n)
+    (either (prefix == 0xfe) _ _ (by_ranges atomic_ranges refl n) no_answer))
 
 pub carried_kinds : (o : Opcode) (ks : List Kind) → kinds_of o ≡ Some ks → no_locals ks ≡ true
 carried_kinds (Byte b) ks e = by_byte b ks e

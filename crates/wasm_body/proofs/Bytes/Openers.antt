@@ -7,7 +7,7 @@ use Rattle.wasm_ops.specs.declared.types.Opcode.TheVariants.{Byte, Prefixed}
 use Rattle.wasm_ops.specs.Types.{row_at}
 use Rattle.wasm_ops.specs.Immediates.{Kind, an_access}
 use Rattle.wasm_ops.specs.Immediates.{Kind as kinds}
-use Rattle.wasm_ops.specs.Opcodes.{control_rows, variable_rows, constant_rows, bulk_rows, range_at, vector_ranges, kinds_of_byte, kinds_behind, kinds_of}
+use Rattle.wasm_ops.specs.Opcodes.{control_rows, variable_rows, constant_rows, bulk_rows, range_at, vector_ranges, atomic_ranges, kinds_of_byte, kinds_behind, kinds_of}
 use Rattle.wasm_body.specs.Control.{Role, a_block, a_loop, an_if, a_try, a_try_table, a_plain, byte_roles, aggregate_roles, role_of}
 
 -- whether an operator of the role opens a construct
@@ -144,7 +144,9 @@ counted_behind prefix n =
     (λ t. counted_if 0 (nat_le n 7) _ _ (λ t. counted_answer 0 (Some []) refl) (λ t. counted_rows (λ n. 0) bulk_rows refl n))
     (λ t. counted_if 0 (prefix == 0xfd) _ _
     (λ t. counted_ranges 0 vector_ranges refl n)
-    (λ t. counted_answer 0 None refl)))
+    (λ t. counted_if 0 (prefix == 0xfe) _ _
+    (λ t. counted_ranges 0 atomic_ranges refl n)
+    (λ t. counted_answer 0 None refl))))
 
 pub counted : (o : Opcode) (ks : List Kind) → kinds_of o ≡ Some ks → block_count ks ≡ wanted o
 counted (Byte b) ks e = counted_byte b ks e
