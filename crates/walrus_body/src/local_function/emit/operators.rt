@@ -4,8 +4,7 @@ ghost use Rattle.std.specs.Prelude.{◌≡◌, ◌<◌, ℕ, List, true, IfOk};
 ghost use Rattle.walrus_ir.specs.Results.{Gives};
 ghost use Rattle.wasm_ops.specs.Meaning.{meaning};
 ghost use Rattle.wasm_encode.specs.Writable.{IsWritable};
-ghost use Rattle.wasm_ops.specs.AtomicOpcodes.{atomic_opcode};
-ghost use Rattle.wasm_body.specs.InstructionTable.{wait_opcode};
+ghost use Rattle.wasm_body.specs.InstructionTable.{wait_kind};
 ghost use Rattle.wasm_body.specs.FlatText.{exponent_of};
 ghost use Rattle.walrus_ir.specs.declared.val_type.InstrSeqType.{InstrSeqType as SequenceType};
 ghost use Rattle.walrus_body.specs.TreeWriting.Closers.{places_of};
@@ -45,7 +44,7 @@ pub(crate) fn memory_argument(arg: MemArg, memory: u32) -> RawMemArg
 
 /// `memory.atomic.wait64`, or `wait32`.
 fn wait_kind(sixty_four: bool) -> AtomicKind
-    ensures { atomic_opcode result ≡ wait_opcode sixty_four }
+    ensures { result ≡ wait_kind sixty_four }
 {
     if sixty_four {
         AtomicKind::Wait64
