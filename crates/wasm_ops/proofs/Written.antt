@@ -1,5 +1,5 @@
 -- The shortest spelling is a spelling of what fits.
-use Rattle.std.proofs.Common.{◌≡◌, ℕ, zero, suc, ◌+◌, ◌*◌, ◌/◌, ◌%◌, ◌^◌, ◌<◌, ◌≤◌, Bool, true, false, eqb, List, [], ◌∷◌, ◌++◌, map, length, append_assoc, Option, Some, None, Ok, refl, sym, ap, subst, ◌∙◌, arith, rules, inl, inr, ◌⊎◌, leb, ℤ, pos, negsuc}
+use Rattle.std.proofs.Common.{◌≡◌, ℕ, zero, suc, ◌+◌, ◌*◌, ◌/◌, ◌%◌, ◌^◌, ◌<◌, Bool, true, false, eqb, List, [], ◌∷◌, ◌++◌, map, length, append_assoc, Option, Some, None, Ok, refl, sym, ap, subst, ◌∙◌, arith, rules, inl, inr, ◌⊎◌, leb, ℤ, pos, negsuc}
 use Rattle.std.proofs.lemmas.Bool.{eqb-true, leb-true, lt-leb, cases_lt}
 use Rattle.std.proofs.lemmas.Nat.{pow-add}
 use Rattle.std.specs.List.{AllByRecursion, flat_map}

@@ -64,8 +64,12 @@ pub(crate) fn read_reference(byte: u8, bytes: &[u8]) -> Result<(Operator<'_>, &[
         0xd2 => made!(read_u32(bytes), func => Operator::Reference(ReferenceOp::RefFunc { func })),
         0xd3 => Ok((Operator::Reference(ReferenceOp::RefEq), bytes)),
         0xd4 => Ok((Operator::Reference(ReferenceOp::RefAsNonNull), bytes)),
-        0xd5 => made!(read_u32(bytes), label => Operator::Reference(ReferenceOp::BrOnNull { label })),
-        _ => made!(read_u32(bytes), label => Operator::Reference(ReferenceOp::BrOnNonNull { label })),
+        0xd5 => made!(
+            read_u32(bytes), label => Operator::Reference(ReferenceOp::BrOnNull { label })
+        ),
+        _ => made!(
+            read_u32(bytes), label => Operator::Reference(ReferenceOp::BrOnNonNull { label })
+        ),
     }
 }
 
@@ -78,7 +82,9 @@ fn read_struct(number: u32, bytes: &[u8]) -> Result<(Operator<'_>, &[u8]), ReadF
 {
     match number {
         0 => made!(read_u32(bytes), ty => Operator::Reference(ReferenceOp::StructNew { ty })),
-        1 => made!(read_u32(bytes), ty => Operator::Reference(ReferenceOp::StructNewDefault { ty })),
+        1 => made!(
+            read_u32(bytes), ty => Operator::Reference(ReferenceOp::StructNewDefault { ty })
+        ),
         2 => made!(
             read_pair(bytes),
             (ty, field) => Operator::Reference(ReferenceOp::StructGet { ty, field })
