@@ -7,3 +7,4 @@ pub mod WritableTexts
 pub mod ClauseKinds
 pub mod Fitting
 pub mod NumberedBodies
+pub mod EveryInstruction

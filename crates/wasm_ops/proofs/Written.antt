@@ -51,7 +51,7 @@ use Rattle.wasm_ops.specs.Immediates.{Kind, an_access, kind_of, IsAccess, IsTabl
 use Rattle.wasm_ops.specs.Opcodes.{reference_ranges, bulk_rows, range_at, aggregate_ranges, vector_ranges, atomic_ranges, is_prefix, kinds_of_byte, kinds_behind, kinds_of, IsOpcode}
 use Rattle.wasm_ops.specs.Spelling.{Spells}
 use Rattle.wasm_ops.specs.Shortest.{short_number, short_integer, short_bits, short_vector, heap_byte, short_heap, short_reference, short_value, short_block, short_access, short_table, short_tag, short_clause, short_clauses, short_flags, short_cast, short_immediate, short_immediates, short_opcode, short}
-use Rattle.wasm_ops.specs.Fitting.{IsWithin, FitsHeap, FitsValue, FitsBlock, FitsTag, FitsLabel, FitsClause, FitsLane, Fits, AllFit, HasRow}
+use Rattle.wasm_ops.specs.Fitting.{IsWithin, FitsHeap, FitsValue, FitsBlock, FitsTag, FitsLabel, FitsClause, FitsLane, Fits, AllFit}
 use Rattle.wasm_ops.proofs.Agreement.{chosen}
 use Rattle.wasm_ops.proofs.ShortestNumbers.{unsigned_spelt, signed_spelt}
 use Rattle.wasm_ops.proofs.ShortestTypes.{row_holds, index_starts, heap_between, heap_below, abstract_byte, empty_between, value_between, as_block_value}
@@ -385,67 +385,67 @@ spelt o kinds fits = record {
 
 -- ---- operators of the code
 
-kinds_of_unary : (op : UnaryOp) (ks : List Kind) → kinds_of (unary_opcode op) ≡ Some ks → kinds_of (unary_opcode op) ≡ Some (map kind_of (extract_lane op))
+pub kinds_of_unary : (op : UnaryOp) → kinds_of (unary_opcode op) ≡ Some (map kind_of (extract_lane op))
 unfolding kinds_of_byte kinds_behind
-kinds_of_unary unary.I32Eqz ks e = refl
-kinds_of_unary _ ks e = cc
+kinds_of_unary unary.I32Eqz = refl
+kinds_of_unary _ = refl
 
-kinds_of_binary : (op : BinaryOp) (ks : List Kind) → kinds_of (binary_opcode op) ≡ Some ks → kinds_of (binary_opcode op) ≡ Some (map kind_of (replace_lane op))
+pub kinds_of_binary : (op : BinaryOp) → kinds_of (binary_opcode op) ≡ Some (map kind_of (replace_lane op))
 unfolding kinds_of_byte kinds_behind
-kinds_of_binary binary.I32Add ks e = refl
-kinds_of_binary _ ks e = cc
+kinds_of_binary binary.I32Add = refl
+kinds_of_binary _ = refl
 
-kinds_of_ternary : (op : TernaryOp) (ks : List Kind) → kinds_of (ternary_opcode op) ≡ Some ks → kinds_of (ternary_opcode op) ≡ Some []
+pub kinds_of_ternary : (op : TernaryOp) → kinds_of (ternary_opcode op) ≡ Some []
 unfolding kinds_of_byte kinds_behind
-kinds_of_ternary ternary.F32x4RelaxedMadd ks e = cc
-kinds_of_ternary _ ks e = cc
+kinds_of_ternary ternary.F32x4RelaxedMadd = refl
+kinds_of_ternary _ = refl
 
-kinds_of_load : (kind : LoadKind) (ks : List Kind) → kinds_of (load_opcode kind) ≡ Some ks → kinds_of (load_opcode kind) ≡ Some (an_access ∷ [])
+pub kinds_of_load : (kind : LoadKind) → kinds_of (load_opcode kind) ≡ Some (an_access ∷ [])
 unfolding kinds_of_byte kinds_behind
-kinds_of_load (load.I32 true) ks e = cc
-kinds_of_load (load.I32 false) ks e = cc
-kinds_of_load (load.I64 true) ks e = cc
-kinds_of_load (load.I64 false) ks e = cc
-kinds_of_load load.F32 ks e = cc
-kinds_of_load load.F64 ks e = cc
-kinds_of_load load.V128 ks e = cc
-kinds_of_load (load.I32_8 SignExtend) ks e = cc
-kinds_of_load (load.I32_8 _) ks e = cc
-kinds_of_load (load.I32_16 SignExtend) ks e = cc
-kinds_of_load (load.I32_16 _) ks e = cc
-kinds_of_load (load.I64_8 SignExtend) ks e = cc
-kinds_of_load (load.I64_8 _) ks e = cc
-kinds_of_load (load.I64_16 SignExtend) ks e = cc
-kinds_of_load (load.I64_16 _) ks e = cc
-kinds_of_load (load.I64_32 SignExtend) ks e = cc
-kinds_of_load (load.I64_32 _) ks e = cc
+kinds_of_load (load.I32 true) = refl
+kinds_of_load (load.I32 false) = refl
+kinds_of_load (load.I64 true) = refl
+kinds_of_load (load.I64 false) = refl
+kinds_of_load load.F32 = refl
+kinds_of_load load.F64 = refl
+kinds_of_load load.V128 = refl
+kinds_of_load (load.I32_8 SignExtend) = refl
+kinds_of_load (load.I32_8 _) = refl
+kinds_of_load (load.I32_16 SignExtend) = refl
+kinds_of_load (load.I32_16 _) = refl
+kinds_of_load (load.I64_8 SignExtend) = refl
+kinds_of_load (load.I64_8 _) = refl
+kinds_of_load (load.I64_16 SignExtend) = refl
+kinds_of_load (load.I64_16 _) = refl
+kinds_of_load (load.I64_32 SignExtend) = refl
+kinds_of_load (load.I64_32 _) = refl
 
-kinds_of_store : (kind : StoreKind) (ks : List Kind) → kinds_of (store_opcode kind) ≡ Some ks → kinds_of (store_opcode kind) ≡ Some (an_access ∷ [])
+pub kinds_of_store : (kind : StoreKind) → kinds_of (store_opcode kind) ≡ Some (an_access ∷ [])
 unfolding kinds_of_byte kinds_behind
-kinds_of_store store.F32 ks e = cc
-kinds_of_store store.F64 ks e = cc
-kinds_of_store store.V128 ks e = cc
-kinds_of_store (store.I32 true) ks e = cc
-kinds_of_store (store.I32 false) ks e = cc
-kinds_of_store (store.I64 true) ks e = cc
-kinds_of_store (store.I64 false) ks e = cc
-kinds_of_store (store.I32_8 true) ks e = cc
-kinds_of_store (store.I32_8 false) ks e = cc
-kinds_of_store (store.I32_16 true) ks e = cc
-kinds_of_store (store.I32_16 false) ks e = cc
-kinds_of_store (store.I64_8 true) ks e = cc
-kinds_of_store (store.I64_8 false) ks e = cc
-kinds_of_store (store.I64_16 true) ks e = cc
-kinds_of_store (store.I64_16 false) ks e = cc
-kinds_of_store (store.I64_32 true) ks e = cc
-kinds_of_store (store.I64_32 false) ks e = cc
+kinds_of_store store.F32 = refl
+kinds_of_store store.F64 = refl
+kinds_of_store store.V128 = refl
+kinds_of_store (store.I32 true) = refl
+kinds_of_store (store.I32 false) = refl
+kinds_of_store (store.I64 true) = refl
+kinds_of_store (store.I64 false) = refl
+kinds_of_store (store.I32_8 true) = refl
+kinds_of_store (store.I32_8 false) = refl
+kinds_of_store (store.I32_16 true) = refl
+kinds_of_store (store.I32_16 false) = refl
+kinds_of_store (store.I64_8 true) = refl
+kinds_of_store (store.I64_8 false) = refl
+kinds_of_store (store.I64_16 true) = refl
+kinds_of_store (store.I64_16 false) = refl
+kinds_of_store (store.I64_32 true) = refl
+kinds_of_store (store.I64_32 false) = refl
 
-kinds_of_vector_access : (kind : LoadSimdKind) (a : Access) → kinds_of (vector_access_opcode kind) ≡ Some (map kind_of (access a ∷ access_lane kind))
+pub kinds_of_vector_access : (kind : LoadSimdKind) (a : Access) → kinds_of (vector_access_opcode kind) ≡ Some (map kind_of (access a ∷ access_lane kind))
 unfolding kinds_behind
 kinds_of_vector_access vector_access.Splat8 a = refl
 kinds_of_vector_access _ a = refl
 
-kinds_of_rmw : (op : AtomicOp) (width : AtomicWidth) → kinds_of (rmw_opcode op width) ≡ Some (an_access ∷ [])
+pub kinds_of_rmw : (op : AtomicOp) (width : AtomicWidth) → kinds_of (rmw_opcode op width) ≡ Some (an_access ∷ [])
 unfolding kinds_behind
 kinds_of_rmw atomic_op.Add width.I32 = refl
 kinds_of_rmw atomic_op.Sub width.I32 = refl
@@ -455,12 +455,12 @@ kinds_of_rmw atomic_op.Xor width.I32 = refl
 kinds_of_rmw atomic_op.Xchg width.I32 = refl
 kinds_of_rmw _ _ = refl
 
-kinds_of_cmpxchg : (width : AtomicWidth) → kinds_of (cmpxchg_opcode width) ≡ Some (an_access ∷ [])
+pub kinds_of_cmpxchg : (width : AtomicWidth) → kinds_of (cmpxchg_opcode width) ≡ Some (an_access ∷ [])
 unfolding kinds_behind
 kinds_of_cmpxchg width.I32 = refl
 kinds_of_cmpxchg _ = refl
 
-kinds_of_atomic : (kind : AtomicKind) → kinds_of (atomic_opcode kind) ≡ Some (an_access ∷ [])
+pub kinds_of_atomic : (kind : AtomicKind) → kinds_of (atomic_opcode kind) ≡ Some (an_access ∷ [])
 unfolding kinds_behind
 kinds_of_atomic (atomic.Rmw op width) = kinds_of_rmw op width
 kinds_of_atomic (atomic.Cmpxchg width) = kinds_of_cmpxchg width
@@ -475,18 +475,18 @@ kinds_of_reference (reference.RefCast false type) = refl
 kinds_of_reference _ = refl
 
 -- what follows an opcode of the code is what its row says
-kinds_right : (op : Listed) (ks : List Kind) → kinds_of (meaning op).opcode ≡ Some ks → kinds_of (meaning op).opcode ≡ Some (map kind_of (meaning op).immediates)
+kinds_right : (op : Listed) → kinds_of (meaning op).opcode ≡ Some (map kind_of (meaning op).immediates)
 unfolding kinds_of_byte kinds_behind
-kinds_right (operator.Unop op) ks e = kinds_of_unary op ks e
-kinds_right (operator.Binop op) ks e = kinds_of_binary op ks e
-kinds_right (operator.TernOp op) ks e = kinds_of_ternary op ks e
-kinds_right (operator.Load kind memarg) ks e = kinds_of_load kind ks e
-kinds_right (operator.Store kind memarg) ks e = kinds_of_store kind ks e
-kinds_right (operator.LoadSimd kind memarg) ks e = kinds_of_vector_access kind (access_of memarg)
-kinds_right (operator.Atomic kind memarg) ks e = kinds_of_atomic kind
-kinds_right (operator.Reference op) ks e = kinds_of_reference op
-kinds_right _ ks e = refl
+kinds_right (operator.Unop op) = kinds_of_unary op
+kinds_right (operator.Binop op) = kinds_of_binary op
+kinds_right (operator.TernOp op) = kinds_of_ternary op
+kinds_right (operator.Load kind memarg) = kinds_of_load kind
+kinds_right (operator.Store kind memarg) = kinds_of_store kind
+kinds_right (operator.LoadSimd kind memarg) = kinds_of_vector_access kind (access_of memarg)
+kinds_right (operator.Atomic kind memarg) = kinds_of_atomic kind
+kinds_right (operator.Reference op) = kinds_of_reference op
+kinds_right _ = refl
 
--- so of an operator of the code whose opcode has a row, and whose numbers fit, the shortest spelling is a spelling
-pub written : (op : Listed) → HasRow (meaning op) → AllFit (meaning op).immediates → Spells (meaning op) (short (meaning op))
-written op row fits = spelt (meaning op) (kinds_right op row.0 row.1) fits
+-- so of an operator of the code whose numbers fit the shortest spelling is a spelling
+pub written : (op : Listed) → AllFit (meaning op).immediates → Spells (meaning op) (short (meaning op))
+written op fits = spelt (meaning op) (kinds_right op) fits
