@@ -2,6 +2,7 @@
 pub mod Operators
 pub mod Reading
 pub mod PrefixedReading
+pub mod References
 pub mod Modules
 pub mod Rows
 pub mod Runs

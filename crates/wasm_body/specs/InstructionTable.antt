@@ -13,7 +13,6 @@ use Rattle.walrus_ir.specs.declared.value.Value.TheVariants.{I32, I64, F32, F64,
 use Rattle.walrus_ir.specs.declared.val_type.ValType.{ValType}
 use Rattle.wasm_ops.specs.declared.types.AtomicKind.{AtomicKind}
 use Rattle.wasm_ops.specs.declared.types.AtomicKind.TheVariants.{Notify, Wait32, Wait64, Rmw, Cmpxchg}
-use Rattle.wasm_ops.specs.declared.types.Opcode.{Opcode}
 use Rattle.wasm_ops.specs.declared.types.Opcode.TheVariants.{Byte, Prefixed}
 use Rattle.wasm_ops.specs.declared.types.Space.TheVariants.{Types, Funcs, Tables, Globals, Memories, Elements, Data, Tags}
 use Rattle.wasm_ops.specs.Operations.{Access, CatchClause, Immediate, index, local, label, handler, number, branch_table, clauses, block, heap, value, cast, i32, i64, f32, f64, v128, lanes, zero_byte, Operation, operation}
@@ -23,6 +22,7 @@ use Rattle.wasm_ops.specs.TernaryOperations.{ternary_operation}
 use Rattle.wasm_ops.specs.AccessOperations.{load_operation, store_operation}
 use Rattle.wasm_ops.specs.VectorAccessOpcodes.{vector_access_operation}
 use Rattle.wasm_ops.specs.AtomicOpcodes.{atomic_operation}
+use Rattle.wasm_ops.specs.ReferenceOperations.{by_null}
 use Rattle.wasm_body.specs.FunctionTree.{LegacyClause, handles, handles_all, delegates}
 
 abbrev pub PlacedImmediate : Type 0
@@ -58,11 +58,6 @@ const_operation (V128 bits) = operation (Prefixed 0xfd 12) (v128 bits ∷ [])
 abbrev pub select_operation : Option (ValType ℕ) → PlacedOperation
 select_operation None = operation (Byte 0x1b) []
 select_operation (Some type) = operation (Byte 0x1c) (value type ∷ [])
-
--- the second where a reference may be null
-abbrev pub by_null : Bool → ℕ → ℕ → Opcode
-by_null false m n = Prefixed 0xfb m
-by_null true m n = Prefixed 0xfb n
 
 abbrev pub wait_kind : Bool → AtomicKind
 wait_kind false = Wait32

@@ -2,6 +2,7 @@
 
 use crate::branch_table::BrTable;
 use crate::catch_list::CatchList;
+use crate::reference_operator::ReferenceOp;
 use crate::types::{AtomicKind, BlockType, RawMemArg, RawValType};
 use walrus_ir::{BinaryOp, LoadKind, LoadSimdKind, StoreKind, TernaryOp, UnaryOp};
 
@@ -69,6 +70,23 @@ pub enum Op<T, C> {
         ty: u32,
         table: u32,
     },
+    /// `return_call`
+    ReturnCall {
+        func: u32,
+    },
+    /// `return_call_indirect`
+    ReturnCallIndirect {
+        ty: u32,
+        table: u32,
+    },
+    /// `call_ref`
+    CallRef {
+        ty: u32,
+    },
+    /// `return_call_ref`
+    ReturnCallRef {
+        ty: u32,
+    },
     /// `delegate`: which construct, as a depth from outside its own
     Delegate {
         depth: u32,
@@ -87,6 +105,18 @@ pub enum Op<T, C> {
     TryTable {
         ty: BlockType,
         catches: C,
+    },
+    /// `local.get`
+    LocalGet {
+        local: u32,
+    },
+    /// `local.set`
+    LocalSet {
+        local: u32,
+    },
+    /// `local.tee`
+    LocalTee {
+        local: u32,
     },
     /// `global.get`
     GlobalGet {
@@ -212,10 +242,16 @@ pub enum Op<T, C> {
     V128Const {
         bits: u128,
     },
+    /// `i8x16.shuffle`
+    I8x16Shuffle {
+        indices: [u8; 16],
+    },
     /// `i8x16.swizzle`
     I8x16Swizzle,
     /// `v128.bitselect`
     V128Bitselect,
+    /// an operator on references, structs or arrays, as `ref.is_null`
+    Reference(ReferenceOp),
 }
 
 /// An operator as it is read, whose lists stand in the input. Two are equal where their meanings

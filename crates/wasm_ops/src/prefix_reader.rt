@@ -7,7 +7,7 @@ ghost use Rattle.wasm_ops.specs.Meaning.{meaning};
 use crate::access_reader::read_memarg;
 use crate::fault::ReadFault;
 use crate::index_rows;
-use crate::number::{read_u32, read_v128};
+use crate::number::{read_lanes, read_u32, read_v128};
 use crate::numeric_reader::saturating_conversion;
 use crate::operator::Operator;
 use crate::row::{made, read_indices, read_pair};
@@ -66,7 +66,7 @@ pub(crate) fn read_behind_fd(number: u32, bytes: &[u8]) -> Result<(Operator<'_>,
             read_memarg(bytes), memarg => Operator::Store { kind: StoreKind::V128, memarg }
         ),
         12 => made!(read_v128(bytes), bits => Operator::V128Const { bits }),
-        13 => Err(ReadFault::UnknownOperator),
+        13 => made!(read_lanes(bytes), lanes => Operator::I8x16Shuffle { indices: *lanes }),
         14..=20 => read_splat(number, bytes),
         21..=34 => read_lane(number, bytes),
         35..=76 => read_vector_comparison(number, bytes),

@@ -31,6 +31,21 @@ pub struct RawMemArg {
     pub offset: u64,
 }
 
+/// What follows the opcode of a branch on a cast, as it is spelt.
+#[derive(Clone, Copy, Debug, PartialEq, Eq)]
+pub struct RawCast {
+    /// Whether the operand may be null.
+    pub from_nullable: bool,
+    /// Whether what it is cast to may be null.
+    pub to_nullable: bool,
+    /// The label, as a depth.
+    pub label: u32,
+    /// What the operand refers to.
+    pub source: RawHeapType,
+    /// What it is cast to.
+    pub target: RawHeapType,
+}
+
 /// What an atomic access does that is no plain load or store.
 #[derive(Clone, Copy, Debug)]
 pub enum AtomicKind {

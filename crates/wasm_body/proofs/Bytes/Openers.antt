@@ -7,7 +7,7 @@ use Rattle.wasm_ops.specs.declared.types.Opcode.TheVariants.{Byte, Prefixed}
 use Rattle.wasm_ops.specs.Types.{row_at}
 use Rattle.wasm_ops.specs.Immediates.{Kind, an_access}
 use Rattle.wasm_ops.specs.Immediates.{Kind as kinds}
-use Rattle.wasm_ops.specs.Opcodes.{control_rows, variable_rows, constant_rows, bulk_rows, range_at, vector_ranges, atomic_ranges, kinds_of_byte, kinds_behind, kinds_of}
+use Rattle.wasm_ops.specs.Opcodes.{control_rows, variable_rows, constant_rows, reference_ranges, bulk_rows, range_at, aggregate_ranges, vector_ranges, atomic_ranges, kinds_of_byte, kinds_behind, kinds_of}
 use Rattle.wasm_body.specs.Control.{Role, a_block, a_loop, an_if, a_try, a_try_table, a_plain, byte_roles, aggregate_roles, role_of}
 
 -- whether an operator of the role opens a construct
@@ -134,7 +134,7 @@ counted_byte b =
     (λ t. counted_if 0 (nat_le b 0x3e) _ _ (λ t. counted_answer 0 (Some (an_access ∷ [])) refl)
     (λ t. counted_if 0 (nat_le b 0x44) _ _ (λ t. counted_rows (λ n. 0) constant_rows refl b)
     (λ t. counted_if 0 (nat_le b 0xc4) _ _ (λ t. counted_answer 0 (Some []) refl)
-    (λ t. counted_answer 0 None refl))))))
+    (λ t. counted_ranges 0 reference_ranges refl b))))))
 
 counted_behind : (prefix n : ℕ) → Counted (wanted (Prefixed prefix n)) (kinds_behind prefix n)
 unfolding kinds_behind
@@ -146,7 +146,9 @@ counted_behind prefix n =
     (λ t. counted_ranges 0 vector_ranges refl n)
     (λ t. counted_if 0 (prefix == 0xfe) _ _
     (λ t. counted_ranges 0 atomic_ranges refl n)
-    (λ t. counted_answer 0 None refl))))
+    (λ t. counted_if 0 (prefix == 0xfb) _ _
+    (λ t. counted_ranges 0 aggregate_ranges refl n)
+    (λ t. counted_answer 0 None refl)))))
 
 pub counted : (o : Opcode) (ks : List Kind) → kinds_of o ≡ Some ks → block_count ks ≡ wanted o
 counted (Byte b) ks e = counted_byte b ks e
