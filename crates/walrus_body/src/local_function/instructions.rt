@@ -19,8 +19,9 @@ use crate::local_function::body_parser::BodyParser;
 use crate::local_function::own_lists::pushed;
 use crate::local_function::types::value_type;
 use walrus_ir::{
-    AtomicNotify, AtomicRmw, AtomicWait, Binop, Br, BrIf, Cmpxchg, Const, Instr, InstrSeqId, Load,
-    LoadSimd, MemArg, MemoryId, Select, Store, TernOp, Unop, Value,
+    AtomicNotify, AtomicRmw, AtomicWait, Binop, Br, BrIf, Cmpxchg, Const, I8x16Shuffle, Instr,
+    InstrSeqId, Load, LoadSimd, LocalGet, LocalSet, LocalTee, MemArg, MemoryId, Select, Store,
+    TernOp, Unop, Value,
 };
 use wasm_ops::{AtomicKind, BrTable, Operator, RawMemArg, index_rows};
 
@@ -224,6 +225,19 @@ impl BodyParser<'_> {
             Operator::V128Const { bits } => Ok(constant(Value::V128(bits))),
             Operator::I8x16Swizzle => Ok(Instr::I8x16Swizzle),
             Operator::V128Bitselect => Ok(Instr::V128Bitselect),
+            Operator::LocalGet { local } => Ok(Instr::LocalGet(LocalGet {
+                local: self.context.local(local)?,
+            })),
+            Operator::LocalSet { local } => Ok(Instr::LocalSet(LocalSet {
+                local: self.context.local(local)?,
+            })),
+            Operator::LocalTee { local } => Ok(Instr::LocalTee(LocalTee {
+                local: self.context.local(local)?,
+            })),
+            Operator::I8x16Shuffle { indices: lanes } => {
+                Ok(Instr::I8x16Shuffle(I8x16Shuffle { indices: lanes }))
+            }
+            Operator::Reference(ref operator) => self.reference(operator),
             Operator::Nop
             | Operator::Block { .. }
             | Operator::Loop { .. }
