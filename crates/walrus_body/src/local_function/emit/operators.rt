@@ -17,9 +17,10 @@ use crate::local_function::emit::labels::branch_table;
 use crate::local_function::emit::lists::Lists;
 use crate::local_function::emit::number_maps::NumberMaps;
 use crate::local_function::emit::open_scopes::Scopes;
+use crate::local_function::emit::references::reference_operator;
 use crate::local_function::emit::table_clauses::table_clauses;
 use crate::local_function::emit::written_types::{block_type, value_type};
-use walrus_ir::{Instr, InstrSeqType, MemArg, Rethrow, Select, Value};
+use walrus_ir::{Instr, InstrSeqType, LocalId, MemArg, Rethrow, Select, Value};
 use wasm_encode::OutOp;
 use wasm_ops::{AtomicKind, RawMemArg, index_rows};
 
@@ -39,6 +40,16 @@ pub(crate) fn memory_argument(arg: MemArg, memory: u32) -> RawMemArg
         exponent: exponent_of(arg.align),
         memory,
         offset: arg.offset,
+    }
+}
+
+/// The number of a local.
+fn local_index(numbers: &NumberMaps<'_>, local: LocalId) -> Result<u32, EmitError>
+    ensures { result ≡ (numbers_of numbers.now).local_number local }
+{
+    match numbers.locals.get(&local) {
+        Some(number) => Ok(*number),
+        None => Err(EmitError::UnnumberedLocal),
     }
 }
 
@@ -84,7 +95,7 @@ macro_rules! index {
 /// The operator of an instruction: the rows, and those of the other instructions.
 macro_rules! operator_row {
     (
-        ($numbers:ident $instr:ident, $($others:tt)*)
+        ($numbers:ident $instr:ident $scopes:ident, $($others:tt)*)
         $($form:tt {
             $($row:literal $name:ident { $($field:ident $id:ident $space:ident),* })*
         })*
@@ -94,7 +105,11 @@ macro_rules! operator_row {
             $($(Instr::$name(x) => Ok(OutOp::$name {
                 $($field: index!($numbers $space x.$id)),*
             }),)*)*
-            _ => Err(EmitFault::NotCarried),
+            _ => match reference_operator($instr, $scopes, $numbers) {
+                Ok(Some(op)) => Ok(OutOp::Reference(op)),
+                Ok(None) => Err(EmitFault::NotCarried),
+                Err(fault) => Err(EmitFault::Refused(fault)),
+            },
         }
     };
 }
@@ -114,7 +129,7 @@ pub(crate) fn operator_of<'t>(
         ty instr.now result }
 {
     index_rows!(
-        operator_row, numbers instr,
+        operator_row, numbers instr scopes,
         Instr::Unreachable => Ok(OutOp::Unreachable),
         Instr::Block(_) => Ok(OutOp::Block {
             ty: block_type(numbers, ty)?,
@@ -197,6 +212,18 @@ pub(crate) fn operator_of<'t>(
         Instr::I64MulWideS => Ok(OutOp::I64MulWideS),
         Instr::I64MulWideU => Ok(OutOp::I64MulWideU),
         Instr::I8x16Swizzle => Ok(OutOp::I8x16Swizzle),
+        Instr::I8x16Shuffle(shuffle) => Ok(OutOp::I8x16Shuffle {
+            indices: shuffle.indices,
+        }),
+        Instr::LocalGet(get) => Ok(OutOp::LocalGet {
+            local: local_index(numbers, get.local)?,
+        }),
+        Instr::LocalSet(set) => Ok(OutOp::LocalSet {
+            local: local_index(numbers, set.local)?,
+        }),
+        Instr::LocalTee(tee) => Ok(OutOp::LocalTee {
+            local: local_index(numbers, tee.local)?,
+        }),
         Instr::V128Bitselect => Ok(OutOp::V128Bitselect),
         Instr::Store(store) => Ok(OutOp::Store {
             kind: store.kind,
