@@ -33,7 +33,6 @@ mod locating;
 mod next;
 mod own_lists;
 mod parse;
-mod references;
 mod try_tables;
 mod types;
 

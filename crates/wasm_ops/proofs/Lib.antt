@@ -16,6 +16,5 @@ pub mod ListLaws
 pub mod Written
 pub mod Rows
 pub mod ShortNumbers
-pub mod Lanes
 pub mod BorrowedLists
 pub mod SameLists

@@ -16,7 +16,6 @@ pub mod Position
 pub mod Laws
 pub mod VectorAccessOpcodes
 pub mod AtomicOpcodes
-pub mod ReferenceOperations
 pub mod Parts
 pub mod Fitting
 pub mod Rows
