@@ -33,6 +33,7 @@ mod locating;
 mod next;
 mod own_lists;
 mod parse;
+mod references;
 mod try_tables;
 mod types;
 

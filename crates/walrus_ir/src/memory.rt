@@ -51,7 +51,7 @@ pub enum StoreKind {
 
 /// A vector access that is no plain load or store of a `v128`: a load that splats, widens or
 /// zeroes, or a load or store of one lane, whose number the variant holds.
-#[derive(Clone, Copy)]
+#[derive(Clone, Copy, Debug)]
 pub enum LoadSimdKind {
     Splat8,
     Splat16,
@@ -76,7 +76,7 @@ pub enum LoadSimdKind {
 }
 
 /// What an atomic read-modify-write does to the value that it reads.
-#[derive(Clone, Copy)]
+#[derive(Clone, Copy, Debug)]
 pub enum AtomicOp {
     Add,
     Sub,
@@ -88,7 +88,7 @@ pub enum AtomicOp {
 
 /// The type of an atomic read-modify-write, and for a narrow one the number of bits that it
 /// accesses.
-#[derive(Clone, Copy)]
+#[derive(Clone, Copy, Debug)]
 pub enum AtomicWidth {
     I32,
     I32_8,

@@ -4,7 +4,7 @@ pub mod BlockTypes
 pub mod Picks
 pub mod LawfulTyped
 pub mod WritableTexts
-pub mod CarriedKinds
 pub mod ClauseKinds
 pub mod Fitting
 pub mod NumberedBodies
+pub mod EveryInstruction

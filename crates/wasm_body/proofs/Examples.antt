@@ -1,6 +1,8 @@
 -- Examples that pin the definitions: what they answer for bodies that are given by hand, computed.
 pub mod Operators
 pub mod Reading
+pub mod PrefixedReading
+pub mod References
 pub mod Modules
 pub mod Rows
 pub mod Runs

@@ -8,21 +8,21 @@ use Rattle.walrus_ir.specs.declared.control.TryTableCatch.TheVariants as table_c
 use Rattle.walrus_ir.specs.declared.control.LegacyCatch.{LegacyCatch}
 use Rattle.walrus_ir.specs.declared.control.LegacyCatch.TheVariants as legacy_catch
 use Rattle.walrus_ir.specs.declared.memory.MemArg.{MemArg}
-use Rattle.walrus_ir.specs.declared.memory.LoadSimdKind.{LoadSimdKind}
-use Rattle.walrus_ir.specs.declared.memory.LoadSimdKind.TheVariants.{V128Load8Lane, V128Load16Lane, V128Load32Lane, V128Load64Lane, V128Store8Lane, V128Store16Lane, V128Store32Lane, V128Store64Lane}
 use Rattle.walrus_ir.specs.declared.value.Value.{Value}
 use Rattle.walrus_ir.specs.declared.value.Value.TheVariants.{I32, I64, F32, F64, V128}
 use Rattle.walrus_ir.specs.declared.val_type.ValType.{ValType}
-use Rattle.wasm_ops.specs.declared.types.Opcode.{Opcode}
+use Rattle.wasm_ops.specs.declared.types.AtomicKind.{AtomicKind}
+use Rattle.wasm_ops.specs.declared.types.AtomicKind.TheVariants.{Notify, Wait32, Wait64, Rmw, Cmpxchg}
 use Rattle.wasm_ops.specs.declared.types.Opcode.TheVariants.{Byte, Prefixed}
 use Rattle.wasm_ops.specs.declared.types.Space.TheVariants.{Types, Funcs, Tables, Globals, Memories, Elements, Data, Tags}
-use Rattle.wasm_ops.specs.Operations.{Access, CatchClause, Immediate, index, local, label, handler, number, access, branch_table, clauses, block, heap, value, cast, i32, i64, f32, f64, v128, lane, lanes, zero_byte, Operation, operation}
+use Rattle.wasm_ops.specs.Operations.{Access, CatchClause, Immediate, index, local, label, handler, number, branch_table, clauses, block, heap, value, cast, i32, i64, f32, f64, v128, lanes, zero_byte, Operation, operation}
 use Rattle.wasm_ops.specs.UnaryOperations.{unary_operation}
 use Rattle.wasm_ops.specs.BinaryOperations.{binary_operation}
 use Rattle.wasm_ops.specs.TernaryOperations.{ternary_operation}
 use Rattle.wasm_ops.specs.AccessOperations.{load_operation, store_operation}
-use Rattle.wasm_ops.specs.VectorAccessOpcodes.{vector_access_opcode}
-use Rattle.wasm_ops.specs.AtomicOpcodes.{atomic_opcode, cmpxchg_opcode}
+use Rattle.wasm_ops.specs.VectorAccessOpcodes.{vector_access_operation}
+use Rattle.wasm_ops.specs.AtomicOpcodes.{atomic_operation}
+use Rattle.wasm_ops.specs.ReferenceOperations.{by_null}
 use Rattle.wasm_body.specs.FunctionTree.{LegacyClause, handles, handles_all, delegates}
 
 abbrev pub PlacedImmediate : Type 0
@@ -46,18 +46,6 @@ table_clause (table_catch.CatchAllRef place) = record { by_reference = true; tag
 abbrev pub access_at : ℕ → MemArg → Access
 access_at memory arg = record { alignment = arg.align; memory = memory; offset = arg.offset }
 
--- the lane that a vector access names
-abbrev pub lane_of : LoadSimdKind → List PlacedImmediate
-lane_of (V128Load8Lane n) = lane n ∷ []
-lane_of (V128Load16Lane n) = lane n ∷ []
-lane_of (V128Load32Lane n) = lane n ∷ []
-lane_of (V128Load64Lane n) = lane n ∷ []
-lane_of (V128Store8Lane n) = lane n ∷ []
-lane_of (V128Store16Lane n) = lane n ∷ []
-lane_of (V128Store32Lane n) = lane n ∷ []
-lane_of (V128Store64Lane n) = lane n ∷ []
-lane_of _ = []
-
 -- ---- operators
 
 abbrev pub const_operation : Value → PlacedOperation
@@ -71,14 +59,9 @@ abbrev pub select_operation : Option (ValType ℕ) → PlacedOperation
 select_operation None = operation (Byte 0x1b) []
 select_operation (Some type) = operation (Byte 0x1c) (value type ∷ [])
 
--- the second where a reference may be null
-abbrev pub by_null : Bool → ℕ → ℕ → Opcode
-by_null false m n = Prefixed 0xfb m
-by_null true m n = Prefixed 0xfb n
-
-abbrev pub wait_opcode : Bool → Opcode
-wait_opcode false = Prefixed 0xfe 1
-wait_opcode true = Prefixed 0xfe 2
+abbrev pub wait_kind : Bool → AtomicKind
+wait_kind false = Wait32
+wait_kind true = Wait64
 
 -- ---- the table
 
@@ -130,11 +113,11 @@ operation_of instr.I64MulWideU = operation (Prefixed 0xfc 22) []
 -- memories and tables
 operation_of (instr.Load x) = load_operation x.kind (access_at x.memory x.arg)
 operation_of (instr.Store x) = store_operation x.kind (access_at x.memory x.arg)
-operation_of (instr.LoadSimd x) = operation (vector_access_opcode x.kind) (access (access_at x.memory x.arg) ∷ lane_of x.kind)
-operation_of (instr.AtomicRmw x) = operation (atomic_opcode x.op x.width) (access (access_at x.memory x.arg) ∷ [])
-operation_of (instr.Cmpxchg x) = operation (cmpxchg_opcode x.width) (access (access_at x.memory x.arg) ∷ [])
-operation_of (instr.AtomicNotify x) = operation (Prefixed 0xfe 0) (access (access_at x.memory x.arg) ∷ [])
-operation_of (instr.AtomicWait x) = operation (wait_opcode x.sixty_four) (access (access_at x.memory x.arg) ∷ [])
+operation_of (instr.LoadSimd x) = vector_access_operation x.kind (access_at x.memory x.arg)
+operation_of (instr.AtomicRmw x) = atomic_operation (Rmw x.op x.width) (access_at x.memory x.arg)
+operation_of (instr.Cmpxchg x) = atomic_operation (Cmpxchg x.width) (access_at x.memory x.arg)
+operation_of (instr.AtomicNotify x) = atomic_operation Notify (access_at x.memory x.arg)
+operation_of (instr.AtomicWait x) = atomic_operation (wait_kind x.sixty_four) (access_at x.memory x.arg)
 operation_of instr.AtomicFence = operation (Prefixed 0xfe 3) (zero_byte ∷ [])
 operation_of (instr.MemorySize x) = operation (Byte 0x3f) (index Memories x.memory ∷ [])
 operation_of (instr.MemoryGrow x) = operation (Byte 0x40) (index Memories x.memory ∷ [])

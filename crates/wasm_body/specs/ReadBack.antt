@@ -1,5 +1,5 @@
 -- Reading back: the bytes of a normal form are accepted again, as a body whose normal form is the same tree.
-use Rattle.std.specs.Prelude.{◌≡◌, ℕ, List, [], ◌∷◌, map, Option, Some, None, IsOk, Ok, true}
+use Rattle.std.specs.Prelude.{◌≡◌, ℕ, List, [], map, Option, Some, None, IsOk, Ok, true}
 use Rattle.std.specs.List.{AllByRecursion}
 use Rattle.walrus_ir.specs.declared.val_type.HeapType.{HeapType}
 use Rattle.walrus_ir.specs.declared.val_type.HeapType.TheVariants.{Abstract, Concrete}
@@ -7,7 +7,6 @@ use Rattle.walrus_ir.specs.declared.val_type.ValType.{ValType}
 use Rattle.walrus_ir.specs.declared.val_type.ValType.TheVariants.{Ref}
 use Rattle.walrus_ir.specs.declared.val_type.InstrSeqType.{InstrSeqType}
 use Rattle.walrus_ir.specs.declared.val_type.InstrSeqType.TheVariants.{Simple, MultiValue}
-use Rattle.walrus_ir.specs.Types.{ModuleType, signature, signature_of}
 use Rattle.wasm_ops.specs.declared.types.Space.{Space}
 use Rattle.wasm_ops.specs.declared.types.Space.TheVariants.{Types, Memories, Tags}
 use Rattle.wasm_ops.specs.Operations.{CatchClause, Immediate, index, local, access, clauses, block, heap, value, cast, Operation}
@@ -56,15 +55,10 @@ IsUndone to env space id = (n : ℕ) → to.number_of space id ≡ Ok n → env.
 abbrev pub IsUndoneLocal : Numbers → Environment → ℕ → Type 0
 IsUndoneLocal to env id = (n : ℕ) → to.local_number id ≡ Ok n → env.local_of n ≡ Ok id
 
--- References are not carried yet where a value type stands.
-abbrev pub IsCarriedValue : ValType ℕ → Type 0
-IsCarriedValue (Ref r) = ⊥
-IsCarriedValue _ = Unit {0}
-
 -- of the type of a sequence, as it is written
 abbrev pub IsUndoneType : Numbers → Environment → InstrSeqType → Type 0
 IsUndoneType to env (Simple None) = Unit {0}
-IsUndoneType to env (Simple (Some t)) = IsCarriedValue t × EachInValue (IsUndone to env) t
+IsUndoneType to env (Simple (Some t)) = EachInValue (IsUndone to env) t
 IsUndoneType to env (MultiValue id) = IsUndone to env Types id
 
 abbrev pub AreUndone : Numbers → Environment → List (Immediate ℕ InstrSeqType) → Type 0
@@ -84,10 +78,6 @@ pub record Undoes (to : Numbers) (tree : FunctionTree) (env again : Environment)
 pub record IsInverse (to : Numbers) (again : Environment) : Type 0 where
   pub indices : (space : Space) (id : ℕ) → IsUndone to again space id
   pub locals : (id : ℕ) → IsUndoneLocal to again id
-
--- Of the types that take nothing and give one value none gives a reference.
-abbrev pub GivesNoReference : List ModuleType → Type 0
-GivesNoReference types = (id : ℕ) (v : ValType ℕ) → signature_of types id ≡ Some (signature [] (v ∷ [])) → IsCarriedValue v
 
 -- ---- the law
 
@@ -114,9 +104,9 @@ ReadBack =
 -- Maps that undo all numbers undo those of the normal form of every lawful body.
 abbrev pub InverseUndoes : Type 0
 InverseUndoes =
-    (env : Environment) (xs : List Occurrence) (body : Body Occurrence) → AllByRecursion HasSpelling xs → Lawful env xs body →
+    (env : Environment) (xs : List Occurrence) (body : Body Occurrence) → Lawful env xs body →
     (to : Numbers) (again : Environment) → again.types ≡ env.types → again.tags ≡ env.tags → again.type ≡ env.type →
-    IsInverse to again → GivesNoReference env.types → Undoes to (body_tree env body) env again
+    IsInverse to again → Undoes to (body_tree env body) env again
 
 -- The tree has a text with names, which is a body again, and the normal form of that body is the same tree.
 pub record IsReadByNames (m : Typing) (tree : FunctionTree) : Type 0 where

@@ -77,7 +77,7 @@ pub fn law_read_back()
 {}
 
 /// Maps that give each numbered id at its number undo the numbers of the normal form of every
-/// lawful body, where no type of the module takes nothing and gives one reference.
+/// lawful body.
 pub fn law_inverse_undoes()
     ensures { InverseUndoes }
 {}

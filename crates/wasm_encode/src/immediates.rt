@@ -2,14 +2,15 @@
 
 ghost use Rattle.std.specs.Prelude.{◌≡◌, ◌++◌, ◌∷◌, OnOk, take, length};
 ghost use Rattle.wasm_ops.specs.AccessOperations.{access_of};
-ghost use Rattle.wasm_ops.specs.Shortest.{short_number, short_value, short_access, short_table, short_clause, short_clauses, short_immediates};
+ghost use Rattle.wasm_ops.specs.ReferenceOperations.{cast_of};
+ghost use Rattle.wasm_ops.specs.Shortest.{short_number, short_vector, short_heap, short_value, short_flags, short_cast, short_access, short_table, short_clause, short_clauses, short_immediates};
 ghost use Rattle.wasm_ops.specs.Parts.{immediates_of};
 
 use crate::number::{write_bits, write_byte, write_integer, write_number};
 use crate::out_operator::{OutClauses, OutImmediates, OutTable};
-use crate::type_writer::{write_block_type, write_value_type};
+use crate::type_writer::{write_block_type, write_heap_type, write_value_type};
 use std::alloc::AllocError;
-use wasm_ops::{Immediates, RawCatch, RawMemArg, RawValType};
+use wasm_ops::{Immediates, RawCast, RawCatch, RawMemArg, RawValType};
 
 /// Appends two indices.
 #[tactic(auto, using(crate::proofs::Appending::appending))]
@@ -45,6 +46,48 @@ fn write_selected(out: &mut Vec<u8>, ty: RawValType) -> Result<(), AllocError>
 {
     write_byte(out, 1)?;
     write_value_type(out, ty)
+}
+
+/// The flags of a cast.
+fn cast_flags(from_nullable: bool, to_nullable: bool) -> u8
+    ensures { result ≡ short_flags from_nullable to_nullable }
+{
+    match (from_nullable, to_nullable) {
+        (false, false) => 0,
+        (true, false) => 1,
+        (false, true) => 2,
+        (true, true) => 3,
+    }
+}
+
+/// Appends what follows the opcode of a branch on a cast.
+#[tactic(auto, using(crate::proofs::Appending::appending), unfolding(wasm_ops::specs::Shortest::short_cast))]
+fn write_cast(out: &mut Vec<u8>, cast: RawCast) -> Result<(), AllocError>
+    ensures ok { OnOk result (out.new.items ≡ out.old.items ++ short_cast (cast_of cast)) }
+    ensures kept { take (length out.old.items) out.new.items ≡ out.old.items }
+{
+    write_byte(out, cast_flags(cast.from_nullable, cast.to_nullable))?;
+    write_number(out, cast.label as u64)?;
+    write_heap_type(out, cast.source)?;
+    write_heap_type(out, cast.target)
+}
+
+/// Appends lanes.
+#[tactic(auto, using(crate::proofs::Appending::appending))]
+fn write_lanes(out: &mut Vec<u8>, lanes: &[u8]) -> Result<(), AllocError>
+    ensures ok { OnOk result (out.new.items ≡ out.old.items ++ lanes.now) }
+    ensures kept { take (length out.old.items) out.new.items ≡ out.old.items }
+{
+    out.extend_from_slice(lanes)
+}
+
+/// Appends the bits of a vector.
+#[tactic(auto, using(crate::proofs::Appending::appending), unfolding(wasm_ops::specs::Shortest::short_vector))]
+fn write_vector(out: &mut Vec<u8>, bits: u128) -> Result<(), AllocError>
+    ensures ok { OnOk result (out.new.items ≡ out.old.items ++ short_vector bits) }
+    ensures kept { take (length out.old.items) out.new.items ≡ out.old.items }
+{
+    write_bits(out, 16, bits)
 }
 
 /// Appends the labels of a `br_table`.
@@ -104,22 +147,32 @@ pub(crate) fn write_immediates(
         Immediates::Nothing => Ok(()),
         Immediates::Index(_, index) => write_number(out, *index as u64),
         Immediates::Pair(_, first, _, second) => write_pair(out, *first, *second),
+        Immediates::IndexNumber(_, index, number) => write_pair(out, *index, *number),
+        Immediates::Local(index) => write_number(out, *index as u64),
         Immediates::Label(depth) => write_number(out, *depth as u64),
         Immediates::Handler(depth) => write_number(out, *depth as u64),
         Immediates::Outer(depth) => write_number(out, *depth as u64),
         Immediates::Table(OutTable { targets, default }) => write_table(out, targets, *default),
         Immediates::Access(memarg) => write_memarg(out, *memarg),
+        Immediates::LaneAccess(memarg, idx) => {
+            write_memarg(out, *memarg)?;
+            write_byte(out, *idx)
+        }
         Immediates::Block(ty) => write_block_type(out, *ty),
         Immediates::Clauses(ty, OutClauses { clauses }) => {
             write_block_type(out, *ty)?;
             write_clauses(out, clauses)
         }
+        Immediates::Heap(heap_type) => write_heap_type(out, *heap_type),
         Immediates::Value(ty) => write_selected(out, *ty),
+        Immediates::Cast(cast) => write_cast(out, *cast),
         Immediates::I32(value) => write_integer(out, *value as i64),
         Immediates::I64(value) => write_integer(out, *value),
         Immediates::F32(bits) => write_bits(out, 4, *bits as u128),
         Immediates::F64(bits) => write_bits(out, 8, *bits as u128),
-        Immediates::V128(bits) => write_bits(out, 16, *bits),
+        Immediates::V128(bits) => write_vector(out, *bits),
         Immediates::Lane(idx) => write_byte(out, *idx),
+        Immediates::Lanes(lanes) => write_lanes(out, lanes),
+        Immediates::ZeroByte => write_byte(out, 0),
     }
 }

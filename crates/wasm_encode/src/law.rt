@@ -1,14 +1,19 @@
 //! The law of what is written, the contract of a function that does nothing.
 
+ghost use Rattle.std.specs.Prelude.{◌≡◌};
 ghost use Rattle.std.specs.List.{AllByRecursion};
-ghost use Rattle.wasm_ops.specs.Fitting.{FitsLabel, FitsClause, AllFit, AreSpeakable, HasRow};
+ghost use Rattle.wasm_ops.specs.Fitting.{FitsLabel, FitsClause, FitsLane, FitsHeap, FitsValue, FitsBlock};
+ghost use Rattle.wasm_ops.specs.Fitting.{AllFit, AreSpeakable, HasRow};
 ghost use Rattle.wasm_ops.specs.Meaning.{meaning};
 ghost use Rattle.wasm_ops.specs.Parts.{immediates_of};
 ghost use Rattle.wasm_ops.specs.Shortest.{short};
 ghost use Rattle.wasm_ops.specs.Spelling.{Spells};
 
 use crate::out_operator::{OutClauses, OutImmediates, OutOp, OutTable};
-use wasm_ops::{BlockType, Immediates, Op, RawCatch, index_rows, parts_of};
+use walrus_ir::{RefType, ValType};
+use wasm_ops::{
+    BlockType, Immediates, Op, RawCast, RawCatch, RawHeapType, RawValType, index_rows, parts_of,
+};
 
 /// Labels fit their spellings.
 fn law_labels(labels: &[u32])
@@ -41,6 +46,62 @@ fn law_clauses(clauses: &[RawCatch])
     }
 }
 
+/// Lanes are bytes.
+fn law_lanes(lanes: &[u8])
+    ensures { AllByRecursion FitsLane lanes.now }
+{
+    let mut left = lanes;
+    'lanes: while let Some((_lane, behind)) = left.split_first() {
+        left = behind;
+    }
+}
+
+/// The index that a heap type may name fits its spelling.
+fn law_heap_type(heap_type: RawHeapType)
+    ensures { FitsHeap heap_type }
+{
+    match heap_type {
+        RawHeapType::Abstract(_) => {}
+        RawHeapType::Concrete(_index) => {}
+    }
+}
+
+/// The numbers behind the opcode of a branch on a cast fit their spellings.
+fn law_cast(cast: RawCast)
+    ensures label { FitsLabel cast.label }
+    ensures source { FitsHeap cast.source }
+    ensures target { FitsHeap cast.target }
+{
+    let RawCast {
+        label: _label,
+        source,
+        target,
+        ..
+    } = cast;
+    law_heap_type(source);
+    law_heap_type(target);
+}
+
+/// The index that a value type may name fits its spelling.
+fn law_value_type(ty: RawValType)
+    ensures { FitsValue ty }
+{
+    if let ValType::Ref(RefType { heap_type, .. }) = ty {
+        law_heap_type(heap_type);
+    }
+}
+
+/// The index that a block type may name fits its spelling.
+fn law_block_type(ty: BlockType)
+    ensures { FitsBlock ty }
+{
+    match ty {
+        BlockType::Empty => {}
+        BlockType::Value(ty) => law_value_type(ty),
+        BlockType::FuncType(_index) => {}
+    }
+}
+
 /// The numbers of what follows an opcode fit their spellings.
 fn law_fit(immediates: OutImmediates<'_>)
     requires { AreSpeakable (immediates_of immediates) }
@@ -50,6 +111,8 @@ fn law_fit(immediates: OutImmediates<'_>)
         Immediates::Nothing => {}
         Immediates::Index(_, _index) => {}
         Immediates::Pair(_, _first, _, _second) => {}
+        Immediates::IndexNumber(_, _index, _number) => {}
+        Immediates::Local(_index) => {}
         Immediates::Label(_depth) => {}
         Immediates::Handler(_depth) => {}
         Immediates::Outer(_depth) => {}
@@ -60,34 +123,46 @@ fn law_fit(immediates: OutImmediates<'_>)
             },
         ) => law_labels(targets),
         Immediates::Access(_memarg) => {}
-        Immediates::Block(ty) => match ty {
-            BlockType::Empty => {}
-            BlockType::Value(_) => {}
-            BlockType::FuncType(_index) => {}
-        },
+        Immediates::LaneAccess(_memarg, _idx) => {}
+        Immediates::Block(ty) => law_block_type(ty),
         Immediates::Clauses(ty, OutClauses { clauses }) => {
+            law_block_type(ty);
             law_clauses(clauses);
-            match ty {
-                BlockType::Empty => {}
-                BlockType::Value(_) => {}
-                BlockType::FuncType(_index) => {}
-            }
         }
-        Immediates::Value(_) => {}
+        Immediates::Heap(heap_type) => law_heap_type(heap_type),
+        Immediates::Value(ty) => law_value_type(ty),
+        Immediates::Cast(cast) => law_cast(cast),
         Immediates::I32(_value) => {}
         Immediates::I64(_value) => {}
         Immediates::F32(_bits) => {}
         Immediates::F64(_bits) => {}
         Immediates::V128(_bits) => {}
         Immediates::Lane(_idx) => {}
+        Immediates::Lanes(lanes) => law_lanes(&lanes),
+        Immediates::ZeroByte => {}
     }
 }
 
-/// The numbers of what follows an opcode fit their spellings.
-macro_rules! fits {
+/// What follows an opcode.
+macro_rules! behind {
     (() $opcode:expr, $immediates:expr) => {
-        law_fit($immediates)
+        $immediates
     };
+}
+
+/// What follows the opcode of an operator.
+fn behind_opcode<'a>(op: &OutOp<'a>) -> OutImmediates<'a>
+    ensures { immediates_of result ≡ (meaning op.now).immediates }
+{
+    index_rows!(
+        parts_of, behind () op,
+        Op::BrTable(OutTable { targets, default }) => {
+            Immediates::Table(OutTable { targets: *targets, default: *default })
+        }
+        Op::TryTable { ty, catches: OutClauses { clauses } } => {
+            Immediates::Clauses(*ty, OutClauses { clauses: *clauses })
+        }
+    )
 }
 
 /// The numbers of an operator fit their spellings.
@@ -95,21 +170,11 @@ fn law_numbers(op: &OutOp<'_>)
     requires { AreSpeakable (meaning op.now).immediates }
     ensures { AllFit (meaning op.now).immediates }
 {
-    index_rows!(
-        parts_of, fits () op,
-        Op::BrTable(OutTable { targets, default }) => {
-            let table = OutTable { targets: *targets, default: *default };
-            fits!(() Opcode::Byte(0x0e), Immediates::Table(table))
-        }
-        Op::TryTable { ty, catches: OutClauses { clauses } } => {
-            let clauses = OutClauses { clauses: *clauses };
-            fits!(() Opcode::Byte(0x1f), Immediates::Clauses(*ty, clauses))
-        }
-    )
+    law_fit(behind_opcode(op));
 }
 
-/// Of an operator whose opcode has a row, whose lists have fewer than 2^32 items, and whose types
-/// and alignment can be spelt, the shortest spelling is a spelling: what is written reads back.
+/// Of an operator whose opcode has a row, whose lists have fewer than 2^32 items, and whose
+/// alignment can be spelt, the shortest spelling is a spelling: what is written reads back.
 pub fn law_written(op: &OutOp<'_>)
     requires carried { HasRow (meaning op.now) }
     requires speakable { AreSpeakable (meaning op.now).immediates }

@@ -29,7 +29,7 @@ fn heap_byte(heap: AbstractHeapType) -> u8
 }
 
 /// Appends a heap type.
-fn write_heap_type(out: &mut Vec<u8>, heap: RawHeapType) -> Result<(), AllocError>
+pub(crate) fn write_heap_type(out: &mut Vec<u8>, heap: RawHeapType) -> Result<(), AllocError>
     ensures ok { OnOk result (out.new.items ≡ out.old.items ++ short_heap heap) }
     ensures kept { take (length out.old.items) out.new.items ≡ out.old.items }
 {

@@ -16,5 +16,6 @@ pub mod ListLaws
 pub mod Written
 pub mod Rows
 pub mod ShortNumbers
+pub mod Lanes
 pub mod BorrowedLists
 pub mod SameLists

@@ -11,7 +11,7 @@ use Rattle.wasm_ops.specs.Numbers.{IsU32, IsU64, IsByte, joined, AreBits}
 use Rattle.wasm_ops.specs.Operations.{Access, CatchClause, Cast, RawImmediate, index, local, label, handler, outer, number, access, branch_table, clauses, block, heap, value, cast, i32, i64, f32, f64, v128, lane, lanes, zero_byte}
 use Rattle.wasm_ops.specs.Types.{IsHeapType, IsValueType}
 use Rattle.wasm_ops.specs.Immediates.{memory_flags, IsMemory, IsAccess, Table, made_table, IsTable, catch_kind, some_tag, IsTag, IsClause, made_clauses, AreClauses, cast_flags, made_cast, IsCast, one_type, made_selected, IsSelected, SpellsImmediate, SpellsImmediates}
-use Rattle.wasm_ops.specs.Shortest.{IsLeast, short_unsigned, short_number, short_bits, short_heap, short_value, short_access, short_table, short_tag, short_clause, short_clauses, short_flags, short_cast, short_immediate, short_immediates}
+use Rattle.wasm_ops.specs.Shortest.{IsLeast, short_unsigned, short_number, short_bits, short_vector, short_heap, short_value, short_access, short_table, short_tag, short_clause, short_clauses, short_flags, short_cast, short_immediate, short_immediates}
 use Rattle.wasm_ops.proofs.ShortestNumbers.{unsigned_spelt}
 use Rattle.wasm_ops.proofs.Shortness.{Least, least_append, least_along, least_only, least_then, least_made, least_many, least_moved, many_length, least_u32, least_u64, least_s32, least_s64}
 use Rattle.wasm_ops.proofs.ShortestTypes.{least_heap, least_value, least_block}
@@ -386,6 +386,10 @@ least_bits_of n bits = least_only (AreBits n bits) (short_bits n bits) (λ text 
     let made : joined h.0 ≡ bits = let e = h.1 in cc in
     bytes_are n h.0 text h.2 ∙ sym (bits_are n h.0 text h.2) ∙ ap (short_bits n) made)
 
+least_vector : (bits : ℕ) → Least (AreBits 16 bits) (short_vector bits)
+unfolding short_vector
+least_vector bits = least_bits_of 16 bits
+
 -- ---- one immediate
 
 pub least_immediate : (i : RawImmediate) → Least (SpellsImmediate i) (short_immediate i)
@@ -406,7 +410,7 @@ least_immediate (i32 z) = least_s32 z
 least_immediate (i64 z) = least_s64 z
 least_immediate (f32 bits) = least_bits_of 4 bits
 least_immediate (f64 bits) = least_bits_of 8 bits
-least_immediate (v128 bits) = least_bits_of 16 bits
+least_immediate (v128 bits) = least_vector bits
 least_immediate (lane n) = least_only (SpellsImmediate (lane n)) (n ∷ []) (λ text h. h.1)
 least_immediate (lanes ns) = least_only (SpellsImmediate (lanes ns)) ns (bytes_are 16 ns)
 least_immediate zero_byte = least_only (SpellsImmediate zero_byte) (0 ∷ []) (λ text h. h)

@@ -9,9 +9,11 @@ use Rattle.walrus_ir.specs.declared.val_type.ValType.{ValType}
 use Rattle.walrus_ir.specs.declared.val_type.ValType.TheVariants.{Ref}
 use Rattle.wasm_ops.specs.declared.types.BlockType.{BlockType}
 use Rattle.wasm_ops.specs.declared.types.BlockType.TheVariants.{Empty, Value, FuncType}
+use Rattle.std.specs.Prelude.{option_map}
+use Rattle.wasm_ops.specs.Rows.{first_some}
 use Rattle.wasm_ops.specs.Reading.{starts, Then, Made}
 use Rattle.wasm_ops.specs.Numbers.{IsByte, IsS33}
-use Rattle.wasm_ops.specs.Types.{row_at, is_listed, listed, type_index, heap_rows, heap_at, IsHeapType, value_rows, value_at, nullable_rows, nullable_at, IsValueType, starts_value_type, IsBlockType}
+use Rattle.wasm_ops.specs.Types.{row_at, is_listed, listed, type_index, heap_rows, heap_at, IsHeapType, number_rows, nullable_to, value_at, nullable_rows, nullable_at, IsValueType, starts_value_type, IsBlockType}
 use Rattle.wasm_ops.specs.Shortest.{IsLeast, short_signed, short_integer, heap_byte, short_heap, short_reference, short_value, short_block}
 use Rattle.wasm_ops.proofs.Agreement.{chosen}
 use Rattle.wasm_ops.proofs.Shortness.{Least, least_only, least_then, least_same, least_s33}
@@ -102,9 +104,24 @@ least_heap (Concrete n) = record { is = concrete_least n }
 
 -- ---- value types
 
-value_is : (b : ℕ) (t : ValType ℕ) → value_at b ≡ Some t → short_value t ≡ b ∷ []
+-- a value type that is one byte is a number or vector type, or stands for an abstract heap type
+value_cases : (b : ℕ) (t : ValType ℕ) → value_at b ≡ Some t
+    → (row_at number_rows b ≡ Some t) ⊎ ((a : AbstractHeapType) × (heap_at b ≡ Some a) × (nullable_to a ≡ t))
 unfolding value_at
-value_is = row_holds (λ n t. short_value t ≡ n ∷ []) value_rows (search rules)
+value_cases b t e = go (row_at number_rows b) (heap_at b) e
+  where
+    go : (n : Option (ValType ℕ)) (h : Option AbstractHeapType) → first_some n (option_map nullable_to h) ≡ Some t
+        → (n ≡ Some t) ⊎ ((a : AbstractHeapType) × (h ≡ Some a) × (nullable_to a ≡ t))
+    go (Some u) h e = inl e
+    go None (Some a) e = inr (a, refl, cc)
+    go None None e = absurd cc
+
+value_is : (b : ℕ) (t : ValType ℕ) → value_at b ≡ Some t → short_value t ≡ b ∷ []
+value_is b t e =
+    elim (value_cases b t e) [
+      | inl n ↦ row_holds (λ n t. short_value t ≡ n ∷ []) number_rows (search rules) b t n
+      | inr h ↦ ap short_value (sym h.2) ∙ ap (λ (n : ℕ). n ∷ []) (heap_is b h.0 h.1)
+    ]
 
 -- the byte that says whether a reference is nullable
 reference_byte : Bool → ℕ
@@ -118,12 +135,13 @@ nullable_is = row_holds (λ b nullable. b ≡ reference_byte nullable) nullable_
 abbrev reference_to : Bool → HeapType ℕ → ValType ℕ
 reference_to nullable heap = Ref (record { nullable = nullable; heap_type = heap })
 
--- Where nullable references are spelt, each of them to an abstract heap type is spelt by one byte too. None is spelt yet.
-abstract_byte : (b : ℕ) → nullable_at b ≡ Some true → (a : AbstractHeapType) → (value_at (heap_byte a) ≡ Some (reference_to true (Abstract a))) × (is_listed (nullable_at (heap_byte a)) ≡ false)
-unfolding nullable_at
-abstract_byte b e a = absurd cc
+-- A nullable reference to an abstract heap type is spelt by one byte too.
+pub abstract_byte : (a : AbstractHeapType) → (value_at (heap_byte a) ≡ Some (nullable_to a)) × (is_listed (nullable_at (heap_byte a)) ≡ false)
+unfolding nullable_at value_at heap_at
+abstract_byte abstract.NoExn = (refl, refl)
+abstract_byte _ = (refl, refl)
 
-heap_below : (a : AbstractHeapType) → heap_byte a < 256
+pub heap_below : (a : AbstractHeapType) → heap_byte a < 256
 heap_below abstract.NoExn = omega arith
 heap_below _ = omega arith
 
@@ -167,7 +185,7 @@ reference_least nullable heap text h = go nullable heap (nullable_byte nullable 
     go false heap known s = (as_reference false heap text known s.0, s.1)
     go true (Concrete n) known s = (as_reference true (Concrete n) text known s.0, s.1)
     go true (Abstract a) known s =
-        let one = abstract_byte (reference_byte true) known a in
+        let one = abstract_byte a in
         (inr (one.1, (heap_byte a, rw one.0 refl, (heap_below a, refl))), least_below (heap_byte a ∷ []) (long_reference true (Abstract a)) text (omega arith) s.1)
 
 value_least : (t : ValType ℕ) (text : List ℕ) → IsValueType t text → IsValueType t (short_value t) × IsLeast (short_value t) text
@@ -195,10 +213,13 @@ or_true false b e = e
 
 -- what a value type begins with
 value_byte : (b : ℕ) → starts_value_type b ≡ true → (64 < b) × (b < 128)
-unfolding value_at nullable_at
+unfolding nullable_at heap_at
 value_byte b e =
     elim (either_true (is_listed (value_at b)) (is_listed (nullable_at b)) e) [
-      | inl p ↦ let some = listed_some (value_at b) p in row_holds (λ n t. (64 < n) × (n < 128)) value_rows (search rules) b some.0 some.1
+      | inl p ↦ let some = listed_some (value_at b) p in elim (value_cases b some.0 some.1) [
+        | inl n ↦ row_holds (λ n t. (64 < n) × (n < 128)) number_rows (search rules) b some.0 n
+        | inr h ↦ row_holds (λ n t. (64 < n) × (n < 128)) heap_rows (search rules) b h.0 h.1
+      ]
       | inr p ↦ let some = listed_some (nullable_at b) p in row_holds (λ n t. (64 < n) × (n < 128)) nullable_rows (search rules) b some.0 some.1
     ]
 

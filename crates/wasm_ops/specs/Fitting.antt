@@ -1,28 +1,19 @@
 -- Which operators have a spelling, as far as their immediates say.
 use Rattle.std.specs.Prelude.{◌≡◌, ℕ, ◌^◌, ◌<◌, List, [], ◌∷◌, length, Option, Some, None, ℤ, pos, negsuc}
 use Rattle.std.specs.List.{AllByRecursion}
+use Rattle.walrus_ir.specs.declared.val_type.HeapType.{HeapType}
+use Rattle.walrus_ir.specs.declared.val_type.HeapType.TheVariants.{Abstract, Concrete}
 use Rattle.walrus_ir.specs.declared.val_type.ValType.{ValType}
 use Rattle.walrus_ir.specs.declared.val_type.ValType.TheVariants.{Ref}
 use Rattle.wasm_ops.specs.declared.types.BlockType.{BlockType}
 use Rattle.wasm_ops.specs.declared.types.BlockType.TheVariants.{Empty, Value, FuncType}
 use Rattle.wasm_ops.specs.Immediates.{Kind}
 use Rattle.wasm_ops.specs.Opcodes.{kinds_of}
-use Rattle.wasm_ops.specs.Operations.{CatchClause, RawImmediate, RawOperation, index, local, label, handler, outer, number, branch_table, clauses, access, block, value, i32, i64, f32, f64, v128, lane, zero_byte}
-
--- no reference is spelt yet
-abbrev pub IsSpeltType : ValType ℕ → Type 0
-IsSpeltType (Ref r) = ⊥
-IsSpeltType _ = Unit {0}
-
-abbrev pub IsSpeltBlock : BlockType → Type 0
-IsSpeltBlock (Value type) = IsSpeltType type
-IsSpeltBlock _ = Unit {0}
+use Rattle.wasm_ops.specs.Operations.{CatchClause, RawImmediate, RawOperation, index, local, label, handler, outer, number, branch_table, clauses, access, block, heap, value, cast, i32, i64, f32, f64, v128, lane, lanes, zero_byte}
 
 -- What is asked of an immediate beside that its numbers fit their types.
 abbrev pub IsSpeakable : RawImmediate → Type 0
 IsSpeakable (access a) = a.alignment < 32
-IsSpeakable (block type) = IsSpeltBlock type
-IsSpeakable (value type) = IsSpeltType type
 IsSpeakable (branch_table targets default) = length targets < 2 ^ 32
 IsSpeakable (clauses cs) = length cs < 2 ^ 32
 IsSpeakable _ = Unit {0}
@@ -41,9 +32,17 @@ abbrev pub IsWithin : ℕ → ℤ → Type 0
 IsWithin half (pos n) = n < half
 IsWithin half (negsuc n) = n < half
 
+abbrev pub FitsHeap : HeapType ℕ → Type 0
+FitsHeap (Abstract a) = Unit {0}
+FitsHeap (Concrete n) = n < 2 ^ 32
+
+abbrev pub FitsValue : ValType ℕ → Type 0
+FitsValue (Ref r) = FitsHeap r.heap_type
+FitsValue _ = Unit {0}
+
 abbrev pub FitsBlock : BlockType → Type 0
 FitsBlock Empty = Unit {0}
-FitsBlock (Value type) = IsSpeltType type
+FitsBlock (Value type) = FitsValue type
 FitsBlock (FuncType n) = n < 2 ^ 32
 
 abbrev pub FitsTag : Option ℕ → Type 0
@@ -56,7 +55,9 @@ FitsClause c = FitsTag c.tag × (c.label < 2 ^ 32)
 abbrev pub FitsLabel : ℕ → Type 0
 FitsLabel l = l < 2 ^ 32
 
--- Heap types, casts and the lanes of a shuffle are not carried yet.
+abbrev pub FitsLane : ℕ → Type 0
+FitsLane n = n < 256
+
 abbrev pub Fits : RawImmediate → Type 0
 Fits (index space n) = n < 2 ^ 32
 Fits (local n) = n < 2 ^ 32
@@ -69,15 +70,17 @@ Fits (branch_table targets default) =
 Fits (clauses cs) = (length cs < 2 ^ 32) × AllByRecursion FitsClause cs
 Fits (access a) = (a.alignment < 32) × (a.memory < 2 ^ 32) × (a.offset < 2 ^ 64)
 Fits (block type) = FitsBlock type
-Fits (value type) = IsSpeltType type
+Fits (heap type) = FitsHeap type
+Fits (value type) = FitsValue type
+Fits (cast c) = FitsLabel c.label × FitsHeap c.source × FitsHeap c.target
 Fits (i32 z) = IsWithin (2 ^ 31) z
 Fits (i64 z) = IsWithin (2 ^ 63) z
 Fits (f32 bits) = bits < 2 ^ 32
 Fits (f64 bits) = bits < 2 ^ 64
 Fits (v128 bits) = bits < 2 ^ 128
-Fits (lane n) = n < 256
+Fits (lane n) = FitsLane n
+Fits (lanes ns) = (length ns ≡ 16) × AllByRecursion FitsLane ns
 Fits zero_byte = Unit {0}
-Fits _ = ⊥
 
 abbrev pub AllFit : List RawImmediate → Type 0
 AllFit [] = Unit {0}

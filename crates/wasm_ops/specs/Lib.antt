@@ -16,6 +16,7 @@ pub mod Position
 pub mod Laws
 pub mod VectorAccessOpcodes
 pub mod AtomicOpcodes
+pub mod ReferenceOperations
 pub mod Parts
 pub mod Fitting
 pub mod Rows

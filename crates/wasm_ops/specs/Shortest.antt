@@ -53,6 +53,10 @@ abbrev pub short_bits : (count bits : ℕ) → List ℕ
 short_bits zero bits = []
 short_bits (suc count) bits = bits % 256 ∷ short_bits count (bits / 256)
 
+-- sixteen bytes
+unfoldable pub short_vector : ℕ → List ℕ
+short_vector bits = short_bits 16 bits
+
 -- ---- types
 
 abbrev pub heap_byte : AbstractHeapType → ℕ
@@ -141,7 +145,7 @@ short_immediate (i32 z) = short_integer z
 short_immediate (i64 z) = short_integer z
 short_immediate (f32 bits) = short_bits 4 bits
 short_immediate (f64 bits) = short_bits 8 bits
-short_immediate (v128 bits) = short_bits 16 bits
+short_immediate (v128 bits) = short_vector bits
 short_immediate (lane n) = n ∷ []
 short_immediate (lanes ns) = ns
 short_immediate zero_byte = 0 ∷ []

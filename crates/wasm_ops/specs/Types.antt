@@ -1,5 +1,5 @@
 -- Types (WebAssembly core specification 3.0, binary format, types).
-use Rattle.std.specs.Prelude.{ℕ, Bool, true, false, ◌||◌, List, [], ◌∷◌, Option, Some, None, Result, Ok, Err, ℤ, pos, negsuc, ◌==◌, if◌then◌else◌}
+use Rattle.std.specs.Prelude.{ℕ, Bool, true, false, ◌||◌, List, [], ◌∷◌, Option, Some, None, option_map, Result, Ok, Err, ℤ, pos, negsuc, ◌==◌, if◌then◌else◌}
 use Rattle.walrus_ir.specs.declared.val_type.AbstractHeapType.{AbstractHeapType}
 use Rattle.walrus_ir.specs.declared.val_type.AbstractHeapType.TheVariants as abstract
 use Rattle.walrus_ir.specs.declared.val_type.HeapType.{HeapType}
@@ -12,6 +12,7 @@ use Rattle.wasm_ops.specs.declared.types.BlockType.{BlockType}
 use Rattle.wasm_ops.specs.declared.types.BlockType.TheVariants.{Empty, Value, FuncType}
 use Rattle.wasm_ops.specs.Reading.{Spelling, Reader, Then, then_read, Made, made, Switch, switch}
 use Rattle.wasm_ops.specs.Numbers.{IsS33, s33, IsByte, byte}
+use Rattle.wasm_ops.specs.Rows.{first_some}
 use Rattle.walrus_ir.specs.Results.{◌>>=◌}
 
 -- what a table has at a number
@@ -68,16 +69,19 @@ heap_type = switch (λ b. is_listed (heap_at b)) (made byte abstract_heap) (made
 
 -- ---- value types: a byte that is listed, or a byte that says whether a reference is nullable, and a heap type
 
--- number and vector types; the bytes of abstract heap types are not carried yet
-abbrev pub value_rows : List (ℕ × ValType ℕ)
-value_rows = (0x7f, I32) ∷ (0x7e, I64) ∷ (0x7d, F32) ∷ (0x7c, F64) ∷ (0x7b, V128) ∷ []
+-- number and vector types
+abbrev pub number_rows : List (ℕ × ValType ℕ)
+number_rows = (0x7f, I32) ∷ (0x7e, I64) ∷ (0x7d, F32) ∷ (0x7c, F64) ∷ (0x7b, V128) ∷ []
+
+-- the byte of an abstract heap type stands for its nullable reference
+abbrev pub nullable_to : AbstractHeapType → ValType ℕ
+nullable_to a = Ref (record { nullable = true; heap_type = Abstract a })
 
 unfoldable pub value_at : ℕ → Option (ValType ℕ)
-value_at b = row_at value_rows b
+value_at b = first_some (row_at number_rows b) (option_map nullable_to (heap_at b))
 
--- 0x63 and 0x64 are not carried yet
 abbrev pub nullable_rows : List (ℕ × Bool)
-nullable_rows = []
+nullable_rows = (0x63, true) ∷ (0x64, false) ∷ []
 
 unfoldable pub nullable_at : ℕ → Option Bool
 nullable_at b = row_at nullable_rows b

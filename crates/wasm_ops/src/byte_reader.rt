@@ -13,6 +13,7 @@ use crate::index_rows;
 use crate::number::{read_f32, read_f64, read_s32, read_s64, read_u32};
 use crate::numeric_reader::numeric;
 use crate::operator::Operator;
+use crate::reference_reader::read_reference;
 use crate::row::{made, read_indices, read_pair};
 use crate::type_reader::{read_block_type, read_selected};
 use crate::types::Opcode;
@@ -73,7 +74,7 @@ fn read_control(byte: u8, bytes: &[u8]) -> Result<(Operator<'_>, &[u8]), ReadFau
     index_rows!(read_control_byte, byte bytes)
 }
 
-/// Reads the operator that has the byte, on globals and tables.
+/// Reads the operator that has the byte, on locals, globals and tables.
 macro_rules! read_variable_byte {
     (
         ($byte:ident $bytes:ident)
@@ -82,6 +83,9 @@ macro_rules! read_variable_byte {
         $($others:tt)*
     ) => {
         match $byte {
+            0x20 => made!(read_u32($bytes), local => Operator::LocalGet { local }),
+            0x21 => made!(read_u32($bytes), local => Operator::LocalSet { local }),
+            0x22 => made!(read_u32($bytes), local => Operator::LocalTee { local }),
             $($row => made!(read_u32($bytes), $field => Operator::$name { $field }),)*
             _ => Err(ReadFault::UnknownOperator),
         }
@@ -163,6 +167,8 @@ pub(crate) fn read_behind_byte(byte: u8, bytes: &[u8]) -> Result<(Operator<'_>, 
         0x36..=0x3e => read_store(byte, bytes),
         0x3f..=0x44 => read_constant(byte, bytes),
         0x45..=0xc4 => Ok((numeric(byte), bytes)),
+        0xc5..=0xcf => Err(ReadFault::UnknownOperator),
+        0xd0..=0xd6 => read_reference(byte, bytes),
         _ => Err(ReadFault::UnknownOperator),
     }
 }

@@ -11,7 +11,7 @@ use crate::branch_table::BrTable;
 use crate::catch_list::CatchList;
 use crate::immediates::Immediates;
 use crate::operator::Operator;
-use crate::types::{BlockType, Opcode, RawValType, Space};
+use crate::types::{BlockType, Opcode, RawCast, RawHeapType, RawValType, Space};
 
 /// What is spelt at a front is read there, and what is read at the front of bytes is spelt by
 /// what is taken.
@@ -72,6 +72,33 @@ fn same_value_type(a: &RawValType, b: &RawValType) -> bool
     a == b
 }
 
+/// Heap types are compared as equal exactly where they are the same.
+fn same_heap_type(a: &RawHeapType, b: &RawHeapType) -> bool
+    ensures compares { result ≡ ⟦<RawHeapType as PartialEq>⟧.eq a.now b.now }
+    ensures same { result ≡ true → a.now ≡ b.now }
+{
+    a == b
+}
+
+/// Casts are compared as equal exactly where they are the same.
+fn same_cast(a: &RawCast, b: &RawCast) -> bool
+    ensures compares { result ≡ ⟦<RawCast as PartialEq>⟧.eq a.now b.now }
+    ensures same { result ≡ true → a.now ≡ b.now }
+{
+    let _source = same_heap_type(&a.source, &b.source);
+    let _target = same_heap_type(&a.target, &b.target);
+    a == b
+}
+
+/// Sixteen lanes are compared as equal exactly where they are the same.
+#[tactic(auto, using(crate::proofs::SameLists::same_lists))]
+fn same_lanes(a: &[u8; 16], b: &[u8; 16]) -> bool
+    ensures compares { result ≡ ⟦<[u8; 16] as PartialEq>⟧.eq a.now b.now }
+    ensures same { result ≡ true → a.now ≡ b.now }
+{
+    a == b
+}
+
 /// Block types are compared as equal exactly where they are the same.
 fn same_block_type(a: &BlockType, b: &BlockType) -> bool
     ensures compares { result ≡ ⟦<BlockType as PartialEq>⟧.eq a.now b.now }
@@ -111,11 +138,14 @@ fn same_immediates(a: &OperatorImmediates<'_>, b: &OperatorImmediates<'_>) -> bo
             let _second = same_space(second, other_second);
             a == b
         }
+        Immediates::IndexNumber(..) => a == b,
+        Immediates::Local(_) => a == b,
         Immediates::Label(_) => a == b,
         Immediates::Handler(_) => a == b,
         Immediates::Outer(_) => a == b,
         Immediates::Table(_) => a == b,
         Immediates::Access(_) => a == b,
+        Immediates::LaneAccess(..) => a == b,
         Immediates::Block(ty) => {
             if let Immediates::Block(other) = b {
                 let _same = same_block_type(ty, other);
@@ -130,9 +160,21 @@ fn same_immediates(a: &OperatorImmediates<'_>, b: &OperatorImmediates<'_>) -> bo
             let _catches = same_clauses(catches, other_catches);
             a == b
         }
+        Immediates::Heap(ty) => {
+            if let Immediates::Heap(other) = b {
+                let _same = same_heap_type(ty, other);
+            }
+            a == b
+        }
         Immediates::Value(ty) => {
             if let Immediates::Value(other) = b {
                 let _same = same_value_type(ty, other);
+            }
+            a == b
+        }
+        Immediates::Cast(cast) => {
+            if let Immediates::Cast(other) = b {
+                let _same = same_cast(cast, other);
             }
             a == b
         }
@@ -142,6 +184,13 @@ fn same_immediates(a: &OperatorImmediates<'_>, b: &OperatorImmediates<'_>) -> bo
         Immediates::F64(_) => a == b,
         Immediates::V128(_) => a == b,
         Immediates::Lane(_) => a == b,
+        Immediates::Lanes(lanes) => {
+            if let Immediates::Lanes(other) = b {
+                let _same = same_lanes(lanes, other);
+            }
+            a == b
+        }
+        Immediates::ZeroByte => a == b,
     }
 }
 

@@ -3,6 +3,7 @@
 
 mod access_reader;
 mod access_rows;
+mod atomic_rows;
 mod binary_rows;
 mod branch_table;
 mod byte_reader;
@@ -17,24 +18,35 @@ mod operator_parts;
 mod operator_rows;
 mod prefix_reader;
 mod reader;
+mod reference_operator;
+mod reference_reader;
+mod reference_rows;
 mod row;
 mod ternary_rows;
 mod type_reader;
 mod types;
 mod unary_rows;
+mod vector_access_rows;
+mod vector_reader;
 
 pub use access_rows::{load_opcode, store_opcode};
+pub use atomic_rows::atomic_opcode;
 pub use binary_rows::{binary_opcode, replace_lane};
 pub use branch_table::{BrTable, Targets};
 pub use catch_list::{CatchList, Catches};
 pub use fault::{ReadError, ReadFault};
-pub use immediates::Immediates;
+pub use immediates::{Immediates, ReferenceImmediates};
 pub use law::{
     law_one_list, law_one_spelling, law_operator_equality, law_reading, law_shortest,
     law_shortest_number,
 };
 pub use operator::{Op, Operator};
 pub use reader::Reader;
+pub use reference_operator::ReferenceOp;
+pub use reference_rows::{reference_immediates, reference_opcode};
 pub use ternary_rows::ternary_opcode;
-pub use types::{BlockType, Opcode, RawCatch, RawHeapType, RawMemArg, RawValType, Space};
+pub use types::{
+    AtomicKind, BlockType, Opcode, RawCast, RawCatch, RawHeapType, RawMemArg, RawValType, Space,
+};
 pub use unary_rows::{extract_lane, unary_opcode};
+pub use vector_access_rows::{access_lane, vector_access_opcode};

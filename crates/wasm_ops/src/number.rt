@@ -3,6 +3,7 @@
 ghost use Rattle.std.specs.Prelude.{◌≡◌, ◌<◌, ◌≤◌, ◌+◌, ◌-◌, ◌*◌, ◌^◌, ℕ, IfOk, IfSome, Some, Ok};
 ghost use Rattle.std.specs.Prelude.{pos, ◌≤ℤ◌, ◌<ℤ◌, ◌+ℤ◌, ◌*ℤ◌};
 ghost use Rattle.walrus_ir.specs.Results.{Gives};
+ghost use Rattle.wasm_ops.specs.Reading.{many};
 ghost use Rattle.wasm_ops.specs.Numbers.{unsigned, signed, unsigned_last, signed_last, integer, u32 as a_u32, u64 as a_u64, s32 as an_s32, s64 as an_s64, byte as byte_at, bits as some_bits};
 
 use crate::fault::ReadFault;
@@ -370,4 +371,15 @@ pub(crate) fn read_v128(bytes: &[u8]) -> Result<(u128, &[u8]), ReadFault>
     ensures { Gives (λ x. (x.0, x.1.now)) result (some_bits 16 bytes.now) }
 {
     read_bits(16, bytes)
+}
+
+/// Sixteen lanes at the front, and what follows them.
+#[tactic(auto, using(crate::proofs::Lanes::reading_lanes))]
+pub(crate) fn read_lanes(bytes: &[u8]) -> Result<(&[u8; 16], &[u8]), ReadFault>
+    ensures { Gives (λ x. (x.0.now, x.1.now)) result (many byte_at 16 bytes.now) }
+{
+    match bytes.split_first_chunk::<16>() {
+        Some((lanes, rest)) => Ok((lanes, rest)),
+        None => Err(ReadFault::Truncated),
+    }
 }

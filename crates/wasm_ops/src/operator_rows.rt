@@ -13,6 +13,10 @@ macro_rules! index_rows {
                 0x08 Throw { tag tag Tags }
                 0x10 Call { func func Funcs }
                 0x11 CallIndirect { ty ty Types, table table Tables }
+                0x12 ReturnCall { func func Funcs }
+                0x13 ReturnCallIndirect { ty ty Types, table table Tables }
+                0x14 CallRef { ty ty Types }
+                0x15 ReturnCallRef { ty ty Types }
             }
             (Byte) {
                 0x23 GlobalGet { global global Globals }
@@ -73,6 +77,39 @@ macro_rules! lane_of {
     };
 }
 
+/// What follows the opcode of an access to memory that may name a lane.
+#[macro_export]
+macro_rules! access_of {
+    ($memarg:expr, $lane:expr) => {
+        match $lane {
+            Some(idx) => $crate::Immediates::LaneAccess($memarg, idx),
+            None => $crate::Immediates::Access($memarg),
+        }
+    };
+}
+
+/// What follows the opcode of an operator on references, structs or arrays.
+#[macro_export]
+macro_rules! behind_reference {
+    ($immediates:expr) => {
+        match $immediates {
+            $crate::ReferenceImmediates::Nothing => $crate::Immediates::Nothing,
+            $crate::ReferenceImmediates::Index(space, index) => {
+                $crate::Immediates::Index(space, index)
+            }
+            $crate::ReferenceImmediates::Pair(first, one, second, two) => {
+                $crate::Immediates::Pair(first, one, second, two)
+            }
+            $crate::ReferenceImmediates::IndexNumber(space, index, number) => {
+                $crate::Immediates::IndexNumber(space, index, number)
+            }
+            $crate::ReferenceImmediates::Label(depth) => $crate::Immediates::Label(depth),
+            $crate::ReferenceImmediates::Heap(heap_type) => $crate::Immediates::Heap(heap_type),
+            $crate::ReferenceImmediates::Cast(cast) => $crate::Immediates::Cast(cast),
+        }
+    };
+}
+
 /// Takes an operator apart, and hands its opcode and what follows it to the macro `$each`, behind
 /// what that takes beside them. The rows of operators with lists come from outside, since lists are
 /// handed on in other ways where an operator is read and where it is written.
@@ -104,8 +141,14 @@ macro_rules! parts_of {
             $crate::Op::Drop => $each!($with $crate::Opcode::Byte(0x1a), $crate::Immediates::Nothing),
             $crate::Op::Select => $each!($with $crate::Opcode::Byte(0x1b), $crate::Immediates::Nothing),
             $crate::Op::TypedSelect { ty } => $each!($with $crate::Opcode::Byte(0x1c), $crate::Immediates::Value(*ty)),
+            $crate::Op::LocalGet { local } => $each!($with $crate::Opcode::Byte(0x20), $crate::Immediates::Local(*local)),
+            $crate::Op::LocalSet { local } => $each!($with $crate::Opcode::Byte(0x21), $crate::Immediates::Local(*local)),
+            $crate::Op::LocalTee { local } => $each!($with $crate::Opcode::Byte(0x22), $crate::Immediates::Local(*local)),
             $crate::Op::Load { kind, memarg } => $each!($with $crate::load_opcode(*kind), $crate::Immediates::Access(*memarg)),
             $crate::Op::Store { kind, memarg } => $each!($with $crate::store_opcode(*kind), $crate::Immediates::Access(*memarg)),
+            $crate::Op::LoadSimd { kind, memarg } => $each!($with $crate::vector_access_opcode(*kind), $crate::access_of!(*memarg, $crate::access_lane(*kind))),
+            $crate::Op::Atomic { kind, memarg } => $each!($with $crate::atomic_opcode(*kind), $crate::Immediates::Access(*memarg)),
+            $crate::Op::AtomicFence => $each!($with $crate::Opcode::Prefixed(0xfe, 3), $crate::Immediates::ZeroByte),
             $crate::Op::I32Const { value } => $each!($with $crate::Opcode::Byte(0x41), $crate::Immediates::I32(*value)),
             $crate::Op::I64Const { value } => $each!($with $crate::Opcode::Byte(0x42), $crate::Immediates::I64(*value)),
             $crate::Op::F32Const { bits } => $each!($with $crate::Opcode::Byte(0x43), $crate::Immediates::F32(*bits)),
@@ -113,6 +156,15 @@ macro_rules! parts_of {
             $crate::Op::Unop(op) => $each!($with $crate::unary_opcode(*op), $crate::lane_of!($crate::extract_lane(*op))),
             $crate::Op::Binop(op) => $each!($with $crate::binary_opcode(*op), $crate::lane_of!($crate::replace_lane(*op))),
             $crate::Op::TernOp(op) => $each!($with $crate::ternary_opcode(*op), $crate::Immediates::Nothing),
+            $crate::Op::I64Add128 => $each!($with $crate::Opcode::Prefixed(0xfc, 19), $crate::Immediates::Nothing),
+            $crate::Op::I64Sub128 => $each!($with $crate::Opcode::Prefixed(0xfc, 20), $crate::Immediates::Nothing),
+            $crate::Op::I64MulWideS => $each!($with $crate::Opcode::Prefixed(0xfc, 21), $crate::Immediates::Nothing),
+            $crate::Op::I64MulWideU => $each!($with $crate::Opcode::Prefixed(0xfc, 22), $crate::Immediates::Nothing),
+            $crate::Op::V128Const { bits } => $each!($with $crate::Opcode::Prefixed(0xfd, 12), $crate::Immediates::V128(*bits)),
+            $crate::Op::I8x16Shuffle { indices } => $each!($with $crate::Opcode::Prefixed(0xfd, 13), $crate::Immediates::Lanes(*indices)),
+            $crate::Op::I8x16Swizzle => $each!($with $crate::Opcode::Prefixed(0xfd, 14), $crate::Immediates::Nothing),
+            $crate::Op::V128Bitselect => $each!($with $crate::Opcode::Prefixed(0xfd, 82), $crate::Immediates::Nothing),
+            $crate::Op::Reference(op) => $each!($with $crate::reference_opcode(*op), $crate::behind_reference!($crate::reference_immediates(*op))),
             $($lists)*
             $($($crate::Op::$name { $($field),* } => $each!(
                 $with $crate::opcode_at!($form $row), $crate::indices_of!($($space $field)*)

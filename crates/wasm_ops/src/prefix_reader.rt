@@ -4,13 +4,20 @@ ghost use Rattle.walrus_ir.specs.Results.{Gives};
 ghost use Rattle.wasm_ops.specs.Spelling.{operands};
 ghost use Rattle.wasm_ops.specs.Meaning.{meaning};
 
+use crate::access_reader::read_memarg;
 use crate::fault::ReadFault;
 use crate::index_rows;
-use crate::number::read_u32;
+use crate::number::{read_lanes, read_u32, read_v128};
 use crate::numeric_reader::saturating_conversion;
 use crate::operator::Operator;
 use crate::row::{made, read_indices, read_pair};
 use crate::types::Opcode;
+use crate::vector_access_rows::{read_lane_access, read_wide_load};
+use crate::vector_reader::{
+    read_bitwise, read_float_vector, read_i16x8, read_i32x4, read_i64x2, read_lane,
+    read_narrow_vector, read_relaxed_vector, read_splat, read_vector_comparison,
+};
+use walrus_ir::{LoadKind, LoadSimdKind, StoreKind};
 
 /// Reads the operator that has the number: those of the rows behind 0xfc, and the others.
 macro_rules! read_number {
@@ -26,6 +33,10 @@ macro_rules! read_number {
         match $number {
             0..=7 => Ok((saturating_conversion($number), $bytes)),
             $($row => read_indices!($bytes $name $($field)*),)*
+            19 => Ok((Operator::I64Add128, $bytes)),
+            20 => Ok((Operator::I64Sub128, $bytes)),
+            21 => Ok((Operator::I64MulWideS, $bytes)),
+            22 => Ok((Operator::I64MulWideU, $bytes)),
             _ => Err(ReadFault::UnknownOperator),
         }
     };
@@ -38,4 +49,43 @@ pub(crate) fn read_behind_fc(number: u32, bytes: &[u8]) -> Result<(Operator<'_>,
         (operands (Opcode.Prefixed 0xfc number) bytes.now) }
 {
     index_rows!(read_number, number bytes)
+}
+
+/// What follows 0xfd and a number.
+#[tactic(auto, unfolding(crate::specs::Opcodes::kinds_behind))]
+pub(crate) fn read_behind_fd(number: u32, bytes: &[u8]) -> Result<(Operator<'_>, &[u8]), ReadFault>
+    ensures { Gives (λ x. (meaning x.0, x.1.now)) result
+        (operands (Opcode.Prefixed 0xfd number) bytes.now) }
+{
+    match number {
+        0 => made!(
+            read_memarg(bytes), memarg => Operator::Load { kind: LoadKind::V128, memarg }
+        ),
+        1..=10 => read_wide_load(number, bytes),
+        11 => made!(
+            read_memarg(bytes), memarg => Operator::Store { kind: StoreKind::V128, memarg }
+        ),
+        12 => made!(read_v128(bytes), bits => Operator::V128Const { bits }),
+        13 => made!(read_lanes(bytes), lanes => Operator::I8x16Shuffle { indices: *lanes }),
+        14..=20 => read_splat(number, bytes),
+        21..=34 => read_lane(number, bytes),
+        35..=76 => read_vector_comparison(number, bytes),
+        77..=83 => read_bitwise(number, bytes),
+        84..=91 => read_lane_access(number, bytes),
+        92 => made!(
+            read_memarg(bytes),
+            memarg => Operator::LoadSimd { kind: LoadSimdKind::V128Load32Zero, memarg }
+        ),
+        93 => made!(
+            read_memarg(bytes),
+            memarg => Operator::LoadSimd { kind: LoadSimdKind::V128Load64Zero, memarg }
+        ),
+        94..=127 => read_narrow_vector(number, bytes),
+        128..=159 => read_i16x8(number, bytes),
+        160..=191 => read_i32x4(number, bytes),
+        192..=223 => read_i64x2(number, bytes),
+        224..=255 => read_float_vector(number, bytes),
+        256..=275 => read_relaxed_vector(number, bytes),
+        _ => Err(ReadFault::UnknownOperator),
+    }
 }

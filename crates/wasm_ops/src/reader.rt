@@ -7,13 +7,15 @@ ghost use Rattle.wasm_ops.specs.Spelling.{Spells, read_operation};
 ghost use Rattle.wasm_ops.specs.Meaning.{meaning};
 
 use crate::access_reader::{load_kind, read_short_memarg, store_kind};
+use crate::atomic_rows::read_behind_fe;
 use crate::byte_reader::read_behind_byte;
 use crate::fault::{ReadError, ReadFault};
 use crate::index_rows;
 use crate::number::{read_short_s32, read_short_s64, read_short_unsigned, read_u32};
 use crate::numeric_reader::numeric;
 use crate::operator::Operator;
-use crate::prefix_reader::read_behind_fc;
+use crate::prefix_reader::{read_behind_fc, read_behind_fd};
+use crate::reference_reader::read_behind_fb;
 use crate::type_reader::read_empty_block_type;
 use std::marker::Model;
 
@@ -24,9 +26,21 @@ fn read_operator(bytes: &[u8]) -> Result<(Operator<'_>, &[u8]), ReadFault>
 {
     match bytes {
         [] => Err(ReadFault::Truncated),
+        [0xfb, rest @ ..] => {
+            let (number, rest) = read_u32(rest)?;
+            read_behind_fb(number, rest)
+        }
         [0xfc, rest @ ..] => {
             let (number, rest) = read_u32(rest)?;
             read_behind_fc(number, rest)
+        }
+        [0xfd, rest @ ..] => {
+            let (number, rest) = read_u32(rest)?;
+            read_behind_fd(number, rest)
+        }
+        [0xfe, rest @ ..] => {
+            let (number, rest) = read_u32(rest)?;
+            read_behind_fe(number, rest)
         }
         [byte, rest @ ..] => read_behind_byte(*byte, rest),
     }
@@ -72,7 +86,8 @@ macro_rules! answer_made {
     };
 }
 
-/// Answers the operator that has the byte and this number: those of globals and tables, and others.
+/// Answers the operator that has the byte and this number: those of locals, globals and tables, and
+/// others.
 macro_rules! answer_index {
     (
         ($reader:expr, $byte:ident $number:ident $rest:ident)
@@ -89,6 +104,9 @@ macro_rules! answer_index {
             0x0c => answer!($reader, Operator::Br { label: $number }, $rest),
             0x0d => answer!($reader, Operator::BrIf { label: $number }, $rest),
             0x10 => answer!($reader, Operator::Call { func: $number }, $rest),
+            0x20 => answer!($reader, Operator::LocalGet { local: $number }, $rest),
+            0x21 => answer!($reader, Operator::LocalSet { local: $number }, $rest),
+            0x22 => answer!($reader, Operator::LocalTee { local: $number }, $rest),
             $($row => answer!($reader, Operator::$name { $field: $number }, $rest),)*
             $($more_row => answer!($reader, Operator::$more { $more_field: $number }, $rest),)*
             _ => {}

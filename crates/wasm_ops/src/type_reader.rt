@@ -2,14 +2,51 @@
 
 ghost use Rattle.std.specs.Prelude.{◌≡◌, ◌||◌, ◌^◌, ◌<ℤ◌, pos, IfSome, Ok};
 ghost use Rattle.walrus_ir.specs.Results.{Gives};
+ghost use Rattle.walrus_ir.specs.declared.val_type.ValType.TheVariants.{Ref};
 ghost use Rattle.wasm_ops.specs.Immediates.{selected};
-ghost use Rattle.wasm_ops.specs.Types.{value_at, type_index as type_index_of, starts_value_type as is_value_byte, value_type, block_type};
+ghost use Rattle.wasm_ops.specs.Types.{heap_at, value_at, nullable_at};
+ghost use Rattle.wasm_ops.specs.Types.{heap_type, value_type, block_type};
+ghost use Rattle.wasm_ops.specs.Types.{type_index as type_index_of, starts_value_type as is_value_byte};
 
 use crate::fault::ReadFault;
 use crate::number::{read_signed, read_u32};
-use crate::types::{BlockType, RawValType};
+use crate::row::made;
+use crate::types::{BlockType, RawHeapType, RawValType};
+use walrus_ir::{AbstractHeapType, RefType};
 
-/// The number or vector type of a byte.
+/// The abstract heap type of a byte.
+#[tactic(auto, unfolding(crate::specs::Types::heap_at))]
+fn heap_of(byte: u8) -> Option<AbstractHeapType>
+    ensures { result ≡ heap_at byte }
+{
+    match byte {
+        0x74 => Some(AbstractHeapType::NoExn),
+        0x73 => Some(AbstractHeapType::NoFunc),
+        0x72 => Some(AbstractHeapType::NoExtern),
+        0x71 => Some(AbstractHeapType::None),
+        0x70 => Some(AbstractHeapType::Func),
+        0x6f => Some(AbstractHeapType::Extern),
+        0x6e => Some(AbstractHeapType::Any),
+        0x6d => Some(AbstractHeapType::Eq),
+        0x6c => Some(AbstractHeapType::I31),
+        0x6b => Some(AbstractHeapType::Struct),
+        0x6a => Some(AbstractHeapType::Array),
+        0x69 => Some(AbstractHeapType::Exn),
+        _ => None,
+    }
+}
+
+/// A reference to a heap type.
+fn reference(nullable: bool, heap_type: RawHeapType) -> RawValType
+    ensures { result ≡ Ref (record { nullable = nullable; heap_type = heap_type }) }
+{
+    RawValType::Ref(RefType {
+        nullable,
+        heap_type,
+    })
+}
+
+/// The value type that is one byte.
 #[tactic(auto, unfolding(crate::specs::Types::value_at))]
 fn value_of(byte: u8) -> Option<RawValType>
     ensures { result ≡ value_at byte }
@@ -20,28 +57,61 @@ fn value_of(byte: u8) -> Option<RawValType>
         0x7d => Some(RawValType::F32),
         0x7c => Some(RawValType::F64),
         0x7b => Some(RawValType::V128),
+        _ => match heap_of(byte) {
+            Some(heap) => Some(reference(true, RawHeapType::Abstract(heap))),
+            None => None,
+        },
+    }
+}
+
+/// Whether a reference to the heap type behind the byte is nullable.
+#[tactic(auto, unfolding(crate::specs::Types::nullable_at))]
+fn nullable_of(byte: u8) -> Option<bool>
+    ensures { result ≡ nullable_at byte }
+{
+    match byte {
+        0x63 => Some(true),
+        0x64 => Some(false),
         _ => None,
     }
 }
 
 /// Whether a value type begins with the byte.
-#[tactic(auto, unfolding(crate::specs::Types::nullable_at))]
 fn starts_value_type(byte: u8) -> bool
     ensures { result ≡ is_value_byte byte }
 {
-    value_of(byte).is_some()
+    value_of(byte).is_some() || nullable_of(byte).is_some()
+}
+
+/// A heap type at the front, and what follows it.
+#[tactic(auto, unfolding(crate::specs::Numbers::integer))]
+pub(crate) fn read_heap_type(bytes: &[u8]) -> Result<(RawHeapType, &[u8]), ReadFault>
+    ensures { Gives (λ x. (x.0, x.1.now)) result (heap_type bytes.now) }
+{
+    match bytes {
+        [] => Err(ReadFault::Truncated),
+        [byte, rest @ ..] => match heap_of(*byte) {
+            Some(heap) => Ok((RawHeapType::Abstract(heap), rest)),
+            None => {
+                let (value, rest) = read_signed(33, bytes)?;
+                Ok((RawHeapType::Concrete(type_index(value)?), rest))
+            }
+        },
+    }
 }
 
 /// A value type at the front, and what follows it.
-#[tactic(auto, unfolding(crate::specs::Types::nullable_at))]
 pub(crate) fn read_value_type(bytes: &[u8]) -> Result<(RawValType, &[u8]), ReadFault>
     ensures { Gives (λ x. (x.0, x.1.now)) result (value_type bytes.now) }
 {
     match bytes {
         [] => Err(ReadFault::Truncated),
-        [byte, rest @ ..] => match value_of(*byte) {
-            Some(ty) => Ok((ty, rest)),
-            None => Err(ReadFault::BadType),
+        [byte, rest @ ..] => match nullable_of(*byte) {
+            Some(nullable) => { made!(read_heap_type(rest), heap => reference(nullable, heap)) }
+            None => match value_of(*byte) {
+                Some(ty) => Ok((ty, rest)),
+                None => Err(ReadFault::BadType),
+            },
         },
     }
 }

@@ -2,7 +2,7 @@
 
 use std::fmt;
 use std::marker::Model;
-use walrus_ir::{HeapType, ValType};
+use walrus_ir::{AtomicOp, AtomicWidth, HeapType, ValType};
 
 /// The type of a value, with raw type indices.
 pub type RawValType = ValType<u32>;
@@ -29,6 +29,36 @@ pub struct RawMemArg {
     pub memory: u32,
     /// A number of bytes, which is added to the address.
     pub offset: u64,
+}
+
+/// What follows the opcode of a branch on a cast, as it is spelt.
+#[derive(Clone, Copy, Debug, PartialEq, Eq)]
+pub struct RawCast {
+    /// Whether the operand may be null.
+    pub from_nullable: bool,
+    /// Whether what it is cast to may be null.
+    pub to_nullable: bool,
+    /// The label, as a depth.
+    pub label: u32,
+    /// What the operand refers to.
+    pub source: RawHeapType,
+    /// What it is cast to.
+    pub target: RawHeapType,
+}
+
+/// What an atomic access does that is no plain load or store.
+#[derive(Clone, Copy, Debug)]
+pub enum AtomicKind {
+    /// `memory.atomic.notify`
+    Notify,
+    /// `memory.atomic.wait32`
+    Wait32,
+    /// `memory.atomic.wait64`
+    Wait64,
+    /// A read, a change and a write, as `i32.atomic.rmw.add`.
+    Rmw(AtomicOp, AtomicWidth),
+    /// A read, a comparison and a write, as `i32.atomic.rmw.cmpxchg`.
+    Cmpxchg(AtomicWidth),
 }
 
 /// The index spaces of a module.

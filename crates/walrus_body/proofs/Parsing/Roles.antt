@@ -12,6 +12,10 @@ use Rattle.walrus_ir.specs.declared.memory.LoadKind.{LoadKind}
 use Rattle.walrus_ir.specs.declared.memory.LoadKind.TheVariants as load
 use Rattle.walrus_ir.specs.declared.memory.StoreKind.{StoreKind}
 use Rattle.walrus_ir.specs.declared.memory.StoreKind.TheVariants as store
+use Rattle.walrus_ir.specs.declared.memory.LoadSimdKind.{LoadSimdKind}
+use Rattle.walrus_ir.specs.declared.memory.LoadSimdKind.TheVariants as vector_access
+use Rattle.wasm_ops.specs.declared.types.AtomicKind.{AtomicKind}
+use Rattle.wasm_ops.specs.declared.types.AtomicKind.TheVariants as atomic
 use Rattle.wasm_ops.specs.declared.operator.Op.TheVariants as operator
 use Rattle.wasm_ops.specs.declared.types.BlockType.{BlockType}
 use Rattle.wasm_ops.specs.Operations.{CatchClause, Immediate, branch_table}
@@ -20,6 +24,8 @@ use Rattle.wasm_ops.specs.UnaryOperations.{unary_opcode}
 use Rattle.wasm_ops.specs.BinaryOperations.{binary_opcode}
 use Rattle.wasm_ops.specs.TernaryOperations.{ternary_opcode}
 use Rattle.wasm_ops.specs.AccessOperations.{load_opcode, store_opcode}
+use Rattle.wasm_ops.specs.AtomicOpcodes.{atomic_opcode}
+use Rattle.wasm_ops.specs.VectorAccessOpcodes.{vector_access_opcode}
 use Rattle.wasm_body.specs.Control.{Role, an_unreachable, a_branch, a_conditional_branch, a_table_branch, a_return, a_throw, a_rethrow, a_throw_ref, a_plain, role_of, Action, Plain, Return, Unreachable, Branch, ConditionalBranch, Throw, Rethrow, ThrowRef, Control, Does, control_by, first_index, first_depth, first_label, branches}
 use Rattle.wasm_body.specs.NormalForm.{Fate, Stays, Cuts, fate}
 use Rattle.walrus_body.specs.Parsing.OperatorKinds.{is_instruction, is_cut}
@@ -81,6 +87,14 @@ plain_store (store.I64_16 false) = refl
 plain_store (store.I64_32 true) = refl
 plain_store (store.I64_32 false) = refl
 
+plain_vector_access : (kind : LoadSimdKind) → role_of (vector_access_opcode kind) ≡ a_plain
+plain_vector_access vector_access.Splat8 = refl
+plain_vector_access _ = refl
+
+plain_atomic : (kind : AtomicKind) → role_of (atomic_opcode kind) ≡ a_plain
+plain_atomic atomic.Notify = refl
+plain_atomic _ = refl
+
 -- ---- operators by themselves
 
 -- what becomes of an operator of the role, where it stands by itself and makes an instruction
@@ -117,6 +131,8 @@ fate_of_operator (operator.Binop op) i = ap fate_of_role (plain_binary op)
 fate_of_operator (operator.TernOp op) i = ap fate_of_role (plain_ternary op)
 fate_of_operator (operator.Load kind memarg) i = ap fate_of_role (plain_load kind)
 fate_of_operator (operator.Store kind memarg) i = ap fate_of_role (plain_store kind)
+fate_of_operator (operator.LoadSimd kind memarg) i = ap fate_of_role (plain_vector_access kind)
+fate_of_operator (operator.Atomic kind memarg) i = ap fate_of_role (plain_atomic kind)
 fate_of_operator _ i = refl
 
 -- whatever its immediates are

@@ -4,10 +4,12 @@ use Rattle.walrus_ir.specs.declared.instr.Instr.TheVariants as instr
 use Rattle.walrus_ir.specs.declared.val_type.InstrSeqType.{InstrSeqType}
 use Rattle.walrus_ir.specs.Function.{Function, with_new_sequence}
 use Rattle.walrus_ir.specs.Unfolding.{LocatedInstr}
-use Rattle.wasm_ops.specs.Operations.{CatchClause, RawOperation}
+use Rattle.wasm_ops.specs.declared.types.RawCast.{RawCast}
+use Rattle.wasm_ops.specs.Operations.{Cast, CatchClause, RawOperation}
+use Rattle.wasm_ops.specs.ReferenceOperations.{cast_of}
 use Rattle.wasm_body.specs.declared.error.ParseError.{ParseError}
 use Rattle.wasm_body.specs.declared.error.ParseError.TheVariants.{Memory}
-use Rattle.wasm_body.specs.Translation.{translate, translate_clause}
+use Rattle.wasm_body.specs.Translation.{translate, translate_cast, translate_clause}
 use Rattle.wasm_body.specs.InstructionTable.{PlacedOperation}
 use Rattle.wasm_body.specs.SourceTree.{Sequence, Empty}
 use Rattle.wasm_body.specs.Naming.{Occurrence}
@@ -39,6 +41,10 @@ placed_in p o = translate (placing (env_of p.context) p.context.frames) o
 -- a clause of a `try_table` with the id of its tag and the sequence that its label names
 abbrev pub clause_in : BodyParser → CatchClause ℕ → Result (CatchClause ℕ) ParseError
 clause_in p c = translate_clause (placing (env_of p.context) p.context.frames) c
+
+-- what a branch on a cast names, in the same way
+abbrev pub cast_in : BodyParser → RawCast → Result (Cast ℕ) ParseError
+cast_in p c = translate_cast (placing (env_of p.context) p.context.frames) (cast_of c)
 
 -- What was answered, seen by `view`, is what is given; or memory ran out.
 abbrev pub GivesOrMemory : {A B : Type 0} → (A → B) → Result A ParseError → Result B ParseError → Type 0

@@ -5,6 +5,9 @@ ghost use Rattle.walrus_ir.specs.declared.val_type.InstrSeqType.TheVariants.{Mul
 ghost use Rattle.wasm_body.specs.declared.error.ParseError.{ParseError as Fault};
 ghost use Rattle.walrus_body.specs.Parsing.OpenFrames.{AreShown, ShowsAt, killed, with_instr, HasNoFrame, HasNoFrameAt, InnerAreEmpty, with_clause_around};
 ghost use Rattle.wasm_ops.specs.declared.types.BlockType.TheVariants.{Value, FuncType};
+ghost use Rattle.walrus_ir.specs.Results.{with_fault};
+ghost use Rattle.wasm_body.specs.declared.error.ParseError.TheVariants.{Index};
+ghost use Rattle.walrus_body.specs.IndexMaps.{local_of};
 ghost use Rattle.walrus_body.specs.Parsing.Placing.{block_found, kind_at};
 ghost use Rattle.walrus_body.specs.Parsing.OpenTrees.{env_of, Opens, OpensBlock, HasNoType, Pops, ChangesFrame, AddsClauseAround, EndsAt};
 
@@ -16,7 +19,7 @@ use std::alloc::Global;
 use std::marker::Model;
 use walrus_ir::{
     BlockKind, FunctionBuilder, FunctionId, Instr, InstrLocId, InstrSeqId, InstrSeqType,
-    LegacyCatch, Module, TypeId, ValType,
+    LegacyCatch, LocalId, Module, TypeId, ValType,
 };
 use wasm_ops::{BlockType, RawValType};
 
@@ -95,6 +98,17 @@ impl<'a> ValidationContext<'a> {
         ensures { result.now ≡ self.now.indices }
     {
         self.indices
+    }
+
+    /// The local of the function with this old index.
+    pub(crate) fn local(&self, index: u32) -> Result<LocalId, ParseError>
+        ensures { result
+            ≡ with_fault Index (local_of self.now.indices self.now.function index) }
+    {
+        match self.indices.get_local(self.func_id, index) {
+            Ok(local) => Ok(local),
+            Err(error) => Err(ParseError::Index(error)),
+        }
     }
 
     /// The module of the function.

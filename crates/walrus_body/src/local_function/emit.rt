@@ -23,6 +23,7 @@ mod lists;
 pub(crate) mod number_maps;
 mod open_scopes;
 mod operators;
+mod references;
 mod table_clauses;
 mod written_types;
 

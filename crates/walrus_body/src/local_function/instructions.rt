@@ -8,7 +8,8 @@ ghost use Rattle.wasm_ops.specs.declared.operator.Op.TheVariants as op;
 ghost use Rattle.wasm_ops.specs.Meaning.{meaning};
 ghost use Rattle.wasm_encode.specs.Writable.{IsWritable};
 ghost use Rattle.wasm_body.specs.declared.error.ParseError.{ParseError as ParseFault};
-ghost use Rattle.wasm_body.specs.InstructionTable.{operation_of, clauses_of_try};
+ghost use Rattle.wasm_ops.specs.AtomicOpcodes.{atomic_operation};
+ghost use Rattle.wasm_body.specs.InstructionTable.{access_at, operation_of, clauses_of_try};
 ghost use Rattle.walrus_body.specs.Parsing.OperatorKinds.{is_instruction};
 ghost use Rattle.walrus_body.specs.Parsing.BodyParsers.{placed_in, GivesOrMemory};
 ghost use Rattle.walrus_body.specs.Parsing.Placing.{place_at};
@@ -18,9 +19,11 @@ use crate::local_function::body_parser::BodyParser;
 use crate::local_function::own_lists::pushed;
 use crate::local_function::types::value_type;
 use walrus_ir::{
-    Binop, Br, BrIf, Const, Instr, InstrSeqId, Load, MemArg, Select, Store, TernOp, Unop, Value,
+    AtomicNotify, AtomicRmw, AtomicWait, Binop, Br, BrIf, Cmpxchg, Const, I8x16Shuffle, Instr,
+    InstrSeqId, Load, LoadSimd, LocalGet, LocalSet, LocalTee, MemArg, MemoryId, Select, Store,
+    TernOp, Unop, Value,
 };
-use wasm_ops::{BrTable, Operator, RawMemArg, index_rows};
+use wasm_ops::{AtomicKind, BrTable, Operator, RawMemArg, index_rows};
 
 /// An access with its alignment as a number of bytes.
 pub fn memory_argument(memarg: RawMemArg) -> MemArg
@@ -37,6 +40,33 @@ pub fn constant(value: Value) -> Instr
     ensures { result ≡ instr.Const (record { value = value }) }
 {
     Instr::Const(Const { value })
+}
+
+/// An atomic access to a memory that is no plain load or store.
+fn atomic(kind: AtomicKind, memory: MemoryId, arg: MemArg) -> Instr
+    ensures operation { operation_of result ≡ atomic_operation kind (access_at memory arg) }
+    ensures plain { (slots_in result ≡ []) × (clauses_of_try result ≡ []) }
+{
+    match kind {
+        AtomicKind::Notify => Instr::AtomicNotify(AtomicNotify { memory, arg }),
+        AtomicKind::Wait32 => Instr::AtomicWait(AtomicWait {
+            memory,
+            arg,
+            sixty_four: false,
+        }),
+        AtomicKind::Wait64 => Instr::AtomicWait(AtomicWait {
+            memory,
+            arg,
+            sixty_four: true,
+        }),
+        AtomicKind::Rmw(op, width) => Instr::AtomicRmw(AtomicRmw {
+            memory,
+            op,
+            width,
+            arg,
+        }),
+        AtomicKind::Cmpxchg(width) => Instr::Cmpxchg(Cmpxchg { memory, width, arg }),
+    }
 }
 
 /// The id of an index in a space.
@@ -178,6 +208,36 @@ impl BodyParser<'_> {
                 kind,
                 arg: memory_argument(memarg),
             })),
+            Operator::LoadSimd { kind, memarg } => Ok(Instr::LoadSimd(LoadSimd {
+                memory: indices.get_memory(memarg.memory)?,
+                kind,
+                arg: memory_argument(memarg),
+            })),
+            Operator::Atomic { kind, memarg } => {
+                let memory = indices.get_memory(memarg.memory)?;
+                Ok(atomic(kind, memory, memory_argument(memarg)))
+            }
+            Operator::AtomicFence => Ok(Instr::AtomicFence),
+            Operator::I64Add128 => Ok(Instr::I64Add128),
+            Operator::I64Sub128 => Ok(Instr::I64Sub128),
+            Operator::I64MulWideS => Ok(Instr::I64MulWideS),
+            Operator::I64MulWideU => Ok(Instr::I64MulWideU),
+            Operator::V128Const { bits } => Ok(constant(Value::V128(bits))),
+            Operator::I8x16Swizzle => Ok(Instr::I8x16Swizzle),
+            Operator::V128Bitselect => Ok(Instr::V128Bitselect),
+            Operator::LocalGet { local } => Ok(Instr::LocalGet(LocalGet {
+                local: self.context.local(local)?,
+            })),
+            Operator::LocalSet { local } => Ok(Instr::LocalSet(LocalSet {
+                local: self.context.local(local)?,
+            })),
+            Operator::LocalTee { local } => Ok(Instr::LocalTee(LocalTee {
+                local: self.context.local(local)?,
+            })),
+            Operator::I8x16Shuffle { indices: lanes } => {
+                Ok(Instr::I8x16Shuffle(I8x16Shuffle { indices: lanes }))
+            }
+            Operator::Reference(ref operator) => self.reference(operator),
             Operator::Nop
             | Operator::Block { .. }
             | Operator::Loop { .. }

@@ -1,20 +1,20 @@
 //! Types that operators name, with old indices looked up.
 ghost use Rattle.std.specs.Prelude.{◌≡◌};
-ghost use Rattle.walrus_ir.specs.declared.val_type.ValType.TheVariants.{Ref};
-ghost use Rattle.wasm_body.specs.Translation.{translate_value};
+ghost use Rattle.wasm_body.specs.Translation.{translate_heap, translate_value};
 ghost use Rattle.walrus_body.specs.Parsing.Placing.{ids_at};
 
 use crate::{IndicesToIds, ParseError};
 use walrus_ir::{HeapType, RefType, ValType};
-use wasm_ops::RawValType;
+use wasm_ops::{RawHeapType, RawValType};
 
-fn reference(nullable: bool, heap_type: HeapType) -> ValType
-    ensures { result ≡ Ref (record { nullable = nullable; heap_type = heap_type }) }
+/// A heap type with the id of the type that it names, if it names one.
+pub(crate) fn heap_type_of(indices: &IndicesToIds, ty: RawHeapType) -> Result<HeapType, ParseError>
+    ensures { result ≡ translate_heap (ids_at indices.now) ty }
 {
-    ValType::Ref(RefType {
-        nullable,
-        heap_type,
-    })
+    match ty {
+        HeapType::Abstract(ty) => Ok(HeapType::Abstract(ty)),
+        HeapType::Concrete(index) => Ok(HeapType::Concrete(indices.get_type(index)?)),
+    }
 }
 
 /// A value type with the ids of the types that it names.
@@ -32,12 +32,12 @@ pub(crate) fn value_type(indices: &IndicesToIds, ty: RawValType) -> Result<ValTy
                 nullable,
                 heap_type,
             },
-        ) => match heap_type {
-            HeapType::Abstract(ty) => Ok(reference(nullable, HeapType::Abstract(ty))),
-            HeapType::Concrete(index) => {
-                let id = indices.get_type(index)?;
-                Ok(reference(nullable, HeapType::Concrete(id)))
-            }
+        ) => match heap_type_of(indices, heap_type) {
+            Ok(heap_type) => Ok(ValType::Ref(RefType {
+                nullable,
+                heap_type,
+            })),
+            Err(error) => Err(error),
         },
     }
 }

@@ -1,13 +1,12 @@
 -- An accepted body's normal form has bytes, under numbers for all ids that its old indices and the types of its sequences
 -- stand for.
-use Rattle.std.specs.Prelude.{◌≡◌, ℕ, suc, zero, List, [], ◌∷◌, length, map, true, Option, Some, None, unwrap_or, IsOk, is_ok, Result, Ok, Err}
+use Rattle.std.specs.Prelude.{◌≡◌, ℕ, suc, zero, List, [], ◌∷◌, length, map, Option, Some, None, unwrap_or, IsOk, is_ok, Result, Ok, Err}
 use Rattle.std.specs.List.{AllByRecursion}
-use Rattle.std.proofs.lemmas.Bool.{and_parts}
 use Rattle.std.proofs.Common.{refl, ap, sym, subst, ◌∙◌}
 use Rattle.wasm_ops.specs.Reading.{Many}
 use Rattle.wasm_ops.specs.Numbers.{IsU32}
 use Rattle.wasm_ops.specs.Immediates.{an_index, an_outer, kind_of, SpellsImmediate, SpellsImmediates, IsClause}
-use Rattle.wasm_ops.specs.Operations.{CatchClause, Cast, Immediate, RawImmediate, index, local, label, handler, outer, number, branch_table, clauses, cast, operation, RawOperation}
+use Rattle.wasm_ops.specs.Operations.{CatchClause, Cast, Immediate, RawImmediate, index, label, handler, outer, number, branch_table, clauses, cast, operation, RawOperation}
 use Rattle.wasm_ops.specs.declared.types.BlockType.{BlockType}
 use Rattle.wasm_ops.specs.declared.types.Space.{Space}
 use Rattle.wasm_ops.specs.declared.types.Space.TheVariants.{Tags}
@@ -18,7 +17,6 @@ use Rattle.wasm_ops.proofs.Shortness.{many_length}
 use Rattle.wasm_body.proofs.Bytes.BlockTypes.{FromBlock, blocks_from}
 use Rattle.wasm_body.proofs.Bytes.Fitting.{fits}
 use Rattle.wasm_body.proofs.Bytes.WritableTexts.{Writes, CanWrite, normal_text}
-use Rattle.wasm_body.proofs.Bytes.CarriedKinds.{is_no_local, no_locals, carried_kinds}
 use Rattle.wasm_body.proofs.Bytes.ClauseKinds.{Asks, asks}
 use Rattle.wasm_body.specs.declared.error.EmitError.{EmitError}
 use Rattle.walrus_ir.specs.declared.val_type.InstrSeqType.{InstrSeqType}
@@ -70,7 +68,6 @@ count_fits n text s = by_answer (in_32_bits n) (u32_fits n text s)
 
 -- the labels, depths, numbers and counts of an immediate
 abbrev Fits : RawImmediate → Type 0
-Fits (local n) = ⊥
 Fits (label l) = IsOk (in_32_bits l)
 Fits (handler n) = IsOk (in_32_bits n)
 Fits (outer n) = IsOk (in_32_bits n)
@@ -93,34 +90,33 @@ clauses_fit zero (c ∷ cs) text s = absurd s
 clauses_fit (suc n) [] text s = absurd s
 clauses_fit (suc n) (c ∷ cs) text s = (clause_fits c s.0 s.3, clauses_fit n cs s.1 s.4)
 
-spelt_fits : (i : RawImmediate) (text : List ℕ) → SpellsImmediate i text → is_no_local (kind_of i) ≡ true → Fits i
-spelt_fits (local n) text s k = absurd cc
-spelt_fits (label l) text s k = u32_fits l text s
-spelt_fits (handler n) text s k = u32_fits n text s
-spelt_fits (outer n) text s k = u32_fits n text s
-spelt_fits (number n) text s k = u32_fits n text s
-spelt_fits (branch_table ts d) text s k =
+spelt_fits : (i : RawImmediate) (text : List ℕ) → SpellsImmediate i text → Fits i
+spelt_fits (label l) text s = u32_fits l text s
+spelt_fits (handler n) text s = u32_fits n text s
+spelt_fits (outer n) text s = u32_fits n text s
+spelt_fits (number n) text s = u32_fits n text s
+spelt_fits (branch_table ts d) text s =
     let e : s.0.1 ≡ (ts, d) = cc s.1 in
     let inner = s.2.4 in
     let long : s.0.0 ≡ length s.0.1.0 = many_length IsU32 s.0.0 s.0.1.0 inner.0 inner.3 in
     let P : List ℕ × ℕ → Type 0 = λ t. IsOk (counted (length t.0)) × AllByRecursion (λ l. IsOk (in_32_bits l)) t.0 × IsOk (in_32_bits t.1) in
     subst P e (subst (λ n. IsOk (counted n)) long (count_fits s.0.0 s.2.0 s.2.3), all_fit s.0.0 s.0.1.0 inner.0 inner.3, u32_fits s.0.1.1 inner.1 inner.4)
-spelt_fits (clauses cs) text s k =
+spelt_fits (clauses cs) text s =
     let e : s.0.1 ≡ cs = cc s.1 in
     let long : s.0.0 ≡ length s.0.1 = many_length IsClause s.0.0 s.0.1 s.2.1 s.2.4 in
     let P : List (CatchClause ℕ) → Type 0 = λ ds. IsOk (counted (length ds)) × AllByRecursion (λ (c : CatchClause ℕ). IsOk (in_32_bits c.label)) ds in
     subst P e (subst (λ n. IsOk (counted n)) long (count_fits s.0.0 s.2.0 s.2.3), clauses_fit s.0.0 s.0.1 s.2.1 s.2.4)
-spelt_fits (cast c) text s k =
+spelt_fits (cast c) text s =
     let made : Cast ℕ = record { from_nullable = s.0.0.0; to_nullable = s.0.0.1; label = s.0.1.0; source = s.0.1.1.0; target = s.0.1.1.1 } in
     let is : made ≡ c = cc s.1 in
     let inner = s.2.4 in
     subst (λ (d : Cast ℕ). IsOk (in_32_bits d.label)) is (u32_fits s.0.1.0 inner.0 inner.3)
-spelt_fits (index space n) text s k = tt
-spelt_fits _ text s k = tt
+spelt_fits (index space n) text s = tt
+spelt_fits _ text s = tt
 
-all_spelt : (is : List RawImmediate) (text : List ℕ) → SpellsImmediates is text → no_locals (map kind_of is) ≡ true → AllByRecursion Fits is
-all_spelt [] text s k = tt
-all_spelt (i ∷ is) text s k = let both = and_parts (is_no_local (kind_of i)) (no_locals (map kind_of is)) k in (spelt_fits i s.0 s.3 both.0, all_spelt is s.1 s.4 both.1)
+all_spelt : (is : List RawImmediate) (text : List ℕ) → SpellsImmediates is text → AllByRecursion Fits is
+all_spelt [] text s = tt
+all_spelt (i ∷ is) text s = (spelt_fits i s.0 s.3, all_spelt is s.1 s.4)
 
 -- an operator that is named asks for as much as it did
 pub named_kinds : {A : Type 0} (env : Environment) (fs : List (Frame A)) (o : RawOperation) (named : NamedOperation) → translate (naming env fs) o ≡ Ok named
@@ -138,9 +134,10 @@ HasText x = (text : List ℕ) × Spells x.spelt text
 
 -- ---- numbers
 
--- There are numbers of 32 bits for the ids that old indices stand for, and for the types of sequences.
+-- There are numbers of 32 bits for the ids that old indices and old locals stand for, and for the types of sequences.
 pub record HasNumbers (env : Environment) (to : Numbers) : Type 0 where
   pub indices : (space : Space) (n id : ℕ) → env.id_of space n ≡ Ok id → IsOk ((numbers_in_32_bits to).number_of space id)
+  pub locals : (n id : ℕ) → env.local_of n ≡ Ok id → IsOk ((numbers_in_32_bits to).local_number id)
   pub blocks : (b : BlockType) (s : Signature) (t : InstrSeqType) → name_block env b ≡ Ok s → pick env.types s ≡ Some t → IsOk (numbered_block to t)
 
 module _ (env : Environment) (to : Numbers) (has : HasNumbers env to) where
@@ -182,6 +179,7 @@ module _ (env : Environment) (to : Numbers) (has : HasNumbers env to) where
   answers : {A : Type 0} (fs : List (Frame A)) (t : InstrSeqType) → IsOk (numbered_block to t) → AnswersWhere (naming env fs) (renumbered t)
   answers fs t typed = record {
     indices = λ space n h. numbered space n (env.id_of space n) refl h;
+    locals = λ n h. numbered_local n (env.local_of n) refl h;
     blocks = λ b h. typed;
   }
     where
@@ -189,8 +187,11 @@ module _ (env : Environment) (to : Numbers) (has : HasNumbers env to) where
       numbered space n (Ok id) e h = subst (λ r. IsOk ((numbers_in_32_bits to).number_of space (sure_number (with_fault Index r)))) (sym e) (has.indices space n id e)
       numbered space n (Err f) e h = absurd cc
 
+      numbered_local : (n : ℕ) (r : Result ℕ IndexError) → env.local_of n ≡ r → IsOk (with_fault Index r) → IsOk ((numbers_in_32_bits to).local_number (sure_number (with_fault Index (env.local_of n))))
+      numbered_local n (Ok id) e h = subst (λ r. IsOk ((numbers_in_32_bits to).local_number (sure_number (with_fault Index r)))) (sym e) (has.locals n id e)
+      numbered_local n (Err f) e h = absurd cc
+
   others_ok : {A : Type 0} (fs : List (Frame A)) (t : InstrSeqType) (i : RawImmediate) → Fits i → OthersOk (naming env fs) (renumbered t) i
-  others_ok fs t (local n) f = absurd f
   others_ok fs t (label l) f = f
   others_ok fs t (handler n) f = f
   others_ok fs t (outer n) f = f
@@ -216,9 +217,8 @@ module _ (env : Environment) (to : Numbers) (has : HasNumbers env to) where
       (lead_all (kept_raw env) (typed writing t) (renumbered t) (written_lead t) o.immediates (all_of (Leads (kept_raw env).block (typed writing t).block (renumbered t).block) (λ b d h. refl) (block_types o.immediates)))
       (kept_operation named).immediates kept.kept in
       let first = bound (translate_immediates (naming env fs) o.immediates) (λ js. Ok (record { opcode = o.opcode; immediates = js })) named is in
-      let plain = carried_kinds o.opcode (map kind_of o.immediates) spelt.kinds in
       let h = immediates_answer (naming env fs) (renumbered t) (answers fs t type) o.immediates
-      (all_others_ok fs t o.immediates (all_spelt o.immediates spelt.others spelt.immediates plain)) (ok_of (translate_immediates (naming env fs) o.immediates) first.0 first.1) in
+      (all_others_ok fs t o.immediates (all_spelt o.immediates spelt.others spelt.immediates)) (ok_of (translate_immediates (naming env fs) o.immediates) first.0 first.1) in
       last_ok (translate_immediates (typed writing t) (kept_operation named).immediates) (λ js. record { opcode = named.opcode; immediates = js }) (subst (λ r. IsOk r) (sym lead) h)
 
   -- ---- an operator of a body

@@ -7,7 +7,7 @@ use Rattle.wasm_ops.specs.declared.types.Opcode.TheVariants.{Byte, Prefixed}
 use Rattle.wasm_ops.specs.Types.{row_at}
 use Rattle.wasm_ops.specs.Immediates.{Kind, an_access}
 use Rattle.wasm_ops.specs.Immediates.{Kind as kinds}
-use Rattle.wasm_ops.specs.Opcodes.{control_rows, variable_rows, constant_rows, bulk_rows, kinds_of_byte, kinds_behind, kinds_of}
+use Rattle.wasm_ops.specs.Opcodes.{control_rows, variable_rows, constant_rows, reference_ranges, bulk_rows, range_at, aggregate_ranges, vector_ranges, atomic_ranges, kinds_of_byte, kinds_behind, kinds_of}
 use Rattle.wasm_body.specs.Control.{Role, a_block, a_loop, an_if, a_try, a_try_table, a_plain, byte_roles, aggregate_roles, role_of}
 
 -- whether an operator of the role opens a construct
@@ -68,6 +68,16 @@ counted_rows n (row ∷ rows) h b =
     let both = and_parts (block_count row.1 == n row.0) (rows_counted n rows) h in
     counted_row n row (row_at rows b) b (b == row.0) refl both.0 (counted_rows n rows both.1 b)
 
+abbrev ranges_counted : ℕ → List (ℕ × Option (List Kind)) → Bool
+ranges_counted n [] = true
+ranges_counted n (row ∷ rows) = is_counted n row.1 && ranges_counted n rows
+
+counted_ranges : (n : ℕ) (rows : List (ℕ × Option (List Kind))) → ranges_counted n rows ≡ true → (m : ℕ) → Counted n (range_at rows m)
+counted_ranges n [] h m = counted_answer n None refl
+counted_ranges n (row ∷ rows) h m =
+    let both = and_parts (is_counted n row.1) (ranges_counted n rows) h in
+    counted_if n (nat_le m row.0) row.1 (range_at rows m) (λ t. counted_answer n row.1 both.0) (λ t. counted_ranges n rows both.1 m)
+
 -- ---- roles that no opcode past the greatest opener has, and none behind a prefix
 
 module _ (marks : Role → Bool) (plain : marks a_plain ≡ false) where
@@ -124,7 +134,7 @@ counted_byte b =
     (λ t. counted_if 0 (nat_le b 0x3e) _ _ (λ t. counted_answer 0 (Some (an_access ∷ [])) refl)
     (λ t. counted_if 0 (nat_le b 0x44) _ _ (λ t. counted_rows (λ n. 0) constant_rows refl b)
     (λ t. counted_if 0 (nat_le b 0xc4) _ _ (λ t. counted_answer 0 (Some []) refl)
-    (λ t. counted_answer 0 None refl))))))
+    (λ t. counted_ranges 0 reference_ranges refl b))))))
 
 counted_behind : (prefix n : ℕ) → Counted (wanted (Prefixed prefix n)) (kinds_behind prefix n)
 unfolding kinds_behind
@@ -132,7 +142,13 @@ counted_behind prefix n =
     counted_free (Prefixed prefix n) _ (prefixed_opens_nothing prefix n)
     (counted_if 0 (prefix == 0xfc) _ _
     (λ t. counted_if 0 (nat_le n 7) _ _ (λ t. counted_answer 0 (Some []) refl) (λ t. counted_rows (λ n. 0) bulk_rows refl n))
-    (λ t. counted_answer 0 None refl))
+    (λ t. counted_if 0 (prefix == 0xfd) _ _
+    (λ t. counted_ranges 0 vector_ranges refl n)
+    (λ t. counted_if 0 (prefix == 0xfe) _ _
+    (λ t. counted_ranges 0 atomic_ranges refl n)
+    (λ t. counted_if 0 (prefix == 0xfb) _ _
+    (λ t. counted_ranges 0 aggregate_ranges refl n)
+    (λ t. counted_answer 0 None refl)))))
 
 pub counted : (o : Opcode) (ks : List Kind) → kinds_of o ≡ Some ks → block_count ks ≡ wanted o
 counted (Byte b) ks e = counted_byte b ks e

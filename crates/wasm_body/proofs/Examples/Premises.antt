@@ -6,7 +6,7 @@ use Rattle.wasm_ops.specs.declared.types.BlockType.TheVariants.{Empty, FuncType}
 use Rattle.wasm_ops.specs.declared.types.Opcode.TheVariants.{Byte}
 use Rattle.wasm_ops.specs.Operations.{label, block as block_type, i32, operation, RawImmediate, RawOperation}
 use Rattle.wasm_ops.specs.Immediates.{kind_of, SpellsImmediates}
-use Rattle.wasm_ops.specs.Types.{value_at, nullable_at}
+use Rattle.wasm_ops.specs.Types.{value_at, nullable_at, heap_at}
 use Rattle.wasm_ops.specs.Opcodes.{kinds_of_byte, is_prefix}
 use Rattle.wasm_ops.specs.Spelling.{Spells}
 use Rattle.wasm_body.specs.Control.{Nop, Plain, Branch}
@@ -80,7 +80,7 @@ abbrev a_typed_block : ℕ → Occurrence
 a_typed_block p = occurs p (block (FuncType 0)) (block number_to_number)
 
 typed_block_spelt : (p : ℕ) → HasSpelling (a_typed_block p)
-unfolding kinds_of_byte value_at nullable_at
+unfolding kinds_of_byte value_at nullable_at heap_at
 typed_block_spelt p =
     spelt_by 0x02 (block_type (FuncType 0) ∷ []) (0 ∷ []) refl (lit< tt) refl
     (0 ∷ [], [], refl, inr (refl, inr (refl, (pos 0, refl, (lit< tt, refl)))), refl)

@@ -5,7 +5,7 @@ use Rattle.wasm_ops.specs.declared.fault.ReadFault.TheVariants.{Truncated, BadNu
 use Rattle.wasm_ops.specs.declared.types.BlockType.TheVariants.{Empty, Value, FuncType}
 use Rattle.wasm_ops.specs.Numbers.{integer}
 use Rattle.wasm_ops.specs.Reading.{many}
-use Rattle.wasm_ops.specs.Types.{value_at, nullable_at}
+use Rattle.wasm_ops.specs.Types.{value_at, nullable_at, heap_at}
 use Rattle.wasm_ops.specs.Immediates.{catch_clauses}
 use Rattle.wasm_ops.specs.Opcodes.{kinds_of_byte, opcode}
 use Rattle.wasm_ops.specs.Operations.{RawOperation}
@@ -66,7 +66,7 @@ abbrev of_all_kinds : RawOperation
 of_all_kinds = try_table (FuncType 2) (catches 1 5 ∷ catches_ref 2 6 ∷ catches_all 7 ∷ catches_all_ref 8 ∷ [])
 
 of_clauses : read_operation (0x1f ∷ 0x02 ∷ 0x04 ∷ 0x00 ∷ 0x01 ∷ 0x05 ∷ 0x01 ∷ 0x02 ∷ 0x06 ∷ 0x02 ∷ 0x07 ∷ 0x03 ∷ 0x08 ∷ 0x0b ∷ []) ≡ Ok (of_all_kinds, 0x0b ∷ [])
-unfolding read_operation opcode kinds_of_byte integer value_at nullable_at catch_clauses many
+unfolding read_operation opcode kinds_of_byte integer value_at nullable_at heap_at catch_clauses many
 of_clauses = refl
 
 -- and so it is written
@@ -99,7 +99,7 @@ type_missing = refl
 
 -- 1f 41 04: the block type is read before the clauses
 type_before_clauses : read_operation (0x1f ∷ 0x41 ∷ 0x04 ∷ []) ≡ Err BadType
-unfolding read_operation opcode kinds_of_byte integer value_at nullable_at
+unfolding read_operation opcode kinds_of_byte integer value_at nullable_at heap_at
 type_before_clauses = refl
 
 -- 1f 40 01 00 80 80 80 80 10: the tag before the label

@@ -1,15 +1,16 @@
 -- Bodies from bytes to bytes: parsed, and the bytes of their normal forms; and read back.
 use Rattle.std.specs.Prelude.{◌≡◌, ℕ, zero, suc, List, [], ◌∷◌, Option, Some, None, Result, Ok, Err, slice_get, refl}
-use Rattle.std.proofs.Common.{ap, subst}
-use Rattle.walrus_ir.specs.declared.val_type.ValType.{ValType}
-use Rattle.walrus_ir.specs.Types.{Signature, signature, Func, Entry}
+use Rattle.std.proofs.Common.{subst}
+use Rattle.walrus_ir.specs.Types.{Func, Entry}
 use Rattle.wasm_ops.specs.declared.types.Space.{Space}
 use Rattle.wasm_ops.specs.declared.types.Space.TheVariants.{Globals}
 use Rattle.wasm_ops.specs.Numbers.{integer}
 use Rattle.wasm_ops.specs.Opcodes.{kinds_of_byte, opcode}
-use Rattle.wasm_ops.specs.Shortest.{short_unsigned, short_signed}
+use Rattle.wasm_ops.specs.Immediates.{label_table}
+use Rattle.wasm_ops.specs.Reading.{many}
+use Rattle.wasm_ops.specs.Shortest.{short_unsigned, short_signed, short_table}
 use Rattle.wasm_ops.specs.Spelling.{read_operation}
-use Rattle.wasm_ops.specs.Types.{value_at, nullable_at}
+use Rattle.wasm_ops.specs.Types.{value_at, nullable_at, heap_at}
 use Rattle.wasm_body.specs.declared.error.EmitError.{EmitError}
 use Rattle.wasm_body.specs.declared.error.EmitError.TheVariants.{Index, UnnumberedLocal}
 use Rattle.wasm_body.specs.declared.error.IndexError.TheVariants.{Unnumbered}
@@ -21,8 +22,8 @@ use Rattle.wasm_body.specs.Parsing.Accepted.{Setting}
 use Rattle.wasm_body.specs.Parsing.Lists.{parsed}
 use Rattle.wasm_body.specs.NormalForm.{typing_of, normal_form, named_body}
 use Rattle.wasm_body.specs.Bytes.{Numbers, tree_bytes}
-use Rattle.wasm_body.specs.ReadBack.{IsUndone, IsInverse, GivesNoReference}
-use Rattle.wasm_body.proofs.Examples.Modules.{nothing, environment, demo, demo_numbers}
+use Rattle.wasm_body.specs.ReadBack.{IsUndone, IsInverse}
+use Rattle.wasm_body.proofs.Examples.Modules.{environment, demo, demo_numbers}
 
 abbrev anything : Environment → Setting (Unit {0})
 anything env = record { environment = env; start = 0; locations = None; check = λ v x. Ok tt; first = tt }
@@ -56,7 +57,7 @@ shortest = refl
 
 -- 41 01 02 03 1a 0b 0b: the pick
 picked : IsRewrittenAs (0x41 ∷ 0x01 ∷ 0x02 ∷ 0x03 ∷ 0x1a ∷ 0x0b ∷ 0x0b ∷ []) (0x41 ∷ 0x01 ∷ 0x02 ∷ 0x01 ∷ 0x1a ∷ 0x0b ∷ 0x0b ∷ [])
-unfolding read_operation opcode kinds_of_byte integer value_at nullable_at short_signed
+unfolding read_operation opcode kinds_of_byte integer value_at nullable_at heap_at short_signed
 picked = refl
 
 -- 02 40 0c 00 41 07 1a 0b 41 05 1a 0b
@@ -64,6 +65,39 @@ behind_dead_block : IsRewrittenAs (0x02 ∷ 0x40 ∷ 0x0c ∷ 0x00 ∷ 0x41 ∷ 
     (0x02 ∷ 0x40 ∷ 0x0c ∷ 0x00 ∷ 0x0b ∷ 0x41 ∷ 0x05 ∷ 0x1a ∷ 0x0b ∷ [])
 unfolding read_operation opcode kinds_of_byte integer short_unsigned short_signed
 behind_dead_block = refl
+
+-- 41 01 04 40 0b 0b: an alternative is added
+added_alternative : IsRewrittenAs (0x41 ∷ 0x01 ∷ 0x04 ∷ 0x40 ∷ 0x0b ∷ 0x0b ∷ []) (0x41 ∷ 0x01 ∷ 0x04 ∷ 0x40 ∷ 0x05 ∷ 0x0b ∷ 0x0b ∷ [])
+unfolding read_operation opcode kinds_of_byte integer short_signed
+added_alternative = refl
+
+-- 03 40 41 01 0d 80 00 0b 0b
+loop_with_branch : IsRewrittenAs (0x03 ∷ 0x40 ∷ 0x41 ∷ 0x01 ∷ 0x0d ∷ 0x80 ∷ 0x00 ∷ 0x0b ∷ 0x0b ∷ []) (0x03 ∷ 0x40 ∷ 0x41 ∷ 0x01 ∷ 0x0d ∷ 0x00 ∷ 0x0b ∷ 0x0b ∷ [])
+unfolding read_operation opcode kinds_of_byte integer short_unsigned short_signed
+loop_with_branch = refl
+
+-- 41 00 0e 02 00 80 00 00 01 0b: what follows the table is dropped
+table_of_labels : IsRewrittenAs (0x41 ∷ 0x00 ∷ 0x0e ∷ 0x02 ∷ 0x00 ∷ 0x80 ∷ 0x00 ∷ 0x00 ∷ 0x01 ∷ 0x0b ∷ []) (0x41 ∷ 0x00 ∷ 0x0e ∷ 0x02 ∷ 0x00 ∷ 0x00 ∷ 0x00 ∷ 0x0b ∷ [])
+unfolding read_operation opcode kinds_of_byte integer label_table many short_table short_unsigned short_signed
+table_of_labels = refl
+
+-- 10 01 11 03 00 0b: the type, then the table
+calls : IsRewrittenAs (0x10 ∷ 0x01 ∷ 0x11 ∷ 0x03 ∷ 0x00 ∷ 0x0b ∷ []) (0x10 ∷ 0x01 ∷ 0x11 ∷ 0x03 ∷ 0x00 ∷ 0x0b ∷ [])
+unfolding read_operation opcode kinds_of_byte integer short_unsigned
+calls = refl
+
+-- 02 63 70 00 0b 1a 0b, 02 63 03 00 0b 1a 0b and 02 64 6f 00 0b 1a 0b: a nullable reference to an abstract heap type is one byte
+short_reference : IsRewrittenAs (0x02 ∷ 0x63 ∷ 0x70 ∷ 0x00 ∷ 0x0b ∷ 0x1a ∷ 0x0b ∷ []) (0x02 ∷ 0x70 ∷ 0x00 ∷ 0x0b ∷ 0x1a ∷ 0x0b ∷ [])
+unfolding read_operation opcode kinds_of_byte integer value_at nullable_at heap_at
+short_reference = refl
+
+reference_to_type : IsRewrittenAs (0x02 ∷ 0x63 ∷ 0x03 ∷ 0x00 ∷ 0x0b ∷ 0x1a ∷ 0x0b ∷ []) (0x02 ∷ 0x63 ∷ 0x03 ∷ 0x00 ∷ 0x0b ∷ 0x1a ∷ 0x0b ∷ [])
+unfolding read_operation opcode kinds_of_byte integer value_at nullable_at heap_at short_signed
+reference_to_type = refl
+
+reference_not_null : IsRewrittenAs (0x02 ∷ 0x64 ∷ 0x6f ∷ 0x00 ∷ 0x0b ∷ 0x1a ∷ 0x0b ∷ []) (0x02 ∷ 0x64 ∷ 0x6f ∷ 0x00 ∷ 0x0b ∷ 0x1a ∷ 0x0b ∷ [])
+unfolding read_operation opcode kinds_of_byte integer value_at nullable_at heap_at
+reference_not_null = refl
 
 -- ---- reading back: two globals that change places
 
@@ -94,17 +128,6 @@ is_undone _ id n e = absurd (cc e)
 
 inverse : IsInverse swapped back
 inverse = record { indices = is_undone; locals = λ id n e. absurd (cc e) }
-
--- no type of the module takes nothing and gives one reference
-nothing_given : (v : ValType ℕ) → Some nothing ≡ Some (signature [] (v ∷ [])) → ⊥
-nothing_given v e =
-    let same : nothing ≡ signature [] (v ∷ []) = cc e in
-    let results : [] ≡ v ∷ [] = ap (λ (s : Signature). s.results) same in cc results
-
-no_reference : GivesNoReference back.types
-no_reference zero v e = absurd (nothing_given v e)
-no_reference (suc zero) v e = absurd (nothing_given v e)
-no_reference (suc (suc id)) v e = absurd (cc e)
 
 -- 23 00 24 01 0b is written as 23 01 24 00 0b, and that, read by them, as it stands
 exchanged : rewriting with_globals swapped (0x23 ∷ 0x00 ∷ 0x24 ∷ 0x01 ∷ 0x0b ∷ []) ≡ Some (Ok (0x23 ∷ 0x01 ∷ 0x24 ∷ 0x00 ∷ 0x0b ∷ []))

@@ -105,7 +105,7 @@ module _ {A B : Type 0} (env : Environment) (to : Numbers) (t : InstrSeqType) (g
       let same : Value w.0 ≡ c = cc w.2 in
       let is : signature [] (v ∷ []) ≡ s = cc h in
       ap (name_block env) (sym same)
-      ∙ (after_one (translate_value (id_at env) w.0) (Ok v) (λ x. Ok (signature [] (x ∷ []))) (value_named v w.0 u.1 w.1) ∙ ap Ok is)
+      ∙ (after_one (translate_value (id_at env) w.0) (Ok v) (λ x. Ok (signature [] (x ∷ []))) (value_named v w.0 u w.1) ∙ ap Ok is)
   block_back (MultiValue id) s u h c e =
       let n = bound ((numbers_in_32_bits to).number_of Types id) (λ n. Ok (FuncType n)) c e in
       let same : FuncType n.0 ≡ c = cc n.2 in

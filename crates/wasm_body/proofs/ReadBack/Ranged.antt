@@ -1,5 +1,5 @@
 -- What was spelt, once it is named, has a spelling again with numbers for its ids.
-use Rattle.std.proofs.Common.{◌≡◌, ℕ, ◌<◌, List, [], ◌∷◌, length, true, Option, Some, None, Result, Ok, refl, sym, subst, inl, inr}
+use Rattle.std.proofs.Common.{◌≡◌, ℕ, ◌<◌, List, [], ◌∷◌, length, Option, Some, None, Result, Ok, refl, sym, subst}
 use Rattle.std.specs.Prelude.{◌^◌, ◌++◌}
 use Rattle.std.specs.List.{AllByRecursion}
 use Rattle.walrus_ir.specs.declared.val_type.HeapType.{HeapType}
@@ -11,14 +11,12 @@ use Rattle.walrus_ir.specs.declared.val_type.InstrSeqType.TheVariants.{Simple, M
 use Rattle.walrus_ir.specs.Types.{Signature}
 use Rattle.wasm_ops.specs.declared.types.BlockType.{BlockType}
 use Rattle.wasm_ops.specs.declared.types.BlockType.TheVariants.{Empty, Value, FuncType}
-use Rattle.wasm_ops.specs.declared.types.Space.{Space}
 use Rattle.wasm_ops.specs.declared.types.Space.TheVariants.{Types, Memories, Tags}
-use Rattle.wasm_ops.specs.Reading.{starts, Many}
+use Rattle.wasm_ops.specs.Reading.{Many}
 use Rattle.wasm_ops.specs.Numbers.{IsU32, IsU64, IsS32, IsS64, IsByte, AreBits}
-use Rattle.wasm_ops.specs.Types.{is_listed, nullable_at, value_at, value_rows, IsValueType, IsBlockType}
+use Rattle.wasm_ops.specs.Types.{IsBlockType}
 use Rattle.wasm_ops.specs.Operations.{Access, CatchClause, Cast, Immediate, index, local, label, handler, outer, number, access, branch_table, clauses, block, heap, value, cast, i32, i64, f32, f64, v128, lane, lanes, zero_byte, RawImmediate}
-use Rattle.wasm_ops.specs.Immediates.{IsAccess, IsClause, IsSelected, SpellsImmediate, SpellsImmediates}
-use Rattle.wasm_ops.proofs.ShortestTypes.{row_holds, listed_ok}
+use Rattle.wasm_ops.specs.Immediates.{IsAccess, IsClause, SpellsImmediate, SpellsImmediates}
 use Rattle.wasm_ops.proofs.ShortestImmediates.{flags_are}
 use Rattle.wasm_body.specs.declared.error.EmitError.{EmitError}
 use Rattle.walrus_ir.specs.Results.{◌>>=◌, each}
@@ -28,18 +26,18 @@ use Rattle.wasm_body.specs.Naming.{Environment, naming, id_at}
 use Rattle.wasm_body.specs.FlatText.{then_by, exponent_of}
 use Rattle.wasm_body.proofs.NormalForm.Kept.{exponent_of-pow}
 use Rattle.wasm_body.specs.Bytes.{Numbers, in_32_bits, numbers_in_32_bits, numbered_block, numbering}
-use Rattle.wasm_body.specs.ReadBack.{EachInHeap, EachInTag, EachIn, IsUndone, IsUndoneLocal, IsCarriedValue, IsUndoneType}
+use Rattle.wasm_body.specs.ReadBack.{EachInHeap, EachInValue, EachInTag, EachIn, IsUndone, IsUndoneLocal, IsUndoneType}
+use Rattle.wasm_ops.specs.Fitting.{FitsHeap, FitsValue, FitsTag}
 use Rattle.wasm_body.proofs.Bytes.Fitting.{fitting_is, fitting_answer}
 use Rattle.wasm_body.proofs.Translation.Steps.{bound, length-each}
 use Rattle.wasm_body.proofs.Translation.Kinds.{through, at_once}
 use Rattle.wasm_body.proofs.NormalForm.WrittenTexts.{named_by}
-use Rattle.wasm_body.proofs.ReadBack.Spellings.{IsSpellable, u32_spellable, FitsHeap, heap_spellable, carried_spelt, block_spellable, access_spellable, table_spellable, FitsTag, clause_spellable, clauses_spellable, cast_spellable, selected_spellable}
+use Rattle.wasm_body.proofs.ReadBack.Spellings.{IsSpellable, u32_spelt, heap_spelt, empty_block_spelt, value_block_spelt, index_block_spelt, access_spelt, table_spelt, clause_spelt, clauses_spelt, cast_spelt, selected_spelt}
 
 -- ---- what has to be known of a named immediate, its ids, labels and numbers aside
 
 abbrev pub IsRanged : {L B : Type 0} → Immediate L B → Type 0
 IsRanged (access a) = (a.alignment < 32) × IsSpellable IsU64 a.offset
-IsRanged (value v) = IsCarriedValue v
 IsRanged (i32 z) = IsSpellable IsS32 z
 IsRanged (i64 z) = IsSpellable IsS64 z
 IsRanged (f32 bits) = IsSpellable (AreBits 4) bits
@@ -57,31 +55,6 @@ access_ranged a text s =
     let flags = s.2.3 in
     let rest = s.2.4 in
     subst (λ (b : Access). (b.alignment < 32) × IsSpellable IsU64 b.offset) is ((flags_are flags.0 s.0.0 flags.1).small, (rest.1, rest.4))
-
-never_nullable : (text : List ℕ) → starts (λ b. is_listed (nullable_at b)) text ≡ true → ⊥
-unfolding nullable_at
-never_nullable [] e = cc e
-never_nullable (b ∷ text) e = cc e
-
-listed_carried : (b : ℕ) (v : ValType ℕ) → value_at b ≡ Some v → IsCarriedValue v
-unfolding value_at
-listed_carried = row_holds (λ n t. IsCarriedValue t) value_rows (tt, (tt, (tt, (tt, (tt, tt)))))
-
-pub value_carried : (v : ValType ℕ) (text : List ℕ) → IsValueType v text → IsCarriedValue v
-value_carried v text (inl h) = absurd (never_nullable text h.0)
-value_carried v text (inr h) = listed_carried h.1.0 v (listed_ok (value_at h.1.0) v h.1.1)
-
-selected_carried : (v : ValType ℕ) (text : List ℕ) → IsSelected v text → IsCarriedValue v
-selected_carried v text s = let is : s.0.1 ≡ v = cc s.1 in subst IsCarriedValue is (value_carried s.0.1 s.2.1 s.2.4)
-
--- a carried value type names no index
-pub carried_same : {E : Type 0} → (f : Space → ℕ → Result ℕ E) (v w : ValType ℕ) → IsCarriedValue v → translate_value f v ≡ Ok w → v ≡ w
-carried_same f I32 w h e = cc e
-carried_same f I64 w h e = cc e
-carried_same f F32 w h e = cc e
-carried_same f F64 w h e = cc e
-carried_same f V128 w h e = cc e
-carried_same f (Ref r) w h e = absurd h
 
 module _ {A : Type 0} (env : Environment) (fs : List (Frame A)) where
   abbrev Ranged : Immediate ℕ Signature → Type 0
@@ -108,9 +81,7 @@ module _ {A : Type 0} (env : Environment) (fs : List (Frame A)) where
   ranged (clauses cs) text s j e = through (each (translate_clause (naming env fs)) cs) clauses Ranged (λ y h. tt) j e
   ranged (block b) text s j e = through ((naming env fs).block b) block Ranged (λ y h. tt) j e
   ranged (heap h) text s j e = through (translate_heap (naming env fs).index h) heap Ranged (λ y g. tt) j e
-  ranged (value v) text s j e =
-      through (translate_value (naming env fs).index v) value Ranged
-      (λ w h. let c = selected_carried v text s in subst IsCarriedValue (carried_same (naming env fs).index v w c h) c) j e
+  ranged (value v) text s j e = through (translate_value (naming env fs).index v) value Ranged (λ y h. tt) j e
   ranged (cast c) text s j e = through (translate_cast (naming env fs) c) cast Ranged (λ y h. tt) j e
   ranged (i32 z) text s j e = at_once (i32 z) Ranged (text, s) j e
   ranged (i64 z) text s j e = at_once (i64 z) Ranged (text, s) j e
@@ -155,6 +126,16 @@ module _ (to : Numbers) (env : Environment) (t : InstrSeqType) where
   heap_fits (Abstract a) u g e = at_once (Abstract a) FitsHeap tt g e
   heap_fits (Concrete n) u g e = through ((numbers_in_32_bits to).number_of Types n) Concrete FitsHeap (λ m h. (fitting_answer (to.number_of Types n) m h).below) g e
 
+  value_fits : (v : ValType ℕ) → EachInValue (IsUndone to env) v → (w : ValType ℕ) → translate_value (numbers_in_32_bits to).number_of v ≡ Ok w → FitsValue w
+  value_fits I32 u w e = at_once I32 FitsValue tt w e
+  value_fits I64 u w e = at_once I64 FitsValue tt w e
+  value_fits F32 u w e = at_once F32 FitsValue tt w e
+  value_fits F64 u w e = at_once F64 FitsValue tt w e
+  value_fits V128 u w e = at_once V128 FitsValue tt w e
+  value_fits (Ref r) u w e =
+      through (translate_heap (numbers_in_32_bits to).number_of r.heap_type) (λ h. Ref (record { nullable = r.nullable; heap_type = h })) FitsValue
+      (λ h made. heap_fits r.heap_type u h made) w e
+
   tag_fits : (g : Option ℕ) → EachInTag (IsUndone to env) g → (q : Option ℕ) → translate_tag (numbers_in_32_bits to).number_of g ≡ Ok q → FitsTag q
   tag_fits None u q e = at_once None FitsTag tt q e
   tag_fits (Some n) u q e = through ((numbers_in_32_bits to).number_of Tags n) (λ m. Some m) FitsTag (λ m h. (fitting_answer (to.number_of Tags n) m h).below) q e
@@ -163,17 +144,17 @@ module _ (to : Numbers) (env : Environment) (t : InstrSeqType) where
   clause_again c d u e =
       let tag = bound (translate_tag (numbers_in_32_bits to).number_of c.tag) (λ g. in_32_bits c.label >>= λ l. Ok (record { by_reference = c.by_reference; tag = g; label = l })) d e in
       through (in_32_bits c.label) (λ l. record { by_reference = c.by_reference; tag = tag.0; label = l }) (IsSpellable IsClause)
-      (λ l h. clause_spellable c.by_reference tag.0 l (tag_fits c.tag u tag.0 tag.1) (fitting_is c.label l h).below) d tag.2
+      (λ l h. clause_spelt c.by_reference tag.0 l (tag_fits c.tag u tag.0 tag.1) (fitting_is c.label l h).below) d tag.2
 
   counted_is : (n : ℕ) (u : Unit {0}) → (in_32_bits n >>= λ _. Ok tt) ≡ Ok u → n < 2 ^ 32
   counted_is n u e = let q = bound (in_32_bits n) (λ _. Ok tt) u e in let fit = fitting_is n q.0 q.1 in subst (λ k. k < 2 ^ 32) fit.same fit.below
 
   block_again : (s : InstrSeqType) (c : BlockType) → IsUndoneType to env s → numbered_block to s ≡ Ok c → IsSpellable IsBlockType c
-  block_again (Simple None) c u e = at_once Empty (IsSpellable IsBlockType) (block_spellable Empty tt) c e
+  block_again (Simple None) c u e = at_once Empty (IsSpellable IsBlockType) empty_block_spelt c e
   block_again (Simple (Some v)) c u e =
       through (translate_value (numbers_in_32_bits to).number_of v) Value (IsSpellable IsBlockType)
-      (λ w h. block_spellable (Value w) (carried_spelt w (subst IsCarriedValue (carried_same (numbers_in_32_bits to).number_of v w u.0 h) u.0))) c e
-  block_again (MultiValue id) c u e = through ((numbers_in_32_bits to).number_of Types id) FuncType (IsSpellable IsBlockType) (λ n h. block_spellable (FuncType n) (fitting_answer (to.number_of Types id) n h).below) c e
+      (λ w h. value_block_spelt w (value_fits v u w h)) c e
+  block_again (MultiValue id) c u e = through ((numbers_in_32_bits to).number_of Types id) FuncType (IsSpellable IsBlockType) (λ n h. index_block_spelt n (fitting_answer (to.number_of Types id) n h).below) c e
 
   cast_again : (c : Cast ℕ) → Undone (cast c) → (k : RawImmediate) → translate_immediate onward (cast c) ≡ Ok k → IsSpelt k
   cast_again c u k e =
@@ -182,36 +163,36 @@ module _ (to : Numbers) (env : Environment) (t : InstrSeqType) where
       let l = bound (in_32_bits c.label) (λ l. translate_heap (numbers_in_32_bits to).number_of c.source >>= λ s. translate_heap (numbers_in_32_bits to).number_of c.target >>= λ g. Ok (from l s g)) d made in
       let s = bound (translate_heap (numbers_in_32_bits to).number_of c.source) (λ s. translate_heap (numbers_in_32_bits to).number_of c.target >>= λ g. Ok (from l.0 s g)) d l.2 in
       through (translate_heap (numbers_in_32_bits to).number_of c.target) (from l.0 s.0) (λ d. IsSpelt (cast d)) (λ g h.
-      cast_spellable l.0 s.0 g (fitting_is c.label l.0 l.1).below (heap_fits c.source u.0 s.0 s.1) (heap_fits c.target u.1 g h) c.from_nullable c.to_nullable) d s.2) k e
+      cast_spelt l.0 s.0 g (fitting_is c.label l.0 l.1).below (heap_fits c.source u.0 s.0 s.1) (heap_fits c.target u.1 g h) c.from_nullable c.to_nullable) d s.2) k e
 
   access_again : (a : Access) → (a.alignment < 32) × IsSpellable IsU64 a.offset → IsUndone to env Memories a.memory → (b : Access) → translate_access onward a ≡ Ok b → IsSpellable IsAccess b
   access_again a r u b e =
       through ((numbers_in_32_bits to).number_of Memories a.memory) (λ m. record { alignment = exponent_of (2 ^ a.alignment); memory = m; offset = a.offset }) (IsSpellable IsAccess)
-      (λ m h. access_spellable (record { alignment = exponent_of (2 ^ a.alignment); memory = m; offset = a.offset }) (subst (λ n. n < 32) (sym (exponent_of-pow a.alignment)) r.0) (fitting_answer (to.number_of Memories a.memory) m h).below r.1) b e
+      (λ m h. access_spelt (record { alignment = exponent_of (2 ^ a.alignment); memory = m; offset = a.offset }) (subst (λ n. n < 32) (sym (exponent_of-pow a.alignment)) r.0) (fitting_answer (to.number_of Memories a.memory) m h).below r.1) b e
 
   again : (j : Immediate ℕ Signature) → IsRanged j → Undone j → (k : RawImmediate) → translate_immediate onward j ≡ Ok k → IsSpelt k
-  again (index space n) r u k e = through ((numbers_in_32_bits to).number_of space n) (index space) IsSpelt (λ m h. u32_spellable m (fitting_answer (to.number_of space n) m h).below) k e
-  again (local n) r u k e = through ((numbers_in_32_bits to).local_number n) local IsSpelt (λ m h. u32_spellable m (fitting_answer (to.local_number n) m h).below) k e
-  again (label l) r u k e = through (in_32_bits l) label IsSpelt (λ m h. u32_spellable m (fitting_is l m h).below) k e
-  again (handler n) r u k e = through (in_32_bits n) handler IsSpelt (λ m h. u32_spellable m (fitting_is n m h).below) k e
-  again (outer n) r u k e = through (in_32_bits n) outer IsSpelt (λ m h. u32_spellable m (fitting_is n m h).below) k e
-  again (number n) r u k e = through (in_32_bits n) number IsSpelt (λ m h. u32_spellable m (fitting_is n m h).below) k e
+  again (index space n) r u k e = through ((numbers_in_32_bits to).number_of space n) (index space) IsSpelt (λ m h. u32_spelt m (fitting_answer (to.number_of space n) m h).below) k e
+  again (local n) r u k e = through ((numbers_in_32_bits to).local_number n) local IsSpelt (λ m h. u32_spelt m (fitting_answer (to.local_number n) m h).below) k e
+  again (label l) r u k e = through (in_32_bits l) label IsSpelt (λ m h. u32_spelt m (fitting_is l m h).below) k e
+  again (handler n) r u k e = through (in_32_bits n) handler IsSpelt (λ m h. u32_spelt m (fitting_is n m h).below) k e
+  again (outer n) r u k e = through (in_32_bits n) outer IsSpelt (λ m h. u32_spelt m (fitting_is n m h).below) k e
+  again (number n) r u k e = through (in_32_bits n) number IsSpelt (λ m h. u32_spelt m (fitting_is n m h).below) k e
   again (access a) r u k e = through (translate_access onward a) access IsSpelt (λ b h. access_again a r u b h) k e
   again (branch_table ts d) r u k e =
       let c = bound (onward.count (length ts)) (λ c. each in_32_bits ts >>= λ us. in_32_bits d >>= λ g. Ok (branch_table us g)) k e in
       let us = bound (each in_32_bits ts) (λ us. in_32_bits d >>= λ g. Ok (branch_table us g)) k c.2 in
       let count = subst (λ n. n < 2 ^ 32) (sym (length-each in_32_bits ts us.0 us.1)) (counted_is (length ts) c.0 c.1) in
-      let all = each_made in_32_bits (λ n. Unit {0}) (IsSpellable IsU32) (λ n m p h. u32_spellable m (fitting_is n m h).below) ts us.0 (trivially ts) us.1 in
-      through (in_32_bits d) (λ g. branch_table us.0 g) IsSpelt (λ g h. table_spellable us.0 g count all (fitting_is d g h).below) k us.2
+      let all = each_made in_32_bits (λ n. Unit {0}) (IsSpellable IsU32) (λ n m p h. u32_spelt m (fitting_is n m h).below) ts us.0 (trivially ts) us.1 in
+      through (in_32_bits d) (λ g. branch_table us.0 g) IsSpelt (λ g h. table_spelt us.0 g count all (fitting_is d g h).below) k us.2
   again (clauses cs) r u k e =
       let c = bound (onward.count (length cs)) (λ c. each (translate_clause onward) cs >>= λ ds. Ok (clauses ds)) k e in
       through (each (translate_clause onward) cs) clauses IsSpelt (λ ds h.
       let count = subst (λ n. n < 2 ^ 32) (sym (length-each (translate_clause onward) cs ds h)) (counted_is (length cs) c.0 c.1) in
-      clauses_spellable ds count (each_made (translate_clause onward) (λ (x : CatchClause ℕ). EachInTag (IsUndone to env) x.tag) (IsSpellable IsClause) (λ x y p g. clause_again x y p g) cs ds u h)) k c.2
+      clauses_spelt ds count (each_made (translate_clause onward) (λ (x : CatchClause ℕ). EachInTag (IsUndone to env) x.tag) (IsSpellable IsClause) (λ x y p g. clause_again x y p g) cs ds u h)) k c.2
   again (block s) r u k e = through (numbered_block to t) block IsSpelt (λ c h. block_again t c u h) k e
-  again (heap h) r u k e = through (translate_heap (numbers_in_32_bits to).number_of h) heap IsSpelt (λ g made. heap_spellable g (heap_fits h u g made)) k e
+  again (heap h) r u k e = through (translate_heap (numbers_in_32_bits to).number_of h) heap IsSpelt (λ g made. heap_spelt g (heap_fits h u g made)) k e
   again (value v) r u k e =
-      through (translate_value (numbers_in_32_bits to).number_of v) value IsSpelt (λ w h. selected_spellable w (carried_spelt w (subst IsCarriedValue (carried_same (numbers_in_32_bits to).number_of v w r h) r))) k e
+      through (translate_value (numbers_in_32_bits to).number_of v) value IsSpelt (λ w h. selected_spelt w (value_fits v u w h)) k e
   again (cast c) r u k e = cast_again c u k e
   again (i32 z) r u k e = at_once (i32 z) IsSpelt r k e
   again (i64 z) r u k e = at_once (i64 z) IsSpelt r k e

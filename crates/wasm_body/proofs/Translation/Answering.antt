@@ -1,4 +1,4 @@
--- A translation that has an answer wherever another has one, locals, labels, numbers and counts apart.
+-- A translation that has an answer wherever another has one, labels, numbers and counts apart.
 use Rattle.std.specs.Prelude.{ℕ, List, [], ◌∷◌, length, Option, Some, None, IsOk, Result, Ok, Err}
 use Rattle.std.specs.List.{AllByRecursion}
 use Rattle.std.proofs.Common.{refl}
@@ -47,11 +47,11 @@ all_ok f (x ∷ xs) h =
 module _ {L B M C N D E F : Type 0} (f : Translation L B M C E) (h : Translation L B N D F) where
   pub record AnswersWhere : Type 0 where
     pub indices : (space : Space) (n : ℕ) → IsOk (f.index space n) → IsOk (h.index space n)
+    pub locals : (n : ℕ) → IsOk (f.local n) → IsOk (h.local n)
     pub blocks : (b : B) → IsOk (f.block b) → IsOk (h.block b)
 
-  -- the locals, labels, numbers and counts of an immediate have answers
+  -- the labels, numbers and counts of an immediate have answers
   abbrev pub OthersOk : Immediate L B → Type 0
-  OthersOk (local n) = IsOk (h.local n)
   OthersOk (label l) = IsOk (h.label l)
   OthersOk (handler n) = IsOk (h.handler n)
   OthersOk (outer n) = IsOk (h.outer n)
@@ -107,7 +107,7 @@ module _ {L B M C N D E F : Type 0} (f : Translation L B M C E) (h : Translation
 
   immediate_answers : AnswersWhere → (i : Immediate L B) → OthersOk i → IsOk (translate_immediate f i) → IsOk (translate_immediate h i)
   immediate_answers a (index space n) l g = last_ok (h.index space n) (index space) (a.indices space n (first_ok (f.index space n) (λ m. Ok (index space m)) g))
-  immediate_answers a (local n) l g = last_ok (h.local n) local l
+  immediate_answers a (local n) l g = last_ok (h.local n) local (a.locals n (first_ok (f.local n) (λ m. Ok (local m)) g))
   immediate_answers a (label x) l g = last_ok (h.label x) label l
   immediate_answers a (handler n) l g = last_ok (h.handler n) handler l
   immediate_answers a (outer n) l g = last_ok (h.outer n) outer l
@@ -139,6 +139,6 @@ module _ {L B M C N D E F : Type 0} (f : Translation L B M C E) (h : Translation
   immediates_all a [] l g = tt
   immediates_all a (i ∷ is) l g = (immediate_answers a i l.0 g.0, immediates_all a is l.1 g.1)
 
-  -- it answers where the other does, and has answers for locals, labels, numbers and counts
+  -- it answers where the other does, and has answers for labels, numbers and counts
   pub immediates_answer : AnswersWhere → (is : List (Immediate L B)) → AllByRecursion OthersOk is → IsOk (translate_immediates f is) → IsOk (translate_immediates h is)
   immediates_answer a is l g = each_ok (translate_immediate h) is (immediates_all a is l (all_ok (translate_immediate f) is g))

@@ -4,6 +4,7 @@ ghost use Rattle.std.specs.Prelude.{◌≡◌, ◌<◌, ℕ, List, true, IfOk};
 ghost use Rattle.walrus_ir.specs.Results.{Gives};
 ghost use Rattle.wasm_ops.specs.Meaning.{meaning};
 ghost use Rattle.wasm_encode.specs.Writable.{IsWritable};
+ghost use Rattle.wasm_body.specs.InstructionTable.{wait_kind};
 ghost use Rattle.wasm_body.specs.FlatText.{exponent_of};
 ghost use Rattle.walrus_ir.specs.declared.val_type.InstrSeqType.{InstrSeqType as SequenceType};
 ghost use Rattle.walrus_body.specs.TreeWriting.Closers.{places_of};
@@ -16,11 +17,12 @@ use crate::local_function::emit::labels::branch_table;
 use crate::local_function::emit::lists::Lists;
 use crate::local_function::emit::number_maps::NumberMaps;
 use crate::local_function::emit::open_scopes::Scopes;
+use crate::local_function::emit::references::reference_operator;
 use crate::local_function::emit::table_clauses::table_clauses;
 use crate::local_function::emit::written_types::{block_type, value_type};
-use walrus_ir::{Instr, InstrSeqType, MemArg, Rethrow, Select, Value};
+use walrus_ir::{Instr, InstrSeqType, LocalId, MemArg, Rethrow, Select, Value};
 use wasm_encode::OutOp;
-use wasm_ops::{RawMemArg, index_rows};
+use wasm_ops::{AtomicKind, RawMemArg, index_rows};
 
 /// The exponent of the greatest power of two that is at most the alignment; 0 where there is none.
 fn exponent_of(align: u32) -> u32
@@ -38,6 +40,27 @@ pub(crate) fn memory_argument(arg: MemArg, memory: u32) -> RawMemArg
         exponent: exponent_of(arg.align),
         memory,
         offset: arg.offset,
+    }
+}
+
+/// The number of a local.
+fn local_index(numbers: &NumberMaps<'_>, local: LocalId) -> Result<u32, EmitError>
+    ensures { result ≡ (numbers_of numbers.now).local_number local }
+{
+    match numbers.locals.get(&local) {
+        Some(number) => Ok(*number),
+        None => Err(EmitError::UnnumberedLocal),
+    }
+}
+
+/// `memory.atomic.wait64`, or `wait32`.
+fn wait_kind(sixty_four: bool) -> AtomicKind
+    ensures { result ≡ wait_kind sixty_four }
+{
+    if sixty_four {
+        AtomicKind::Wait64
+    } else {
+        AtomicKind::Wait32
     }
 }
 
@@ -72,7 +95,7 @@ macro_rules! index {
 /// The operator of an instruction: the rows, and those of the other instructions.
 macro_rules! operator_row {
     (
-        ($numbers:ident $instr:ident, $($others:tt)*)
+        ($numbers:ident $instr:ident $scopes:ident, $($others:tt)*)
         $($form:tt {
             $($row:literal $name:ident { $($field:ident $id:ident $space:ident),* })*
         })*
@@ -82,7 +105,11 @@ macro_rules! operator_row {
             $($(Instr::$name(x) => Ok(OutOp::$name {
                 $($field: index!($numbers $space x.$id)),*
             }),)*)*
-            _ => Err(EmitFault::NotCarried),
+            _ => match reference_operator($instr, $scopes, $numbers) {
+                Ok(Some(op)) => Ok(OutOp::Reference(op)),
+                Ok(None) => Err(EmitFault::NotCarried),
+                Err(fault) => Err(EmitFault::Refused(fault)),
+            },
         }
     };
 }
@@ -102,7 +129,7 @@ pub(crate) fn operator_of<'t>(
         ty instr.now result }
 {
     index_rows!(
-        operator_row, numbers instr,
+        operator_row, numbers instr scopes,
         Instr::Unreachable => Ok(OutOp::Unreachable),
         Instr::Block(_) => Ok(OutOp::Block {
             ty: block_type(numbers, ty)?,
@@ -150,7 +177,7 @@ pub(crate) fn operator_of<'t>(
             Value::I64(value) => Ok(OutOp::I64Const { value }),
             Value::F32(bits) => Ok(OutOp::F32Const { bits }),
             Value::F64(bits) => Ok(OutOp::F64Const { bits }),
-            Value::V128(_) => Err(EmitFault::NotCarried),
+            Value::V128(bits) => Ok(OutOp::V128Const { bits }),
         },
         Instr::Unop(unop) => Ok(OutOp::Unop(unop.op)),
         Instr::Binop(binop) => Ok(OutOp::Binop(binop.op)),
@@ -159,6 +186,45 @@ pub(crate) fn operator_of<'t>(
             kind: load.kind,
             memarg: memory_argument(load.arg, numbers.ids.get_memory_index(load.memory)?),
         }),
+        Instr::LoadSimd(load) => Ok(OutOp::LoadSimd {
+            kind: load.kind,
+            memarg: memory_argument(load.arg, numbers.ids.get_memory_index(load.memory)?),
+        }),
+        Instr::AtomicRmw(rmw) => Ok(OutOp::Atomic {
+            kind: AtomicKind::Rmw(rmw.op, rmw.width),
+            memarg: memory_argument(rmw.arg, numbers.ids.get_memory_index(rmw.memory)?),
+        }),
+        Instr::Cmpxchg(cmpxchg) => Ok(OutOp::Atomic {
+            kind: AtomicKind::Cmpxchg(cmpxchg.width),
+            memarg: memory_argument(cmpxchg.arg, numbers.ids.get_memory_index(cmpxchg.memory)?),
+        }),
+        Instr::AtomicNotify(notify) => Ok(OutOp::Atomic {
+            kind: AtomicKind::Notify,
+            memarg: memory_argument(notify.arg, numbers.ids.get_memory_index(notify.memory)?),
+        }),
+        Instr::AtomicWait(wait) => Ok(OutOp::Atomic {
+            kind: wait_kind(wait.sixty_four),
+            memarg: memory_argument(wait.arg, numbers.ids.get_memory_index(wait.memory)?),
+        }),
+        Instr::AtomicFence => Ok(OutOp::AtomicFence),
+        Instr::I64Add128 => Ok(OutOp::I64Add128),
+        Instr::I64Sub128 => Ok(OutOp::I64Sub128),
+        Instr::I64MulWideS => Ok(OutOp::I64MulWideS),
+        Instr::I64MulWideU => Ok(OutOp::I64MulWideU),
+        Instr::I8x16Swizzle => Ok(OutOp::I8x16Swizzle),
+        Instr::I8x16Shuffle(shuffle) => Ok(OutOp::I8x16Shuffle {
+            indices: shuffle.indices,
+        }),
+        Instr::LocalGet(get) => Ok(OutOp::LocalGet {
+            local: local_index(numbers, get.local)?,
+        }),
+        Instr::LocalSet(set) => Ok(OutOp::LocalSet {
+            local: local_index(numbers, set.local)?,
+        }),
+        Instr::LocalTee(tee) => Ok(OutOp::LocalTee {
+            local: local_index(numbers, tee.local)?,
+        }),
+        Instr::V128Bitselect => Ok(OutOp::V128Bitselect),
         Instr::Store(store) => Ok(OutOp::Store {
             kind: store.kind,
             memarg: memory_argument(store.arg, numbers.ids.get_memory_index(store.memory)?),

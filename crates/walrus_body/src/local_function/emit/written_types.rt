@@ -1,8 +1,7 @@
 //! The types that a tree names, with the numbers that are written for them.
 ghost use Rattle.std.specs.Prelude.{◌≡◌};
-ghost use Rattle.walrus_ir.specs.declared.val_type.ValType.TheVariants.{Ref};
 ghost use Rattle.wasm_body.specs.Bytes.{numbered_block};
-ghost use Rattle.wasm_body.specs.Translation.{translate_value};
+ghost use Rattle.wasm_body.specs.Translation.{translate_heap, translate_value};
 ghost use Rattle.walrus_body.specs.TreeWriting.Operators.{numbers_of};
 
 use crate::EmitError;
@@ -10,13 +9,14 @@ use crate::local_function::emit::number_maps::NumberMaps;
 use walrus_ir::{HeapType, InstrSeqType, RefType, ValType};
 use wasm_ops::{BlockType, RawHeapType, RawValType};
 
-fn reference(nullable: bool, heap_type: RawHeapType) -> RawValType
-    ensures { result ≡ Ref (record { nullable = nullable; heap_type = heap_type }) }
+/// A heap type with the number of the type that it names, if it names one.
+pub(crate) fn heap_type(numbers: &NumberMaps<'_>, ty: HeapType) -> Result<RawHeapType, EmitError>
+    ensures { result ≡ translate_heap (numbers_of numbers.now).number_of ty }
 {
-    ValType::Ref(RefType {
-        nullable,
-        heap_type,
-    })
+    match ty {
+        HeapType::Abstract(ty) => Ok(HeapType::Abstract(ty)),
+        HeapType::Concrete(id) => Ok(HeapType::Concrete(numbers.ids.get_type_index(id)?)),
+    }
 }
 
 /// A value type with the numbers of the types that it names.
@@ -32,14 +32,14 @@ pub(crate) fn value_type(numbers: &NumberMaps<'_>, ty: ValType) -> Result<RawVal
         ValType::Ref(
             RefType {
                 nullable,
-                heap_type,
+                heap_type: referent,
             },
-        ) => match heap_type {
-            HeapType::Abstract(ty) => Ok(reference(nullable, HeapType::Abstract(ty))),
-            HeapType::Concrete(id) => {
-                let number = numbers.ids.get_type_index(id)?;
-                Ok(reference(nullable, HeapType::Concrete(number)))
-            }
+        ) => match heap_type(numbers, referent) {
+            Ok(heap_type) => Ok(ValType::Ref(RefType {
+                nullable,
+                heap_type,
+            })),
+            Err(error) => Err(error),
         },
     }
 }

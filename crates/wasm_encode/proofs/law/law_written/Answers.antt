@@ -2,4 +2,4 @@ use Rattle.wasm_ops.proofs.Written.{written}
 use Rattle.wasm_encode.proofs.law.law_written.Goals as goal
 
 pub returns : goal.returns
-returns c = written c.args.op.now c.requires.carried c.law_numbers.ensures
+returns c = written c.args.op.now c.law_numbers.ensures

@@ -7,7 +7,7 @@ use Rattle.wasm_body.specs.declared.error.EmitError.{EmitError}
 use Rattle.wasm_body.specs.Bytes.{Numbers}
 use Rattle.wasm_ops.specs.Opcodes.{kinds_of, kinds_of_byte, kinds_behind}
 use Rattle.wasm_body.specs.InstructionTable.{operation_of}
-use Rattle.walrus_body.proofs.TreeWriting.NotCarried.{vector_constant, not_carried}
+use Rattle.walrus_body.proofs.TreeWriting.NotCarried.{not_carried}
 use Rattle.walrus_body.proofs.TreeWriting.Labels.{table_written, try_written, try_operator}
 use Rattle.walrus_body.specs.TreeWriting.Closers.{places_of}
 use Rattle.walrus_body.specs.TreeWriting.Operators.{numbers_of, numbered_operator}
@@ -16,11 +16,6 @@ use Rattle.walrus_body.proofs.local_function.emit.operators.operator_of.Goals as
 pub returns-in_default-clause-operator : goal.returns-in_default-clause-operator
 unfolding kinds_of_byte kinds_behind
 returns-in_default-clause-operator c = search (rules, not_carried)
-
-pub returns-in-V128-clause-operator : goal.returns-in-V128-clause-operator
-returns-in-V128-clause-operator c =
-    ap (λ i. kinds_of (operation_of i).opcode) c.in-Const.is
-    ∙ vector_constant c.in-Const.constant.value c.in-V128.field-0 c.in-V128.is
 
 pub returns-in-Ok-branch_table-clause-operator : goal.returns-in-Ok-branch_table-clause-operator
 returns-in-Ok-branch_table-clause-operator c = (

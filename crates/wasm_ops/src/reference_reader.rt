@@ -1,0 +1,202 @@
+//! Reading operators on references, structs and arrays: a row an operator.
+
+ghost use Rattle.std.specs.Prelude.{◌≤◌};
+ghost use Rattle.walrus_ir.specs.Results.{Gives};
+ghost use Rattle.wasm_ops.specs.Immediates.{cast_flags as the_cast_flags, cast_parts};
+ghost use Rattle.wasm_ops.specs.Meaning.{meaning};
+ghost use Rattle.wasm_ops.specs.ReferenceOperations.{cast_of};
+ghost use Rattle.wasm_ops.specs.Spelling.{operands};
+
+use crate::fault::ReadFault;
+use crate::number::{read_byte, read_u32};
+use crate::operator::Operator;
+use crate::reference_operator::ReferenceOp;
+use crate::row::{made, read_pair};
+use crate::type_reader::read_heap_type;
+use crate::types::{Opcode, RawCast};
+
+/// Whether the source and the target of a cast are nullable, by the flags.
+fn cast_flags(flags: u8) -> Result<(bool, bool), ReadFault>
+    ensures { Gives (λ x. x) result (the_cast_flags flags) }
+{
+    match flags {
+        0 => Ok((false, false)),
+        1 => Ok((true, false)),
+        2 => Ok((false, true)),
+        3 => Ok((true, true)),
+        _ => Err(ReadFault::BadCastFlags),
+    }
+}
+
+/// What follows the opcode of a branch on a cast, and what follows it.
+#[tactic(auto, unfolding(crate::specs::Immediates::cast_parts))]
+fn read_cast(bytes: &[u8]) -> Result<(RawCast, &[u8]), ReadFault>
+    ensures { Gives (λ x. (cast_of x.0, x.1.now)) result (cast_parts bytes.now) }
+{
+    let (flags, rest) = read_byte(bytes)?;
+    let (from_nullable, to_nullable) = cast_flags(flags)?;
+    let (label, rest) = read_u32(rest)?;
+    let (source, rest) = read_heap_type(rest)?;
+    let (target, rest) = read_heap_type(rest)?;
+    let cast = RawCast {
+        from_nullable,
+        to_nullable,
+        label,
+        source,
+        target,
+    };
+    Ok((cast, rest))
+}
+
+/// What follows an opcode from 0xd0 to 0xd6.
+#[tactic(auto, unfolding(crate::specs::Opcodes::kinds_of_byte))]
+pub(crate) fn read_reference(byte: u8, bytes: &[u8]) -> Result<(Operator<'_>, &[u8]), ReadFault>
+    requires low { 0xd0 ≤ byte }
+    requires high { byte ≤ 0xd6 }
+    ensures { Gives (λ x. (meaning x.0, x.1.now)) result (operands (Opcode.Byte byte) bytes.now) }
+{
+    match byte {
+        0xd0 => made!(
+            read_heap_type(bytes),
+            heap_type => Operator::Reference(ReferenceOp::RefNull { heap_type })
+        ),
+        0xd1 => Ok((Operator::Reference(ReferenceOp::RefIsNull), bytes)),
+        0xd2 => made!(read_u32(bytes), func => Operator::Reference(ReferenceOp::RefFunc { func })),
+        0xd3 => Ok((Operator::Reference(ReferenceOp::RefEq), bytes)),
+        0xd4 => Ok((Operator::Reference(ReferenceOp::RefAsNonNull), bytes)),
+        0xd5 => made!(
+            read_u32(bytes), label => Operator::Reference(ReferenceOp::BrOnNull { label })
+        ),
+        _ => made!(
+            read_u32(bytes), label => Operator::Reference(ReferenceOp::BrOnNonNull { label })
+        ),
+    }
+}
+
+/// What follows 0xfb and a number from 0 to 5: structs.
+#[tactic(auto, unfolding(crate::specs::Opcodes::kinds_behind))]
+fn read_struct(number: u32, bytes: &[u8]) -> Result<(Operator<'_>, &[u8]), ReadFault>
+    requires high { number ≤ 5 }
+    ensures { Gives (λ x. (meaning x.0, x.1.now)) result
+        (operands (Opcode.Prefixed 0xfb number) bytes.now) }
+{
+    match number {
+        0 => made!(read_u32(bytes), ty => Operator::Reference(ReferenceOp::StructNew { ty })),
+        1 => made!(
+            read_u32(bytes), ty => Operator::Reference(ReferenceOp::StructNewDefault { ty })
+        ),
+        2 => made!(
+            read_pair(bytes),
+            (ty, field) => Operator::Reference(ReferenceOp::StructGet { ty, field })
+        ),
+        3 => made!(
+            read_pair(bytes),
+            (ty, field) => Operator::Reference(ReferenceOp::StructGetS { ty, field })
+        ),
+        4 => made!(
+            read_pair(bytes),
+            (ty, field) => Operator::Reference(ReferenceOp::StructGetU { ty, field })
+        ),
+        _ => made!(
+            read_pair(bytes),
+            (ty, field) => Operator::Reference(ReferenceOp::StructSet { ty, field })
+        ),
+    }
+}
+
+/// What follows 0xfb and a number from 6 to 19: arrays.
+#[tactic(auto, unfolding(crate::specs::Opcodes::kinds_behind))]
+fn read_array(number: u32, bytes: &[u8]) -> Result<(Operator<'_>, &[u8]), ReadFault>
+    requires low { 6 ≤ number }
+    requires high { number ≤ 19 }
+    ensures { Gives (λ x. (meaning x.0, x.1.now)) result
+        (operands (Opcode.Prefixed 0xfb number) bytes.now) }
+{
+    match number {
+        6 => made!(read_u32(bytes), ty => Operator::Reference(ReferenceOp::ArrayNew { ty })),
+        7 => made!(read_u32(bytes), ty => Operator::Reference(ReferenceOp::ArrayNewDefault { ty })),
+        8 => made!(
+            read_pair(bytes),
+            (ty, len) => Operator::Reference(ReferenceOp::ArrayNewFixed { ty, len })
+        ),
+        9 => made!(
+            read_pair(bytes),
+            (ty, data) => Operator::Reference(ReferenceOp::ArrayNewData { ty, data })
+        ),
+        10 => made!(
+            read_pair(bytes),
+            (ty, element) => Operator::Reference(ReferenceOp::ArrayNewElem { ty, element })
+        ),
+        11 => made!(read_u32(bytes), ty => Operator::Reference(ReferenceOp::ArrayGet { ty })),
+        12 => made!(read_u32(bytes), ty => Operator::Reference(ReferenceOp::ArrayGetS { ty })),
+        13 => made!(read_u32(bytes), ty => Operator::Reference(ReferenceOp::ArrayGetU { ty })),
+        14 => made!(read_u32(bytes), ty => Operator::Reference(ReferenceOp::ArraySet { ty })),
+        15 => Ok((Operator::Reference(ReferenceOp::ArrayLen), bytes)),
+        16 => made!(read_u32(bytes), ty => Operator::Reference(ReferenceOp::ArrayFill { ty })),
+        17 => made!(
+            read_pair(bytes),
+            (target, source) => Operator::Reference(ReferenceOp::ArrayCopy { target, source })
+        ),
+        18 => made!(
+            read_pair(bytes),
+            (ty, data) => Operator::Reference(ReferenceOp::ArrayInitData { ty, data })
+        ),
+        _ => made!(
+            read_pair(bytes),
+            (ty, element) => Operator::Reference(ReferenceOp::ArrayInitElem { ty, element })
+        ),
+    }
+}
+
+/// What follows 0xfb and a number from 20 to 30: tests, casts and conversions.
+#[tactic(auto, unfolding(crate::specs::Opcodes::kinds_behind))]
+fn read_conversion(number: u32, bytes: &[u8]) -> Result<(Operator<'_>, &[u8]), ReadFault>
+    requires low { 20 ≤ number }
+    requires high { number ≤ 30 }
+    ensures { Gives (λ x. (meaning x.0, x.1.now)) result
+        (operands (Opcode.Prefixed 0xfb number) bytes.now) }
+{
+    match number {
+        20 => made!(
+            read_heap_type(bytes),
+            heap_type => Operator::Reference(ReferenceOp::RefTest { nullable: false, heap_type })
+        ),
+        21 => made!(
+            read_heap_type(bytes),
+            heap_type => Operator::Reference(ReferenceOp::RefTest { nullable: true, heap_type })
+        ),
+        22 => made!(
+            read_heap_type(bytes),
+            heap_type => Operator::Reference(ReferenceOp::RefCast { nullable: false, heap_type })
+        ),
+        23 => made!(
+            read_heap_type(bytes),
+            heap_type => Operator::Reference(ReferenceOp::RefCast { nullable: true, heap_type })
+        ),
+        24 => made!(
+            read_cast(bytes), cast => Operator::Reference(ReferenceOp::BrOnCast { cast })
+        ),
+        25 => made!(
+            read_cast(bytes), cast => Operator::Reference(ReferenceOp::BrOnCastFail { cast })
+        ),
+        26 => Ok((Operator::Reference(ReferenceOp::AnyConvertExtern), bytes)),
+        27 => Ok((Operator::Reference(ReferenceOp::ExternConvertAny), bytes)),
+        28 => Ok((Operator::Reference(ReferenceOp::RefI31), bytes)),
+        29 => Ok((Operator::Reference(ReferenceOp::I31GetS), bytes)),
+        _ => Ok((Operator::Reference(ReferenceOp::I31GetU), bytes)),
+    }
+}
+
+/// What follows 0xfb and a number.
+#[tactic(auto, unfolding(crate::specs::Opcodes::kinds_behind))]
+pub(crate) fn read_behind_fb(number: u32, bytes: &[u8]) -> Result<(Operator<'_>, &[u8]), ReadFault>
+    ensures { Gives (λ x. (meaning x.0, x.1.now)) result
+        (operands (Opcode.Prefixed 0xfb number) bytes.now) }
+{
+    match number {
+        0..=5 => read_struct(number, bytes),
+        6..=19 => read_array(number, bytes),
+        20..=30 => read_conversion(number, bytes),
+        _ => Err(ReadFault::UnknownOperator),
+    }
+}
