@@ -1,21 +1,14 @@
-use Rattle.std.proofs.Common.{◌≡◌, ℕ, List, rules, sym, ap, subst, ◌∙◌, Result, Ok, Err, inl, inr}
+use Rattle.std.proofs.Common.{◌≡◌, ℕ, List, sym, ap, subst, ◌∙◌, Result, Ok, Err, inl, inr}
 use Rattle.walrus_ir.specs.declared.instr.Instr.{Instr}
 use Rattle.walrus_ir.specs.declared.val_type.InstrSeqType.{InstrSeqType}
 use Rattle.wasm_ops.specs.declared.types.BlockType.{BlockType}
 use Rattle.wasm_ops.specs.Operations.{CatchClause}
 use Rattle.wasm_body.specs.declared.error.EmitError.{EmitError}
 use Rattle.wasm_body.specs.Bytes.{Numbers}
-use Rattle.wasm_ops.specs.Opcodes.{kinds_of, kinds_of_byte, kinds_behind}
-use Rattle.wasm_body.specs.InstructionTable.{operation_of}
-use Rattle.walrus_body.proofs.TreeWriting.NotCarried.{not_carried}
 use Rattle.walrus_body.proofs.TreeWriting.Labels.{table_written, try_written, try_operator}
 use Rattle.walrus_body.specs.TreeWriting.Closers.{places_of}
 use Rattle.walrus_body.specs.TreeWriting.Operators.{numbers_of, numbered_operator}
 use Rattle.walrus_body.proofs.local_function.emit.operators.operator_of.Goals as goal
-
-pub returns-in_default-clause-operator : goal.returns-in_default-clause-operator
-unfolding kinds_of_byte kinds_behind
-returns-in_default-clause-operator c = search (rules, not_carried)
 
 pub returns-in-Ok-branch_table-clause-operator : goal.returns-in-Ok-branch_table-clause-operator
 returns-in-Ok-branch_table-clause-operator c = (
