@@ -2,11 +2,10 @@
 use crate::by_hand::{Made, function};
 use crate::cases::{About, AboutMade, check, check_made};
 use crate::function_text::{At, push_sequences};
-use crate::plain::write;
 use crate::small_module::Setting;
 use std::alloc::{AllocError, Global};
 use std::test::Fail;
-use walrus_body::{IdsToIndices, IndexError, LocalFunction};
+use walrus_body::{EmitError, IdsToIndices, IndexError, LocalFunction};
 use walrus_ir::{FunctionId, IdHashMap, InstrLocId, InstrSeqId, InstrSeqType, LocalId, TypeId};
 use wasm_encode::FunctionEncoder;
 
@@ -26,6 +25,21 @@ fn numbers(alloc: Global) -> Result<IdsToIndices, IndexError> {
     Ok(numbers)
 }
 
+// Writes a function, if it begins with a sequence of its builder.
+fn write(
+    function: &LocalFunction,
+    indices: &IdsToIndices,
+    locals: &IdHashMap<LocalId, u32>,
+    encoder: &mut FunctionEncoder,
+    map: Option<&mut Vec<(InstrLocId, usize)>>,
+) -> Option<Result<(), EmitError>> {
+    let builder = function.builder();
+    if !builder.has(builder.entry()?) {
+        return None;
+    }
+    Some(function.emit_instructions(indices, locals, encoder, map))
+}
+
 // What stands in an encoder of no declarations and in a list of one pair when a function is written
 // behind them, and before that the fault.
 pub(crate) fn written(alloc: Global, function: &LocalFunction) -> Result<String, Fail> {
@@ -37,7 +51,7 @@ pub(crate) fn written(alloc: Global, function: &LocalFunction) -> Result<String,
     match write(function, &numbers, &locals, &mut encoder, Some(&mut map)) {
         Some(Ok(())) => {}
         Some(Err(error)) => write!(text, "{error:?} ")?,
-        None => write!(text, "not plain ")?,
+        None => write!(text, "no entry ")?,
     }
     text.push_str(hex::encode(alloc, encoder.bytes())?.as_str())?;
     for (location, place) in &map {

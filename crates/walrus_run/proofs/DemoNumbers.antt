@@ -114,8 +114,20 @@ has_block (Value t) s e =
     subst PickNumbered same (picked (signature [] (u.0 ∷ [])) (Simple (Some u.0)) refl (then_ok (translate_value (numbers_in_32_bits demo_numbers).number_of u.0) Value (has_value t u.0 u.1)))
 has_block (FuncType n) s e = let id = bound (id_at demo_environment Types n) (function_type demo_environment) s e in has_type id.0 s id.2
 
+-- ---- locals
+
+abbrev LocalNumbered : ℕ → Type 0
+LocalNumbered id = IsOk ((numbers_in_32_bits demo_numbers).local_number id)
+
+locals_numbered : AllByRecursion LocalNumbered (0 ∷ 1 ∷ 2 ∷ 3 ∷ [])
+locals_numbered = (refl, (refl, (refl, (refl, tt))))
+
+has_local : (n id : ℕ) → demo_environment.local_of n ≡ Ok id → LocalNumbered id
+has_local n id at = within LocalNumbered (0 ∷ 1 ∷ 2 ∷ 3 ∷ []) n id locals_numbered (some_of _ _ id at)
+
 pub demo_has_numbers : HasNumbers demo_environment demo_numbers
 demo_has_numbers = record {
   indices = λ space n id at. ap is_ok (has_index space n id at);
+  locals = has_local;
   blocks = λ b s t named pick. has_block b s named t pick;
 }
