@@ -21,10 +21,10 @@ def unsigned(number):
 # One of each immediate: indices that the demo module has, and labels and depths of the outermost
 # sequence.
 IMMEDIATES = {
-    "block": "40", "clauses": "01010100", "catch": "", "label": "00", "labels": "010000",
+    "block": "40", "clauses": "01010100", "label": "00", "labels": "010000",
     "rethrow_depth": "00", "delegate_depth": "00", "type": "02", "func": "01", "table": "00",
     "memory": "00", "global": "00", "element": "00", "data": "00", "tag": "01", "local": "02",
-    "u32": "8001", "valtype": "016370", "heap": "6f", "cast": "03006e6c", "fence": "00",
+    "u32": "8001", "valtype": "016470", "heap": "6f", "cast": "03006e6c", "fence": "00",
     "memarg": "028001", "lane": "0f", "lanes": "".join(f"{lane:02x}" for lane in range(16, 32)),
     "s32": "ff7e", "s64": "808080807e", "f32": "0000c0ff", "f64": "000000000000f87f",
     "v128": "".join(f"{byte:02x}" for byte in range(240, 256)),
