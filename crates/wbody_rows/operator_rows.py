@@ -23,7 +23,7 @@ def unsigned(number):
 IMMEDIATES = {
     "block": "40", "clauses": "01010100", "label": "00", "labels": "010000",
     "rethrow_depth": "00", "delegate_depth": "00", "type": "02", "func": "01", "table": "00",
-    "memory": "00", "global": "00", "element": "00", "data": "00", "tag": "01", "local": "02",
+    "memory": "00", "global": "00", "element": "00", "data": "00", "tag": "01", "local": "01",
     "u32": "8001", "valtype": "016470", "heap": "6f", "cast": "03006e6c", "fence": "00",
     "memarg": "028001", "lane": "0f", "lanes": "".join(f"{lane:02x}" for lane in range(16, 32)),
     "s32": "ff7e", "s64": "808080807e", "f32": "0000c0ff", "f64": "000000000000f87f",
