@@ -96,7 +96,7 @@ fn refuses_bodies(rt: HostRuntime) -> Result<(), Fail> {
         ("d0640b", "BadType 0 at 0"),
         ("fe03010b", "BadFence 0 at 0"),
         ("fb180400700b", "BadCastFlags 0 at 0"),
-        ("20040b", "LocalOutOfRange at 0"),
+        ("20040b", "LocalOutOfRange 4 at 0"),
     ];
     check(&rt, rt.alloc(), About::Rewritten, &cases)
 }
