@@ -1,9 +1,10 @@
 //! Operators on references, structs and arrays, as they are written: ids are looked up in the order
 //! in which their numbers are written.
-ghost use Rattle.std.specs.Prelude.{◌≡◌, true};
+ghost use Rattle.std.specs.Prelude.{◌≡◌, true, IfOk};
 ghost use Rattle.walrus_ir.specs.Results.{Gives};
 ghost use Rattle.walrus_ir.specs.declared.val_type.InstrSeqType.{InstrSeqType};
 ghost use Rattle.wasm_ops.specs.ReferenceOperations.{reference_operation};
+ghost use Rattle.wasm_encode.specs.Writable.{IsWritable};
 ghost use Rattle.walrus_body.specs.TreeWriting.Closers.{places_of};
 ghost use Rattle.walrus_body.specs.TreeWriting.References.{is_reference};
 ghost use Rattle.walrus_body.specs.TreeWriting.Operators.{numbers_of, numbered_operator};
@@ -12,7 +13,7 @@ use crate::EmitError;
 use crate::local_function::emit::number_maps::NumberMaps;
 use crate::local_function::emit::open_scopes::Scopes;
 use crate::local_function::emit::written_types::heap_type;
-use walrus_ir::Instr;
+use walrus_ir::{ArrayNewFixed, Instr, StructGet, StructGetS, StructGetU, StructSet};
 use wasm_ops::{RawCast, ReferenceOp};
 
 /// The operator of an instruction on references, structs or arrays.
@@ -22,7 +23,8 @@ pub(crate) fn reference_operator(
     numbers: &NumberMaps<'_>,
 ) -> Result<ReferenceOp, EmitError>
     requires { is_reference instr.now ≡ true }
-    ensures { (ty : InstrSeqType) → Gives reference_operation result
+    ensures writable { IfOk result (λ op. IsWritable (reference_operation op)) }
+    ensures operator { (ty : InstrSeqType) → Gives reference_operation result
         (numbered_operator (numbers_of numbers.now) (places_of scopes.now.open_scopes)
         ty instr.now) }
 {
@@ -48,21 +50,21 @@ pub(crate) fn reference_operator(
         Instr::StructNewDefault(x) => Ok(ReferenceOp::StructNewDefault {
             ty: numbers.ids.get_type_index(x.ty)?,
         }),
-        Instr::StructGet(x) => Ok(ReferenceOp::StructGet {
-            ty: numbers.ids.get_type_index(x.ty)?,
-            field: x.field,
+        Instr::StructGet(StructGet { ty, field }) => Ok(ReferenceOp::StructGet {
+            ty: numbers.ids.get_type_index(*ty)?,
+            field: *field,
         }),
-        Instr::StructGetS(x) => Ok(ReferenceOp::StructGetS {
-            ty: numbers.ids.get_type_index(x.ty)?,
-            field: x.field,
+        Instr::StructGetS(StructGetS { ty, field }) => Ok(ReferenceOp::StructGetS {
+            ty: numbers.ids.get_type_index(*ty)?,
+            field: *field,
         }),
-        Instr::StructGetU(x) => Ok(ReferenceOp::StructGetU {
-            ty: numbers.ids.get_type_index(x.ty)?,
-            field: x.field,
+        Instr::StructGetU(StructGetU { ty, field }) => Ok(ReferenceOp::StructGetU {
+            ty: numbers.ids.get_type_index(*ty)?,
+            field: *field,
         }),
-        Instr::StructSet(x) => Ok(ReferenceOp::StructSet {
-            ty: numbers.ids.get_type_index(x.ty)?,
-            field: x.field,
+        Instr::StructSet(StructSet { ty, field }) => Ok(ReferenceOp::StructSet {
+            ty: numbers.ids.get_type_index(*ty)?,
+            field: *field,
         }),
         Instr::ArrayNew(x) => Ok(ReferenceOp::ArrayNew {
             ty: numbers.ids.get_type_index(x.ty)?,
@@ -70,9 +72,9 @@ pub(crate) fn reference_operator(
         Instr::ArrayNewDefault(x) => Ok(ReferenceOp::ArrayNewDefault {
             ty: numbers.ids.get_type_index(x.ty)?,
         }),
-        Instr::ArrayNewFixed(x) => Ok(ReferenceOp::ArrayNewFixed {
-            ty: numbers.ids.get_type_index(x.ty)?,
-            len: x.len,
+        Instr::ArrayNewFixed(ArrayNewFixed { ty, len }) => Ok(ReferenceOp::ArrayNewFixed {
+            ty: numbers.ids.get_type_index(*ty)?,
+            len: *len,
         }),
         Instr::ArrayNewData(x) => Ok(ReferenceOp::ArrayNewData {
             ty: numbers.ids.get_type_index(x.ty)?,
