@@ -46,11 +46,10 @@ pub(crate) fn memory_argument(arg: MemArg, memory: u32) -> RawMemArg
 fn local_index(numbers: &NumberMaps<'_>, local: LocalId) -> Result<u32, EmitError>
     ensures { result ≡ (numbers_of numbers.now).local_number local }
 {
-    numbers
-        .locals
-        .get(&local)
-        .copied()
-        .ok_or(EmitError::UnnumberedLocal)
+    match numbers.locals.get(&local).copied() {
+        Some(number) => Ok(number),
+        None => Err(EmitError::UnnumberedLocal),
+    }
 }
 
 /// `memory.atomic.wait64`, or `wait32`.
