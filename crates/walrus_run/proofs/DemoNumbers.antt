@@ -126,9 +126,13 @@ numbered_local : (id : ℕ) → get demo_local_numbers id ≡ Some id → is_ok 
 numbered_local id has fits = ap (λ n. is_ok (some_or n UnnumberedLocal >>= in_32_bits)) has ∙ fits
 
 locals_numbered : AllByRecursion LocalNumbered (0 ∷ 1 ∷ 2 ∷ 3 ∷ [])
-locals_numbered =
-    (numbered_local 0 (grind (gets, rules)) refl, (numbered_local 1 (grind (gets, rules)) refl,
-    (numbered_local 2 (grind (gets, rules)) refl, (numbered_local 3 (grind (gets, rules)) refl, tt))))
+locals_numbered = (
+  numbered_local 0 (grind (gets, rules)) refl,
+  (
+    numbered_local 1 (grind (gets, rules)) refl,
+    (numbered_local 2 (grind (gets, rules)) refl, (numbered_local 3 (grind (gets, rules)) refl, tt)),
+  ),
+)
 
 locals_are : get demo_indices.locals 0 ≡ Some (0 ∷ 1 ∷ 2 ∷ 3 ∷ [])
 locals_are = grind (gets, rules)
