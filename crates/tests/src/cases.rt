@@ -8,10 +8,11 @@ use crate::rewriting::rewritten;
 use crate::small_module::{Setting, entry_text, parse, parsed, parsed_by, told};
 use crate::validators::{Counting, Keeping};
 use crate::walk::walked;
-use std::alloc::Global;
+use std::alloc::{AllocError, Global};
 use std::process::Abort;
 use std::test::Fail;
 use walrus_body::LocalFunction;
+use walrus_ir::FunctionBuilder;
 
 /// What is asked about a text.
 #[derive(Clone, Copy)]
@@ -81,17 +82,19 @@ pub(crate) enum AboutMade {
     Written,
 }
 
+// The facts as visitors find them, and as the function answers.
+fn both_facts(alloc: Global, builder: FunctionBuilder) -> Result<String, AllocError> {
+    let visited = visited(alloc, &builder)?;
+    let function = LocalFunction::new(Vec::new(alloc), builder);
+    let answered = answered(alloc, &function)?;
+    format!(in alloc; "{visited}; {answered}")
+}
+
 fn answer_made(alloc: Global, about: AboutMade, instrs: &[Item]) -> Result<String, Fail> {
     let builder = function(alloc, 3, instrs)?;
     match about {
         AboutMade::Walk => Ok(walked(alloc, &builder, 0, 1000)?),
-        AboutMade::Facts => {
-            let mut text = visited(alloc, &builder)?;
-            text.push_str("; ")?;
-            let function = LocalFunction::new(Vec::new(alloc), builder);
-            text.push_str(answered(alloc, &function)?.as_str())?;
-            Ok(text)
-        }
+        AboutMade::Facts => Ok(both_facts(alloc, builder)?),
         AboutMade::Written => written(alloc, &LocalFunction::new(Vec::new(alloc), builder)),
     }
 }

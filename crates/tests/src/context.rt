@@ -166,10 +166,41 @@ fn call(
     }
 }
 
+// Makes calls, and appends what each answers.
+fn make_calls(
+    alloc: Global,
+    context: &mut ValidationContext<'_>,
+    steps: &[Step],
+    text: &mut String,
+) -> Result<(), AllocError> {
+    for step in steps {
+        call(alloc, context, *step, text)?;
+    }
+    Ok(())
+}
+
+// Appends open frames and all sequences.
+fn push_parts(
+    text: &mut String,
+    builder: &FunctionBuilder,
+    controls: &[ControlFrame],
+) -> Result<(), AllocError> {
+    write!(text, " |")?;
+    for frame in controls {
+        push_frame(text, frame)?;
+    }
+    for slot in 0..builder.count() {
+        let id = InstrSeqId::new(slot);
+        if builder.has(id) {
+            push_sequence(text, builder.seq(id))?;
+        }
+    }
+    Ok(())
+}
+
 // What calls answer in a context without open frames, and behind a bar the frames that are then
 // open and all sequences.
-fn called(alloc: Global, steps: &[Step]) -> Result<String, Fail> {
-    let example = Example::new(alloc, 0)?;
+fn called(alloc: Global, example: &Example, steps: &[Step]) -> Result<String, AllocError> {
     let mut text = String::new(alloc);
     let mut context = ValidationContext::new(
         &example.module,
@@ -179,27 +210,17 @@ fn called(alloc: Global, steps: &[Step]) -> Result<String, Fail> {
         Vec::new(alloc),
         Vec::new(alloc),
     );
-    for step in steps {
-        call(alloc, &mut context, *step, &mut text)?;
-    }
+    make_calls(alloc, &mut context, steps, &mut text)?;
     let (builder, controls, _instrs) = context.into_parts();
-    text.push_str(" |")?;
-    for frame in &controls {
-        push_frame(&mut text, frame)?;
-    }
-    for slot in 0..builder.count() {
-        let id = InstrSeqId::new(slot);
-        if builder.has(id) {
-            push_sequence(&mut text, builder.seq(id))?;
-        }
-    }
+    push_parts(&mut text, &builder, controls.as_slice())?;
     Ok(text)
 }
 
 // Makes calls, each list of which stands before what is wanted.
 fn check_calls(rt: &impl Abort, alloc: Global, cases: &[(&[Step], &str)]) -> Result<(), Fail> {
+    let example = Example::new(alloc, 0)?;
     for (steps, want) in cases {
-        let found = called(alloc, steps)?;
+        let found = called(alloc, &example, steps)?;
         assert_eq!(rt; found.as_str(), *want);
     }
     Ok(())

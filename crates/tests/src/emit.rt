@@ -2,10 +2,12 @@ ghost use Rattle.std.specs.Prelude.{◌≡◌, ◌⊎◌, [], ◌∷◌, length,
 ghost use Rattle.wasm_body.specs.declared.error.EmitError.TheVariants.{Memory, TooLarge};
 ghost use Rattle.walrus_body.specs.Emitting.{Appends, IsUnchanged, ChangesNothingElse};
 
+use crate::function_text::At;
 use crate::small_module::Example;
+use std::alloc::{AllocError, Global};
 use std::test::Fail;
 use walrus_body::{Emit, EmitContext, EmitError, IdsToIndices};
-use walrus_ir::{IdHashMap, InstrLocId};
+use walrus_ir::{IdHashMap, InstrLocId, Module};
 
 // A `nop` at its location.
 #[derive(Drop)]
@@ -82,31 +84,30 @@ fn emit_three(nop: &Nop, cx: &mut EmitContext<'_>) -> usize {
     count
 }
 
-/// A part that is refused leaves what was written before it.
-#[test]
-fn a_refused_part_leaves_what_was_written(rt: HostRuntime) -> Result<(), Fail> {
-    let alloc = rt.alloc();
-    let Example { module, .. } = Example::new(alloc, 0)?;
+// How many of the three are written, the bytes, and the pairs.
+fn emitted(alloc: Global, module: &Module) -> Result<String, AllocError> {
     let mut indices = IdsToIndices::new(alloc);
     let mut cx = EmitContext {
-        module: &module,
+        module,
         indices: &mut indices,
         bytes: Vec::new(alloc),
         func_facts: IdHashMap::new(alloc),
         code_transform: Vec::new(alloc),
     };
     let location = InstrLocId::new(7);
-    let written = emit_three(&Nop { location }, &mut cx);
-    let EmitContext {
-        bytes,
-        code_transform,
-        ..
-    } = cx;
-    assert_eq!(rt; written, 2);
-    assert_eq!(rt; bytes.as_slice(), [0x01, 0x01].as_slice());
-    assert_eq!(rt;
-        code_transform.as_slice(),
-        [(location, 0), (location, 1)].as_slice()
-    );
+    let count = emit_three(&Nop { location }, &mut cx);
+    let mut text = format!(in alloc; "{count} {:?}", cx.bytes.as_slice())?;
+    for (location, place) in &cx.code_transform {
+        write!(text, " {}@{place}", At(*location))?;
+    }
+    Ok(text)
+}
+
+/// A part that is refused leaves what was written before it.
+#[test]
+fn a_refused_part_leaves_what_was_written(rt: HostRuntime) -> Result<(), Fail> {
+    let example = Example::new(rt.alloc(), 0)?;
+    let found = emitted(rt.alloc(), &example.module)?;
+    assert_eq!(rt; found.as_str(), "2 [1, 1] 7@0 7@1");
     Ok(())
 }

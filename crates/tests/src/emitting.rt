@@ -2,11 +2,10 @@
 use crate::by_hand::{Made, function};
 use crate::cases::{About, AboutMade, check, check_made};
 use crate::function_text::{At, push_sequences};
-use crate::plain::write;
 use crate::small_module::Setting;
 use std::alloc::{AllocError, Global};
 use std::test::Fail;
-use walrus_body::{IdsToIndices, IndexError, LocalFunction};
+use walrus_body::{EmitError, IdsToIndices, IndexError, LocalFunction};
 use walrus_ir::{FunctionId, IdHashMap, InstrLocId, InstrSeqId, InstrSeqType, LocalId, TypeId};
 use wasm_encode::FunctionEncoder;
 
@@ -26,23 +25,59 @@ fn numbers(alloc: Global) -> Result<IdsToIndices, IndexError> {
     Ok(numbers)
 }
 
+// Writes a function, if it begins with a sequence of its builder.
+fn write(
+    function: &LocalFunction,
+    indices: &IdsToIndices,
+    locals: &IdHashMap<LocalId, u32>,
+    encoder: &mut FunctionEncoder,
+    map: Option<&mut Vec<(InstrLocId, usize)>>,
+) -> Option<Result<(), EmitError>> {
+    let builder = function.builder();
+    if !builder.has(builder.entry()?) {
+        return None;
+    }
+    Some(function.emit_instructions(indices, locals, encoder, map))
+}
+
+// Writes a function, and answers the fault as text, which is empty where there is none.
+fn write_into(
+    alloc: Global,
+    function: &LocalFunction,
+    encoder: &mut FunctionEncoder,
+    map: Option<&mut Vec<(InstrLocId, usize)>>,
+) -> Result<String, Fail> {
+    let numbers = numbers(alloc)?;
+    let locals = IdHashMap::new(alloc);
+    match write(function, &numbers, &locals, encoder, map) {
+        Some(Ok(())) => Ok(String::new(alloc)),
+        Some(Err(error)) => Ok(format!(in alloc; "{error:?} ")?),
+        None => Ok("no entry ".to_string(alloc)?),
+    }
+}
+
+// Appends bytes and pairs.
+fn push_written(
+    text: &mut String,
+    bytes: &[u8],
+    map: &[(InstrLocId, usize)],
+) -> Result<(), AllocError> {
+    for byte in bytes {
+        write!(text, "{byte:02x}")?;
+    }
+    for (location, place) in map {
+        write!(text, " {}@{place}", At(*location))?;
+    }
+    Ok(())
+}
+
 // What stands in an encoder of no declarations and in a list of one pair when a function is written
 // behind them, and before that the fault.
 pub(crate) fn written(alloc: Global, function: &LocalFunction) -> Result<String, Fail> {
-    let numbers = numbers(alloc)?;
-    let locals = IdHashMap::new(alloc);
     let mut encoder = FunctionEncoder::new(alloc, &[])?;
     let mut map = vec![in alloc; (InstrLocId::new(9), 9)]?;
-    let mut text = String::new(alloc);
-    match write(function, &numbers, &locals, &mut encoder, Some(&mut map)) {
-        Some(Ok(())) => {}
-        Some(Err(error)) => write!(text, "{error:?} ")?,
-        None => write!(text, "not plain ")?,
-    }
-    text.push_str(hex::encode(alloc, encoder.bytes())?.as_str())?;
-    for (location, place) in &map {
-        write!(text, " {}@{place}", At(*location))?;
-    }
+    let mut text = write_into(alloc, function, &mut encoder, Some(&mut map))?;
+    push_written(&mut text, encoder.bytes(), map.as_slice())?;
     Ok(text)
 }
 
@@ -115,16 +150,12 @@ fn writes_what_is_parsed(rt: HostRuntime) -> Result<(), Fail> {
     Ok(())
 }
 
-// The bytes of a function that is written without a list of pairs, or the fault.
+// The bytes of a function that is written without a list of pairs, and before them the fault.
 fn unlisted(alloc: Global, function: &LocalFunction) -> Result<String, Fail> {
-    let numbers = numbers(alloc)?;
-    let locals = IdHashMap::new(alloc);
     let mut encoder = FunctionEncoder::new(alloc, &[])?;
-    let answer = write(function, &numbers, &locals, &mut encoder, None);
-    if answer != Some(Ok(())) {
-        return Ok(format!(in alloc; "{answer:?}")?);
-    }
-    Ok(hex::encode(alloc, encoder.bytes())?)
+    let mut text = write_into(alloc, function, &mut encoder, None)?;
+    push_written(&mut text, encoder.bytes(), &[])?;
+    Ok(text)
 }
 
 /// A function that is written without a list of pairs has the same bytes.

@@ -189,6 +189,9 @@ impl fmt::Display for Fault {
             ParseError::Index(IndexError::OutOfRange { space, index }) => {
                 write!(f, "{space:?} {index}")
             }
+            ParseError::Index(IndexError::LocalOutOfRange { index, .. }) => {
+                write!(f, "LocalOutOfRange {index}")
+            }
             error => write!(f, "{error:?}"),
         }
     }

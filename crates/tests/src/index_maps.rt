@@ -55,92 +55,120 @@ fn shown(alloc: Global, answer: Result<usize, IndexError>) -> Result<String, All
     }
 }
 
-// An id in each space.
-fn ids_of_spaces(alloc: Global) -> Result<IndicesToIds, IndexError> {
+// Gives types old indices, the first of these to another type, and two locals to a function.
+fn remap(ids: &mut IndicesToIds) -> Result<(), IndexError> {
+    ids.push_type(TypeId::new(2))?;
+    ids.push_type(TypeId::new(0))?;
+    ids.remap_type(0, TypeId::new(3));
+    for local in [7, 4] {
+        ids.push_local(FunctionId::new(3), LocalId::new(local))?;
+    }
+    Ok(())
+}
+
+// Two types of which the first was remapped, an id in each space, and two locals.
+fn some_ids(alloc: Global) -> Result<IndicesToIds, IndexError> {
     let mut ids = IndicesToIds::new(alloc);
+    remap(&mut ids)?;
     for (space, id) in SPACES {
         push(&mut ids, space, id)?;
     }
     Ok(ids)
 }
 
-// What is answered in a space about the old indices 0 and 5.
-fn answers(alloc: Global, ids: &IndicesToIds, space: Space) -> Result<String, AllocError> {
-    let mut text = shown(alloc, get(ids, space, 0))?;
-    write!(text, ", ")?;
-    text.push_str(shown(alloc, get(ids, space, 5))?.as_str())?;
-    Ok(text)
+/// What an old index is asked in.
+#[derive(Clone, Copy)]
+enum Place {
+    In(Space),
+    LocalOf(usize),
 }
 
-/// Each space has ids of its own, and is named where an index has none.
+fn found(
+    alloc: Global,
+    ids: &IndicesToIds,
+    place: Place,
+    index: u32,
+) -> Result<String, AllocError> {
+    match place {
+        Place::In(space) => shown(alloc, get(ids, space, index)),
+        Place::LocalOf(function) => {
+            let local = ids.get_local(FunctionId::new(function), index);
+            shown(alloc, local.map(LocalId::index))
+        }
+    }
+}
+
+/// Each space has ids of its own and each function its locals, in the order in which they were
+/// pushed; an index that is remapped is, alone; where an index has no id the space is named.
 #[test]
 fn each_space_has_its_ids(rt: HostRuntime) -> Result<(), Fail> {
-    let ids = ids_of_spaces(rt.alloc())?;
-    for (space, want) in [
-        (Space::Tables, "10, index `5` is out of bounds for tables"),
-        (Space::Types, "11, index `5` is out of bounds for types"),
-        (Space::Funcs, "12, index `5` is out of bounds for funcs"),
-        (Space::Globals, "13, index `5` is out of bounds for globals"),
+    let ids = some_ids(rt.alloc())?;
+    for (place, index, want) in [
+        (Place::In(Space::Types), 0, "3"),
+        (Place::In(Space::Types), 1, "0"),
+        (Place::In(Space::Types), 2, "11"),
+        (Place::In(Space::Tables), 0, "10"),
+        (Place::In(Space::Funcs), 0, "12"),
+        (Place::In(Space::Globals), 0, "13"),
+        (Place::In(Space::Memories), 0, "14"),
+        (Place::In(Space::Elements), 0, "15"),
+        (Place::In(Space::Data), 0, "16"),
+        (Place::In(Space::Tags), 0, "17"),
+        (Place::LocalOf(3), 0, "7"),
+        (Place::LocalOf(3), 1, "4"),
         (
-            Space::Memories,
-            "14, index `5` is out of bounds for memories",
+            Place::In(Space::Tables),
+            5,
+            "index `5` is out of bounds for tables",
         ),
         (
-            Space::Elements,
-            "15, index `5` is out of bounds for elements",
+            Place::In(Space::Types),
+            5,
+            "index `5` is out of bounds for types",
         ),
-        (Space::Data, "16, index `5` is out of bounds for data"),
-        (Space::Tags, "17, index `5` is out of bounds for tags"),
+        (
+            Place::In(Space::Funcs),
+            5,
+            "index `5` is out of bounds for funcs",
+        ),
+        (
+            Place::In(Space::Globals),
+            5,
+            "index `5` is out of bounds for globals",
+        ),
+        (
+            Place::In(Space::Memories),
+            5,
+            "index `5` is out of bounds for memories",
+        ),
+        (
+            Place::In(Space::Elements),
+            5,
+            "index `5` is out of bounds for elements",
+        ),
+        (
+            Place::In(Space::Data),
+            5,
+            "index `5` is out of bounds for data",
+        ),
+        (
+            Place::In(Space::Tags),
+            5,
+            "index `5` is out of bounds for tags",
+        ),
+        (
+            Place::LocalOf(3),
+            5,
+            "index `5` in function `3` is out of bounds for local",
+        ),
+        (
+            Place::LocalOf(2),
+            0,
+            "function index `2` is out of bounds for local",
+        ),
     ] {
-        let found = answers(rt.alloc(), &ids, space)?;
-        assert_eq!(rt; found.as_str(), want);
-    }
-    Ok(())
-}
-
-// Gives two types old indices, and the first of these to another type.
-fn remap(ids: &mut IndicesToIds) -> Result<(), IndexError> {
-    ids.push_type(TypeId::new(2))?;
-    ids.push_type(TypeId::new(0))?;
-    ids.remap_type(0, TypeId::new(3));
-    Ok(())
-}
-
-/// An old index that is given to another id, and the indices beside it.
-#[test]
-fn an_index_is_remapped(rt: HostRuntime) -> Result<(), Fail> {
-    let mut ids = IndicesToIds::new(rt.alloc());
-    remap(&mut ids)?;
-    for (index, want) in [
-        (0, "3"),
-        (1, "0"),
-        (2, "index `2` is out of bounds for types"),
-    ] {
-        let found = shown(rt.alloc(), get(&ids, Space::Types, index))?;
-        assert_eq!(rt; found.as_str(), want);
-    }
-    Ok(())
-}
-
-/// Each function has locals of its own, in the order in which they were pushed.
-#[test]
-fn each_function_has_its_locals(rt: HostRuntime) -> Result<(), Fail> {
-    let alloc = rt.alloc();
-    let mut ids = IndicesToIds::new(alloc);
-    let function = FunctionId::new(3);
-    for local in [7, 4] {
-        ids.push_local(function, LocalId::new(local))?;
-    }
-    for (function, index, want) in [
-        (3, 0, "7"),
-        (3, 1, "4"),
-        (3, 5, "index `5` in function `3` is out of bounds for local"),
-        (2, 0, "function index `2` is out of bounds for local"),
-    ] {
-        let found = ids
-            .get_local(FunctionId::new(function), index)
-            .map(LocalId::index);
-        assert_eq!(rt; shown(alloc, found)?.as_str(), want);
+        let text = found(rt.alloc(), &ids, place, index)?;
+        assert_eq!(rt; text.as_str(), want);
     }
     Ok(())
 }
@@ -191,7 +219,7 @@ fn number_text(
     }
 }
 
-// An id in each space, and two functions more.
+// An id in each space, two functions more, and a data segment that is given two new indices.
 fn numbers_of_spaces(alloc: Global) -> Result<IdsToIndices, IndexError> {
     let mut numbers = IdsToIndices::new(alloc);
     for (space, id) in SPACES {
@@ -200,10 +228,14 @@ fn numbers_of_spaces(alloc: Global) -> Result<IdsToIndices, IndexError> {
     for id in [5, 2] {
         give(&mut numbers, Space::Funcs, id)?;
     }
+    for index in [9, 4] {
+        numbers.set_data_index(DataId::new(1), index)?;
+    }
     Ok(numbers)
 }
 
-/// Each space has new indices of its own, in the order in which ids were pushed.
+/// Each space has new indices of its own, in the order in which ids were pushed; that of a data
+/// segment is replaced.
 #[test]
 fn each_space_has_its_numbers(rt: HostRuntime) -> Result<(), Fail> {
     let numbers = numbers_of_spaces(rt.alloc())?;
@@ -218,23 +250,12 @@ fn each_space_has_its_numbers(rt: HostRuntime) -> Result<(), Fail> {
         (Space::Memories, 14, "0"),
         (Space::Elements, 15, "0"),
         (Space::Data, 16, "0"),
+        (Space::Data, 1, "4"),
         (Space::Tags, 17, "0"),
         (Space::Tags, 10, "an id has no index among tags"),
     ] {
         let found = number_text(rt.alloc(), &numbers, space, id)?;
         assert_eq!(rt; found.as_str(), want);
     }
-    Ok(())
-}
-
-/// The new index of a data segment is replaced.
-#[test]
-fn a_data_index_is_replaced(rt: HostRuntime) -> Result<(), Fail> {
-    let mut numbers = IdsToIndices::new(rt.alloc());
-    for index in [9, 4] {
-        numbers.set_data_index(DataId::new(1), index)?;
-    }
-    let found = number_text(rt.alloc(), &numbers, Space::Data, 1)?;
-    assert_eq!(rt; found.as_str(), "4");
     Ok(())
 }

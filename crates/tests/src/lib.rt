@@ -29,7 +29,6 @@ mod modules;
 mod parse_refusals;
 #[cfg(test)]
 mod parsing;
-mod plain;
 #[cfg(test)]
 mod program;
 #[cfg(test)]

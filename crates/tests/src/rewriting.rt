@@ -49,6 +49,28 @@ fn rewrites_bodies(rt: HostRuntime) -> Result<(), Fail> {
     check(&rt, rt.alloc(), About::Rewritten, &cases)
 }
 
+/// Worked bodies with tail calls, references, aggregates, vectors and atomic accesses.
+#[test]
+fn rewrites_other_operators(rt: HostRuntime) -> Result<(), Fail> {
+    let cases = [
+        ("120041071a0b", "120041071a0b"),
+        ("1c0164701c01636f0b", "1c0164701c016f0b"),
+        ("026370d0700b1a0b", "0270d0700b1a0b"),
+        ("026300d0000b1a0b", "026300d0000b1a0b"),
+        ("fb1803006e6c0b", "fb1803006e6c0b"),
+        ("fb1480001a0b", "fb14001a0b"),
+        ("d070d6000b", "d070d6000b"),
+        ("fd8082000b", "fd80020b"),
+        ("fd560200030b", "fd560200030b"),
+        ("fd93020b", "fd93020b"),
+        ("fc9380000b", "fc130b"),
+        ("4100fe1002001a0b", "4100fe1002001a0b"),
+        ("fe4e00000b", "fe4e00000b"),
+        ("20011a0b", "20011a0b"),
+    ];
+    check(&rt, rt.alloc(), About::Rewritten, &cases)
+}
+
 /// Worked bodies that are refused.
 #[test]
 fn refuses_bodies(rt: HostRuntime) -> Result<(), Fail> {
@@ -70,6 +92,11 @@ fn refuses_bodies(rt: HostRuntime) -> Result<(), Fail> {
         ("fc12000b", "UnknownOperator 0 at 0"),
         ("23010b", "Globals 1 at 0"),
         ("fc088100000b", "Data 1 at 0"),
+        ("0e0200", "Truncated 0 at 0"),
+        ("d0640b", "BadType 0 at 0"),
+        ("fe03010b", "BadFence 0 at 0"),
+        ("fb180400700b", "BadCastFlags 0 at 0"),
+        ("20040b", "LocalOutOfRange 4 at 0"),
     ];
     check(&rt, rt.alloc(), About::Rewritten, &cases)
 }

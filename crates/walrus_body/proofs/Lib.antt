@@ -1,5 +1,5 @@
 -- hashed maps as finite maps, and how pushes number ids
-mod EntryMaps
+pub mod EntryMaps
 pub mod Listed
 pub mod NumberingLemmas
 -- what visitors make of a tree's events

@@ -3,7 +3,5 @@ pub mod ScopeTables
 pub mod Announcing
 pub mod Exponents
 pub mod Labels
-pub mod NotCarried
 pub mod Steps
 pub mod Trees
-pub mod Carrying

@@ -4,10 +4,9 @@ pub mod ScopeLists
 pub mod ScopeTables
 pub mod Announcing
 pub mod Drafts
-pub mod Faults
+pub mod References
 pub mod Operators
 pub mod Emitters
 pub mod Visiting
 pub mod Trees
-pub mod Carrying
 pub mod EmittedInstructions

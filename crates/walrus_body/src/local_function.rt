@@ -17,7 +17,6 @@ ghost use Rattle.walrus_body.specs.Parsing.Locating.{MayAsk};
 ghost use Rattle.walrus_body.specs.Parsing.Settings.{BothOrNone};
 ghost use Rattle.walrus_body.specs.Facts.{count, segments, TreeHas};
 ghost use Rattle.walrus_body.specs.Sizes.{IsTooLarge};
-ghost use Rattle.walrus_body.specs.TreeWriting.Carrying.{IsCarried};
 ghost use Rattle.walrus_body.specs.TreeWriting.EmittedInstructions.{Emits, IsUnemitted, KeepsPairs};
 ghost use Rattle.walrus_body.specs.TreeWriting.Operators.{numbers_by};
 
@@ -254,7 +253,7 @@ impl LocalFunction {
     /// Appends the operators of the function's tree to an encoder, each as its shortest spelling,
     /// and to the list, if there is one, each operator's location with its place in the encoder.
     /// Ids are written as the numbers that `indices` gives them, and locals as those of
-    /// `local_indices`. It asks that an operator is carried for each instruction of the tree.
+    /// `local_indices`.
     ///
     /// # Errors
     ///
@@ -268,8 +267,7 @@ impl LocalFunction {
         dst: &mut FunctionEncoder,
         map: Option<&mut Vec<(InstrLocId, usize)>>,
     ) -> Result<(), EmitError>
-        requires entry { HasEntry self.now.builder }
-        requires carried { IsCarried self.now.builder.sequences (first_slot self.now.builder) }
+        requires { HasEntry self.now.builder }
         ensures ok { OnOk result (Emits self.now.builder
             (numbers_by indices.now local_indices.now.entries) dst.old dst.new map.entry map.exit) }
         ensures err { IfErr result (IsUnemitted self.now.builder

@@ -5,7 +5,7 @@ use Rattle.std.proofs.Math.Path.{fun_ext}
 use Rattle.std.proofs.lemmas.Bool.Decides.{nat_tests}
 use Rattle.std.specs.Ordering.{nat_cmp}
 use Rattle.std.specs.Cmp.{nat_cmp_total}
-use Rattle.std.specs.FinMap.{FinMap, empty, insert, get, len, get-empty, len-insert, len-empty, same_map, nat_cmp-IsAntisymmetric, gets}
+use Rattle.std.specs.FinMap.{FinMap, from_entries, empty, insert, get, len, get-empty, len-insert, len-empty, same_map, nat_cmp-IsAntisymmetric, gets}
 use Rattle.wasm_ops.specs.declared.types.Space.{Space}
 use Rattle.wasm_ops.specs.declared.types.Space.TheVariants.{Tables, Types, Funcs, Globals, Memories, Elements, Data, Tags}
 use Rattle.wasm_body.specs.declared.error.EmitError.{EmitError}
@@ -17,8 +17,8 @@ use Rattle.walrus_ir.specs.Results.{with_fault, some_or}
 use Rattle.walrus_body.specs.IndexMaps.{ids_in, locals_in, with_locals, numbers_in, with_numbers, numbered, number_of}
 use Rattle.walrus_body.specs.Numbering.{pushed}
 use Rattle.walrus_body.proofs.NumberingLemmas.{get-numbered}
-use Rattle.walrus_run.specs.Demo.{demo_indices, demo_numbers}
-use Rattle.walrus_run.specs.Numbers.{numbers_of}
+use Rattle.walrus_body.specs.TreeWriting.Operators.{numbers_by}
+use Rattle.walrus_run.specs.Demo.{demo_indices, demo_local_numbers, demo_numbers}
 
 -- what was put into a map is in it
 pub locals_in-with_locals : (function : ℕ) (ids : List ℕ) (m : IndicesToIds) → locals_in (with_locals function ids m) function ≡ ids
@@ -98,10 +98,14 @@ number_is m h space id =
 same_numbers : (f g : Space → ℕ → Result ℕ EmitError) → ((space : Space) (id : ℕ) → f space id ≡ g space id) → f ≡ g
 same_numbers f g h = fun_ext (λ space. fun_ext (λ id. h space id))
 
-all_are_demo : (m : IdsToIndices) → IsEmptyMap m → numbers_of (all_numbered m) ≡ demo_numbers
-all_are_demo m h = ap (λ f. record { number_of = f; local_number = λ id. Err UnnumberedLocal }) (same_numbers _ _ (number_is m h))
+all_are_demo : (m : IdsToIndices) (locals : List (ℕ × ℕ)) → IsEmptyMap m → from_entries locals ≡ demo_local_numbers → numbers_by (all_numbered m) locals ≡ demo_numbers
+all_are_demo m locals h are = λ i. record {
+  number_of = same_numbers _ _ (number_is m h) i;
+  local_number = λ id. some_or (get (are i) id) UnnumberedLocal;
+}
 
 -- what was numbered in three steps
-pub demo_numbers_are : (m n o p : IdsToIndices) → IsEmptyMap m → n ≡ types_numbered m → o ≡ functions_numbered n → p ≡ storage_numbered o → numbers_of p ≡ demo_numbers
-demo_numbers_are m n o p none types functions storage =
-    ap numbers_of (storage ∙ ap storage_numbered (functions ∙ ap functions_numbered types)) ∙ all_are_demo m none
+pub demo_numbers_are : (m n o p : IdsToIndices) → IsEmptyMap m → n ≡ types_numbered m → o ≡ functions_numbered n → p ≡ storage_numbered o →
+    (locals : List (ℕ × ℕ)) → from_entries locals ≡ demo_local_numbers → numbers_by p locals ≡ demo_numbers
+demo_numbers_are m n o p none types functions storage locals are =
+    ap (λ q. numbers_by q locals) (storage ∙ ap storage_numbered (functions ∙ ap functions_numbered types)) ∙ all_are_demo m locals none are

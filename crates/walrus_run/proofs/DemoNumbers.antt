@@ -1,7 +1,8 @@
 -- The demo module's numbers: there is one for each id that an old index stands for, and for the type of each sequence.
-use Rattle.std.specs.Prelude.{◌≡◌, ℕ, suc, zero, List, [], ◌∷◌, Bool, Option, Some, None, slice_get, IsOk, is_ok, Result, Ok, Err}
+use Rattle.std.specs.Prelude.{◌≡◌, ℕ, suc, zero, List, [], ◌∷◌, Bool, true, Option, Some, None, slice_get, IsOk, is_ok, Result, Ok, Err}
 use Rattle.std.specs.List.{AllByRecursion}
-use Rattle.std.proofs.Common.{refl, ap, subst}
+use Rattle.std.specs.FinMap.{get, gets}
+use Rattle.std.proofs.Common.{refl, ap, sym, subst, ◌∙◌, rules}
 use Rattle.walrus_ir.specs.declared.val_type.HeapType.{HeapType}
 use Rattle.walrus_ir.specs.declared.val_type.HeapType.TheVariants.{Abstract, Concrete}
 use Rattle.walrus_ir.specs.declared.val_type.ValType.{ValType}
@@ -17,10 +18,12 @@ use Rattle.walrus_ir.specs.Results.{◌>>=◌, some_or, with_fault}
 use Rattle.walrus_body.specs.IndexMaps.{ids_in}
 use Rattle.wasm_body.specs.Translation.{translate_heap, translate_value}
 use Rattle.wasm_body.specs.Naming.{id_at, name_block, function_type}
-use Rattle.wasm_body.specs.Bytes.{numbers_in_32_bits, numbered_block}
+use Rattle.wasm_body.specs.declared.error.EmitError.TheVariants.{UnnumberedLocal}
+use Rattle.wasm_body.specs.declared.error.IndexError.TheVariants.{NoLocals, LocalOutOfRange}
+use Rattle.wasm_body.specs.Bytes.{in_32_bits, numbers_in_32_bits, numbered_block}
 use Rattle.wasm_body.proofs.Translation.Steps.{bound}
 use Rattle.wasm_body.proofs.Bytes.NumberedBodies.{HasNumbers}
-use Rattle.walrus_run.specs.Demo.{demo_types, demo_indices, demo_environment, demo_numbers}
+use Rattle.walrus_run.specs.Demo.{demo_types, demo_indices, demo_environment, demo_local_numbers, demo_numbers}
 
 -- ---- ids of old indices
 
@@ -114,8 +117,34 @@ has_block (Value t) s e =
     subst PickNumbered same (picked (signature [] (u.0 ∷ [])) (Simple (Some u.0)) refl (then_ok (translate_value (numbers_in_32_bits demo_numbers).number_of u.0) Value (has_value t u.0 u.1)))
 has_block (FuncType n) s e = let id = bound (id_at demo_environment Types n) (function_type demo_environment) s e in has_type id.0 s id.2
 
+-- ---- locals
+
+abbrev LocalNumbered : ℕ → Type 0
+LocalNumbered id = IsOk ((numbers_in_32_bits demo_numbers).local_number id)
+
+numbered_local : (id : ℕ) → get demo_local_numbers id ≡ Some id → is_ok (in_32_bits id) ≡ true → LocalNumbered id
+numbered_local id has fits = ap (λ n. is_ok (some_or n UnnumberedLocal >>= in_32_bits)) has ∙ fits
+
+locals_numbered : AllByRecursion LocalNumbered (0 ∷ 1 ∷ 2 ∷ 3 ∷ [])
+locals_numbered = (
+  numbered_local 0 (grind (gets, rules)) refl,
+  (
+    numbered_local 1 (grind (gets, rules)) refl,
+    (numbered_local 2 (grind (gets, rules)) refl, (numbered_local 3 (grind (gets, rules)) refl, tt)),
+  ),
+)
+
+locals_are : get demo_indices.locals 0 ≡ Some (0 ∷ 1 ∷ 2 ∷ 3 ∷ [])
+locals_are = grind (gets, rules)
+
+has_local : (n id : ℕ) → demo_environment.local_of n ≡ Ok id → LocalNumbered id
+has_local n id at =
+    let named = ap (λ o. some_or o (NoLocals 0) >>= λ locals. some_or (slice_get locals n) (LocalOutOfRange 0 n)) locals_are in
+    within LocalNumbered (0 ∷ 1 ∷ 2 ∷ 3 ∷ []) n id locals_numbered (some_of (slice_get (0 ∷ 1 ∷ 2 ∷ 3 ∷ []) n) (LocalOutOfRange 0 n) id (sym named ∙ at))
+
 pub demo_has_numbers : HasNumbers demo_environment demo_numbers
 demo_has_numbers = record {
   indices = λ space n id at. ap is_ok (has_index space n id at);
+  locals = has_local;
   blocks = λ b s t named pick. has_block b s named t pick;
 }

@@ -2,5 +2,4 @@
 mod DemoMaps
 mod DemoNumbers
 -- what is parsed, and what is written of it
-mod CarriedTrees
 mod RewritingLemmas

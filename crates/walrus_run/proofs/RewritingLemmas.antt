@@ -1,24 +1,22 @@
 -- Bodies over the demo module: what is parsed is written, and what is answered is what is accepted.
-use Rattle.std.specs.Prelude.{◌≡◌, ◌⊎◌, ◌++◌, ◌<◌, ℕ, List, [], ◌∷◌, length, Option, Some, None, IsOk, IsErr, IfOk, IfErr, unwrap_or, Result, Ok, Err}
+use Rattle.std.specs.Prelude.{◌≡◌, ◌⊎◌, ◌++◌, ◌<◌, ℕ, List, [], ◌∷◌, length, map, Option, Some, None, IsOk, IsErr, IfOk, IfErr, unwrap_or, Result, Ok, Err}
 use Rattle.std.specs.Borrow.{Bor}
 use Rattle.std.specs.Fn.{Shared}
 use Rattle.std.specs.List.{AllByRecursion}
-use Rattle.std.specs.FinMap.{get-empty}
-use Rattle.std.specs.Ordering.{nat_cmp}
 use Rattle.std.proofs.lemmas.Option.{slice_get_within}
 use Rattle.std.proofs.Common.{inl, inr, refl, sym, ap, subst, ◌∙◌}
 use Rattle.walrus_ir.specs.declared.module.Module.{Module}
 use Rattle.walrus_ir.specs.declared.seq.InstrSeq.{InstrSeq}
 use Rattle.walrus_ir.specs.Function.{Function}
-use Rattle.walrus_ir.specs.Results.{some_or}
 use Rattle.walrus_ir.specs.Tree.{Sequences}
 use Rattle.walrus_ir.specs.Unfolding.{SequenceAt, LocatedInstr, AreSequences, are_sequences}
 use Rattle.walrus_ir.proofs.WalkLaws.{one_tree, tree_has_no_fault}
+use Rattle.wasm_ops.specs.OperatorList.{Lists}
 use Rattle.wasm_ops.specs.Shortest.{short_unsigned}
 use Rattle.wasm_ops.proofs.ReadingBytes.{reading_agrees}
 use Rattle.wasm_encode.specs.Declarations.{declarations}
 use Rattle.wasm_body.specs.declared.error.EmitError.{EmitError}
-use Rattle.wasm_body.specs.declared.error.EmitError.TheVariants.{Memory, UnnumberedLocal}
+use Rattle.wasm_body.specs.declared.error.EmitError.TheVariants.{Memory}
 use Rattle.wasm_body.specs.declared.error.ParseError.TheVariants as parse
 use Rattle.wasm_body.specs.declared.error.ParseFailure.{ParseFailure}
 use Rattle.wasm_body.specs.SourceTree.{Body}
@@ -26,26 +24,21 @@ use Rattle.wasm_body.specs.Naming.{Occurrence}
 use Rattle.wasm_body.specs.FunctionTree.{FunctionTree}
 use Rattle.wasm_body.specs.TreeOfFunction.{tree_of, HasTree}
 use Rattle.wasm_body.specs.NormalForm.{typing_of, normal_form, named_body}
-use Rattle.wasm_body.specs.Parsing.Accepted.{Accepted, FirstFault}
+use Rattle.wasm_body.specs.Parsing.Accepted.{Accepted, FirstFault, placed}
 use Rattle.wasm_body.specs.Parsing.Lists.{parsed}
 use Rattle.wasm_body.specs.Bytes.{Numbers, tree_bytes}
 use Rattle.wasm_body.proofs.Parsing.Answers.{accepted_parsed, fault_parsed}
 use Rattle.wasm_body.proofs.Bytes.NumberedBodies.{HasText, body_bytes_ok}
-use Rattle.walrus_body.specs.declared.ids_to_indices.IdsToIndices.{IdsToIndices}
 use Rattle.walrus_body.specs.declared.indices_to_ids.IndicesToIds.{IndicesToIds}
 use Rattle.walrus_body.specs.LocalFunctions.{first_slot, HasEntry}
 use Rattle.walrus_body.specs.Parsing.Bodies.{ParseInput, input_of, setting_with, IsFunction, AcceptsBody}
 use Rattle.walrus_body.specs.Parsing.Settings.{BothOrNone}
-use Rattle.walrus_body.specs.TreeWriting.Carrying.{AreCarried, IsCarried}
 use Rattle.walrus_body.specs.TreeWriting.EmittedInstructions.{IsUnemitted}
-use Rattle.walrus_body.specs.TreeWriting.Operators.{numbers_by}
 use Rattle.walrus_body.specs.TreeWriting.Trees.{AppendsBytes}
 use Rattle.walrus_run.specs.declared.error.RewriteError.{RewriteError}
 use Rattle.walrus_run.specs.declared.error.RewriteError.TheVariants.{Parse}
 use Rattle.walrus_run.specs.Demo.{demo_module, demo_indices, demo_environment, demo, demo_numbers}
-use Rattle.walrus_run.specs.Numbers.{numbers_of}
 use Rattle.walrus_run.specs.Rewriting.{IsNormalBytes, IsRewritten, WantsMemory, IsFaulty}
-use Rattle.walrus_run.proofs.CarriedTrees.{listed_texts, body_carried}
 use Rattle.walrus_run.proofs.DemoNumbers.{demo_has_numbers}
 
 abbrev pub demo_tree : Body Occurrence → FunctionTree
@@ -53,14 +46,16 @@ demo_tree b = normal_form (typing_of demo_environment) (named_body b)
 
 -- ---- what is accepted can be written
 
+-- operators that bytes list have spellings
+listed_texts : (xs : List Occurrence) (place : ℕ) (bytes rest : List ℕ) → Lists (map placed xs) place bytes rest → AllByRecursion HasText xs
+listed_texts [] place bytes rest l = tt
+listed_texts (x ∷ xs) place bytes rest l = ((l.1, l.4), listed_texts xs _ l.2 rest l.5)
+
 texts : (ops : List ℕ) (b : Body Occurrence) (a : Accepted demo ops b) → AllByRecursion HasText a.operators
 texts ops b a = listed_texts a.operators _ ops [] a.all.spelt
 
 pub accepted_written : (ops : List ℕ) (b : Body Occurrence) → Accepted demo ops b → IsOk (tree_bytes demo_numbers (demo_tree b))
 accepted_written ops b a = body_bytes_ok demo_environment demo_numbers demo_has_numbers a.operators b (texts ops b a) a.lawful
-
-pub accepted_carried : (ops : List ℕ) (b : Body Occurrence) → Accepted demo ops b → AreCarried (demo_tree b).items
-accepted_carried ops b a = body_carried demo_environment demo_numbers demo_has_numbers a.operators b (texts ops b a) a.lawful
 
 -- ---- a function with a tree
 
@@ -70,10 +65,6 @@ one_function b start t u h k = sym h.is ∙ (ap tree_of (one_tree b start h.unfo
 not_ok : {A E : Type 0} (r : Result A E) (e : E) → IsOk r → r ≡ Err e → ⊥
 not_ok (Ok x) e h k = cc
 not_ok (Err g) e h k = cc h
-
--- without locals
-pub numbers_alone : (m : IdsToIndices) (locals : List (ℕ × ℕ)) → locals ≡ [] → numbers_by m locals ≡ numbers_of m
-numbers_alone m locals none = ap (numbers_by m) none ∙ (λ i. record { number_of = (numbers_of m).number_of; local_number = λ id. some_or (get-empty {X = ℕ} nat_cmp id i) UnnumberedLocal })
 
 module _ (f : Function) (t : FunctionTree) (has : IsFunction f t) where
   pub slot_is : first_slot f ≡ 0
@@ -90,9 +81,6 @@ module _ (f : Function) (t : FunctionTree) (has : IsFunction f t) where
 
   pub one_tree_of : (u : FunctionTree) → IsFunction f u → u ≡ t
   one_tree_of u k = one_function f.sequences 0 u t k.holds has.holds
-
-  pub is_carried : AreCarried t.items → IsCarried f.sequences (first_slot f)
-  is_carried carried = λ u h. subst (λ (v : FunctionTree). AreCarried v.items) (one_function f.sequences (first_slot f) t u from_slot h) carried
 
   -- ---- what is written of it
 

@@ -1,4 +1,3 @@
 -- the module that the program parses over, and what is written of a body
 pub mod Demo
-pub mod Numbers
 pub mod Rewriting

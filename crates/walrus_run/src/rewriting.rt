@@ -8,37 +8,37 @@ ghost use Rattle.wasm_body.specs.Parsing.Accepted.{Accepted, FirstFault};
 ghost use Rattle.wasm_body.specs.FunctionTree.{FunctionTree};
 ghost use Rattle.wasm_body.specs.Bytes.{tree_bytes};
 ghost use Rattle.walrus_body.specs.Parsing.Bodies.{IsFunction};
-ghost use Rattle.walrus_body.specs.TreeWriting.Carrying.{AreCarried};
+ghost use Rattle.walrus_body.specs.TreeWriting.Operators.{numbers_by};
 ghost use Rattle.walrus_run.specs.declared.error.RewriteError.TheVariants.{Parse};
 ghost use Rattle.walrus_run.specs.Demo.{demo, demo_module, demo_indices, demo_numbers};
-ghost use Rattle.walrus_run.specs.Numbers.{numbers_of};
 ghost use Rattle.walrus_run.specs.Rewriting.{IsNormalBytes, IsRewritten, WantsMemory, IsFaulty};
 
 use crate::demo;
 use crate::error::RewriteError;
 use std::alloc::Global;
 use walrus_body::{AcceptAll, EmitError, FunctionBody, IdsToIndices, IndicesToIds, LocalFunction};
-use walrus_ir::{FunctionId, IdHashMap, InstrLocId, Module, TypeId};
+use walrus_ir::{FunctionId, IdHashMap, InstrLocId, LocalId, Module, TypeId};
 use wasm_encode::FunctionEncoder;
 
-/// The operators of a function that has a tree and can be written with these new indices.
+/// The operators of a function that has a tree and can be written with these new indices and these
+/// numbers of locals.
 fn written_operators(
     alloc: Global,
     function: &LocalFunction,
     numbers: &IdsToIndices,
+    locals: &IdHashMap<LocalId, u32>,
 ) -> Result<Vec<u8>, EmitError>
     requires { (t : FunctionTree) × IsFunction function.now.builder t
-        × IsOk (tree_bytes (numbers_of numbers.now) t) × AreCarried t.items }
+        × IsOk (tree_bytes (numbers_by numbers.now locals.now.entries) t) }
     ensures ok { IfOk result (λ out. (t : FunctionTree) → IsFunction function.now.builder t
-        → tree_bytes (numbers_of numbers.now) t ≡ Ok out.items) }
+        → tree_bytes (numbers_by numbers.now locals.now.entries) t ≡ Ok out.items) }
     ensures err { IfErr result (λ e. e ≡ Memory) }
 {
     let mut encoder = match FunctionEncoder::new(alloc, &[]) {
         Ok(encoder) => encoder,
         Err(_) => return Err(EmitError::Memory),
     };
-    let locals = IdHashMap::new(alloc);
-    match function.emit_instructions(numbers, &locals, &mut encoder, None) {
+    match function.emit_instructions(numbers, locals, &mut encoder, None) {
         Ok(()) => {
             let mut bytes = encoder.into_raw_body();
             // The count of declarations, which is 0.
@@ -55,11 +55,12 @@ fn rewrite(
     module: &Module,
     indices: &IndicesToIds,
     numbers: &IdsToIndices,
+    locals: &IdHashMap<LocalId, u32>,
     ops: &[u8],
 ) -> Result<Vec<u8>, RewriteError>
     requires module_is { «module».now ≡ demo_module }
     requires indices_are { indices.now ≡ demo_indices }
-    requires numbers_are { numbers_of numbers.now ≡ demo_numbers }
+    requires numbers_are { numbers_by numbers.now locals.now.entries ≡ demo_numbers }
     ensures ok { IfOk result (λ out. IsRewritten ops.now out.items) }
     ensures err { IfErr result (λ e. WantsMemory e ⊎ IsFaulty ops.now e) }
 {
@@ -81,7 +82,7 @@ fn rewrite(
         &mut instrs,
     );
     match parsed {
-        Ok(function) => match written_operators(alloc, &function, numbers) {
+        Ok(function) => match written_operators(alloc, &function, numbers, locals) {
             Ok(bytes) => Ok(bytes),
             Err(error) => Err(RewriteError::Emit(error)),
         },
@@ -111,5 +112,8 @@ pub fn rewrite_demo(alloc: Global, ops: &[u8]) -> Result<Vec<u8>, RewriteError>
     let (Ok(indices), Ok(numbers)) = (demo::indices(alloc), demo::numbers(alloc)) else {
         return Err(RewriteError::Emit(EmitError::Memory));
     };
-    rewrite(alloc, &module, &indices, &numbers, ops)
+    let Ok(locals) = demo::local_numbers(alloc) else {
+        return Err(RewriteError::Emit(EmitError::Memory));
+    };
+    rewrite(alloc, &module, &indices, &numbers, &locals, ops)
 }

@@ -2,9 +2,13 @@
 -- branch goes to the number of sequences between.
 use Rattle.std.specs.Prelude.{◌≡◌, ℕ, suc, List, [], ◌∷◌, ◌==◌, if◌then◌else◌, Ok}
 use Rattle.walrus_ir.specs.declared.seq.InstrSeq.{InstrSeq}
+use Rattle.walrus_ir.specs.declared.error.WalkError.{WalkError}
+use Rattle.walrus_ir.specs.declared.error.WalkError.TheVariants as walk
 use Rattle.walrus_ir.specs.Tree.{Items, no_items, item, Sequences, no_sequences, sequence, Tree}
 use Rattle.walrus_ir.specs.Unfolding.{SequenceAt, LocatedInstr, IsTree}
 use Rattle.walrus_ir.specs.Results.{sure}
+use Rattle.wasm_body.specs.declared.error.EmitError.{EmitError}
+use Rattle.wasm_body.specs.declared.error.EmitError.TheVariants as emit
 use Rattle.wasm_body.specs.Translation.{Translation, translate_immediates}
 use Rattle.wasm_body.specs.FunctionTree.{Target, Depth, Outside, TreeOperation, Head, Instruction, FunctionTree}
 use Rattle.wasm_body.specs.InstructionTable.{PlacedOperation, operation_of, clauses_of_try}
@@ -59,3 +63,10 @@ pub record HasTree (sequences : List InstrSeq) (start : ℕ) (tree : FunctionTre
   pub unfolded : Tree SequenceAt LocatedInstr
   pub is_tree : IsTree sequences start unfolded
   pub is : tree_of unfolded ≡ tree
+
+-- what it means for writing that the sequences are no tree, or that a walk of them isn't made
+abbrev pub fault_of_walk : WalkError → EmitError
+fault_of_walk walk.UnknownSequence = emit.UnknownSequence
+fault_of_walk walk.SharedSequence = emit.SharedSequence
+fault_of_walk walk.Memory = emit.Memory
+fault_of_walk walk.TooLarge = emit.TooLarge

@@ -2,7 +2,7 @@
 
 use std::alloc::{AllocError, AllocFailed};
 use thiserror::Error;
-use walrus_ir::FunctionId;
+use walrus_ir::{FunctionId, WalkError};
 use wasm_ops::{ReadError, Space};
 
 /// Why an index map has no answer, or can't grow.
@@ -203,5 +203,21 @@ impl From<IndexError> for EmitError {
 
     fn from(fault: IndexError) -> EmitError {
         EmitError::Index(fault)
+    }
+}
+
+impl From<WalkError> for EmitError {
+    ghost use Rattle.std.specs.Prelude.{◌≡◌};
+    ghost use Rattle.wasm_body.specs.TreeOfFunction.{fault_of_walk};
+
+    ghost from_gives = { λ walk error. error ≡ fault_of_walk walk };
+
+    fn from(error: WalkError) -> EmitError {
+        match error {
+            WalkError::UnknownSequence => EmitError::UnknownSequence,
+            WalkError::SharedSequence => EmitError::SharedSequence,
+            WalkError::Memory => EmitError::Memory,
+            WalkError::TooLarge => EmitError::TooLarge,
+        }
     }
 }

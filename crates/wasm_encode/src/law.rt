@@ -3,7 +3,7 @@
 ghost use Rattle.std.specs.Prelude.{◌≡◌};
 ghost use Rattle.std.specs.List.{AllByRecursion};
 ghost use Rattle.wasm_ops.specs.Fitting.{FitsLabel, FitsClause, FitsLane, FitsHeap, FitsValue, FitsBlock};
-ghost use Rattle.wasm_ops.specs.Fitting.{AllFit, AreSpeakable, HasRow};
+ghost use Rattle.wasm_ops.specs.Fitting.{AllFit, AreSpeakable};
 ghost use Rattle.wasm_ops.specs.Meaning.{meaning};
 ghost use Rattle.wasm_ops.specs.Parts.{immediates_of};
 ghost use Rattle.wasm_ops.specs.Shortest.{short};
@@ -173,11 +173,10 @@ fn law_numbers(op: &OutOp<'_>)
     law_fit(behind_opcode(op));
 }
 
-/// Of an operator whose opcode has a row, whose lists have fewer than 2^32 items, and whose
-/// alignment can be spelt, the shortest spelling is a spelling: what is written reads back.
+/// Of an operator whose lists have fewer than 2^32 items, and whose alignment can be spelt, the
+/// shortest spelling is a spelling: what is written reads back.
 pub fn law_written(op: &OutOp<'_>)
-    requires carried { HasRow (meaning op.now) }
-    requires speakable { AreSpeakable (meaning op.now).immediates }
+    requires { AreSpeakable (meaning op.now).immediates }
     ensures { Spells (meaning op.now) (short (meaning op.now)) }
 {
     law_numbers(op);

@@ -7,9 +7,7 @@ use Rattle.walrus_ir.specs.declared.val_type.ValType.{ValType}
 use Rattle.walrus_ir.specs.declared.val_type.ValType.TheVariants.{Ref}
 use Rattle.wasm_ops.specs.declared.types.BlockType.{BlockType}
 use Rattle.wasm_ops.specs.declared.types.BlockType.TheVariants.{Empty, Value, FuncType}
-use Rattle.wasm_ops.specs.Immediates.{Kind}
-use Rattle.wasm_ops.specs.Opcodes.{kinds_of}
-use Rattle.wasm_ops.specs.Operations.{CatchClause, RawImmediate, RawOperation, index, local, label, handler, outer, number, branch_table, clauses, access, block, heap, value, cast, i32, i64, f32, f64, v128, lane, lanes, zero_byte}
+use Rattle.wasm_ops.specs.Operations.{CatchClause, RawImmediate, index, local, label, handler, outer, number, branch_table, clauses, access, block, heap, value, cast, i32, i64, f32, f64, v128, lane, lanes, zero_byte}
 
 -- What is asked of an immediate beside that its numbers fit their types.
 abbrev pub IsSpeakable : RawImmediate → Type 0
@@ -21,10 +19,6 @@ IsSpeakable _ = Unit {0}
 abbrev pub AreSpeakable : List RawImmediate → Type 0
 AreSpeakable [] = Unit {0}
 AreSpeakable (i ∷ is) = IsSpeakable i × AreSpeakable is
-
--- Its opcode has a row.
-abbrev pub HasRow : RawOperation → Type 0
-HasRow o = (kinds : List Kind) × (kinds_of o.opcode ≡ Some kinds)
 
 -- ---- numbers that fit
 

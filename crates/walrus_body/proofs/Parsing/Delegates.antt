@@ -10,7 +10,7 @@ use Rattle.wasm_body.specs.declared.error.ParseError.TheVariants.{DelegateOutsid
 use Rattle.wasm_body.specs.Control.{delegate_operation}
 use Rattle.wasm_body.specs.Frames.{OfFunction, delegate_moves}
 use Rattle.wasm_body.specs.Naming.{NamedOperation, Occurrence, open_label, named_in}
-use Rattle.wasm_body.specs.SourceTree.{Sequence, OfBlock, OfLoop, OfTryTable}
+use Rattle.wasm_body.specs.SourceTree.{Sequence}
 use Rattle.wasm_body.specs.Parsing.Progress.{OpenConstruct, InWrapper, InThen, InElse, InTry, InCatch, InCatchAll, Layer, frame_of, frames_of, go_on_behind}
 use Rattle.walrus_body.specs.declared.local_function.frame.ControlFrame.{ControlFrame}
 use Rattle.walrus_body.specs.declared.local_function.frame.IfElseState.{IfElseState}

@@ -11,7 +11,7 @@ use Rattle.walrus_ir.specs.declared.seq.InstrSeq.{InstrSeq}
 use Rattle.wasm_body.specs.declared.error.ParseError.{ParseError}
 use Rattle.wasm_body.specs.declared.error.ParseError.TheVariants.{NoSuchLabel, RethrowOutsideHandler}
 use Rattle.wasm_body.specs.Frames.{Frame, is_handler, handler_at}
-use Rattle.wasm_body.specs.SourceTree.{Sequence, Wrapper, OfBlock, OfLoop, OfTryTable}
+use Rattle.wasm_body.specs.SourceTree.{Sequence, OfBlock, OfLoop, OfTryTable}
 use Rattle.wasm_body.specs.Naming.{Occurrence, Environment, handler_label}
 use Rattle.wasm_body.specs.FunctionTree.{Depth}
 use Rattle.wasm_body.specs.TreeOfFunction.{deeper, target_in}

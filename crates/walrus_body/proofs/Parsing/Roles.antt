@@ -17,6 +17,8 @@ use Rattle.walrus_ir.specs.declared.memory.LoadSimdKind.TheVariants as vector_ac
 use Rattle.wasm_ops.specs.declared.types.AtomicKind.{AtomicKind}
 use Rattle.wasm_ops.specs.declared.types.AtomicKind.TheVariants as atomic
 use Rattle.wasm_ops.specs.declared.operator.Op.TheVariants as operator
+use Rattle.wasm_ops.specs.declared.reference_operator.ReferenceOp.{ReferenceOp}
+use Rattle.wasm_ops.specs.declared.reference_operator.ReferenceOp.TheVariants as reference
 use Rattle.wasm_ops.specs.declared.types.BlockType.{BlockType}
 use Rattle.wasm_ops.specs.Operations.{CatchClause, Immediate, branch_table}
 use Rattle.wasm_ops.specs.Meaning.{Listed, meaning}
@@ -25,8 +27,9 @@ use Rattle.wasm_ops.specs.BinaryOperations.{binary_opcode}
 use Rattle.wasm_ops.specs.TernaryOperations.{ternary_opcode}
 use Rattle.wasm_ops.specs.AccessOperations.{load_opcode, store_opcode}
 use Rattle.wasm_ops.specs.AtomicOpcodes.{atomic_opcode}
+use Rattle.wasm_ops.specs.ReferenceOperations.{reference_opcode}
 use Rattle.wasm_ops.specs.VectorAccessOpcodes.{vector_access_opcode}
-use Rattle.wasm_body.specs.Control.{Role, an_unreachable, a_branch, a_conditional_branch, a_table_branch, a_return, a_throw, a_rethrow, a_throw_ref, a_plain, role_of, Action, Plain, Return, Unreachable, Branch, ConditionalBranch, Throw, Rethrow, ThrowRef, Control, Does, control_by, first_index, first_depth, first_label, branches}
+use Rattle.wasm_body.specs.Control.{Role, an_unreachable, a_branch, a_conditional_branch, a_table_branch, a_return, a_tail_call, a_throw, a_rethrow, a_throw_ref, a_plain, role_of, Action, Plain, Return, Unreachable, Branch, ConditionalBranch, Throw, Rethrow, ThrowRef, TailCall, Control, Does, control_by, first_index, first_depth, first_label, branches}
 use Rattle.wasm_body.specs.NormalForm.{Fate, Stays, Cuts, fate}
 use Rattle.walrus_body.specs.Parsing.OperatorKinds.{is_instruction, is_cut}
 
@@ -104,6 +107,7 @@ fate_of_role a_branch = Some Cuts
 fate_of_role a_conditional_branch = Some Stays
 fate_of_role a_table_branch = Some Cuts
 fate_of_role a_return = Some Cuts
+fate_of_role a_tail_call = Some Stays
 fate_of_role a_throw = Some Cuts
 fate_of_role a_rethrow = Some Cuts
 fate_of_role a_throw_ref = Some Cuts
@@ -113,6 +117,14 @@ fate_of_role _ = None
 abbrev pub fate_by : Bool → Fate
 fate_by true = Cuts
 fate_by false = Stays
+
+-- an operator on references, structs or arrays
+stays_reference : (op : ReferenceOp) → fate_of_role (role_of (reference_opcode op)) ≡ Some Stays
+stays_reference (reference.RefTest true type) = refl
+stays_reference (reference.RefTest false type) = refl
+stays_reference (reference.RefCast true type) = refl
+stays_reference (reference.RefCast false type) = refl
+stays_reference _ = refl
 
 pub fate_of_operator : (op : Listed) → is_instruction op ≡ true → fate_of_role (role_of (meaning op).opcode) ≡ Some (fate_by (is_cut op))
 fate_of_operator operator.Nop i = absurd cc
@@ -133,6 +145,7 @@ fate_of_operator (operator.Load kind memarg) i = ap fate_of_role (plain_load kin
 fate_of_operator (operator.Store kind memarg) i = ap fate_of_role (plain_store kind)
 fate_of_operator (operator.LoadSimd kind memarg) i = ap fate_of_role (plain_vector_access kind)
 fate_of_operator (operator.Atomic kind memarg) i = ap fate_of_role (plain_atomic kind)
+fate_of_operator (operator.Reference op) i = stays_reference op
 fate_of_operator _ i = refl
 
 -- whatever its immediates are
@@ -152,6 +165,7 @@ does_as a_branch t is e = record { action = Branch (first_label is); does = refl
 does_as a_conditional_branch t is e = record { action = ConditionalBranch (first_label is); does = refl; has_fate = cc e }
 does_as a_table_branch t is e = record { action = branches is; does = refl; has_fate = branches_cut is ∙ (let same : Cuts ≡ t = cc e in same) }
 does_as a_return t is e = record { action = Return; does = refl; has_fate = cc e }
+does_as a_tail_call t is e = record { action = TailCall; does = refl; has_fate = cc e }
 does_as a_throw t is e = record { action = Throw (first_index is); does = refl; has_fate = cc e }
 does_as a_rethrow t is e = record { action = Rethrow (first_depth is); does = refl; has_fate = cc e }
 does_as a_throw_ref t is e = record { action = ThrowRef; does = refl; has_fate = cc e }

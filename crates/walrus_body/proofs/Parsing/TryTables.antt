@@ -1,17 +1,16 @@
 -- `try_table`: its name, or the first rule that it breaks, and what the calls of the context make of what was kept.
-use Rattle.std.proofs.Common.{◌≡◌, ◌⊎◌, inl, inr, ◌<◌, ◌≤◌, OnOk, IfErr, ℕ, List, [], ◌∷◌, length, map, is_some, Option, Some, None, Result, Ok, Err, refl, sym, ap, ◌∙◌, subst}
+use Rattle.std.proofs.Common.{◌≡◌, ℕ, List, [], ◌∷◌, length, map, is_some, Result, Ok, Err, refl, sym, ap, ◌∙◌}
 use Rattle.walrus_ir.specs.declared.instr.Instr.{Instr}
 use Rattle.walrus_ir.specs.declared.instr.Instr.TheVariants as instr
 use Rattle.walrus_ir.specs.declared.control.BlockKind.TheVariants as kind
 use Rattle.walrus_ir.specs.declared.control.TryTableCatch.{TryTableCatch}
-use Rattle.walrus_ir.specs.Clauses.{Guarded}
 use Rattle.walrus_ir.specs.Results.{◌>>=◌, each, unless}
 use Rattle.walrus_ir.specs.Types.{Signature}
 use Rattle.wasm_ops.specs.declared.types.BlockType.{BlockType}
 use Rattle.wasm_ops.specs.declared.types.Opcode.TheVariants.{Byte}
 use Rattle.wasm_ops.specs.Operations.{CatchClause, block, clauses, operation, RawOperation}
 use Rattle.wasm_body.specs.declared.error.ParseError.{ParseError}
-use Rattle.wasm_body.specs.declared.error.ParseError.TheVariants.{Memory, NoSuchLabel, TypeMissing}
+use Rattle.wasm_body.specs.declared.error.ParseError.TheVariants.{TypeMissing}
 use Rattle.wasm_body.specs.Control.{TryTable, Opens as OpensConstruct, catching, control_of}
 use Rattle.wasm_body.specs.Frames.{Frame}
 use Rattle.wasm_body.specs.SourceTree.{Sequence}
@@ -24,10 +23,10 @@ use Rattle.walrus_body.specs.Parsing.OpenFrames.{changed_at, with_instr}
 use Rattle.walrus_body.specs.Parsing.OpenTrees.{OpenTrees, OpensAs, env_of, opened_type}
 use Rattle.walrus_body.specs.Parsing.Keeping.{IsAny}
 use Rattle.walrus_body.specs.Parsing.Placing.{block_found, placing}
-use Rattle.walrus_body.specs.Parsing.Advancing.{Keeps, Advances, IsStep}
+use Rattle.walrus_body.specs.Parsing.Advancing.{Keeps, Advances}
 use Rattle.walrus_body.specs.Parsing.BodyParsers.{state_with}
 use Rattle.walrus_body.proofs.Parsing.Labels.{AreSeenAs, holds_seen}
-use Rattle.walrus_body.proofs.Parsing.Openings.{Named, named_as, try_table_at_once, opens_as}
+use Rattle.walrus_body.proofs.Parsing.Openings.{named_as, try_table_at_once, opens_as}
 use Rattle.walrus_body.proofs.Parsing.Placements.{IsNamedAs, placed_named, placed_refused}
 
 module _ (b : BlockType) (cs : List (CatchClause ℕ)) where

@@ -1,5 +1,5 @@
 -- What an emitter makes of an instruction without sequences.
-use Rattle.std.specs.Prelude.{◌≡◌, ◌++◌, ℕ, List, [], Bool, true, None, if◌then◌else◌, Result, Ok, Err}
+use Rattle.std.specs.Prelude.{◌≡◌, ◌++◌, ℕ, List, [], Bool, true, None, if◌then◌else◌, Result, Ok, Err, OnOk}
 use Rattle.std.proofs.Common.{refl, sym, ap, ◌∙◌}
 use Rattle.std.proofs.lemmas.List.{map-append}
 use Rattle.walrus_ir.specs.declared.seq.InstrSeq.{InstrSeq}
@@ -99,3 +99,8 @@ plain_visited b to scopes draft drafted i l op e h k =
     sequences_begin (emitter_at b to scopes draft) i l (Simple None) (meaning op) [] (plain_type b i e) (plain_lawful i e) h.0
     (plain_scopes b i e)
     ∙ ap (λ (s : Emitter). Ok s) (kept_begins b to scopes scopes draft drafted [] (meaning op) l refl k)
+
+-- where it is written
+pub on_ok : {P Q : Type 0} (r : Result (Unit {0}) EmitError) → (P → Q) → OnOk r P → OnOk r Q
+on_ok (Ok x) f h = f h
+on_ok (Err e) f h = tt

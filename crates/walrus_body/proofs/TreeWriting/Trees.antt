@@ -15,19 +15,16 @@ use Rattle.wasm_body.specs.declared.error.EmitError.TheVariants.{Memory, Unknown
 use Rattle.walrus_ir.specs.Results.{◌>>=◌}
 use Rattle.wasm_body.specs.Control.{end_operation}
 use Rattle.wasm_body.specs.Translation.{Located, at_location}
-use Rattle.wasm_body.specs.TreeOfFunction.{tree_of}
+use Rattle.wasm_body.specs.TreeOfFunction.{tree_of, fault_of_walk}
 use Rattle.wasm_body.specs.Bytes.{Numbers, numbered_text, bytes_of}
 use Rattle.wasm_body.specs.Pairs.{Pair, pairs_from}
 use Rattle.walrus_body.specs.declared.local_function.emit.closing.Closer.TheVariants.{End}
-use Rattle.walrus_body.specs.declared.local_function.emit.fault.EmitFault.{EmitFault}
-use Rattle.walrus_body.specs.declared.local_function.emit.fault.EmitFault.TheVariants.{Refused, NotCarried}
 use Rattle.walrus_body.specs.declared.local_function.emit.EmitVisitor.{EmitVisitor}
 use Rattle.walrus_body.specs.Emission.{Emitter, emitter_behind, emitter_behind_all, first_emitter, Output, output_of}
 use Rattle.walrus_body.specs.TreeWriting.Drafts.{Drafted}
 use Rattle.walrus_body.specs.TreeWriting.Emitters.{emitter_at, IsFaultAt}
-use Rattle.walrus_body.specs.TreeWriting.Faults.{fault_of_walk}
 use Rattle.walrus_body.specs.TreeWriting.ScopeLists.{ScopeLists, ending, with_more}
-use Rattle.walrus_body.specs.TreeWriting.Trees.{IsDraftOf, IsFirstScope, Appends, AppendsBytes, StopsUncarried, IsUnwritten}
+use Rattle.walrus_body.specs.TreeWriting.Trees.{IsDraftOf, IsFirstScope, Appends, AppendsBytes, IsUnwritten}
 use Rattle.walrus_body.specs.TreeWriting.Visiting.{emitter_of, Steps, Refuses, Same}
 use Rattle.walrus_body.proofs.Emission.Texts.{last_emitter, tree_told}
 
@@ -38,31 +35,19 @@ folded through = refl
 folded (after {es = es} step rest) = ap (λ r. r >>= λ t. emitter_behind_all t es) step ∙ folded rest
 
 -- why it stops at one of the events
-abbrev IsStopped : Emitter → List WalkEvent → EmitFault → Type 0
-IsStopped s es (Refused e) = (e ≡ Memory) ⊎ (emitter_behind_all s es ≡ Err e)
-IsStopped s es NotCarried = StopsUncarried s es
+abbrev IsStopped : Emitter → List WalkEvent → EmitError → Type 0
+IsStopped s es f = (f ≡ Memory) ⊎ (emitter_behind_all s es ≡ Err f)
 
-stops_here : (s : Emitter) (e : WalkEvent) (es : List WalkEvent) (f : EmitFault) → IsFaultAt s e f → IsStopped s (e ∷ es) f
-stops_here s e es (Refused x) (inl h) = inl h
-stops_here s e es (Refused x) (inr h) = inr (ap (λ r. r >>= λ t. emitter_behind_all t es) h)
-stops_here s e es NotCarried h =
-    record { before = []; event = e; after = es; splits = refl; emitter = s; behind = refl; why = h }
+stops_here : (s : Emitter) (e : WalkEvent) (es : List WalkEvent) (f : EmitError) → IsFaultAt s e f → IsStopped s (e ∷ es) f
+stops_here s e es f (inl h) = inl h
+stops_here s e es f (inr h) = inr (ap (λ r. r >>= λ t. emitter_behind_all t es) h)
 
-stops_later : (s t : Emitter) (e : WalkEvent) (es : List WalkEvent) (f : EmitFault) → emitter_behind s e ≡ Ok t → IsStopped t es f
+stops_later : (s t : Emitter) (e : WalkEvent) (es : List WalkEvent) (f : EmitError) → emitter_behind s e ≡ Ok t → IsStopped t es f
     → IsStopped s (e ∷ es) f
-stops_later s t e es (Refused x) step (inl h) = inl h
-stops_later s t e es (Refused x) step (inr h) = inr (ap (λ r. r >>= λ u. emitter_behind_all u es) step ∙ h)
-stops_later s t e es NotCarried step h = record {
-  before = e ∷ h.before;
-  event = h.event;
-  after = h.after;
-  splits = ap (λ (xs : List WalkEvent). e ∷ xs) h.splits;
-  emitter = h.emitter;
-  behind = ap (λ r. r >>= λ u. emitter_behind_all u h.before) step ∙ h.behind;
-  why = h.why;
-}
+stops_later s t e es f step (inl h) = inl h
+stops_later s t e es f step (inr h) = inr (ap (λ r. r >>= λ u. emitter_behind_all u es) step ∙ h)
 
-stopped : {v w : EmitVisitor} {es : List WalkEvent} {f : EmitFault} → Stops Steps Refuses Same v es w f → IsStopped (emitter_of v) es f
+stopped : {v w : EmitVisitor} {es : List WalkEvent} {f : EmitError} → Stops Steps Refuses Same v es w f → IsStopped (emitter_of v) es f
 stopped (refused {v = v} {e = e} {es = es} {f = f} why same) = stops_here (emitter_of v) e es f why
 stopped (later {v = v} {w = w} {e = e} {es = es} {f = f} step rest) =
     stops_later (emitter_of v) (emitter_of w) e es f step (stopped rest)
@@ -126,34 +111,25 @@ draft_is b entry to base m v w first h =
     }
 
 refusal_is : (b : List InstrSeq) (entry : ℕ) (to : Numbers) (base : ℕ) (m : Bool) (t : Tree SequenceAt LocatedInstr) (v : EmitVisitor)
-    (f : EmitFault) → IsFirst b entry to base m v → IsTree b entry t → IsStopped (emitter_of v) (events t) f → IsUnwritten b entry to f
-refusal_is b entry to base m t v (Refused e) first is_tree (inl h) = inl h
-refusal_is b entry to base m t v (Refused e) first is_tree (inr h) =
+    (f : EmitError) → IsFirst b entry to base m v → IsTree b entry t → IsStopped (emitter_of v) (events t) f → IsUnwritten b entry to f
+refusal_is b entry to base m t v f first is_tree (inl h) = inl h
+refusal_is b entry to base m t v f first is_tree (inr h) =
     let told = tree_told to base m first.seq t first.stands is_tree.unfolds in
     let behind = ap (λ s. emitter_behind_all s (events t)) (sym first.is) ∙ h in
-    let fails = text_fails b to base m (numbered_text to (tree_of t)) e (sym told ∙ behind) in
+    let fails = text_fails b to base m (numbered_text to (tree_of t)) f (sym told ∙ behind) in
     inr (inr (
       tree_of t,
       record { unfolded = t; is_tree = is_tree; is = refl },
       ap (λ r. r >>= λ xs. Ok (bytes_of xs)) fails,
     ))
-refusal_is b entry to base m t v NotCarried first is_tree h = record {
-  tree = t;
-  is_tree = is_tree;
-  seq = first.seq;
-  stands = first.stands;
-  base = base;
-  has_map = m;
-  stops = subst (λ s. StopsUncarried s (events t)) first.is h;
-}
 
-no_walk : (b : List InstrSeq) (entry : ℕ) (to : Numbers) (error : WalkError) → HasNoWalk b entry error → IsUnwritten b entry to (Refused (fault_of_walk error))
+no_walk : (b : List InstrSeq) (entry : ℕ) (to : Numbers) (error : WalkError) → HasNoWalk b entry error → IsUnwritten b entry to (fault_of_walk error)
 no_walk b entry to error (inl h) = inl (ap fault_of_walk h)
 no_walk b entry to error (inr h) = inr (inl (error, h, refl))
 
-pub unwritten_is : (b : List InstrSeq) (entry : ℕ) (to : Numbers) (base : ℕ) (m : Bool) (v w : EmitVisitor) (f : EmitFault)
+pub unwritten_is : (b : List InstrSeq) (entry : ℕ) (to : Numbers) (base : ℕ) (m : Bool) (v w : EmitVisitor) (f : EmitError)
     → IsFirst b entry to base m v
-    → IsRefused b entry Steps Refuses Same v w f ⊎ IsUnwalked b entry (λ error g. g ≡ Refused (fault_of_walk error)) v w f
+    → IsRefused b entry Steps Refuses Same v w f ⊎ IsUnwalked b entry (λ error g. g ≡ fault_of_walk error) v w f
     → IsUnwritten b entry to f
 unwritten_is b entry to base m v w f first (inl h) = refusal_is b entry to base m h.tree v f first h.is_tree (stopped h.stops)
 unwritten_is b entry to base m v w f first (inr h) =
@@ -170,7 +146,7 @@ none_there b n has known lacks =
     none_past b n (omega (arith, past))
 
 -- the sequence at the entry isn't known
-pub entry_missing : (b : List InstrSeq) (entry : ℕ) (to : Numbers) → slice_get b entry ≡ None → IsUnwritten b entry to (Refused UnknownSequence)
+pub entry_missing : (b : List InstrSeq) (entry : ℕ) (to : Numbers) → slice_get b entry ≡ None → IsUnwritten b entry to UnknownSequence
 entry_missing b entry to h = inr (inl (walk.UnknownSequence, unknown begun h, refl))
 
 -- ---- what is handed over

@@ -1,5 +1,5 @@
 -- What contracts see of a parser of bodies, and what its steps do.
-use Rattle.std.specs.Prelude.{◌≡◌, ◌⊎◌, ℕ, List, [], ◌∷◌, ◌++◌, length, Bool, cond, reverse, Option, Some, None, slice_get, Result, Ok, Err}
+use Rattle.std.specs.Prelude.{◌≡◌, ◌⊎◌, ℕ, List, [], ◌∷◌, ◌++◌, length, Bool, cond, reverse, Option, Some, None, Result, Ok, Err}
 use Rattle.walrus_ir.specs.declared.instr.Instr.TheVariants as instr
 use Rattle.walrus_ir.specs.declared.val_type.InstrSeqType.{InstrSeqType}
 use Rattle.walrus_ir.specs.Function.{Function, with_new_sequence}

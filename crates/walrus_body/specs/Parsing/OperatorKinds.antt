@@ -3,7 +3,7 @@ use Rattle.std.specs.Prelude.{Bool, true, false}
 use Rattle.wasm_ops.specs.Meaning.{Listed}
 use Rattle.wasm_ops.specs.declared.operator.Op.TheVariants.{Unreachable, Nop, Block, Loop, If, Else, Try, Catch, Throw, Rethrow, ThrowRef, End, Br, BrTable, Return, Delegate, CatchAll, TryTable}
 
--- those that make an instruction by themselves, of the operators that are carried
+-- those that make an instruction by themselves
 abbrev pub is_instruction : Listed → Bool
 is_instruction Nop = false
 is_instruction (Block type) = false

@@ -9,7 +9,7 @@ use Rattle.wasm_body.specs.declared.error.EmitError.{EmitError}
 use Rattle.wasm_body.specs.Bytes.{Numbers}
 use Rattle.wasm_body.specs.Pairs.{Pair}
 use Rattle.walrus_body.specs.LocalFunctions.{first_slot}
-use Rattle.walrus_body.specs.TreeWriting.Trees.{Appends, AppendsBytes, IsUnwrittenFor}
+use Rattle.walrus_body.specs.TreeWriting.Trees.{Appends, AppendsBytes, IsUnwritten}
 
 -- a list of pairs that is lent
 abbrev pub LentPairs : Type 0 → Type 0
@@ -37,4 +37,4 @@ KeepsPairs _ _ = ⊥
 
 -- Memory ran out, the builder has no tree, or the fault is the first of the tree in order of writing.
 abbrev pub IsUnemitted : Function → Numbers → EmitError → Type 0
-IsUnemitted f to e = IsUnwrittenFor f.sequences (first_slot f) to e
+IsUnemitted f to e = IsUnwritten f.sequences (first_slot f) to e

@@ -1,15 +1,11 @@
 -- What the code keeps while a tree is written, as an emitter, and why that refuses an event.
-use Rattle.std.specs.Prelude.{◌≡◌, ◌⊎◌, ℕ, List, Option, None, Ok, Err}
+use Rattle.std.specs.Prelude.{◌≡◌, ◌⊎◌, ℕ, List, Option, Ok, Err}
 use Rattle.walrus_ir.specs.declared.seq.InstrSeq.{InstrSeq}
-use Rattle.walrus_ir.specs.Events.{WalkEvent, VisitInstruction}
-use Rattle.wasm_ops.specs.Opcodes.{kinds_of}
+use Rattle.walrus_ir.specs.Events.{WalkEvent}
 use Rattle.wasm_body.specs.declared.error.EmitError.{EmitError}
 use Rattle.wasm_body.specs.declared.error.EmitError.TheVariants.{Memory}
-use Rattle.wasm_body.specs.InstructionTable.{operation_of}
 use Rattle.wasm_body.specs.Bytes.{Numbers}
 use Rattle.walrus_body.specs.declared.local_function.emit.closing.Closer.{Closer}
-use Rattle.walrus_body.specs.declared.local_function.emit.fault.EmitFault.{EmitFault}
-use Rattle.walrus_body.specs.declared.local_function.emit.fault.EmitFault.TheVariants.{Refused, NotCarried}
 use Rattle.walrus_body.specs.Emission.{Emitter, with_closer, emitter_behind}
 use Rattle.walrus_body.specs.TreeWriting.Closers.{closer_at, scopes_of}
 use Rattle.walrus_body.specs.TreeWriting.Drafts.{Drafted}
@@ -29,15 +25,9 @@ emitter_at b to scopes draft = record {
 
 -- ---- why an event is refused
 
--- an instruction's own operator isn't carried
-abbrev pub IsUncarried : WalkEvent → Type 0
-IsUncarried (VisitInstruction i l) = kinds_of (operation_of i).opcode ≡ None
-IsUncarried _ = ⊥
-
--- memory ran out, or the emitter answers this fault; or an operator isn't carried
-abbrev pub IsFaultAt : Emitter → WalkEvent → EmitFault → Type 0
-IsFaultAt s e (Refused f) = (f ≡ Memory) ⊎ (emitter_behind s e ≡ Err f)
-IsFaultAt s e NotCarried = IsUncarried e
+-- memory ran out, or the emitter answers this fault
+abbrev pub IsFaultAt : Emitter → WalkEvent → EmitError → Type 0
+IsFaultAt s e f = (f ≡ Memory) ⊎ (emitter_behind s e ≡ Err f)
 
 -- ---- what closes a sequence, wherever it stands
 

@@ -1,13 +1,11 @@
 -- Writing an instruction of a tree as an operator.
-use Rattle.std.specs.Prelude.{◌≡◌, ◌⊎◌, ℕ, List, length, None, Result, Ok, Err}
+use Rattle.std.specs.Prelude.{◌≡◌, ◌⊎◌, ℕ, List, length, Result, Ok, Err}
 use Rattle.std.specs.Ordering.{nat_cmp}
 use Rattle.std.specs.FinMap.{get, from_entries}
 use Rattle.walrus_ir.specs.declared.val_type.InstrSeqType.{InstrSeqType}
 use Rattle.walrus_ir.specs.declared.instr.Instr.{Instr}
 use Rattle.walrus_ir.specs.declared.control.TryTableCatch.{TryTableCatch}
-use Rattle.wasm_ops.specs.declared.types.Opcode.{Opcode}
 use Rattle.wasm_ops.specs.Meaning.{Listed, meaning}
-use Rattle.wasm_ops.specs.Opcodes.{kinds_of}
 use Rattle.wasm_ops.specs.Operations.{CatchClause, RawOperation}
 use Rattle.wasm_ops.specs.Immediates.{Table}
 use Rattle.walrus_ir.specs.Clauses.{Targets}
@@ -21,8 +19,6 @@ use Rattle.wasm_body.specs.FlatText.{then_by, typed}
 use Rattle.wasm_body.specs.InstructionTable.{table_clause, operation_of}
 use Rattle.wasm_body.specs.TreeOfFunction.{aimed}
 use Rattle.walrus_body.specs.declared.local_function.emit.closing.Closer.{Closer}
-use Rattle.walrus_body.specs.declared.local_function.emit.fault.EmitFault.{EmitFault}
-use Rattle.walrus_body.specs.declared.local_function.emit.fault.EmitFault.TheVariants.{Refused, NotCarried}
 use Rattle.walrus_body.specs.declared.local_function.emit.number_maps.NumberMaps.{NumberMaps}
 use Rattle.walrus_body.specs.declared.ids_to_indices.IdsToIndices.{IdsToIndices}
 use Rattle.walrus_body.specs.IndexMaps.{number_of}
@@ -70,14 +66,11 @@ numbered_clauses to around cs =
 abbrev pub numbered_closer : Numbers → Closer → Result RawOperation EmitError
 numbered_closer to c = translate (then_by (numbering to)) (closing c)
 
--- The operator that was answered is this one, or there is none for this fault; or memory ran out, or
--- its opcode isn't carried.
-abbrev pub IsOperator : Result RawOperation EmitError → Opcode → Result Listed EmitFault → Type 0
-IsOperator r opcode (Ok op) = (r ≡ Ok (meaning op)) × IsWritable (meaning op)
-IsOperator r opcode (Err (Refused e)) = (e ≡ Memory) ⊎ (r ≡ Err e)
-IsOperator r opcode (Err NotCarried) = kinds_of opcode ≡ None
+-- The operator that was answered is this one, or there is none for this fault; or memory ran out.
+abbrev pub IsOperator : Result RawOperation EmitError → Result Listed EmitError → Type 0
+IsOperator r (Ok op) = (r ≡ Ok (meaning op)) × IsWritable (meaning op)
+IsOperator r (Err e) = (e ≡ Memory) ⊎ (r ≡ Err e)
 
-abbrev pub IsOperatorOf : Numbers → List ℕ → InstrSeqType → Instr → Result Listed EmitFault
+abbrev pub IsOperatorOf : Numbers → List ℕ → InstrSeqType → Instr → Result Listed EmitError
     → Type 0
-IsOperatorOf to around type i r =
-    IsOperator (numbered_operator to around type i) (operation_of i).opcode r
+IsOperatorOf to around type i r = IsOperator (numbered_operator to around type i) r

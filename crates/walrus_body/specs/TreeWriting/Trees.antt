@@ -2,27 +2,19 @@
 use Rattle.std.specs.Prelude.{◌≡◌, ◌⊎◌, ◌++◌, ℕ, List, [], ◌∷◌, length, Bool, Some, slice_get, Ok, Err}
 use Rattle.walrus_ir.specs.declared.seq.InstrSeq.{InstrSeq}
 use Rattle.walrus_ir.specs.declared.error.WalkError.{WalkError}
-use Rattle.walrus_ir.specs.Tree.{Tree}
-use Rattle.walrus_ir.specs.Unfolding.{SequenceAt, LocatedInstr, IsTree}
 use Rattle.walrus_ir.specs.Faults.{FirstWalkFault}
-use Rattle.walrus_ir.specs.Events.{WalkEvent, events}
 use Rattle.wasm_ops.specs.Operations.{RawOperation}
 use Rattle.wasm_body.specs.declared.error.EmitError.{EmitError}
 use Rattle.wasm_body.specs.declared.error.EmitError.TheVariants.{Memory}
-use Rattle.wasm_body.specs.Control.{end_operation}
-use Rattle.wasm_body.specs.Translation.{Located, at_location}
+use Rattle.wasm_body.specs.Translation.{Located}
 use Rattle.wasm_body.specs.FunctionTree.{FunctionTree}
-use Rattle.wasm_body.specs.TreeOfFunction.{HasTree}
+use Rattle.wasm_body.specs.TreeOfFunction.{HasTree, fault_of_walk}
 use Rattle.wasm_body.specs.Bytes.{Numbers, numbered_text, tree_bytes}
 use Rattle.wasm_body.specs.Pairs.{Pair, tree_pairs}
-use Rattle.walrus_body.specs.declared.local_function.emit.fault.EmitFault.{EmitFault}
-use Rattle.walrus_body.specs.declared.local_function.emit.fault.EmitFault.TheVariants.{Refused, NotCarried}
-use Rattle.walrus_body.specs.Emission.{Scope, Emitter, emitter_behind_all, first_emitter, output_of}
+use Rattle.walrus_body.specs.Emission.{output_of}
 use Rattle.walrus_body.specs.TreeWriting.Drafts.{Drafted}
-use Rattle.walrus_body.specs.TreeWriting.Emitters.{IsUncarried}
 use Rattle.walrus_body.specs.declared.local_function.emit.closing.Closer.TheVariants.{End}
 use Rattle.walrus_body.specs.TreeWriting.ScopeLists.{ScopeLists, ending}
-use Rattle.walrus_body.specs.TreeWriting.Faults.{fault_of_walk}
 
 -- what is written of the tree from a sequence on, behind so many bytes of others
 pub record IsDraftOf (b : List InstrSeq) (entry : ℕ) (to : Numbers) (base : ℕ) (has_map : Bool)
@@ -65,37 +57,8 @@ pub record IsFirstScope (b : List InstrSeq) (entry : ℕ) (scopes : ScopeLists) 
 
 -- ---- why it isn't written
 
--- Behind some of these events an operator is to be written that isn't carried.
-pub record StopsUncarried (s : Emitter) (es : List WalkEvent) : Type 0 where
-  pub before : List WalkEvent
-  pub event : WalkEvent
-  pub after : List WalkEvent
-  pub splits : es ≡ before ++ event ∷ after
-  pub emitter : Emitter
-  pub behind : emitter_behind_all s before ≡ Ok emitter
-  pub why : IsUncarried event
-
--- the scope of a whole tree: that of its sequence, which an `end` closes
-abbrev pub whole_scope : ℕ → InstrSeq → Scope
-whole_scope slot seq = record { slot = slot; closer = Some (at_location end_operation seq.end) }
-
--- an operator of the tree from a sequence on isn't carried
-pub record IsUncarriedTree (b : List InstrSeq) (entry : ℕ) (to : Numbers) : Type 0 where
-  pub tree : Tree SequenceAt LocatedInstr
-  pub is_tree : IsTree b entry tree
-  pub seq : InstrSeq
-  pub stands : slice_get b entry ≡ Some seq
-  pub base : ℕ
-  pub has_map : Bool
-  pub stops : StopsUncarried (first_emitter b to base has_map (whole_scope entry seq)) (events tree)
-
 -- Memory ran out, there is no tree, or the fault is the first of the tree in order of writing.
-abbrev pub IsUnwrittenFor : List InstrSeq → (entry : ℕ) → Numbers → EmitError → Type 0
-IsUnwrittenFor b entry to e =
+abbrev pub IsUnwritten : List InstrSeq → (entry : ℕ) → Numbers → EmitError → Type 0
+IsUnwritten b entry to e =
     (e ≡ Memory) ⊎ (((walk : WalkError) × FirstWalkFault b entry walk × (e ≡ fault_of_walk walk))
     ⊎ ((t : FunctionTree) × HasTree b entry t × (tree_bytes to t ≡ Err e)))
-
--- It isn't for this error; or an operator isn't carried.
-abbrev pub IsUnwritten : List InstrSeq → (entry : ℕ) → Numbers → EmitFault → Type 0
-IsUnwritten b entry to (Refused e) = IsUnwrittenFor b entry to e
-IsUnwritten b entry to NotCarried = IsUncarriedTree b entry to

@@ -3,8 +3,8 @@
 use Rattle.std.specs.Prelude.{◌≡◌, List, Ok}
 use Rattle.std.proofs.Common.{sym, ap, subst, ◌∙◌}
 use Rattle.walrus_ir.specs.Events.{WalkEvent, AreStepsAlike, AreRefusalsAlike}
+use Rattle.wasm_body.specs.declared.error.EmitError.{EmitError}
 use Rattle.walrus_body.specs.declared.local_function.emit.closing.SequenceScope.{SequenceScope}
-use Rattle.walrus_body.specs.declared.local_function.emit.fault.EmitFault.{EmitFault}
 use Rattle.walrus_body.specs.declared.local_function.emit.EmitVisitor.{EmitVisitor}
 use Rattle.walrus_body.specs.Emission.{Emitter, emitter_behind}
 use Rattle.walrus_body.specs.TreeWriting.Emitters.{emitter_at, IsFaultAt}
@@ -19,7 +19,7 @@ emitter_of v = emitter_at v.builder.now.sequences (numbers_of v.numbers) v.scope
 abbrev pub Steps : EmitVisitor → WalkEvent → EmitVisitor → Type 0
 Steps v e w = emitter_behind (emitter_of v) e ≡ Ok (emitter_of w)
 
-abbrev pub Refuses : EmitVisitor → WalkEvent → EmitFault → Type 0
+abbrev pub Refuses : EmitVisitor → WalkEvent → EmitError → Type 0
 Refuses v e f = IsFaultAt (emitter_of v) e f
 
 abbrev pub Same : EmitVisitor → EmitVisitor → Type 0

@@ -8,16 +8,13 @@ ghost use Rattle.wasm_body.specs.InstructionTable.{clauses_of_try};
 ghost use Rattle.wasm_body.specs.FlatText.{are_lawful as lawful_clauses};
 ghost use Rattle.walrus_body.specs.TreeWriting.Closers.{places_of};
 ghost use Rattle.walrus_body.specs.TreeWriting.Operators.{numbers_of, IsOperatorOf};
-ghost use Rattle.walrus_body.specs.declared.local_function.emit.fault.EmitFault.TheVariants.{Refused, NotCarried};
-ghost use Rattle.walrus_body.specs.TreeWriting.Carrying.{IsCarried};
-ghost use Rattle.walrus_body.specs.TreeWriting.Trees.{IsFirstScope, IsDraftOf, IsUnwritten, IsUnwrittenFor, Appends, AppendsBytes};
+ghost use Rattle.walrus_body.specs.TreeWriting.Trees.{IsFirstScope, IsDraftOf, IsUnwritten, Appends, AppendsBytes};
 ghost use Rattle.walrus_body.specs.TreeWriting.Emitters.{ClosesWith, IsFaultOfCloser};
 
 mod announcing;
 mod clauses;
 mod closing;
 mod draft;
-mod fault;
 mod labels;
 mod lists;
 pub(crate) mod number_maps;
@@ -32,7 +29,6 @@ use announcing::announce;
 use clauses::are_lawful;
 use closing::Closer;
 use draft::Draft;
-use fault::EmitFault;
 use lists::Lists;
 use number_maps::NumberMaps;
 use open_scopes::Scopes;
@@ -118,7 +114,7 @@ impl<'a> EmitVisitor<'a> {
         instr: &Instr,
         op: &OutOp<'_>,
         location: InstrLocId,
-    ) -> Result<(), EmitFault>
+    ) -> Result<(), EmitError>
         requires plain { slots_in instr.now ≡ [] }
         requires operator { IsOperatorOf (numbers_of self.old.numbers)
             (places_of self.old.scopes.open_scopes) (Simple None) instr.now (Ok op.now) }
@@ -126,15 +122,12 @@ impl<'a> EmitVisitor<'a> {
         ensures err { IfErr result (Refuses self.old (VisitInstruction instr.now location)) }
         ensures kept { OnErr result (Same self.old self.new) }
     {
-        match self.draft.write(op, location) {
-            Ok(()) => Ok(()),
-            Err(fault) => Err(EmitFault::Refused(fault)),
-        }
+        self.draft.write(op, location)
     }
 
     /// An instruction without sequences, of any kind.
     #[inline(never)]
-    fn visit_at_length(&mut self, instr: &Instr, location: InstrLocId) -> Result<(), EmitFault>
+    fn visit_at_length(&mut self, instr: &Instr, location: InstrLocId) -> Result<(), EmitError>
         requires { slots_in instr.now ≡ [] }
         ensures ok { OnOk result (Steps self.old (VisitInstruction instr.now location) self.new) }
         ensures err { IfErr result (Refuses self.old (VisitInstruction instr.now location)) }
@@ -143,7 +136,7 @@ impl<'a> EmitVisitor<'a> {
         let ty = InstrSeqType::Simple(None);
         let mut lists = Lists::new(self.builder.allocator());
         match operator_of(instr, ty, &self.scopes, &self.numbers, &mut lists) {
-            Ok(op) => Ok(self.draft.write_any(&op, location)?),
+            Ok(op) => self.draft.write_any(&op, location),
             Err(fault) => Err(fault),
         }
     }
@@ -155,7 +148,7 @@ impl<'a> EmitVisitor<'a> {
         instr: &Instr,
         load: &Load,
         location: InstrLocId,
-    ) -> Result<(), EmitFault>
+    ) -> Result<(), EmitError>
         requires { instr.now ≡ instruction.Load load.now }
         ensures ok { OnOk result (Steps self.old (VisitInstruction instr.now location) self.new) }
         ensures err { IfErr result (Refuses self.old (VisitInstruction instr.now location)) }
@@ -163,7 +156,7 @@ impl<'a> EmitVisitor<'a> {
     {
         let memory = match self.numbers.ids.get_memory_index(load.memory) {
             Ok(memory) => memory,
-            Err(fault) => return Err(EmitFault::Refused(EmitError::Index(fault))),
+            Err(fault) => return Err(EmitError::Index(fault)),
         };
         let memarg = memory_argument(load.arg, memory);
         let kind = load.kind;
@@ -177,7 +170,7 @@ impl<'a> EmitVisitor<'a> {
         instr: &Instr,
         store: &Store,
         location: InstrLocId,
-    ) -> Result<(), EmitFault>
+    ) -> Result<(), EmitError>
         requires { instr.now ≡ instruction.Store store.now }
         ensures ok { OnOk result (Steps self.old (VisitInstruction instr.now location) self.new) }
         ensures err { IfErr result (Refuses self.old (VisitInstruction instr.now location)) }
@@ -185,7 +178,7 @@ impl<'a> EmitVisitor<'a> {
     {
         let memory = match self.numbers.ids.get_memory_index(store.memory) {
             Ok(memory) => memory,
-            Err(fault) => return Err(EmitFault::Refused(EmitError::Index(fault))),
+            Err(fault) => return Err(EmitError::Index(fault)),
         };
         let memarg = memory_argument(store.arg, memory);
         let kind = store.kind;
@@ -199,7 +192,7 @@ impl<'a> EmitVisitor<'a> {
         instr: &Instr,
         call: &Call,
         location: InstrLocId,
-    ) -> Result<(), EmitFault>
+    ) -> Result<(), EmitError>
         requires { instr.now ≡ instruction.Call call.now }
         ensures ok { OnOk result (Steps self.old (VisitInstruction instr.now location) self.new) }
         ensures err { IfErr result (Refuses self.old (VisitInstruction instr.now location)) }
@@ -207,7 +200,7 @@ impl<'a> EmitVisitor<'a> {
     {
         match self.numbers.ids.get_func_index(call.func) {
             Ok(func) => self.write_plain(instr, &OutOp::Call { func }, location),
-            Err(fault) => Err(EmitFault::Refused(EmitError::Index(fault))),
+            Err(fault) => Err(EmitError::Index(fault)),
         }
     }
 
@@ -218,7 +211,7 @@ impl<'a> EmitVisitor<'a> {
         instr: &Instr,
         get: &GlobalGet,
         location: InstrLocId,
-    ) -> Result<(), EmitFault>
+    ) -> Result<(), EmitError>
         requires { instr.now ≡ instruction.GlobalGet get.now }
         ensures ok { OnOk result (Steps self.old (VisitInstruction instr.now location) self.new) }
         ensures err { IfErr result (Refuses self.old (VisitInstruction instr.now location)) }
@@ -226,7 +219,7 @@ impl<'a> EmitVisitor<'a> {
     {
         match self.numbers.ids.get_global_index(get.global) {
             Ok(global) => self.write_plain(instr, &OutOp::GlobalGet { global }, location),
-            Err(fault) => Err(EmitFault::Refused(EmitError::Index(fault))),
+            Err(fault) => Err(EmitError::Index(fault)),
         }
     }
 
@@ -237,7 +230,7 @@ impl<'a> EmitVisitor<'a> {
         instr: &Instr,
         set: &GlobalSet,
         location: InstrLocId,
-    ) -> Result<(), EmitFault>
+    ) -> Result<(), EmitError>
         requires { instr.now ≡ instruction.GlobalSet set.now }
         ensures ok { OnOk result (Steps self.old (VisitInstruction instr.now location) self.new) }
         ensures err { IfErr result (Refuses self.old (VisitInstruction instr.now location)) }
@@ -245,7 +238,7 @@ impl<'a> EmitVisitor<'a> {
     {
         match self.numbers.ids.get_global_index(set.global) {
             Ok(global) => self.write_plain(instr, &OutOp::GlobalSet { global }, location),
-            Err(fault) => Err(EmitFault::Refused(EmitError::Index(fault))),
+            Err(fault) => Err(EmitError::Index(fault)),
         }
     }
 
@@ -256,7 +249,7 @@ impl<'a> EmitVisitor<'a> {
         instr: &Instr,
         block: InstrSeqId,
         location: InstrLocId,
-    ) -> Result<(), EmitFault>
+    ) -> Result<(), EmitError>
         requires { instr.now ≡ instruction.Br (record { block = block }) }
         ensures ok { OnOk result (Steps self.old (VisitInstruction instr.now location) self.new) }
         ensures err { IfErr result (Refuses self.old (VisitInstruction instr.now location)) }
@@ -264,7 +257,7 @@ impl<'a> EmitVisitor<'a> {
     {
         match self.scopes.depth(block) {
             Ok(label) => self.write_plain(instr, &OutOp::Br { label }, location),
-            Err(fault) => Err(EmitFault::Refused(fault)),
+            Err(fault) => Err(fault),
         }
     }
 
@@ -275,7 +268,7 @@ impl<'a> EmitVisitor<'a> {
         instr: &Instr,
         block: InstrSeqId,
         location: InstrLocId,
-    ) -> Result<(), EmitFault>
+    ) -> Result<(), EmitError>
         requires { instr.now ≡ instruction.BrIf (record { block = block }) }
         ensures ok { OnOk result (Steps self.old (VisitInstruction instr.now location) self.new) }
         ensures err { IfErr result (Refuses self.old (VisitInstruction instr.now location)) }
@@ -283,13 +276,13 @@ impl<'a> EmitVisitor<'a> {
     {
         match self.scopes.depth(block) {
             Ok(label) => self.write_plain(instr, &OutOp::BrIf { label }, location),
-            Err(fault) => Err(EmitFault::Refused(fault)),
+            Err(fault) => Err(fault),
         }
     }
 
     /// An instruction without sequences. The common ones are written here, each where its operator
     /// is made.
-    fn visit_plain(&mut self, instr: &Instr, location: InstrLocId) -> Result<(), EmitFault>
+    fn visit_plain(&mut self, instr: &Instr, location: InstrLocId) -> Result<(), EmitError>
         requires { slots_in instr.now ≡ [] }
         ensures ok { OnOk result (Steps self.old (VisitInstruction instr.now location) self.new) }
         ensures err { IfErr result (Refuses self.old (VisitInstruction instr.now location)) }
@@ -316,30 +309,30 @@ impl<'a> EmitVisitor<'a> {
     }
 
     /// An instruction, whose sequences are to begin. Where it fails some of them may be.
-    fn begin_construct(&mut self, instr: &Instr, location: InstrLocId) -> Result<(), EmitFault>
+    fn begin_construct(&mut self, instr: &Instr, location: InstrLocId) -> Result<(), EmitError>
         ensures ok { OnOk result (Steps self.old (VisitInstruction instr.now location) self.new) }
         ensures err { IfErr result (Refuses self.old (VisitInstruction instr.now location)) }
         ensures kept { OnErr result (HasOnlyMore self.old self.new) }
     {
         let ty = match first_type(self.builder, instr) {
             Ok(ty) => ty,
-            Err(fault) => return Err(EmitFault::Refused(fault)),
+            Err(fault) => return Err(fault),
         };
         if !has_lawful_clauses(instr) {
-            return Err(EmitFault::Refused(EmitError::BadClauses));
+            return Err(EmitError::BadClauses);
         }
         let mut lists = Lists::new(self.builder.allocator());
         match operator_of(instr, ty, &self.scopes, &self.numbers, &mut lists) {
             Ok(op) => match announce(&mut self.scopes, self.builder, instr) {
-                Ok(()) => Ok(self.draft.write_any(&op, location)?),
-                Err(fault) => Err(EmitFault::Refused(fault)),
+                Ok(()) => self.draft.write_any(&op, location),
+                Err(fault) => Err(fault),
             },
             Err(fault) => Err(fault),
         }
     }
 
     /// An instruction with sequences.
-    fn visit_construct(&mut self, instr: &Instr, location: InstrLocId) -> Result<(), EmitFault>
+    fn visit_construct(&mut self, instr: &Instr, location: InstrLocId) -> Result<(), EmitError>
         ensures ok { OnOk result (Steps self.old (VisitInstruction instr.now location) self.new) }
         ensures err { IfErr result (Refuses self.old (VisitInstruction instr.now location)) }
         ensures kept { OnErr result (Same self.old self.new) }
@@ -356,7 +349,7 @@ impl<'a> EmitVisitor<'a> {
 }
 
 impl Visitor for EmitVisitor<'_> {
-    type Fault = EmitFault;
+    type Fault = EmitError;
 
     ghost use Rattle.walrus_body.specs.TreeWriting.Visiting.{Steps, Refuses, Same};
 
@@ -379,27 +372,24 @@ impl Visitor for EmitVisitor<'_> {
 
     ghost refuses_alike = { same_refusals };
 
-    fn start_instr_seq(&mut self, _seq: &InstrSeq) -> Result<(), EmitFault> {
-        match self.scopes.begin() {
-            Ok(()) => Ok(()),
-            Err(fault) => Err(EmitFault::Refused(fault)),
-        }
+    fn start_instr_seq(&mut self, _seq: &InstrSeq) -> Result<(), EmitError> {
+        self.scopes.begin()
     }
 
-    fn end_instr_seq(&mut self, _seq: &InstrSeq) -> Result<(), EmitFault> {
+    fn end_instr_seq(&mut self, _seq: &InstrSeq) -> Result<(), EmitError> {
         let Some(scope) = self.scopes.innermost() else {
-            return Err(EmitFault::Refused(EmitError::UnknownSequence));
+            return Err(EmitError::UnknownSequence);
         };
         match write_closer(&mut self.draft, scope.closer, &self.numbers) {
             Ok(()) => {
                 self.scopes.leave();
                 Ok(())
             }
-            Err(fault) => Err(EmitFault::Refused(fault)),
+            Err(fault) => Err(fault),
         }
     }
 
-    fn visit_instr(&mut self, instr: &Instr, location: &InstrLocId) -> Result<(), EmitFault> {
+    fn visit_instr(&mut self, instr: &Instr, location: &InstrLocId) -> Result<(), EmitError> {
         match instr {
             Instr::Block(_)
             | Instr::Loop(_)
@@ -410,15 +400,15 @@ impl Visitor for EmitVisitor<'_> {
         }
     }
 
-    fn visit_ref_func(&mut self, _instr: &RefFunc) -> Result<(), EmitFault> {
+    fn visit_ref_func(&mut self, _instr: &RefFunc) -> Result<(), EmitError> {
         Ok(())
     }
 
-    fn visit_local_id(&mut self, _local: &LocalId) -> Result<(), EmitFault> {
+    fn visit_local_id(&mut self, _local: &LocalId) -> Result<(), EmitError> {
         Ok(())
     }
 
-    fn visit_data_id(&mut self, _data_id: &DataId) -> Result<(), EmitFault> {
+    fn visit_data_id(&mut self, _data_id: &DataId) -> Result<(), EmitError> {
         Ok(())
     }
 }
@@ -437,25 +427,25 @@ fn first_scopes(builder: &FunctionBuilder, entry: InstrSeqId) -> Result<Scopes, 
 ///
 /// # Errors
 ///
-/// Where there is no tree, the first fault in walk order; else the first fault in order of writing,
-/// or `NotCarried`. Or memory runs out.
+/// Where there is no tree, the first fault in walk order; else the first fault in order of writing.
+/// Or memory runs out.
 fn draft_tree(
     builder: &FunctionBuilder,
     entry: InstrSeqId,
     numbers: &NumberMaps<'_>,
     base: usize,
     has_map: bool,
-) -> Result<Draft, EmitFault>
+) -> Result<Draft, EmitError>
     ensures ok { IfOk result (IsDraftOf builder.now.sequences entry (numbers_of numbers.now)
         base has_map) }
     ensures err { IfErr result (IsUnwritten builder.now.sequences entry (numbers_of numbers.now)) }
 {
     if !builder.has(entry) {
-        return Err(EmitFault::Refused(EmitError::UnknownSequence));
+        return Err(EmitError::UnknownSequence);
     }
     let scopes = match first_scopes(builder, entry) {
         Ok(scopes) => scopes,
-        Err(_) => return Err(EmitFault::Refused(EmitError::Memory)),
+        Err(_) => return Err(EmitError::Memory),
     };
     let mut visitor = EmitVisitor {
         builder,
@@ -477,15 +467,15 @@ fn draft_tree(
 ///
 /// # Errors
 ///
-/// Where there is no tree, the first fault in walk order; else the first fault in order of writing,
-/// or `NotCarried`. Or memory runs out. The encoder and the list are then as before.
-pub(crate) fn emit_tree_with_map(
+/// Where there is no tree, the first fault in walk order; else the first fault in order of writing.
+/// Or memory runs out. The encoder and the list are then as before.
+pub(crate) fn emit_with_map(
     builder: &FunctionBuilder,
     entry: InstrSeqId,
     numbers: &NumberMaps<'_>,
     encoder: &mut FunctionEncoder,
     map: &mut Vec<(InstrLocId, usize)>,
-) -> Result<(), EmitFault>
+) -> Result<(), EmitError>
     ensures ok { OnOk result (Appends builder.now.sequences entry (numbers_of numbers.now)
         encoder.old encoder.new map.old.items map.new.items) }
     ensures err { IfErr result (IsUnwritten builder.now.sequences entry (numbers_of numbers.now)) }
@@ -495,7 +485,7 @@ pub(crate) fn emit_tree_with_map(
     match draft_tree(builder, entry, numbers, encoder.byte_len(), true) {
         Ok(draft) => match draft.hand_over(encoder, map) {
             Ok(()) => Ok(()),
-            Err(_) => Err(EmitFault::Refused(EmitError::Memory)),
+            Err(_) => Err(EmitError::Memory),
         },
         Err(fault) => Err(fault),
     }
@@ -505,13 +495,13 @@ pub(crate) fn emit_tree_with_map(
 ///
 /// # Errors
 ///
-/// Those of `emit_tree_with_map`. The encoder is then as before.
-pub(crate) fn emit_tree(
+/// Those of `emit_with_map`. The encoder is then as before.
+pub(crate) fn emit_without_map(
     builder: &FunctionBuilder,
     entry: InstrSeqId,
     numbers: &NumberMaps<'_>,
     encoder: &mut FunctionEncoder,
-) -> Result<(), EmitFault>
+) -> Result<(), EmitError>
     ensures ok { OnOk result (AppendsBytes builder.now.sequences entry (numbers_of numbers.now)
         encoder.old encoder.new) }
     ensures err { IfErr result (IsUnwritten builder.now.sequences entry (numbers_of numbers.now)) }
@@ -520,62 +510,8 @@ pub(crate) fn emit_tree(
     match draft_tree(builder, entry, numbers, encoder.byte_len(), false) {
         Ok(draft) => match draft.hand_over_bytes(encoder) {
             Ok(()) => Ok(()),
-            Err(_) => Err(EmitFault::Refused(EmitError::Memory)),
+            Err(_) => Err(EmitError::Memory),
         },
         Err(fault) => Err(fault),
-    }
-}
-
-/// The error of a fault that isn't `NotCarried`.
-fn refused(fault: EmitFault) -> EmitError
-    requires { (fault ≡ NotCarried) → ⊥ }
-    ensures { fault ≡ Refused result }
-{
-    match fault {
-        EmitFault::Refused(error) => error,
-        EmitFault::NotCarried => unreachable!(),
-    }
-}
-
-/// Appends a tree and its pairs, as `emit_tree_with_map`, where an operator is carried for each
-/// instruction.
-pub(crate) fn emit_with_map(
-    builder: &FunctionBuilder,
-    entry: InstrSeqId,
-    numbers: &NumberMaps<'_>,
-    encoder: &mut FunctionEncoder,
-    map: &mut Vec<(InstrLocId, usize)>,
-) -> Result<(), EmitError>
-    requires carried { IsCarried builder.now.sequences entry }
-    ensures ok { OnOk result (Appends builder.now.sequences entry (numbers_of numbers.now)
-        encoder.old encoder.new map.old.items map.new.items) }
-    ensures err { IfErr result (IsUnwrittenFor builder.now.sequences entry
-        (numbers_of numbers.now)) }
-    ensures same_bytes { OnErr result (encoder.new ≡ encoder.old) }
-    ensures same_pairs { OnErr result (map.new.items ≡ map.old.items) }
-{
-    match emit_tree_with_map(builder, entry, numbers, encoder, map) {
-        Ok(()) => Ok(()),
-        Err(fault) => Err(refused(fault)),
-    }
-}
-
-/// Appends a tree, as `emit_tree`, where an operator is carried for each instruction.
-pub(crate) fn emit_without_map(
-    builder: &FunctionBuilder,
-    entry: InstrSeqId,
-    numbers: &NumberMaps<'_>,
-    encoder: &mut FunctionEncoder,
-) -> Result<(), EmitError>
-    requires carried { IsCarried builder.now.sequences entry }
-    ensures ok { OnOk result (AppendsBytes builder.now.sequences entry (numbers_of numbers.now)
-        encoder.old encoder.new) }
-    ensures err { IfErr result (IsUnwrittenFor builder.now.sequences entry
-        (numbers_of numbers.now)) }
-    ensures same_bytes { OnErr result (encoder.new ≡ encoder.old) }
-{
-    match emit_tree(builder, entry, numbers, encoder) {
-        Ok(()) => Ok(()),
-        Err(fault) => Err(refused(fault)),
     }
 }

@@ -29,10 +29,19 @@ impl BodyParser<'_> {
           target = x.2;
         }) result (cast_in self.now cast) }
     {
-        let block = self.label(cast.label)?;
         let indices = self.context.indices();
-        let source = heap_type_of(indices, cast.source)?;
-        Ok((block, source, heap_type_of(indices, cast.target)?))
+        let block = match self.label(cast.label) {
+            Ok(block) => block,
+            Err(error) => return Err(error),
+        };
+        let source = match heap_type_of(indices, cast.source) {
+            Ok(source) => source,
+            Err(error) => return Err(error),
+        };
+        match heap_type_of(indices, cast.target) {
+            Ok(target) => Ok((block, source, target)),
+            Err(error) => Err(error),
+        }
     }
 
     /// The instruction of an operator on references, structs or arrays.

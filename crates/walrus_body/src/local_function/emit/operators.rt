@@ -12,7 +12,6 @@ ghost use Rattle.walrus_body.specs.TreeWriting.Operators.{numbers_of, IsOperator
 
 use crate::EmitError;
 use crate::local_function::emit::closing::Closer;
-use crate::local_function::emit::fault::EmitFault;
 use crate::local_function::emit::labels::branch_table;
 use crate::local_function::emit::lists::Lists;
 use crate::local_function::emit::number_maps::NumberMaps;
@@ -47,8 +46,8 @@ pub(crate) fn memory_argument(arg: MemArg, memory: u32) -> RawMemArg
 fn local_index(numbers: &NumberMaps<'_>, local: LocalId) -> Result<u32, EmitError>
     ensures { result ≡ (numbers_of numbers.now).local_number local }
 {
-    match numbers.locals.get(&local) {
-        Some(number) => Ok(*number),
+    match numbers.locals.get(&local).copied() {
+        Some(number) => Ok(number),
         None => Err(EmitError::UnnumberedLocal),
     }
 }
@@ -106,9 +105,8 @@ macro_rules! operator_row {
                 $($field: index!($numbers $space x.$id)),*
             }),)*)*
             _ => match reference_operator($instr, $scopes, $numbers) {
-                Ok(Some(op)) => Ok(OutOp::Reference(op)),
-                Ok(None) => Err(EmitFault::NotCarried),
-                Err(fault) => Err(EmitFault::Refused(fault)),
+                Ok(op) => Ok(OutOp::Reference(op)),
+                Err(fault) => Err(fault),
             },
         }
     };
@@ -123,7 +121,7 @@ pub(crate) fn operator_of<'t>(
     scopes: &Scopes,
     numbers: &NumberMaps<'_>,
     lists: &'t mut Lists,
-) -> Result<OutOp<'t>, EmitFault>
+) -> Result<OutOp<'t>, EmitError>
     ensures writable { IfOk result (λ op. IsWritable (meaning op)) }
     ensures operator { IsOperatorOf (numbers_of numbers.now) (places_of scopes.now.open_scopes)
         ty instr.now result }
@@ -147,7 +145,7 @@ pub(crate) fn operator_of<'t>(
             let ty = block_type(numbers, ty)?;
             match table_clauses(construct, scopes, numbers, &mut lists.clauses) {
                 Ok(catches) => Ok(OutOp::TryTable { ty, catches }),
-                Err(fault) => Err(EmitFault::Refused(fault)),
+                Err(fault) => Err(fault),
             }
         }
         Instr::Rethrow(Rethrow { relative_depth }) => Ok(OutOp::Rethrow {
@@ -162,7 +160,7 @@ pub(crate) fn operator_of<'t>(
         }),
         Instr::BrTable(table) => match branch_table(table, scopes, &mut lists.labels) {
             Ok(table) => Ok(OutOp::BrTable(table)),
-            Err(fault) => Err(EmitFault::Refused(fault)),
+            Err(fault) => Err(fault),
         },
         Instr::Return => Ok(OutOp::Return),
         Instr::Drop => Ok(OutOp::Drop),

@@ -1,6 +1,6 @@
 //! The types that a tree names, with the numbers that are written for them.
 ghost use Rattle.std.specs.Prelude.{◌≡◌};
-ghost use Rattle.wasm_body.specs.Bytes.{numbered_block};
+ghost use Rattle.wasm_body.specs.Bytes.{numbered_block, numbers_in_32_bits};
 ghost use Rattle.wasm_body.specs.Translation.{translate_heap, translate_value};
 ghost use Rattle.walrus_body.specs.TreeWriting.Operators.{numbers_of};
 
@@ -11,7 +11,8 @@ use wasm_ops::{BlockType, RawHeapType, RawValType};
 
 /// A heap type with the number of the type that it names, if it names one.
 pub(crate) fn heap_type(numbers: &NumberMaps<'_>, ty: HeapType) -> Result<RawHeapType, EmitError>
-    ensures { result ≡ translate_heap (numbers_of numbers.now).number_of ty }
+    ensures { result
+        ≡ translate_heap (numbers_in_32_bits (numbers_of numbers.now)).number_of ty }
 {
     match ty {
         HeapType::Abstract(ty) => Ok(HeapType::Abstract(ty)),
@@ -21,7 +22,8 @@ pub(crate) fn heap_type(numbers: &NumberMaps<'_>, ty: HeapType) -> Result<RawHea
 
 /// A value type with the numbers of the types that it names.
 pub(crate) fn value_type(numbers: &NumberMaps<'_>, ty: ValType) -> Result<RawValType, EmitError>
-    ensures { result ≡ translate_value (numbers_of numbers.now).number_of ty }
+    ensures { result
+        ≡ translate_value (numbers_in_32_bits (numbers_of numbers.now)).number_of ty }
 {
     match ty {
         ValType::I32 => Ok(ValType::I32),

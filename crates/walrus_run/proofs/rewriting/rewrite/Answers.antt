@@ -1,7 +1,7 @@
 use Rattle.std.proofs.Common.{◌≡◌, Ok, sym, subst}
 use Rattle.std.specs.Prelude.{IsOk}
 use Rattle.wasm_body.specs.Bytes.{tree_bytes}
-use Rattle.walrus_run.proofs.RewritingLemmas.{demo_tree, demo_accepts, demo_refuses, accepted_written, accepted_carried}
+use Rattle.walrus_run.proofs.RewritingLemmas.{demo_tree, demo_accepts, demo_refuses, accepted_written}
 use Rattle.walrus_run.proofs.rewriting.rewrite.Goals as goal
 
 pub written_operators-requires : goal.written_operators-requires
@@ -12,7 +12,6 @@ written_operators-requires c =
       demo_tree x.0,
       x.2,
       subst (λ n. IsOk (tree_bytes n (demo_tree x.0))) (sym c.requires.numbers_are) (accepted_written a.ops.now x.0 x.1),
-      accepted_carried a.ops.now x.0 x.1,
     )
 
 pub returns-in-Ok-written_operators-clause-ok : goal.returns-in-Ok-written_operators-clause-ok

@@ -1,5 +1,5 @@
 use Rattle.std.proofs.Common.{inl, inr, reverse, sym, ap, ◌∙◌, Ok}
-use Rattle.walrus_body.proofs.Parsing.Delegates.{none_open, no_try_body, no_depth, delegates_to, still_open, ends_delegate}
+use Rattle.walrus_body.proofs.Parsing.Delegates.{none_open, no_try_body, no_depth, delegates_to, ends_delegate}
 use Rattle.walrus_body.proofs.local_function.body_parser.BodyParser.close_delegate.Goals as goal
 
 pub returns-in-Err-clause-step : goal.returns-in-Err-clause-step

@@ -1,4 +1,4 @@
-use Rattle.std.proofs.Common.{inl, inr, reverse, sym, ap, ◌∙◌, Ok, Err}
+use Rattle.std.proofs.Common.{inl, inr, reverse, sym}
 use Rattle.walrus_ir.specs.declared.control.BlockKind.TheVariants as kind
 use Rattle.walrus_body.specs.Parsing.OpenTrees.{env_of}
 use Rattle.walrus_body.proofs.Parsing.Openings.{appended_steps}
