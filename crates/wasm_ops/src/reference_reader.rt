@@ -113,31 +113,30 @@ fn read_conversion(number: u32, bytes: &[u8]) -> Result<(Operator<'_>, &[u8]), R
     }
 }
 
-/// The operator of a row, of what is at the front, and what follows it.
+/// The operator of the indices at the front, and what follows it.
 macro_rules! read_row {
-    ($bytes:ident $name:ident $index:ident ;) => {
+    ($bytes:ident $name:ident $index:ident) => {
         made!(read_u32($bytes), $index => Operator::Reference(ReferenceOp::$name { $index }))
     };
-    ($bytes:ident $name:ident $one:ident $two:ident ;) => {
+    ($bytes:ident $name:ident $one:ident $two:ident) => {
         made!(
             read_pair($bytes), ($one, $two) => Operator::Reference(ReferenceOp::$name { $one, $two })
         )
-    };
-    ($bytes:ident $name:ident $one:ident ; $two:ident) => {
-        read_row!($bytes $name $one $two ;)
     };
 }
 
 /// Reads the operator that has the number behind 0xfb: those of the rows, and the others.
 macro_rules! read_number {
     (
-        ($number:ident $bytes:ident)
-        $($row:literal $name:ident { $($field:ident $id:ident $space:ident),* } { $($last:ident)* })*
+        ($code:ident $bytes:ident)
+        { $($row:literal $name:ident { $($field:ident $id:ident $space:ident),* })* }
+        { $($numbered:literal $with:ident { $index:ident $key:ident $kind:ident, $number:ident })* }
     ) => {
-        match $number {
-            $($row => read_row!($bytes $name $($field)* ; $($last)*),)*
+        match $code {
+            $($row => read_row!($bytes $name $($field)*),)*
+            $($numbered => read_row!($bytes $with $index $number),)*
             15 => Ok((Operator::Reference(ReferenceOp::ArrayLen), $bytes)),
-            20..=30 => read_conversion($number, $bytes),
+            20..=30 => read_conversion($code, $bytes),
             _ => Err(ReadFault::UnknownOperator),
         }
     };

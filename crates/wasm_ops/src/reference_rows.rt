@@ -31,25 +31,24 @@ fn by_null(nullable: bool, number: u32, nullable_number: u32) -> Opcode
 macro_rules! opcode_row {
     (
         ($op:ident, $($others:tt)*)
-        $($row:literal $name:ident { $($field:ident $id:ident $space:ident),* } { $($last:ident)* })*
+        { $($row:literal $name:ident { $($field:ident $id:ident $space:ident),* })* }
+        { $($numbered:literal $with:ident { $index:ident $key:ident $kind:ident, $number:ident })* }
     ) => {
         match $op {
             $($others)*
             $(ReferenceOp::$name { .. } => Prefixed(0xfb, $row),)*
+            $(ReferenceOp::$with { .. } => Prefixed(0xfb, $numbered),)*
         }
     };
 }
 
-/// What follows the opcode of a row.
-macro_rules! behind_row {
-    ($space:ident $index:ident ;) => {
+/// What follows an opcode: one index, or two.
+macro_rules! indices_of {
+    ($space:ident $index:ident) => {
         Index(Space::$space, $index)
     };
-    ($first:ident $one:ident $second:ident $two:ident ;) => {
+    ($first:ident $one:ident $second:ident $two:ident) => {
         Pair(Space::$first, $one, Space::$second, $two)
-    };
-    ($space:ident $index:ident ; $number:ident) => {
-        IndexNumber(Space::$space, $index, $number)
     };
 }
 
@@ -57,12 +56,14 @@ macro_rules! behind_row {
 macro_rules! immediates_row {
     (
         ($op:ident, $($others:tt)*)
-        $($row:literal $name:ident { $($field:ident $id:ident $space:ident),* } { $($last:ident)* })*
+        { $($row:literal $name:ident { $($field:ident $id:ident $space:ident),* })* }
+        { $($numbered:literal $with:ident { $index:ident $key:ident $kind:ident, $number:ident })* }
     ) => {
         match $op {
             $($others)*
-            $(ReferenceOp::$name { $($field,)* $($last,)* } => {
-                behind_row!($($space $field)* ; $($last)*)
+            $(ReferenceOp::$name { $($field),* } => indices_of!($($space $field)*),)*
+            $(ReferenceOp::$with { $index, $number } => {
+                IndexNumber(Space::$kind, $index, $number)
             })*
         }
     };

@@ -21,13 +21,17 @@ use wasm_ops::{RawCast, ReferenceOp, aggregate_rows};
 macro_rules! instruction_row {
     (
         ($indices:ident $op:ident, $($others:tt)*)
-        $($row:literal $name:ident { $($field:ident $id:ident $space:ident),* } { $($last:ident)* })*
+        { $($row:literal $name:ident { $($field:ident $id:ident $space:ident),* })* }
+        { $($numbered:literal $with:ident { $index:ident $key:ident $kind:ident, $number:ident })* }
     ) => {
         match *$op {
             $($others)*
-            $(ReferenceOp::$name { $($field,)* $($last,)* } => Ok(Instr::$name(walrus_ir::$name {
-                $($id: id!($indices $space $field),)*
-                $($last,)*
+            $(ReferenceOp::$name { $($field),* } => Ok(Instr::$name(walrus_ir::$name {
+                $($id: id!($indices $space $field)),*
+            })),)*
+            $(ReferenceOp::$with { $index, $number } => Ok(Instr::$with(walrus_ir::$with {
+                $key: id!($indices $kind $index),
+                $number,
             })),)*
         }
     };

@@ -21,13 +21,20 @@ use wasm_ops::{RawCast, ReferenceOp, aggregate_rows};
 macro_rules! operator_row {
     (
         ($numbers:ident $instr:ident, $($others:tt)*)
-        $($row:literal $name:ident { $($field:ident $id:ident $space:ident),* } { $($last:ident)* })*
+        { $($row:literal $name:ident { $($field:ident $id:ident $space:ident),* })* }
+        { $($numbered:literal $with:ident { $index:ident $key:ident $kind:ident, $number:ident })* }
     ) => {
         match $instr {
-            $(Instr::$name(walrus_ir::$name { $($id,)* $($last,)* }) => Ok(ReferenceOp::$name {
-                $($field: index!($numbers $space *$id),)*
-                $($last: *$last,)*
+            $(Instr::$name(x) => Ok(ReferenceOp::$name {
+                $($field: index!($numbers $space x.$id)),*
             }),)*
+            $(Instr::$with(x) => {
+                let $number = x.$number;
+                Ok(ReferenceOp::$with {
+                    $index: index!($numbers $kind x.$key),
+                    $number,
+                })
+            })*
             $($others)*
         }
     };
