@@ -1,7 +1,7 @@
 -- The numbers of a function's locals, which index them (WebAssembly core specification 3.0, indices: the arguments come
 -- first), and the declarations of those that are no arguments (binary format, code section).
-use Rattle.std.specs.Prelude.{◌≡◌, ℕ, ◌+◌, ◌≤◌, ◌^◌, ◌==◌, nat_le, List, [], ◌∷◌, ◌++◌, Bool, false, not, ◌&&◌, if◌then◌else◌, Option, Some, None, Result, Ok, length, map, replicate, slice_get, All}
-use Rattle.std.specs.List.{AllAdjacentBelow, flat_map}
+use Rattle.std.specs.Prelude.{◌≡◌, ℕ, ◌+◌, ◌≤◌, ◌^◌, ◌==◌, nat_le, nat_lt, List, [], ◌∷◌, ◌++◌, Bool, false, not, ◌&&◌, if◌then◌else◌, Option, Some, None, Result, Ok, length, map, replicate, slice_get, All}
+use Rattle.std.specs.List.{AllAdjacentBelow, flat_map, list_all}
 use Rattle.std.specs.Option.{option_map, option_or}
 use Rattle.std.specs.Ordering.{nat_cmp, ordering_then}
 use Rattle.std.specs.declared.cmp.Ordering.{Ordering}
@@ -14,7 +14,7 @@ use Rattle.walrus_ir.specs.Unfolding.{among, Apart}
 use Rattle.wasm_body.specs.declared.error.EmitError.{EmitError}
 use Rattle.wasm_body.specs.declared.error.EmitError.TheVariants.{TooLarge}
 use Rattle.wasm_body.specs.Translation.{translate_value}
-use Rattle.wasm_body.specs.Bytes.{Numbers, numbers_in_32_bits, in_32_bits}
+use Rattle.wasm_body.specs.Bytes.{Numbers, numbers_in_32_bits}
 
 -- A local: its type and its id.
 abbrev pub Local : Type 0
@@ -66,14 +66,15 @@ runs (t ∷ ts) = one_more t (runs ts)
 abbrev pub declaration : Numbers → ℕ × ValType ℕ → Result (ℕ × ValType ℕ) EmitError
 declaration to run = translate_value (numbers_in_32_bits to).number_of run.1 >>= λ type. Ok (run.0, type)
 
--- The declarations of the locals behind so many arguments: each run of one type. The numbers of the locals, the number of
--- runs and the count of each have to fit 32 bits.
+-- The declarations of runs. Their number and each count have to fit 32 bits.
+abbrev pub declarations : Numbers → List (ℕ × ValType ℕ) → Result (List (ℕ × ValType ℕ)) EmitError
+declarations to rs =
+    unless (nat_lt (length rs) (2 ^ 32) && list_all (λ run. nat_lt run.0 (2 ^ 32)) rs) TooLarge >>= λ _. each (declaration to) rs
+
+-- The declarations of these locals behind so many arguments, all of which have to have a number in 32 bits.
 abbrev pub declared : Numbers → (arguments : ℕ) → List Local → Result (List (ℕ × ValType ℕ)) EmitError
 declared to arguments locals =
-    unless (nat_le (arguments + length locals) (2 ^ 32)) TooLarge >>= λ _.
-    in_32_bits (length (runs (types_of locals))) >>= λ _.
-    each (λ run. in_32_bits run.0) (runs (types_of locals)) >>= λ _.
-    each (declaration to) (runs (types_of locals))
+    unless (nat_le (arguments + length locals) (2 ^ 32)) TooLarge >>= λ _. declarations to (runs (types_of locals))
 
 -- ---- laws
 
