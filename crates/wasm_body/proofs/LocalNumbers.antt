@@ -1,5 +1,5 @@
 -- The numbers of locals, and their declarations.
-use Rattle.std.proofs.Common.{◌≡◌, ℕ, zero, suc, ◌+◌, ◌≤◌, ◌==◌, List, [], ◌∷◌, ◌++◌, Bool, true, false, not, ◌&&◌, ◌||◌, cond, Some, None, ◌⊎◌, inl, inr, subst, get_or, replicate, length, slice_get, refl, sym, ap, ◌∙◌, arith, add-one}
+use Rattle.std.proofs.Common.{◌≡◌, ℕ, zero, suc, ◌+◌, ◌≤◌, ◌==◌, List, [], ◌∷◌, ◌++◌, Bool, true, false, Decides, not, ◌&&◌, ◌||◌, cond, Some, None, ◌⊎◌, inl, inr, subst, get_or, replicate, length, slice_get, refl, sym, ap, ◌∙◌, arith, add-one}
 use Rattle.std.specs.List.{All, AllByRecursion, AllAdjacentBelow}
 use Rattle.std.specs.Option.{option_map, option_or}
 use Rattle.std.specs.Ordering.{ordering_reverse}
@@ -9,7 +9,7 @@ use Rattle.std.proofs.lemmas.Bool.{eqb-true, eq-eqb}
 use Rattle.std.proofs.lemmas.List.Folds.{list_any-append}
 use Rattle.std.proofs.lemmas.Cmp.{nat_eq_equiv, on_total, then_total, nat_cmp_total, nat_list_cmp_total}
 use Rattle.std.proofs.lemmas.List.Elements.{recursion_from_All, All-nil, All-cons, All-tail}
-use Rattle.std.proofs.Math.Bool.{or-true}
+use Rattle.std.proofs.Math.Bool.{and-true, or-true}
 use Rattle.std.proofs.lemmas.Option.{none-some, same_Some, cond_some}
 use Rattle.walrus_ir.specs.declared.val_type.ValType.{ValType}
 use Rattle.walrus_ir.specs.Types.{same_type}
@@ -136,7 +136,7 @@ one_declared types args used ls ms a b =
 
 -- ---- numbers
 
-last_place_get : (xs : List ℕ) (id n : ℕ) → last_place xs id ≡ Some n → slice_get xs n ≡ Some id
+pub last_place_get : (xs : List ℕ) (id n : ℕ) → last_place xs id ≡ Some n → slice_get xs n ≡ Some id
 last_place_get [] id n h = absurd (none-some n h)
 last_place_get (x ∷ xs) id n h =
     elim (last_place xs id) as (λ o. last_place xs id ≡ o → option_or (option_map (λ n. n + 1) o) (cond (x == id) (Some 0) None) ≡ Some n → slice_get (x ∷ xs) n ≡ Some id) [
@@ -213,10 +213,14 @@ places_are_numbers types args used ls d apart n id h =
 
 -- ---- runs
 
+pub same_type-Decides : (t u : ValType ℕ) → Decides (same_type t u) (t ≡ u)
+same_type-Decides t u =
+    let lists = same_types-Decides (t ∷ []) (u ∷ []) in
+    let alone : (same_type t u && true) ≡ same_type t u = and-true (same_type t u) in
+    (λ h. let same = lists.0 (alone ∙ h) in cc, λ e. sym alone ∙ lists.1 (ap (λ v. v ∷ []) e))
+
 same_type-true : (t u : ValType ℕ) → same_type t u ≡ true → t ≡ u
-same_type-true t u h =
-    let lists = (same_types-Decides (t ∷ []) (u ∷ [])).0 (ap (λ b. b && true) h) in
-    cc
+same_type-true t u h = (same_type-Decides t u).0 h
 
 one_more_whole : (t : ValType ℕ) (rs : List (ℕ × ValType ℕ)) → spread (one_more t rs) ≡ t ∷ spread rs
 one_more_whole t [] = refl

@@ -1,9 +1,10 @@
 //! The numbers of a function's locals, and the declarations of those that are no arguments.
-ghost use Rattle.std.specs.Prelude.{◌≡◌, ◌⊎◌, ◌≤◌, ◌+◌, ◌^◌, ◌==◌, ℕ, true, nat_lt, is_some, length, IfOk, IfErr, OnOk, Ok, Err};
+ghost use Rattle.std.specs.Prelude.{◌≡◌, ◌⊎◌, ◌≤◌, ◌+◌, ◌^◌, ◌==◌, ℕ, [], true, nat_lt, is_some, length, IfOk, IfErr, OnOk, Ok, Err};
 ghost use Rattle.std.specs.HashSet.{contains};
 ghost use Rattle.std.specs.List.{list_all};
 ghost use Rattle.std.specs.Option.{option_map};
 ghost use Rattle.walrus_ir.specs.Results.{each};
+ghost use Rattle.walrus_ir.specs.Types.{same_type};
 ghost use Rattle.walrus_ir.specs.Unfolding.{among};
 ghost use Rattle.wasm_body.specs.declared.error.EmitError.TheVariants.{Memory, UnknownLocal};
 ghost use Rattle.wasm_body.specs.LocalNumbers.{AreDeclared, types_of, ids_of, last_place, number_of_local, runs, declaration, declarations};
@@ -106,12 +107,20 @@ fn number_others(
     Ok(())
 }
 
+/// Whether the types are the same.
+fn are_same(a: &ValType, b: &ValType) -> bool
+    ensures { result ≡ same_type a.now b.now }
+{
+    a == b
+}
+
 /// How many locals from the first on are of a type.
-fn leading(ty: ValType, locals: &[(ValType, LocalId)]) -> usize
-    ensures { result ≡ leading ty (types_of locals.now) }
+fn leading(ty: &ValType, locals: &[(ValType, LocalId)]) -> usize
+    ensures count { result ≡ leading ty.now (types_of locals.now) }
+    ensures within { result ≤ length locals.now }
 {
     for (count, (other, _id)) in locals.iter().enumerate() {
-        if ty != *other {
+        if !are_same(ty, other) {
             return count;
         }
     }
@@ -125,7 +134,7 @@ fn runs(alloc: Global, locals: &[(ValType, LocalId)]) -> Result<Vec<(usize, ValT
     let mut found = Vec::new(alloc);
     let mut left = locals;
     'left: while let Some(((ty, _id), behind)) = left.split_first() {
-        let more = leading(*ty, behind);
+        let more = leading(ty, behind);
         found.push((more + 1, *ty))?;
         left = &behind[more..];
     }
