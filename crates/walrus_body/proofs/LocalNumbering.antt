@@ -3,7 +3,7 @@ use Rattle.std.proofs.Common.{◌≡◌, ℕ, zero, suc, ◌+◌, ◌≤◌, ◌
 use Rattle.std.specs.Option.{option_map, option_or}
 use Rattle.std.specs.Map.{lookup}
 use Rattle.std.proofs.Math.Bool.{and-true}
-use Rattle.std.proofs.lemmas.List.{take_more, map-append, length-map}
+use Rattle.std.proofs.lemmas.List.{take_more, map-append, length-map, drop-map}
 use Rattle.walrus_ir.specs.declared.val_type.ValType.{ValType}
 use Rattle.walrus_ir.specs.Types.{same_type}
 use Rattle.wasm_body.specs.LocalNumbers.{Local, types_of, ids_of, last_place, number_of_local, one_more, runs}
@@ -35,32 +35,34 @@ length_taken (suc i) [] h = absurd (omega arith)
 length_taken (suc i) (x ∷ xs) h = ap suc (length_taken i xs (omega arith))
 
 -- one argument more
-pub argument_numbered : (args : List ℕ) (i d : ℕ) (es fs : List (ℕ × ℕ)) → i < length args
-    → ((q : ℕ) → lookup (same_id q) fs ≡ cond (same_id (get_or args i d) q) (Some (cut i)) (lookup (same_id q) es))
+pub argument_numbered : (args : List ℕ) (i x n : ℕ) (es fs : List (ℕ × ℕ)) → i < length args → x ≡ get_or args i x → n ≡ cut i
+    → ((q : ℕ) → lookup (same_id q) fs ≡ cond (same_id x q) (Some n) (lookup (same_id q) es))
     → ((q : ℕ) → number_in es q ≡ option_map cut (last_place (take i args) q))
     → (q : ℕ) → number_in fs q ≡ option_map cut (last_place (take (i + 1) args) q)
-argument_numbered args i d es fs within put before q =
-    let x = get_or args i d in
-    let pushed = ap (λ xs. last_place xs q) (take_more args i d within) ∙ (last_place-push (take i args) x q ∙ ap (λ n. cond (x == q) (Some n) (last_place (take i args) q)) (length_taken i args within)) in
-    one_number es fs x (cut i) put q
+argument_numbered args i x n es fs within is number put before q =
+    let pushed = ap (λ xs. last_place xs q) (take_more args i x within ∙ ap (λ y. take i args ++ y ∷ []) (sym is)) ∙ (last_place-push (take i args) x q ∙ ap (λ n. cond (x == q) (Some n) (last_place (take i args) q)) (length_taken i args within)) in
+    one_number es fs x n put q
+    ∙ (ap (λ m. cond (x == q) (Some m) (number_in es q)) number
     ∙ (ap (λ o. cond (x == q) (Some (cut i)) o) (before q)
     ∙ (elim (x == q) as (λ b. cond b (Some (cut i)) (option_map cut (last_place (take i args) q)) ≡ option_map cut (cond b (Some i) (last_place (take i args) q))) [ true ↦ refl | false ↦ refl ]
-    ∙ ap (option_map cut) (sym pushed)))
-
-ids_taken : (i : ℕ) (d : Local) (locals : List Local) → i < length locals → ids_of (take (i + 1) locals) ≡ ids_of (take i locals) ++ (get_or locals i d).1 ∷ []
-ids_taken i d locals within = ap ids_of (take_more locals i d within) ∙ map-append _ _ _
+    ∙ ap (option_map cut) (sym pushed))))
 
 -- one other local more
-pub other_numbered : (args : List ℕ) (others : List Local) (i : ℕ) (d : Local) (es fs : List (ℕ × ℕ)) → i < length others
-    → ((q : ℕ) → lookup (same_id q) fs ≡ cond (same_id (get_or others i d).1 q) (Some (length args + i)) (lookup (same_id q) es))
+pub other_numbered : (args : List ℕ) (others : List Local) (i : ℕ) (l : Local) (es fs : List (ℕ × ℕ)) → i < length others → l ≡ get_or others i l
+    → ((q : ℕ) → lookup (same_id q) fs ≡ cond (same_id l.1 q) (Some (length args + i)) (lookup (same_id q) es))
     → ((q : ℕ) → number_in es q ≡ number_of_local args (ids_of (take i others)) q)
     → (q : ℕ) → number_in fs q ≡ number_of_local args (ids_of (take (i + 1) others)) q
-other_numbered args others i d es fs within put before q =
-    let x = (get_or others i d).1 in
+other_numbered args others i l es fs within is put before q =
     let ids = ids_of (take i others) in
-    let long : length (args ++ ids) ≡ length args + i = length-append args ids ∙ ap (λ n. length args + n) (length-map _ _ ∙ length_taken i others within) in
-    let pushed = ap (λ xs. last_place (args ++ xs) q) (ids_taken i d others within) ∙ (ap (λ xs. last_place xs q) (sym (append_assoc args ids (x ∷ []))) ∙ (last_place-push (args ++ ids) x q ∙ ap (λ n. cond (x == q) (Some n) (last_place (args ++ ids) q)) long)) in
-    one_number es fs x (length args + i) put q ∙ (ap (λ o. cond (x == q) (Some (length args + i)) o) (before q) ∙ sym pushed)
+    let more : ids_of (take (i + 1) others) ≡ ids ++ l.1 ∷ [] =
+      ap ids_of (take_more others i l within ∙ ap (λ k. take i others ++ k ∷ []) (sym is)) ∙ map-append (λ (k : Local). k.1) (take i others) (l ∷ []) in
+    let long : length (args ++ ids) ≡ length args + i =
+      length-append args ids ∙ ap (λ n. length args + n) (length-map (take i others) (λ (k : Local). k.1) ∙ length_taken i others within) in
+    let pushed : number_of_local args (ids_of (take (i + 1) others)) q ≡ cond (l.1 == q) (Some (length args + i)) (last_place (args ++ ids) q) =
+      ap (λ xs. last_place (args ++ xs) q) more
+      ∙ (ap (λ xs. last_place xs q) (sym (append_assoc args ids (l.1 ∷ [])))
+      ∙ (last_place-push (args ++ ids) l.1 q ∙ ap (λ n. cond (l.1 == q) (Some n) (last_place (args ++ ids) q)) long)) in
+    one_number es fs l.1 (length args + i) put q ∙ (ap (λ o. cond (l.1 == q) (Some (length args + i)) o) (before q) ∙ sym pushed)
 
 -- ---- runs
 
@@ -97,3 +99,21 @@ first_run t (u ∷ us) =
         ∙ (ap (λ b. cond b ((leading u us + 1 + 1, t) ∷ runs (drop (leading u us) us)) ((1, t) ∷ (leading u us + 1, u) ∷ runs (drop (leading u us) us))) other
         ∙ ap (λ rs. (1, t) ∷ rs) (sym (first_run u us)))
     ] refl
+
+-- one run more
+pub run_found : (locals left behind rest : List Local) (l : Local) (done found : List (ℕ × ValType ℕ)) (n : ℕ) → left ≡ l ∷ behind → n ≡ leading l.0 (types_of behind)
+    → rest ≡ drop n behind → done ++ runs (types_of left) ≡ runs (types_of locals) → found ≡ done ++ (n + 1, l.0) ∷ [] → found ++ runs (types_of rest) ≡ runs (types_of locals)
+run_found locals left behind rest l done found n first count others before pushed =
+    let this = first_run l.0 (types_of behind) in
+    let here : runs (types_of left) ≡ (n + 1, l.0) ∷ runs (types_of rest) =
+      ap (λ ls. runs (types_of ls)) first
+      ∙ (this
+      ∙ (ap (λ k. (k + 1, l.0) ∷ runs (drop k (types_of behind))) (sym count)
+      ∙ ap (λ ts. (n + 1, l.0) ∷ runs ts) (drop-map (λ (k : Local). k.0) n behind ∙ ap types_of (sym others)))) in
+    ap (λ rs. rs ++ runs (types_of rest)) pushed
+    ∙ (append_assoc done ((n + 1, l.0) ∷ []) (runs (types_of rest))
+    ∙ (ap (λ rs. done ++ rs) (sym here) ∙ before))
+
+-- no entries, no numbers
+pub none_numbered : (es : List (ℕ × ℕ)) → es ≡ [] → (q : ℕ) → number_in es q ≡ None
+none_numbered es is q = get-entries es q ∙ ap (lookup (same_id q)) is
