@@ -1,14 +1,32 @@
 -- Numbering the locals of a function, and declaring them.
-use Rattle.std.proofs.Common.{◌≡◌, ℕ, zero, suc, ◌+◌, ◌≤◌, ◌<◌, ◌==◌, List, [], ◌∷◌, ◌++◌, Bool, true, false, ◌&&◌, cond, Option, Some, None, length, get_or, map, take, drop, refl, sym, ap, subst, ◌∙◌, arith, add-one, drop-cons, append_assoc, length-append}
+use Rattle.std.proofs.Common.{◌≡◌, ℕ, zero, suc, ◌+◌, ◌≤◌, ◌<◌, ◌==◌, List, [], ◌∷◌, ◌++◌, Bool, true, false, ◌&&◌, ◌||◌, cond, Option, Some, None, is_some, not, slice_get, Result, Ok, Err, length, get_or, map, take, drop, refl, sym, ap, subst, ◌∙◌, arith, add-one, drop-cons, append_assoc, length-append}
+use Rattle.std.specs.List.{AllByRecursion, IsDistinct, filter}
 use Rattle.std.specs.Option.{option_map, option_or}
 use Rattle.std.specs.Map.{lookup}
-use Rattle.std.proofs.Math.Bool.{and-true}
+use Rattle.std.specs.List.Sorted.{IsPermutation}
+use Rattle.std.specs.Ordering.{nat_cmp, is_lt, is_eq, ordering_then, ordering_reverse}
+use Rattle.std.specs.declared.cmp.Ordering.{Ordering}
+use Rattle.std.specs.declared.cmp.Ordering.TheVariants.{Less, Equal, Greater}
+use Rattle.std.specs.Cmp.{unsigned_tied}
+use Rattle.std.proofs.lemmas.Bool.{eqb-true, eq-eqb}
+use Rattle.std.proofs.lemmas.Cmp.{nat_eq_equiv}
+use Rattle.std.proofs.lemmas.List.Elements.{All-from_recursion}
+use Rattle.std.proofs.lemmas.List.Sorted.{IsPermutation-map, All-permutation, list_any-IsPermutation}
+use Rattle.std.proofs.lemmas.Map.Keys.{IsDistinct-cons, IsDistinct-head, IsDistinct-tail, IsDistinct-IsPermutation, apart_from_distinct}
+use Rattle.std.proofs.Math.ListN.{get_or-map}
+use Rattle.std.proofs.Math.Bool.{and-true, and-false, or-true}
 use Rattle.std.proofs.lemmas.List.{take_more, map-append, length-map, drop-map}
 use Rattle.walrus_ir.specs.declared.val_type.ValType.{ValType}
+use Rattle.walrus_ir.specs.Results.{◌>>=◌, some_or, each}
 use Rattle.walrus_ir.specs.Types.{same_type}
-use Rattle.wasm_body.specs.LocalNumbers.{Local, types_of, ids_of, last_place, number_of_local, one_more, runs}
-use Rattle.wasm_body.proofs.LocalNumbers.{same_type-Decides}
-use Rattle.walrus_body.specs.EmittedLocals.{number_in, cut, leading}
+use Rattle.walrus_ir.specs.TypeOrder.{type_order}
+use Rattle.walrus_ir.specs.Unfolding.{among}
+use Rattle.wasm_body.specs.declared.error.EmitError.{EmitError}
+use Rattle.wasm_body.specs.declared.error.EmitError.TheVariants.{UnknownLocal}
+use Rattle.wasm_body.specs.LocalNumbers.{Local, local_order, AreDeclared, types_of, ids_of, last_place, number_of_local, one_more, runs}
+use Rattle.wasm_body.proofs.LocalNumbers.{same_type-Decides, local_order-total}
+use Rattle.walrus_body.specs.EmittedLocals.{number_in, cut, leading, typed_local, unnumbered, HasUnknown}
+use Rattle.walrus_body.proofs.Listed.{behind_these}
 use Rattle.walrus_body.proofs.EntryMaps.{same_id, get-entries}
 
 -- ---- numbers
@@ -117,3 +135,170 @@ run_found locals left behind rest l done found n first count others before pushe
 -- no entries, no numbers
 pub none_numbered : (es : List (ℕ × ℕ)) → es ≡ [] → (q : ℕ) → number_in es q ≡ None
 none_numbered es is q = get-entries es q ∙ ap (lookup (same_id q)) is
+
+-- ---- the locals that are declared
+
+module _ (types : List (ValType ℕ)) (numbers : List (ℕ × ℕ)) where
+  abbrev Others : List ℕ → Result (List Local) EmitError
+  Others ids = unnumbered types numbers ids
+
+  -- by whether an id has a number
+  taken : (id : ℕ) (rest ids : List ℕ) (b : Bool) → ids ≡ id ∷ rest → is_some (lookup (same_id id) numbers) ≡ b
+      → Others ids ≡ each (typed_local types) (cond (not b) (id ∷ filter (λ k. not (is_some (number_in numbers k))) rest) (filter (λ k. not (is_some (number_in numbers k))) rest))
+  taken id rest ids b first has =
+      ap Others first
+      ∙ ap (λ (o : Option ℕ). each (typed_local types) (cond (not (is_some o)) (id ∷ filter (λ k. not (is_some (number_in numbers k))) rest) (filter (λ k. not (is_some (number_in numbers k))) rest))) (get-entries numbers id)
+      ∙ ap (λ b. each (typed_local types) (cond (not b) (id ∷ filter (λ k. not (is_some (number_in numbers k))) rest) (filter (λ k. not (is_some (number_in numbers k))) rest))) has
+
+  pub other_skipped : (id : ℕ) (rest ids : List ℕ) (found : List Local) (whole : Result (List Local) EmitError) → ids ≡ id ∷ rest → is_some (lookup (same_id id) numbers) ≡ true
+      → behind_these found (Others ids) ≡ whole → behind_these found (Others rest) ≡ whole
+  other_skipped id rest ids found whole first has before = ap (behind_these found) (sym (taken id rest ids true first has)) ∙ before
+
+  one_behind : (found : List Local) (l : Local) (r : Result (List Local) EmitError) → behind_these found (r >>= λ ls. Ok (l ∷ ls)) ≡ behind_these (found ++ l ∷ []) r
+  one_behind found l (Ok ls) = ap Ok (sym (append_assoc found (l ∷ []) ls))
+  one_behind found l (Err e) = refl
+
+  pub other_found : (id : ℕ) (t : ValType ℕ) (rest ids : List ℕ) (found more : List Local) (whole : Result (List Local) EmitError) → ids ≡ id ∷ rest → is_some (lookup (same_id id) numbers) ≡ false
+      → slice_get types id ≡ Some t → more ≡ found ++ (t, id) ∷ [] → behind_these found (Others ids) ≡ whole → behind_these more (Others rest) ≡ whole
+  other_found id t rest ids found more whole first has type pushed before =
+      ap (λ ls. behind_these ls (Others rest)) pushed
+      ∙ (sym (one_behind found (t, id) (Others rest))
+      ∙ (ap (λ (o : Option (ValType ℕ)). behind_these found ((some_or o UnknownLocal >>= λ u. Ok (u, id)) >>= λ l. Others rest >>= λ ls. Ok (l ∷ ls))) (sym type)
+      ∙ (ap (behind_these found) (sym (taken id rest ids false first has)) ∙ before)))
+
+  pub other_unknown : (id : ℕ) (rest ids : List ℕ) (found : List Local) (whole : Result (List Local) EmitError) → ids ≡ id ∷ rest → is_some (lookup (same_id id) numbers) ≡ false
+      → slice_get types id ≡ None → behind_these found (Others ids) ≡ whole → whole ≡ Err UnknownLocal
+  other_unknown id rest ids found whole first has type before =
+      sym before
+      ∙ (ap (behind_these found) (taken id rest ids false first has)
+      ∙ ap (λ (o : Option (ValType ℕ)). behind_these found ((some_or o UnknownLocal >>= λ u. Ok (u, id)) >>= λ l. Others rest >>= λ ls. Ok (l ∷ ls))) type)
+
+abbrev Typed : List (ValType ℕ) → Local → Type 0
+Typed types l = slice_get types l.1 ≡ Some l.0
+
+-- what is found are the ids, each with its type
+record AreTyped (types : List (ValType ℕ)) (ids : List ℕ) (ls : List Local) : Type 0 where
+  are : ids_of ls ≡ ids
+  typed : AllByRecursion (Typed types) ls
+
+one_typed : (types : List (ValType ℕ)) (id : ℕ) (t : ValType ℕ) (ids : List ℕ) (ms ls : List Local) → slice_get types id ≡ Some t → AreTyped types ids ms → (t, id) ∷ ms ≡ ls → AreTyped types (id ∷ ids) ls
+one_typed types id t ids ms ls has h is = subst (AreTyped types (id ∷ ids)) is (record { are = ap (λ ks. id ∷ ks) h.are; typed = (has, h.typed) })
+
+each_typed : (types : List (ValType ℕ)) (ids : List ℕ) (ls : List Local) → each (typed_local types) ids ≡ Ok ls → AreTyped types ids ls
+each_typed types [] ls h = let none : [] ≡ ls = cc in subst (AreTyped types []) none (record { are = refl; typed = tt })
+each_typed types (id ∷ ids) ls h =
+    elim (slice_get types id) as (λ o. slice_get types id ≡ o → ((some_or o UnknownLocal >>= λ u. Ok (u, id)) >>= λ l. each (typed_local types) ids >>= λ ks. Ok (l ∷ ks)) ≡ Ok ls → AreTyped types (id ∷ ids) ls) [
+      Some t ↦ λ has e.
+        (elim (each (typed_local types) ids) as (λ r. each (typed_local types) ids ≡ r → (r >>= λ ks. Ok ((t, id) ∷ ks)) ≡ Ok ls → AreTyped types (id ∷ ids) ls) [
+          Ok ms ↦ λ are f. let is : (t, id) ∷ ms ≡ ls = cc in one_typed types id t ids ms ls has (each_typed types ids ms are) is
+        | Err x ↦ λ are f. cc
+        ]) refl e
+    | None ↦ λ has e. cc
+    ] refl h
+
+record IsUntyped (types : List (ValType ℕ)) (ids : List ℕ) (e : EmitError) : Type 0 where
+  fault : e ≡ UnknownLocal
+  id : ℕ
+  stands : among id ids ≡ true
+  has_none : slice_get types id ≡ None
+
+untyped_behind : (types : List (ValType ℕ)) (id : ℕ) (ids : List ℕ) (e : EmitError) → IsUntyped types ids e → IsUntyped types (id ∷ ids) e
+untyped_behind types id ids e h = record { fault = h.fault; id = h.id; stands = ap (λ b. (h.id == id) || b) h.stands ∙ or-true (h.id == id); has_none = h.has_none }
+
+each_untyped : (types : List (ValType ℕ)) (ids : List ℕ) (e : EmitError) → each (typed_local types) ids ≡ Err e → IsUntyped types ids e
+each_untyped types [] e h = cc
+each_untyped types (id ∷ ids) e h =
+    elim (slice_get types id) as (λ o. slice_get types id ≡ o → ((some_or o UnknownLocal >>= λ u. Ok (u, id)) >>= λ l. each (typed_local types) ids >>= λ ks. Ok (l ∷ ks)) ≡ Err e → IsUntyped types (id ∷ ids) e) [
+      Some t ↦ λ has f.
+        (elim (each (typed_local types) ids) as (λ r. each (typed_local types) ids ≡ r → (r >>= λ ks. Ok ((t, id) ∷ ks)) ≡ Err e → IsUntyped types (id ∷ ids) e) [
+          Ok ms ↦ λ are g. cc
+        | Err x ↦ λ are g. let is : x ≡ e = cc in untyped_behind types id ids e (each_untyped types ids e (are ∙ ap Err is))
+        ]) refl f
+    | None ↦ λ has f. let is : e ≡ UnknownLocal = cc in record { fault = is; id = id; stands = ap (λ b. b || among id ids) (eq-eqb id id refl); has_none = has }
+    ] refl h
+
+-- which ids a filter keeps
+kept_one : (p : ℕ → Bool) (id k : ℕ) (rest : Bool) (b : Bool) → p k ≡ b → (cond b ((id == k) || (rest && p id)) (rest && p id)) ≡ (((id == k) || rest) && p id)
+kept_one p id k rest b keeps =
+    elim (id == k) as (λ c. (id == k) ≡ c → cond b (c || (rest && p id)) (rest && p id) ≡ ((c || rest) && p id)) [
+      true ↦ λ e. let is : p id ≡ b = ap p (eqb-true id k e) ∙ keeps in rw is (elim b as (λ b. cond b true (rest && b) ≡ b) [ true ↦ refl | false ↦ and-false rest ])
+    | false ↦ λ e. elim b as (λ b. cond b (rest && p id) (rest && p id) ≡ (rest && p id)) [ true ↦ refl | false ↦ refl ]
+    ] refl
+
+among_kept : (p : ℕ → Bool) (id : ℕ) (ids : List ℕ) → among id (filter p ids) ≡ (among id ids && p id)
+among_kept p id [] = refl
+among_kept p id (k ∷ ids) =
+    elim (p k) as (λ b. p k ≡ b → among id (cond b (k ∷ filter p ids) (filter p ids)) ≡ (((id == k) || among id ids) && p id)) [
+      true ↦ λ keeps. ap (λ b. (id == k) || b) (among_kept p id ids) ∙ kept_one p id k (among id ids) true keeps
+    | false ↦ λ drops. among_kept p id ids ∙ kept_one p id k (among id ids) false drops
+    ] refl
+
+apart_kept : (p : ℕ → Bool) (k : ℕ) (ids : List ℕ) → AllByRecursion (λ y. same_id k y ≡ false) ids → AllByRecursion (λ y. same_id k y ≡ false) (filter p ids)
+apart_kept p k [] h = tt
+apart_kept p k (x ∷ ids) h =
+    elim (p x) as (λ b. AllByRecursion (λ y. same_id k y ≡ false) (cond b (x ∷ filter p ids) (filter p ids))) [
+      true ↦ (h.0, apart_kept p k ids h.1)
+    | false ↦ apart_kept p k ids h.1
+    ]
+
+distinct_kept : (p : ℕ → Bool) (ids : List ℕ) → IsDistinct same_id ids → IsDistinct same_id (filter p ids)
+distinct_kept p [] d = d
+distinct_kept p (x ∷ ids) d =
+    elim (p x) as (λ b. IsDistinct same_id (cond b (x ∷ filter p ids) (filter p ids))) [
+      true ↦ IsDistinct-cons same_id x (filter p ids) (apart_kept p x ids (IsDistinct-head same_id x ids d)) (distinct_kept p ids (IsDistinct-tail same_id x ids d))
+    | false ↦ distinct_kept p ids (IsDistinct-tail same_id x ids d)
+    ]
+
+-- neighbours of a sorted list whose ids differ ascend
+then_equal : (o p : Ordering) → ordering_then o p ≡ Equal → p ≡ Equal
+then_equal Less p h = cc
+then_equal Equal p h = h
+then_equal Greater p h = cc
+
+less_of : (o : Ordering) → is_lt (ordering_reverse o) ≡ false → (o ≡ Equal → ⊥) → o ≡ Less
+less_of Less h k = refl
+less_of Equal h k = absurd (k refl)
+less_of Greater h k = cc
+
+ascending : (l m : Local) → is_lt (local_order m l) ≡ false → same_id l.1 m.1 ≡ false → local_order l m ≡ Less
+ascending l m not_below apart =
+    less_of (local_order l m) (sym (ap is_lt (local_order-total.antisymm m l)) ∙ not_below)
+    (λ tie.
+      let ids : nat_cmp l.1 m.1 ≡ Equal = then_equal (type_order l.0 m.0) (nat_cmp l.1 m.1) tie in
+      let same : (l.1 == m.1) ≡ true = sym (unsigned_tied l.1 m.1) ∙ ap is_eq ids in
+      let other : (l.1 == m.1) ≡ false = sym (and-true (l.1 == m.1)) ∙ apart in
+      cc)
+
+module _ (types : List (ValType ℕ)) (args keys : List ℕ) (numbers : List (ℕ × ℕ)) (arguments : (id : ℕ) → is_some (number_in numbers id) ≡ among id args) where
+  abbrev Free : ℕ → Bool
+  Free id = not (is_some (number_in numbers id))
+
+  free_used : (id : ℕ) → among id (filter Free keys) ≡ (among id keys && not (among id args))
+  free_used id = among_kept Free id keys ∙ ap (λ b. among id keys && not b) (arguments id)
+
+  pub sorted_declared : (found ls : List Local) → IsDistinct same_id keys → unnumbered types numbers keys ≡ Ok found → IsPermutation found ls
+      → ((k : ℕ) (d : Local) → k + 1 < length ls → is_lt (local_order (get_or ls (k + 1) d) (get_or ls k d)) ≡ false)
+      → AreDeclared types args (λ id. among id keys) ls
+  sorted_declared found ls unique is moved sorted =
+      let each = each_typed types (filter Free keys) found is in
+      let ids = IsPermutation-map (λ (l : Local). l.1) found ls moved in
+      let apart = IsDistinct-IsPermutation same_id (λ x y. ap (λ b. b && true) (nat_eq_equiv.symm x y)) (ids_of found) (ids_of ls) ids (subst (IsDistinct same_id) (sym each.are) (distinct_kept Free keys unique)) in
+      record {
+        ascend = λ k d within.
+          ascending (get_or ls k d) (get_or ls (k + 1) d) (sorted k d within)
+          (let two = apart_from_distinct same_id (ids_of ls) k (k + 1) d.1 apart (omega arith) (omega (arith, length-map ls (λ (l : Local). l.1))) in
+          ap (λ x. same_id x (get_or ls (k + 1) d).1) (sym (get_or-map (λ (l : Local). l.1) ls k d))
+          ∙ (ap (same_id (get_or (ids_of ls) k d.1)) (sym (get_or-map (λ (l : Local). l.1) ls (k + 1) d)) ∙ two));
+        are_all = λ id. sym (list_any-IsPermutation (λ y. id == y) (ids_of found) (ids_of ls) ids) ∙ (ap (among id) each.are ∙ free_used id);
+        typed = All-permutation (Typed types) found ls moved (All-from_recursion (Typed types) found each.typed);
+      }
+
+  both_parts : (a b : Bool) → (a && not b) ≡ true → (a ≡ true) × (b ≡ false)
+  both_parts true false h = (refl, refl)
+  both_parts _ _ h = cc
+
+  pub unknown_local : (e : EmitError) → unnumbered types numbers keys ≡ Err e → (e ≡ UnknownLocal) × HasUnknown types args (λ id. among id keys)
+  unknown_local e is =
+      let un = each_untyped types (filter Free keys) e is in
+      let parts = both_parts (among un.id keys) (among un.id args) (sym (free_used un.id) ∙ un.stands) in
+      (un.fault, record { id = un.id; is_used = parts.0; is_no_argument = parts.1; has_no_type = un.has_none })
