@@ -20,7 +20,7 @@ use Rattle.walrus_ir.specs.declared.val_type.ValType.{ValType}
 use Rattle.walrus_ir.specs.Results.{◌>>=◌, some_or, each}
 use Rattle.walrus_ir.specs.Types.{same_type}
 use Rattle.walrus_ir.specs.TypeOrder.{type_order}
-use Rattle.walrus_ir.specs.Unfolding.{among}
+use Rattle.walrus_ir.specs.Unfolding.{among, Apart}
 use Rattle.wasm_body.specs.declared.error.EmitError.{EmitError}
 use Rattle.wasm_body.specs.declared.error.EmitError.TheVariants.{UnknownLocal}
 use Rattle.wasm_body.specs.LocalNumbers.{Local, local_order, AreDeclared, types_of, ids_of, last_place, number_of_local, one_more, runs}
@@ -249,6 +249,33 @@ distinct_kept p (x ∷ ids) d =
     | false ↦ distinct_kept p ids (IsDistinct-tail same_id x ids d)
     ]
 
+-- keys that a set holds are apart
+none_among : (k : ℕ) (ks : List ℕ) → AllByRecursion (λ y. same_id k y ≡ false) ks → among k ks ≡ false
+none_among k [] h = refl
+none_among k (y ∷ ks) h = ap (λ b. b || among k ks) (sym (and-true (k == y)) ∙ h.0) ∙ none_among k ks h.1
+
+among_none : (k : ℕ) (ks : List ℕ) → among k ks ≡ false → AllByRecursion (λ y. same_id k y ≡ false) ks
+among_none k [] h = tt
+among_none k (y ∷ ks) h =
+    elim (k == y) as (λ b. (k == y) ≡ b → (b || among k ks) ≡ false → AllByRecursion (λ z. same_id k z ≡ false) (y ∷ ks)) [
+      true ↦ λ e f. cc
+    | false ↦ λ e f. (and-true (k == y) ∙ e, among_none k ks f)
+    ] refl h
+
+distinct_apart : (ks : List ℕ) → IsDistinct same_id ks → Apart ks
+distinct_apart [] d = tt
+distinct_apart (k ∷ ks) d = (none_among k ks (IsDistinct-head same_id k ks d), distinct_apart ks (IsDistinct-tail same_id k ks d))
+
+apart_distinct : (ks : List ℕ) → Apart ks → IsDistinct same_id ks
+unfolding IsDistinct
+apart_distinct [] a = tt
+apart_distinct (k ∷ ks) a = (among_none k ks a.0, apart_distinct ks a.1)
+
+pub found_apart : (types : List (ValType ℕ)) (numbers : List (ℕ × ℕ)) (keys : List ℕ) (found : List Local) → IsDistinct same_id keys → unnumbered types numbers keys ≡ Ok found → Apart (ids_of found)
+found_apart types numbers keys found unique is =
+    let free = λ (id : ℕ). not (is_some (number_in numbers id)) in
+    subst Apart (sym (each_typed types (filter free keys) found is).are) (distinct_apart (filter free keys) (distinct_kept free keys unique))
+
 -- neighbours of a sorted list whose ids differ ascend
 then_equal : (o p : Ordering) → ordering_then o p ≡ Equal → p ≡ Equal
 then_equal Less p h = cc
@@ -276,13 +303,13 @@ module _ (types : List (ValType ℕ)) (args keys : List ℕ) (numbers : List (�
   free_used : (id : ℕ) → among id (filter Free keys) ≡ (among id keys && not (among id args))
   free_used id = among_kept Free id keys ∙ ap (λ b. among id keys && not b) (arguments id)
 
-  pub sorted_declared : (found ls : List Local) → IsDistinct same_id keys → unnumbered types numbers keys ≡ Ok found → IsPermutation found ls
+  pub sorted_declared : (found ls : List Local) → Apart (ids_of found) → unnumbered types numbers keys ≡ Ok found → IsPermutation found ls
       → ((k : ℕ) (d : Local) → k + 1 < length ls → is_lt (local_order (get_or ls (k + 1) d) (get_or ls k d)) ≡ false)
       → AreDeclared types args (λ id. among id keys) ls
   sorted_declared found ls unique is moved sorted =
       let each = each_typed types (filter Free keys) found is in
       let ids = IsPermutation-map (λ (l : Local). l.1) found ls moved in
-      let apart = IsDistinct-IsPermutation same_id (λ x y. ap (λ b. b && true) (nat_eq_equiv.symm x y)) (ids_of found) (ids_of ls) ids (subst (IsDistinct same_id) (sym each.are) (distinct_kept Free keys unique)) in
+      let apart = IsDistinct-IsPermutation same_id (λ x y. ap (λ b. b && true) (nat_eq_equiv.symm x y)) (ids_of found) (ids_of ls) ids (apart_distinct (ids_of found) unique) in
       record {
         ascend = λ k d within.
           ascending (get_or ls k d) (get_or ls (k + 1) d) (sorted k d within)

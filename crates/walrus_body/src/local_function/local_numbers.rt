@@ -5,7 +5,7 @@ ghost use Rattle.std.specs.List.{list_all};
 ghost use Rattle.std.specs.Option.{option_map};
 ghost use Rattle.walrus_ir.specs.Results.{each};
 ghost use Rattle.walrus_ir.specs.Types.{same_type};
-ghost use Rattle.walrus_ir.specs.Unfolding.{among};
+ghost use Rattle.walrus_ir.specs.Unfolding.{among, Apart};
 ghost use Rattle.wasm_body.specs.declared.error.EmitError.TheVariants.{Memory, UnknownLocal};
 ghost use Rattle.wasm_body.specs.LocalNumbers.{AreDeclared, types_of, ids_of, last_place, number_of_local, runs, declaration, declarations};
 ghost use Rattle.walrus_body.specs.EmittedLocals.{number_in, cut, unnumbered, leading, Declares, HasUnknown, IsUndeclared};
@@ -53,6 +53,7 @@ fn used_others(
 ) -> Result<Vec<(ValType, LocalId)>, EmitError>
     ensures ok { IfOk result (λ others.
         unnumbered locals.now numbers.now.entries used.now.keys ≡ Ok others.items) }
+    ensures apart { IfOk result (λ others. Apart (ids_of others.items)) }
     ensures err { IfErr result (λ e. (e ≡ Memory)
         ⊎ (unnumbered locals.now numbers.now.entries used.now.keys ≡ Err e)) }
 {
@@ -85,7 +86,10 @@ fn declared_locals(
     ensures err { IfErr result (λ e. (e ≡ Memory) ⊎ ((e ≡ UnknownLocal)
         × HasUnknown locals.now args.now (contains (λ x y. x == y) used.now))) }
 {
-    let mut others = used_others(alloc, locals, numbers, used)?;
+    let mut others = match used_others(alloc, locals, numbers, used) {
+        Ok(others) => others,
+        Err(fault) => return Err(fault),
+    };
     others.sort_unstable();
     Ok(others)
 }

@@ -1,6 +1,17 @@
-use Rattle.std.proofs.Common.{◌≡◌, ℕ, ◌<◌, false, get_or}
+use Rattle.std.proofs.Common.{◌≡◌, ℕ, ◌<◌, ◌+◌, ◌⊎◌, inl, inr, length, false, get_or}
+use Rattle.std.specs.Ordering.{is_lt}
+use Rattle.wasm_body.specs.LocalNumbers.{Local, local_order}
 use Rattle.walrus_body.proofs.LocalNumbering.{sorted_declared, unknown_local}
 use Rattle.walrus_body.proofs.local_function.local_numbers.declared_locals.Goals as goal
 
-pub returns-in_err-others-clause-err : goal.returns-in_err-others-clause-err
-returns-in_err-others-clause-err c = let h = c.in_err-others.ensures.err in ?
+pub returns-in-Err-clause-err : goal.returns-in-Err-clause-err
+returns-in-Err-clause-err c =
+    elim c.in-Err.ensures.err [
+      inl memory ↦ inl memory
+    | inr fault ↦ inr (unknown_local c.args.locals.now c.args.args.now c.args.used.now.keys c.args.numbers.now.entries c.requires _ fault)
+    ]
+
+pub returns-clause-ok : goal.returns-clause-ok
+returns-clause-ok c =
+    sorted_declared c.args.locals.now c.args.args.now c.args.used.now.keys c.args.numbers.now.entries c.requires c.in-Ok.others.items c.sort_unstable.new.self.items
+    c.in-Ok.ensures.apart c.in-Ok.ensures.ok c.sort_unstable.ensures.permutation (λ k d within. let h = c.sort_unstable.ensures.sorted k d (omega arith) within in ?)
