@@ -296,6 +296,10 @@ ascending l m not_below apart =
       let other : (l.1 == m.1) ≡ false = sym (and-true (l.1 == m.1)) ∙ apart in
       cc)
 
+-- the order in which a list is sorted
+pub in_order : (l m : Local) (o p : Ordering) → o ≡ type_order l.0 m.0 → p ≡ nat_cmp l.1 m.1 → is_lt (ordering_then o p) ≡ false → is_lt (local_order l m) ≡ false
+in_order l m o p types ids h = (λ i. is_lt (ordering_then (sym types i) (sym ids i))) ∙ h
+
 module _ (types : List (ValType ℕ)) (args keys : List ℕ) (numbers : List (ℕ × ℕ)) (arguments : (id : ℕ) → is_some (number_in numbers id) ≡ among id args) where
   abbrev Free : ℕ → Bool
   Free id = not (is_some (number_in numbers id))

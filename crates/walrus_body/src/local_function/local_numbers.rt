@@ -15,7 +15,9 @@ use crate::local_function::emit::number_maps::NumberMaps;
 use crate::local_function::emit::written_types::value_type;
 use crate::{EmitError, IdsToIndices};
 use std::alloc::{AllocError, Global};
-use walrus_ir::{IdHashMap, IdHashSet, LocalId, Module, ModuleLocals, ValType};
+use walrus_ir::{
+    IdHashMap, IdHashSet, LocalId, Module, ModuleLocals, ValType, kind, law_ids, law_type_order,
+};
 use wasm_ops::RawValType;
 
 /// How many numbers there are in 32 bits.
@@ -90,6 +92,8 @@ fn declared_locals(
         Ok(others) => others,
         Err(fault) => return Err(fault),
     };
+    law_type_order();
+    law_ids::<kind::Local>();
     others.sort_unstable();
     Ok(others)
 }

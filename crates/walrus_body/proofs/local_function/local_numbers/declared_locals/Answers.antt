@@ -1,7 +1,7 @@
-use Rattle.std.proofs.Common.{◌≡◌, ℕ, ◌<◌, ◌+◌, ◌⊎◌, inl, inr, length, false, get_or}
-use Rattle.std.specs.Ordering.{is_lt}
+use Rattle.std.proofs.Common.{◌≡◌, ℕ, ◌<◌, ◌+◌, ◌⊎◌, inl, inr, length, false, get_or, sym, ap, ◌∙◌, arith}
+use Rattle.std.specs.Ordering.{is_lt, ordering_then}
 use Rattle.wasm_body.specs.LocalNumbers.{Local, local_order}
-use Rattle.walrus_body.proofs.LocalNumbering.{sorted_declared, unknown_local}
+use Rattle.walrus_body.proofs.LocalNumbering.{in_order, sorted_declared, unknown_local}
 use Rattle.walrus_body.proofs.local_function.local_numbers.declared_locals.Goals as goal
 
 pub returns-in-Err-clause-err : goal.returns-in-Err-clause-err
@@ -14,4 +14,8 @@ returns-in-Err-clause-err c =
 pub returns-clause-ok : goal.returns-clause-ok
 returns-clause-ok c =
     sorted_declared c.args.locals.now c.args.args.now c.args.used.now.keys c.args.numbers.now.entries c.requires c.in-Ok.others.items c.sort_unstable.new.self.items
-    c.in-Ok.ensures.apart c.in-Ok.ensures.ok c.sort_unstable.ensures.permutation (λ k d within. let h = c.sort_unstable.ensures.sorted k d (omega arith) within in ?)
+    c.in-Ok.ensures.apart c.in-Ok.ensures.ok c.sort_unstable.ensures.permutation (λ k d within.
+      let ls = c.sort_unstable.new.self.items in
+      let types = c.law_type_order.ensures.order (get_or ls (k + 1) d).0 (get_or ls k d).0 in
+      let ids = c.law_ids.ensures.order (get_or ls (k + 1) d).1 (get_or ls k d).1 in
+      in_order (get_or ls (k + 1) d) (get_or ls k d) _ _ types ids (c.sort_unstable.ensures.sorted k d (omega arith) within))
