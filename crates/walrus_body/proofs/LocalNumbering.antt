@@ -1,5 +1,5 @@
 -- Numbering the locals of a function, and declaring them.
-use Rattle.std.proofs.Common.{◌≡◌, ℕ, zero, suc, ◌+◌, ◌≤◌, ◌<◌, ◌==◌, List, [], ◌∷◌, ◌++◌, Bool, true, false, ◌&&◌, ◌||◌, cond, Option, Some, None, is_some, not, slice_get, Result, Ok, Err, length, get_or, map, take, drop, refl, sym, ap, subst, ◌∙◌, arith, add-one, drop-cons, append_assoc, length-append}
+use Rattle.std.proofs.Common.{◌≡◌, ℕ, zero, suc, ◌+◌, ◌-◌, ◌^◌, ◌≤◌, ◌<◌, ◌==◌, List, [], ◌∷◌, ◌++◌, Bool, true, false, ◌&&◌, ◌||◌, cond, Option, Some, None, is_some, not, slice_get, Result, Ok, Err, length, get_or, map, take, drop, refl, sym, ap, subst, ◌∙◌, arith, add-one, drop-cons, append_assoc, length-append}
 use Rattle.std.specs.List.{AllByRecursion, IsDistinct, filter}
 use Rattle.std.specs.Option.{option_map, option_or}
 use Rattle.std.specs.Map.{lookup}
@@ -8,7 +8,8 @@ use Rattle.std.specs.Ordering.{nat_cmp, is_lt, is_eq, ordering_then, ordering_re
 use Rattle.std.specs.declared.cmp.Ordering.{Ordering}
 use Rattle.std.specs.declared.cmp.Ordering.TheVariants.{Less, Equal, Greater}
 use Rattle.std.specs.Cmp.{unsigned_tied}
-use Rattle.std.proofs.lemmas.Bool.{eqb-true, eq-eqb}
+use Rattle.std.proofs.lemmas.Bool.{eqb-true, eq-eqb, lt-ltb, le-leb}
+use Rattle.std.proofs.lemmas.Option.{slice_get_within}
 use Rattle.std.proofs.lemmas.Cmp.{nat_eq_equiv}
 use Rattle.std.proofs.lemmas.List.Elements.{All-from_recursion}
 use Rattle.std.proofs.lemmas.List.Sorted.{IsPermutation-map, All-permutation, list_any-IsPermutation}
@@ -17,14 +18,15 @@ use Rattle.std.proofs.Math.ListN.{get_or-map}
 use Rattle.std.proofs.Math.Bool.{and-true, and-false, or-true}
 use Rattle.std.proofs.lemmas.List.{take_more, map-append, length-map, drop-map}
 use Rattle.walrus_ir.specs.declared.val_type.ValType.{ValType}
-use Rattle.walrus_ir.specs.Results.{◌>>=◌, some_or, each}
+use Rattle.walrus_ir.specs.Results.{◌>>=◌, some_or, unless, each}
 use Rattle.walrus_ir.specs.Types.{same_type}
 use Rattle.walrus_ir.specs.TypeOrder.{type_order}
 use Rattle.walrus_ir.specs.Unfolding.{among, Apart}
 use Rattle.wasm_body.specs.declared.error.EmitError.{EmitError}
-use Rattle.wasm_body.specs.declared.error.EmitError.TheVariants.{UnknownLocal}
-use Rattle.wasm_body.specs.LocalNumbers.{Local, local_order, AreDeclared, types_of, ids_of, last_place, number_of_local, one_more, runs}
-use Rattle.wasm_body.proofs.LocalNumbers.{same_type-Decides, local_order-total}
+use Rattle.wasm_body.specs.declared.error.EmitError.TheVariants.{UnknownLocal, TooLarge}
+use Rattle.wasm_body.specs.Bytes.{Numbers}
+use Rattle.wasm_body.specs.LocalNumbers.{Local, local_order, AreDeclared, types_of, ids_of, last_place, number_of_local, one_more, runs, declarations, declared}
+use Rattle.wasm_body.proofs.LocalNumbers.{same_type-Decides, local_order-total, last_place_get}
 use Rattle.walrus_body.specs.EmittedLocals.{number_in, cut, leading, typed_local, unnumbered, HasUnknown}
 use Rattle.walrus_body.proofs.Listed.{behind_these}
 use Rattle.walrus_body.proofs.EntryMaps.{same_id, get-entries}
@@ -333,3 +335,44 @@ module _ (types : List (ValType ℕ)) (args keys : List ℕ) (numbers : List (�
       let un = each_untyped types (filter Free keys) e is in
       let parts = both_parts (among un.id keys) (among un.id args) (sym (free_used un.id) ∙ un.stands) in
       (un.fault, record { id = un.id; is_used = parts.0; is_no_argument = parts.1; has_no_type = un.has_none })
+
+-- ---- the function as a whole
+
+some_place : (xs : List ℕ) (id : ℕ) → is_some (last_place xs id) ≡ among id xs
+some_place [] id = refl
+some_place (x ∷ xs) id =
+    elim (last_place xs id) as (λ o. is_some (option_or (option_map (λ n. n + 1) o) (cond (x == id) (Some 0) None)) ≡ (is_some o || (x == id))) [
+      Some n ↦ refl
+    | None ↦ elim (x == id) as (λ b. is_some {T = ℕ} (cond b (Some 0) None) ≡ b) [ true ↦ refl | false ↦ refl ]
+    ]
+    ∙ (ap (λ b. b || (x == id)) (some_place xs id)
+    ∙ (ap (λ b. among id xs || b) (nat_eq_equiv.symm x id)
+    ∙ elim (id == x) as (λ b. (among id xs || b) ≡ (b || among id xs)) [
+        true ↦ or-true (among id xs)
+      | false ↦ elim (among id xs) as (λ b. (b || false) ≡ b) [ true ↦ refl | false ↦ refl ]
+      ]))
+
+-- the map tells arguments from other locals
+pub arguments_told : (args : List ℕ) (es : List (ℕ × ℕ)) → ((id : ℕ) → number_in es id ≡ option_map cut (last_place args id)) → (id : ℕ) → is_some (number_in es id) ≡ among id args
+arguments_told args es h id =
+    ap is_some (h id)
+    ∙ (elim (last_place args id) as (λ o. is_some (option_map cut o) ≡ is_some o) [ Some n ↦ refl | None ↦ refl ]
+    ∙ some_place args id)
+
+cut_fits : (n : ℕ) → n < 2 ^ 32 → cut n ≡ n
+cut_fits n h = ap (λ b. cond b n (2 ^ 32 - 1)) (lt-ltb n (2 ^ 32) h)
+
+-- where all places fit, nothing is cut
+pub nothing_cut : (args : List ℕ) (es : List (ℕ × ℕ)) → length args ≤ 2 ^ 32 → ((id : ℕ) → number_in es id ≡ option_map cut (last_place args id)) → (id : ℕ) → number_in es id ≡ last_place args id
+nothing_cut args es fit h id =
+    h id
+    ∙ elim (last_place args id) as (λ o. last_place args id ≡ o → option_map cut o ≡ o) [
+        Some n ↦ λ is. let within = slice_get_within args n id (last_place_get args id n is) in ap Some (cut_fits n (omega (arith, within)))
+      | None ↦ λ is. refl
+      ] refl
+
+-- the declarations are those of the runs
+pub few_declared : (to : Numbers) (a : ℕ) (locals : List Local) (rs : List (ℕ × ValType ℕ)) (r : Result (List (ℕ × ValType ℕ)) EmitError) → a + length locals ≤ 2 ^ 32 → rs ≡ runs (types_of locals) → declarations to rs ≡ r → declared to a locals ≡ r
+few_declared to a locals rs r fit are is =
+    ap (λ b. unless b TooLarge >>= λ _. declarations to (runs (types_of locals))) (le-leb (a + length locals) (2 ^ 32) fit)
+    ∙ (ap (declarations to) (sym are) ∙ is)
