@@ -16,7 +16,7 @@ use Rattle.std.proofs.lemmas.List.Sorted.{IsPermutation-map, All-permutation, li
 use Rattle.std.proofs.lemmas.Map.Keys.{IsDistinct-cons, IsDistinct-head, IsDistinct-tail, IsDistinct-IsPermutation, apart_from_distinct}
 use Rattle.std.proofs.Math.ListN.{get_or-map}
 use Rattle.std.proofs.Math.Bool.{and-true, and-false, or-true}
-use Rattle.std.proofs.lemmas.List.{take_more, map-append, length-map, drop-map}
+use Rattle.std.proofs.lemmas.List.{take_more, map-append, length-map, drop-map, length-take-le}
 use Rattle.walrus_ir.specs.declared.val_type.ValType.{ValType}
 use Rattle.walrus_ir.specs.Results.{◌>>=◌, some_or, unless, each}
 use Rattle.walrus_ir.specs.Types.{same_type}
@@ -44,15 +44,10 @@ last_place-push [] x q = refl
 last_place-push (y ∷ ys) x q =
     ap (λ o. option_or (option_map (λ n. n + 1) o) (cond (y == q) (Some 0) None)) (last_place-push ys x q)
     ∙ elim (x == q) as (λ b. option_or (option_map (λ n. n + 1) (cond b (Some (length ys)) (last_place ys q))) (cond (y == q) (Some 0) None)
-        ≡ cond b (Some (suc (length ys))) (option_or (option_map (λ n. n + 1) (last_place ys q)) (cond (y == q) (Some 0) None))) [
-      true ↦ ap Some (add-one (length ys))
-    | false ↦ refl
+    ≡ cond b (Some (suc (length ys))) (option_or (option_map (λ n. n + 1) (last_place ys q)) (cond (y == q) (Some 0) None))) [
+      | true ↦ ap Some (add-one (length ys))
+      | false ↦ refl
     ]
-
-length_taken : {A : Type 0} (i : ℕ) (xs : List A) → i < length xs → length (take i xs) ≡ i
-length_taken zero xs h = refl
-length_taken (suc i) [] h = absurd (omega arith)
-length_taken (suc i) (x ∷ xs) h = ap suc (length_taken i xs (omega arith))
 
 -- one argument more
 pub argument_numbered : (args : List ℕ) (i x n : ℕ) (es fs : List (ℕ × ℕ)) → i < length args → x ≡ get_or args i x → n ≡ cut i
@@ -60,7 +55,7 @@ pub argument_numbered : (args : List ℕ) (i x n : ℕ) (es fs : List (ℕ × �
     → ((q : ℕ) → number_in es q ≡ option_map cut (last_place (take i args) q))
     → (q : ℕ) → number_in fs q ≡ option_map cut (last_place (take (i + 1) args) q)
 argument_numbered args i x n es fs within is number put before q =
-    let pushed = ap (λ xs. last_place xs q) (take_more args i x within ∙ ap (λ y. take i args ++ y ∷ []) (sym is)) ∙ (last_place-push (take i args) x q ∙ ap (λ n. cond (x == q) (Some n) (last_place (take i args) q)) (length_taken i args within)) in
+    let pushed = ap (λ xs. last_place xs q) (take_more args i x within ∙ ap (λ y. take i args ++ y ∷ []) (sym is)) ∙ (last_place-push (take i args) x q ∙ ap (λ n. cond (x == q) (Some n) (last_place (take i args) q)) (length-take-le i args (omega (arith, within)))) in
     one_number es fs x n put q
     ∙ (ap (λ m. cond (x == q) (Some m) (number_in es q)) number
     ∙ (ap (λ o. cond (x == q) (Some (cut i)) o) (before q)
@@ -75,13 +70,13 @@ pub other_numbered : (args : List ℕ) (others : List Local) (i : ℕ) (l : Loca
 other_numbered args others i l es fs within is put before q =
     let ids = ids_of (take i others) in
     let more : ids_of (take (i + 1) others) ≡ ids ++ l.1 ∷ [] =
-      ap ids_of (take_more others i l within ∙ ap (λ k. take i others ++ k ∷ []) (sym is)) ∙ map-append (λ (k : Local). k.1) (take i others) (l ∷ []) in
+    ap ids_of (take_more others i l within ∙ ap (λ k. take i others ++ k ∷ []) (sym is)) ∙ map-append (λ (k : Local). k.1) (take i others) (l ∷ []) in
     let long : length (args ++ ids) ≡ length args + i =
-      length-append args ids ∙ ap (λ n. length args + n) (length-map (take i others) (λ (k : Local). k.1) ∙ length_taken i others within) in
+    length-append args ids ∙ ap (λ n. length args + n) (length-map (take i others) (λ (k : Local). k.1) ∙ length-take-le i others (omega (arith, within))) in
     let pushed : number_of_local args (ids_of (take (i + 1) others)) q ≡ cond (l.1 == q) (Some (length args + i)) (last_place (args ++ ids) q) =
-      ap (λ xs. last_place (args ++ xs) q) more
-      ∙ (ap (λ xs. last_place xs q) (sym (append_assoc args ids (l.1 ∷ [])))
-      ∙ (last_place-push (args ++ ids) l.1 q ∙ ap (λ n. cond (l.1 == q) (Some n) (last_place (args ++ ids) q)) long)) in
+    ap (λ xs. last_place (args ++ xs) q) more
+    ∙ (ap (λ xs. last_place xs q) (sym (append_assoc args ids (l.1 ∷ [])))
+    ∙ (last_place-push (args ++ ids) l.1 q ∙ ap (λ n. cond (l.1 == q) (Some n) (last_place (args ++ ids) q)) long)) in
     one_number es fs l.1 (length args + i) put q ∙ (ap (λ o. cond (l.1 == q) (Some (length args + i)) o) (before q) ∙ sym pushed)
 
 -- ---- runs
@@ -107,17 +102,17 @@ pub first_run : (t : ValType ℕ) (us : List (ValType ℕ)) → runs (t ∷ us) 
 first_run t [] = refl
 first_run t (u ∷ us) =
     elim (same_type t u) as (λ b. same_type t u ≡ b → one_more t (runs (u ∷ us)) ≡ (cond b (leading t us + 1) 0 + 1, t) ∷ runs (drop (cond b (leading t us + 1) 0) (u ∷ us))) [
-      true ↦ λ same.
-        let e : u ≡ t = sym ((same_type-Decides t u).0 same) in
-        let rest = first_run u us in
-        ap (one_more t) rest
-        ∙ (ap (λ b. cond b ((leading u us + 1 + 1, t) ∷ runs (drop (leading u us) us)) ((1, t) ∷ (leading u us + 1, u) ∷ runs (drop (leading u us) us))) same
-        ∙ (ap (λ v. (leading v us + 1 + 1, t) ∷ runs (drop (leading v us) us)) e
-        ∙ ap (λ n. (leading t us + 1 + 1, t) ∷ runs (drop n (u ∷ us))) (sym (add-one (leading t us)))))
-    | false ↦ λ other.
-        ap (one_more t) (first_run u us)
-        ∙ (ap (λ b. cond b ((leading u us + 1 + 1, t) ∷ runs (drop (leading u us) us)) ((1, t) ∷ (leading u us + 1, u) ∷ runs (drop (leading u us) us))) other
-        ∙ ap (λ rs. (1, t) ∷ rs) (sym (first_run u us)))
+      | true ↦ λ same.
+          let e : u ≡ t = sym ((same_type-Decides t u).0 same) in
+          let rest = first_run u us in
+          ap (one_more t) rest
+          ∙ (ap (λ b. cond b ((leading u us + 1 + 1, t) ∷ runs (drop (leading u us) us)) ((1, t) ∷ (leading u us + 1, u) ∷ runs (drop (leading u us) us))) same
+          ∙ (ap (λ v. (leading v us + 1 + 1, t) ∷ runs (drop (leading v us) us)) e
+          ∙ ap (λ n. (leading t us + 1 + 1, t) ∷ runs (drop n (u ∷ us))) (sym (add-one (leading t us)))))
+      | false ↦ λ other.
+          ap (one_more t) (first_run u us)
+          ∙ (ap (λ b. cond b ((leading u us + 1 + 1, t) ∷ runs (drop (leading u us) us)) ((1, t) ∷ (leading u us + 1, u) ∷ runs (drop (leading u us) us))) other
+          ∙ ap (λ rs. (1, t) ∷ rs) (sym (first_run u us)))
     ] refl
 
 -- one run more
@@ -126,10 +121,10 @@ pub run_found : (locals left behind rest : List Local) (l : Local) (done found :
 run_found locals left behind rest l done found n first count others before pushed =
     let this = first_run l.0 (types_of behind) in
     let here : runs (types_of left) ≡ (n + 1, l.0) ∷ runs (types_of rest) =
-      ap (λ ls. runs (types_of ls)) first
-      ∙ (this
-      ∙ (ap (λ k. (k + 1, l.0) ∷ runs (drop k (types_of behind))) (sym count)
-      ∙ ap (λ ts. (n + 1, l.0) ∷ runs ts) (drop-map (λ (k : Local). k.0) n behind ∙ ap types_of (sym others)))) in
+    ap (λ ls. runs (types_of ls)) first
+    ∙ (this
+    ∙ (ap (λ k. (k + 1, l.0) ∷ runs (drop k (types_of behind))) (sym count)
+    ∙ ap (λ ts. (n + 1, l.0) ∷ runs ts) (drop-map (λ (k : Local). k.0) n behind ∙ ap types_of (sym others)))) in
     ap (λ rs. rs ++ runs (types_of rest)) pushed
     ∙ (append_assoc done ((n + 1, l.0) ∷ []) (runs (types_of rest))
     ∙ (ap (λ rs. done ++ rs) (sym here) ∙ before))
@@ -190,12 +185,12 @@ each_typed : (types : List (ValType ℕ)) (ids : List ℕ) (ls : List Local) →
 each_typed types [] ls h = let none : [] ≡ ls = cc in subst (AreTyped types []) none (record { are = refl; typed = tt })
 each_typed types (id ∷ ids) ls h =
     elim (slice_get types id) as (λ o. slice_get types id ≡ o → ((some_or o UnknownLocal >>= λ u. Ok (u, id)) >>= λ l. each (typed_local types) ids >>= λ ks. Ok (l ∷ ks)) ≡ Ok ls → AreTyped types (id ∷ ids) ls) [
-      Some t ↦ λ has e.
-        (elim (each (typed_local types) ids) as (λ r. each (typed_local types) ids ≡ r → (r >>= λ ks. Ok ((t, id) ∷ ks)) ≡ Ok ls → AreTyped types (id ∷ ids) ls) [
-          Ok ms ↦ λ are f. let is : (t, id) ∷ ms ≡ ls = cc in one_typed types id t ids ms ls has (each_typed types ids ms are) is
-        | Err x ↦ λ are f. cc
-        ]) refl e
-    | None ↦ λ has e. cc
+      | Some t ↦ λ has e.
+          (elim (each (typed_local types) ids) as (λ r. each (typed_local types) ids ≡ r → (r >>= λ ks. Ok ((t, id) ∷ ks)) ≡ Ok ls → AreTyped types (id ∷ ids) ls) [
+            | Ok ms ↦ λ are f. let is : (t, id) ∷ ms ≡ ls = cc in one_typed types id t ids ms ls has (each_typed types ids ms are) is
+            | Err x ↦ λ are f. cc
+          ]) refl e
+      | None ↦ λ has e. cc
     ] refl h
 
 record IsUntyped (types : List (ValType ℕ)) (ids : List ℕ) (e : EmitError) : Type 0 where
@@ -211,44 +206,44 @@ each_untyped : (types : List (ValType ℕ)) (ids : List ℕ) (e : EmitError) →
 each_untyped types [] e h = cc
 each_untyped types (id ∷ ids) e h =
     elim (slice_get types id) as (λ o. slice_get types id ≡ o → ((some_or o UnknownLocal >>= λ u. Ok (u, id)) >>= λ l. each (typed_local types) ids >>= λ ks. Ok (l ∷ ks)) ≡ Err e → IsUntyped types (id ∷ ids) e) [
-      Some t ↦ λ has f.
-        (elim (each (typed_local types) ids) as (λ r. each (typed_local types) ids ≡ r → (r >>= λ ks. Ok ((t, id) ∷ ks)) ≡ Err e → IsUntyped types (id ∷ ids) e) [
-          Ok ms ↦ λ are g. cc
-        | Err x ↦ λ are g. let is : x ≡ e = cc in untyped_behind types id ids e (each_untyped types ids e (are ∙ ap Err is))
-        ]) refl f
-    | None ↦ λ has f. let is : e ≡ UnknownLocal = cc in record { fault = is; id = id; stands = ap (λ b. b || among id ids) (eq-eqb id id refl); has_none = has }
+      | Some t ↦ λ has f.
+          (elim (each (typed_local types) ids) as (λ r. each (typed_local types) ids ≡ r → (r >>= λ ks. Ok ((t, id) ∷ ks)) ≡ Err e → IsUntyped types (id ∷ ids) e) [
+            | Ok ms ↦ λ are g. cc
+            | Err x ↦ λ are g. let is : x ≡ e = cc in untyped_behind types id ids e (each_untyped types ids e (are ∙ ap Err is))
+          ]) refl f
+      | None ↦ λ has f. let is : e ≡ UnknownLocal = cc in record { fault = is; id = id; stands = ap (λ b. b || among id ids) (eq-eqb id id refl); has_none = has }
     ] refl h
 
 -- which ids a filter keeps
 kept_one : (p : ℕ → Bool) (id k : ℕ) (rest : Bool) (b : Bool) → p k ≡ b → (cond b ((id == k) || (rest && p id)) (rest && p id)) ≡ (((id == k) || rest) && p id)
 kept_one p id k rest b keeps =
     elim (id == k) as (λ c. (id == k) ≡ c → cond b (c || (rest && p id)) (rest && p id) ≡ ((c || rest) && p id)) [
-      true ↦ λ e. let is : p id ≡ b = ap p (eqb-true id k e) ∙ keeps in rw is (elim b as (λ b. cond b true (rest && b) ≡ b) [ true ↦ refl | false ↦ and-false rest ])
-    | false ↦ λ e. elim b as (λ b. cond b (rest && p id) (rest && p id) ≡ (rest && p id)) [ true ↦ refl | false ↦ refl ]
+      | true ↦ λ e. let is : p id ≡ b = ap p (eqb-true id k e) ∙ keeps in rw is (elim b as (λ b. cond b true (rest && b) ≡ b) [ true ↦ refl | false ↦ and-false rest ])
+      | false ↦ λ e. elim b as (λ b. cond b (rest && p id) (rest && p id) ≡ (rest && p id)) [ true ↦ refl | false ↦ refl ]
     ] refl
 
 among_kept : (p : ℕ → Bool) (id : ℕ) (ids : List ℕ) → among id (filter p ids) ≡ (among id ids && p id)
 among_kept p id [] = refl
 among_kept p id (k ∷ ids) =
     elim (p k) as (λ b. p k ≡ b → among id (cond b (k ∷ filter p ids) (filter p ids)) ≡ (((id == k) || among id ids) && p id)) [
-      true ↦ λ keeps. ap (λ b. (id == k) || b) (among_kept p id ids) ∙ kept_one p id k (among id ids) true keeps
-    | false ↦ λ drops. among_kept p id ids ∙ kept_one p id k (among id ids) false drops
+      | true ↦ λ keeps. ap (λ b. (id == k) || b) (among_kept p id ids) ∙ kept_one p id k (among id ids) true keeps
+      | false ↦ λ drops. among_kept p id ids ∙ kept_one p id k (among id ids) false drops
     ] refl
 
 apart_kept : (p : ℕ → Bool) (k : ℕ) (ids : List ℕ) → AllByRecursion (λ y. same_id k y ≡ false) ids → AllByRecursion (λ y. same_id k y ≡ false) (filter p ids)
 apart_kept p k [] h = tt
 apart_kept p k (x ∷ ids) h =
     elim (p x) as (λ b. AllByRecursion (λ y. same_id k y ≡ false) (cond b (x ∷ filter p ids) (filter p ids))) [
-      true ↦ (h.0, apart_kept p k ids h.1)
-    | false ↦ apart_kept p k ids h.1
+      | true ↦ (h.0, apart_kept p k ids h.1)
+      | false ↦ apart_kept p k ids h.1
     ]
 
 distinct_kept : (p : ℕ → Bool) (ids : List ℕ) → IsDistinct same_id ids → IsDistinct same_id (filter p ids)
 distinct_kept p [] d = d
 distinct_kept p (x ∷ ids) d =
     elim (p x) as (λ b. IsDistinct same_id (cond b (x ∷ filter p ids) (filter p ids))) [
-      true ↦ IsDistinct-cons same_id x (filter p ids) (apart_kept p x ids (IsDistinct-head same_id x ids d)) (distinct_kept p ids (IsDistinct-tail same_id x ids d))
-    | false ↦ distinct_kept p ids (IsDistinct-tail same_id x ids d)
+      | true ↦ IsDistinct-cons same_id x (filter p ids) (apart_kept p x ids (IsDistinct-head same_id x ids d)) (distinct_kept p ids (IsDistinct-tail same_id x ids d))
+      | false ↦ distinct_kept p ids (IsDistinct-tail same_id x ids d)
     ]
 
 -- keys that a set holds are apart
@@ -260,8 +255,8 @@ among_none : (k : ℕ) (ks : List ℕ) → among k ks ≡ false → AllByRecursi
 among_none k [] h = tt
 among_none k (y ∷ ks) h =
     elim (k == y) as (λ b. (k == y) ≡ b → (b || among k ks) ≡ false → AllByRecursion (λ z. same_id k z ≡ false) (y ∷ ks)) [
-      true ↦ λ e f. cc
-    | false ↦ λ e f. (and-true (k == y) ∙ e, among_none k ks f)
+      | true ↦ λ e f. cc
+      | false ↦ λ e f. (and-true (k == y) ∙ e, among_none k ks f)
     ] refl h
 
 distinct_apart : (ks : List ℕ) → IsDistinct same_id ks → Apart ks
@@ -293,10 +288,10 @@ ascending : (l m : Local) → is_lt (local_order m l) ≡ false → same_id l.1 
 ascending l m not_below apart =
     less_of (local_order l m) (sym (ap is_lt (local_order-total.antisymm m l)) ∙ not_below)
     (λ tie.
-      let ids : nat_cmp l.1 m.1 ≡ Equal = then_equal (type_order l.0 m.0) (nat_cmp l.1 m.1) tie in
-      let same : (l.1 == m.1) ≡ true = sym (unsigned_tied l.1 m.1) ∙ ap is_eq ids in
-      let other : (l.1 == m.1) ≡ false = sym (and-true (l.1 == m.1)) ∙ apart in
-      cc)
+    let ids : nat_cmp l.1 m.1 ≡ Equal = then_equal (type_order l.0 m.0) (nat_cmp l.1 m.1) tie in
+    let same : (l.1 == m.1) ≡ true = sym (unsigned_tied l.1 m.1) ∙ ap is_eq ids in
+    let other : (l.1 == m.1) ≡ false = sym (and-true (l.1 == m.1)) ∙ apart in
+    cc)
 
 -- the order in which a list is sorted
 pub in_order : (l m : Local) (o p : Ordering) → o ≡ type_order l.0 m.0 → p ≡ nat_cmp l.1 m.1 → is_lt (ordering_then o p) ≡ false → is_lt (local_order l m) ≡ false
@@ -318,10 +313,10 @@ module _ (types : List (ValType ℕ)) (args keys : List ℕ) (numbers : List (�
       let apart = IsDistinct-IsPermutation same_id (λ x y. ap (λ b. b && true) (nat_eq_equiv.symm x y)) (ids_of found) (ids_of ls) ids (apart_distinct (ids_of found) unique) in
       record {
         ascend = λ k d within.
-          ascending (get_or ls k d) (get_or ls (k + 1) d) (sorted k d within)
-          (let two = apart_from_distinct same_id (ids_of ls) k (k + 1) d.1 apart (omega arith) (omega (arith, length-map ls (λ (l : Local). l.1))) in
-          ap (λ x. same_id x (get_or ls (k + 1) d).1) (sym (get_or-map (λ (l : Local). l.1) ls k d))
-          ∙ (ap (same_id (get_or (ids_of ls) k d.1)) (sym (get_or-map (λ (l : Local). l.1) ls (k + 1) d)) ∙ two));
+            ascending (get_or ls k d) (get_or ls (k + 1) d) (sorted k d within)
+            (let two = apart_from_distinct same_id (ids_of ls) k (k + 1) d.1 apart (omega arith) (omega (arith, length-map ls (λ (l : Local). l.1))) in
+            ap (λ x. same_id x (get_or ls (k + 1) d).1) (sym (get_or-map (λ (l : Local). l.1) ls k d))
+            ∙ (ap (same_id (get_or (ids_of ls) k d.1)) (sym (get_or-map (λ (l : Local). l.1) ls (k + 1) d)) ∙ two));
         are_all = λ id. sym (list_any-IsPermutation (λ y. id == y) (ids_of found) (ids_of ls) ids) ∙ (ap (among id) each.are ∙ free_used id);
         typed = All-permutation (Typed types) found ls moved (All-from_recursion (Typed types) found each.typed);
       }
@@ -342,15 +337,15 @@ some_place : (xs : List ℕ) (id : ℕ) → is_some (last_place xs id) ≡ among
 some_place [] id = refl
 some_place (x ∷ xs) id =
     elim (last_place xs id) as (λ o. is_some (option_or (option_map (λ n. n + 1) o) (cond (x == id) (Some 0) None)) ≡ (is_some o || (x == id))) [
-      Some n ↦ refl
-    | None ↦ elim (x == id) as (λ b. is_some {T = ℕ} (cond b (Some 0) None) ≡ b) [ true ↦ refl | false ↦ refl ]
+      | Some n ↦ refl
+      | None ↦ elim (x == id) as (λ b. is_some {T = ℕ} (cond b (Some 0) None) ≡ b) [ true ↦ refl | false ↦ refl ]
     ]
     ∙ (ap (λ b. b || (x == id)) (some_place xs id)
     ∙ (ap (λ b. among id xs || b) (nat_eq_equiv.symm x id)
     ∙ elim (id == x) as (λ b. (among id xs || b) ≡ (b || among id xs)) [
-        true ↦ or-true (among id xs)
+      | true ↦ or-true (among id xs)
       | false ↦ elim (among id xs) as (λ b. (b || false) ≡ b) [ true ↦ refl | false ↦ refl ]
-      ]))
+    ]))
 
 -- the map tells arguments from other locals
 pub arguments_told : (args : List ℕ) (es : List (ℕ × ℕ)) → ((id : ℕ) → number_in es id ≡ option_map cut (last_place args id)) → (id : ℕ) → is_some (number_in es id) ≡ among id args
@@ -367,9 +362,9 @@ pub nothing_cut : (args : List ℕ) (es : List (ℕ × ℕ)) → length args ≤
 nothing_cut args es fit h id =
     h id
     ∙ elim (last_place args id) as (λ o. last_place args id ≡ o → option_map cut o ≡ o) [
-        Some n ↦ λ is. let within = slice_get_within args n id (last_place_get args id n is) in ap Some (cut_fits n (omega (arith, within)))
+      | Some n ↦ λ is. let within = slice_get_within args n id (last_place_get args id n is) in ap Some (cut_fits n (omega (arith, within)))
       | None ↦ λ is. refl
-      ] refl
+    ] refl
 
 -- the declarations are those of the runs
 pub few_declared : (to : Numbers) (a : ℕ) (locals : List Local) (rs : List (ℕ × ValType ℕ)) (r : Result (List (ℕ × ValType ℕ)) EmitError) → a + length locals ≤ 2 ^ 32 → rs ≡ runs (types_of locals) → declarations to rs ≡ r → declared to a locals ≡ r

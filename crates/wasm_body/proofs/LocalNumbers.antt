@@ -102,9 +102,6 @@ same_locals (l ∷ ls) (m ∷ ms) a b to from =
 
 -- ---- at most one list is declared
 
-same_itself : (n : ℕ) → (n == n) ≡ true
-same_itself n = eq-eqb n n refl
-
 stands_among : (x : Local) (ls : List Local) → Stands x ls → among x.1 (ids_of ls) ≡ true
 stands_among x [] s = absurd s
 stands_among x (l ∷ ls) (inl e) = ap (λ b. b || among x.1 (ids_of ls)) (eq-eqb x.1 l.1 (ap (λ (k : Local). k.1) e))
@@ -165,20 +162,17 @@ apart_place (x ∷ xs) zero id a h =
 apart_place (x ∷ xs) (suc n) id a h =
     ap (λ o. option_or (option_map (λ n. n + 1) o) (cond (x == id) (Some 0) None)) (apart_place xs n id a.1 h) ∙ ap Some (add-one n)
 
-among_append : (id : ℕ) (xs ys : List ℕ) → among id (xs ++ ys) ≡ (among id xs || among id ys)
-among_append id xs ys = list_any-append (λ y. id == y) xs ys
-
 abbrev Outside : List ℕ → List ℕ → Type 0
 Outside ys xs = AllByRecursion (λ x. among x ys ≡ false) xs
 
 apart_append : (xs ys : List ℕ) → Apart xs → Apart ys → Outside ys xs → Apart (xs ++ ys)
 apart_append [] ys a b out = b
-apart_append (x ∷ xs) ys a b out = (among_append x xs ys ∙ (ap (λ c. c || among x ys) a.0 ∙ out.0), apart_append xs ys a.1 b out.1)
+apart_append (x ∷ xs) ys a b out = (list_any-append (λ y. x == y) xs ys ∙ (ap (λ c. c || among x ys) a.0 ∙ out.0), apart_append xs ys a.1 b out.1)
 
 outside : (xs ys : List ℕ) → ((id : ℕ) → among id xs ≡ true → among id ys ≡ false) → Outside ys xs
 outside [] ys h = tt
 outside (x ∷ xs) ys h =
-    (h x (ap (λ b. b || among x xs) (same_itself x)), outside xs ys (λ id is. h id (ap (λ b. (id == x) || b) is ∙ or-true (id == x))))
+    (h x (ap (λ b. b || among x xs) (eq-eqb x x refl)), outside xs ys (λ id is. h id (ap (λ b. (id == x) || b) is ∙ or-true (id == x))))
 
 module _ (types : List (ValType ℕ)) where
   abbrev Typed : Local → Type 0

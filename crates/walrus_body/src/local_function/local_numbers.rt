@@ -27,15 +27,16 @@ const NUMBERS: usize = 1 << 32;
 fn cut_number(place: usize) -> u32
     ensures { result ≡ cut place }
 {
-    if place < NUMBERS { place as u32 } else { u32::MAX }
+    if place < NUMBERS {
+        place as u32
+    } else {
+        u32::MAX
+    }
 }
 
 /// The number of each argument: its last place. Where that doesn't fit 32 bits it is cut, so that
 /// the map still tells arguments from other locals.
-fn number_arguments(
-    alloc: Global,
-    args: &[LocalId],
-) -> Result<IdHashMap<LocalId, u32>, AllocError>
+fn number_arguments(alloc: Global, args: &[LocalId]) -> Result<IdHashMap<LocalId, u32>, AllocError>
     ensures { IfOk result (λ numbers. (id : ℕ)
         → number_in numbers.entries id ≡ option_map cut (last_place args.now id)) }
 {
@@ -92,6 +93,7 @@ fn declared_locals(
         Ok(others) => others,
         Err(fault) => return Err(fault),
     };
+    // By these laws the order of the pairs is that of the types, then of the ids.
     law_type_order();
     law_ids::<kind::Local>();
     others.sort_unstable();

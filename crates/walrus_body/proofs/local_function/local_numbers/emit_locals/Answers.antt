@@ -15,8 +15,8 @@ returns-in-Err-declarations-clause-err c =
     let to = numbers_by c.args.indices.now [] in
     let found = c.as_slice-3.ensures.value ∙ (c.in_ok-runs.ensures ∙ ap (λ ls. runs (types_of ls)) c.as_slice-2.ensures.value) in
     elim c.in-Err-declarations.ensures.err [
-      inl memory ↦ inl memory
-    | inr fault ↦ inr (inr (record {
+      | inl memory ↦ inl memory
+      | inr fault ↦ inr (inr (record {
         others = c.in-Ok.others.items;
         are_declared = c.in-Ok.ensures.ok;
         fault_is = few_declared to (length c.args.args.now) c.in-Ok.others.items c.as_slice-3.result.now _ (omega arith) found fault;
