@@ -1,6 +1,4 @@
-use Rattle.std.proofs.Common.{◌≡◌, ℕ, ◌<◌, ◌+◌, ◌⊎◌, inl, inr, length, false, get_or, sym, ap, ◌∙◌, arith}
-use Rattle.std.specs.Ordering.{is_lt, ordering_then}
-use Rattle.wasm_body.specs.LocalNumbers.{Local, local_order}
+use Rattle.std.proofs.Common.{◌+◌, inl, inr, get_or, arith}
 use Rattle.walrus_body.proofs.LocalNumbering.{in_order, sorted_declared, unknown_local}
 use Rattle.walrus_body.proofs.local_function.local_numbers.declared_locals.Goals as goal
 

@@ -1,5 +1,5 @@
-use Rattle.std.proofs.Common.{◌≡◌, ◌⊎◌, inl, inr, [], List, ap, sym, ◌∙◌, length, arith}
-use Rattle.wasm_body.specs.LocalNumbers.{Local, types_of, runs}
+use Rattle.std.proofs.Common.{inl, inr, [], ap, ◌∙◌, length, arith}
+use Rattle.wasm_body.specs.LocalNumbers.{types_of, runs}
 use Rattle.walrus_body.specs.TreeWriting.Operators.{numbers_by}
 use Rattle.walrus_body.proofs.LocalNumbering.{arguments_told, nothing_cut, few_declared}
 use Rattle.walrus_body.proofs.local_function.local_numbers.emit_locals.Goals as goal

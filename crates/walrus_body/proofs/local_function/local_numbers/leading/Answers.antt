@@ -1,7 +1,6 @@
-use Rattle.std.proofs.Common.{◌≡◌, ◌+◌, ◌∙◌, sym, ap, arith, drop}
+use Rattle.std.proofs.Common.{◌∙◌, sym, ap, arith}
 use Rattle.walrus_ir.specs.Types.{same_type}
-use Rattle.wasm_body.specs.LocalNumbers.{Local, types_of}
-use Rattle.walrus_body.specs.EmittedLocals.{leading}
+use Rattle.wasm_body.specs.LocalNumbers.{Local}
 use Rattle.walrus_body.proofs.LocalNumbering.{leading_more, leading_none}
 use Rattle.walrus_body.proofs.local_function.local_numbers.leading.Goals as goal
 

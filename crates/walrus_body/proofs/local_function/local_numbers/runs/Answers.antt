@@ -1,4 +1,4 @@
-use Rattle.std.proofs.Common.{◌≡◌, ◌∷◌, ◌-◌, length, drop, length-drop, arith}
+use Rattle.std.proofs.Common.{◌-◌, length, drop, length-drop, arith}
 use Rattle.std.proofs.lemmas.List.{take_all}
 use Rattle.walrus_body.proofs.LocalNumbering.{run_found}
 use Rattle.walrus_body.proofs.local_function.local_numbers.runs.Goals as goal

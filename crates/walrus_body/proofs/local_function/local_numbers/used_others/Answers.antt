@@ -1,4 +1,4 @@
-use Rattle.std.proofs.Common.{◌≡◌, List, [], ◌∷◌, ◌++◌, Ok, append-nil, cond, not, sym, ap, ◌∙◌, inr}
+use Rattle.std.proofs.Common.{[], ◌∷◌, ◌++◌, Ok, append-nil, cond, not, sym, ap, ◌∙◌, inr}
 use Rattle.std.proofs.lemmas.Map.Iter.{rest_more}
 use Rattle.std.specs.Map.Iter.{deref}
 use Rattle.walrus_body.specs.EmittedLocals.{unnumbered}
