@@ -1,8 +1,7 @@
--- hashed maps as finite maps, how pushes number ids, and how locals are numbered
+-- hashed maps as finite maps, and how pushes number ids
 pub mod EntryMaps
 pub mod Listed
 pub mod NumberingLemmas
-pub mod LocalNumbering
 -- what visitors make of a tree's events
 mod Collecting
 mod Counting

@@ -12,4 +12,3 @@ pub mod TreeWriting
 pub mod Parsing
 pub mod FunctionParts
 pub mod LocalFunctions
-pub mod EmittedLocals

@@ -14,4 +14,3 @@ pub mod Parses
 pub mod Rewritings
 pub mod Pairs
 pub mod Premises
-pub mod LocalNumbers
