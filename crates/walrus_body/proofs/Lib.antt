@@ -5,6 +5,7 @@ pub mod NumberingLemmas
 -- what visitors make of a tree's events
 mod Collecting
 mod Counting
+mod Gathering
 -- writing a function's tree
 pub mod Emission
 pub mod TreeWriting
