@@ -9,7 +9,7 @@ use Rattle.walrus_ir.specs.declared.instr.Instr.TheVariants.{RefFunc, LocalGet, 
 use Rattle.walrus_ir.specs.declared.error.WalkError.{WalkError}
 use Rattle.walrus_ir.specs.declared.error.WalkError.TheVariants.{Memory, TooLarge}
 use Rattle.walrus_ir.specs.Tree.{Tree}
-use Rattle.walrus_ir.specs.Unfolding.{SequenceAt, LocatedInstr}
+use Rattle.walrus_ir.specs.Unfolding.{SequenceAt, LocatedInstr, IsTree}
 use Rattle.walrus_ir.specs.Events.{WalkEvent, VisitInstruction, names, events, Stops, refused, later}
 use Rattle.walrus_ir.specs.Walk.{Finishes, IsRefused, IsUnwalked, HasNoWalk}
 use Rattle.walrus_body.specs.Facts.{instructions, count, TreeHas}
@@ -41,25 +41,35 @@ adding_count = record {
   both = λ xs ys n. let all = length-append xs ys in omega (arith, all);
 }
 
+-- memory ran out, or so many instructions don't fit 64 bits
+abbrev pub IsFull : WalkError → ℕ → Type 0
+IsFull f n = (f ≡ Memory) ⊎ ((f ≡ TooLarge) × (2 ^ 64 ≤ n))
+
+-- as many at least
+full_as_well : {f : WalkError} {m n : ℕ} → m ≤ n → IsFull f m → IsFull f n
+full_as_well more (inl memory) = inl memory
+full_as_well more (inr h) = let past = h.1 in inr (h.0, omega (arith, more, past))
+
+full_of_tree : {b : List InstrSeq} {start : ℕ} {f : WalkError} {n : ℕ} (t : Tree SequenceAt LocatedInstr) → IsTree b start t → n ≡ count t.items
+    → IsFull f n → HasNoWalk b start f ⊎ IsTooLarge b start f
+full_of_tree t is_tree all (inl memory) = inl (inl memory)
+full_of_tree t is_tree all (inr h) = let past = h.1 in inr (h.0, record { tree = t; is_tree = is_tree; holds = omega (arith, past, all) })
+
 -- A visitor that counts the instructions, and is refused for want of memory or where its count would pass 64 bits.
 pub record IsCounting {V : Type 0} (steps : V → WalkEvent → V → Type 0) (refuses : V → WalkEvent → WalkError → Type 0) (size : V → ℕ) : Type 0 where
   pub steps_count : (v w : V) (e : WalkEvent) → steps v e w → size w ≡ size v + length (visited e)
-  pub refused_for : (v : V) (e : WalkEvent) (f : WalkError) → refuses v e f → (f ≡ Memory) ⊎ ((f ≡ TooLarge) × (2 ^ 64 ≤ size v + length (visited e)))
+  pub refused_for : (v : V) (e : WalkEvent) (f : WalkError) → refuses v e f → IsFull f (size v + length (visited e))
 
 module _ {V : Type 0} {steps : V → WalkEvent → V → Type 0} {refuses : V → WalkEvent → WalkError → Type 0} {size : V → ℕ} (counting : IsCounting steps refuses size) where
   stops_visited : {same : V → V → Type 0} {v w : V} {es : List WalkEvent} {f : WalkError} → Stops steps refuses same v es w f
-      → (f ≡ Memory) ⊎ ((f ≡ TooLarge) × (2 ^ 64 ≤ size v + length (flat_map visited es)))
+      → IsFull f (size v + length (flat_map visited es))
   stops_visited (refused {v = v} {e = e} {es = es} {f = f} r s) =
       let all = length-append (visited e) (flat_map visited es) in
-      match counting.refused_for v e f r where
-        inl m → inl m
-        inr h → let past = h.1 in inr (h.0, omega (arith, past, all))
+      full_as_well (omega (arith, all)) (counting.refused_for v e f r)
   stops_visited (later {v = v} {w = w} {e = e} {es = es} s f) =
       let all = length-append (visited e) (flat_map visited es) in
       let step = counting.steps_count v w e s in
-      match stops_visited f where
-        inl m → inl m
-        inr h → let past = h.1 in inr (h.0, omega (arith, step, past, all))
+      full_as_well (omega (arith, step, all)) (stops_visited f)
 
   pub counted : {b : List InstrSeq} {start : ℕ} {v w : V} → size v ≡ 0 → (h : Finishes b start steps v w) → size w ≡ count h.tree.items
   counted zero h =
@@ -71,9 +81,7 @@ module _ {V : Type 0} {steps : V → WalkEvent → V → Type 0} {refuses : V �
       → IsRefused b start steps refuses same v w f ⊎ IsUnwalked b start (λ e f. f ≡ e) v w f → HasNoWalk b start f ⊎ IsTooLarge b start f
   not_counted zero (inl r) =
       let all = tree_visited r.tree in
-      match stops_visited r.stops where
-        inl m → inl (inl m)
-        inr h → let past = h.1 in inr (h.0, record { tree = r.tree; is_tree = r.is_tree; holds = omega (arith, zero, past, all) })
+      full_of_tree r.tree r.is_tree (omega (arith, zero, all)) (stops_visited r.stops)
   not_counted zero (inr u) = inl (no_walk u)
 
 -- `SizeVisitor` counts

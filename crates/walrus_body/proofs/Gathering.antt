@@ -17,7 +17,7 @@ use Rattle.walrus_body.specs.Sizes.{visited}
 use Rattle.walrus_body.specs.Gathering.{uses_local, function_at, local_at, Gathers, Declines}
 use Rattle.walrus_body.specs.declared.facts.FactsVisitor.{FactsVisitor}
 use Rattle.walrus_body.proofs.Collecting.{IsByInstruction, tree_collected, IsAdding, folded, adding_members, tree_named}
-use Rattle.walrus_body.proofs.Counting.{IsCounting, counted}
+use Rattle.walrus_body.proofs.Counting.{IsFull, IsCounting, counted}
 
 functions_by : (i : Instr) (location : ℕ) → flat_map function_at (VisitInstruction i location ∷ names i) ≡ function_of i
 functions_by (RefFunc x) location = refl
@@ -60,7 +60,7 @@ adding_some = record { none = λ b. refl; both = some_of_both }
 adding_behind : IsAdding (λ (xs before : List ℕ). before ++ xs)
 adding_behind = record { none = append-nil; both = λ xs ys before. append_assoc before xs ys }
 
-declined_for : (v : FactsVisitor) (e : WalkEvent) (f : WalkError) → Declines v e f → (f ≡ Memory) ⊎ ((f ≡ TooLarge) × (2 ^ 64 ≤ v.facts.size + length (visited e)))
+declined_for : (v : FactsVisitor) (e : WalkEvent) (f : WalkError) → Declines v e f → IsFull f (v.facts.size + length (visited e))
 declined_for v (StartSequence seq) f h = absurd h
 declined_for v (EndSequence seq) f h = absurd h
 declined_for v (VisitInstruction i location) f h = inr h
