@@ -6,6 +6,7 @@ pub mod NumberingLemmas
 mod Collecting
 mod Counting
 mod Gathering
+mod FactLaws
 -- writing a function's tree
 pub mod Emission
 pub mod TreeWriting

@@ -8,6 +8,7 @@ pub mod Facts
 pub mod Sizes
 pub mod Segments
 pub mod Gathering
+pub mod FactLaws
 pub mod Emission
 pub mod TreeWriting
 pub mod Parsing

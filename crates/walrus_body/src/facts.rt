@@ -2,6 +2,7 @@
 ghost use Rattle.std.specs.Prelude.{◌≡◌, ◌⊎◌, ◌==◌, ℕ, [], false, IfOk, IfErr};
 ghost use Rattle.std.specs.HashSet.{contains};
 ghost use Rattle.walrus_ir.specs.Walk.{HasNoWalk};
+ghost use Rattle.walrus_body.specs.FactLaws.{FactsHaveSize, FactsUseFound};
 ghost use Rattle.walrus_body.specs.Facts.{AreFacts, TreeHas};
 ghost use Rattle.walrus_body.specs.Sizes.{IsTooLarge};
 
@@ -120,3 +121,11 @@ pub(crate) fn emit_facts(
     let FactsVisitor { facts } = visitor;
     Ok(facts)
 }
+
+/// The facts of a function agree with its other calls, where each answers: the size among them is
+/// its size, and they say that data segments are used exactly where one is among its used data
+/// segments. `S` is what the set of these hashes with.
+pub fn law_facts<S>()
+    ensures size { FactsHaveSize }
+    ensures uses_data_segments { FactsUseFound S }
+{}
