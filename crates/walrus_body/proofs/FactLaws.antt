@@ -1,5 +1,5 @@
 -- The facts of a function agree with its other calls, since it has one tree.
-use Rattle.std.proofs.Common.{◌≡◌, ◌==◌, ◌↔◌, ◌||◌, ℕ, Bool, true, false, List, [], ◌∷◌, IsTrue, refl, sym, ap, ◌∙◌}
+use Rattle.std.proofs.Common.{true≢false, ◌≡◌, ◌==◌, ◌↔◌, ◌||◌, ℕ, Bool, true, false, List, [], ◌∷◌, IsTrue, refl, sym, ap, ◌∙◌}
 use Rattle.std.specs.HashSet.{HashSet, contains}
 use Rattle.std.proofs.lemmas.Cmp.{nat_eq_equiv}
 use Rattle.walrus_ir.specs.Unfolding.{among}
@@ -11,7 +11,7 @@ pub facts_have_size : FactsHaveSize
 facts_have_size b start f n h k = h.holds.size ∙ (ap (λ t. count t.items) (one_tree b start h.tree k.tree h.is_tree k.is_tree) ∙ sym k.holds)
 
 one_among : (xs : List ℕ) → IsTrue (are_some xs) → (d : ℕ) × IsTrue (among d xs)
-one_among [] h = absurd h
+one_among [] h = absurd (true≢false (sym h))
 one_among (x ∷ xs) h = (x, ap (λ b. b || among x xs) (nat_eq_equiv.refl x))
 
 some_there : (xs : List ℕ) (d : ℕ) → IsTrue (among d xs) → IsTrue (are_some xs)
