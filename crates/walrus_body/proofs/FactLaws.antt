@@ -21,6 +21,7 @@ some_there (x ∷ xs) d h = refl
 pub facts_use_found : (S : Type 0) → FactsUseFound S
 facts_use_found S b start f found h k =
     let same = ap (λ t. segments t.items) (one_tree b start h.tree k.tree h.is_tree k.is_tree) in
-    let uses : f.uses_data_segments ≡ are_some (segments k.tree.items) = h.holds.uses_data_segments ∙ ap (λ xs. are_some xs) same in
-    ((λ used. let one = one_among (segments k.tree.items) (sym uses ∙ used) in (one.0, k.holds one.0 ∙ one.1)),
-     (λ one. uses ∙ some_there (segments k.tree.items) one.0 (sym (k.holds one.0) ∙ one.1)))
+    let uses : f.uses_data_segments ≡ are_some (segments k.tree.items) = h.holds.uses_data_segments ∙ ap (λ xs. are_some xs) same in (
+      (λ used. let one = one_among (segments k.tree.items) (sym uses ∙ used) in (one.0, k.holds one.0 ∙ one.1)),
+      (λ one. uses ∙ some_there (segments k.tree.items) one.0 (sym (k.holds one.0) ∙ one.1)),
+    )
