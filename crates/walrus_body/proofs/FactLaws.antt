@@ -1,6 +1,5 @@
 -- The facts of a function agree with its other calls, since it has one tree.
-use Rattle.std.proofs.Common.{true≢false, ◌≡◌, ◌==◌, ◌↔◌, ◌||◌, ℕ, Bool, true, false, List, [], ◌∷◌, IsTrue, refl, sym, ap, ◌∙◌}
-use Rattle.std.specs.HashSet.{HashSet, contains}
+use Rattle.std.proofs.Common.{true≢false, ◌≡◌, ◌||◌, ℕ, List, [], ◌∷◌, IsTrue, refl, sym, ap, ◌∙◌}
 use Rattle.std.proofs.lemmas.Cmp.{nat_eq_equiv}
 use Rattle.walrus_ir.specs.Unfolding.{among}
 use Rattle.walrus_ir.proofs.WalkLaws.{one_tree}

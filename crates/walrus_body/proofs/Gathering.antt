@@ -1,17 +1,15 @@
 -- The facts of a tree, gathered by a walk.
-use Rattle.std.proofs.Common.{◌≡◌, ◌⊎◌, ◌==◌, ℕ, ◌+◌, ◌^◌, ◌≤◌, List, [], ◌∷◌, ◌++◌, length, Bool, true, false, ◌||◌, refl, sym, ap, ◌∙◌, append-nil, append_assoc, inl, inr}
+use Rattle.std.proofs.Common.{◌≡◌, ℕ, ◌+◌, List, [], ◌∷◌, ◌++◌, length, Bool, false, ◌||◌, refl, append-nil, append_assoc, inl, inr}
 use Rattle.std.specs.List.{flat_map}
 use Rattle.std.proofs.Math.Bool.{or-false}
 use Rattle.walrus_ir.specs.declared.seq.InstrSeq.{InstrSeq}
 use Rattle.walrus_ir.specs.declared.instr.Instr.{Instr}
 use Rattle.walrus_ir.specs.declared.instr.Instr.TheVariants.{RefFunc, LocalGet, LocalSet, LocalTee, MemoryInit, DataDrop, ArrayNewData, ArrayInitData}
 use Rattle.walrus_ir.specs.declared.error.WalkError.{WalkError}
-use Rattle.walrus_ir.specs.declared.error.WalkError.TheVariants.{Memory, TooLarge}
-use Rattle.walrus_ir.specs.Tree.{Tree}
-use Rattle.walrus_ir.specs.Unfolding.{SequenceAt, LocatedInstr, among}
-use Rattle.walrus_ir.specs.Events.{WalkEvent, StartSequence, EndSequence, VisitInstruction, NameFunction, NameLocal, NameData, names, events}
+use Rattle.walrus_ir.specs.Unfolding.{LocatedInstr, among}
+use Rattle.walrus_ir.specs.Events.{WalkEvent, StartSequence, EndSequence, VisitInstruction, NameFunction, NameLocal, NameData, names}
 use Rattle.walrus_ir.specs.Walk.{Finishes}
-use Rattle.walrus_body.specs.Facts.{segments, function_of, referred, local_of_instr, locals_used, are_some, AreFacts, TreeHas}
+use Rattle.walrus_body.specs.Facts.{segments, function_of, local_of_instr, locals_used, are_some, AreFacts, TreeHas}
 use Rattle.walrus_body.specs.Segments.{named}
 use Rattle.walrus_body.specs.Sizes.{visited}
 use Rattle.walrus_body.specs.Gathering.{uses_local, function_at, local_at, Gathers, Declines}

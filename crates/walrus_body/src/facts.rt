@@ -124,7 +124,7 @@ pub(crate) fn emit_facts(
 
 /// The facts of a function agree with its other calls, where each answers: the size among them is
 /// its size, and they say that data segments are used exactly where one is among its used data
-/// segments. `S` is what the set of these hashes with.
+/// segments. `S` is the hasher of the set of these.
 pub fn law_facts<S>()
     ensures size { FactsHaveSize }
     ensures uses_data_segments { FactsUseFound S }

@@ -1,4 +1,4 @@
-use Rattle.std.proofs.Common.{◌+◌, refl, sym, append-nil, arith}
+use Rattle.std.proofs.Common.{refl, sym, append-nil, arith}
 use Rattle.walrus_body.proofs.Collecting.{put_one}
 use Rattle.walrus_body.proofs.facts.FactsVisitorVisitor.visit_local_id.Goals as goal
 
