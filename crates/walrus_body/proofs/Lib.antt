@@ -5,8 +5,6 @@ pub mod NumberingLemmas
 -- what visitors make of a tree's events
 mod Collecting
 mod Counting
-mod Gathering
-mod FactLaws
 -- writing a function's tree
 pub mod Emission
 pub mod TreeWriting
