@@ -44,6 +44,42 @@ macro_rules! index_rows {
     };
 }
 
+/// Hands the operators on structs and arrays that name types and segments to the macro `$with`,
+/// behind what it takes beside them: first those of indices alone, then those of an index and a
+/// number. A row has the number behind 0xfb, the name of the operator and of its instruction, and
+/// each index with its name in the operator and in the instruction and its space.
+#[macro_export]
+macro_rules! aggregate_rows {
+    ($with:ident, $($context:tt)*) => {
+        $with! {
+            ($($context)*)
+            {
+                0 StructNew { ty ty Types }
+                1 StructNewDefault { ty ty Types }
+                6 ArrayNew { ty ty Types }
+                7 ArrayNewDefault { ty ty Types }
+                9 ArrayNewData { ty ty Types, data data_id Data }
+                10 ArrayNewElem { ty ty Types, element elem Elements }
+                11 ArrayGet { ty ty Types }
+                12 ArrayGetS { ty ty Types }
+                13 ArrayGetU { ty ty Types }
+                14 ArraySet { ty ty Types }
+                16 ArrayFill { ty ty Types }
+                17 ArrayCopy { target dst_ty Types, source src_ty Types }
+                18 ArrayInitData { ty ty Types, data data_id Data }
+                19 ArrayInitElem { ty ty Types, element elem Elements }
+            }
+            {
+                2 StructGet { ty ty Types, field }
+                3 StructGetS { ty ty Types, field }
+                4 StructGetU { ty ty Types, field }
+                5 StructSet { ty ty Types, field }
+                8 ArrayNewFixed { ty ty Types, len }
+            }
+        }
+    };
+}
+
 /// The opcode of a row.
 #[macro_export]
 macro_rules! opcode_at {

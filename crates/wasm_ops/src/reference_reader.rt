@@ -7,6 +7,7 @@ ghost use Rattle.wasm_ops.specs.Meaning.{meaning};
 ghost use Rattle.wasm_ops.specs.ReferenceOperations.{cast_of};
 ghost use Rattle.wasm_ops.specs.Spelling.{operands};
 
+use crate::aggregate_rows;
 use crate::fault::ReadFault;
 use crate::number::{read_byte, read_u32};
 use crate::operator::Operator;
@@ -73,81 +74,6 @@ pub(crate) fn read_reference(byte: u8, bytes: &[u8]) -> Result<(Operator<'_>, &[
     }
 }
 
-/// What follows 0xfb and a number from 0 to 5: structs.
-#[tactic(auto, unfolding(crate::specs::Opcodes::kinds_behind))]
-fn read_struct(number: u32, bytes: &[u8]) -> Result<(Operator<'_>, &[u8]), ReadFault>
-    requires high { number ≤ 5 }
-    ensures { Gives (λ x. (meaning x.0, x.1.now)) result
-        (operands (Opcode.Prefixed 0xfb number) bytes.now) }
-{
-    match number {
-        0 => made!(read_u32(bytes), ty => Operator::Reference(ReferenceOp::StructNew { ty })),
-        1 => made!(
-            read_u32(bytes), ty => Operator::Reference(ReferenceOp::StructNewDefault { ty })
-        ),
-        2 => made!(
-            read_pair(bytes),
-            (ty, field) => Operator::Reference(ReferenceOp::StructGet { ty, field })
-        ),
-        3 => made!(
-            read_pair(bytes),
-            (ty, field) => Operator::Reference(ReferenceOp::StructGetS { ty, field })
-        ),
-        4 => made!(
-            read_pair(bytes),
-            (ty, field) => Operator::Reference(ReferenceOp::StructGetU { ty, field })
-        ),
-        _ => made!(
-            read_pair(bytes),
-            (ty, field) => Operator::Reference(ReferenceOp::StructSet { ty, field })
-        ),
-    }
-}
-
-/// What follows 0xfb and a number from 6 to 19: arrays.
-#[tactic(auto, unfolding(crate::specs::Opcodes::kinds_behind))]
-fn read_array(number: u32, bytes: &[u8]) -> Result<(Operator<'_>, &[u8]), ReadFault>
-    requires low { 6 ≤ number }
-    requires high { number ≤ 19 }
-    ensures { Gives (λ x. (meaning x.0, x.1.now)) result
-        (operands (Opcode.Prefixed 0xfb number) bytes.now) }
-{
-    match number {
-        6 => made!(read_u32(bytes), ty => Operator::Reference(ReferenceOp::ArrayNew { ty })),
-        7 => made!(read_u32(bytes), ty => Operator::Reference(ReferenceOp::ArrayNewDefault { ty })),
-        8 => made!(
-            read_pair(bytes),
-            (ty, len) => Operator::Reference(ReferenceOp::ArrayNewFixed { ty, len })
-        ),
-        9 => made!(
-            read_pair(bytes),
-            (ty, data) => Operator::Reference(ReferenceOp::ArrayNewData { ty, data })
-        ),
-        10 => made!(
-            read_pair(bytes),
-            (ty, element) => Operator::Reference(ReferenceOp::ArrayNewElem { ty, element })
-        ),
-        11 => made!(read_u32(bytes), ty => Operator::Reference(ReferenceOp::ArrayGet { ty })),
-        12 => made!(read_u32(bytes), ty => Operator::Reference(ReferenceOp::ArrayGetS { ty })),
-        13 => made!(read_u32(bytes), ty => Operator::Reference(ReferenceOp::ArrayGetU { ty })),
-        14 => made!(read_u32(bytes), ty => Operator::Reference(ReferenceOp::ArraySet { ty })),
-        15 => Ok((Operator::Reference(ReferenceOp::ArrayLen), bytes)),
-        16 => made!(read_u32(bytes), ty => Operator::Reference(ReferenceOp::ArrayFill { ty })),
-        17 => made!(
-            read_pair(bytes),
-            (target, source) => Operator::Reference(ReferenceOp::ArrayCopy { target, source })
-        ),
-        18 => made!(
-            read_pair(bytes),
-            (ty, data) => Operator::Reference(ReferenceOp::ArrayInitData { ty, data })
-        ),
-        _ => made!(
-            read_pair(bytes),
-            (ty, element) => Operator::Reference(ReferenceOp::ArrayInitElem { ty, element })
-        ),
-    }
-}
-
 /// What follows 0xfb and a number from 20 to 30: tests, casts and conversions.
 #[tactic(auto, unfolding(crate::specs::Opcodes::kinds_behind))]
 fn read_conversion(number: u32, bytes: &[u8]) -> Result<(Operator<'_>, &[u8]), ReadFault>
@@ -187,16 +113,40 @@ fn read_conversion(number: u32, bytes: &[u8]) -> Result<(Operator<'_>, &[u8]), R
     }
 }
 
+/// The operator of the indices at the front, and what follows it.
+macro_rules! read_row {
+    ($bytes:ident $name:ident $index:ident) => {
+        made!(read_u32($bytes), $index => Operator::Reference(ReferenceOp::$name { $index }))
+    };
+    ($bytes:ident $name:ident $one:ident $two:ident) => {
+        made!(
+            read_pair($bytes), ($one, $two) => Operator::Reference(ReferenceOp::$name { $one, $two })
+        )
+    };
+}
+
+/// Reads the operator that has the number behind 0xfb: those of the rows, and the others.
+macro_rules! read_number {
+    (
+        ($code:ident $bytes:ident)
+        { $($row:literal $name:ident { $($field:ident $id:ident $space:ident),* })* }
+        { $($numbered:literal $with:ident { $index:ident $key:ident $kind:ident, $number:ident })* }
+    ) => {
+        match $code {
+            $($row => read_row!($bytes $name $($field)*),)*
+            $($numbered => read_row!($bytes $with $index $number),)*
+            15 => Ok((Operator::Reference(ReferenceOp::ArrayLen), $bytes)),
+            20..=30 => read_conversion($code, $bytes),
+            _ => Err(ReadFault::UnknownOperator),
+        }
+    };
+}
+
 /// What follows 0xfb and a number.
 #[tactic(auto, unfolding(crate::specs::Opcodes::kinds_behind))]
 pub(crate) fn read_behind_fb(number: u32, bytes: &[u8]) -> Result<(Operator<'_>, &[u8]), ReadFault>
     ensures { Gives (λ x. (meaning x.0, x.1.now)) result
         (operands (Opcode.Prefixed 0xfb number) bytes.now) }
 {
-    match number {
-        0..=5 => read_struct(number, bytes),
-        6..=19 => read_array(number, bytes),
-        20..=30 => read_conversion(number, bytes),
-        _ => Err(ReadFault::UnknownOperator),
-    }
+    aggregate_rows!(read_number, number bytes)
 }

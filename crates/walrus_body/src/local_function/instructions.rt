@@ -97,6 +97,8 @@ macro_rules! id {
     };
 }
 
+pub(crate) use id;
+
 /// The instruction of an operator: the rows, and those of the other operators.
 macro_rules! instruction_row {
     (

@@ -9,14 +9,33 @@ ghost use Rattle.walrus_body.specs.Parsing.BodyParsers.{cast_in, placed_in};
 
 use crate::ParseError;
 use crate::local_function::body_parser::BodyParser;
+use crate::local_function::instructions::id;
 use crate::local_function::types::heap_type_of;
 use walrus_ir::{
-    ArrayCopy, ArrayFill, ArrayGet, ArrayGetS, ArrayGetU, ArrayInitData, ArrayInitElem, ArrayNew,
-    ArrayNewData, ArrayNewDefault, ArrayNewElem, ArrayNewFixed, ArraySet, BrOnCast, BrOnCastFail,
-    BrOnNonNull, BrOnNull, HeapType, Instr, InstrSeqId, RefCast, RefFunc, RefNull, RefTest,
-    RefType, StructGet, StructGetS, StructGetU, StructNew, StructNewDefault, StructSet,
+    BrOnCast, BrOnCastFail, BrOnNonNull, BrOnNull, HeapType, Instr, InstrSeqId, RefCast, RefFunc,
+    RefNull, RefTest, RefType,
 };
-use wasm_ops::{RawCast, ReferenceOp};
+use wasm_ops::{RawCast, ReferenceOp, aggregate_rows};
+
+/// The instruction of an operator: the rows, and those of the other operators.
+macro_rules! instruction_row {
+    (
+        ($indices:ident $op:ident, $($others:tt)*)
+        { $($row:literal $name:ident { $($field:ident $id:ident $space:ident),* })* }
+        { $($numbered:literal $with:ident { $index:ident $key:ident $kind:ident, $number:ident })* }
+    ) => {
+        match *$op {
+            $($others)*
+            $(ReferenceOp::$name { $($field),* } => Ok(Instr::$name(walrus_ir::$name {
+                $($id: id!($indices $space $field)),*
+            })),)*
+            $(ReferenceOp::$with { $index, $number } => Ok(Instr::$with(walrus_ir::$with {
+                $key: id!($indices $kind $index),
+                $number,
+            })),)*
+        }
+    };
+}
 
 impl BodyParser<'_> {
     /// What a branch on a cast names: its label first, then both types.
@@ -51,7 +70,8 @@ impl BodyParser<'_> {
         ensures plain { IfOk result (λ i. (slots_in i ≡ []) × (clauses_of_try i ≡ [])) }
     {
         let indices = self.context.indices();
-        match *operator {
+        aggregate_rows!(
+            instruction_row, indices operator,
             ReferenceOp::RefNull { heap_type } => Ok(Instr::RefNull(RefNull {
                 ty: RefType {
                     nullable: true,
@@ -70,74 +90,7 @@ impl BodyParser<'_> {
             ReferenceOp::BrOnNonNull { label } => Ok(Instr::BrOnNonNull(BrOnNonNull {
                 block: self.label(label)?,
             })),
-            ReferenceOp::StructNew { ty } => Ok(Instr::StructNew(StructNew {
-                ty: indices.get_type(ty)?,
-            })),
-            ReferenceOp::StructNewDefault { ty } => Ok(Instr::StructNewDefault(StructNewDefault {
-                ty: indices.get_type(ty)?,
-            })),
-            ReferenceOp::StructGet { ty, field } => Ok(Instr::StructGet(StructGet {
-                ty: indices.get_type(ty)?,
-                field,
-            })),
-            ReferenceOp::StructGetS { ty, field } => Ok(Instr::StructGetS(StructGetS {
-                ty: indices.get_type(ty)?,
-                field,
-            })),
-            ReferenceOp::StructGetU { ty, field } => Ok(Instr::StructGetU(StructGetU {
-                ty: indices.get_type(ty)?,
-                field,
-            })),
-            ReferenceOp::StructSet { ty, field } => Ok(Instr::StructSet(StructSet {
-                ty: indices.get_type(ty)?,
-                field,
-            })),
-            ReferenceOp::ArrayNew { ty } => Ok(Instr::ArrayNew(ArrayNew {
-                ty: indices.get_type(ty)?,
-            })),
-            ReferenceOp::ArrayNewDefault { ty } => Ok(Instr::ArrayNewDefault(ArrayNewDefault {
-                ty: indices.get_type(ty)?,
-            })),
-            ReferenceOp::ArrayNewFixed { ty, len } => Ok(Instr::ArrayNewFixed(ArrayNewFixed {
-                ty: indices.get_type(ty)?,
-                len,
-            })),
-            ReferenceOp::ArrayNewData { ty, data } => Ok(Instr::ArrayNewData(ArrayNewData {
-                ty: indices.get_type(ty)?,
-                data_id: indices.get_data(data)?,
-            })),
-            ReferenceOp::ArrayNewElem { ty, element } => Ok(Instr::ArrayNewElem(ArrayNewElem {
-                ty: indices.get_type(ty)?,
-                elem: indices.get_element(element)?,
-            })),
-            ReferenceOp::ArrayGet { ty } => Ok(Instr::ArrayGet(ArrayGet {
-                ty: indices.get_type(ty)?,
-            })),
-            ReferenceOp::ArrayGetS { ty } => Ok(Instr::ArrayGetS(ArrayGetS {
-                ty: indices.get_type(ty)?,
-            })),
-            ReferenceOp::ArrayGetU { ty } => Ok(Instr::ArrayGetU(ArrayGetU {
-                ty: indices.get_type(ty)?,
-            })),
-            ReferenceOp::ArraySet { ty } => Ok(Instr::ArraySet(ArraySet {
-                ty: indices.get_type(ty)?,
-            })),
             ReferenceOp::ArrayLen => Ok(Instr::ArrayLen),
-            ReferenceOp::ArrayFill { ty } => Ok(Instr::ArrayFill(ArrayFill {
-                ty: indices.get_type(ty)?,
-            })),
-            ReferenceOp::ArrayCopy { target, source } => Ok(Instr::ArrayCopy(ArrayCopy {
-                dst_ty: indices.get_type(target)?,
-                src_ty: indices.get_type(source)?,
-            })),
-            ReferenceOp::ArrayInitData { ty, data } => Ok(Instr::ArrayInitData(ArrayInitData {
-                ty: indices.get_type(ty)?,
-                data_id: indices.get_data(data)?,
-            })),
-            ReferenceOp::ArrayInitElem { ty, element } => Ok(Instr::ArrayInitElem(ArrayInitElem {
-                ty: indices.get_type(ty)?,
-                elem: indices.get_element(element)?,
-            })),
             ReferenceOp::RefTest {
                 nullable,
                 heap_type,
@@ -177,6 +130,6 @@ impl BodyParser<'_> {
                     to_heap_type,
                 }))
             }
-        }
+        )
     }
 }

@@ -91,6 +91,8 @@ macro_rules! index {
     };
 }
 
+pub(crate) use index;
+
 /// The operator of an instruction: the rows, and those of the other instructions.
 macro_rules! operator_row {
     (

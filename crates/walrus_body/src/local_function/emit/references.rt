@@ -12,9 +12,33 @@ ghost use Rattle.walrus_body.specs.TreeWriting.Operators.{numbers_of, numbered_o
 use crate::EmitError;
 use crate::local_function::emit::number_maps::NumberMaps;
 use crate::local_function::emit::open_scopes::Scopes;
+use crate::local_function::emit::operators::index;
 use crate::local_function::emit::written_types::heap_type;
-use walrus_ir::{ArrayNewFixed, Instr, StructGet, StructGetS, StructGetU, StructSet};
-use wasm_ops::{RawCast, ReferenceOp};
+use walrus_ir::Instr;
+use wasm_ops::{RawCast, ReferenceOp, aggregate_rows};
+
+/// The operator of an instruction: the rows, and those of the other instructions.
+macro_rules! operator_row {
+    (
+        ($numbers:ident $instr:ident, $($others:tt)*)
+        { $($row:literal $name:ident { $($field:ident $id:ident $space:ident),* })* }
+        { $($numbered:literal $with:ident { $index:ident $key:ident $kind:ident, $number:ident })* }
+    ) => {
+        match $instr {
+            $(Instr::$name(x) => Ok(ReferenceOp::$name {
+                $($field: index!($numbers $space x.$id)),*
+            }),)*
+            $(Instr::$with(x) => {
+                let $number = x.$number;
+                Ok(ReferenceOp::$with {
+                    $index: index!($numbers $kind x.$key),
+                    $number,
+                })
+            })*
+            $($others)*
+        }
+    };
+}
 
 /// The operator of an instruction on references, structs or arrays.
 pub(crate) fn reference_operator(
@@ -28,7 +52,8 @@ pub(crate) fn reference_operator(
         (numbered_operator (numbers_of numbers.now) (places_of scopes.now.open_scopes)
         ty instr.now) }
 {
-    match instr {
+    aggregate_rows!(
+        operator_row, numbers instr,
         Instr::RefNull(x) => Ok(ReferenceOp::RefNull {
             heap_type: heap_type(numbers, x.ty.heap_type)?,
         }),
@@ -44,74 +69,7 @@ pub(crate) fn reference_operator(
         Instr::BrOnNonNull(x) => Ok(ReferenceOp::BrOnNonNull {
             label: scopes.depth(x.block)?,
         }),
-        Instr::StructNew(x) => Ok(ReferenceOp::StructNew {
-            ty: numbers.ids.get_type_index(x.ty)?,
-        }),
-        Instr::StructNewDefault(x) => Ok(ReferenceOp::StructNewDefault {
-            ty: numbers.ids.get_type_index(x.ty)?,
-        }),
-        Instr::StructGet(StructGet { ty, field }) => Ok(ReferenceOp::StructGet {
-            ty: numbers.ids.get_type_index(*ty)?,
-            field: *field,
-        }),
-        Instr::StructGetS(StructGetS { ty, field }) => Ok(ReferenceOp::StructGetS {
-            ty: numbers.ids.get_type_index(*ty)?,
-            field: *field,
-        }),
-        Instr::StructGetU(StructGetU { ty, field }) => Ok(ReferenceOp::StructGetU {
-            ty: numbers.ids.get_type_index(*ty)?,
-            field: *field,
-        }),
-        Instr::StructSet(StructSet { ty, field }) => Ok(ReferenceOp::StructSet {
-            ty: numbers.ids.get_type_index(*ty)?,
-            field: *field,
-        }),
-        Instr::ArrayNew(x) => Ok(ReferenceOp::ArrayNew {
-            ty: numbers.ids.get_type_index(x.ty)?,
-        }),
-        Instr::ArrayNewDefault(x) => Ok(ReferenceOp::ArrayNewDefault {
-            ty: numbers.ids.get_type_index(x.ty)?,
-        }),
-        Instr::ArrayNewFixed(ArrayNewFixed { ty, len }) => Ok(ReferenceOp::ArrayNewFixed {
-            ty: numbers.ids.get_type_index(*ty)?,
-            len: *len,
-        }),
-        Instr::ArrayNewData(x) => Ok(ReferenceOp::ArrayNewData {
-            ty: numbers.ids.get_type_index(x.ty)?,
-            data: numbers.ids.get_data_index(x.data_id)?,
-        }),
-        Instr::ArrayNewElem(x) => Ok(ReferenceOp::ArrayNewElem {
-            ty: numbers.ids.get_type_index(x.ty)?,
-            element: numbers.ids.get_element_index(x.elem)?,
-        }),
-        Instr::ArrayGet(x) => Ok(ReferenceOp::ArrayGet {
-            ty: numbers.ids.get_type_index(x.ty)?,
-        }),
-        Instr::ArrayGetS(x) => Ok(ReferenceOp::ArrayGetS {
-            ty: numbers.ids.get_type_index(x.ty)?,
-        }),
-        Instr::ArrayGetU(x) => Ok(ReferenceOp::ArrayGetU {
-            ty: numbers.ids.get_type_index(x.ty)?,
-        }),
-        Instr::ArraySet(x) => Ok(ReferenceOp::ArraySet {
-            ty: numbers.ids.get_type_index(x.ty)?,
-        }),
         Instr::ArrayLen => Ok(ReferenceOp::ArrayLen),
-        Instr::ArrayFill(x) => Ok(ReferenceOp::ArrayFill {
-            ty: numbers.ids.get_type_index(x.ty)?,
-        }),
-        Instr::ArrayCopy(x) => Ok(ReferenceOp::ArrayCopy {
-            target: numbers.ids.get_type_index(x.dst_ty)?,
-            source: numbers.ids.get_type_index(x.src_ty)?,
-        }),
-        Instr::ArrayInitData(x) => Ok(ReferenceOp::ArrayInitData {
-            ty: numbers.ids.get_type_index(x.ty)?,
-            data: numbers.ids.get_data_index(x.data_id)?,
-        }),
-        Instr::ArrayInitElem(x) => Ok(ReferenceOp::ArrayInitElem {
-            ty: numbers.ids.get_type_index(x.ty)?,
-            element: numbers.ids.get_element_index(x.elem)?,
-        }),
         Instr::RefTest(x) => Ok(ReferenceOp::RefTest {
             nullable: x.nullable,
             heap_type: heap_type(numbers, x.heap_type)?,
@@ -144,5 +102,5 @@ pub(crate) fn reference_operator(
             },
         }),
         _ => unreachable!(),
-    }
+    )
 }
