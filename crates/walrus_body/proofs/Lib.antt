@@ -1,7 +1,8 @@
--- hashed maps as finite maps, and how pushes number ids
+-- hashed maps as finite maps, how pushes number ids, and how locals are numbered
 pub mod EntryMaps
 pub mod Listed
 pub mod NumberingLemmas
+pub mod LocalNumbering
 -- what visitors make of a tree's events
 mod Collecting
 mod Counting

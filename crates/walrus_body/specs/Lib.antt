@@ -12,3 +12,4 @@ pub mod TreeWriting
 pub mod Parsing
 pub mod FunctionParts
 pub mod LocalFunctions
+pub mod EmittedLocals

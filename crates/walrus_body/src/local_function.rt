@@ -17,6 +17,7 @@ ghost use Rattle.walrus_body.specs.Parsing.Locating.{MayAsk};
 ghost use Rattle.walrus_body.specs.Parsing.Settings.{BothOrNone};
 ghost use Rattle.walrus_body.specs.Facts.{count, segments, TreeHas};
 ghost use Rattle.walrus_body.specs.Sizes.{IsTooLarge};
+ghost use Rattle.walrus_body.specs.EmittedLocals.{Declares, IsUndeclared};
 ghost use Rattle.walrus_body.specs.TreeWriting.EmittedInstructions.{Emits, IsUnemitted, KeepsPairs};
 ghost use Rattle.walrus_body.specs.TreeWriting.Operators.{numbers_by};
 
@@ -28,6 +29,7 @@ mod emit;
 mod frame;
 mod instructions;
 mod legacy_try;
+mod local_numbers;
 mod locating;
 mod next;
 mod own_lists;
@@ -38,6 +40,7 @@ mod types;
 
 use crate::local_function::emit::number_maps::NumberMaps;
 use crate::local_function::emit::{emit_with_map, emit_without_map};
+use crate::local_function::local_numbers::emit_locals;
 use crate::local_function::parse::parse_function;
 use crate::segments::used_data_segments;
 use crate::sizes::size;
@@ -53,6 +56,7 @@ use walrus_ir::{
     InstrSeqId, LocalId, Module, TypeId, WalkError,
 };
 use wasm_encode::FunctionEncoder;
+use wasm_ops::RawValType;
 
 /// A function of a module that has a body. A contract sees its lists and its builder by their
 /// values.
@@ -284,6 +288,37 @@ impl LocalFunction {
             Some(list) => emit_with_map(&self.builder, entry, &numbers, dst, list),
             None => emit_without_map(&self.builder, entry, &numbers, dst),
         }
+    }
+
+    /// The declarations of the function's locals, and the number of each local. Arguments have the
+    /// numbers from 0 on; one that is named twice has that of its last place. The used locals that
+    /// are no arguments follow, by type, and by id among those of one type; a declaration is how
+    /// many of one type stand in a row, and the type with the new indices of `indices`.
+    ///
+    /// # Errors
+    ///
+    /// `UnknownLocal` where the module doesn't hold a used local that is no argument; else
+    /// `TooLarge` where a number, a count or the number of declarations doesn't fit 32 bits; else
+    /// `Index` of the first type in the declarations that has no new index; or `Memory`.
+    pub fn emit_locals(
+        &self,
+        module: &Module,
+        indices: &IdsToIndices,
+        used: &IdHashSet<LocalId>,
+    ) -> Result<(Vec<(u32, RawValType)>, IdHashMap<LocalId, u32>), EmitError>
+        ensures ok { IfOk result (λ made. Declares (numbers_by indices.now [])
+            «module».now.locals self.now.args (contains (λ x y. x == y) used.now) made.0.items
+            made.1.entries) }
+        ensures err { IfErr result (IsUndeclared (numbers_by indices.now []) «module».now.locals
+            self.now.args (contains (λ x y. x == y) used.now)) }
+    {
+        emit_locals(
+            self.builder.allocator(),
+            self.args.as_slice(),
+            module,
+            indices,
+            used,
+        )
     }
 
     /// The number of instructions in the sequences that are reached from the entry.

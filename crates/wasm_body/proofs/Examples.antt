@@ -14,3 +14,4 @@ pub mod Parses
 pub mod Rewritings
 pub mod Pairs
 pub mod Premises
+pub mod LocalNumbers

@@ -10,6 +10,8 @@ pub mod NormalForm
 pub mod Bytes
 -- the bytes of a normal form are read back
 pub mod ReadBack
+-- the numbers of locals
+pub mod LocalNumbers
 -- the law of executions
 pub mod Executions
 -- examples that pin the definitions

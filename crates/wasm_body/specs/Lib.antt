@@ -21,6 +21,8 @@ pub mod Bytes
 pub mod Pairs
 pub mod TextLaws
 pub mod ReadBack
+-- the numbers of a function's locals, and their declarations
+pub mod LocalNumbers
 -- the trace machine, and the laws that executions are kept, and that locations are honest along them
 pub mod Machine
 pub mod Places

@@ -3,6 +3,7 @@ ghost use Rattle.wasm_body.specs.ExecutionLaws.{NamedExecutionsKept, ExecutionsK
 ghost use Rattle.wasm_body.specs.LocationLaws.{PlacesIncrease, PairsMatchText, NamedLocationsAreHonest, LocationsAreHonest};
 ghost use Rattle.wasm_body.specs.ReadBack.{ReadBack, NormalFormAgain, SameBytes, InverseUndoes, AcceptedAgain};
 ghost use Rattle.wasm_body.specs.TextLaws.{LawfulAreTyped, HaveTexts, NormalAgain, OneBody, OneSequence, SameTexts};
+ghost use Rattle.wasm_body.specs.LocalNumbers.{OneDeclared, OneLocalEach, PlacesAreNumbers, RunsAreMaximal};
 ghost use Rattle.wasm_body.specs.Parsing.Laws.{OneBodyAccepted, AcceptedHasNoFault, OneFirstFault, AcceptedOrFault, LongestFront};
 
 /// A list is the text of one body at most, and begins in one way with a sequence and an operator
@@ -88,4 +89,14 @@ pub fn law_inverse_undoes()
 /// states of the validators are.
 pub fn law_accepted_again<V, W>()
     ensures { AcceptedAgain V W }
+{}
+
+/// Which locals a function declares, and in which order, is unique. No two locals have one number;
+/// and where no argument is named twice the number of a local is its place among the arguments and
+/// the declared ones. Declarations are the maximal runs of one type.
+pub fn law_local_numbers()
+    ensures one_declared { OneDeclared }
+    ensures one_local { OneLocalEach }
+    ensures places { PlacesAreNumbers }
+    ensures runs { RunsAreMaximal }
 {}

@@ -22,7 +22,7 @@ mod open_scopes;
 mod operators;
 mod references;
 mod table_clauses;
-mod written_types;
+pub(crate) mod written_types;
 
 use crate::EmitError;
 use announcing::announce;
