@@ -1,5 +1,5 @@
 -- What is collected at the events of a walk, by the instructions of the tree; and the data segments so.
-use Rattle.std.proofs.Common.{◌≡◌, ◌⊎◌, ℕ, List, [], ◌∷◌, ◌++◌, Bool, true, false, ◌||◌, ◌==◌, cond, refl, sym, subst, append-nil, append_assoc, inl, inr}
+use Rattle.std.proofs.Common.{◌≡◌, ◌⊎◌, ℕ, List, [], ◌∷◌, ◌++◌, Bool, true, false, ◌||◌, ◌==◌, cond, refl, sym, ap, ◌∙◌, subst, append-nil, append_assoc, inl, inr}
 use Rattle.std.specs.List.{flat_map}
 use Rattle.std.specs.HashSet.{HashSet, contains}
 use Rattle.std.proofs.Math.Bool.{or-false, and-true}
@@ -46,6 +46,19 @@ module _ {A : Type 0} {g : WalkEvent → List A} {f : LocatedInstr → List A} (
       let all = items_collected t.items (EndSequence t.head.seq ∷ []) in
       rw (h.starts t.head.seq, all, h.ends t.head.seq) (append-nil (flat_map f (instructions t.items)))
 
+-- What is added at once is what is added one after the other.
+pub record IsAdding {A B : Type 0} (add : List A → B → B) : Type 0 where
+  pub none : (b : B) → add [] b ≡ b
+  pub both : (xs ys : List A) (b : B) → add ys (add xs b) ≡ add (xs ++ ys) b
+
+-- what is added at each event is added over all of them
+pub folded : {V A B : Type 0} {steps : V → WalkEvent → V → Type 0} {g : WalkEvent → List A} {add : List A → B → B} (has : V → B) → IsAdding add
+    → ((v w : V) (e : WalkEvent) → steps v e w → has w ≡ add (g e) (has v))
+    → {v w : V} {es : List WalkEvent} → Folds steps v es w → has w ≡ add (flat_map g es) (has v)
+folded has adding at_step (through {v = v}) = sym (adding.none (has v))
+folded {g = g} {add = add} has adding at_step (after {v = v} {w = w} {e = e} {es = es} s f) =
+    folded {g = g} {add = add} has adding at_step f ∙ ap (λ b. add (flat_map g es) b) (at_step v w e s) ∙ adding.both (g e) (flat_map g es) (has v)
+
 -- ---- data segments
 
 named_by : (i : Instr) (location : ℕ) → flat_map named (VisitInstruction i location ∷ names i) ≡ segment_of i
@@ -76,25 +89,29 @@ put_or : (a b : Bool) → cond a true b ≡ (a || false) || b
 put_or true b = refl
 put_or false b = refl
 
--- an insertion puts in what is named
-pub put_named : {S : Type 0} (s t : HashSet ℕ S) (k d : ℕ) → contains same_id t d ≡ cond (same_id k d) true (contains same_id s d)
-    → contains (λ x y. x == y) t d ≡ among d (named (NameData k)) || contains (λ x y. x == y) s d
-put_named s t k d h =
+-- an insertion puts in one id
+pub put_one : {S : Type 0} (s t : HashSet ℕ S) (k d : ℕ) → contains same_id t d ≡ cond (same_id k d) true (contains same_id s d)
+    → contains (λ x y. x == y) t d ≡ among d (k ∷ []) || contains (λ x y. x == y) s d
+put_one s t k d h =
     let now : contains (λ x y. x == y) t d ≡ cond (same_id k d) true (contains (λ x y. x == y) s d) = rw (sym (by_number t d), h, by_number s d) refl in
     rw (now, and-true (k == d), nat_eq_equiv.symm k d) (put_or (d == k) (contains (λ x y. x == y) s d))
 
+-- membership of an id, in what is collected or before
+pub adding_members : (d : ℕ) → IsAdding (λ (xs : List ℕ) (b : Bool). among d xs || b)
+adding_members d = record {
+  none = λ b. refl;
+  both = λ xs ys b. rw (list_any-append (λ q. d == q) xs ys) (or_swap (among d ys) (among d xs) b);
+}
+
 folds_named : {v w : DataSegmentsVisitor} {es : List WalkEvent} → Folds Collects v es w → (d : ℕ) → holds w d ≡ among d (flat_map named es) || holds v d
-folds_named through d = refl
-folds_named (after {v = v} {e = e} {es = es} s f) d =
-    let joined = list_any-append (λ q. d == q) (named e) (flat_map named es) in
-    rw (folds_named f d, s d, joined) (or_swap (among d (flat_map named es)) (among d (named e)) (holds v d))
+folds_named h d = folded (λ v. holds v d) (adding_members d) (λ v w e s. s d) h
 
 stops_for_memory : {v w : DataSegmentsVisitor} {es : List WalkEvent} {f : WalkError} → Stops Collects WantsMemory HoldsSame v es w f → f ≡ Memory
 stops_for_memory (refused {e = NameData d} r s) = r
 stops_for_memory (refused r s) = absurd r
 stops_for_memory (later s f) = stops_for_memory f
 
-tree_named : (t : Tree SequenceAt LocatedInstr) → flat_map named (events t) ≡ segments t.items
+pub tree_named : (t : Tree SequenceAt LocatedInstr) → flat_map named (events t) ≡ segments t.items
 tree_named t = tree_collected named_by_instruction t
 
 pub collected : {b : List InstrSeq} {start : ℕ} {v w : DataSegmentsVisitor} → ((d : ℕ) → holds v d ≡ false) → Finishes b start Collects v w

@@ -6,6 +6,8 @@ pub mod LocalNumbering
 -- what visitors make of a tree's events
 mod Collecting
 mod Counting
+mod Gathering
+mod FactLaws
 -- writing a function's tree
 pub mod Emission
 pub mod TreeWriting

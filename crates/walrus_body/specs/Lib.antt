@@ -7,6 +7,8 @@ pub mod Emitting
 pub mod Facts
 pub mod Sizes
 pub mod Segments
+pub mod Gathering
+pub mod FactLaws
 pub mod Emission
 pub mod TreeWriting
 pub mod Parsing

@@ -2,6 +2,7 @@
 #![tactic(auto)]
 
 mod emit;
+mod facts;
 mod function_locals;
 mod growth;
 mod id_list;
@@ -13,6 +14,7 @@ mod segments;
 mod sizes;
 
 pub use emit::{Emit, EmitContext, EmitFacts};
+pub use facts::{FactsVisitor, law_facts};
 pub use ids_to_indices::{IdsToIndices, law_numbers_of_pushes};
 pub use indices_to_ids::IndicesToIds;
 pub use local_function::{

@@ -15,7 +15,7 @@ ghost use Rattle.walrus_body.specs.LocalFunctions.{HasEntry, first_slot, first_i
 ghost use Rattle.walrus_body.specs.Parsing.Bodies.{body_input, body_setting, body_operators, AcceptsBody, RefusesBody};
 ghost use Rattle.walrus_body.specs.Parsing.Locating.{MayAsk};
 ghost use Rattle.walrus_body.specs.Parsing.Settings.{BothOrNone};
-ghost use Rattle.walrus_body.specs.Facts.{count, segments, TreeHas};
+ghost use Rattle.walrus_body.specs.Facts.{count, segments, AreFacts, TreeHas};
 ghost use Rattle.walrus_body.specs.Sizes.{IsTooLarge};
 ghost use Rattle.walrus_body.specs.EmittedLocals.{Declares, IsUndeclared};
 ghost use Rattle.walrus_body.specs.TreeWriting.EmittedInstructions.{Emits, IsUnemitted, KeepsPairs};
@@ -38,13 +38,14 @@ mod references;
 mod try_tables;
 mod types;
 
+use crate::facts::emit_facts;
 use crate::local_function::emit::number_maps::NumberMaps;
 use crate::local_function::emit::{emit_with_map, emit_without_map};
 use crate::local_function::local_numbers::emit_locals;
 use crate::local_function::parse::parse_function;
 use crate::segments::used_data_segments;
 use crate::sizes::size;
-use crate::{EmitError, IdsToIndices, IndicesToIds, ParseFailure};
+use crate::{EmitError, EmitFacts, IdsToIndices, IndicesToIds, ParseFailure};
 pub use body::FunctionBody;
 pub use check::{AcceptAll, CheckError, OpCheck};
 pub use context::ValidationContext;
@@ -353,5 +354,22 @@ impl LocalFunction {
             (first_slot self.now.builder)) }
     {
         used_data_segments(&self.builder, self.entry_block())
+    }
+
+    /// The facts of the instructions in the sequences that are reached from the entry.
+    ///
+    /// # Errors
+    ///
+    /// `UnknownSequence` or `SharedSequence` where the sequences are no tree, the first in walk
+    /// order; `TooLarge` where the number of instructions doesn't fit 64 bits; `Memory`.
+    pub fn emit_facts(&self) -> Result<EmitFacts, WalkError>
+        requires { HasEntry self.now.builder }
+        ensures ok { IfOk result (λ f. TreeHas self.now.builder.sequences
+            (first_slot self.now.builder) (λ t. AreFacts t.items f)) }
+        ensures err { IfErr result (λ e. HasNoWalk self.now.builder.sequences
+            (first_slot self.now.builder) e ⊎ IsTooLarge self.now.builder.sequences
+            (first_slot self.now.builder) e) }
+    {
+        emit_facts(&self.builder, self.entry_block())
     }
 }
