@@ -1,3 +1,5 @@
 -- the module that the program parses over, and what is written of a body
 pub mod Demo
 pub mod Rewriting
+pub mod RawBodies
+pub mod RewrittenBodies
