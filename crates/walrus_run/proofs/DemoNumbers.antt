@@ -27,7 +27,7 @@ use Rattle.walrus_run.specs.Demo.{demo_types, demo_indices, demo_environment, de
 
 -- ---- ids of old indices
 
-within : (P : ℕ → Type 0) (ids : List ℕ) (n id : ℕ) → AllByRecursion P ids → slice_get ids n ≡ Some id → P id
+pub within : (P : ℕ → Type 0) (ids : List ℕ) (n id : ℕ) → AllByRecursion P ids → slice_get ids n ≡ Some id → P id
 within P [] n id all at = absurd cc
 within P (i ∷ ids) zero id all at = let e : i ≡ id = cc in subst P e all.0
 within P (i ∷ ids) (suc n) id all at = within P ids n id all.1 at
@@ -46,7 +46,7 @@ all_numbered Elements = (refl, tt)
 all_numbered Data = (refl, tt)
 all_numbered Tags = (refl, (refl, tt))
 
-some_of : {E : Type 0} (o : Option ℕ) (e : E) (id : ℕ) → some_or o e ≡ Ok id → o ≡ Some id
+pub some_of : {E : Type 0} (o : Option ℕ) (e : E) (id : ℕ) → some_or o e ≡ Ok id → o ≡ Some id
 some_of (Some x) e id h = let same : x ≡ id = cc in ap Some same
 some_of None e id h = absurd cc
 
@@ -134,7 +134,7 @@ locals_numbered = (
   ),
 )
 
-locals_are : get demo_indices.locals 0 ≡ Some (0 ∷ 1 ∷ 2 ∷ 3 ∷ [])
+pub locals_are : get demo_indices.locals 0 ≡ Some (0 ∷ 1 ∷ 2 ∷ 3 ∷ [])
 locals_are = grind (gets, rules)
 
 has_local : (n id : ℕ) → demo_environment.local_of n ≡ Ok id → LocalNumbered id

@@ -1,5 +1,5 @@
 -- The raw body of a function: what its parts write, and why they don't.
-use Rattle.std.proofs.Common.{◌≡◌, ◌⊎◌, ◌×◌, ◌++◌, ◌<◌, ◌^◌, ℕ, List, [], ◌∷◌, Bool, Option, Some, None, Result, Ok, Err, length, refl, sym, ap, subst, ◌∙◌, inl, inr}
+use Rattle.std.proofs.Common.{◌≡◌, ◌⊎◌, ◌++◌, ◌<◌, ◌^◌, ℕ, List, [], ◌∷◌, Bool, Option, Some, None, Result, Ok, Err, length, refl, sym, ap, subst, ◌∙◌, inl, inr, arith}
 use Rattle.std.specs.Prelude.{nat_lt, ◌&&◌, true, false, IsOk}
 use Rattle.std.specs.List.{list_all}
 use Rattle.walrus_ir.specs.declared.val_type.ValType.{ValType}
@@ -21,10 +21,10 @@ use Rattle.walrus_body.specs.declared.ids_to_indices.IdsToIndices.{IdsToIndices}
 use Rattle.walrus_body.specs.EmittedLocals.{number_in, Declares, HasUnknown, IsUndeclared}
 use Rattle.walrus_body.specs.Facts.{locals_used}
 use Rattle.walrus_body.specs.LocalFunctions.{first_slot}
-use Rattle.walrus_body.specs.TreeWriting.EmittedInstructions.{LentPairs, Left, Emits, IsUnemitted}
+use Rattle.walrus_body.specs.TreeWriting.EmittedInstructions.{IsUnemitted}
 use Rattle.walrus_body.specs.TreeWriting.Operators.{numbers_by}
 use Rattle.walrus_body.proofs.LocalsOfTrees.{locals_of_tree}
-use Rattle.walrus_run.specs.RawBodies.{Given, IsRawBody, HasNoRawBody, unknown, undeclared, unwritten, IsRawBodyOf, Writes, Declines}
+use Rattle.walrus_run.specs.RawBodies.{Given, IsRawBody, HasNoRawBody, unknown, undeclared, unwritten, IsRawBodyOf, Begins, IsNotBegun, Writes, WritesBytes, WritesBoth, Declines, not_begun, not_written}
 
 -- ---- declarations
 
@@ -37,7 +37,7 @@ first_true true b h = refl
 first_true false b h = absurd cc
 
 below : (m n : ℕ) → nat_lt m n ≡ true → m < n
-below m n h = grind
+below m n h = grind arith
 
 -- declarations that a function has are as many as fit 32 bits
 pub few_declarations : (to : Numbers) (arguments : ℕ) (others : List Local) (ds : List (ℕ × ValType ℕ)) → declared to arguments others ≡ Ok ds → length ds < 2 ^ 32
@@ -59,27 +59,24 @@ module _ (out : IdsToIndices) (types : List (ValType ℕ)) (args : List ℕ) (us
   abbrev by : Given
   by = record { to = numbers_by out []; types = types; args = args }
 
-  pub writes : {Z : Type 0} (ds : List (ℕ × ValType ℕ)) (entries : List (ℕ × ℕ)) (bytes : List ℕ) (entry : Option (LentPairs Z)) (exit : Left (LentPairs Z))
-      → Declares (numbers_by out []) types args used ds entries → Emits f (numbers_by out entries) (encoded.declarations ds) bytes entry exit
-      → Writes by used f bytes entry exit
-  writes ds entries bytes entry exit d e = record {
-    others = d.others;
-    are_declared = d.are_declared;
-    declarations = ds;
-    declarations_are = d.declarations_are;
-    emits = subst (λ to. Emits f to (encoded.declarations ds) bytes entry exit) (same_numbers out entries args (ids_of d.others) d.numbers_are) e;
-  }
+  module _ (encoder : List ℕ) (entries : List (ℕ × ℕ)) (b : Begins by used encoder entries) where
+    abbrev numbered : numbers_by out entries ≡ with_locals (numbers_by out []) args (ids_of b.declares.others)
+    numbered = same_numbers out entries args (ids_of b.declares.others) b.declares.numbers_are
 
-  pub declines_undeclared : (e : EmitError) → IsUndeclared (numbers_by out []) types args used e → Declines by used f e
-  declines_undeclared e (inl memory) = Declines.wants_memory memory
-  declines_undeclared e (inr (inl missing)) = Declines.unknown missing.0 missing.1
-  declines_undeclared e (inr (inr fault)) = Declines.undeclared fault.others fault.are_declared fault.fault_is
+    pub writes : (IsWritten : Numbers → List ℕ → Type 0) → IsWritten (numbers_by out entries) encoder → Writes by used IsWritten
+    writes IsWritten h = record {
+      others = b.declares.others;
+      are_declared = b.declares.are_declared;
+      declarations = b.declarations;
+      declarations_are = b.declares.declarations_are;
+      is_written =
+          subst (λ o. IsWritten (with_locals (numbers_by out []) args (ids_of b.declares.others)) o) b.encoder_is
+          (subst (λ to. IsWritten to encoder) numbered h);
+    }
 
-  pub declines_unwritten : (ds : List (ℕ × ValType ℕ)) (entries : List (ℕ × ℕ)) (e : EmitError)
-      → Declares (numbers_by out []) types args used ds entries → IsUnemitted f (numbers_by out entries) e → Declines by used f e
-  declines_unwritten ds entries e d u =
-      Declines.unwritten d.others ds d.are_declared d.declarations_are
-      (subst (λ to. IsUnemitted f to e) (same_numbers out entries args (ids_of d.others) d.numbers_are) u)
+    pub declines : (e : EmitError) → IsUnemitted f (numbers_by out entries) e → Declines by used f e
+    declines e u =
+        not_written b.declares.others b.declarations b.declares.are_declared b.declares.declarations_are (subst (λ to. IsUnemitted f to e) numbered u)
 
 -- ---- of a function that has a tree, with the locals that are found in it
 
@@ -100,71 +97,65 @@ module _ (f : Function) (u : Tree SequenceAt LocatedInstr) (is_tree : IsTree f.s
   used_is = λ k. λ l. (used_are l ∙ ap (λ ls. among l ls) (sym (locals_of_tree u))) k
 
   module _ (by : Given) where
+    declared_so : (others : List Local) → AreDeclared by.types by.args used others → AreDeclared by.types by.args (uses_local (tree_of u)) others
+    declared_so others h = subst (λ (g : ℕ → Bool). AreDeclared by.types by.args g others) used_is h
+
+    its_raw_body : (others : List Local) (ds : List (ℕ × ValType ℕ)) → AreDeclared by.types by.args (uses_local (tree_of u)) others → declared by.to (length by.args) others ≡ Ok ds
+        → (operators bytes : List ℕ) (pairs : List Pair) → tree_bytes (with_locals by.to by.args (ids_of others)) (tree_of u) ≡ Ok operators
+        → bytes ≡ encoded.declarations ds ++ operators → tree_pairs (with_locals by.to by.args (ids_of others)) (tree_of u) (length (encoded.declarations ds)) ≡ Ok pairs
+        → IsRawBodyOf by f bytes pairs
+    its_raw_body others ds a d operators bytes pairs o b p = record {
+      tree = tree_of u;
+      has_tree = has_tree;
+      is_raw_body = record {
+        others = others;
+        are_declared = a;
+        declarations = ds;
+        declarations_are = d;
+        operators = operators;
+        operators_are = o;
+        bytes_are = b;
+        pairs_are = p;
+      };
+    }
+
     -- without a list of pairs
-    pub of_bytes : {Z : Type 0} (bytes : List ℕ) → Writes {Z = Z} by used f bytes None (inl tt) → (ps : List Pair) × IsRawBodyOf by f bytes ps
+    pub of_bytes : (bytes : List ℕ) → WritesBytes by used f bytes → (ps : List Pair) × IsRawBodyOf by f bytes ps
     of_bytes bytes w =
         let to = with_locals by.to by.args (ids_of w.others) in
-        let same = only_tree w.emits.tree w.emits.has_tree in
-        let written = subst (λ t. tree_bytes to t ≡ Ok w.emits.bytes) same w.emits.bytes_are in
-        let ps = with_pairs to (tree_of u) w.emits.bytes (length (encoded.declarations w.declarations)) written in (
-          ps.0,
-          record {
-            tree = tree_of u;
-            has_tree = has_tree;
-            is_raw_body = record {
-              others = w.others;
-              are_declared = subst (λ (g : ℕ → Bool). AreDeclared by.types by.args g w.others) used_is w.are_declared;
-              declarations = w.declarations;
-              declarations_are = w.declarations_are;
-              operators = w.emits.bytes;
-              operators_are = written;
-              bytes_are = w.emits.appends;
-              pairs_are = ps.1;
-            };
-          },
-        )
+        let made = w.is_written in
+        let written = subst (λ t. tree_bytes to t ≡ Ok made.bytes) (only_tree made.tree made.has_tree) made.bytes_are in
+        let ps = with_pairs to (tree_of u) made.bytes (length (encoded.declarations w.declarations)) written in
+        (ps.0, its_raw_body w.others w.declarations (declared_so w.others w.are_declared) w.declarations_are made.bytes bytes ps.0 written made.appends ps.1)
 
-    -- with an empty list of pairs
-    pub of_both : {Z : Type 0} (bytes : List ℕ) (list left : LentPairs Z) → list.now.items ≡ [] → Writes {Z = Z} by used f bytes (Some list) (inr (inl (left, tt)))
-        → IsRawBodyOf by f bytes left.now.items
-    of_both bytes list left none w =
+    -- with an empty one
+    pub of_both : (bytes : List ℕ) (new_pairs : List Pair) → WritesBoth by used f bytes [] new_pairs → IsRawBodyOf by f bytes new_pairs
+    of_both bytes new_pairs w =
         let to = with_locals by.to by.args (ids_of w.others) in
-        let same = only_tree w.emits.tree w.emits.has_tree in
-        let ps = w.emits.appends_pairs ∙ ap (λ l. l ++ w.emits.pairs) none in
-        record {
-          tree = tree_of u;
-          has_tree = has_tree;
-          is_raw_body = record {
-            others = w.others;
-            are_declared = subst (λ (g : ℕ → Bool). AreDeclared by.types by.args g w.others) used_is w.are_declared;
-            declarations = w.declarations;
-            declarations_are = w.declarations_are;
-            operators = w.emits.bytes;
-            operators_are = subst (λ t. tree_bytes to t ≡ Ok w.emits.bytes) same w.emits.bytes_are;
-            bytes_are = w.emits.appends_bytes;
-            pairs_are =
-                subst (λ t. tree_pairs to t (length (encoded.declarations w.declarations)) ≡ Ok left.now.items) same
-                (subst (λ l. tree_pairs to w.emits.tree (length (encoded.declarations w.declarations)) ≡ Ok l) (sym ps) w.emits.pairs_are);
-          };
-        }
+        let made = w.is_written in
+        let same = only_tree made.tree made.has_tree in
+        let before = length (encoded.declarations w.declarations) in
+        its_raw_body w.others w.declarations (declared_so w.others w.are_declared) w.declarations_are made.bytes bytes new_pairs
+        (subst (λ t. tree_bytes to t ≡ Ok made.bytes) same made.bytes_are) made.appends_bytes
+        (subst (λ t. tree_pairs to t before ≡ Ok new_pairs) same (subst (λ l. tree_pairs to made.tree before ≡ Ok l) (sym made.appends_pairs) made.pairs_are))
+
+    abbrev Why : EmitError → Type 0
+    Why e = (e ≡ Memory) ⊎ ((t : FunctionTree) × HasTree f.sequences (first_slot f) t × HasNoRawBody by t e)
 
     -- why there is none
-    pub why_not : (e : EmitError) → Declines by used f e → (e ≡ Memory) ⊎ ((t : FunctionTree) × HasTree f.sequences (first_slot f) t × HasNoRawBody by t e)
-    why_not e d = of_declines d
-      where
-        declared_so : (others : List Local) → AreDeclared by.types by.args used others → AreDeclared by.types by.args (uses_local (tree_of u)) others
-        declared_so others h = subst (λ (g : ℕ → Bool). AreDeclared by.types by.args g others) used_is h
+    why_not_begun : (e : EmitError) → IsNotBegun by used e → Why e
+    why_not_begun e (inl memory) = inl memory
+    why_not_begun e (inr (inl missing)) = inr (tree_of u, has_tree, unknown missing.0 (subst (λ (g : ℕ → Bool). HasUnknown by.types by.args g) used_is missing.1))
+    why_not_begun e (inr (inr fault)) = inr (tree_of u, has_tree, undeclared fault.others (declared_so fault.others fault.are_declared) fault.fault_is)
 
-        of_text : (others : List Local) (ds : List (ℕ × ValType ℕ)) → AreDeclared by.types by.args used others → declared by.to (length by.args) others ≡ Ok ds →
-            IsUnemitted f (with_locals by.to by.args (ids_of others)) e → (e ≡ Memory) ⊎ ((t : FunctionTree) × HasTree f.sequences (first_slot f) t × HasNoRawBody by t e)
-        of_text others ds a d (inl memory) = inl memory
-        of_text others ds a d (inr (inl walk)) = absurd (tree_has_no_fault f.sequences (first_slot f) u walk.0 is_tree walk.1)
-        of_text others ds a d (inr (inr fault)) =
-            let same = only_tree fault.0 fault.1 in
-            inr (tree_of u, has_tree, unwritten others ds (declared_so others a) d (subst (λ t. tree_bytes (with_locals by.to by.args (ids_of others)) t ≡ Err e) same fault.2))
+    why_not_written : (e : EmitError) (others : List Local) (ds : List (ℕ × ValType ℕ)) → AreDeclared by.types by.args used others → declared by.to (length by.args) others ≡ Ok ds
+        → IsUnemitted f (with_locals by.to by.args (ids_of others)) e → Why e
+    why_not_written e others ds a d (inl memory) = inl memory
+    why_not_written e others ds a d (inr (inl walk)) = absurd (tree_has_no_fault f.sequences (first_slot f) u walk.0 is_tree walk.1)
+    why_not_written e others ds a d (inr (inr fault)) =
+        let to = with_locals by.to by.args (ids_of others) in
+        inr (tree_of u, has_tree, unwritten others ds (declared_so others a) d (subst (λ t. tree_bytes to t ≡ Err e) (only_tree fault.0 fault.1) fault.2))
 
-        of_declines : Declines by used f e → (e ≡ Memory) ⊎ ((t : FunctionTree) × HasTree f.sequences (first_slot f) t × HasNoRawBody by t e)
-        of_declines (Declines.wants_memory memory) = inl memory
-        of_declines (Declines.unknown is h) = inr (tree_of u, has_tree, unknown is (subst (λ (g : ℕ → Bool). HasUnknown by.types by.args g) used_is h))
-        of_declines (Declines.undeclared others a h) = inr (tree_of u, has_tree, undeclared others (declared_so others a) h)
-        of_declines (Declines.unwritten others ds a d h) = of_text others ds a d h
+    pub why_not : (e : EmitError) → Declines by used f e → Why e
+    why_not e (not_begun h) = why_not_begun e h
+    why_not e (not_written others ds a d h) = why_not_written e others ds a d h

@@ -1,9 +1,10 @@
 -- Rewriting a body: what is appended is that of the accepted body, and keeps its source.
-use Rattle.std.specs.Prelude.{◌≡◌, ◌⊎◌, ◌++◌, ◌≤◌, ◌^◌, ℕ, List, [], ◌∷◌, length, map, Option, Some, None, IfErr, Result, Ok, Err}
+use Rattle.std.specs.Prelude.{◌≡◌, ◌⊎◌, ◌++◌, ◌≤◌, ◌^◌, ℕ, List, [], ◌∷◌, length, map, Option, Some, None, IsErr, IfOk, IfErr, Result, Ok, Err}
 use Rattle.std.specs.Borrow.{Bor}
 use Rattle.std.specs.Fn.{Shared}
 use Rattle.std.specs.List.{AllByRecursion}
 use Rattle.std.proofs.Common.{inl, inr, refl, sym, ap, subst, ◌∙◌}
+use Rattle.walrus_ir.specs.declared.module.Module.{Module}
 use Rattle.walrus_ir.specs.Function.{Function}
 use Rattle.walrus_ir.specs.declared.error.WalkError.{WalkError}
 use Rattle.walrus_ir.specs.declared.error.WalkError.TheVariants as walk
@@ -11,14 +12,18 @@ use Rattle.walrus_ir.specs.Tree.{Tree}
 use Rattle.walrus_ir.specs.Unfolding.{SequenceAt, LocatedInstr, IsTree}
 use Rattle.walrus_ir.proofs.WalkLaws.{tree_has_no_fault}
 use Rattle.wasm_ops.specs.OperatorList.{Lists}
+use Rattle.wasm_encode.specs.Declarations as encoded
 use Rattle.wasm_body.specs.declared.error.EmitError.{EmitError}
 use Rattle.wasm_body.specs.declared.error.EmitError.TheVariants as emit
+use Rattle.wasm_body.specs.declared.error.ParseError.TheVariants as parse
+use Rattle.wasm_body.specs.declared.error.ParseFailure.{ParseFailure}
 use Rattle.wasm_body.specs.SourceTree.{Body}
 use Rattle.wasm_body.specs.Naming.{Environment, Occurrence}
 use Rattle.wasm_body.specs.FunctionTree.{FunctionTree}
 use Rattle.wasm_body.specs.TreeOfFunction.{HasTree, tree_of}
 use Rattle.wasm_body.specs.NormalForm.{typing_of, name_at, named_body, body_tree}
 use Rattle.wasm_body.specs.Bytes.{Numbers}
+use Rattle.wasm_body.specs.LocalNumbers.{ids_of, with_locals}
 use Rattle.wasm_body.specs.Pairs.{Pair, tree_pairs}
 use Rattle.wasm_body.specs.Parsing.Accepted.{HasSpelling, Lawful, Accepted, placed}
 use Rattle.wasm_body.proofs.Bytes.LawfulTyped.{lawful_named}
@@ -26,15 +31,19 @@ use Rattle.wasm_body.proofs.Executions.Locations.{places_increase, pairs_located
 use Rattle.wasm_body.proofs.Executions.NormalForms.{named_executions_kept}
 use Rattle.wasm_body.proofs.NormalForm.StandingFor.{text_stands_for}
 use Rattle.walrus_body.specs.Facts.{count}
+use Rattle.walrus_body.specs.declared.ids_to_indices.IdsToIndices.{IdsToIndices}
+use Rattle.walrus_body.specs.FunctionParts.{FunctionParts}
 use Rattle.walrus_body.specs.LocalFunctions.{first_slot}
-use Rattle.walrus_body.specs.Parsing.Bodies.{ParseInput, AreGiven, AcceptsBody, mapped_by}
+use Rattle.walrus_body.specs.Parsing.Bodies.{ParseInput, AreGiven, AcceptsBody, RefusesBody, mapped_by}
 use Rattle.walrus_body.specs.Parsing.Settings.{BothOrNone, locations_in}
 use Rattle.walrus_body.specs.TreeWriting.EmittedInstructions.{LentPairs, Left}
+use Rattle.walrus_body.specs.TreeWriting.Operators.{numbers_by}
 use Rattle.walrus_body.proofs.LocalsOfTrees.{count_of_tree}
 use Rattle.walrus_run.specs.declared.error.RewriteError.{RewriteError}
 use Rattle.walrus_run.specs.declared.error.RewriteError.TheVariants.{Parse, Walk, Emit}
-use Rattle.walrus_run.specs.RawBodies.{Given, IsRawBody, HasNoRawBody, IsRawBodyOf, AppendsRawBody, IsUnappended}
-use Rattle.walrus_run.specs.RewrittenBodies.{KeepsSource, Rewrites, IsAcceptedAs, RefusesRewriting}
+use Rattle.walrus_run.specs.RawBodies.{Given, IsRawBody, HasNoRawBody, IsRawBodyOf, AppendsPairs, AppendsBytes, AppendsBoth, IsUnappended, IsUnfinished, given}
+use Rattle.walrus_run.specs.RewrittenBodies.{KeepsSource, Rewrites, IsAcceptedAs, RefusesRewriting, IsOfWriting}
+use Rattle.walrus_run.specs.Rewriting.{WantsMemory}
 use Rattle.walrus_run.proofs.RewritingLemmas.{one_function, from_slot}
 
 -- operators that bytes list have spellings
@@ -72,18 +81,18 @@ module _ {S F : Type 0} (asks : Shared F (Bor ℕ × Unit {0}) ℕ) (i : ParseIn
   only_tree : (t : FunctionTree) → HasTree f.sequences (first_slot f) t → t ≡ tree
   only_tree t h = one_function f.sequences (first_slot f) t tree h its_tree
 
-  pub rewrites : {Z : Type 0} (old new : List ℕ) (entry : Option (LentPairs Z)) (exit : Left (LentPairs Z)) → AppendsRawBody by f old new entry exit
-      → Rewrites asks i by f mapping old new entry exit
-  rewrites old new entry exit w =
-      let raw = subst (λ t. IsRawBody by t w.raw w.pairs) (only_tree w.is_raw_body.tree w.is_raw_body.has_tree) w.is_raw_body.is_raw_body in
+  pub rewrites : {Z : Type 0} (old new : List ℕ) (entry : Option (LentPairs Z)) (exit : Left (LentPairs Z)) (bytes : List ℕ) (pairs : List Pair) → IsRawBodyOf by f bytes pairs
+      → new ≡ old ++ bytes → AppendsPairs pairs entry exit → Rewrites asks i by f mapping old new entry exit
+  rewrites old new entry exit bytes pairs h appends appends_pairs =
+      let raw = subst (λ t. IsRawBody by t bytes pairs) (only_tree h.tree h.has_tree) h.is_raw_body in
       record {
         accepts = a;
-        raw = w.raw;
-        pairs = w.pairs;
+        raw = bytes;
+        pairs = pairs;
         is_raw_body = raw;
-        keeps = keeps_source i.environment a.accepted.operators a.body (listed_spelt a.accepted.operators _ i.bytes [] a.accepted.all.spelt) a.accepted.lawful _ _ w.pairs raw.pairs_are;
-        bytes = w.appends;
-        appends_pairs = w.appends_pairs;
+        keeps = keeps_source i.environment a.accepted.operators a.body (listed_spelt a.accepted.operators _ i.bytes [] a.accepted.all.spelt) a.accepted.lawful (with_locals by.to by.args (ids_of raw.others)) (length (encoded.declarations raw.declarations)) pairs raw.pairs_are;
+        bytes = appends;
+        appends_pairs = appends_pairs;
       }
 
   given_both : (on_instr_pos : Option (Bor F)) → BothOrNone on_instr_pos (locations_in on_instr_pos i.offset mapping)
@@ -100,6 +109,56 @@ module _ {S F : Type 0} (asks : Shared F (Bor ℕ × Unit {0}) ℕ) (i : ParseIn
   refuses (Walk w) (inr large) =
       let t = large.1 in
       let same = only_tree (tree_of t.tree) (record { unfolded = t.tree; is_tree = t.is_tree; is = refl }) in
-      inr (large.0, (a.body, is_accepted, subst (λ n. 2 ^ 64 ≤ n) (sym (count_of_tree t.tree) ∙ ap (λ (u : FunctionTree). count u.items) same) t.holds))
+      inr (large.0, a.body, is_accepted, subst (λ n. 2 ^ 64 ≤ n) (sym (count_of_tree t.tree) ∙ ap (λ (u : FunctionTree). count u.items) same) t.holds)
   refuses (Emit e) (inl memory) = inl memory
   refuses (Emit e) (inr h) = inr (a.body, is_accepted, subst (λ t. HasNoRawBody by t e) (only_tree h.0 h.1) h.2)
+
+-- ---- of what a parse answered
+
+module _ {S F : Type 0} (asks : Shared F (Bor ℕ × Unit {0}) ℕ) (i : ParseInput S F) (m : Module) (out : IdsToIndices) (args : List ℕ) where
+  abbrev by : Given
+  by = record { to = numbers_by out []; types = m.locals; args = args }
+
+  by_is : (p : FunctionParts) → p.args ≡ args → given out m p ≡ by
+  by_is p e = ap (λ as. (let g : Given = record { to = numbers_by out []; types = m.locals; args = as } in g)) e
+
+  abbrev Accepts : FunctionParts → Type 0
+  Accepts p = AcceptsBody asks i p.builder p.instruction_mapping
+
+  pub with_map : {Z : Type 0} (p : FunctionParts) → p.args ≡ args → Accepts p → (old new : List ℕ) (list left : LentPairs Z)
+      → AppendsBoth (given out m p) p.builder old new list.now.items left.now.items
+      → Rewrites asks i by p.builder p.instruction_mapping old new (Some list) (inr (inl (left, tt)))
+  with_map p e a old new list left w =
+      let h = subst (λ g. IsRawBodyOf g p.builder w.raw w.pairs) (by_is p e) w.is_raw_body in
+      rewrites asks i by p.builder p.instruction_mapping a old new (Some list) (inr (inl (left, tt))) w.raw w.pairs h w.appends w.appends_pairs
+
+  pub without_map : {Z : Type 0} (p : FunctionParts) → p.args ≡ args → Accepts p → (old new : List ℕ) → AppendsBytes (given out m p) p.builder old new
+      → Rewrites {Z = Z} asks i by p.builder p.instruction_mapping old new None (inl tt)
+  without_map p e a old new w =
+      let h = subst (λ g. IsRawBodyOf g p.builder w.raw w.pairs) (by_is p e) w.is_raw_body in
+      rewrites asks i by p.builder p.instruction_mapping a old new None (inl tt) w.raw w.pairs h w.appends tt
+
+  pub refuses_all : (r : Result FunctionParts ParseFailure) → IfOk r Accepts → IfErr r (RefusesBody asks i) → IfOk r (λ p. p.args ≡ args) → (e : RewriteError)
+      → IsUnfinished (given out m) r e → RefusesRewriting asks i by e
+  refuses_all (Ok p) a f g e h = refuses asks i by p.builder p.instruction_mapping a e (subst (λ b. IsUnappended b p.builder e) (by_is p g) h)
+  refuses_all (Err p) a f g e h = subst (RefusesRewriting asks i by) (sym h) f
+
+  -- a fault of the parse is answered
+  pub faults_all : (r : Result FunctionParts ParseFailure) (p : ParseFailure) → IsErr r × IfErr r (λ q. (q.error ≡ parse.Memory) ⊎ (q ≡ p))
+      → (s : Result FunctionParts RewriteError) → IfOk s (λ made. r ≡ Ok made) → IfErr s (IsUnfinished (given out m) r) → IsErr s × IfErr s (λ e. WantsMemory e ⊎ (e ≡ Parse p))
+  faults_all (Ok q) p h s ok err = absurd (let no = h.0 in cc)
+  faults_all (Err q) p h (Ok made) ok err = absurd cc
+  faults_all (Err q) p h (Err e) ok err = (refl, of_fault h.1)
+    where
+      of_fault : (q.error ≡ parse.Memory) ⊎ (q ≡ p) → WantsMemory e ⊎ (e ≡ Parse p)
+      of_fault (inl memory) = inl (subst WantsMemory (sym err) memory)
+      of_fault (inr is) = inr (err ∙ ap Parse is)
+
+  -- and an accepted body isn't refused by it
+  pub bodies_all : (r : Result FunctionParts ParseFailure) → IfErr r (λ q. q.error ≡ parse.Memory) → (s : Result FunctionParts RewriteError)
+      → IfErr s (IsUnfinished (given out m) r) → IfErr s IsOfWriting
+  bodies_all r h (Ok made) err = tt
+  bodies_all (Ok p) h (Err (Parse f)) err = absurd err
+  bodies_all (Ok p) h (Err (Walk w)) err = tt
+  bodies_all (Ok p) h (Err (Emit e)) err = tt
+  bodies_all (Err q) h (Err e) err = subst IsOfWriting (sym err) h

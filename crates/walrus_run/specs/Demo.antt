@@ -51,6 +51,10 @@ demo_environment = environment_of demo_module demo_indices 0 1
 abbrev pub demo : Setting (Unit {0})
 demo = accepting demo_environment 0
 
+-- It has one argument.
+abbrev pub demo_args : List ℕ
+demo_args = 0 ∷ []
+
 -- The number of each local is its old index.
 abbrev pub demo_local_numbers : FinMap nat_cmp ℕ
 demo_local_numbers = insert (insert (insert (insert empty 0 0) 1 1) 2 2) 3 3

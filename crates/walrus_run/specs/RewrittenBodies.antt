@@ -56,7 +56,7 @@ module _ {S F : Type 0} (asks : Shared F (Bor ℕ × Unit {0}) ℕ) (i : ParseIn
   -- the bytes are accepted as this body, with some location function if the caller handed one in
   pub record IsAcceptedAs (b : Body Occurrence) : Type 0 where
     pub locations : Option (ℕ → ℕ)
-    pub are_given : AreGiven i locations
+    pub are_given : AreGiven asks i locations
     pub accepted : Accepted (setting_with i locations) i.bytes b
 
   -- The bytes are refused by the parse; or they are accepted, and there are more instructions than can be counted, or there

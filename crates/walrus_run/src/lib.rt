@@ -1,6 +1,7 @@
 //! Rewriting function bodies: the program over bytes, and the trace machine.
 #![tactic(auto)]
 
+mod code_entry;
 mod demo;
 mod error;
 mod names;
@@ -9,6 +10,7 @@ mod raw_body;
 mod rewriting;
 mod whole_body;
 
+pub use code_entry::CodeEntry;
 pub use error::RewriteError;
 pub use program::run_words;
 pub use rewriting::rewrite_demo;

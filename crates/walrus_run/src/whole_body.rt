@@ -1,5 +1,5 @@
 //! Rewriting whole bodies, and writing those of functions.
-ghost use Rattle.std.specs.Prelude.{◌≡◌, ◌⊎◌, ◌≤◌, ◌<◌, ◌+◌, ◌^◌, ℕ, [], length, Option, Some, OnOk, OnErr, IfOk, IfErr, IsErr};
+ghost use Rattle.std.specs.Prelude.{◌≡◌, ◌⊎◌, ◌++◌, ◌≤◌, ◌<◌, ◌+◌, ◌^◌, ℕ, [], length, Option, Some, Ok, OnOk, OnErr, IfOk, IfErr, IsErr};
 ghost use Rattle.wasm_body.specs.declared.error.ParseFailure.{ParseFailure as Failure};
 ghost use Rattle.wasm_body.specs.SourceTree.{Body};
 ghost use Rattle.wasm_body.specs.Naming.{Occurrence};
@@ -13,17 +13,19 @@ ghost use Rattle.walrus_body.specs.TreeWriting.EmittedInstructions.{KeepsPairs};
 ghost use Rattle.walrus_body.specs.TreeWriting.Operators.{numbers_by};
 ghost use Rattle.walrus_run.specs.declared.error.RewriteError.TheVariants.{Parse};
 ghost use Rattle.walrus_run.specs.Rewriting.{WantsMemory};
-ghost use Rattle.walrus_run.specs.RawBodies.{given, AppendsRawBody, IsUnappended};
+ghost use Rattle.walrus_run.specs.RawBodies.{given, AppendsBytes, AppendsBoth, IsUnappended, IsUnfinished};
 ghost use Rattle.walrus_run.specs.RewrittenBodies.{Rewrites, RefusesRewriting, IsOfWriting};
 
 use crate::error::RewriteError;
-use crate::raw_body::raw_body;
+use crate::raw_body::{raw_body, raw_body_with_map};
 use std::alloc::AllocError;
-use walrus_body::{EmitError, FunctionBody, IdsToIndices, IndicesToIds, LocalFunction, OpCheck};
-use walrus_ir::{FunctionId, Instr, InstrLocId, LocalId, Module, TypeId, WalkError};
+use walrus_body::{
+    FunctionBody, IdsToIndices, IndicesToIds, LocalFunction, OpCheck, ParseFailure,
+};
+use walrus_ir::{FunctionId, Instr, InstrLocId, LocalId, Module, TypeId};
 
 /// Appends both, or nothing where memory runs out.
-fn append_both(
+pub(crate) fn append_both(
     dst: &mut Vec<u8>,
     map: &mut Vec<(InstrLocId, usize)>,
     bytes: &[u8],
@@ -40,46 +42,122 @@ fn append_both(
     Ok(())
 }
 
-/// Appends the raw body of a function to `dst`, and its location pairs to the list, if there is
-/// one: the places count from the first byte of the raw body.
+/// Appends the raw body of a function.
 ///
 /// # Errors
 ///
 /// `Walk` where facts about the function can't be gathered, and then `Emit` where it can't be
-/// written. `dst` and the list are then as before.
+/// written. `dst` is then as before.
 fn append_raw_body(
     function: &LocalFunction,
     module: &Module,
     indices: &IdsToIndices,
     dst: &mut Vec<u8>,
-    map: Option<&mut Vec<(InstrLocId, usize)>>,
 ) -> Result<(), RewriteError>
     requires { HasEntry function.now.builder }
-    ensures ok { OnOk result (AppendsRawBody (given indices.now «module».now function.now)
-        function.now.builder dst.old.items dst.new.items map.entry map.exit) }
+    ensures ok { OnOk result (AppendsBytes (given indices.now «module».now function.now)
+        function.now.builder dst.old.items dst.new.items) }
     ensures err { IfErr result (IsUnappended (given indices.now «module».now function.now)
         function.now.builder) }
     ensures same_bytes { OnErr result (dst.new.items ≡ dst.old.items) }
-    ensures same_pairs { OnErr result (KeepsPairs map.entry map.exit) }
 {
     let facts = match function.emit_facts() {
         Ok(facts) => facts,
         Err(fault) => return Err(RewriteError::Walk(fault)),
     };
-    let used = &facts.used_locals;
+    match raw_body(*dst.allocator(), function, &facts.used_locals, module, indices) {
+        Ok(bytes) => Ok(dst.extend_from_slice(&bytes)?),
+        Err(fault) => Err(RewriteError::Emit(fault)),
+    }
+}
+
+/// The same with the location pairs of the function: the places count from the first byte that is
+/// appended.
+///
+/// # Errors
+///
+/// Those of `append_raw_body`. `dst` and `map` are then as before.
+fn append_raw_body_with_map(
+    function: &LocalFunction,
+    module: &Module,
+    indices: &IdsToIndices,
+    dst: &mut Vec<u8>,
+    map: &mut Vec<(InstrLocId, usize)>,
+) -> Result<(), RewriteError>
+    requires { HasEntry function.now.builder }
+    ensures ok { OnOk result (AppendsBoth (given indices.now «module».now function.now)
+        function.now.builder dst.old.items dst.new.items map.old.items map.new.items) }
+    ensures err { IfErr result (IsUnappended (given indices.now «module».now function.now)
+        function.now.builder) }
+    ensures same_bytes { OnErr result (dst.new.items ≡ dst.old.items) }
+    ensures same_pairs { OnErr result (map.new.items ≡ map.old.items) }
+{
+    let facts = match function.emit_facts() {
+        Ok(facts) => facts,
+        Err(fault) => return Err(RewriteError::Walk(fault)),
+    };
     let alloc = *dst.allocator();
-    match map {
-        None => match raw_body(alloc, function, used, module, indices, None) {
-            Ok(bytes) => Ok(dst.extend_from_slice(&bytes)?),
-            Err(fault) => Err(RewriteError::Emit(fault)),
+    let mut pairs = Vec::new(alloc);
+    let used = &facts.used_locals;
+    match raw_body_with_map(alloc, function, used, module, indices, &mut pairs) {
+        Ok(bytes) => Ok(append_both(dst, map, &bytes, &pairs)?),
+        Err(fault) => Err(RewriteError::Emit(fault)),
+    }
+}
+
+/// Appends the raw body of the function that a parse answered.
+///
+/// # Errors
+///
+/// `Parse` where it answered none, else those of `append_raw_body`.
+fn finish(
+    parsed: Result<LocalFunction, ParseFailure>,
+    module: &Module,
+    indices: &IdsToIndices,
+    dst: &mut Vec<u8>,
+) -> Result<LocalFunction, RewriteError>
+    requires { IfOk parsed (λ made. HasEntry made.builder) }
+    ensures ok { IfOk result (λ made. (parsed ≡ Ok made)
+        × AppendsBytes (given indices.now «module».now made) made.builder dst.old.items
+        dst.new.items) }
+    ensures err { IfErr result (IsUnfinished (given indices.now «module».now) parsed) }
+    ensures same_bytes { OnErr result (dst.new.items ≡ dst.old.items) }
+{
+    match parsed {
+        Ok(function) => match append_raw_body(&function, module, indices, dst) {
+            Ok(()) => Ok(function),
+            Err(error) => Err(error),
         },
-        Some(list) => {
-            let mut pairs = Vec::new(alloc);
-            match raw_body(alloc, function, used, module, indices, Some(&mut pairs)) {
-                Ok(bytes) => Ok(append_both(dst, list, &bytes, &pairs)?),
-                Err(fault) => Err(RewriteError::Emit(fault)),
-            }
-        }
+        Err(failure) => Err(RewriteError::Parse(failure)),
+    }
+}
+
+/// The same with the location pairs of the function.
+///
+/// # Errors
+///
+/// `Parse` where the parse answered none, else those of `append_raw_body_with_map`.
+fn finish_with_map(
+    parsed: Result<LocalFunction, ParseFailure>,
+    module: &Module,
+    indices: &IdsToIndices,
+    dst: &mut Vec<u8>,
+    map: &mut Vec<(InstrLocId, usize)>,
+) -> Result<LocalFunction, RewriteError>
+    requires { IfOk parsed (λ made. HasEntry made.builder) }
+    ensures ok { IfOk result (λ made. (parsed ≡ Ok made)
+        × AppendsBoth (given indices.now «module».now made) made.builder dst.old.items
+        dst.new.items map.old.items map.new.items) }
+    ensures err { IfErr result (IsUnfinished (given indices.now «module».now) parsed) }
+    ensures same_bytes { OnErr result (dst.new.items ≡ dst.old.items) }
+    ensures same_pairs { OnErr result (map.new.items ≡ map.old.items) }
+{
+    match parsed {
+        Ok(function) => match append_raw_body_with_map(&function, module, indices, dst, map) {
+            Ok(()) => Ok(function),
+            Err(error) => Err(error),
+        },
+        Err(failure) => Err(RewriteError::Parse(failure)),
     }
 }
 
@@ -159,11 +237,8 @@ pub fn rewrite_body<V: OpCheck, F: Fn(&usize) -> InstrLocId>(
         validator,
         instrs,
     );
-    match parsed {
-        Ok(function) => match append_raw_body(&function, module, out, dst, map) {
-            Ok(()) => Ok(function),
-            Err(error) => Err(error),
-        },
-        Err(failure) => Err(RewriteError::Parse(failure)),
+    match map {
+        Some(list) => finish_with_map(parsed, module, out, dst, list),
+        None => finish(parsed, module, out, dst),
     }
 }

@@ -23,7 +23,7 @@ use Rattle.wasm_body.specs.LocalNumbers.{Local, local_order, ids_of, AreDeclared
 pub local_order-total : IsTotalOrder local_order
 local_order-total = then_total (on_total (λ l. type_key l.0) nat_list_cmp_total) (on_total (λ l. l.1) nat_cmp_total)
 
-abbrev Below : Local → Local → Type 0
+abbrev pub Below : Local → Local → Type 0
 Below l m = local_order l m ≡ Less
 
 not_both : (l m : Local) → Below l m → Below m l → ⊥
@@ -32,16 +32,16 @@ not_both l m a b =
     let less : Less ≡ ordering_reverse Less = sym a ∙ (turned ∙ ap ordering_reverse b) in
     cc
 
-abbrev Stands : Local → List Local → Type 0
+abbrev pub Stands : Local → List Local → Type 0
 Stands x [] = ⊥
 Stands x (l ∷ ls) = (x ≡ l) ⊎ Stands x ls
 
 -- each is below all that follow
-abbrev Ascends : List Local → Type 0
+abbrev pub Ascends : List Local → Type 0
 Ascends [] = Unit {0}
 Ascends (l ∷ ls) = AllByRecursion (Below l) ls × Ascends ls
 
-stands_all : (P : Local → Type 0) (x : Local) (ls : List Local) → AllByRecursion P ls → Stands x ls → P x
+pub stands_all : (P : Local → Type 0) (x : Local) (ls : List Local) → AllByRecursion P ls → Stands x ls → P x
 stands_all P x [] h s = absurd s
 stands_all P x (l ∷ ls) h (inl e) = subst P (sym e) h.0
 stands_all P x (l ∷ ls) h (inr s) = stands_all P x ls h.1 s
@@ -59,7 +59,7 @@ behind_first R x xs h = λ k d within.
 first_two : {A : Type 0} (R : A → A → Type 0) (x y : A) (xs : List A) → AllAdjacentBelow R (x ∷ y ∷ xs) (length (x ∷ y ∷ xs)) → R x y
 first_two R x y xs h = h 0 x (omega arith)
 
-ascends : (ls : List Local) → AllAdjacentBelow Below ls (length ls) → Ascends ls
+pub ascends : (ls : List Local) → AllAdjacentBelow Below ls (length ls) → Ascends ls
 ascends [] h = tt
 ascends (l ∷ []) h = (tt, tt)
 ascends (l ∷ m ∷ ls) h =
@@ -102,7 +102,7 @@ same_locals (l ∷ ls) (m ∷ ms) a b to from =
 
 -- ---- at most one list is declared
 
-stands_among : (x : Local) (ls : List Local) → Stands x ls → among x.1 (ids_of ls) ≡ true
+pub stands_among : (x : Local) (ls : List Local) → Stands x ls → among x.1 (ids_of ls) ≡ true
 stands_among x [] s = absurd s
 stands_among x (l ∷ ls) (inl e) = ap (λ b. b || among x.1 (ids_of ls)) (eq-eqb x.1 l.1 (ap (λ (k : Local). k.1) e))
 stands_among x (l ∷ ls) (inr s) = ap (λ b. (x.1 == l.1) || b) (stands_among x ls s) ∙ or-true (x.1 == l.1)

@@ -127,7 +127,7 @@ module _ {A : Type 0} (R : Rule A) (P : A → Control → Type 0)
 -- ---- a body
 
 -- the operator has its name somewhere
-abbrev NamedSomewhere : Environment → Occurrence → Control → Type 0
+abbrev pub NamedSomewhere : Environment → Occurrence → Control → Type 0
 NamedSomewhere env x c = (frames : List (Frame Occurrence)) × (named_in env frames x.spelt ≡ Ok x.named)
 
 all_typed : (env : Environment) (xs : List Occurrence) → AllByRecursion HasKinds xs → AllMarked (NamedSomewhere env) (map mark xs)

@@ -11,6 +11,7 @@ use Rattle.wasm_ops.specs.declared.types.BlockType.{BlockType}
 use Rattle.wasm_ops.specs.Operations.{Immediate, local, Operation, operation, RawOperation}
 use Rattle.wasm_body.specs.declared.error.EmitError.{EmitError}
 use Rattle.wasm_body.specs.declared.error.EmitError.TheVariants.{BadClauses}
+use Rattle.wasm_body.specs.declared.error.IndexError.{IndexError}
 use Rattle.wasm_body.specs.declared.error.ParseError.TheVariants.{Index}
 use Rattle.wasm_body.specs.Control.{Role, a_block, a_loop, an_if, a_try, a_try_table, role_of, end_operation, Control, Action, control_of}
 use Rattle.wasm_body.specs.SourceTree.{Sequence, Empty, Single, Wrapped, IfThen, IfElse, TryCatch, TryDelegate, Clauses, Ended, Catches, CatchesAll}
@@ -23,7 +24,8 @@ use Rattle.wasm_body.specs.FlatText.{TextOperation, Writing, then_by, typed, are
 use Rattle.wasm_body.specs.LocalNumbers.{locals_among, locals_in, locals_inside, locals_of}
 use Rattle.wasm_body.specs.Bytes.{Numbers, in_32_bits, numbered_block, numbering, bytes_of, tree_bytes}
 use Rattle.wasm_body.proofs.Translation.Steps.{bound, after_one, after_two, ok-sure}
-use Rattle.wasm_body.proofs.Translation.LocalsKept.{locals_kept}
+use Rattle.wasm_body.proofs.Translation.Kinds.{kind_kept, kind_in, through, at_once}
+use Rattle.wasm_body.proofs.Translation.LocalsKept.{before, first_local, IsNoLocal, no_local, locals_kept}
 use Rattle.wasm_body.proofs.Structure.Along.{Each, EachIn}
 
 -- ---- one operator
@@ -115,7 +117,7 @@ module _ (to : Numbers) (g : ℕ → Result ℕ EmitError) where
   abbrev other : Numbers
   other = record { number_of = to.number_of; local_number = g }
 
-  same_block : (t : InstrSeqType) → numbered_block to t ≡ numbered_block other t
+  pub same_block : (t : InstrSeqType) → numbered_block to t ≡ numbered_block other t
   same_block (Simple None) = refl
   same_block (Simple (Some t)) = refl
   same_block (MultiValue id) = refl
@@ -142,7 +144,7 @@ module _ (to : Numbers) (g : ℕ → Result ℕ EmitError) where
 
 module _ (P : ℕ → Type 0) where
   -- an operator's locals
-  abbrev Has : Located NamedOperation → Control → Type 0
+  abbrev pub Has : Located NamedOperation → Control → Type 0
   Has a c = AllByRecursion P (locals_among a.op.immediates)
 
   kept_has : (a : Located NamedOperation) (cs : List LegacyClause) → AllByRecursion P (locals_among a.op.immediates) → AllByRecursion P (locals_among (instruction a cs).op.immediates)
@@ -191,3 +193,35 @@ module _ (P : ℕ → Type 0) where
 -- what naming gives for a local
 abbrev pub IsOfLocal : Environment → ℕ → Type 0
 IsOfLocal env id = (n : ℕ) × (env.local_of n ≡ Ok id)
+
+-- each local that is made comes from one
+abbrev Made : {L B M C E : Type 0} → Translation L B M C E → ℕ → Type 0
+Made t m = (n : ℕ) × (t.local n ≡ Ok m)
+
+module _ {L B M C E : Type 0} (t : Translation L B M C E) where
+  one_made : (i : Immediate L B) (j : Immediate M C) → translate_immediate t i ≡ Ok j → (ms : List ℕ) → AllByRecursion (Made t) ms → AllByRecursion (Made t) (before j ms)
+  one_made (local n) j e ms h = through (t.local n) local (λ k. AllByRecursion (Made t) (before k ms)) (λ m made. ((n, made), h)) j e
+  one_made i j e ms h = subst (AllByRecursion (Made t)) (sym (no_local j ms (subst IsNoLocal (sym (kind_kept t i j e)) tt))) h
+
+  pub all_made : (is : List (Immediate L B)) (js : List (Immediate M C)) → translate_immediates t is ≡ Ok js → AllByRecursion (Made t) (locals_among js)
+  all_made [] js e = at_once [] (λ ks. AllByRecursion (Made t) (locals_among ks)) tt js e
+  all_made (i ∷ is) js e =
+      let first = bound (translate_immediate t i) (λ k. each (translate_immediate t) is >>= λ ks. Ok (k ∷ ks)) js e in
+      through (each (translate_immediate t) is) (λ ks. first.0 ∷ ks) (λ ks. AllByRecursion (Made t) (locals_among ks))
+      (λ ks h. subst (AllByRecursion (Made t)) (sym (first_local first.0 ks)) (one_made i first.0 first.1 (locals_among ks) (all_made is ks h))) js first.2
+
+-- those of an operator that is named come from what naming gives
+pub named_locals : {A : Type 0} → (env : Environment) (fs : List (Frame A)) (o : RawOperation) (named : NamedOperation) → translate (naming env fs) o ≡ Ok named
+    → AllByRecursion (IsOfLocal env) (locals_among named.immediates)
+named_locals env fs o named e =
+    let first = bound (translate_immediates (naming env fs) o.immediates) (λ js. Ok (operation o.opcode js)) named e in
+    let same : operation o.opcode first.0 ≡ named = cc first.2 in
+    subst (λ (n : NamedOperation). AllByRecursion (IsOfLocal env) (locals_among n.immediates)) same (of_locals (locals_among first.0) (all_made (naming env fs) o.immediates first.0 first.1))
+  where
+    unfaulted : (n id : ℕ) (r : Result ℕ IndexError) → env.local_of n ≡ r → with_fault Index r ≡ Ok id → env.local_of n ≡ Ok id
+    unfaulted n id (Ok m) e h = let one : m ≡ id = cc in e ∙ ap Ok one
+    unfaulted n id (Err f) e h = absurd cc
+
+    of_locals : (ms : List ℕ) → AllByRecursion (Made (naming env fs)) ms → AllByRecursion (IsOfLocal env) ms
+    of_locals [] h = tt
+    of_locals (m ∷ ms) h = ((h.0.0, unfaulted h.0.0 m (env.local_of h.0.0) refl h.0.1), of_locals ms h.1)

@@ -9,19 +9,19 @@ use Rattle.wasm_body.proofs.Translation.Steps.{bound}
 use Rattle.wasm_body.proofs.Translation.Kinds.{kind_in, kind_kept, through, at_once}
 
 -- the local that an immediate is, before others
-abbrev before : {L B : Type 0} → Immediate L B → List ℕ → List ℕ
+abbrev pub before : {L B : Type 0} → Immediate L B → List ℕ → List ℕ
 before (local n) ns = n ∷ ns
 before _ ns = ns
 
-first_local : {L B : Type 0} → (i : Immediate L B) (is : List (Immediate L B)) → locals_among (i ∷ is) ≡ before i (locals_among is)
+pub first_local : {L B : Type 0} → (i : Immediate L B) (is : List (Immediate L B)) → locals_among (i ∷ is) ≡ before i (locals_among is)
 first_local (local n) is = refl
 first_local _ is = refl
 
-abbrev IsNoLocal : Kind → Type 0
+abbrev pub IsNoLocal : Kind → Type 0
 IsNoLocal a_local = ⊥
 IsNoLocal _ = Unit {0}
 
-no_local : {L B : Type 0} → (i : Immediate L B) (ns : List ℕ) → IsNoLocal (kind_in i) → before i ns ≡ ns
+pub no_local : {L B : Type 0} → (i : Immediate L B) (ns : List ℕ) → IsNoLocal (kind_in i) → before i ns ≡ ns
 no_local (local n) ns h = absurd h
 no_local _ ns h = refl
 
