@@ -34,8 +34,13 @@ use Rattle.wasm_body.proofs.Bytes.NumberedBodies.{HasNumbers, HasText, translate
 use Rattle.wasm_body.proofs.Bytes.OtherLocals.{IsOfLocal, Has, named_locals, normal_has, same_block, same_bytes_at}
 use Rattle.wasm_body.proofs.Structure.Along.{AllMarked, each_of, each_reshown}
 use Rattle.walrus_body.specs.EmittedLocals.{HasUnknown}
+use Rattle.walrus_run.specs.RawBodies.{HasNoRawBody, unknown, undeclared, unwritten}
 use Rattle.walrus_run.specs.Demo.{demo_args, demo_locals, demo_environment, demo_numbers}
-use Rattle.walrus_run.proofs.DemoNumbers.{within, some_of, locals_are, demo_has_numbers}
+use Rattle.walrus_run.proofs.DemoNumbers.{within, some_of, locals_are, has_indices, has_blocks}
+
+not_ok : {A E : Type 0} (r : Result A E) (e : E) → IsOk r → r ≡ Err e → ⊥
+not_ok (Ok x) e h k = cc
+not_ok (Err g) e h k = cc h
 
 -- ---- lists
 
@@ -181,13 +186,16 @@ module _ (others : List ℕ) (few_others : length others ≤ 3) where
 
   full_has : HasNumbers demo_environment full
   full_has = record {
-    indices = demo_has_numbers.indices;
+    indices = has_indices;
     locals = λ n id at. fits id (number_of_local demo_args others id) refl;
-    blocks = λ b s t named picked. full_blocks t (demo_has_numbers.blocks b s t named picked);
+    blocks = λ b s t named picked. full_blocks t (has_blocks b s t named picked);
   }
 
   agree : (id : ℕ) → among id (demo_args ++ others) ≡ true → full.local_number id ≡ g id
   agree id h = let p = some_place (demo_args ++ others) id h in ap some_number p.1 ∙ sym (ap (λ o. some_or o UnnumberedLocal) p.1)
+
+none_fit : (let none : List ℕ = [] in length none) ≤ 3
+none_fit = omega arith
 
 -- ---- a body that is accepted
 
@@ -201,7 +209,7 @@ module _ (xs : List Occurrence) (b : Body Occurrence) (texts : AllByRecursion Ha
   all_named : (ys : List Occurrence) → AllMarked (NamedSomewhere demo_environment) (map mark ys) → AllMarked Q (map mark ys)
   all_named [] h = tt
   all_named (y ∷ ys) h =
-      (named_locals demo_environment h.0.0 y.spelt y.named (translated demo_environment demo_numbers demo_has_numbers h.0.0 y.spelt y.named h.0.1), all_named ys h.1)
+      (named_locals demo_environment h.0.0 y.spelt y.named (translated demo_environment (full [] none_fit) (full_has [] none_fit) h.0.0 y.spelt y.named h.0.1), all_named ys h.1)
 
   all_old : AllByRecursion (IsOfLocal demo_environment) (locals_of tree)
   all_old =
@@ -248,3 +256,9 @@ module _ (xs : List Occurrence) (b : Body Occurrence) (texts : AllByRecursion Ha
         (same_bytes_at to (g (ids_of others) few_ids) tree
         (all_among (λ id. to.local_number id ≡ g (ids_of others) few_ids id) (locals_of tree) (λ id used. agree (ids_of others) few_ids id (is_numbered id used))))
         (body_bytes_ok demo_environment to (full_has (ids_of others) few_ids) xs b texts lawful)
+
+  -- So it has a raw body.
+  pub has_raw_body : (e : EmitError) → HasNoRawBody (record { to = demo_numbers; types = demo_locals; args = demo_args }) tree e → ⊥
+  has_raw_body e (unknown is h) = none_unknown h
+  has_raw_body e (undeclared others d h) = not_ok (declared demo_numbers 1 others) e (can_declare others d) h
+  has_raw_body e (unwritten others declarations d h w) = not_ok (tree_bytes (with_locals demo_numbers demo_args (ids_of others)) tree) e (can_write others d) w

@@ -18,7 +18,7 @@ use Rattle.walrus_body.specs.IndexMaps.{ids_in, locals_in, with_locals, numbers_
 use Rattle.walrus_body.specs.Numbering.{pushed}
 use Rattle.walrus_body.proofs.NumberingLemmas.{get-numbered}
 use Rattle.walrus_body.specs.TreeWriting.Operators.{numbers_by}
-use Rattle.walrus_run.specs.Demo.{demo_indices, demo_local_numbers, demo_numbers}
+use Rattle.walrus_run.specs.Demo.{demo_indices, demo_numbers}
 
 -- what was put into a map is in it
 pub locals_in-with_locals : (function : ℕ) (ids : List ℕ) (m : IndicesToIds) → locals_in (with_locals function ids m) function ≡ ids
@@ -98,14 +98,13 @@ number_is m h space id =
 same_numbers : (f g : Space → ℕ → Result ℕ EmitError) → ((space : Space) (id : ℕ) → f space id ≡ g space id) → f ≡ g
 same_numbers f g h = fun_ext (λ space. fun_ext (λ id. h space id))
 
-all_are_demo : (m : IdsToIndices) (locals : List (ℕ × ℕ)) → IsEmptyMap m → from_entries locals ≡ demo_local_numbers → numbers_by (all_numbered m) locals ≡ demo_numbers
-all_are_demo m locals h are = λ i. record {
-  number_of = same_numbers _ _ (number_is m h) i;
-  local_number = λ id. some_or (get (are i) id) UnnumberedLocal;
-}
+none_numbered : (id : ℕ) → some_or (get (from_entries {R = nat_cmp} []) id) UnnumberedLocal ≡ Err UnnumberedLocal
+none_numbered id = ap (λ o. some_or o UnnumberedLocal) (grind (gets, rules))
+
+all_are_demo : (m : IdsToIndices) → IsEmptyMap m → numbers_by (all_numbered m) [] ≡ demo_numbers
+all_are_demo m h = λ i. record { number_of = same_numbers _ _ (number_is m h) i; local_number = λ id. none_numbered id i }
 
 -- what was numbered in three steps
-pub demo_numbers_are : (m n o p : IdsToIndices) → IsEmptyMap m → n ≡ types_numbered m → o ≡ functions_numbered n → p ≡ storage_numbered o →
-    (locals : List (ℕ × ℕ)) → from_entries locals ≡ demo_local_numbers → numbers_by p locals ≡ demo_numbers
-demo_numbers_are m n o p none types functions storage locals are =
-    ap (λ q. numbers_by q locals) (storage ∙ ap storage_numbered (functions ∙ ap functions_numbered types)) ∙ all_are_demo m locals none are
+pub demo_numbers_are : (m n o p : IdsToIndices) → IsEmptyMap m → n ≡ types_numbered m → o ≡ functions_numbered n → p ≡ storage_numbered o → numbers_by p [] ≡ demo_numbers
+demo_numbers_are m n o p none types functions storage =
+    ap (λ q. numbers_by q []) (storage ∙ ap storage_numbered (functions ∙ ap functions_numbered types)) ∙ all_are_demo m none

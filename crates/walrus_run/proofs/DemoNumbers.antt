@@ -119,32 +119,13 @@ has_block (FuncType n) s e = let id = bound (id_at demo_environment Types n) (fu
 
 -- ---- locals
 
-abbrev LocalNumbered : ℕ → Type 0
-LocalNumbered id = IsOk ((numbers_in_32_bits demo_numbers).local_number id)
-
-numbered_local : (id : ℕ) → get demo_local_numbers id ≡ Some id → is_ok (in_32_bits id) ≡ true → LocalNumbered id
-numbered_local id has fits = ap (λ n. is_ok (some_or n UnnumberedLocal >>= in_32_bits)) has ∙ fits
-
-locals_numbered : AllByRecursion LocalNumbered (0 ∷ 1 ∷ 2 ∷ 3 ∷ [])
-locals_numbered = (
-  numbered_local 0 (grind (gets, rules)) refl,
-  (
-    numbered_local 1 (grind (gets, rules)) refl,
-    (numbered_local 2 (grind (gets, rules)) refl, (numbered_local 3 (grind (gets, rules)) refl, tt)),
-  ),
-)
-
 pub locals_are : get demo_indices.locals 0 ≡ Some (0 ∷ 1 ∷ 2 ∷ 3 ∷ [])
 locals_are = grind (gets, rules)
 
-has_local : (n id : ℕ) → demo_environment.local_of n ≡ Ok id → LocalNumbered id
-has_local n id at =
-    let named = ap (λ o. some_or o (NoLocals 0) >>= λ locals. some_or (slice_get locals n) (LocalOutOfRange 0 n)) locals_are in
-    within LocalNumbered (0 ∷ 1 ∷ 2 ∷ 3 ∷ []) n id locals_numbered (some_of (slice_get (0 ∷ 1 ∷ 2 ∷ 3 ∷ []) n) (LocalOutOfRange 0 n) id (sym named ∙ at))
+-- ---- what has numbers
 
-pub demo_has_numbers : HasNumbers demo_environment demo_numbers
-demo_has_numbers = record {
-  indices = λ space n id at. ap is_ok (has_index space n id at);
-  locals = has_local;
-  blocks = λ b s t named pick. has_block b s named t pick;
-}
+pub has_indices : (space : Space) (n id : ℕ) → demo_environment.id_of space n ≡ Ok id → IsOk ((numbers_in_32_bits demo_numbers).number_of space id)
+has_indices space n id at = ap is_ok (has_index space n id at)
+
+pub has_blocks : (b : BlockType) (s : Signature) (t : InstrSeqType) → name_block demo_environment b ≡ Ok s → pick demo_types s ≡ Some t → IsOk (numbered_block demo_numbers t)
+has_blocks b s t named picked = has_block b s named t picked

@@ -1,17 +1,21 @@
 -- The raw body of a function: what its parts write, and why they don't.
-use Rattle.std.proofs.Common.{◌≡◌, ◌⊎◌, ◌++◌, ◌<◌, ◌^◌, ℕ, List, [], ◌∷◌, Bool, Option, Some, None, Result, Ok, Err, length, refl, sym, ap, subst, ◌∙◌, inl, inr, arith}
+use Rattle.std.proofs.Common.{◌≡◌, ◌⊎◌, ◌++◌, ◌+◌, ◌<◌, ◌≤◌, ◌^◌, ℕ, List, [], ◌∷◌, Bool, Option, Some, None, Result, Ok, Err, length, refl, sym, ap, subst, ◌∙◌, inl, inr, arith}
 use Rattle.std.specs.Prelude.{nat_lt, ◌&&◌, true, false, IsOk}
-use Rattle.std.specs.List.{list_all}
+use Rattle.std.specs.List.{list_all, AllByRecursion}
+use Rattle.std.proofs.lemmas.List.{length-append}
 use Rattle.walrus_ir.specs.declared.val_type.ValType.{ValType}
 use Rattle.walrus_ir.specs.Function.{Function}
 use Rattle.walrus_ir.specs.Results.{◌>>=◌, some_or, unless, each}
 use Rattle.walrus_ir.specs.Tree.{Tree}
 use Rattle.walrus_ir.specs.Unfolding.{SequenceAt, LocatedInstr, IsTree, among}
 use Rattle.walrus_ir.proofs.WalkLaws.{one_tree, tree_has_no_fault}
+use Rattle.wasm_ops.specs.Operations.{RawOperation}
+use Rattle.wasm_ops.specs.Shortest.{short}
 use Rattle.wasm_encode.specs.Declarations as encoded
 use Rattle.wasm_body.specs.declared.error.EmitError.{EmitError}
 use Rattle.wasm_body.specs.declared.error.EmitError.TheVariants.{Memory, TooLarge, UnnumberedLocal}
 use Rattle.wasm_body.specs.Bytes.{Numbers, numbered_text, bytes_of, tree_bytes}
+use Rattle.wasm_body.specs.Translation.{Located}
 use Rattle.wasm_body.specs.FunctionTree.{FunctionTree}
 use Rattle.wasm_body.specs.LocalNumbers.{Local, ids_of, AreDeclared, number_of_local, declaration, declarations, declared, runs, types_of, locals_of, uses_local, with_locals}
 use Rattle.wasm_body.specs.Pairs.{Pair, pairs_from, tree_pairs}
@@ -159,3 +163,33 @@ module _ (f : Function) (u : Tree SequenceAt LocatedInstr) (is_tree : IsTree f.s
     pub why_not : (e : EmitError) → Declines by used f e → Why e
     why_not e (not_begun h) = why_not_begun e h
     why_not e (not_written others ds a d h) = why_not_written e others ds a d h
+
+-- ---- the places of a raw body's pairs lie within it
+
+abbrev AreWithin : ℕ → List Pair → Type 0
+AreWithin end ps = AllByRecursion (λ (p : Pair). p.1 ≤ end) ps
+
+pairs_within : (xs : List (Located RawOperation)) (place end : ℕ) → place + length (bytes_of xs) ≤ end → AreWithin end (pairs_from place xs)
+pairs_within [] place end h = tt
+pairs_within (x ∷ xs) place end h =
+    let whole = length-append (short x.op) (bytes_of xs) in
+    (omega (arith, h), pairs_within xs (place + length (short x.op)) end (omega (arith, h, whole)))
+
+pub raw_pairs_within : (by : Given) (f : Function) (bytes : List ℕ) (pairs : List Pair) → IsRawBodyOf by f bytes pairs → AreWithin (length bytes) pairs
+raw_pairs_within by f bytes pairs r =
+    let w = r.is_raw_body in
+    let to = with_locals by.to by.args (ids_of w.others) in
+    let before = length (encoded.declarations w.declarations) in
+    let xs = bound (numbered_text to r.tree) (λ xs. Ok (pairs_from before xs)) pairs w.pairs_are in
+    let ys = bound (numbered_text to r.tree) (λ ys. Ok (bytes_of ys)) w.operators w.operators_are in
+    let one : xs.0 ≡ ys.0 = let both : Ok xs.0 ≡ Ok ys.0 = sym xs.1 ∙ ys.1 in cc in
+    let operators : bytes_of xs.0 ≡ w.operators = ap bytes_of one ∙ (let both : Ok (bytes_of ys.0) ≡ Ok w.operators = ys.2 in cc) in
+    let whole = ap length w.bytes_are ∙ length-append (encoded.declarations w.declarations) w.operators in
+    let fits : before + length (bytes_of xs.0) ≤ length bytes = omega (arith, whole, ap length operators) in
+    let same : pairs_from before xs.0 ≡ pairs = let both : Ok (pairs_from before xs.0) ≡ Ok pairs = xs.2 in cc in
+    subst (AreWithin (length bytes)) same (pairs_within xs.0 before (length bytes) fits)
+
+-- behind so many bytes they end below another place
+pub moved_within : (base end last : ℕ) (ps : List Pair) → base + last ≤ end → AreWithin last ps → AllByRecursion (λ (p : Pair). base + p.1 ≤ end) ps
+moved_within base end last [] h w = tt
+moved_within base end last (p ∷ ps) h w = (omega (arith, h, w.0), moved_within base end last ps h w.1)

@@ -1,20 +1,23 @@
 -- Bodies over the demo module: what is parsed is written, and what is answered is what is accepted.
-use Rattle.std.specs.Prelude.{◌≡◌, ◌⊎◌, ◌++◌, ◌<◌, ℕ, List, [], ◌∷◌, length, map, Option, Some, None, IsOk, IsErr, IfOk, IfErr, unwrap_or, Result, Ok, Err}
+use Rattle.std.specs.Prelude.{◌≡◌, ◌⊎◌, ◌++◌, ◌<◌, ℕ, List, [], ◌∷◌, length, drop, map, Option, Some, None, IsOk, IsErr, IfOk, IfErr, unwrap_or, Result, Ok, Err}
 use Rattle.std.specs.Borrow.{Bor}
 use Rattle.std.specs.Fn.{Shared}
 use Rattle.std.specs.List.{AllByRecursion}
 use Rattle.std.proofs.lemmas.Option.{slice_get_within}
-use Rattle.std.proofs.Common.{inl, inr, refl, sym, ap, subst, ◌∙◌}
+use Rattle.std.proofs.Common.{inl, inr, refl, sym, ap, subst, ◌∙◌, arith}
+use Rattle.std.proofs.Math.Seq.{drop-append_seam}
 use Rattle.walrus_ir.specs.declared.module.Module.{Module}
 use Rattle.walrus_ir.specs.declared.seq.InstrSeq.{InstrSeq}
+use Rattle.walrus_ir.specs.declared.error.WalkError.{WalkError}
+use Rattle.walrus_ir.specs.declared.error.WalkError.TheVariants as walk
 use Rattle.walrus_ir.specs.Function.{Function}
 use Rattle.walrus_ir.specs.Tree.{Sequences}
 use Rattle.walrus_ir.specs.Unfolding.{SequenceAt, LocatedInstr, AreSequences, are_sequences}
+use Rattle.walrus_ir.specs.Walk.{HasNoWalk}
 use Rattle.walrus_ir.proofs.WalkLaws.{one_tree, tree_has_no_fault}
 use Rattle.wasm_ops.specs.OperatorList.{Lists}
-use Rattle.wasm_ops.specs.Shortest.{short_unsigned}
 use Rattle.wasm_ops.proofs.ReadingBytes.{reading_agrees}
-use Rattle.wasm_encode.specs.Declarations.{declarations}
+use Rattle.wasm_encode.specs.Declarations as encoded
 use Rattle.wasm_body.specs.declared.error.EmitError.{EmitError}
 use Rattle.wasm_body.specs.declared.error.EmitError.TheVariants.{Memory}
 use Rattle.wasm_body.specs.declared.error.ParseError.TheVariants as parse
@@ -23,26 +26,31 @@ use Rattle.wasm_body.specs.SourceTree.{Body}
 use Rattle.wasm_body.specs.Naming.{Occurrence}
 use Rattle.wasm_body.specs.FunctionTree.{FunctionTree}
 use Rattle.wasm_body.specs.TreeOfFunction.{tree_of, HasTree}
-use Rattle.wasm_body.specs.NormalForm.{typing_of, normal_form, named_body}
+use Rattle.wasm_body.specs.NormalForm.{body_tree}
+use Rattle.wasm_body.specs.LocalNumbers.{ids_of, uses_local, AreDeclared, with_locals}
+use Rattle.wasm_body.specs.Pairs.{Pair}
 use Rattle.wasm_body.specs.Parsing.Accepted.{Accepted, FirstFault, placed}
 use Rattle.wasm_body.specs.Parsing.Lists.{parsed}
-use Rattle.wasm_body.specs.Bytes.{Numbers, tree_bytes}
+use Rattle.wasm_body.specs.Bytes.{tree_bytes}
 use Rattle.wasm_body.proofs.Parsing.Answers.{accepted_parsed, fault_parsed}
-use Rattle.wasm_body.proofs.Bytes.NumberedBodies.{HasText, body_bytes_ok}
+use Rattle.wasm_body.proofs.Bytes.NumberedBodies.{HasText}
 use Rattle.walrus_body.specs.declared.indices_to_ids.IndicesToIds.{IndicesToIds}
+use Rattle.walrus_body.specs.Facts.{count}
 use Rattle.walrus_body.specs.LocalFunctions.{first_slot, HasEntry}
 use Rattle.walrus_body.specs.Parsing.Bodies.{ParseInput, input_of, setting_with, IsFunction, AcceptsBody}
 use Rattle.walrus_body.specs.Parsing.Settings.{BothOrNone}
-use Rattle.walrus_body.specs.TreeWriting.EmittedInstructions.{IsUnemitted}
-use Rattle.walrus_body.specs.TreeWriting.Trees.{AppendsBytes}
+use Rattle.walrus_body.specs.Sizes.{IsTooLarge}
+use Rattle.walrus_body.proofs.LocalsOfTrees.{count_of_tree}
 use Rattle.walrus_run.specs.declared.error.RewriteError.{RewriteError}
 use Rattle.walrus_run.specs.declared.error.RewriteError.TheVariants.{Parse}
-use Rattle.walrus_run.specs.Demo.{demo_module, demo_indices, demo_environment, demo, demo_numbers}
-use Rattle.walrus_run.specs.Rewriting.{IsNormalBytes, IsRewritten, WantsMemory, IsFaulty}
-use Rattle.walrus_run.proofs.DemoNumbers.{demo_has_numbers}
+use Rattle.walrus_run.specs.Demo.{demo_module, demo_indices, demo_locals, demo_args, demo_environment, demo, demo_numbers}
+use Rattle.walrus_run.specs.RawBodies.{Given, IsRawBodyOf, HasNoRawBody}
+use Rattle.walrus_run.specs.Rewriting.{IsNormalBytes, IsRewritten, IsParsed, WantsMemory, IsFaulty}
+use Rattle.walrus_run.proofs.Counts.{few_instructions}
+use Rattle.walrus_run.proofs.DemoLocals.{has_raw_body}
 
 abbrev pub demo_tree : Body Occurrence → FunctionTree
-demo_tree b = normal_form (typing_of demo_environment) (named_body b)
+demo_tree b = body_tree demo_environment b
 
 -- ---- what is accepted can be written
 
@@ -51,11 +59,8 @@ listed_texts : (xs : List Occurrence) (place : ℕ) (bytes rest : List ℕ) → 
 listed_texts [] place bytes rest l = tt
 listed_texts (x ∷ xs) place bytes rest l = ((l.1, l.4), listed_texts xs _ l.2 rest l.5)
 
-texts : (ops : List ℕ) (b : Body Occurrence) (a : Accepted demo ops b) → AllByRecursion HasText a.operators
-texts ops b a = listed_texts a.operators _ ops [] a.all.spelt
-
-pub accepted_written : (ops : List ℕ) (b : Body Occurrence) → Accepted demo ops b → IsOk (tree_bytes demo_numbers (demo_tree b))
-accepted_written ops b a = body_bytes_ok demo_environment demo_numbers demo_has_numbers a.operators b (texts ops b a) a.lawful
+pub accepted_texts : (ops : List ℕ) (b : Body Occurrence) (a : Accepted demo ops b) → AllByRecursion HasText a.operators
+accepted_texts ops b a = listed_texts a.operators _ ops [] a.all.spelt
 
 -- ---- a function with a tree
 
@@ -82,26 +87,52 @@ module _ (f : Function) (t : FunctionTree) (has : IsFunction f t) where
   pub one_tree_of : (u : FunctionTree) → IsFunction f u → u ≡ t
   one_tree_of u k = one_function f.sequences 0 u t k.holds has.holds
 
-  -- ---- what is written of it
+-- ---- a function that a parse over the demo module made
 
-  no_declarations : (bytes : List ℕ) → declarations [] ++ bytes ≡ 0 ∷ bytes
-  unfolding short_unsigned
-  no_declarations bytes = refl
+abbrev pub demo_given : Given
+demo_given = record { to = demo_numbers; types = demo_locals; args = demo_args }
 
-  module _ (to : Numbers) where
-    pub bytes_behind : (old new : List ℕ) → old ≡ declarations [] → AppendsBytes f.sequences (first_slot f) to old new → (bytes : List ℕ) × (tree_bytes to t ≡ Ok bytes) × (new ≡ 0 ∷ bytes)
-    bytes_behind old new none x =
-        let same = one_function f.sequences (first_slot f) x.tree t x.has_tree from_slot in
-        (x.bytes, ap (tree_bytes to) (sym same) ∙ x.bytes_are, x.appends ∙ ap (λ o. o ++ x.bytes) none ∙ no_declarations x.bytes)
+module _ (f : Function) (p : IsParsed f) where
+  abbrev tree : FunctionTree
+  tree = demo_tree p.body
 
-    -- a tree with bytes is refused for want of memory alone
-    pub wants_memory : IsOk (tree_bytes to t) → (e : EmitError) →
-        IsUnemitted f to e → e ≡ Memory
-    wants_memory ok e (inl memory) = memory
-    wants_memory ok e (inr (inl walk)) = absurd (tree_has_no_fault f.sequences (first_slot f) from_slot.unfolded walk.0 from_slot.is_tree walk.1)
-    wants_memory ok e (inr (inr fault)) =
-        let same = one_function f.sequences (first_slot f) fault.0 t fault.1 from_slot in
-        absurd (not_ok (tree_bytes to t) e ok (ap (tree_bytes to) (sym same) ∙ fault.2))
+  pub its_tree : HasTree f.sequences (first_slot f) tree
+  its_tree = from_slot f tree p.is_function
+
+  pub parsed_begins : HasEntry f
+  parsed_begins = begins f tree p.is_function
+
+  -- its facts are gathered, want of memory aside
+  pub no_walk : (w : WalkError) → HasNoWalk f.sequences (first_slot f) w ⊎ IsTooLarge f.sequences (first_slot f) w → w ≡ walk.Memory
+  no_walk w (inl (inl memory)) = memory
+  no_walk w (inl (inr fault)) = absurd (tree_has_no_fault f.sequences (first_slot f) its_tree.unfolded w its_tree.is_tree fault)
+  no_walk w (inr large) =
+      let t = large.1 in
+      let same = one_function f.sequences (first_slot f) (tree_of t.tree) tree (record { unfolded = t.tree; is_tree = t.is_tree; is = refl }) its_tree in
+      let counted = sym (count_of_tree t.tree) ∙ ap (λ (u : FunctionTree). count u.items) same in
+      let bounded = few_instructions demo_environment p.accepted.operators p.body 0 p.ops p.accepted.all.spelt p.accepted.lawful.is_body in
+      absurd (omega (arith, t.holds, counted, bounded, p.few))
+
+  -- and it has a raw body
+  pub no_fault : (e : EmitError) → (e ≡ Memory) ⊎ ((t : FunctionTree) × HasTree f.sequences (first_slot f) t × HasNoRawBody demo_given t e) → e ≡ Memory
+  no_fault e (inl memory) = memory
+  no_fault e (inr h) =
+      let same = one_function f.sequences (first_slot f) h.0 tree h.1 its_tree in
+      absurd (has_raw_body p.accepted.operators p.body (accepted_texts p.ops p.body p.accepted) p.accepted.lawful e (subst (λ t. HasNoRawBody demo_given t e) same h.2))
+
+  -- of which the bytes behind the declarations are those of the normal form
+  pub normal_bytes : (raw : List ℕ) (pairs : List Pair) (r : IsRawBodyOf demo_given f raw pairs) (out : List ℕ) → out ≡ drop (length (encoded.declarations r.is_raw_body.declarations)) raw
+      → (b : Body Occurrence) → IsFunction f (demo_tree b) → IsNormalBytes b out
+  normal_bytes raw pairs r out is b has =
+      let same = one_function f.sequences (first_slot f) r.tree (demo_tree b) r.has_tree (from_slot f (demo_tree b) has) in
+      let w = r.is_raw_body in
+      let declared = encoded.declarations w.declarations in
+      let written = is ∙ (ap (λ l. drop (length declared) l) w.bytes_are ∙ drop-append_seam declared w.operators) in
+      record {
+        others = w.others;
+        are_declared = subst (λ t. AreDeclared demo_locals demo_args (uses_local t) w.others) same w.are_declared;
+        bytes_are = subst (λ t. tree_bytes (with_locals demo_numbers demo_args (ids_of w.others)) t ≡ Ok w.operators) same w.operators_are ∙ ap Ok (sym written);
+      }
 
 -- ---- over the demo module
 

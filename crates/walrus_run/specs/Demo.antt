@@ -1,12 +1,10 @@
 -- The demo module, over which the program parses and writes bodies.
 use Rattle.std.specs.Prelude.{ℕ, nat_lt, List, [], ◌∷◌, length, Ok, Err, if◌then◌else◌}
-use Rattle.std.specs.Ordering.{nat_cmp}
-use Rattle.std.specs.FinMap.{FinMap, empty, insert, get}
+use Rattle.std.specs.FinMap.{empty, insert}
 use Rattle.walrus_ir.specs.declared.val_type.ValType.{ValType}
 use Rattle.walrus_ir.specs.declared.val_type.ValType.TheVariants.{I32, I64}
 use Rattle.walrus_ir.specs.declared.module.Module.{Module}
 use Rattle.walrus_ir.specs.Types.{ModuleType, Func, Entry}
-use Rattle.walrus_ir.specs.Results.{some_or}
 use Rattle.wasm_body.specs.declared.error.EmitError.TheVariants.{Index, UnnumberedLocal}
 use Rattle.wasm_body.specs.declared.error.IndexError.TheVariants.{Unnumbered}
 use Rattle.walrus_body.specs.declared.indices_to_ids.IndicesToIds.{IndicesToIds}
@@ -55,13 +53,9 @@ demo = accepting demo_environment 0
 abbrev pub demo_args : List ℕ
 demo_args = 0 ∷ []
 
--- The number of each local is its old index.
-abbrev pub demo_local_numbers : FinMap nat_cmp ℕ
-demo_local_numbers = insert (insert (insert (insert empty 0 0) 1 1) 2 2) 3 3
-
--- The number of an id is its old index.
+-- The number of an id is its old index. Locals have the numbers that their use gives them.
 abbrev pub demo_numbers : Numbers
 demo_numbers = record {
   number_of = λ space id. if nat_lt id (length (ids_in demo_indices space)) then Ok id else Err (Index (Unnumbered space));
-  local_number = λ id. some_or (get demo_local_numbers id) UnnumberedLocal;
+  local_number = λ id. Err UnnumberedLocal;
 }

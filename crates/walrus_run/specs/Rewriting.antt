@@ -1,5 +1,6 @@
 -- Rewriting a body over the demo module.
-use Rattle.std.specs.Prelude.{◌≡◌, ℕ, List, Ok}
+use Rattle.std.specs.Prelude.{◌≡◌, ◌<◌, ◌^◌, ℕ, List, length, Ok}
+use Rattle.walrus_ir.specs.Function.{Function}
 use Rattle.walrus_ir.specs.declared.error.WalkError.TheVariants as walk
 use Rattle.wasm_body.specs.declared.error.ParseError.TheVariants as parse
 use Rattle.wasm_body.specs.declared.error.EmitError.TheVariants as emit
@@ -7,19 +8,31 @@ use Rattle.wasm_body.specs.declared.error.ParseFailure.{ParseFailure}
 use Rattle.wasm_body.specs.SourceTree.{Body}
 use Rattle.wasm_body.specs.Naming.{Occurrence}
 use Rattle.wasm_body.specs.Parsing.Accepted.{Accepted, FirstFault}
-use Rattle.wasm_body.specs.NormalForm.{typing_of, normal_form, named_body}
+use Rattle.wasm_body.specs.NormalForm.{body_tree}
+use Rattle.wasm_body.specs.LocalNumbers.{Local, ids_of, uses_local, AreDeclared, with_locals}
 use Rattle.wasm_body.specs.Bytes.{tree_bytes}
+use Rattle.walrus_body.specs.Parsing.Bodies.{IsFunction}
 use Rattle.walrus_run.specs.declared.error.RewriteError.{RewriteError}
 use Rattle.walrus_run.specs.declared.error.RewriteError.TheVariants.{Parse, Walk, Emit}
-use Rattle.walrus_run.specs.Demo.{demo_environment, demo, demo_numbers}
+use Rattle.walrus_run.specs.Demo.{demo_locals, demo_args, demo_environment, demo, demo_numbers}
 
--- The bytes are those of the body's normal form.
-abbrev pub IsNormalBytes : Body Occurrence → List ℕ → Type 0
-IsNormalBytes b out = tree_bytes demo_numbers (normal_form (typing_of demo_environment) (named_body b)) ≡ Ok out
+-- The bytes are those of the body's normal form, with its locals numbered by their use.
+pub record IsNormalBytes (b : Body Occurrence) (out : List ℕ) : Type 0 where
+  pub others : List Local
+  pub are_declared : AreDeclared demo_locals demo_args (uses_local (body_tree demo_environment b)) others
+  pub bytes_are : tree_bytes (with_locals demo_numbers demo_args (ids_of others)) (body_tree demo_environment b) ≡ Ok out
 
 -- The operators are accepted as a body, and these are the bytes of its normal form.
 abbrev pub IsRewritten : List ℕ → List ℕ → Type 0
 IsRewritten ops out = (b : Body Occurrence) × Accepted demo ops b × IsNormalBytes b out
+
+-- The function is one that a parse over the demo module makes of some operators.
+pub record IsParsed (f : Function) : Type 0 where
+  pub ops : List ℕ
+  pub few : length ops < 2 ^ 64
+  pub body : Body Occurrence
+  pub accepted : Accepted demo ops body
+  pub is_function : IsFunction f (body_tree demo_environment body)
 
 -- memory ran out
 abbrev pub WantsMemory : RewriteError → Type 0

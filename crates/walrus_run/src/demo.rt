@@ -1,17 +1,17 @@
 //! The demo module, over which the program parses and writes bodies.
-ghost use Rattle.std.specs.Prelude.{◌≡◌, ℕ, List, [], ◌∷◌, None, IfOk, IfErr, OnOk};
+ghost use Rattle.std.specs.Prelude.{◌≡◌, [], ◌∷◌, None, IfOk, IfErr, OnOk};
 ghost use Rattle.std.specs.FinMap as map;
 ghost use Rattle.wasm_body.specs.declared.error.IndexError.TheVariants.{Memory};
 ghost use Rattle.wasm_ops.specs.declared.types.Space.TheVariants.{Tables, Types, Funcs, Globals, Memories, Elements, Data, Tags};
 ghost use Rattle.walrus_body.specs.IndexMaps.{no_ids, ids_in, with_ids_in, with_locals, numbers_in, with_numbers};
 ghost use Rattle.walrus_body.specs.Numbering.{pushed};
 ghost use Rattle.walrus_body.specs.TreeWriting.Operators.{numbers_by};
-ghost use Rattle.walrus_run.specs.Demo.{demo_module, demo_indices, demo_local_numbers, demo_numbers};
+ghost use Rattle.walrus_run.specs.Demo.{demo_module, demo_indices, demo_numbers};
 
 use std::alloc::{AllocError, Global};
 use walrus_body::{IdsToIndices, IndexError, IndicesToIds};
 use walrus_ir::{
-    DataId, ElementId, FunctionId, GlobalId, IdHashMap, LocalId, MemoryId, Module, ModuleLocals,
+    DataId, ElementId, FunctionId, GlobalId, LocalId, MemoryId, Module, ModuleLocals,
     ModuleTags, ModuleTypes, TableId, TagId, TypeId, ValType,
 };
 
@@ -171,26 +171,12 @@ fn number_storage(numbers: &mut IdsToIndices) -> Result<(), IndexError>
 
 /// Its new indices, which are the old ones.
 pub(crate) fn numbers(alloc: Global) -> Result<IdsToIndices, IndexError>
-    ensures ok { IfOk result (λ m. (locals : List (ℕ × ℕ))
-        → map.from_entries locals ≡ demo_local_numbers → numbers_by m locals ≡ demo_numbers) }
+    ensures ok { IfOk result (λ m. numbers_by m [] ≡ demo_numbers) }
     ensures err { IfErr result (λ e. e ≡ Memory) }
 {
     let mut numbers = IdsToIndices::new(alloc);
     number_types(&mut numbers)?;
     number_funcs_and_tags(&mut numbers)?;
     number_storage(&mut numbers)?;
-    Ok(numbers)
-}
-
-/// The numbers of its locals, which are their old indices.
-pub(crate) fn local_numbers(alloc: Global) -> Result<IdHashMap<LocalId, u32>, IndexError>
-    ensures ok { IfOk result (λ m. map.from_entries m.entries ≡ demo_local_numbers) }
-    ensures err { IfErr result (λ e. e ≡ Memory) }
-{
-    let mut numbers = IdHashMap::new(alloc);
-    numbers.insert(LocalId::new(0), 0)?;
-    numbers.insert(LocalId::new(1), 1)?;
-    numbers.insert(LocalId::new(2), 2)?;
-    numbers.insert(LocalId::new(3), 3)?;
     Ok(numbers)
 }

@@ -15,7 +15,7 @@ use wasm_encode::FunctionEncoder;
 /// # Errors
 ///
 /// Those of `LocalFunction::emit_locals`.
-fn begin_body(
+pub(crate) fn begin_body(
     alloc: Global,
     function: &LocalFunction,
     used: &IdHashSet<LocalId>,

@@ -1,51 +1,64 @@
 //! Rewriting a body.
-ghost use Rattle.std.specs.Prelude.{◌≡◌, ◌⊎◌, Ok, Err, IfOk, IfErr, IsOk, IsErr};
+ghost use Rattle.std.specs.Prelude.{◌≡◌, ◌⊎◌, ◌≤◌, [], length, drop, IfOk, IfErr, IsErr};
 ghost use Rattle.wasm_body.specs.declared.error.ParseFailure.{ParseFailure as Failure};
-ghost use Rattle.wasm_body.specs.declared.error.EmitError.TheVariants.{Memory};
 ghost use Rattle.wasm_body.specs.SourceTree.{Body};
 ghost use Rattle.wasm_body.specs.Naming.{Occurrence};
+ghost use Rattle.wasm_body.specs.NormalForm.{body_tree};
 ghost use Rattle.wasm_body.specs.Parsing.Accepted.{Accepted, FirstFault};
-ghost use Rattle.wasm_body.specs.FunctionTree.{FunctionTree};
-ghost use Rattle.wasm_body.specs.Bytes.{tree_bytes};
 ghost use Rattle.walrus_body.specs.Parsing.Bodies.{IsFunction};
 ghost use Rattle.walrus_body.specs.TreeWriting.Operators.{numbers_by};
 ghost use Rattle.walrus_run.specs.declared.error.RewriteError.TheVariants.{Parse};
-ghost use Rattle.walrus_run.specs.Demo.{demo, demo_module, demo_indices, demo_numbers};
-ghost use Rattle.walrus_run.specs.Rewriting.{IsNormalBytes, IsRewritten, WantsMemory, IsFaulty};
+ghost use Rattle.walrus_run.specs.Demo.{demo, demo_module, demo_indices, demo_args, demo_environment, demo_numbers};
+ghost use Rattle.walrus_run.specs.Rewriting.{IsNormalBytes, IsRewritten, IsParsed, WantsMemory, IsFaulty};
 
 use crate::demo;
 use crate::error::RewriteError;
-use std::alloc::Global;
+use crate::raw_body::begin_body;
+use std::alloc::{AllocError, Global};
 use walrus_body::{AcceptAll, EmitError, FunctionBody, IdsToIndices, IndicesToIds, LocalFunction};
-use walrus_ir::{FunctionId, IdHashMap, InstrLocId, LocalId, Module, TypeId};
+use walrus_ir::{FunctionId, InstrLocId, LocalId, Module, TypeId};
 use wasm_encode::FunctionEncoder;
 
-/// The operators of a function that has a tree and can be written with these new indices and these
-/// numbers of locals.
+/// What stands behind the first bytes of an encoder.
+fn behind(alloc: Global, encoder: &FunctionEncoder, count: usize) -> Result<Vec<u8>, AllocError>
+    requires { count ≤ length encoder.now }
+    ensures { IfOk result (λ out. out.items ≡ drop count encoder.now) }
+{
+    let mut bytes = Vec::new(alloc);
+    bytes.extend_from_slice(&encoder.bytes()[count..])?;
+    Ok(bytes)
+}
+
+/// The operators of a function that a parse over the demo module made, with its locals numbered by
+/// their use.
 fn written_operators(
     alloc: Global,
     function: &LocalFunction,
+    module: &Module,
     numbers: &IdsToIndices,
-    locals: &IdHashMap<LocalId, u32>,
-) -> Result<Vec<u8>, EmitError>
-    requires { (t : FunctionTree) × IsFunction function.now.builder t
-        × IsOk (tree_bytes (numbers_by numbers.now locals.now.entries) t) }
-    ensures ok { IfOk result (λ out. (t : FunctionTree) → IsFunction function.now.builder t
-        → tree_bytes (numbers_by numbers.now locals.now.entries) t ≡ Ok out.items) }
-    ensures err { IfErr result (λ e. e ≡ Memory) }
+) -> Result<Vec<u8>, RewriteError>
+    requires module_is { «module».now ≡ demo_module }
+    requires numbers_are { numbers_by numbers.now [] ≡ demo_numbers }
+    requires args_are { function.now.args ≡ demo_args }
+    requires is_parsed { IsParsed function.now.builder }
+    ensures ok { IfOk result (λ out. (b : Body Occurrence)
+        → IsFunction function.now.builder (body_tree demo_environment b)
+        → IsNormalBytes b out.items) }
+    ensures err { IfErr result WantsMemory }
 {
-    let mut encoder = match FunctionEncoder::new(alloc, &[]) {
-        Ok(encoder) => encoder,
-        Err(_) => return Err(EmitError::Memory),
+    let facts = match function.emit_facts() {
+        Ok(facts) => facts,
+        Err(fault) => return Err(RewriteError::Walk(fault)),
     };
-    match function.emit_instructions(numbers, locals, &mut encoder, None) {
-        Ok(()) => {
-            let mut bytes = encoder.into_raw_body();
-            // The count of declarations, which is 0.
-            bytes.remove(0);
-            Ok(bytes)
-        }
-        Err(error) => Err(error),
+    let used = &facts.used_locals;
+    let (mut encoder, locals) = match begin_body(alloc, function, used, module, numbers) {
+        Ok(made) => made,
+        Err(fault) => return Err(RewriteError::Emit(fault)),
+    };
+    let declared = encoder.byte_len();
+    match function.emit_instructions(numbers, &locals, &mut encoder, None) {
+        Ok(()) => Ok(behind(alloc, &encoder, declared)?),
+        Err(fault) => Err(RewriteError::Emit(fault)),
     }
 }
 
@@ -55,12 +68,11 @@ fn rewrite(
     module: &Module,
     indices: &IndicesToIds,
     numbers: &IdsToIndices,
-    locals: &IdHashMap<LocalId, u32>,
     ops: &[u8],
 ) -> Result<Vec<u8>, RewriteError>
     requires module_is { «module».now ≡ demo_module }
     requires indices_are { indices.now ≡ demo_indices }
-    requires numbers_are { numbers_by numbers.now locals.now.entries ≡ demo_numbers }
+    requires numbers_are { numbers_by numbers.now [] ≡ demo_numbers }
     ensures ok { IfOk result (λ out. IsRewritten ops.now out.items) }
     ensures err { IfErr result (λ e. WantsMemory e ⊎ IsFaulty ops.now e) }
 {
@@ -69,30 +81,30 @@ fn rewrite(
         start: 0,
         ops: 0,
     };
+    let mut args = Vec::new(alloc);
+    args.push(LocalId::new(0))?;
     let mut instrs = Vec::new(alloc);
     let parsed = LocalFunction::parse(
         module,
         indices,
         FunctionId::new(0),
         TypeId::new(1),
-        Vec::new(alloc),
+        args,
         body,
         None::<&fn(&usize) -> InstrLocId>,
         AcceptAll,
         &mut instrs,
     );
     match parsed {
-        Ok(function) => match written_operators(alloc, &function, numbers, locals) {
-            Ok(bytes) => Ok(bytes),
-            Err(error) => Err(RewriteError::Emit(error)),
-        },
+        Ok(function) => written_operators(alloc, &function, module, numbers),
         Err(failure) => Err(RewriteError::Parse(failure)),
     }
 }
 
 /// Rewrites the operators of a body over the demo module: they are parsed as the body of its
-/// function 0, which begins at place 0, and the tree is written again with the same indices. The
-/// answer is the written operators, without declarations of locals.
+/// function 0, which begins at place 0, and the tree is written again with the same indices, and
+/// with the locals numbered by their use. The answer is that of `rewrite_body` without the
+/// declarations of locals.
 ///
 /// # Errors
 ///
@@ -112,8 +124,5 @@ pub fn rewrite_demo(alloc: Global, ops: &[u8]) -> Result<Vec<u8>, RewriteError>
     let (Ok(indices), Ok(numbers)) = (demo::indices(alloc), demo::numbers(alloc)) else {
         return Err(RewriteError::Emit(EmitError::Memory));
     };
-    let Ok(locals) = demo::local_numbers(alloc) else {
-        return Err(RewriteError::Emit(EmitError::Memory));
-    };
-    rewrite(alloc, &module, &indices, &numbers, &locals, ops)
+    rewrite(alloc, &module, &indices, &numbers, ops)
 }
