@@ -21,8 +21,10 @@ fn moved_pairs(
     ensures { IfOk result (λ made. made.items ≡ map (moved base) pairs.now) }
 {
     let mut made = Vec::new(alloc);
-    for (location, place) in pairs {
+    let mut left = pairs;
+    'left: while let Some(((location, place), behind)) = left.split_first() {
         made.push((*location, base + *place))?;
+        left = behind;
     }
     Ok(made)
 }

@@ -82,7 +82,9 @@ fn rewrite(
         ops: 0,
     };
     let mut args = Vec::new(alloc);
-    args.push(LocalId::new(0))?;
+    if args.push(LocalId::new(0)).is_err() {
+        return Err(RewriteError::Emit(EmitError::Memory));
+    }
     let mut instrs = Vec::new(alloc);
     let parsed = LocalFunction::parse(
         module,
