@@ -1,5 +1,5 @@
 -- The index maps of the demo module: locals that are put in one after the other, and numbers that are given in turn.
-use Rattle.std.specs.Prelude.{◌≡◌, ℕ, zero, suc, nat_lt, List, [], ◌∷◌, length, Bool, true, false, Some, None, if◌then◌else◌, Result, Ok, Err}
+use Rattle.std.specs.Prelude.{◌≡◌, ℕ, zero, suc, nat_lt, List, [], ◌∷◌, length, Bool, true, false, Option, Some, None, if◌then◌else◌, Result, Ok, Err}
 use Rattle.std.proofs.Common.{refl, ap, sym, ◌∙◌, rules, arith}
 use Rattle.std.proofs.Math.Path.{fun_ext}
 use Rattle.std.proofs.lemmas.Bool.Decides.{nat_tests}
@@ -98,8 +98,11 @@ number_is m h space id =
 same_numbers : (f g : Space → ℕ → Result ℕ EmitError) → ((space : Space) (id : ℕ) → f space id ≡ g space id) → f ≡ g
 same_numbers f g h = fun_ext (λ space. fun_ext (λ id. h space id))
 
-none_numbered : (id : ℕ) → some_or (get (from_entries {R = nat_cmp} []) id) UnnumberedLocal ≡ Err UnnumberedLocal
-none_numbered id = ap (λ o. some_or o UnnumberedLocal) (grind (gets, rules))
+abbrev no_local : Option ℕ → Result ℕ EmitError
+no_local o = some_or o UnnumberedLocal
+
+none_numbered : (id : ℕ) → no_local (get (from_entries {R = nat_cmp} []) id) ≡ Err UnnumberedLocal
+none_numbered id = let none : get (from_entries {R = nat_cmp} []) id ≡ None = grind (gets, rules) in ap no_local none
 
 all_are_demo : (m : IdsToIndices) → IsEmptyMap m → numbers_by (all_numbered m) [] ≡ demo_numbers
 all_are_demo m h = λ i. record { number_of = same_numbers _ _ (number_is m h) i; local_number = λ id. none_numbered id i }

@@ -23,7 +23,7 @@ use Rattle.wasm_body.specs.declared.error.IndexError.TheVariants.{NoLocals, Loca
 use Rattle.wasm_body.specs.Bytes.{in_32_bits, numbers_in_32_bits, numbered_block}
 use Rattle.wasm_body.proofs.Translation.Steps.{bound}
 use Rattle.wasm_body.proofs.Bytes.NumberedBodies.{HasNumbers}
-use Rattle.walrus_run.specs.Demo.{demo_types, demo_indices, demo_environment, demo_local_numbers, demo_numbers}
+use Rattle.walrus_run.specs.Demo.{demo_types, demo_indices, demo_environment, demo_numbers}
 
 -- ---- ids of old indices
 

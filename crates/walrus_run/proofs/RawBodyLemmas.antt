@@ -67,7 +67,7 @@ module _ (out : IdsToIndices) (types : List (ValType ℕ)) (args : List ℕ) (us
     abbrev numbered : numbers_by out entries ≡ with_locals (numbers_by out []) args (ids_of b.declares.others)
     numbered = same_numbers out entries args (ids_of b.declares.others) b.declares.numbers_are
 
-    pub writes : (IsWritten : Numbers → List ℕ → Type 0) → IsWritten (numbers_by out entries) encoder → Writes by used IsWritten
+    abbrev pub writes : (IsWritten : Numbers → List ℕ → Type 0) → IsWritten (numbers_by out entries) encoder → Writes by used IsWritten
     writes IsWritten h = record {
       others = b.declares.others;
       are_declared = b.declares.are_declared;
@@ -94,17 +94,17 @@ module _ (f : Function) (u : Tree SequenceAt LocatedInstr) (is_tree : IsTree f.s
   pub has_tree : HasTree f.sequences (first_slot f) (tree_of u)
   has_tree = record { unfolded = u; is_tree = is_tree; is = refl }
 
-  only_tree : (t : FunctionTree) → HasTree f.sequences (first_slot f) t → t ≡ tree_of u
+  pub only_tree : (t : FunctionTree) → HasTree f.sequences (first_slot f) t → t ≡ tree_of u
   only_tree t h = sym h.is ∙ ap tree_of (one_tree f.sequences (first_slot f) h.unfolded u h.is_tree is_tree)
 
   used_is : used ≡ uses_local (tree_of u)
   used_is = λ k. λ l. (used_are l ∙ ap (λ ls. among l ls) (sym (locals_of_tree u))) k
 
   module _ (by : Given) where
-    declared_so : (others : List Local) → AreDeclared by.types by.args used others → AreDeclared by.types by.args (uses_local (tree_of u)) others
+    pub declared_so : (others : List Local) → AreDeclared by.types by.args used others → AreDeclared by.types by.args (uses_local (tree_of u)) others
     declared_so others h = subst (λ (g : ℕ → Bool). AreDeclared by.types by.args g others) used_is h
 
-    its_raw_body : (others : List Local) (ds : List (ℕ × ValType ℕ)) → AreDeclared by.types by.args (uses_local (tree_of u)) others → declared by.to (length by.args) others ≡ Ok ds
+    abbrev its_raw_body : (others : List Local) (ds : List (ℕ × ValType ℕ)) → AreDeclared by.types by.args (uses_local (tree_of u)) others → declared by.to (length by.args) others ≡ Ok ds
         → (operators bytes : List ℕ) (pairs : List Pair) → tree_bytes (with_locals by.to by.args (ids_of others)) (tree_of u) ≡ Ok operators
         → bytes ≡ encoded.declarations ds ++ operators → tree_pairs (with_locals by.to by.args (ids_of others)) (tree_of u) (length (encoded.declarations ds)) ≡ Ok pairs
         → IsRawBodyOf by f bytes pairs
@@ -124,7 +124,7 @@ module _ (f : Function) (u : Tree SequenceAt LocatedInstr) (is_tree : IsTree f.s
     }
 
     -- without a list of pairs
-    pub of_bytes : (bytes : List ℕ) → WritesBytes by used f bytes → (ps : List Pair) × IsRawBodyOf by f bytes ps
+    abbrev pub of_bytes : (bytes : List ℕ) → WritesBytes by used f bytes → (ps : List Pair) × IsRawBodyOf by f bytes ps
     of_bytes bytes w =
         let to = with_locals by.to by.args (ids_of w.others) in
         let made = w.is_written in

@@ -35,16 +35,19 @@ use Rattle.wasm_body.specs.Bytes.{tree_bytes}
 use Rattle.wasm_body.proofs.Parsing.Answers.{accepted_parsed, fault_parsed}
 use Rattle.wasm_body.proofs.Bytes.NumberedBodies.{HasText}
 use Rattle.walrus_body.specs.declared.indices_to_ids.IndicesToIds.{IndicesToIds}
+use Rattle.walrus_body.specs.declared.ids_to_indices.IdsToIndices.{IdsToIndices}
 use Rattle.walrus_body.specs.Facts.{count}
+use Rattle.walrus_body.specs.FunctionParts.{FunctionParts}
 use Rattle.walrus_body.specs.LocalFunctions.{first_slot, HasEntry}
 use Rattle.walrus_body.specs.Parsing.Bodies.{ParseInput, input_of, setting_with, IsFunction, AcceptsBody}
 use Rattle.walrus_body.specs.Parsing.Settings.{BothOrNone}
 use Rattle.walrus_body.specs.Sizes.{IsTooLarge}
+use Rattle.walrus_body.specs.TreeWriting.Operators.{numbers_by}
 use Rattle.walrus_body.proofs.LocalsOfTrees.{count_of_tree}
 use Rattle.walrus_run.specs.declared.error.RewriteError.{RewriteError}
 use Rattle.walrus_run.specs.declared.error.RewriteError.TheVariants.{Parse}
 use Rattle.walrus_run.specs.Demo.{demo_module, demo_indices, demo_locals, demo_args, demo_environment, demo, demo_numbers}
-use Rattle.walrus_run.specs.RawBodies.{Given, IsRawBodyOf, HasNoRawBody}
+use Rattle.walrus_run.specs.RawBodies.{Given, given, IsRawBodyOf, HasNoRawBody}
 use Rattle.walrus_run.specs.Rewriting.{IsNormalBytes, IsRewritten, IsParsed, WantsMemory, IsFaulty}
 use Rattle.walrus_run.proofs.Counts.{few_instructions}
 use Rattle.walrus_run.proofs.DemoLocals.{has_raw_body}
@@ -121,18 +124,25 @@ module _ (f : Function) (p : IsParsed f) where
       absurd (has_raw_body p.accepted.operators p.body (accepted_texts p.ops p.body p.accepted) p.accepted.lawful e (subst (λ t. HasNoRawBody demo_given t e) same h.2))
 
   -- of which the bytes behind the declarations are those of the normal form
-  pub normal_bytes : (raw : List ℕ) (pairs : List Pair) (r : IsRawBodyOf demo_given f raw pairs) (out : List ℕ) → out ≡ drop (length (encoded.declarations r.is_raw_body.declarations)) raw
-      → (b : Body Occurrence) → IsFunction f (demo_tree b) → IsNormalBytes b out
-  normal_bytes raw pairs r out is b has =
-      let same = one_function f.sequences (first_slot f) r.tree (demo_tree b) r.has_tree (from_slot f (demo_tree b) has) in
+  pub normal_bytes : (g : Given) → g ≡ demo_given → (raw : List ℕ) (pairs : List Pair) (r : IsRawBodyOf g f raw pairs) (out : List ℕ)
+      → out ≡ drop (length (encoded.declarations r.is_raw_body.declarations)) raw → (b : Body Occurrence) → IsFunction f (demo_tree b) → IsNormalBytes b out
+  normal_bytes g same raw pairs r out is b has =
+      let tree_is = one_function f.sequences (first_slot f) r.tree (demo_tree b) r.has_tree (from_slot f (demo_tree b) has) in
       let w = r.is_raw_body in
       let declared = encoded.declarations w.declarations in
       let written = is ∙ (ap (λ l. drop (length declared) l) w.bytes_are ∙ drop-append_seam declared w.operators) in
       record {
         others = w.others;
-        are_declared = subst (λ t. AreDeclared demo_locals demo_args (uses_local t) w.others) same w.are_declared;
-        bytes_are = subst (λ t. tree_bytes (with_locals demo_numbers demo_args (ids_of w.others)) t ≡ Ok w.operators) same w.operators_are ∙ ap Ok (sym written);
+        are_declared = subst (λ (h : Given). AreDeclared h.types h.args (uses_local (demo_tree b)) w.others) same (subst (λ t. AreDeclared g.types g.args (uses_local t) w.others) tree_is w.are_declared);
+        bytes_are =
+            subst (λ (h : Given). tree_bytes (with_locals h.to h.args (ids_of w.others)) (demo_tree b) ≡ Ok w.operators) same
+            (subst (λ t. tree_bytes (with_locals g.to g.args (ids_of w.others)) t ≡ Ok w.operators) tree_is w.operators_are)
+            ∙ ap Ok (sym written);
       }
+
+-- what the demo module's functions are written with
+pub same_given : (out : IdsToIndices) (m : Module) (f : FunctionParts) → numbers_by out [] ≡ demo_numbers → m ≡ demo_module → f.args ≡ demo_args → given out m f ≡ demo_given
+same_given out m f numbers module_is args = λ k. record { to = numbers k; types = (module_is k).locals; args = args k }
 
 -- ---- over the demo module
 

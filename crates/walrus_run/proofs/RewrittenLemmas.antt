@@ -33,7 +33,7 @@ use Rattle.wasm_body.proofs.NormalForm.StandingFor.{text_stands_for}
 use Rattle.walrus_body.specs.Facts.{count}
 use Rattle.walrus_body.specs.declared.ids_to_indices.IdsToIndices.{IdsToIndices}
 use Rattle.walrus_body.specs.FunctionParts.{FunctionParts}
-use Rattle.walrus_body.specs.LocalFunctions.{first_slot}
+use Rattle.walrus_body.specs.LocalFunctions.{first_slot, HasEntry}
 use Rattle.walrus_body.specs.Parsing.Bodies.{ParseInput, AreGiven, AcceptsBody, RefusesBody, mapped_by}
 use Rattle.walrus_body.specs.Parsing.Settings.{BothOrNone, locations_in}
 use Rattle.walrus_body.specs.TreeWriting.EmittedInstructions.{LentPairs, Left}
@@ -44,7 +44,7 @@ use Rattle.walrus_run.specs.declared.error.RewriteError.TheVariants.{Parse, Walk
 use Rattle.walrus_run.specs.RawBodies.{Given, IsRawBody, HasNoRawBody, IsRawBodyOf, AppendsPairs, AppendsBytes, AppendsBoth, IsUnappended, IsUnfinished, given}
 use Rattle.walrus_run.specs.RewrittenBodies.{KeepsSource, Rewrites, IsAcceptedAs, RefusesRewriting, IsOfWriting}
 use Rattle.walrus_run.specs.Rewriting.{WantsMemory}
-use Rattle.walrus_run.proofs.RewritingLemmas.{one_function, from_slot}
+use Rattle.walrus_run.proofs.RewritingLemmas.{one_function, from_slot, begins}
 
 -- operators that bytes list have spellings
 listed_spelt : (xs : List Occurrence) (place : ℕ) (bytes rest : List ℕ) → Lists (map placed xs) place bytes rest → AllByRecursion HasSpelling xs
@@ -120,7 +120,7 @@ module _ {S F : Type 0} (asks : Shared F (Bor ℕ × Unit {0}) ℕ) (i : ParseIn
   by = record { to = numbers_by out []; types = m.locals; args = args }
 
   by_is : (p : FunctionParts) → p.args ≡ args → given out m p ≡ by
-  by_is p e = ap (λ as. (let g : Given = record { to = numbers_by out []; types = m.locals; args = as } in g)) e
+  by_is p e = ap (λ list. (let g : Given = record { to = numbers_by out []; types = m.locals; args = list } in g)) e
 
   abbrev Accepts : FunctionParts → Type 0
   Accepts p = AcceptsBody asks i p.builder p.instruction_mapping
@@ -133,22 +133,45 @@ module _ {S F : Type 0} (asks : Shared F (Bor ℕ × Unit {0}) ℕ) (i : ParseIn
       rewrites asks i by p.builder p.instruction_mapping a old new (Some list) (inr (inl (left, tt))) w.raw w.pairs h w.appends w.appends_pairs
 
   pub without_map : {Z : Type 0} (p : FunctionParts) → p.args ≡ args → Accepts p → (old new : List ℕ) → AppendsBytes (given out m p) p.builder old new
-      → Rewrites {Z = Z} asks i by p.builder p.instruction_mapping old new None (inl tt)
+      → Rewrites asks i by {Z = Z} p.builder p.instruction_mapping old new None (inl tt)
   without_map p e a old new w =
       let h = subst (λ g. IsRawBodyOf g p.builder w.raw w.pairs) (by_is p e) w.is_raw_body in
       rewrites asks i by p.builder p.instruction_mapping a old new None (inl tt) w.raw w.pairs h w.appends tt
 
-  pub refuses_all : (r : Result FunctionParts ParseFailure) → IfOk r Accepts → IfErr r (RefusesBody asks i) → IfOk r (λ p. p.args ≡ args) → (e : RewriteError)
+  pub all_with_map : {Z : Type 0} (r : Result FunctionParts ParseFailure) (s : Result FunctionParts RewriteError) → IfOk r Accepts → IfOk r (λ p. p.args ≡ args)
+      → (old new : List ℕ) (list left : LentPairs Z) → IfOk s (λ made. (r ≡ Ok made) × AppendsBoth (given out m made) made.builder old new list.now.items left.now.items)
+      → IfOk s (λ made. Rewrites asks i by made.builder made.instruction_mapping old new (Some list) (inr (inl (left, tt))))
+  all_with_map r (Err e) a g old new list left h = tt
+  all_with_map r (Ok made) a g old new list left h =
+      with_map made (subst (λ q. IfOk q (λ p. p.args ≡ args)) h.0 g) (subst (λ q. IfOk q Accepts) h.0 a) old new list left h.1
+
+  pub all_without_map : (Z : Type 0) (r : Result FunctionParts ParseFailure) (s : Result FunctionParts RewriteError) → IfOk r Accepts → IfOk r (λ p. p.args ≡ args)
+      → (old new : List ℕ) → IfOk s (λ made. (r ≡ Ok made) × AppendsBytes (given out m made) made.builder old new)
+      → IfOk s (λ made. Rewrites asks i by {Z = Z} made.builder made.instruction_mapping old new None (inl tt))
+  all_without_map Z r (Err e) a g old new h = tt
+  all_without_map Z r (Ok made) a g old new h =
+      without_map {Z = Z} made (subst (λ q. IfOk q (λ p. p.args ≡ args)) h.0 g) (subst (λ q. IfOk q Accepts) h.0 a) old new h.1
+
+  pub begins_all : (r : Result FunctionParts ParseFailure) → IfOk r Accepts → IfOk r (λ p. HasEntry p.builder)
+  begins_all (Ok p) a = begins p.builder (body_tree i.environment a.body) a.is_function
+  begins_all (Err f) a = tt
+
+  refuses_all : (r : Result FunctionParts ParseFailure) → IfOk r Accepts → IfErr r (RefusesBody asks i) → IfOk r (λ p. p.args ≡ args) → (e : RewriteError)
       → IsUnfinished (given out m) r e → RefusesRewriting asks i by e
   refuses_all (Ok p) a f g e h = refuses asks i by p.builder p.instruction_mapping a e (subst (λ b. IsUnappended b p.builder e) (by_is p g) h)
   refuses_all (Err p) a f g e h = subst (RefusesRewriting asks i by) (sym h) f
 
+  pub refused_all : (r : Result FunctionParts ParseFailure) → IfOk r Accepts → IfErr r (RefusesBody asks i) → IfOk r (λ p. p.args ≡ args)
+      → (s : Result FunctionParts RewriteError) → IfErr s (IsUnfinished (given out m) r) → IfErr s (RefusesRewriting asks i by)
+  refused_all r a f g (Ok made) h = tt
+  refused_all r a f g (Err e) h = refuses_all r a f g e h
+
   -- a fault of the parse is answered
   pub faults_all : (r : Result FunctionParts ParseFailure) (p : ParseFailure) → IsErr r × IfErr r (λ q. (q.error ≡ parse.Memory) ⊎ (q ≡ p))
-      → (s : Result FunctionParts RewriteError) → IfOk s (λ made. r ≡ Ok made) → IfErr s (IsUnfinished (given out m) r) → IsErr s × IfErr s (λ e. WantsMemory e ⊎ (e ≡ Parse p))
-  faults_all (Ok q) p h s ok err = absurd (let no = h.0 in cc)
-  faults_all (Err q) p h (Ok made) ok err = absurd cc
-  faults_all (Err q) p h (Err e) ok err = (refl, of_fault h.1)
+      → (P : FunctionParts → Type 0) (s : Result FunctionParts RewriteError) → IfOk s (λ made. (r ≡ Ok made) × P made) → IfErr s (IsUnfinished (given out m) r) → IsErr s × IfErr s (λ e. WantsMemory e ⊎ (e ≡ Parse p))
+  faults_all (Ok q) p h P s ok err = absurd (let no = h.0 in cc)
+  faults_all (Err q) p h P (Ok made) ok err = absurd (let no = ok.0 in cc)
+  faults_all (Err q) p h P (Err e) ok err = (refl, of_fault h.1)
     where
       of_fault : (q.error ≡ parse.Memory) ⊎ (q ≡ p) → WantsMemory e ⊎ (e ≡ Parse p)
       of_fault (inl memory) = inl (subst WantsMemory (sym err) memory)

@@ -1,4 +1,4 @@
-use Rattle.std.proofs.Common.{rules, arith, ◌==◌, ◌≡◌, ◌⊎◌, ◌++◌, ◌+◌, ◌≤◌, length, map, inl, inr, ap, sym, subst, ◌∙◌}
+use Rattle.std.proofs.Common.{rules, arith, ◌==◌, ◌≡◌, ◌++◌, ◌+◌, ◌≤◌, length, map, inl, inr, ap, sym, subst, ◌∙◌}
 use Rattle.std.specs.HashSet.{contains}
 use Rattle.std.specs.List.{AllByRecursion}
 use Rattle.wasm_body.specs.Pairs.{Pair}

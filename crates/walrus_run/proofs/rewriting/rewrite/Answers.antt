@@ -1,30 +1,31 @@
-use Rattle.std.proofs.Common.{◌≡◌, Ok, sym, subst}
-use Rattle.std.specs.Prelude.{IsOk}
-use Rattle.wasm_body.specs.Bytes.{tree_bytes}
-use Rattle.walrus_run.proofs.RewritingLemmas.{demo_tree, demo_accepts, demo_refuses, accepted_written}
+use Rattle.std.proofs.Common.{rules, inl, ◌⊎◌, ◌<◌, ◌^◌, length}
+use Rattle.walrus_run.specs.Rewriting.{IsNormalBytes, IsRewritten, WantsMemory, IsFaulty}
+use Rattle.walrus_run.proofs.RewritingLemmas.{demo_tree, demo_accepts, demo_refuses, if_ok, if_err}
+use Rattle.wasm_body.specs.SourceTree.{Body}
+use Rattle.wasm_body.specs.Naming.{Occurrence}
+use Rattle.walrus_body.specs.Parsing.Bodies.{IsFunction}
 use Rattle.walrus_run.proofs.rewriting.rewrite.Goals as goal
 
-pub written_operators-requires : goal.written_operators-requires
-written_operators-requires c =
+pub written_operators-requires-clause-is_parsed : goal.written_operators-requires-clause-is_parsed
+written_operators-requires-clause-is_parsed c =
     let a = c.args in
     let made = c.in-Ok.function in
-    let x = demo_accepts _ a.module.now a.indices.now c.new.result c.new-2.result c.requires.module_is c.requires.indices_are c.new.ensures c.new-2.ensures a.ops.now made.builder made.instruction_mapping c.in-Ok.ensures.accepted in (
-      demo_tree x.0,
-      x.2,
-      subst (λ n. IsOk (tree_bytes n (demo_tree x.0))) (sym c.requires.numbers_are) (accepted_written a.ops.now x.0 x.1),
-    )
+    let x = demo_accepts _ a.module.now a.indices.now c.new-2.result c.new-3.result c.requires.module_is c.requires.indices_are c.new-2.ensures c.new-3.ensures a.ops.now made.builder made.instruction_mapping c.in-Ok.ensures.accepted in
+    let few : length a.ops.now < 2 ^ 64 = search rules in
+    record { ops = a.ops.now; few = few; body = x.0; accepted = x.1; is_function = x.2 }
 
-pub returns-in-Ok-written_operators-clause-ok : goal.returns-in-Ok-written_operators-clause-ok
-returns-in-Ok-written_operators-clause-ok c =
+pub returns-in-Ok-clause-ok : goal.returns-in-Ok-clause-ok
+returns-in-Ok-clause-ok c =
     let a = c.args in
     let made = c.in-Ok.function in
-    let x = demo_accepts _ a.module.now a.indices.now c.new.result c.new-2.result c.requires.module_is c.requires.indices_are c.new.ensures c.new-2.ensures a.ops.now made.builder made.instruction_mapping c.in-Ok.ensures.accepted in (
-      x.0,
-      x.1,
-      subst (λ n. tree_bytes n (demo_tree x.0) ≡ Ok c.in-Ok-written_operators.bytes.items) c.requires.numbers_are (c.in-Ok-written_operators.ensures.ok (demo_tree x.0) x.2),
-    )
+    let x = demo_accepts _ a.module.now a.indices.now c.new-2.result c.new-3.result c.requires.module_is c.requires.indices_are c.new-2.ensures c.new-3.ensures a.ops.now made.builder made.instruction_mapping c.in-Ok.ensures.accepted in
+    if_ok (λ out. (b : Body Occurrence) → IsFunction made.builder (demo_tree b) → IsNormalBytes b out.items) (λ out. IsRewritten a.ops.now out.items) (λ out h. (x.0, x.1, h x.0 x.2))
+    c.written_operators.result c.written_operators.ensures.ok
+
+pub returns-in-Ok-clause-err : goal.returns-in-Ok-clause-err
+returns-in-Ok-clause-err c = if_err WantsMemory (λ e. WantsMemory e ⊎ IsFaulty c.args.ops.now e) (λ e h. inl h) c.written_operators.result c.written_operators.ensures.err
 
 pub returns-clause-err : goal.returns-clause-err
 returns-clause-err c =
     let a = c.args in
-    demo_refuses a.module.now a.indices.now c.new.result c.new-2.result c.requires.module_is c.requires.indices_are c.new.ensures c.new-2.ensures a.ops.now c.in-Err.failure c.in-Err.ensures.refused
+    demo_refuses a.module.now a.indices.now c.new-2.result c.new-3.result c.requires.module_is c.requires.indices_are c.new-2.ensures c.new-3.ensures a.ops.now c.in-Err.failure c.in-Err.ensures.refused

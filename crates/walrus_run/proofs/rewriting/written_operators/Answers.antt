@@ -1,38 +1,63 @@
-use Rattle.std.proofs.Common.{rules, ◌≡◌, sym, ap, subst, ◌∙◌, Ok, ◌∷◌, List, ◌<◌, length, drop, arith}
-use Rattle.std.specs.Prelude.{vec_len, ℕ}
-use Rattle.wasm_body.specs.Bytes.{tree_bytes}
-use Rattle.walrus_body.specs.TreeWriting.Operators.{numbers_by}
-use Rattle.walrus_run.proofs.RewritingLemmas.{begins, bytes_behind, one_tree_of, wants_memory}
+use Rattle.std.proofs.Common.{◌==◌, ◌≡◌, ◌⊎◌, length, drop, ap, subst, ◌∙◌}
+use Rattle.std.specs.HashSet.{contains}
+use Rattle.wasm_body.specs.declared.error.EmitError.TheVariants.{Memory}
+use Rattle.wasm_body.specs.FunctionTree.{FunctionTree}
+use Rattle.wasm_body.specs.TreeOfFunction.{HasTree}
+use Rattle.walrus_body.specs.LocalFunctions.{first_slot}
+use Rattle.walrus_body.specs.TreeWriting.Trees.{AppendsBytes}
+use Rattle.walrus_run.specs.RawBodies.{Given, given, HasNoRawBody, not_begun}
+use Rattle.walrus_run.proofs.RawBodyLemmas.{writes, declines, of_bytes, why_not}
+use Rattle.walrus_run.proofs.RewritingLemmas.{parsed_begins, no_walk, no_fault, same_given, normal_bytes}
 use Rattle.walrus_run.proofs.rewriting.written_operators.Goals as goal
 
-pub emit_instructions-requires : goal.emit_instructions-requires
-emit_instructions-requires c =
-    let r = c.requires in
-    begins c.args.function.now.builder r.0 r.1
+pub emit_facts-requires : goal.emit_facts-requires
+emit_facts-requires c = parsed_begins c.args.function.now.builder c.requires.is_parsed
 
-pub remove-requires : goal.remove-requires
-remove-requires c =
-    let f = c.args.function.now.builder in
+pub emit_instructions-requires : goal.emit_instructions-requires
+emit_instructions-requires c = parsed_begins c.args.function.now.builder c.requires.is_parsed
+
+pub returns-in-Err-clause-err : goal.returns-in-Err-clause-err
+returns-in-Err-clause-err c = no_walk c.args.function.now.builder c.requires.is_parsed c.in-Err.fault c.in-Err.ensures.err
+
+pub returns-in-Err-begin_body-clause-err : goal.returns-in-Err-begin_body-clause-err
+returns-in-Err-begin_body-clause-err c =
+    let a = c.args in
     let r = c.requires in
-    let to = numbers_by c.args.numbers.now c.args.locals.now.entries in
-    let written = bytes_behind f r.0 r.1 to c.in-Ok.encoder c.emit_instructions.new.dst c.in-Ok.ensures c.in-Ok-emit_instructions.ensures.ok in
-    let items = c.into_raw_body-bytes.ensures ∙ written.2 in
-    let filled : 0 < length c.into_raw_body-bytes.result.items = subst (λ (l : List ℕ). 0 < length l) (sym items) (let n : 0 < length (0 ∷ written.0) = omega arith in n) in
-    let len : length c.into_raw_body-bytes.result.items ≡ vec_len c.into_raw_body-bytes.result = search rules in
-    subst (λ n. 0 < n) len filled
+    let f = a.function.now.builder in
+    let found = c.in-Ok.ensures.ok in
+    let e = c.in-Err-begin_body.fault in
+    let why = why_not f found.tree found.is_tree (contains (λ x y. x == y) c.in-Ok.facts.used_locals) found.holds.used_locals
+    (given a.numbers.now a.module.now a.function.now) e (not_begun c.in-Err-begin_body.ensures.err) in
+    no_fault f r.is_parsed e
+    (subst (λ (g : Given). (e ≡ Memory) ⊎ ((t : FunctionTree) × HasTree f.sequences (first_slot f) t × HasNoRawBody g t e)) (same_given a.numbers.now a.module.now a.function.now r.numbers_are r.module_is r.args_are) why)
+
+pub returns-clause-err : goal.returns-clause-err
+returns-clause-err c =
+    let a = c.args in
+    let r = c.requires in
+    let f = a.function.now.builder in
+    let found = c.in-Ok.ensures.ok in
+    let used = contains (λ x y. x == y) c.in-Ok.facts.used_locals in
+    let made = c.in-Ok-begin_body.made in
+    let e = c.in-Err-emit_instructions.fault in
+    let declined = declines a.numbers.now a.module.now.locals a.function.now.args used f made.0 made.1.entries c.in-Ok-begin_body.ensures.ok e c.in-Err-emit_instructions.ensures.err in
+    let why = why_not f found.tree found.is_tree used found.holds.used_locals (given a.numbers.now a.module.now a.function.now) e declined in
+    no_fault f r.is_parsed e
+    (subst (λ (g : Given). (e ≡ Memory) ⊎ ((t : FunctionTree) × HasTree f.sequences (first_slot f) t × HasNoRawBody g t e)) (same_given a.numbers.now a.module.now a.function.now r.numbers_are r.module_is r.args_are) why)
 
 pub returns-in-Ok-emit_instructions-clause-ok : goal.returns-in-Ok-emit_instructions-clause-ok
-returns-in-Ok-emit_instructions-clause-ok c = λ t has.
-    let f = c.args.function.now.builder in
+returns-in-Ok-emit_instructions-clause-ok c b has =
+    let a = c.args in
     let r = c.requires in
-    let to = numbers_by c.args.numbers.now c.args.locals.now.entries in
-    let written = bytes_behind f r.0 r.1 to c.in-Ok.encoder c.emit_instructions.new.dst c.in-Ok.ensures c.in-Ok-emit_instructions.ensures.ok in
-    ap (tree_bytes to) (one_tree_of f r.0 r.1 t has) ∙ written.1
-    ∙ ap Ok (sym (c.remove.ensures.items ∙ ap (λ l. drop 1 l) (c.into_raw_body-bytes.ensures ∙ written.2)))
-
-pub returns-in-Err-emit_instructions-clause-err : goal.returns-in-Err-emit_instructions-clause-err
-returns-in-Err-emit_instructions-clause-err c =
-    let f = c.args.function.now.builder in
-    let r = c.requires in
-    let to = numbers_by c.args.numbers.now c.args.locals.now.entries in
-    wants_memory f r.0 r.1 to r.2 c.in-Err-emit_instructions.error c.in-Err-emit_instructions.ensures.err
+    let f = a.function.now.builder in
+    let found = c.in-Ok.ensures.ok in
+    let used = contains (λ x y. x == y) c.in-Ok.facts.used_locals in
+    let made = c.in-Ok-begin_body.made in
+    let begins = c.in-Ok-begin_body.ensures.ok in
+    let bytes = c.emit_instructions.new.dst in
+    let written = writes a.numbers.now a.module.now.locals a.function.now.args used f made.0 made.1.entries begins
+    (λ to old. AppendsBytes f.sequences (first_slot f) to old bytes) c.in-Ok-emit_instructions.ensures.ok in
+    let raw = of_bytes f found.tree found.is_tree used found.holds.used_locals (given a.numbers.now a.module.now a.function.now) bytes written in
+    normal_bytes f r.is_parsed (given a.numbers.now a.module.now a.function.now) (same_given a.numbers.now a.module.now a.function.now r.numbers_are r.module_is r.args_are)
+    bytes raw.0 raw.1 c.in_ok-behind-in-Ok-emit_instructions.field-0.items
+    (c.in_ok-behind-in-Ok-emit_instructions.ensures ∙ ap (λ n. drop n bytes) (c.byte_len-declared.ensures ∙ ap length begins.encoder_is)) b has
