@@ -3,5 +3,3 @@ mod DemoMaps
 mod DemoNumbers
 -- what is parsed, and what is written of it
 mod RewritingLemmas
-mod RawBodyLemmas
-mod RewrittenLemmas

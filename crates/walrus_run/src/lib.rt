@@ -5,14 +5,11 @@ mod demo;
 mod error;
 mod names;
 mod program;
-mod raw_body;
 mod rewriting;
-mod whole_body;
 
 pub use error::RewriteError;
 pub use program::run_words;
 pub use rewriting::rewrite_demo;
-pub use whole_body::rewrite_body;
 pub use walrus_body::{
     law_accepted_again, law_executions, law_inverse_undoes, law_locations, law_read_back,
 };
