@@ -3,11 +3,17 @@
 
 mod demo;
 mod error;
+mod named_body;
+mod named_op;
 mod names;
 mod program;
 mod rewriting;
 
 pub use error::RewriteError;
+pub use named_body::NamedBody;
+pub use named_op::{
+    NamedBlockType, NamedCast, NamedCatch, NamedImmediates, NamedIndex, NamedMemArg, NamedOp,
+};
 pub use program::run_words;
 pub use rewriting::rewrite_demo;
 pub use walrus_body::{
