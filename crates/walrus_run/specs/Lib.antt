@@ -4,3 +4,4 @@ pub mod Rewriting
 -- operators and bodies as they are named
 pub mod NamedOperators
 pub mod NamedBodies
+pub mod Namers

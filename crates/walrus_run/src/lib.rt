@@ -6,6 +6,7 @@ mod error;
 mod named_body;
 mod named_op;
 mod names;
+mod naming;
 mod program;
 mod rewriting;
 
