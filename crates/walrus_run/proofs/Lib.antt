@@ -3,3 +3,6 @@ mod DemoMaps
 mod DemoNumbers
 -- what is parsed, and what is written of it
 mod RewritingLemmas
+-- the operators of an accepted body are read and named
+mod Naming
+mod Reading

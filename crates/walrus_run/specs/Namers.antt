@@ -1,5 +1,5 @@
 -- Naming operators one by one, wherever they stand: an operator of an accepted body has the name that it has there.
-use Rattle.std.specs.Prelude.{◌≡◌, ℕ, List, [], map, Ok}
+use Rattle.std.specs.Prelude.{◌≡◌, ℕ, List, [], ◌∷◌, ◌++◌, map, Ok}
 use Rattle.std.specs.List.{AllByRecursion}
 use Rattle.walrus_ir.specs.Results.{with_fault}
 use Rattle.walrus_ir.specs.Types.{Signature}
@@ -9,9 +9,10 @@ use Rattle.wasm_ops.specs.Position.{Position}
 use Rattle.wasm_body.specs.declared.error.ParseError.{ParseError}
 use Rattle.wasm_body.specs.declared.error.ParseError.TheVariants.{Index}
 use Rattle.wasm_body.specs.Translation.{Translation, translate}
-use Rattle.wasm_body.specs.Naming.{Environment, Occurrence, id_at, name_block}
+use Rattle.wasm_body.specs.Naming.{Environment, NamedOperation, Occurrence, id_at, name_block}
 use Rattle.wasm_body.specs.Parsing.Accepted.{placed}
 use Rattle.walrus_body.specs.Environments.{environment_of}
+use Rattle.walrus_run.specs.NamedBodies.{BodyNames}
 use Rattle.walrus_run.specs.declared.naming.Namer.{Namer}
 
 abbrev pub env_of : Namer → Environment
@@ -38,3 +39,7 @@ HasName env x = translate (anywhere env) x.spelt ≡ Ok x.named
 pub record AreLeft (env : Environment) (at : Position) (xs : List Occurrence) : Type 0 where
   pub spelt : Lists (map placed xs) at.place at.rest []
   pub named : AllByRecursion (HasName env) xs
+
+-- one operator more is read, of this name and at this place
+abbrev pub with_next : BodyNames → NamedOperation → (place : ℕ) → BodyNames
+with_next b named place = record { operators = b.operators ++ named ∷ []; places = b.places ++ place ∷ [] }

@@ -1,5 +1,5 @@
 //! Bodies as their modules name them.
-ghost use Rattle.std.specs.Prelude.{◌≡◌, ◌⊎◌, ◌≤◌, ◌<◌, ◌+◌, ◌++◌, ◌∷◌, [], ◌^◌, ℕ, List, length, map, slice_get, IfOk, IfErr, IsErr, OnOk};
+ghost use Rattle.std.specs.Prelude.{◌≡◌, ◌⊎◌, ◌≤◌, ◌<◌, ◌+◌, ◌∷◌, ◌^◌, ℕ, List, length, map, slice_get, IfOk, IfErr, IsErr, OnOk};
 ghost use Rattle.wasm_body.specs.declared.error.ParseError.{ParseError as ParseFault};
 ghost use Rattle.wasm_body.specs.declared.error.ParseFailure.{ParseFailure as Failure};
 ghost use Rattle.wasm_body.specs.SourceTree.{Body};
@@ -9,7 +9,7 @@ ghost use Rattle.walrus_body.specs.Parsing.Bodies.{body_operators};
 ghost use Rattle.walrus_body.specs.Parsing.Settings.{operators_of};
 ghost use Rattle.walrus_run.specs.NamedOperators.{named_operation};
 ghost use Rattle.walrus_run.specs.NamedBodies.{names_of, reading};
-ghost use Rattle.walrus_run.specs.Namers.{env_of, AreLeft};
+ghost use Rattle.walrus_run.specs.Namers.{env_of, AreLeft, with_next};
 
 use crate::named_op::NamedOp;
 use crate::naming::Namer;
@@ -147,28 +147,26 @@ impl NamedBody {
 
     /// Takes the next operator that a reader has before it.
     fn take(&mut self, namer: &Namer<'_>, reader: &mut Reader<'_>) -> Result<(), ParseError>
-        ensures { (x : Occurrence) (xs : List Occurrence)
+        ensures takes { (x : Occurrence) (xs : List Occurrence)
             → AreLeft (env_of namer.now) reader.old (x ∷ xs)
             → IfErr result (λ e. e ≡ ParseFault.Memory)
             × OnOk result (AreLeft (env_of namer.now) reader.new xs
-            × (self.new ≡ record {
-              operators = self.old.operators ++ x.named ∷ [];
-              places = self.old.places ++ x.place ∷ [];
-            })) }
+            × (self.new ≡ with_next self.old x.named x.place)) }
+        ensures moves { OnOk result (length reader.new.rest < length reader.old.rest) }
     {
         let at = reader.original_position();
-        match namer.next(reader) {
-            Ok(operator) => self.push(operator, at),
-            Err(error) => Err(error),
+        match reader.read() {
+            Ok(operator) => match namer.name(&operator) {
+                Ok(operator) => self.push(operator, at),
+                Err(error) => Err(error),
+            },
+            Err(error) => Err(ParseError::Read(error)),
         }
     }
 
     /// Appends an operator and its place. After a refusal it is used no more.
     fn push(&mut self, operator: NamedOp, place: usize) -> Result<(), ParseError>
-        ensures ok { OnOk result (self.new ≡ record {
-          operators = self.old.operators ++ named_operation operator ∷ [];
-          places = self.old.places ++ place ∷ [];
-        }) }
+        ensures ok { OnOk result (self.new ≡ with_next self.old (named_operation operator) place) }
         ensures err { IfErr result (λ e. e ≡ ParseFault.Memory) }
     {
         self.operators.push(operator)?;

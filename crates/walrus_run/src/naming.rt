@@ -1,5 +1,5 @@
 //! How operators are named: indices are looked up in the order in which they are written.
-ghost use Rattle.std.specs.Prelude.{◌≡◌, ◌⊎◌, ◌∷◌, List, map, IfOk, IfErr, Ok, Err};
+ghost use Rattle.std.specs.Prelude.{◌≡◌, ◌⊎◌, map, IfOk, IfErr, Ok, Err};
 ghost use Rattle.walrus_ir.specs.Results.{Gives, each};
 ghost use Rattle.walrus_ir.specs.Types.{signature};
 ghost use Rattle.wasm_ops.specs.AccessOperations.{access_of};
@@ -8,11 +8,11 @@ ghost use Rattle.wasm_ops.specs.Operations.{index as an_index};
 ghost use Rattle.wasm_ops.specs.Parts.{immediates_of};
 ghost use Rattle.wasm_ops.specs.ReferenceOperations.{cast_of};
 ghost use Rattle.wasm_body.specs.declared.error.ParseError.{ParseError as ParseFault};
-ghost use Rattle.wasm_body.specs.Naming.{Occurrence, name_block};
+ghost use Rattle.wasm_body.specs.Naming.{name_block};
 ghost use Rattle.wasm_body.specs.Translation.{translate, translate_access, translate_cast, translate_clause, translate_immediate, translate_immediates};
 ghost use Rattle.walrus_body.specs.Parsing.BodyParsers.{GivesOrMemory};
 ghost use Rattle.walrus_run.specs.NamedOperators.{named_index, named_access, named_block, named_clause, named_cast, named_immediates, named_operation};
-ghost use Rattle.walrus_run.specs.Namers.{env_of, anywhere, AreLeft};
+ghost use Rattle.walrus_run.specs.Namers.{env_of, anywhere};
 
 use crate::named_op::{
     NamedBlockType, NamedCast, NamedCatch, NamedImmediates, NamedIndex, NamedMemArg, NamedOp,
@@ -21,7 +21,7 @@ use std::alloc::Global;
 use walrus_body::{IndicesToIds, ParseError, heap_type_of, value_type};
 use walrus_ir::{FunctionId, Module, TypeId, ValType};
 use wasm_ops::{
-    BlockType, BrTable, CatchList, Immediates, Operator, RawCast, RawCatch, RawMemArg, Reader, Space,
+    BlockType, BrTable, CatchList, Immediates, Operator, RawCast, RawCatch, RawMemArg, Space,
 };
 
 /// What names the operators of a function's body: the function, its type, and old indices and types
@@ -229,7 +229,7 @@ impl Namer<'_> {
 
     /// The name of an operator. Its labels stay as they are: they are open where a parse accepts
     /// the operator.
-    fn name(&self, operator: &Operator<'_>) -> Result<NamedOp, ParseError>
+    pub fn name(&self, operator: &Operator<'_>) -> Result<NamedOp, ParseError>
         ensures { GivesOrMemory named_operation result
             (translate (anywhere (env_of self.now)) (meaning operator.now)) }
     {
@@ -237,20 +237,6 @@ impl Namer<'_> {
         match self.immediates(immediates) {
             Ok(immediates) => Ok(NamedOp { opcode, immediates }),
             Err(error) => Err(error),
-        }
-    }
-
-    /// The name of the next operator that a reader has before it.
-    pub fn next(&self, reader: &mut Reader<'_>) -> Result<NamedOp, ParseError>
-        ensures { (x : Occurrence) (xs : List Occurrence)
-            → AreLeft (env_of self.now) reader.old (x ∷ xs)
-            → IfErr result (λ e. e ≡ ParseFault.Memory)
-            × IfOk result (λ o. (named_operation o ≡ x.named)
-            × AreLeft (env_of self.now) reader.new xs) }
-    {
-        match reader.read() {
-            Ok(operator) => self.name(&operator),
-            Err(error) => Err(ParseError::Read(error)),
         }
     }
 }
