@@ -6,3 +6,4 @@ mod RewritingLemmas
 -- the operators of an accepted body are read and named
 mod Naming
 mod Reading
+mod ReadBodies
