@@ -4,6 +4,6 @@ mod DemoNumbers
 -- what is parsed, and what is written of it
 mod RewritingLemmas
 -- the operators of an accepted body are read and named
-mod Naming
+mod NamesAnywhere
 mod Reading
 mod ReadBodies

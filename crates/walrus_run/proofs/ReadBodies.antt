@@ -13,7 +13,7 @@ use Rattle.wasm_body.proofs.Parsing.Answers.{accepted_has_no_fault, one_first_fa
 use Rattle.walrus_body.specs.Parsing.Settings.{operators_of}
 use Rattle.walrus_run.specs.NamedBodies.{BodyNames, names_of}
 use Rattle.walrus_run.specs.Namers.{AreLeft}
-use Rattle.walrus_run.proofs.Naming.{lawful_names, operators_are}
+use Rattle.walrus_run.proofs.NamesAnywhere.{lawful_names, operators_are}
 
 -- bytes without a first fault are accepted
 pub accepted_without_fault : (given : Setting (Unit {0})) (ops : List ℕ) → AreBytes ops → ((f : ParseFailure) → FirstFault given ops f → ⊥) → (b : Body Occurrence) × Accepted given ops b

@@ -1,7 +1,7 @@
 -- Reading and naming the operators that are left, one by one.
 use Rattle.std.proofs.Common.{◌≡◌, ◌<◌, ℕ, inl, inr, List, [], ◌∷◌, ◌++◌, length, map, Result, Ok, Err, refl, sym, ap, subst, ◌∙◌, arith}
 use Rattle.std.proofs.lemmas.List.{append_cancel_left, append_assoc, append-nil, length-append}
-use Rattle.std.specs.Prelude.{IfOk, IfErr}
+use Rattle.std.specs.Prelude.{IfOk, IfErr, OnOk}
 use Rattle.wasm_ops.specs.Operations.{RawOperation}
 use Rattle.wasm_ops.specs.OperatorList.{Lists}
 use Rattle.wasm_ops.specs.Position.{Position, Moves}
@@ -62,3 +62,8 @@ before_next b x xs = λ i. record {
 
 pub before_none : (b : BodyNames) → before b [] ≡ b
 before_none b = λ i. record { operators = append-nil b.operators i; places = append-nil b.places i }
+
+-- what follows from a fact of an answer
+pub on_ok : {A E P Q : Type 0} (r : Result A E) → OnOk r P → (P → Q) → OnOk r Q
+on_ok (Ok x) p f = f p
+on_ok (Err e) p f = tt

@@ -1,5 +1,6 @@
 //! Bodies as their modules name them.
 ghost use Rattle.std.specs.Prelude.{◌≡◌, ◌⊎◌, ◌≤◌, ◌<◌, ◌+◌, ◌∷◌, ◌^◌, ℕ, List, length, map, slice_get, IfOk, IfErr, IsErr, OnOk};
+ghost use Rattle.wasm_ops.specs.Laws.{AreBytes};
 ghost use Rattle.wasm_body.specs.declared.error.ParseError.{ParseError as ParseFault};
 ghost use Rattle.wasm_body.specs.declared.error.ParseFailure.{ParseFailure as Failure};
 ghost use Rattle.wasm_body.specs.SourceTree.{Body};
@@ -42,6 +43,12 @@ impl Model for NamedBody {
     } };
 }
 
+/// Bytes are below 256.
+#[inline(always)]
+fn law_bytes(bytes: &[u8])
+    ensures { AreBytes bytes.now }
+{}
+
 /// Whether a function's body is accepted, or its first fault. Places have no limit, since there is
 /// a location function.
 fn check(namer: &Namer<'_>, body: FunctionBody<'_>) -> Result<(), ParseFailure>
@@ -55,6 +62,7 @@ fn check(namer: &Namer<'_>, body: FunctionBody<'_>) -> Result<(), ParseFailure>
         → FirstFault (reading namer.now.«module».now namer.now.indices.now namer.now.function
         namer.now.ty body.entry locate) (body_operators body.entry) f)) }
 {
+    law_bytes(body.operators());
     let nowhere = |_: &usize| InstrLocId::default();
     let mut instrs = Vec::new(namer.alloc);
     let parsed = LocalFunction::parse(

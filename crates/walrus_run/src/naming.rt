@@ -1,5 +1,5 @@
 //! How operators are named: indices are looked up in the order in which they are written.
-ghost use Rattle.std.specs.Prelude.{◌≡◌, ◌⊎◌, map, IfOk, IfErr, Ok, Err};
+ghost use Rattle.std.specs.Prelude.{◌≡◌, ◌⊎◌, [], ◌∷◌, ◌++◌, map, IfOk, IfErr, OnOk, Ok, Err};
 ghost use Rattle.walrus_ir.specs.Results.{Gives, each};
 ghost use Rattle.walrus_ir.specs.Types.{signature};
 ghost use Rattle.wasm_ops.specs.AccessOperations.{access_of};
@@ -26,6 +26,7 @@ use wasm_ops::{
 
 /// What names the operators of a function's body: the function, its type, and old indices and types
 /// of its module.
+#[derive(Clone, Copy)]
 pub(crate) struct Namer<'a> {
     pub alloc: Global,
     pub module: &'a Module,
@@ -47,6 +48,14 @@ fn block_type(
         params: Vec::from_slice(alloc, params)?,
         results: Vec::from_slice(alloc, results)?,
     })
+}
+
+/// Pushes an item.
+fn pushed<T: Drop>(list: &mut Vec<T>, item: T) -> Result<(), ParseError>
+    ensures ok { OnOk result (list.new.items ≡ list.old.items ++ item ∷ []) }
+    ensures err { IfErr result (λ e. e ≡ ParseFault.Memory) }
+{
+    Ok(list.push(item)?)
 }
 
 impl Namer<'_> {
@@ -153,9 +162,9 @@ impl Namer<'_> {
                 Ok(clause) => clause,
                 Err(error) => return Err(error),
             };
-            match made.push(clause) {
+            match pushed(&mut made, clause) {
                 Ok(()) => {}
-                Err(_) => return Err(ParseError::Memory),
+                Err(error) => return Err(error),
             }
         }
         Ok(made)
@@ -178,7 +187,7 @@ impl Namer<'_> {
         immediates: Immediates<BrTable<'_>, CatchList<'_>>,
     ) -> Result<NamedImmediates, ParseError>
         ensures { GivesOrMemory named_immediates result
-            (translate_immediates (anywhere (env_of self.now)) (immediates_of immediates)) }
+            (translate_immediates (anywhere (env_of self.now)) (immediates_of immediates.entry)) }
     {
         match immediates {
             Immediates::Nothing => Ok(NamedImmediates::Nothing),
