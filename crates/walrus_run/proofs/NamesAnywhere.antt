@@ -2,20 +2,20 @@
 use Rattle.std.proofs.Common.{◌≡◌, ℕ, List, [], ◌∷◌, length, map, Result, Ok, refl, sym, ap, ◌∙◌}
 use Rattle.std.specs.Prelude.{nat_lt}
 use Rattle.std.specs.List.{AllByRecursion}
-use Rattle.walrus_ir.specs.Results.{◌>>=◌, unless}
+use Rattle.walrus_ir.specs.Results.{◌>>=◌, unless, each}
 use Rattle.walrus_ir.specs.Types.{Signature}
 use Rattle.walrus_ir.proofs.ResultLemmas.{bind_ok}
-use Rattle.wasm_ops.specs.Operations.{Immediate, RawOperation, operation}
+use Rattle.wasm_ops.specs.Operations.{Immediate, branch_table, RawOperation, operation}
 use Rattle.wasm_ops.specs.declared.types.BlockType.{BlockType}
 use Rattle.wasm_body.specs.declared.error.ParseError.{ParseError}
 use Rattle.wasm_body.specs.declared.error.ParseError.TheVariants.{NoSuchLabel, RethrowOutsideHandler}
 use Rattle.wasm_body.specs.Control.{Marked}
 use Rattle.wasm_body.specs.SourceTree.{Body}
 use Rattle.wasm_body.specs.Frames.{Frame, handler_at, outside}
-use Rattle.wasm_body.specs.Translation.{Translation, translate, translate_immediates}
+use Rattle.wasm_body.specs.Translation.{translate, translate_immediates}
 use Rattle.wasm_body.specs.Naming.{Environment, NamedOperation, Occurrence, block_types, open_label, handler_label, naming, named_in}
 use Rattle.wasm_body.specs.Parsing.Accepted.{mark, Lawful}
-use Rattle.wasm_body.proofs.Translation.Steps.{all_of}
+use Rattle.wasm_body.proofs.Translation.Steps.{all_of, each-ok}
 use Rattle.wasm_body.proofs.Translation.Translations.{LeadAll, lead_all, translate_leads, same, translate_same}
 use Rattle.wasm_body.proofs.Parsing.NamingLemmas.{named_parts}
 use Rattle.wasm_body.proofs.Bytes.LawfulTyped.{named_somewhere}
@@ -61,6 +61,12 @@ module _ (env : Environment) where
 
   pub lawful_names : (xs : List Occurrence) (b : Body Occurrence) → Lawful env xs b → AllByRecursion (HasName env) xs
   lawful_names xs b lawful = have_names xs (named_somewhere env xs b lawful)
+
+-- the labels of a table are none that is looked up
+pub labels_stay : (env : Environment) (targets : List ℕ) (default : ℕ) → translate_immediates (anywhere env) (branch_table targets default ∷ []) ≡ Ok (branch_table targets default ∷ [])
+labels_stay env targets default =
+    let stay : each (anywhere env).label targets ≡ Ok targets = each-ok (anywhere env).label (λ l. refl) targets in
+    ap (λ r. (r >>= λ ls. Ok (branch_table ls default)) >>= λ i. Ok (i ∷ [])) stay
 
 -- ---- the operators of a body
 

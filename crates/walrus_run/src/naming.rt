@@ -9,7 +9,7 @@ ghost use Rattle.wasm_ops.specs.Parts.{immediates_of};
 ghost use Rattle.wasm_ops.specs.ReferenceOperations.{cast_of};
 ghost use Rattle.wasm_body.specs.declared.error.ParseError.{ParseError as ParseFault};
 ghost use Rattle.wasm_body.specs.Naming.{name_block};
-ghost use Rattle.wasm_body.specs.Translation.{translate, translate_access, translate_cast, translate_clause, translate_immediate, translate_immediates};
+ghost use Rattle.wasm_body.specs.Translation.{translate, translate_access, translate_cast, translate_clause, translate_immediate, translate_immediates, translate_tag};
 ghost use Rattle.walrus_body.specs.Parsing.BodyParsers.{GivesOrMemory};
 ghost use Rattle.walrus_run.specs.NamedOperators.{named_index, named_access, named_block, named_clause, named_cast, named_immediates, named_operation};
 ghost use Rattle.walrus_run.specs.Namers.{env_of, anywhere};
@@ -19,9 +19,9 @@ use crate::named_op::{
 };
 use std::alloc::Global;
 use walrus_body::{IndicesToIds, ParseError, heap_type_of, value_type};
-use walrus_ir::{FunctionId, Module, TypeId, ValType};
+use walrus_ir::{FunctionId, Module, TagId, TypeId, ValType};
 use wasm_ops::{
-    BlockType, BrTable, CatchList, Immediates, Operator, RawCast, RawCatch, RawMemArg, Space,
+    BlockType, BrTable, CatchList, Immediates, Operator, RawCast, RawMemArg, Space,
 };
 
 /// What names the operators of a function's body: the function, its type, and old indices and types
@@ -132,20 +132,14 @@ impl Namer<'_> {
         }
     }
 
-    /// A clause of a `try_table`, with the id of its tag, if it has one.
-    fn clause(&self, clause: RawCatch) -> Result<NamedCatch, ParseError>
-        ensures { Gives named_clause result
-            (translate_clause (anywhere (env_of self.now)) clause) }
+    /// The id of a tag, where there is one.
+    fn tag(&self, index: Option<u32>) -> Result<Option<TagId>, ParseError>
+        ensures { result ≡ translate_tag (anywhere (env_of self.now)).index index }
     {
-        let tag = match clause.tag {
-            Some(index) => Some(self.indices.get_tag(index)?),
-            None => None,
-        };
-        Ok(NamedCatch {
-            by_reference: clause.by_reference,
-            tag,
-            label: clause.label,
-        })
+        match index {
+            Some(index) => Ok(Some(self.indices.get_tag(index)?)),
+            None => Ok(None),
+        }
     }
 
     /// The clauses of a `try_table`.
@@ -158,9 +152,14 @@ impl Namer<'_> {
         let mut made = Vec::new(self.alloc);
         let mut raw = catches.iter();
         'clauses: while let Some(clause) = raw.next() {
-            let clause = match self.clause(clause) {
-                Ok(clause) => clause,
+            let tag = match self.tag(clause.tag) {
+                Ok(tag) => tag,
                 Err(error) => return Err(error),
+            };
+            let clause = NamedCatch {
+                by_reference: clause.by_reference,
+                tag,
+                label: clause.label,
             };
             match pushed(&mut made, clause) {
                 Ok(()) => {}
