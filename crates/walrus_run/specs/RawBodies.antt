@@ -1,28 +1,38 @@
 -- Raw bodies: the declarations of a function's locals, and its operators (WebAssembly core specification 3.0, binary
 -- format, code section).
-use Rattle.std.specs.Prelude.{◌≡◌, ℕ, ◌+◌, Bool, List, ◌++◌, length, Option, Ok, Err}
+use Rattle.std.specs.Prelude.{◌≡◌, ◌⊎◌, ℕ, ◌+◌, Bool, List, [], ◌++◌, length, Option, Some, None, Ok, Err}
+use Rattle.walrus_ir.specs.declared.module.Module.{Module}
 use Rattle.walrus_ir.specs.declared.val_type.ValType.{ValType}
-use Rattle.walrus_ir.specs.Faults.{FirstWalkFault}
 use Rattle.walrus_ir.specs.Function.{Function}
-use Rattle.walrus_ir.specs.declared.error.WalkError.{WalkError}
+use Rattle.walrus_ir.specs.Walk.{HasNoWalk}
+use Rattle.std.proofs.Common.{inl, inr}
 use Rattle.wasm_encode.specs.Declarations as encoded
 use Rattle.wasm_body.specs.declared.error.EmitError.{EmitError}
-use Rattle.wasm_body.specs.declared.error.EmitError.TheVariants.{Memory, TooLarge, UnknownLocal}
+use Rattle.wasm_body.specs.declared.error.EmitError.TheVariants.{Memory, UnknownLocal}
 use Rattle.wasm_body.specs.Bytes.{Numbers, tree_bytes}
 use Rattle.wasm_body.specs.FunctionTree.{FunctionTree}
 use Rattle.wasm_body.specs.LocalNumbers.{Local, ids_of, AreDeclared, declared, uses_local, with_locals}
 use Rattle.wasm_body.specs.Pairs.{Pair, tree_pairs}
-use Rattle.wasm_body.specs.TreeOfFunction.{HasTree, fault_of_walk}
+use Rattle.wasm_body.specs.TreeOfFunction.{HasTree}
+use Rattle.walrus_body.specs.declared.ids_to_indices.IdsToIndices.{IdsToIndices}
 use Rattle.walrus_body.specs.EmittedLocals.{HasUnknown}
+use Rattle.walrus_body.specs.FunctionParts.{FunctionParts}
 use Rattle.walrus_body.specs.LocalFunctions.{first_slot}
 use Rattle.walrus_body.specs.Sizes.{IsTooLarge}
 use Rattle.walrus_body.specs.TreeWriting.EmittedInstructions.{LentPairs, Left, Emits, IsUnemitted}
+use Rattle.walrus_body.specs.TreeWriting.Operators.{numbers_by}
+use Rattle.walrus_run.specs.declared.error.RewriteError.{RewriteError}
+use Rattle.walrus_run.specs.declared.error.RewriteError.TheVariants.{Parse, Walk, Emit}
 
 -- What a body is written with: the numbers of ids, the types of the module's locals, and the function's arguments.
 pub record Given : Type 0 where
   pub to : Numbers
   pub types : List (ValType ℕ)
   pub args : List ℕ
+
+-- of a function in a module, with the numbers of index maps
+abbrev pub given : IdsToIndices → Module → FunctionParts → Given
+given out m f = record { to = numbers_by out []; types = m.locals; args = f.args }
 
 -- These are the bytes and the location pairs of a tree as a raw body, the places counted from its first byte.
 pub record IsRawBody (by : Given) (t : FunctionTree) (bytes : List ℕ) (pairs : List Pair) : Type 0 where
@@ -55,13 +65,6 @@ pub record IsRawBodyOf (by : Given) (f : Function) (bytes : List ℕ) (pairs : L
   pub has_tree : HasTree f.sequences (first_slot f) tree
   pub is_raw_body : IsRawBody by tree bytes pairs
 
--- This is why a function that has an entry has no raw body: its sequences are no tree, or too many instructions to be
--- counted, or its tree has none.
-pub data HasNoRawBodyOf (by : Given) (f : Function) (e : EmitError) : Type 0 where
-  no_tree : (w : WalkError) → FirstWalkFault f.sequences (first_slot f) w → e ≡ fault_of_walk w → HasNoRawBodyOf by f e
-  too_large : (w : WalkError) → IsTooLarge f.sequences (first_slot f) w → e ≡ TooLarge → HasNoRawBodyOf by f e
-  of_tree : (t : FunctionTree) → HasTree f.sequences (first_slot f) t → HasNoRawBody by t e → HasNoRawBodyOf by f e
-
 -- a pair behind so many bytes more
 abbrev pub moved : ℕ → Pair → Pair
 moved n p = (p.0, n + p.1)
@@ -85,3 +88,25 @@ pub data Declines (by : Given) (used : ℕ → Bool) (f : Function) (e : EmitErr
       (others : List Local) (declarations : List (ℕ × ValType ℕ)) → AreDeclared by.types by.args used others →
       declared by.to (length by.args) others ≡ Ok declarations → IsUnemitted f (with_locals by.to by.args (ids_of others)) e →
       Declines by used f e
+
+-- ---- appended
+
+-- the pairs stand behind those of the list, if there is one
+abbrev pub AppendsPairs : {Z : Type 0} → List Pair → (entry : Option (LentPairs Z)) → (exit : Left (LentPairs Z)) → Type 0
+AppendsPairs pairs None (inl none) = Unit {0}
+AppendsPairs pairs (Some list) (inr (inl left)) = left.0.now.items ≡ list.now.items ++ pairs
+AppendsPairs pairs _ _ = ⊥
+
+-- The function's raw body stands behind what stood there, and its pairs behind those of the list, if there is one.
+pub record AppendsRawBody {Z : Type 0} (by : Given) (f : Function) (old new : List ℕ) (entry : Option (LentPairs Z)) (exit : Left (LentPairs Z)) : Type 0 where
+  pub raw : List ℕ
+  pub pairs : List Pair
+  pub is_raw_body : IsRawBodyOf by f raw pairs
+  pub appends : new ≡ old ++ raw
+  pub appends_pairs : AppendsPairs pairs entry exit
+
+-- Memory ran out, or facts about the function can't be gathered, or it can't be written.
+abbrev pub IsUnappended : Given → Function → RewriteError → Type 0
+IsUnappended by f (Parse p) = ⊥
+IsUnappended by f (Walk w) = HasNoWalk f.sequences (first_slot f) w ⊎ IsTooLarge f.sequences (first_slot f) w
+IsUnappended by f (Emit e) = (e ≡ Memory) ⊎ ((t : FunctionTree) × HasTree f.sequences (first_slot f) t × HasNoRawBody by t e)

@@ -22,7 +22,7 @@ use Rattle.walrus_body.specs.Parsing.Bodies.{ParseInput, setting_with, AcceptsBo
 use Rattle.walrus_body.specs.TreeWriting.EmittedInstructions.{LentPairs, Left}
 use Rattle.walrus_run.specs.declared.error.RewriteError.{RewriteError}
 use Rattle.walrus_run.specs.declared.error.RewriteError.TheVariants.{Parse, Walk, Emit}
-use Rattle.walrus_run.specs.RawBodies.{Given, IsRawBody, HasNoRawBody}
+use Rattle.walrus_run.specs.RawBodies.{Given, IsRawBody, HasNoRawBody, AppendsPairs}
 
 -- ---- what is kept
 
@@ -39,12 +39,6 @@ pub record KeepsSource (env : Environment) (xs : List Occurrence) (tree : Functi
   pub honest : SayLocations pairs text (map name_at xs)
 
 -- ---- what is written
-
--- the pairs stand behind those of the list, if there is one
-abbrev pub AppendsPairs : {Z : Type 0} → List Pair → (entry : Option (LentPairs Z)) → (exit : Left (LentPairs Z)) → Type 0
-AppendsPairs pairs None (inl none) = Unit {0}
-AppendsPairs pairs (Some list) (inr (inl left)) = left.0.now.items ≡ list.now.items ++ pairs
-AppendsPairs pairs _ _ = ⊥
 
 module _ {S F : Type 0} (asks : Shared F (Bor ℕ × Unit {0}) ℕ) (i : ParseInput S F) (by : Given) where
   -- The bytes are accepted as a body, the function is the one that a parse makes of it, and the raw body of its normal form

@@ -8,7 +8,9 @@ mod named_op;
 mod names;
 mod naming;
 mod program;
+mod raw_body;
 mod rewriting;
+mod whole_body;
 
 pub use error::RewriteError;
 pub use named_body::NamedBody;
@@ -17,6 +19,7 @@ pub use named_op::{
 };
 pub use program::run_words;
 pub use rewriting::rewrite_demo;
+pub use whole_body::rewrite_body;
 pub use walrus_body::{
     law_accepted_again, law_executions, law_inverse_undoes, law_locations, law_read_back,
 };
