@@ -16,9 +16,9 @@ operators-preserved c = λ xs left.
       first.1,
       taken.0,
       ap (λ b. before b first.1) taken.1
-      ∙ before_next now.body first.0 first.1
-      ∙ ap (before now.body) (sym first.2)
-      ∙ kept.2,
+          ∙ before_next now.body first.0 first.1
+          ∙ ap (before now.body) (sym first.2)
+          ∙ kept.2,
     )
 
 pub returns-in-Err : goal.returns-in-Err
