@@ -43,6 +43,7 @@ impl fmt::Display for Clause {
 }
 
 /// An operator: its opcode, and what follows it.
+#[derive(Clone, Copy)]
 struct Shown<'a>(&'a NamedOp);
 
 impl fmt::Display for Shown<'_> {

@@ -1,6 +1,4 @@
-use Rattle.std.proofs.Common.{◌≡◌, ◌<◌, length, List, sym, ap, subst, ◌∙◌, rules, arith}
-use Rattle.wasm_body.specs.Naming.{Occurrence}
-use Rattle.walrus_run.specs.NamedBodies.{names_of}
+use Rattle.std.proofs.Common.{◌≡◌, ◌<◌, length, sym, ap, subst, ◌∙◌, rules}
 use Rattle.walrus_run.specs.Namers.{env_of, AreLeft}
 use Rattle.walrus_run.proofs.Reading.{some_left, none_left, before, before_next, before_none}
 use Rattle.walrus_run.proofs.named_body.NamedBody.named.Goals as goal
