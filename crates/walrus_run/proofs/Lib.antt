@@ -3,3 +3,7 @@ mod DemoMaps
 mod DemoNumbers
 -- what is parsed, and what is written of it
 mod RewritingLemmas
+-- the operators of an accepted body are read and named
+mod NamesAnywhere
+mod Reading
+mod ReadBodies

@@ -3,3 +3,7 @@ pub mod Demo
 pub mod Rewriting
 pub mod RawBodies
 pub mod RewrittenBodies
+-- operators and bodies as they are named
+pub mod NamedOperators
+pub mod NamedBodies
+pub mod Namers

@@ -3,13 +3,21 @@
 
 mod demo;
 mod error;
+mod named_body;
+mod named_op;
 mod names;
+mod naming;
 mod program;
 mod rewriting;
 
 pub use error::RewriteError;
+pub use named_body::NamedBody;
+pub use named_op::{
+    NamedBlockType, NamedCast, NamedCatch, NamedImmediates, NamedIndex, NamedMemArg, NamedOp,
+};
 pub use program::run_words;
 pub use rewriting::rewrite_demo;
 pub use walrus_body::{
     law_accepted_again, law_executions, law_inverse_undoes, law_locations, law_read_back,
 };
+pub use whole_body::rewrite_body;
