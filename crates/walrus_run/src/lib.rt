@@ -20,4 +20,3 @@ pub use rewriting::rewrite_demo;
 pub use walrus_body::{
     law_accepted_again, law_executions, law_inverse_undoes, law_locations, law_read_back,
 };
-pub use whole_body::rewrite_body;
