@@ -1,7 +1,9 @@
 //! Tables of cases: what is answered about each text or function, as text, beside what is wanted.
 use crate::by_hand::{Item, function};
+use crate::demo_module::{DEMO, parse_demo};
 use crate::emitting::written;
-use crate::facts::{answered, visited};
+use crate::facts::{answered, emitted, gathered, visited};
+use crate::locals::declared_as_used;
 use crate::named::named;
 use crate::program::printed;
 use crate::reading::read_all;
@@ -24,6 +26,10 @@ pub(crate) enum About {
     Entry,
     /// The function's size and data segments, and whether it is constant.
     Facts,
+    /// What is gathered of a function of the demo module, then its size and data segments.
+    Gathered,
+    /// What a function of the demo module declares.
+    Locals,
     /// The function's bytes and pairs when it is written.
     Written(Setting),
     /// The function where a validator refuses the third operator with 7.
@@ -42,11 +48,20 @@ pub(crate) enum About {
     Printed,
 }
 
+// What a function answers about what it holds, by both kinds of call.
+fn both_gathered(alloc: Global, function: &LocalFunction) -> Result<String, AllocError> {
+    let emitted = emitted(alloc, function)?;
+    let answered = answered(alloc, function)?;
+    format!(in alloc; "{emitted}; {answered}")
+}
+
 fn answer(alloc: Global, about: About, text: &str) -> Result<String, Fail> {
     match about {
         About::Function(setting) => Ok(parsed(alloc, setting, text)?),
         About::Entry => entry_text(alloc, text),
         About::Facts => Ok(answered(alloc, &parse(alloc, Setting::PLAIN, text)?)?),
+        About::Gathered => Ok(both_gathered(alloc, &parse_demo(alloc, DEMO, text)?)?),
+        About::Locals => declared_as_used(alloc, &parse_demo(alloc, DEMO, text)?),
         About::Written(setting) => written(alloc, &parse(alloc, setting, text)?),
         About::Counted => Ok(parsed_by(alloc, Setting::PLAIN, text, Counting { left: 2 })?),
         About::Kept => {
@@ -82,6 +97,8 @@ pub(crate) enum AboutMade {
     Walk,
     /// Its size and data segments, as visitors find them and as it answers itself.
     Facts,
+    /// What a visitor gathers, and what it answers itself.
+    Gathered,
     /// Its bytes and pairs when it is written.
     Written,
 }
@@ -94,11 +111,20 @@ fn both_facts(alloc: Global, builder: FunctionBuilder) -> Result<String, AllocEr
     format!(in alloc; "{visited}; {answered}")
 }
 
+// What a visitor gathers, and what the function answers.
+fn gathered_twice(alloc: Global, builder: FunctionBuilder) -> Result<String, AllocError> {
+    let gathered = gathered(alloc, &builder, 0)?;
+    let function = LocalFunction::new(Vec::new(alloc), builder);
+    let emitted = emitted(alloc, &function)?;
+    format!(in alloc; "{gathered}; {emitted}")
+}
+
 fn answer_made(alloc: Global, about: AboutMade, instrs: &[Item]) -> Result<String, Fail> {
     let builder = function(alloc, 3, instrs)?;
     match about {
         AboutMade::Walk => Ok(walked(alloc, &builder, 0, 1000)?),
         AboutMade::Facts => Ok(both_facts(alloc, builder)?),
+        AboutMade::Gathered => Ok(gathered_twice(alloc, builder)?),
         AboutMade::Written => written(alloc, &LocalFunction::new(Vec::new(alloc), builder)),
     }
 }

@@ -11,6 +11,8 @@ mod cases;
 #[cfg(test)]
 mod context;
 #[cfg(test)]
+mod demo_module;
+#[cfg(test)]
 mod emit;
 #[cfg(test)]
 mod emitting;
@@ -23,6 +25,8 @@ mod function_text;
 #[cfg(test)]
 mod index_maps;
 mod lent;
+#[cfg(test)]
+mod locals;
 #[cfg(test)]
 mod modules;
 #[cfg(test)]
