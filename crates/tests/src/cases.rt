@@ -2,7 +2,7 @@
 use crate::by_hand::{Item, function};
 use crate::demo_module::{DEMO, parse_demo};
 use crate::emitting::written;
-use crate::facts::{answered, emitted, gathered, visited};
+use crate::facts::{answered, both_answered, emitted, gathered, visited};
 use crate::locals::declared_as_used;
 use crate::named::named;
 use crate::program::printed;
@@ -48,19 +48,12 @@ pub(crate) enum About {
     Printed,
 }
 
-// What a function answers about what it holds, by both kinds of call.
-fn both_gathered(alloc: Global, function: &LocalFunction) -> Result<String, AllocError> {
-    let emitted = emitted(alloc, function)?;
-    let answered = answered(alloc, function)?;
-    format!(in alloc; "{emitted}; {answered}")
-}
-
 fn answer(alloc: Global, about: About, text: &str) -> Result<String, Fail> {
     match about {
         About::Function(setting) => Ok(parsed(alloc, setting, text)?),
         About::Entry => entry_text(alloc, text),
         About::Facts => Ok(answered(alloc, &parse(alloc, Setting::PLAIN, text)?)?),
-        About::Gathered => Ok(both_gathered(alloc, &parse_demo(alloc, DEMO, text)?)?),
+        About::Gathered => Ok(both_answered(alloc, &parse_demo(alloc, DEMO, text)?)?),
         About::Locals => declared_as_used(alloc, &parse_demo(alloc, DEMO, text)?),
         About::Written(setting) => written(alloc, &parse(alloc, setting, text)?),
         About::Counted => Ok(parsed_by(alloc, Setting::PLAIN, text, Counting { left: 2 })?),
