@@ -317,3 +317,9 @@ has_any cmp same [] t = refl
 has_any cmp same (x ∷ tags) t =
     ap (λ b. b || list_any (λ x. is_eq (cmp t x)) tags) (ap is_eq (same t x) ∙ same_test x t)
     ∙ (ap (λ b. eqb x t || b) (has_any cmp same tags t) ∙ either (eqb x t) (has tags t))
+
+-- the position of an operator
+pub within : (cs : List Control) (i : ℕ) (c : Control) → slice_get cs i ≡ Some c → i < length cs
+within [] i c h = absurd (cc h)
+within (x ∷ cs) zero c h = omega arith
+within (x ∷ cs) (suc i) c h = omega (arith, within cs i c h)

@@ -1,0 +1,86 @@
+-- What the machine keeps while it runs: labels, and what a construct answers an exception.
+use Rattle.std.proofs.Common.{◌≡◌, ℕ, zero, suc, ◌+◌, ◌-◌, ◌<◌, ◌≤◌, get_or, List, [], ◌∷◌, ◌++◌, map, drop, take, length, reverse, Option, Some, None, refl, sym, ap, ◌∙◌, arith}
+use Rattle.std.specs.Prelude.{slice_get}
+use Rattle.std.proofs.lemmas.List.{drop_all, length-map, length-reverse, map-append, take-map, take_more}
+use Rattle.wasm_body.specs.Control as C
+use Rattle.wasm_body.specs.Machine as M
+use Rattle.walrus_run.specs.declared.machine.control.Control.{Control}
+use Rattle.walrus_run.specs.Controls.{control_of}
+use Rattle.walrus_run.specs.Tables.{place_at}
+use Rattle.walrus_run.specs.declared.machine.control.Construct.{Construct}
+use Rattle.walrus_run.specs.declared.machine.label.Label.{Label}
+use Rattle.walrus_run.specs.declared.machine.state.State.{State}
+use Rattle.walrus_run.specs.Controls.{construct_of}
+use Rattle.walrus_run.specs.Runs.{outcome_of}
+use Rattle.walrus_run.specs.Tracing.{caught_in, label_of, opens, Onwards, seen, run_on}
+use Rattle.walrus_run.proofs.Tables.{here, nothing_at, reverse_left, pushed}
+
+-- ---- the clauses of a legacy `try`
+
+pub clause_here : (tags : M.Tags) (cs : List C.Control) (f : M.Found ℕ) (n i : ℕ) (c : C.Control) → f ≡ M.found n (place_at cs i) → slice_get cs i ≡ Some c →
+    M.clause_at n c (place_at cs (i + 1)) ≡ M.try_responds tags f
+clause_here tags cs f n i c e at = sym (ap (M.try_responds tags) e ∙ ap (M.clause_found n) (here cs i c at))
+
+pub no_clause_here : (tags : M.Tags) (cs : List C.Control) (f : M.Found ℕ) (n i : ℕ) → f ≡ M.found n (place_at cs i) → slice_get cs i ≡ None → M.Passes ≡ M.try_responds tags f
+no_clause_here tags cs f n i e at = sym (ap (M.try_responds tags) e ∙ ap (M.clause_found n) (nothing_at cs i at))
+
+pub no_clause : (x : Control) (n : ℕ) (rest : List (C.Marked ℕ)) → ((tag : ℕ) → x ≡ Control.Catch tag → ⊥) → (x ≡ Control.CatchAll → ⊥) → ((n : ℕ) → x ≡ Control.Delegate n → ⊥) →
+    M.Passes ≡ M.clause_at n (control_of x) rest
+no_clause (Control.Catch tag) n rest a b c = absurd (a tag refl)
+no_clause Control.CatchAll n rest a b c = absurd (b refl)
+no_clause (Control.Delegate m) n rest a b c = absurd (c m refl)
+no_clause _ n rest a b c = refl
+
+-- ---- labels
+
+-- what is left where so many labels are closed
+pub closed : (cs : List C.Control) (n len left : ℕ) (ls ms : List Label) → len ≡ length ls → left ≡ len - n → ms ≡ take left ls → drop n (opens cs ls) ≡ opens cs ms
+closed cs n len left ls ms count rest h =
+    let ks = map (label_of cs) ls in
+    let same : left ≡ length ks - n = omega (arith, rest, count, length-map ls (label_of cs)) in
+    sym (ap (opens cs) h ∙ (ap reverse (sym (take-map (label_of cs) left ls)) ∙ (ap (λ m. reverse (take m ks)) same ∙ reverse_left n ks)))
+
+pub opens_push : (cs : List C.Control) (ls : List Label) (l : Label) → opens cs (ls ++ l ∷ []) ≡ label_of cs l ∷ opens cs ls
+opens_push cs ls l = pushed (map (label_of cs) ls) (map (label_of cs) (ls ++ l ∷ [])) (label_of cs l) (map-append (label_of cs) ls (l ∷ []))
+
+caught_inside : (ls : List (M.Label ℕ)) (n : ℕ) → M.caught_at ls n ≡ M.caught_at (drop n ls) 0
+caught_inside ls zero = refl
+caught_inside [] (suc n) = refl
+caught_inside (l ∷ ls) (suc n) = caught_inside ls n
+
+pub caught_here : (cs : List C.Control) (ls : List Label) (n i : ℕ) (l : Label) → n < length ls → i ≡ length ls - 1 - n → l ≡ get_or ls i l → M.caught_at (opens cs ls) n ≡ caught_in l.caught
+caught_here cs ls n i l lt at is =
+    let left : i + 1 ≡ length ls - n = omega (arith, at, lt) in
+    let whole : take (i + 1) ls ≡ take i ls ++ l ∷ [] = take_more ls i l (omega (arith, at, lt)) ∙ ap (λ x. take i ls ++ x ∷ []) (sym is) in
+    caught_inside (opens cs ls) n
+    ∙ ap (λ ks. M.caught_at ks 0) (closed cs n (length ls) (i + 1) ls (take i ls ++ l ∷ []) refl left (sym whole) ∙ opens_push cs (take i ls) l)
+
+pub nothing_caught : (cs : List C.Control) (ls : List Label) (n : ℕ) → length ls ≤ n → M.caught_at (opens cs ls) n ≡ None
+nothing_caught cs ls n le =
+    caught_inside (opens cs ls) n
+    ∙ ap (λ ks. M.caught_at ks 0) (drop_all n (opens cs ls) (omega (arith, le, length-reverse (map (label_of cs) ls), length-map ls (label_of cs))))
+
+-- ---- runs that go on
+
+pub same_on : (cs : List C.Control) (s : State) (k k' : Onwards) → ((ls : List (M.Label ℕ)) (o : List M.Outcome) → k ls o ≡ k' ls o) → run_on cs s k ≡ run_on cs s k'
+same_on cs s k k' h = ap (seen s.events.items) (h (opens cs s.labels.items) (map outcome_of s.outcomes.now))
+
+module _ (again go : M.From ℕ) where
+  pub inner_branch : (n : ℕ) (ls : List (M.Label ℕ)) (o : List M.Outcome) → M.branch again go n ls o ≡ M.branch again go 0 (drop n ls) o
+  inner_branch zero ls o = refl
+  inner_branch (suc n) [] o = refl
+  inner_branch (suc n) (l ∷ ls) o = inner_branch n ls o
+
+  -- the branch to a construct that is no loop
+  pub arrive_out : (x : Construct) → (x ≡ Construct.Loop → ⊥) → (l : M.Label ℕ) (ls : List (M.Label ℕ)) (o : List M.Outcome) →
+      M.arrive again go (construct_of x) l ls o ≡ go (M.behind_closer l.behind) ls o
+  arrive_out Construct.Block h l ls o = refl
+  arrive_out Construct.Loop h l ls o = absurd (h refl)
+  arrive_out Construct.If h l ls o = refl
+  arrive_out Construct.Try h l ls o = refl
+  arrive_out (Construct.TryTable cs) h l ls o = refl
+
+  pub inner_raise : (tags : M.Tags) (n : ℕ) (ls : List (M.Label ℕ)) (o : List M.Outcome) → M.raise again go tags ls o n ≡ M.raise again go tags (drop n ls) o 0
+  inner_raise tags zero ls o = refl
+  inner_raise tags (suc n) [] o = refl
+  inner_raise tags (suc n) (l ∷ ls) o = inner_raise tags n ls o
