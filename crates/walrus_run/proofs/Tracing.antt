@@ -9,10 +9,11 @@ use Rattle.walrus_run.specs.Controls.{control_of}
 use Rattle.walrus_run.specs.Tables.{place_at}
 use Rattle.walrus_run.specs.declared.machine.control.Construct.{Construct}
 use Rattle.walrus_run.specs.declared.machine.label.Label.{Label}
+use Rattle.walrus_run.specs.declared.machine.run.Outcome.{Outcome}
 use Rattle.walrus_run.specs.declared.machine.state.State.{State}
 use Rattle.walrus_run.specs.Controls.{construct_of}
 use Rattle.walrus_run.specs.Runs.{outcome_of}
-use Rattle.walrus_run.specs.Tracing.{caught_in, label_of, opens, Onwards, seen, run_on}
+use Rattle.walrus_run.specs.Tracing.{caught_in, label_of, opens, Onwards, seen, run_on, Finds}
 use Rattle.walrus_run.proofs.Tables.{here, nothing_at, reverse_left, pushed}
 
 -- ---- the clauses of a legacy `try`
@@ -84,3 +85,15 @@ module _ (again go : M.From ℕ) where
   inner_raise tags zero ls o = refl
   inner_raise tags (suc n) [] o = refl
   inner_raise tags (suc n) (l ∷ ls) o = inner_raise tags n ls o
+
+-- an outcome that was asked for
+pub asked : (cs : List C.Control) (old new : State) (k : Onwards) (x y : Outcome) → Finds old new (λ cs k ls o. k ls (outcome_of x ∷ o)) → x ≡ y → run_on cs old k ≡ run_on cs new (λ ls o. k ls (outcome_of y ∷ o))
+asked cs old new k x y found e = found cs k ∙ ap (λ z. run_on cs new (λ ls o. k ls (outcome_of z ∷ o))) e
+
+-- what a `rethrow` raises again: what its handler caught
+pub rethrown : (again go : M.From ℕ) (cs : List C.Control) (s : State) (n : ℕ) (caught : Option M.Tags) → M.caught_at (opens cs s.labels.items) n ≡ caught →
+    run_on cs s (λ ls o. M.rethrow (λ tags. M.raise again go tags ls o 0) (M.caught_at ls n)) ≡ run_on cs s (λ ls o. M.rethrow (λ tags. M.raise again go tags ls o 0) caught)
+rethrown again go cs s n caught e =
+    let ls = opens cs s.labels.items in
+    let o = map outcome_of s.outcomes.now in
+    ap (λ c. seen s.events.items (M.rethrow (λ tags. M.raise again go tags ls o 0) c)) e

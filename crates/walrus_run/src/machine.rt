@@ -5,6 +5,7 @@ mod label;
 mod respond;
 mod run;
 mod state;
+mod step;
 mod table;
 
 pub use run::{Ending, Event, Outcome, Run};
