@@ -1,5 +1,5 @@
 -- What the machine keeps while it runs: labels, and what a construct answers an exception.
-use Rattle.std.proofs.Common.{◌≡◌, ℕ, zero, suc, ◌+◌, ◌-◌, ◌<◌, ◌≤◌, get_or, List, [], ◌∷◌, ◌++◌, map, drop, take, length, reverse, Option, Some, None, refl, sym, ap, ◌∙◌, arith}
+use Rattle.std.proofs.Common.{Bool, true, false, cond, ◌≡◌, ℕ, zero, suc, ◌+◌, ◌-◌, ◌<◌, ◌≤◌, get_or, List, [], ◌∷◌, ◌++◌, map, drop, take, length, reverse, Option, Some, None, refl, sym, ap, ◌∙◌, arith}
 use Rattle.std.specs.Prelude.{slice_get}
 use Rattle.std.proofs.lemmas.List.{drop_all, length-map, length-reverse, map-append, take-map, take_more}
 use Rattle.wasm_body.specs.Control as C
@@ -97,3 +97,54 @@ rethrown again go cs s n caught e =
     let ls = opens cs s.labels.items in
     let o = map outcome_of s.outcomes.now in
     ap (λ c. seen s.events.items (M.rethrow (λ tags. M.raise again go tags ls o 0) c)) e
+
+-- ---- the way of an `if` that is not taken
+
+module _ (go : M.From ℕ) (cs : List C.Control) (l : M.Label ℕ) (f : M.Found ℕ) (n i : ℕ) (e : f ≡ M.found n (place_at cs i)) (ls : List (M.Label ℕ)) (o : List M.Outcome) where
+  pub other_here : (c : C.Control) (b : Bool) → slice_get cs i ≡ Some c → M.is_else c ≡ b → M.other_way go l ls o f ≡ cond b (go (place_at cs (i + 1)) (l ∷ ls) o) (go (place_at cs (i + 1)) ls o)
+  other_here c b at h =
+      ap (M.other_way go l ls o) e
+      ∙ (ap (M.other_at go l ls o) (here cs i c at) ∙ ap (λ b. cond b (go (place_at cs (i + 1)) (l ∷ ls) o) (go (place_at cs (i + 1)) ls o)) h)
+
+  pub nothing_other : slice_get cs i ≡ None → M.other_way go l ls o f ≡ M.ends M.Returned
+  nothing_other at = ap (M.other_way go l ls o) e ∙ ap (M.other_at go l ls o) (nothing_at cs i at)
+
+pub not_else : (x : Control) → (x ≡ Control.Else → ⊥) → M.is_else (control_of x) ≡ false
+not_else Control.Else h = absurd (h refl)
+not_else _ h = refl
+
+-- ---- openers that ask for nothing
+
+pub entered : (go : M.From ℕ) (x : Construct) → (x ≡ Construct.If → ⊥) → (i : ℕ) (place : List (C.Marked ℕ)) (ls : List (M.Label ℕ)) (o : List M.Outcome) →
+    M.enter go (construct_of x) i place ls o ≡ M.then (M.Executed i) (go place (M.label i (construct_of x) place ∷ ls) o)
+entered go Construct.Block h i place ls o = refl
+entered go Construct.Loop h i place ls o = refl
+entered go Construct.If h i place ls o = absurd (h refl)
+entered go Construct.Try h i place ls o = refl
+entered go (Construct.TryTable cs) h i place ls o = refl
+
+-- ---- steps and turns
+
+module _ (again : M.From ℕ) (cs : List C.Control) (i : ℕ) (ls : List (M.Label ℕ)) (o : List M.Outcome) where
+  pub one_step : (n : ℕ) (c : C.Control) → 0 < n → slice_get cs i ≡ Some c → M.straight again n (place_at cs i) ls o ≡ M.step again (M.straight again (n - 1)) c i (place_at cs (i + 1)) ls o
+  one_step zero c pos at = absurd (omega arith)
+  one_step (suc n) c pos at =
+      let m : n ≡ suc n - 1 = omega arith in
+      ap (λ place. M.straight again (suc n) place ls o) (here cs i c at) ∙ ap (λ k. M.step again (M.straight again k) c i (place_at cs (i + 1)) ls o) m
+
+  pub no_step : (n : ℕ) → slice_get cs i ≡ None → M.straight again n (place_at cs i) ls o ≡ M.ends M.Returned
+  no_step zero at = refl
+  no_step (suc n) at = ap (λ place. M.straight again (suc n) place ls o) (nothing_at cs i at)
+
+-- what goes on behind a turn that is to be paid, where so many are left
+abbrev pub behind_turn : ℕ → M.From ℕ
+behind_turn zero place ls o = M.ends M.TurnsOut
+behind_turn (suc t) place ls o = M.bounded_run length t place ls o
+
+pub one_turn : (turns : ℕ) (place : List (C.Marked ℕ)) (ls : List (M.Label ℕ)) (o : List M.Outcome) → M.bounded_run length turns place ls o ≡ M.straight (behind_turn turns) (length place) place ls o
+one_turn zero place ls o = refl
+one_turn (suc t) place ls o = refl
+
+pub turn_paid : (turns : ℕ) → (turns ≡ 0 → ⊥) → (place : List (C.Marked ℕ)) (ls : List (M.Label ℕ)) (o : List M.Outcome) → behind_turn turns place ls o ≡ M.bounded_run length (turns - 1) place ls o
+turn_paid zero h place ls o = absurd (h refl)
+turn_paid (suc t) h place ls o = let m : t ≡ suc t - 1 = omega arith in ap (λ k. M.bounded_run length k place ls o) m

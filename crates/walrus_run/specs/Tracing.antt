@@ -9,6 +9,7 @@ use Rattle.walrus_run.specs.declared.machine.label.Label.{Label}
 use Rattle.walrus_run.specs.declared.machine.label.Response.{Response}
 use Rattle.walrus_run.specs.declared.machine.state.State.{State}
 use Rattle.walrus_run.specs.declared.machine.state.Next.{Next}
+use Rattle.walrus_run.specs.declared.machine.execute.Stop.{Stop}
 use Rattle.walrus_run.specs.Controls.{construct_of}
 use Rattle.walrus_run.specs.Runs.{outcome_of, event_of, ending_of}
 use Rattle.walrus_run.specs.Tables.{place_at}
@@ -65,3 +66,12 @@ leading again go cs (Next.Over ending) ls o = M.ends (ending_of ending)
 -- A step from the state before comes to where it leads from the state behind.
 abbrev pub Leads : List C.Control → ((again go : M.From ℕ) → Onwards) → State → Next → State → Type 0
 Leads cs step old next new = (again go : M.From ℕ) → run_on cs old (step again go) ≡ run_on cs new (leading again go cs next)
+
+-- to where the steps of a turn lead
+abbrev pub stopping : (again : M.From ℕ) → List C.Control → Stop → Onwards
+stopping again cs (Stop.Turn place) ls o = again (place_at cs place) ls o
+stopping again cs (Stop.Over ending) ls o = M.ends (ending_of ending)
+
+-- The steps of a turn from the state before come to where they lead from the state behind.
+abbrev pub Stops : List C.Control → ((again : M.From ℕ) → Onwards) → State → Stop → State → Type 0
+Stops cs steps old stop new = (again : M.From ℕ) → run_on cs old (steps again) ≡ run_on cs new (stopping again cs stop)

@@ -1,10 +1,10 @@
 //! One step of the machine: an operator by itself.
-ghost use Rattle.std.specs.Prelude.{◌≡◌, ◌+◌, ◌<◌, ◌^◌, IfOk};
+ghost use Rattle.std.specs.Prelude.{◌≡◌, ◌+◌, ◌<◌, ◌^◌, ◌∷◌, IfOk};
 ghost use Rattle.wasm_body.specs.Control as C;
 ghost use Rattle.wasm_body.specs.Machine as M;
 ghost use Rattle.walrus_run.specs.Controls.{action_of, construct_of, control_of};
 ghost use Rattle.walrus_run.specs.Tables.{place_at};
-ghost use Rattle.walrus_run.specs.Tracing.{Leads};
+ghost use Rattle.walrus_run.specs.Tracing.{Does, Leads};
 
 use crate::machine::control::{Action, Construct, Control};
 use crate::machine::label::Label;
@@ -173,6 +173,175 @@ impl<'a> State<'a> {
                 let next = self.raise(table, tags)?;
                 Ok(next)
             }
+        }
+    }
+
+    /// Opens the label of a construct that is opened at a position.
+    fn open_construct(
+        &mut self,
+        construct: &Construct<'a>,
+        position: usize,
+    ) -> Result<(), AllocError>
+        requires { position + 1 < 2 ^ 64 }
+        ensures { IfOk result (λ _. Does self.old self.new (λ cs k ls o. k (M.label position (construct_of construct.now) (place_at cs (position + 1)) ∷ ls) o)) }
+    {
+        let label = Label {
+            opener: position,
+            construct: *construct,
+            caught: None,
+        };
+        self.open(label)?;
+        Ok(())
+    }
+
+    /// The way of an `if` that is not taken: behind its `else`, or behind its `end` where there is
+    /// none.
+    fn other_way(&mut self, table: &Table<'_>, position: usize) -> Result<Next, AllocError>
+        requires { position + 1 < 2 ^ 64 }
+        ensures { IfOk result (λ next. Leads table.now (λ again go ls o. M.other_way go (M.label position C.If (place_at table.now (position + 1))) ls o (M.seek M.is_else 0 0 (place_at table.now (position + 1)))) self.old next self.new) }
+    {
+        let found = table.seek(Wanted::Else, position);
+        let Some(control) = table.control(found.position) else {
+            return Ok(Next::Over(Ending::Returned));
+        };
+        let behind = found.position + 1;
+        match control {
+            Control::Else => {
+                self.open_construct(&Construct::If, position)?;
+                Ok(Next::On(behind))
+            }
+            _ => Ok(Next::On(behind)),
+        }
+    }
+
+    /// An `if`, which asks for `Way`.
+    fn enter_if(&mut self, table: &Table<'_>, position: usize) -> Result<Next, AllocError>
+        requires { position + 1 < 2 ^ 64 }
+        ensures { IfOk result (λ next. Leads table.now (λ again go. M.enter go C.If position (place_at table.now (position + 1))) self.old next self.new) }
+    {
+        let Some(outcome) = self.ask() else {
+            return Ok(Next::Over(Ending::OutcomesOut));
+        };
+        match outcome {
+            Outcome::Way(taken) => {
+                self.executed(position)?;
+                if *taken {
+                    self.open_construct(&Construct::If, position)?;
+                    Ok(Next::On(position + 1))
+                } else {
+                    let next = self.other_way(table, position)?;
+                    Ok(next)
+                }
+            }
+            Outcome::Go | Outcome::Trap | Outcome::Raise(_) | Outcome::Entry(_) => {
+                Ok(Next::Over(Ending::Mismatch))
+            }
+        }
+    }
+
+    /// An operator that opens a construct.
+    fn enter(
+        &mut self,
+        table: &Table<'_>,
+        construct: &Construct<'a>,
+        position: usize,
+    ) -> Result<Next, AllocError>
+        requires { position + 1 < 2 ^ 64 }
+        ensures { IfOk result (λ next. Leads table.now (λ again go. M.enter go (construct_of construct.now) position (place_at table.now (position + 1))) self.old next self.new) }
+    {
+        match construct {
+            Construct::If => {
+                let next = self.enter_if(table, position)?;
+                Ok(next)
+            }
+            _ => {
+                self.executed(position)?;
+                self.open_construct(construct, position)?;
+                Ok(Next::On(position + 1))
+            }
+        }
+    }
+
+    /// An operator that neither opens, parts nor closes a construct.
+    fn act(
+        &mut self,
+        table: &Table<'_>,
+        action: &Action<'_>,
+        position: usize,
+    ) -> Result<Next, AllocError>
+        requires { position + 1 < 2 ^ 64 }
+        ensures { IfOk result (λ next. Leads table.now (λ again go. M.act again go (action_of action.now) position (place_at table.now (position + 1))) self.old next self.new) }
+    {
+        match action {
+            Action::Nop => Ok(Next::On(position + 1)),
+            Action::Plain => {
+                let next = self.plain(table, position)?;
+                Ok(next)
+            }
+            Action::Branch(n) => {
+                self.executed(position)?;
+                let next = self.branch(table, *n)?;
+                Ok(next)
+            }
+            Action::ConditionalBranch(n) => {
+                let next = self.conditional_branch(table, position, *n)?;
+                Ok(next)
+            }
+            Action::TableBranch { targets, default } => {
+                let next = self.table_branch(table, position, targets, *default)?;
+                Ok(next)
+            }
+            Action::Return => {
+                self.executed(position)?;
+                Ok(Next::Over(Ending::Returned))
+            }
+            Action::Unreachable => {
+                self.executed(position)?;
+                Ok(Next::Over(Ending::Trapped))
+            }
+            Action::Throw(tag) => {
+                let next = self.throw(table, position, *tag)?;
+                Ok(next)
+            }
+            Action::ThrowRef => {
+                let next = self.throw_ref(table, position)?;
+                Ok(next)
+            }
+            Action::Rethrow(n) => {
+                let next = self.rethrow(table, position, *n)?;
+                Ok(next)
+            }
+            Action::TailCall => {
+                let next = self.tail_call(table, position)?;
+                Ok(next)
+            }
+        }
+    }
+
+    /// One step: the operator at a position.
+    pub fn step(
+        &mut self,
+        table: &Table<'_>,
+        control: &Control<'a>,
+        position: usize,
+    ) -> Result<Next, AllocError>
+        requires { position + 1 < 2 ^ 64 }
+        ensures { IfOk result (λ next. Leads table.now (λ again go. M.step again go (control_of control.now) position (place_at table.now (position + 1))) self.old next self.new) }
+    {
+        match control {
+            Control::Does(action) => {
+                let next = self.act(table, action, position)?;
+                Ok(next)
+            }
+            Control::Opens(construct) => {
+                let next = self.enter(table, construct, position)?;
+                Ok(next)
+            }
+            Control::Else
+            | Control::Catch(_)
+            | Control::CatchAll
+            | Control::End
+            | Control::Delegate(_) => Ok(self.leave(table)),
         }
     }
 }

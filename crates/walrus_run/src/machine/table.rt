@@ -168,6 +168,13 @@ impl<'a> Table<'a> {
         Ok(Table { controls, ahead })
     }
 
+    /// How many operators there are.
+    pub fn len(&self) -> usize
+        ensures { result ≡ length self.now }
+    {
+        self.controls.len()
+    }
+
     /// What the operator at a position does to the control, or none where there is no operator.
     pub fn control(&self, position: usize) -> Option<&Control<'a>>
         ensures control { control_at result ≡ slice_get self.now position }
