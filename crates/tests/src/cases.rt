@@ -2,6 +2,7 @@
 use crate::by_hand::{Item, function};
 use crate::emitting::written;
 use crate::facts::{answered, visited};
+use crate::named::named;
 use crate::program::printed;
 use crate::reading::read_all;
 use crate::rewriting::rewritten;
@@ -33,6 +34,8 @@ pub(crate) enum About {
     Told,
     /// The body that is written over the demo module.
     Rewritten,
+    /// The operators of a body as its module names them, or its first fault.
+    Named(Setting),
     /// The operators that are read from a place on.
     Read(u32),
     /// What the program prints.
@@ -52,6 +55,7 @@ fn answer(alloc: Global, about: About, text: &str) -> Result<String, Fail> {
         }
         About::Told => Ok(told(alloc, text)?),
         About::Rewritten => Ok(rewritten(alloc, text)?),
+        About::Named(setting) => Ok(named(alloc, setting, text)?),
         About::Read(start) => read_all(alloc, text, start),
         About::Printed => Ok(printed(alloc, text)?),
     }

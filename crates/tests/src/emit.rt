@@ -1,6 +1,6 @@
 ghost use Rattle.std.specs.Prelude.{◌≡◌, ◌⊎◌, [], ◌∷◌, length, OnOk, OnErr, IfErr};
 ghost use Rattle.wasm_body.specs.declared.error.EmitError.TheVariants.{Memory, TooLarge};
-ghost use Rattle.walrus_body.specs.Emitting.{Appends, IsUnchanged, ChangesNothingElse};
+ghost use Rattle.walrus_body.specs.Emitting.{AppendsSome, IsUnchanged, ChangesNothingElse};
 
 use crate::function_text::At;
 use crate::small_module::Example;
@@ -16,7 +16,7 @@ struct Nop {
 }
 
 impl Emit for Nop {
-    ghost appended = { λ nop cx. record {
+    ghost writes = { λ nop cx written. written ≡ record {
       bytes = 1 ∷ [];
       code_transform = (nop.location, length cx.bytes.items) ∷ [];
     } };
@@ -43,7 +43,7 @@ impl Emit for Nop {
 struct Oversized;
 
 impl Emit for Oversized {
-    ghost appended = { λ _ _. record { bytes = []; code_transform = [] } };
+    ghost writes = { λ _ _ _. ⊥ };
 
     ghost changes = { λ _ _ _. ⊥ };
 
@@ -60,7 +60,7 @@ impl Emit for Oversized {
 
 // Writes a part through a reference, which has the part's own meaning.
 fn emit_through_reference<T: Emit>(part: &T, cx: &mut EmitContext<'_>) -> Result<(), EmitError>
-    ensures ok { OnOk result (Appends (T.appended part.now cx.old) cx.old cx.new) }
+    ensures ok { OnOk result (AppendsSome (T.writes part.now cx.old) cx.old cx.new) }
     ensures changes { OnOk result (T.changes part.now cx.old cx.new) }
     ensures refused { IfErr result (T.refuses part.now cx.old) }
     ensures err { OnErr result (IsUnchanged cx.old cx.new) }

@@ -26,6 +26,8 @@ mod lent;
 #[cfg(test)]
 mod modules;
 #[cfg(test)]
+mod named;
+#[cfg(test)]
 mod parse_refusals;
 #[cfg(test)]
 mod parsing;

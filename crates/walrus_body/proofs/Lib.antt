@@ -3,6 +3,7 @@ pub mod EntryMaps
 pub mod Listed
 pub mod NumberingLemmas
 pub mod LocalNumbering
+pub mod LocalsOfTrees
 -- what visitors make of a tree's events
 mod Collecting
 mod Counting

@@ -21,6 +21,10 @@ pub record Appends (written : Written) (old new : EmitContext) : Type 0 where
   pub bytes : new.bytes.items ≡ old.bytes.items ++ written.bytes
   pub code_transform : new.code_transform.items ≡ old.code_transform.items ++ written.code_transform
 
+-- Something of this kind is written.
+abbrev pub AppendsSome : (Written → Type 0) → (old new : EmitContext) → Type 0
+AppendsSome Is old new = (written : Written) × Is written × Appends written old new
+
 -- Beside what is written nothing changes.
 pub record ChangesNothingElse (old new : EmitContext) : Type 0 where
   pub indices : new.indices.now ≡ old.indices.now

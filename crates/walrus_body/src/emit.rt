@@ -36,10 +36,10 @@ pub trait Emit {
     ghost use Rattle.std.specs.Prelude.{◌≡◌, OnOk, OnErr, IfErr};
     ghost use Rattle.wasm_body.specs.declared.error.EmitError.{EmitError};
     ghost use Rattle.walrus_body.specs.declared.emit.EmitContext.{EmitContext};
-    ghost use Rattle.walrus_body.specs.Emitting.{Written, Appends, IsUnchanged};
+    ghost use Rattle.walrus_body.specs.Emitting.{Written, AppendsSome, IsUnchanged};
 
     /// What is written into a context, behind what stands there.
-    ghost appended: { Self → EmitContext → Written };
+    ghost writes: { Self → EmitContext → Written → Type 0 };
 
     /// What else holds between the context before and after.
     ghost changes: { Self → EmitContext → EmitContext → Type 0 };
@@ -49,7 +49,7 @@ pub trait Emit {
 
     /// Writes it. A refusal leaves the context as it was.
     fn emit(&self, cx: &mut EmitContext<'_>) -> Result<(), EmitError>
-        ensures ok { OnOk result (Appends (appended self.now cx.old) cx.old cx.new) }
+        ensures ok { OnOk result (AppendsSome (writes self.now cx.old) cx.old cx.new) }
         ensures changes { OnOk result (changes self.now cx.old cx.new) }
         ensures refused { IfErr result (refuses self.now cx.old) }
         ensures err { OnErr result (IsUnchanged cx.old cx.new) }
@@ -58,7 +58,7 @@ pub trait Emit {
 
 /// A reference is written as its value is.
 impl<T: Emit> Emit for &T {
-    ghost appended = { λ part. T.appended part.now };
+    ghost writes = { λ part. T.writes part.now };
 
     ghost changes = { λ part. T.changes part.now };
 

@@ -3,3 +3,9 @@ mod DemoMaps
 mod DemoNumbers
 -- what is parsed, and what is written of it
 mod RewritingLemmas
+mod RawBodyLemmas
+mod RewrittenLemmas
+-- the operators of an accepted body are read and named
+mod NamesAnywhere
+mod Reading
+mod ReadBodies

@@ -59,7 +59,7 @@ accepted_written ops b a = body_bytes_ok demo_environment demo_numbers demo_has_
 
 -- ---- a function with a tree
 
-one_function : (b : List InstrSeq) (start : ℕ) (t u : FunctionTree) → HasTree b start t → HasTree b start u → t ≡ u
+pub one_function : (b : List InstrSeq) (start : ℕ) (t u : FunctionTree) → HasTree b start t → HasTree b start u → t ≡ u
 one_function b start t u h k = sym h.is ∙ (ap tree_of (one_tree b start h.unfolded k.unfolded h.is_tree k.is_tree) ∙ k.is)
 
 not_ok : {A E : Type 0} (r : Result A E) (e : E) → IsOk r → r ≡ Err e → ⊥
@@ -70,7 +70,7 @@ module _ (f : Function) (t : FunctionTree) (has : IsFunction f t) where
   pub slot_is : first_slot f ≡ 0
   slot_is = ap (λ e. unwrap_or e 0) has.entry
 
-  from_slot : HasTree f.sequences (first_slot f) t
+  pub from_slot : HasTree f.sequences (first_slot f) t
   from_slot = subst (λ n. HasTree f.sequences n t) (sym slot_is) has.holds
 
   pub begins : HasEntry f

@@ -7,4 +7,5 @@ pub mod WritableTexts
 pub mod ClauseKinds
 pub mod Fitting
 pub mod NumberedBodies
+pub mod OtherLocals
 pub mod EveryInstruction

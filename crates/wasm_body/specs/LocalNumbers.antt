@@ -9,16 +9,42 @@ use Rattle.std.specs.declared.cmp.Ordering.TheVariants.{Less}
 use Rattle.walrus_ir.specs.declared.val_type.ValType.{ValType}
 use Rattle.walrus_ir.specs.Types.{same_type}
 use Rattle.walrus_ir.specs.TypeOrder.{type_order}
-use Rattle.walrus_ir.specs.Results.{◌>>=◌, unless, each}
+use Rattle.walrus_ir.specs.Results.{◌>>=◌, unless, some_or, each}
+use Rattle.walrus_ir.specs.Tree.{Items, no_items, item, Sequences, no_sequences, sequence}
 use Rattle.walrus_ir.specs.Unfolding.{among, Apart}
 use Rattle.wasm_body.specs.declared.error.EmitError.{EmitError}
-use Rattle.wasm_body.specs.declared.error.EmitError.TheVariants.{TooLarge}
+use Rattle.wasm_body.specs.declared.error.EmitError.TheVariants.{TooLarge, UnnumberedLocal}
+use Rattle.wasm_ops.specs.Operations.{Immediate, local}
+use Rattle.wasm_body.specs.FunctionTree.{Head, Instruction, FunctionTree}
 use Rattle.wasm_body.specs.Translation.{translate_value}
 use Rattle.wasm_body.specs.Bytes.{Numbers, numbers_in_32_bits}
 
 -- A local: its type and its id.
 abbrev pub Local : Type 0
 Local = ValType ℕ × ℕ
+
+-- ---- which locals are used
+
+abbrev pub locals_among : {L B : Type 0} → List (Immediate L B) → List ℕ
+locals_among [] = []
+locals_among (local n ∷ is) = n ∷ locals_among is
+locals_among (i ∷ is) = locals_among is
+
+abbrev mutual
+  pub locals_in : Items Head Instruction → List ℕ
+  locals_in no_items = []
+  locals_in (item i inside rest) = locals_among i.op.immediates ++ (locals_inside inside ++ locals_in rest)
+
+  pub locals_inside : Sequences Head Instruction → List ℕ
+  locals_inside no_sequences = []
+  locals_inside (sequence head items rest) = locals_in items ++ locals_inside rest
+
+-- the locals that the operators of a tree name, in walk order, repeats kept
+abbrev pub locals_of : FunctionTree → List ℕ
+locals_of t = locals_in t.items
+
+abbrev pub uses_local : FunctionTree → ℕ → Bool
+uses_local t id = among id (locals_of t)
 
 -- ---- which locals are declared, and in which order
 
@@ -49,6 +75,10 @@ last_place (x ∷ xs) id = option_or (option_map (λ n. n + 1) (last_place xs id
 -- The number of a local: its last place in the arguments and, behind them, the other locals.
 abbrev pub number_of_local : (args others : List ℕ) → ℕ → Option ℕ
 number_of_local args others id = last_place (args ++ others) id
+
+-- the numbers of other ids, and these of locals
+abbrev pub with_locals : Numbers → (args others : List ℕ) → Numbers
+with_locals to args others = record { number_of = to.number_of; local_number = λ id. some_or (number_of_local args others id) UnnumberedLocal }
 
 -- ---- declarations
 

@@ -1,6 +1,6 @@
 //! Laws of trees and texts, each the contract of a function that does nothing.
 ghost use Rattle.wasm_body.specs.ExecutionLaws.{NamedExecutionsKept, ExecutionsKept, RunsShowOperators, CountSuffices};
-ghost use Rattle.wasm_body.specs.LocationLaws.{PlacesIncrease, PairsMatchText, NamedLocationsAreHonest, LocationsAreHonest};
+ghost use Rattle.wasm_body.specs.LocationLaws.{PlacesIncrease, PairsMatchText, TextStandsFor, NamedLocationsAreHonest, LocationsAreHonest};
 ghost use Rattle.wasm_body.specs.ReadBack.{ReadBack, NormalFormAgain, SameBytes, InverseUndoes, AcceptedAgain};
 ghost use Rattle.wasm_body.specs.TextLaws.{LawfulAreTyped, HaveTexts, NormalAgain, OneBody, OneSequence, SameTexts};
 ghost use Rattle.wasm_body.specs.LocalNumbers.{OneDeclared, OneLocalEach, PlacesAreNumbers, RunsAreMaximal};
@@ -58,12 +58,15 @@ pub fn law_executions()
 
 /// Location pairs are honest along every run. The places of the pairs that are written for a tree
 /// strictly increase. Those of a body's normal form are one for each operator of its text, at its
-/// location; and whatever stands before the bytes, the pair at the place of the operator of an
+/// location; each operator of the text stands for one of the body, and has that one's location, but
+/// an `else` that is added has that of the `end` behind it, and this `end` and each `delegate` have
+/// the default. And whatever stands before the bytes, the pair at the place of the operator of an
 /// event holds the location of the operator of the same event of the source's run (of an exception
 /// that is taken, of the openers).
 pub fn law_locations()
     ensures increase { PlacesIncrease }
     ensures of_text { PairsMatchText }
+    ensures stands_for { TextStandsFor }
     ensures named { NamedLocationsAreHonest }
     ensures accepted { LocationsAreHonest }
 {}

@@ -51,7 +51,7 @@ module _ {L B M C E : Type 0} (t : Translation L B M C E) where
   abbrev KeepsKind : Immediate L B → Immediate M C → Type 0
   KeepsKind i j = kind_in j ≡ kind_in i
 
-  kind_kept : (i : Immediate L B) (j : Immediate M C) → translate_immediate t i ≡ Ok j → KeepsKind i j
+  pub kind_kept : (i : Immediate L B) (j : Immediate M C) → translate_immediate t i ≡ Ok j → KeepsKind i j
   kind_kept (index space n) j e = through (t.index space n) (index space) (KeepsKind (index space n)) (λ y h. refl) j e
   kind_kept (local n) j e = through (t.local n) local (KeepsKind (local n)) (λ y h. refl) j e
   kind_kept (label l) j e = through (t.label l) label (KeepsKind (label l)) (λ y h. refl) j e

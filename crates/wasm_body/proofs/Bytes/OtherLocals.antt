@@ -1,0 +1,193 @@
+-- The bytes of a tree are the same under numbers that agree at the locals that it names; and of a normal form these are
+-- among those that naming gave.
+use Rattle.std.specs.Prelude.{◌≡◌, ℕ, List, [], ◌∷◌, ◌++◌, Some, None, IsOk, Result, Ok, Err, if◌then◌else◌}
+use Rattle.std.specs.List.{AllByRecursion}
+use Rattle.std.proofs.Common.{refl, ap, sym, subst, ◌∙◌}
+use Rattle.walrus_ir.specs.declared.val_type.InstrSeqType.{InstrSeqType}
+use Rattle.walrus_ir.specs.declared.val_type.InstrSeqType.TheVariants.{Simple, MultiValue}
+use Rattle.walrus_ir.specs.Results.{◌>>=◌, each, gather, with_fault}
+use Rattle.walrus_ir.specs.Tree.{Items, no_items, item, Sequences, no_sequences, sequence, alone}
+use Rattle.wasm_ops.specs.declared.types.BlockType.{BlockType}
+use Rattle.wasm_ops.specs.Operations.{Immediate, local, Operation, operation, RawOperation}
+use Rattle.wasm_body.specs.declared.error.EmitError.{EmitError}
+use Rattle.wasm_body.specs.declared.error.EmitError.TheVariants.{BadClauses}
+use Rattle.wasm_body.specs.declared.error.ParseError.TheVariants.{Index}
+use Rattle.wasm_body.specs.Control.{Role, a_block, a_loop, an_if, a_try, a_try_table, role_of, end_operation, Control, Action, control_of}
+use Rattle.wasm_body.specs.SourceTree.{Sequence, Empty, Single, Wrapped, IfThen, IfElse, TryCatch, TryDelegate, Clauses, Ended, Catches, CatchesAll}
+use Rattle.wasm_body.specs.Frames.{Frame}
+use Rattle.wasm_body.specs.Translation.{Translation, translate, translate_immediate, translate_immediates, Located, at_location}
+use Rattle.wasm_body.specs.Naming.{Environment, NamedOperation, naming}
+use Rattle.wasm_body.specs.FunctionTree.{Head, LegacyClause, handles, handles_all, delegates, Instruction, FunctionTree}
+use Rattle.wasm_body.specs.NormalForm.{Typing, kept, kept_operation, Fate, Drops, Stays, Cuts, fate, with_fate, instruction, legacy_clauses, normal, handlers}
+use Rattle.wasm_body.specs.FlatText.{TextOperation, Writing, then_by, typed, are_lawful, try_closers, if_closers, closers, written, opened, first_type, text, texts, tree_text}
+use Rattle.wasm_body.specs.LocalNumbers.{locals_among, locals_in, locals_inside, locals_of}
+use Rattle.wasm_body.specs.Bytes.{Numbers, in_32_bits, numbered_block, numbering, bytes_of, tree_bytes}
+use Rattle.wasm_body.proofs.Translation.Steps.{bound, after_one, after_two, ok-sure}
+use Rattle.wasm_body.proofs.Translation.LocalsKept.{locals_kept}
+use Rattle.wasm_body.proofs.Structure.Along.{Each, EachIn}
+
+-- ---- one operator
+
+module _ {L B M C E : Type 0} (t : Translation L B M C E) (g : ℕ → Result ℕ E) where
+  -- with other numbers of locals
+  abbrev renumbered : Translation L B M C E
+  renumbered = record t { local = g }
+
+  abbrev Agree : List ℕ → Type 0
+  Agree ls = AllByRecursion (λ n. t.local n ≡ g n) ls
+
+  same_immediates : (is : List (Immediate L B)) → Agree (locals_among is) → translate_immediates t is ≡ translate_immediates renumbered is
+  same_immediates [] h = refl
+  same_immediates (local n ∷ is) h =
+      after_two (t.local n >>= λ m. Ok (local m)) (g n >>= λ m. Ok (local m)) (translate_immediates t is) (translate_immediates renumbered is) (λ j js. Ok (j ∷ js))
+      (ap (λ r. r >>= λ m. Ok (local m)) h.0) (same_immediates is h.1)
+  same_immediates (i ∷ is) h = ap (λ r. translate_immediate t i >>= λ j. r >>= λ js. Ok (j ∷ js)) (same_immediates is h)
+
+  same_operator : (o : Operation L B) → Agree (locals_among o.immediates) → translate t o ≡ translate renumbered o
+  same_operator o h = ap (λ r. r >>= λ is. Ok (operation o.opcode is)) (same_immediates o.immediates h)
+
+-- ---- the text of a tree
+
+-- no closer names a local
+abbrev NamesNone : TextOperation → Type 0
+NamesNone c = locals_among c.immediates ≡ []
+
+try_names_none : (cs : List LegacyClause) → AllByRecursion NamesNone (try_closers cs)
+try_names_none [] = (refl, tt)
+try_names_none (handles t ∷ cs) = (refl, try_names_none cs)
+try_names_none (handles_all ∷ cs) = (refl, try_names_none cs)
+try_names_none (delegates n ∷ cs) = (refl, tt)
+
+if_names_none : {S I : Type 0} → (ss : Sequences S I) → AllByRecursion NamesNone (if_closers ss)
+if_names_none no_sequences = tt
+if_names_none (sequence h is no_sequences) = (refl, tt)
+if_names_none (sequence h is (sequence g js r)) = (refl, (refl, tt))
+
+names_none : {S I : Type 0} → (r : Role) (cs : List LegacyClause) (ss : Sequences S I) → AllByRecursion NamesNone (closers r cs ss)
+names_none a_block cs ss = (refl, tt)
+names_none a_loop cs ss = (refl, tt)
+names_none a_try_table cs ss = (refl, tt)
+names_none an_if cs ss = if_names_none ss
+names_none a_try cs ss = try_names_none cs
+names_none _ cs ss = tt
+
+parted : (P : ℕ → Type 0) (xs ys : List ℕ) → AllByRecursion P (xs ++ ys) → AllByRecursion P xs × AllByRecursion P ys
+parted P [] ys h = (tt, h)
+parted P (x ∷ xs) ys h = let rest = parted P xs ys h.1 in ((h.0, rest.0), rest.1)
+
+module _ {M C : Type 0} (w : Writing M C) (g : ℕ → Result ℕ EmitError) where
+  abbrev Answers : Type 0
+  Answers = List (Result (Located (Operation M C)) EmitError)
+
+  same_opened : (i : Instruction) (t : InstrSeqType) → Agree w g (locals_among i.op.immediates) → opened w i t ≡ opened (renumbered w g) i t
+  same_opened i t h =
+      ap (λ r. if are_lawful i.clauses then (r >>= λ x. Ok (at_location x i.location)) else Err BadClauses) (same_operator (typed w t) g i.op h)
+
+  same_written : (c : TextOperation) (l : ℕ) → NamesNone c → written w c l ≡ written (renumbered w g) c l
+  same_written c l h = ap (λ r. r >>= λ x. Ok (at_location x l)) (same_operator w g c (subst (Agree w g) (sym h) tt))
+
+  mutual
+    same_text : (is : Items Head Instruction) (k : Answers) → Agree w g (locals_in is) → text w is k ≡ text (renumbered w g) is k
+    same_text no_items k h = refl
+    same_text (item i ss r) k h =
+        let P : ℕ → Type 0 = λ n. w.local n ≡ g n in
+        let own = parted P (locals_among i.op.immediates) (locals_inside ss ++ locals_in r) h in
+        let inside = parted P (locals_inside ss) (locals_in r) own.1 in
+        let cs = closers (role_of i.op.opcode) i.clauses ss in
+        ap (λ x. x ∷ texts w cs ss (text w r k)) (same_opened i (first_type ss) own.0)
+        ∙ ap (λ l. opened (renumbered w g) i (first_type ss) ∷ l)
+        (ap (texts w cs ss) (same_text r k inside.1) ∙ same_texts cs ss (text (renumbered w g) r k) (names_none (role_of i.op.opcode) i.clauses ss) inside.0)
+
+    same_texts : (cs : List TextOperation) (ss : Sequences Head Instruction) (k : Answers) → AllByRecursion NamesNone cs → Agree w g (locals_inside ss)
+        → texts w cs ss k ≡ texts (renumbered w g) cs ss k
+    same_texts [] no_sequences k n h = refl
+    same_texts [] (sequence d is r) k n h = refl
+    same_texts (c ∷ cs) no_sequences k n h = refl
+    same_texts (c ∷ cs) (sequence d is r) k n h =
+        let each = parted (λ n. w.local n ≡ g n) (locals_in is) (locals_inside r) h in
+        ap (text w is)
+        (ap (λ x. x ∷ texts w cs r k) (same_written c d.end_location n.0) ∙ ap (λ l. written (renumbered w g) c d.end_location ∷ l) (same_texts cs r k n.1 each.1))
+        ∙ same_text is (written (renumbered w g) c d.end_location ∷ texts (renumbered w g) cs r k) each.0
+
+-- ---- the bytes of a tree
+
+module _ (to : Numbers) (g : ℕ → Result ℕ EmitError) where
+  abbrev other : Numbers
+  other = record { number_of = to.number_of; local_number = g }
+
+  same_block : (t : InstrSeqType) → numbered_block to t ≡ numbered_block other t
+  same_block (Simple None) = refl
+  same_block (Simple (Some t)) = refl
+  same_block (MultiValue id) = refl
+
+  -- in 32 bits
+  abbrev fitted : ℕ → Result ℕ EmitError
+  fitted id = g id >>= in_32_bits
+
+  writings : renumbered (then_by (numbering to)) fitted ≡ then_by (numbering other)
+  writings = λ k. record (then_by (numbering other)) { block = λ t. same_block t k }
+
+  fit_alike : (ls : List ℕ) → AllByRecursion (λ id. to.local_number id ≡ g id) ls → Agree (then_by (numbering to)) fitted ls
+  fit_alike [] h = tt
+  fit_alike (l ∷ ls) h = (ap (λ r. r >>= in_32_bits) h.0, fit_alike ls h.1)
+
+  pub same_bytes_at : (t : FunctionTree) → AllByRecursion (λ id. to.local_number id ≡ g id) (locals_of t) → tree_bytes to t ≡ tree_bytes other t
+  same_bytes_at t h =
+      let w = then_by (numbering to) in
+      let all = same_text w fitted t.items (written w end_operation t.head.end_location ∷ []) (fit_alike (locals_of t) h) in
+      let whole : tree_text w t ≡ tree_text (renumbered w fitted) t = ap gather all in
+      ap (λ r. r >>= λ xs. Ok (bytes_of xs)) (whole ∙ ap (λ v. tree_text v t) writings)
+
+-- ---- the locals of a normal form
+
+module _ (P : ℕ → Type 0) where
+  -- an operator's locals
+  abbrev Has : Located NamedOperation → Control → Type 0
+  Has a c = AllByRecursion P (locals_among a.op.immediates)
+
+  kept_has : (a : Located NamedOperation) (cs : List LegacyClause) → AllByRecursion P (locals_among a.op.immediates) → AllByRecursion P (locals_among (instruction a cs).op.immediates)
+  kept_has a cs h =
+      subst (AllByRecursion P) (sym (locals_kept kept (λ n. refl) a.op.immediates (kept_operation a.op).immediates (ok-sure (translate_immediates kept a.op.immediates)))) h
+
+  joined : (xs ys : List ℕ) → AllByRecursion P xs → AllByRecursion P ys → AllByRecursion P (xs ++ ys)
+  joined [] ys h g = g
+  joined (x ∷ xs) ys h g = (h.0, joined xs ys h.1 g)
+
+  module _ (m : Typing) where
+    -- an instruction's locals, those of the sequences in it, and those of what follows
+    item_has : (a : Located NamedOperation) (cs : List LegacyClause) (inside : List ℕ) (r : Sequence (Located NamedOperation)) → AllByRecursion P (locals_among a.op.immediates)
+        → AllByRecursion P inside → AllByRecursion P (locals_in (normal m r)) → AllByRecursion P (locals_among (instruction a cs).op.immediates ++ (inside ++ locals_in (normal m r)))
+    item_has a cs inside r h g k =
+        joined (locals_among (instruction a cs).op.immediates) (inside ++ locals_in (normal m r)) (kept_has a cs h) (joined inside (locals_in (normal m r)) g k)
+
+    single_has : (f : Fate) (a : Located NamedOperation) (r : Items Head Instruction) → AllByRecursion P (locals_among a.op.immediates) → AllByRecursion P (locals_in r)
+        → AllByRecursion P (locals_in (with_fate f (instruction a []) r))
+    single_has Drops a r h k = k
+    single_has Stays a r h k = joined (locals_among (instruction a []).op.immediates) (locals_in r) (kept_has a [] h) k
+    single_has Cuts a r h k = joined (locals_among (instruction a []).op.immediates) [] (kept_has a [] h) tt
+
+    mutual
+      pub normal_has : (s : Sequence (Located NamedOperation)) → Each Has s → AllByRecursion P (locals_in (normal m s))
+      normal_has Empty h = tt
+      normal_has (Single a action r) h = single_has (fate action) a (normal m r) h.0 (normal_has r h.1)
+      normal_has (Wrapped a w b e r) h = item_has a [] (locals_in (normal m b) ++ []) r h.0 (joined (locals_in (normal m b)) [] (normal_has b h.1) tt) (normal_has r h.3)
+      normal_has (IfThen a b e r) h = item_has a [] (locals_in (normal m b) ++ []) r h.0 (joined (locals_in (normal m b)) [] (normal_has b h.1) tt) (normal_has r h.3)
+      normal_has (IfElse a b l c e r) h =
+          item_has a [] (locals_in (normal m b) ++ (locals_in (normal m c) ++ [])) r h.0
+          (joined (locals_in (normal m b)) (locals_in (normal m c) ++ []) (normal_has b h.1) (joined (locals_in (normal m c)) [] (normal_has c h.3) tt)) (normal_has r h.5)
+      normal_has (TryCatch a b cs r) h =
+          item_has a (legacy_clauses cs) (locals_in (normal m b) ++ locals_inside (handlers m a.op cs)) r h.0
+          (joined (locals_in (normal m b)) (locals_inside (handlers m a.op cs)) (normal_has b h.1) (handlers_have a.op cs h.2)) (normal_has r h.3)
+      normal_has (TryDelegate a b e n r) h =
+          item_has a (delegates n ∷ []) (locals_in (normal m b) ++ []) r h.0 (joined (locals_in (normal m b)) [] (normal_has b h.1) tt) (normal_has r h.3)
+
+      handlers_have : (o : NamedOperation) (cs : Clauses (Located NamedOperation)) → EachIn Has cs → AllByRecursion P (locals_inside (handlers m o cs))
+      handlers_have o (Ended e) h = tt
+      handlers_have o (Catches a t b cs) h = joined (locals_in (normal m b)) (locals_inside (handlers m o cs)) (normal_has b h.1) (handlers_have o cs h.2)
+      handlers_have o (CatchesAll a b e) h = joined (locals_in (normal m b)) [] (normal_has b h.1) tt
+
+-- ---- where the names come from
+
+-- what naming gives for a local
+abbrev pub IsOfLocal : Environment → ℕ → Type 0
+IsOfLocal env id = (n : ℕ) × (env.local_of n ≡ Ok id)
