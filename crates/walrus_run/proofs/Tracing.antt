@@ -5,13 +5,13 @@ use Rattle.std.proofs.lemmas.List.{drop_all, length-map, length-reverse, map-app
 use Rattle.wasm_body.specs.Control as C
 use Rattle.wasm_body.specs.Machine as M
 use Rattle.walrus_run.specs.declared.machine.control.Control.{Control}
-use Rattle.walrus_run.specs.Controls.{control_of}
+use Rattle.walrus_run.specs.Controls.{control_meaning}
 use Rattle.walrus_run.specs.Tables.{place_at}
 use Rattle.walrus_run.specs.declared.machine.control.Construct.{Construct}
 use Rattle.walrus_run.specs.declared.machine.label.Label.{Label}
 use Rattle.walrus_run.specs.declared.machine.run.Outcome.{Outcome}
 use Rattle.walrus_run.specs.declared.machine.state.State.{State}
-use Rattle.walrus_run.specs.Controls.{construct_of}
+use Rattle.walrus_run.specs.Controls.{construct_meaning}
 use Rattle.walrus_run.specs.Runs.{outcome_of}
 use Rattle.walrus_run.specs.Tracing.{caught_in, label_of, opens, Onwards, seen, run_on, Finds}
 use Rattle.walrus_run.proofs.Tables.{here, nothing_at, reverse_left, pushed}
@@ -26,7 +26,7 @@ pub no_clause_here : (tags : M.Tags) (cs : List C.Control) (f : M.Found ℕ) (n 
 no_clause_here tags cs f n i e at = sym (ap (M.try_responds tags) e ∙ ap (M.clause_found n) (nothing_at cs i at))
 
 pub no_clause : (x : Control) (n : ℕ) (rest : List (C.Marked ℕ)) → ((tag : ℕ) → x ≡ Control.Catch tag → ⊥) → (x ≡ Control.CatchAll → ⊥) → ((n : ℕ) → x ≡ Control.Delegate n → ⊥) →
-    M.Passes ≡ M.clause_at n (control_of x) rest
+    M.Passes ≡ M.clause_at n (control_meaning x) rest
 no_clause (Control.Catch tag) n rest a b c = absurd (a tag refl)
 no_clause Control.CatchAll n rest a b c = absurd (b refl)
 no_clause (Control.Delegate m) n rest a b c = absurd (c m refl)
@@ -74,7 +74,7 @@ module _ (again go : M.From ℕ) where
 
   -- the branch to a construct that is no loop
   pub arrive_out : (x : Construct) → (x ≡ Construct.Loop → ⊥) → (l : M.Label ℕ) (ls : List (M.Label ℕ)) (o : List M.Outcome) →
-      M.arrive again go (construct_of x) l ls o ≡ go (M.behind_closer l.behind) ls o
+      M.arrive again go (construct_meaning x) l ls o ≡ go (M.behind_closer l.behind) ls o
   arrive_out Construct.Block h l ls o = refl
   arrive_out Construct.Loop h l ls o = absurd (h refl)
   arrive_out Construct.If h l ls o = refl
@@ -109,14 +109,14 @@ module _ (go : M.From ℕ) (cs : List C.Control) (l : M.Label ℕ) (f : M.Found 
   pub nothing_other : slice_get cs i ≡ None → M.other_way go l ls o f ≡ M.ends M.Returned
   nothing_other at = ap (M.other_way go l ls o) e ∙ ap (M.other_at go l ls o) (nothing_at cs i at)
 
-pub not_else : (x : Control) → (x ≡ Control.Else → ⊥) → M.is_else (control_of x) ≡ false
+pub not_else : (x : Control) → (x ≡ Control.Else → ⊥) → M.is_else (control_meaning x) ≡ false
 not_else Control.Else h = absurd (h refl)
 not_else _ h = refl
 
 -- ---- openers that ask for nothing
 
 pub entered : (go : M.From ℕ) (x : Construct) → (x ≡ Construct.If → ⊥) → (i : ℕ) (place : List (C.Marked ℕ)) (ls : List (M.Label ℕ)) (o : List M.Outcome) →
-    M.enter go (construct_of x) i place ls o ≡ M.then (M.Executed i) (go place (M.label i (construct_of x) place ∷ ls) o)
+    M.enter go (construct_meaning x) i place ls o ≡ M.then (M.Executed i) (go place (M.label i (construct_meaning x) place ∷ ls) o)
 entered go Construct.Block h i place ls o = refl
 entered go Construct.Loop h i place ls o = refl
 entered go Construct.If h i place ls o = absurd (h refl)

@@ -5,7 +5,7 @@ use Rattle.wasm_body.specs.Control.{Marked}
 use Rattle.wasm_body.specs.Control as C
 use Rattle.wasm_body.specs.Machine.{Shape, Part, shape_of, tail, seek, catches, is_else}
 use Rattle.wasm_body.specs.Places.{placed_from}
-use Rattle.walrus_run.specs.Controls.{control_of}
+use Rattle.walrus_run.specs.Controls.{control_meaning}
 use Rattle.walrus_run.specs.declared.machine.control.Control.{Control}
 use Rattle.walrus_run.specs.declared.machine.table.Ahead.{Ahead}
 use Rattle.walrus_run.specs.declared.machine.table.Levels.{Levels}
@@ -16,7 +16,7 @@ abbrev pub place_at : List C.Control → ℕ → List (Marked ℕ)
 place_at cs i = drop i (placed_from 0 cs)
 
 abbrev pub control_at : Option (Bor Control) → Option C.Control
-control_at c = option_map (λ x. control_of x.now) c
+control_at c = option_map (λ x. control_meaning x.now) c
 
 -- what stands ahead of a place in a construct around it, the innermost being that of depth 0
 pub record IsAhead (cs : List C.Control) (depth : ℕ) (place : ℕ) (a : Ahead) : Type 0 where

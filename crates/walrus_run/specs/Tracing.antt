@@ -9,8 +9,8 @@ use Rattle.walrus_run.specs.declared.machine.label.Label.{Label}
 use Rattle.walrus_run.specs.declared.machine.label.Response.{Response}
 use Rattle.walrus_run.specs.declared.machine.state.State.{State}
 use Rattle.walrus_run.specs.declared.machine.state.Next.{Next}
-use Rattle.walrus_run.specs.declared.machine.execute.Stop.{Stop}
-use Rattle.walrus_run.specs.Controls.{construct_of}
+use Rattle.walrus_run.specs.declared.machine.execution.Stop.{Stop}
+use Rattle.walrus_run.specs.Controls.{construct_meaning}
 use Rattle.walrus_run.specs.Runs.{outcome_of, event_of, ending_of}
 use Rattle.walrus_run.specs.Tables.{place_at}
 
@@ -21,7 +21,7 @@ abbrev pub caught_in : Option (Bor (BTreeSet ℕ)) → Option M.Tags
 caught_in caught = option_map (λ tags. tags.now.keys) caught
 
 abbrev pub label_of : List C.Control → Label → M.Label ℕ
-label_of cs l = record { opener = l.opener; construct = construct_of l.construct; behind = place_at cs (l.opener + 1); caught = caught_in l.caught }
+label_of cs l = record { opener = l.opener; construct = construct_meaning l.construct; behind = place_at cs (l.opener + 1); caught = caught_in l.caught }
 
 -- the labels that are open, innermost first, where the code has the innermost last
 abbrev pub opens : List C.Control → List Label → List (M.Label ℕ)

@@ -182,6 +182,11 @@ impl NamedBody {
         Ok(())
     }
 
+    /// What its lists take their memory from.
+    pub(crate) fn allocator(&self) -> Global {
+        *self.operators.allocator()
+    }
+
     /// Its operators, in order. It takes no memory.
     pub fn ops(&self) -> &[NamedOp]
         ensures { map named_operation result.now ≡ self.now.operators }

@@ -71,12 +71,12 @@ pub enum Control<'a> {
 
 impl Control<'_> {
     ghost use Rattle.std.specs.Prelude.{◌≡◌};
-    ghost use Rattle.walrus_run.specs.Controls.{control_of};
+    ghost use Rattle.walrus_run.specs.Controls.{control_meaning};
     ghost use Rattle.walrus_run.specs.Tables.{is_part};
 
     /// Whether it parts a construct.
     pub fn is_part(&self) -> bool
-        ensures { result ≡ is_part (control_of self.now) }
+        ensures { result ≡ is_part (control_meaning self.now) }
     {
         matches!(self, Control::Else | Control::Catch(_) | Control::CatchAll)
     }

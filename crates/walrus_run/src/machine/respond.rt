@@ -2,7 +2,7 @@
 ghost use Rattle.std.specs.Prelude.{◌≡◌, ◌+◌, ℕ, List, map};
 ghost use Rattle.wasm_body.specs.Control.{Control as Meaning};
 ghost use Rattle.wasm_body.specs.Machine as M;
-ghost use Rattle.walrus_run.specs.Controls.{clause_of};
+ghost use Rattle.walrus_run.specs.Controls.{clause_meaning};
 ghost use Rattle.walrus_run.specs.Tables.{place_at};
 ghost use Rattle.walrus_run.specs.Tracing.{label_of, response_of};
 
@@ -15,7 +15,7 @@ use walrus_ir::TagId;
 
 /// What a `try_table` with these clauses does: the first that takes the exception is taken.
 fn jump(clauses: &[NamedCatch], tags: &BTreeSet<TagId>) -> Response
-    ensures { (cs : List Meaning) → response_of cs result ≡ M.jump tags.now.keys 0 (map clause_of clauses.now) }
+    ensures { (cs : List Meaning) → response_of cs result ≡ M.jump tags.now.keys 0 (map clause_meaning clauses.now) }
 {
     'clauses: for (i, clause) in clauses.iter().enumerate() {
         let takes = match clause.tag {

@@ -2,7 +2,7 @@
 ghost use Rattle.std.specs.Prelude.{◌≡◌, ◌+◌, ◌<◌, ◌^◌, ◌∷◌, IfOk};
 ghost use Rattle.wasm_body.specs.Control as C;
 ghost use Rattle.wasm_body.specs.Machine as M;
-ghost use Rattle.walrus_run.specs.Controls.{action_of, construct_of, control_of};
+ghost use Rattle.walrus_run.specs.Controls.{action_meaning, construct_meaning, control_meaning};
 ghost use Rattle.walrus_run.specs.Tables.{place_at};
 ghost use Rattle.walrus_run.specs.Tracing.{Does, Leads};
 
@@ -183,7 +183,7 @@ impl<'a> State<'a> {
         position: usize,
     ) -> Result<(), AllocError>
         requires { position + 1 < 2 ^ 64 }
-        ensures { IfOk result (λ _. Does self.old self.new (λ cs k ls o. k (M.label position (construct_of construct.now) (place_at cs (position + 1)) ∷ ls) o)) }
+        ensures { IfOk result (λ _. Does self.old self.new (λ cs k ls o. k (M.label position (construct_meaning construct.now) (place_at cs (position + 1)) ∷ ls) o)) }
     {
         let label = Label {
             opener: position,
@@ -247,7 +247,7 @@ impl<'a> State<'a> {
         position: usize,
     ) -> Result<Next, AllocError>
         requires { position + 1 < 2 ^ 64 }
-        ensures { IfOk result (λ next. Leads table.now (λ again go. M.enter go (construct_of construct.now) position (place_at table.now (position + 1))) self.old next self.new) }
+        ensures { IfOk result (λ next. Leads table.now (λ again go. M.enter go (construct_meaning construct.now) position (place_at table.now (position + 1))) self.old next self.new) }
     {
         match construct {
             Construct::If => {
@@ -270,7 +270,7 @@ impl<'a> State<'a> {
         position: usize,
     ) -> Result<Next, AllocError>
         requires { position + 1 < 2 ^ 64 }
-        ensures { IfOk result (λ next. Leads table.now (λ again go. M.act again go (action_of action.now) position (place_at table.now (position + 1))) self.old next self.new) }
+        ensures { IfOk result (λ next. Leads table.now (λ again go. M.act again go (action_meaning action.now) position (place_at table.now (position + 1))) self.old next self.new) }
     {
         match action {
             Action::Nop => Ok(Next::On(position + 1)),
@@ -326,7 +326,7 @@ impl<'a> State<'a> {
         position: usize,
     ) -> Result<Next, AllocError>
         requires { position + 1 < 2 ^ 64 }
-        ensures { IfOk result (λ next. Leads table.now (λ again go. M.step again go (control_of control.now) position (place_at table.now (position + 1))) self.old next self.new) }
+        ensures { IfOk result (λ next. Leads table.now (λ again go. M.step again go (control_meaning control.now) position (place_at table.now (position + 1))) self.old next self.new) }
     {
         match control {
             Control::Does(action) => {

@@ -4,7 +4,7 @@ ghost use Rattle.std.specs.Prelude.{◌≡◌, ◌+◌, ◌<◌, ◌≤◌, ℕ,
 ghost use Rattle.wasm_body.specs.Control.{Control as Meaning};
 ghost use Rattle.wasm_body.specs.Machine.{found, has, behind_closer};
 ghost use Rattle.wasm_body.specs.Machine as M;
-ghost use Rattle.walrus_run.specs.Controls.{control_of};
+ghost use Rattle.walrus_run.specs.Controls.{control_meaning};
 ghost use Rattle.walrus_run.specs.Tables.{place_at, IsAhead, StandAhead, AreAhead, control_at, test_of, passes};
 
 use crate::machine::control::Control;
@@ -50,7 +50,7 @@ impl Levels {
         requires { position < self.old.end }
         ensures end { self.new.end ≡ self.old.end }
         ensures levels { IfOk result (λ _. (cs : List Meaning)
-            → slice_get cs position ≡ Some (control_of control.now)
+            → slice_get cs position ≡ Some (control_meaning control.now)
             → StandAhead cs (position + 1) self.old
             → StandAhead cs position self.new) }
     {
@@ -98,7 +98,7 @@ pub fn has_tag(tags: &BTreeSet<TagId>, tag: TagId) -> bool
 impl Wanted<'_> {
     /// Whether this operator is the part that is wanted.
     fn is(self, control: &Control<'_>) -> bool
-        ensures { result ≡ test_of self.entry (control_of control.now) }
+        ensures { result ≡ test_of self.entry (control_meaning control.now) }
     {
         match (self, control) {
             (Wanted::Else, Control::Else) => true,
@@ -110,7 +110,7 @@ impl Wanted<'_> {
 
     /// Whether a search passes over this operator, which parts or closes the construct.
     fn passes(self, control: &Control<'_>) -> bool
-        ensures { result ≡ passes (test_of self.entry) (control_of control.now) }
+        ensures { result ≡ passes (test_of self.entry) (control_meaning control.now) }
     {
         control.is_part() && !self.is(control)
     }
@@ -137,21 +137,21 @@ pub struct Table<'a> {
 impl<'a> Model for Table<'a> {
     ghost use Rattle.std.specs.Prelude.{◌≡◌, List, length, map};
     ghost use Rattle.wasm_body.specs.Control.{Control as Meaning};
-    ghost use Rattle.walrus_run.specs.Controls.{control_of};
+    ghost use Rattle.walrus_run.specs.Controls.{control_meaning};
     ghost use Rattle.walrus_run.specs.Tables.{AreAhead};
 
     ghost Value = { List Meaning };
 
-    ghost view = { λ t. map control_of t.controls.items };
+    ghost view = { λ t. map control_meaning t.controls.items };
 
-    ghost invariant = { λ t. AreAhead (map control_of t.controls.items) 0 t.ahead.items
+    ghost invariant = { λ t. AreAhead (map control_meaning t.controls.items) 0 t.ahead.items
         × (length t.ahead.items ≡ length t.controls.items) };
 }
 
 impl<'a> Table<'a> {
     /// The table of these operators.
     pub fn new(alloc: Global, controls: Vec<Control<'a>>) -> Result<Table<'a>, AllocError>
-        ensures { IfOk result (λ t. t ≡ map control_of controls.entry.items) }
+        ensures { IfOk result (λ t. t ≡ map control_meaning controls.entry.items) }
     {
         let mut ahead = Vec::new(alloc);
         let mut levels = Levels {

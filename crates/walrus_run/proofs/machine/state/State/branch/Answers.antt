@@ -1,7 +1,7 @@
 use Rattle.std.proofs.Common.{◌+◌, ◌∷◌, ap, sym, ◌∙◌}
 use Rattle.wasm_body.specs.Machine as M
 use Rattle.walrus_run.specs.declared.machine.control.Construct.{Construct}
-use Rattle.walrus_run.specs.Controls.{construct_of}
+use Rattle.walrus_run.specs.Controls.{construct_meaning}
 use Rattle.walrus_run.specs.Tables.{place_at}
 use Rattle.walrus_run.specs.Tracing.{label_of, run_on}
 use Rattle.walrus_run.proofs.Tracing.{same_on, inner_branch, arrive_out}
@@ -19,7 +19,7 @@ returns-in_ok-open-in-Loop c = λ again go.
     same_on cs c.args.self.now _ _ (inner_branch again go c.args.n)
     ∙ (c.close.ensures.closed cs (M.branch again go 0)
     ∙ (c.in-Some.ensures.some cs (M.branch again go 0)
-    ∙ (ap (λ (x : Construct). run_on cs c.leave_label.new.self (λ ls o. M.arrive again go (construct_of x) (label_of cs l) ls o)) c.in-Loop.is
+    ∙ (ap (λ (x : Construct). run_on cs c.leave_label.new.self (λ ls o. M.arrive again go (construct_meaning x) (label_of cs l) ls o)) c.in-Loop.is
     ∙ c.in_ok-open-in-Loop.ensures cs (again (place_at cs (l.opener + 1))))))
 
 pub returns-in_default-construct : goal.returns-in_default-construct

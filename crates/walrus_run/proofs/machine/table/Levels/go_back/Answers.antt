@@ -1,14 +1,14 @@
 use Rattle.std.proofs.Common.{◌≡◌, ◌+◌, ◌∷◌, List, ap, inl, inr, reverse, subst, sym, ◌∙◌}
 use Rattle.wasm_body.specs.Machine.{Opener, Part, Closer, Other, Shape, shape_of, tail}
 use Rattle.wasm_body.specs.Control.{Control as Meaning}
-use Rattle.walrus_run.specs.Controls.{control_of}
+use Rattle.walrus_run.specs.Controls.{control_meaning}
 use Rattle.walrus_run.specs.declared.machine.control.Control.{Control}
 use Rattle.walrus_run.specs.declared.machine.table.Ahead.{Ahead}
 use Rattle.walrus_run.proofs.Tables.{popped, pushed, Stand, others_stand, opener_stands, closer_stands, part_stands}
 use Rattle.walrus_run.proofs.machine.table.Levels.go_back.Goals as goal
 
-shape_at : {x y : Control} → x ≡ y → shape_of (control_of y) ≡ shape_of (control_of x)
-shape_at e = ap (λ (x : Control). shape_of (control_of x)) (sym e)
+shape_at : {x y : Control} → x ≡ y → shape_of (control_meaning y) ≡ shape_of (control_meaning x)
+shape_at e = ap (λ (x : Control). shape_of (control_meaning x)) (sym e)
 
 pub returns-in-Does-clause-levels : goal.returns-in-Does-clause-levels
 returns-in-Does-clause-levels c = λ cs at. others_stand cs c.args.position _ at (shape_at c.in-Does.is) c.args.self.now

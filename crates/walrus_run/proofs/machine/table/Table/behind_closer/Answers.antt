@@ -1,4 +1,4 @@
-use Rattle.walrus_run.specs.Controls.{control_of}
+use Rattle.walrus_run.specs.Controls.{control_meaning}
 use Rattle.walrus_run.proofs.Tables.{read_ahead, past_closer, as_many}
 use Rattle.walrus_run.proofs.machine.table.Table.behind_closer.Goals as goal
 
@@ -11,4 +11,4 @@ returns-in-Some c =
 pub returns-in-None : goal.returns-in-None
 returns-in-None c =
     let inside = c.self.inside in
-    past_closer c.args.self.now _ (as_many _ c.args.self.now control_of inside.controls.items inside.ahead.items c.deref.result.now _ c.self.view_is c.self.invariant.1 c.deref.ensures.value c.in-None.ensures.lookup.3)
+    past_closer c.args.self.now _ (as_many _ c.args.self.now control_meaning inside.controls.items inside.ahead.items c.deref.result.now _ c.self.view_is c.self.invariant.1 c.deref.ensures.value c.in-None.ensures.lookup.3)

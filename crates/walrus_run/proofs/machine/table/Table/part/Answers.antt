@@ -1,5 +1,5 @@
 use Rattle.std.proofs.Common.{true}
-use Rattle.walrus_run.specs.Controls.{control_of}
+use Rattle.walrus_run.specs.Controls.{control_meaning}
 use Rattle.walrus_run.proofs.Tables.{read_ahead, past_all, as_many}
 use Rattle.walrus_run.proofs.machine.table.Table.part.Goals as goal
 
@@ -12,4 +12,4 @@ returns-in-Some c =
 pub returns-in-None : goal.returns-in-None
 returns-in-None c =
     let inside = c.self.inside in
-    past_all c.args.self.now _ (as_many _ c.args.self.now control_of inside.controls.items inside.ahead.items c.deref.result.now _ c.self.view_is c.self.invariant.1 c.deref.ensures.value c.in-None.ensures.lookup.3) (λ c. true)
+    past_all c.args.self.now _ (as_many _ c.args.self.now control_meaning inside.controls.items inside.ahead.items c.deref.result.now _ c.self.view_is c.self.invariant.1 c.deref.ensures.value c.in-None.ensures.lookup.3) (λ c. true)

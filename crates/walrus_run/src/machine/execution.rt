@@ -2,15 +2,16 @@
 ghost use Rattle.std.specs.Prelude.{◌≡◌, List, length, map, IfOk};
 ghost use Rattle.wasm_body.specs.Machine as M;
 ghost use Rattle.wasm_body.specs.Places.{run_by_place};
-ghost use Rattle.walrus_run.specs.Controls.{control_of};
+ghost use Rattle.wasm_body.specs.Control.{control_of};
 ghost use Rattle.walrus_run.specs.Runs.{outcome_of, ending_of, run_of};
 ghost use Rattle.walrus_run.specs.Tables.{place_at};
 ghost use Rattle.walrus_run.specs.Tracing.{run_on, Stops};
 
-use crate::machine::control::Control;
+use crate::machine::operator::controls;
 use crate::machine::run::{Ending, Outcome, Run};
 use crate::machine::state::{Next, State};
 use crate::machine::table::Table;
+use crate::named_body::NamedBody;
 use std::alloc::{AllocError, Global};
 
 /// Where the steps of a turn lead.
@@ -66,24 +67,38 @@ impl<'a> State<'a> {
     }
 }
 
-/// Runs operators, by what each does to the control, for these outcomes and so many turns.
-pub fn execute_controls<'a>(
+/// Runs the operators of a table for these outcomes and so many turns.
+fn run_table<'a>(
     alloc: Global,
-    controls: Vec<Control<'a>>,
+    table: &Table<'a>,
     outcomes: &'a [Outcome],
     turns: u64,
 ) -> Result<Run, AllocError>
-    ensures { IfOk result (λ run. run_of run ≡ run_by_place (map control_of controls.entry.items) (map outcome_of outcomes.now) turns) }
+    ensures { IfOk result (λ run. run_of run ≡ run_by_place table.now (map outcome_of outcomes.now) turns) }
 {
-    let table = Table::new(alloc, controls)?;
     let mut state = State {
         labels: Vec::new(alloc),
         outcomes,
         events: Vec::new(alloc),
     };
-    let ending = state.run(&table, turns)?;
+    let ending = state.run(table, turns)?;
     Ok(Run {
         events: state.events,
         ending,
     })
+}
+
+/// Runs a body for these outcomes, which its operators ask for one after the other, and so many
+/// turns of its loops. Outcomes that are left over mean nothing.
+///
+/// # Errors
+///
+/// Only that memory ran out: a run keeps its events.
+pub fn execute(body: &NamedBody, outcomes: &[Outcome], turns: u64) -> Result<Run, AllocError>
+    ensures { IfOk result (λ run. run_of run
+        ≡ run_by_place (map control_of body.now.operators) (map outcome_of outcomes.now) turns) }
+{
+    let alloc = body.allocator();
+    let table = Table::new(alloc, controls(alloc, body.ops())?)?;
+    run_table(alloc, &table, outcomes, turns)
 }
