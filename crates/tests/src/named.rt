@@ -43,6 +43,7 @@ impl fmt::Display for Clause {
 }
 
 /// An operator: its opcode, and what follows it.
+#[derive(Clone, Copy)]
 struct Shown<'a>(&'a NamedOp);
 
 impl fmt::Display for Shown<'_> {
@@ -160,7 +161,10 @@ fn names_handlers(rt: HostRuntime) -> Result<(), Fail> {
             "1f400102000b0b",
             "Some(0):1f []->[] all->0 Some(5):0b Some(6):0b None",
         ),
-        ("064018000b", "Some(0):06 []->[] Some(2):18 Outer(0) Some(4):0b None"),
+        (
+            "064018000b",
+            "Some(0):06 []->[] Some(2):18 Outer(0) Some(4):0b None",
+        ),
         (
             "0640070009000b0b",
             "Some(0):06 []->[] Some(2):07 tag0 Some(4):09 Handler(0) Some(6):0b Some(7):0b None",

@@ -1,5 +1,5 @@
 -- Reading and naming the operators that are left, one by one.
-use Rattle.std.proofs.Common.{◌≡◌, ◌<◌, ℕ, inl, inr, List, [], ◌∷◌, ◌++◌, length, map, Result, Ok, Err, refl, sym, ap, subst, ◌∙◌, arith}
+use Rattle.std.proofs.Common.{◌≡◌, ◌<◌, inl, inr, List, [], ◌∷◌, ◌++◌, length, map, Result, Ok, Err, refl, sym, ap, subst, ◌∙◌, arith}
 use Rattle.std.proofs.lemmas.List.{append_cancel_left, append_assoc, append-nil, length-append}
 use Rattle.std.specs.Prelude.{IfOk, IfErr, OnOk}
 use Rattle.wasm_ops.specs.Operations.{RawOperation}
@@ -14,7 +14,7 @@ use Rattle.wasm_body.specs.Parsing.Accepted.{placed}
 use Rattle.walrus_body.specs.Parsing.BodyParsers.{GivesOrMemory}
 use Rattle.walrus_run.specs.declared.named_op.NamedOp.{NamedOp}
 use Rattle.walrus_run.specs.NamedOperators.{named_operation}
-use Rattle.walrus_run.specs.NamedBodies.{BodyNames, names_of}
+use Rattle.walrus_run.specs.NamedBodies.{BodyNames}
 use Rattle.walrus_run.specs.Namers.{anywhere, HasName, AreLeft, with_next}
 
 module _ (env : Environment) where

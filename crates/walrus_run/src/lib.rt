@@ -19,7 +19,7 @@ pub use named_op::{
 };
 pub use program::run_words;
 pub use rewriting::rewrite_demo;
-pub use whole_body::rewrite_body;
 pub use walrus_body::{
     law_accepted_again, law_executions, law_inverse_undoes, law_locations, law_read_back,
 };
+pub use whole_body::rewrite_body;

@@ -16,9 +16,7 @@ use crate::named_op::NamedOp;
 use crate::naming::Namer;
 use std::alloc::Global;
 use std::marker::Model;
-use walrus_body::{
-    AcceptAll, FunctionBody, IndicesToIds, LocalFunction, ParseError, ParseFailure,
-};
+use walrus_body::{AcceptAll, FunctionBody, IndicesToIds, LocalFunction, ParseError, ParseFailure};
 use walrus_ir::{FunctionId, InstrLocId, Module, TypeId};
 use wasm_ops::Reader;
 

@@ -20,9 +20,7 @@ use crate::named_op::{
 use std::alloc::Global;
 use walrus_body::{IndicesToIds, ParseError, heap_type_of, value_type};
 use walrus_ir::{FunctionId, Module, TagId, TypeId, ValType};
-use wasm_ops::{
-    BlockType, BrTable, CatchList, Immediates, Operator, RawCast, RawMemArg, Space,
-};
+use wasm_ops::{BlockType, BrTable, CatchList, Immediates, Operator, RawCast, RawMemArg, Space};
 
 /// What names the operators of a function's body: the function, its type, and old indices and types
 /// of its module.

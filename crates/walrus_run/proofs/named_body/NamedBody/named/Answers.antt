@@ -1,6 +1,4 @@
-use Rattle.std.proofs.Common.{◌≡◌, ◌<◌, length, List, sym, ap, subst, ◌∙◌, rules, arith}
-use Rattle.wasm_body.specs.Naming.{Occurrence}
-use Rattle.walrus_run.specs.NamedBodies.{names_of}
+use Rattle.std.proofs.Common.{◌≡◌, ◌<◌, length, sym, ap, subst, ◌∙◌, rules}
 use Rattle.walrus_run.specs.Namers.{env_of, AreLeft}
 use Rattle.walrus_run.proofs.Reading.{some_left, none_left, before, before_next, before_none}
 use Rattle.walrus_run.proofs.named_body.NamedBody.named.Goals as goal
@@ -16,9 +14,9 @@ operators-preserved c = λ xs left.
       first.1,
       taken.0,
       ap (λ b. before b first.1) taken.1
-      ∙ before_next now.body first.0 first.1
-      ∙ ap (before now.body) (sym first.2)
-      ∙ kept.2,
+          ∙ before_next now.body first.0 first.1
+          ∙ ap (before now.body) (sym first.2)
+          ∙ kept.2,
     )
 
 pub returns-in-Err : goal.returns-in-Err

@@ -1,7 +1,5 @@
 use Rattle.std.proofs.Common.{◌≡◌, ◌+◌, sym, ap, subst, ◌∙◌}
 use Rattle.wasm_ops.specs.Position.{Position}
-use Rattle.wasm_body.specs.Naming.{Occurrence}
-use Rattle.walrus_body.specs.Environments.{environment_of}
 use Rattle.walrus_body.specs.Parsing.Bodies.{body_operators}
 use Rattle.walrus_body.specs.Parsing.Settings.{operators_of}
 use Rattle.walrus_run.specs.NamedBodies.{reading}

@@ -1,10 +1,8 @@
-use Rattle.std.proofs.Common.{◌≡◌, ◌+◌, ◌<◌, length, List, ◌∷◌, sym, ap, ◌∙◌, Ok, Err, arith}
-use Rattle.std.specs.Prelude.{OnOk}
+use Rattle.std.proofs.Common.{◌<◌, length, sym, ap, ◌∙◌, Ok, Err, arith}
 use Rattle.std.proofs.lemmas.List.{length-append}
 use Rattle.wasm_ops.specs.Meaning.{meaning}
 use Rattle.wasm_ops.proofs.ListLaws.{spelt_length}
-use Rattle.wasm_body.specs.Naming.{Occurrence}
-use Rattle.walrus_run.specs.Namers.{env_of, AreLeft, with_next}
+use Rattle.walrus_run.specs.Namers.{env_of, with_next}
 use Rattle.walrus_run.proofs.Reading.{others_left, name_answered, on_ok}
 use Rattle.walrus_run.proofs.named_body.NamedBody.take.Goals as goal
 
