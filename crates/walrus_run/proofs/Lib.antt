@@ -9,3 +9,6 @@ mod RewrittenLemmas
 mod NamesAnywhere
 mod Reading
 mod ReadBodies
+-- the trace machine: what stands ahead of a place; labels, exceptions and steps
+mod Tables
+mod Tracing

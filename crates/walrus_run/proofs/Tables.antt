@@ -1,9 +1,9 @@
 -- Places in a list of operators, what stands ahead of them, and how that changes where one operator is passed back over.
-use Rattle.std.proofs.Common.{Ordering, ◌≡◌, ℕ, zero, suc, ◌+◌, ◌-◌, ◌<◌, ◌≤◌, List, [], ◌∷◌, ◌++◌, length, take, drop, map, get_or, length-drop, length-append, Bool, true, false, Option, Some, None, refl, sym, ap, subst, ◌∙◌, arith, reverse, inl, inr}
+use Rattle.std.proofs.Common.{Ordering, ◌≡◌, ℕ, zero, suc, ◌+◌, ◌-◌, ◌<◌, ◌≤◌, List, [], ◌∷◌, ◌++◌, length, take, drop, map, get_or, length-drop, Bool, true, false, Some, None, refl, sym, ap, subst, ◌∙◌, arith, reverse, inl, inr}
 use Rattle.std.specs.Prelude.{slice_get, ◌||◌, ◌&&◌, not, cond, eqb}
 use Rattle.std.specs.List.{list_any}
 use Rattle.std.specs.Ordering.{is_eq, nat_cmp}
-use Rattle.std.proofs.lemmas.List.{drop_all, drop_at, length-map, drop-drop, take-append-drop, length-take, length-reverse, reverse-append, get_or-drop}
+use Rattle.std.proofs.lemmas.List.{drop_all, drop_at, length-map, take-append-drop, length-reverse, reverse-append}
 use Rattle.std.proofs.lemmas.Bool.{cases_lt, cases_order}
 use Rattle.std.proofs.lemmas.Grind.{common_steps}
 use Rattle.std.proofs.lemmas.Option.{slice_get_read}
@@ -21,7 +21,7 @@ pub reverse_take : {A : Type 0} → (n : ℕ) (xs : List A) → n ≤ length xs 
 reverse_take n xs le =
     let m = length xs - n in
     let whole : reverse xs ≡ reverse (drop m xs) ++ reverse (take m xs) =
-        sym (ap reverse (take-append-drop m xs)) ∙ reverse-append (take m xs) (drop m xs) in
+    sym (ap reverse (take-append-drop m xs)) ∙ reverse-append (take m xs) (drop m xs) in
     let taken : length (reverse (drop m xs)) ≡ n = omega (arith, length-reverse (drop m xs), length-drop m xs) in
     sym (ap (drop n) whole ∙ drop_at (reverse (drop m xs)) (reverse (take m xs)) n taken)
 

@@ -1,5 +1,5 @@
 -- What the code's controls mean: the same, with lists for slices.
-use Rattle.std.specs.Prelude.{ℕ, map}
+use Rattle.std.specs.Prelude.{map}
 use Rattle.walrus_run.specs.declared.named_op.NamedCatch.{NamedCatch}
 use Rattle.walrus_run.specs.declared.machine.control.Action.{Action}
 use Rattle.walrus_run.specs.declared.machine.control.Construct.{Construct}

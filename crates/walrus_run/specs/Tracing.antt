@@ -1,5 +1,5 @@
 -- What the machine keeps while it runs, and where its steps lead.
-use Rattle.std.specs.Prelude.{◌≡◌, ℕ, ◌+◌, List, [], ◌∷◌, ◌++◌, map, reverse, Option, option_map}
+use Rattle.std.specs.Prelude.{◌≡◌, ℕ, ◌+◌, List, ◌++◌, length, map, reverse, Option, option_map}
 use Rattle.std.specs.Borrow.{Bor}
 use Rattle.std.specs.BTreeSet.{BTreeSet}
 use Rattle.wasm_body.specs.Control as C
@@ -26,6 +26,10 @@ label_of cs l = record { opener = l.opener; construct = construct_meaning l.cons
 -- the labels that are open, innermost first, where the code has the innermost last
 abbrev pub opens : List C.Control → List Label → List (M.Label ℕ)
 opens cs ls = reverse (map (label_of cs) ls)
+
+-- the label of a construct that is opened at a position
+abbrev pub opened : List C.Control → C.Construct → ℕ → M.Label ℕ
+opened cs construct position = M.label position construct (place_at cs (position + 1))
 
 abbrev pub response_of : List C.Control → Response → M.Response ℕ
 response_of cs Response.Passes = M.Passes
@@ -67,11 +71,15 @@ leading again go cs (Next.Over ending) ls o = M.ends (ending_of ending)
 abbrev pub Leads : List C.Control → ((again go : M.From ℕ) → Onwards) → State → Next → State → Type 0
 Leads cs step old next new = (again go : M.From ℕ) → run_on cs old (step again go) ≡ run_on cs new (leading again go cs next)
 
+-- The step of an operator at a position.
+abbrev pub Steps : List C.Control → C.Control → (position : ℕ) → State → Next → State → Type 0
+Steps cs control position = Leads cs (λ again go. M.step again go control position (place_at cs (position + 1)))
+
 -- to where the steps of a turn lead
 abbrev pub stopping : (again : M.From ℕ) → List C.Control → Stop → Onwards
 stopping again cs (Stop.Turn place) ls o = again (place_at cs place) ls o
 stopping again cs (Stop.Over ending) ls o = M.ends (ending_of ending)
 
--- The steps of a turn from the state before come to where they lead from the state behind.
-abbrev pub Stops : List C.Control → ((again : M.From ℕ) → Onwards) → State → Stop → State → Type 0
-Stops cs steps old stop new = (again : M.From ℕ) → run_on cs old (steps again) ≡ run_on cs new (stopping again cs stop)
+-- The steps of a turn from a place on come to where they lead from the state behind.
+abbrev pub Stops : List C.Control → (place : List (C.Marked ℕ)) → State → Stop → State → Type 0
+Stops cs place old stop new = (again : M.From ℕ) → run_on cs old (M.straight again (length place) place) ≡ run_on cs new (stopping again cs stop)

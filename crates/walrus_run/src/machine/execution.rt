@@ -27,7 +27,8 @@ impl<'a> State<'a> {
     /// The steps from a place on, until a turn is to be paid or the run is over: at most as many as
     /// there are operators from the place on, since no step within a turn goes back.
     fn turn(&mut self, table: &Table<'a>, from: usize) -> Result<Stop, AllocError>
-        ensures { IfOk result (λ stop. Stops table.now (λ again. M.straight again (length (place_at table.now from)) (place_at table.now from)) self.old stop self.new) }
+        ensures { IfOk result (λ stop.
+            Stops table.now (place_at table.now from) self.old stop self.new) }
     {
         let mut place = from;
         let mut left = table.len().saturating_sub(from);
@@ -47,7 +48,8 @@ impl<'a> State<'a> {
 
     /// The run from the first operator on, with so many turns.
     fn run(&mut self, table: &Table<'a>, turns: u64) -> Result<Ending, AllocError>
-        ensures { IfOk result (λ ending. run_on table.now self.old (M.bounded_run length turns (place_at table.now 0))
+        ensures { IfOk result (λ ending.
+            run_on table.now self.old (M.bounded_run length turns (place_at table.now 0))
             ≡ run_on table.now self.new (λ _ _. M.ends (ending_of ending))) }
     {
         let mut place: usize = 0;
@@ -74,7 +76,8 @@ fn run_table<'a>(
     outcomes: &'a [Outcome],
     turns: u64,
 ) -> Result<Run, AllocError>
-    ensures { IfOk result (λ run. run_of run ≡ run_by_place table.now (map outcome_of outcomes.now) turns) }
+    ensures { IfOk result (λ run. run_of run
+        ≡ run_by_place table.now (map outcome_of outcomes.now) turns) }
 {
     let mut state = State {
         labels: Vec::new(alloc),

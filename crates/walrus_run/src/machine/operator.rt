@@ -2,8 +2,10 @@
 ghost use Rattle.std.specs.Prelude.{◌≡◌, ◌∷◌, List, unwrap_or, map, IfOk};
 ghost use Rattle.wasm_ops.specs.Types.{row_at};
 ghost use Rattle.wasm_body.specs.Control as C;
-ghost use Rattle.walrus_run.specs.Controls.{role_meaning, clause_meaning, action_meaning, control_meaning};
-ghost use Rattle.walrus_run.specs.NamedOperators.{NamedImmediate, named_index, named_immediates, named_operation};
+ghost use Rattle.walrus_run.specs.Controls.{role_meaning, clause_meaning, action_meaning};
+ghost use Rattle.walrus_run.specs.Controls.{control_meaning};
+ghost use Rattle.walrus_run.specs.NamedOperators.{NamedImmediate, named_index};
+ghost use Rattle.walrus_run.specs.NamedOperators.{named_immediates, named_operation};
 
 use crate::machine::control::{Action, Construct, Control};
 use crate::named_op::{NamedCatch, NamedImmediates, NamedIndex, NamedOp};
@@ -101,7 +103,8 @@ fn opcode_role(opcode: Opcode) -> Role
 impl NamedIndex {
     /// The id's number.
     fn number(&self) -> usize
-        ensures { (is : List NamedImmediate) → result ≡ C.first_index (named_index self.now ∷ is) }
+        ensures { (is : List NamedImmediate)
+            → result ≡ C.first_index (named_index self.now ∷ is) }
     {
         match self {
             NamedIndex::Table(id) => id.index(),

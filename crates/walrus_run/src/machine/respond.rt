@@ -15,7 +15,8 @@ use walrus_ir::TagId;
 
 /// What a `try_table` with these clauses does: the first that takes the exception is taken.
 fn jump(clauses: &[NamedCatch], tags: &BTreeSet<TagId>) -> Response
-    ensures { (cs : List Meaning) → response_of cs result ≡ M.jump tags.now.keys 0 (map clause_meaning clauses.now) }
+    ensures { (cs : List Meaning) → response_of cs result
+        ≡ M.jump tags.now.keys 0 (map clause_meaning clauses.now) }
 {
     'clauses: for (i, clause) in clauses.iter().enumerate() {
         let takes = match clause.tag {
@@ -33,8 +34,8 @@ fn jump(clauses: &[NamedCatch], tags: &BTreeSet<TagId>) -> Response
     Response::Passes
 }
 
-/// What a legacy `try` does that is left from its body: the first clause that takes the exception is
-/// entered, and one that `delegate` closes hands it on.
+/// What a legacy `try` does that is left from its body: the first clause that takes the exception
+/// is entered, and one that `delegate` closes hands it on.
 fn catch(table: &Table<'_>, opener: usize, tags: &BTreeSet<TagId>) -> Response
     ensures { response_of table.now result ≡ M.try_responds tags.now.keys
         (M.seek (M.catches tags.now.keys) 0 0 (place_at table.now (opener + 1))) }
@@ -63,7 +64,8 @@ fn catch(table: &Table<'_>, opener: usize, tags: &BTreeSet<TagId>) -> Response
 impl<'a> Label<'a> {
     /// The label as that of a handler, which caught these tags.
     pub fn handler(&self, tags: &'a BTreeSet<TagId>) -> Label<'a>
-        ensures { (cs : List Meaning) → label_of cs result ≡ M.handler (label_of cs self.now) tags.now.keys }
+        ensures { (cs : List Meaning) → label_of cs result
+            ≡ M.handler (label_of cs self.now) tags.now.keys }
     {
         Label {
             opener: self.opener,
@@ -74,7 +76,8 @@ impl<'a> Label<'a> {
 
     /// What the construct of the label does with an exception that leaves it.
     pub fn respond(&self, table: &Table<'_>, tags: &BTreeSet<TagId>) -> Response
-        ensures { response_of table.now result ≡ M.responds tags.now.keys (label_of table.now self.now) }
+        ensures { response_of table.now result
+            ≡ M.responds tags.now.keys (label_of table.now self.now) }
     {
         match (&self.construct, &self.caught) {
             (Construct::TryTable(clauses), _) => jump(clauses, tags),

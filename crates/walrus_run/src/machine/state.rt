@@ -1,5 +1,6 @@
 //! What the machine keeps while it runs, and branches, exceptions and ends of sequences.
-ghost use Rattle.std.specs.Prelude.{◌≡◌, ◌<◌, ◌≤◌, ◌∷◌, [], List, length, drop, IfOk, IfNone, IfSome, OnSome};
+ghost use Rattle.std.specs.Prelude.{◌≡◌, ◌<◌, ◌≤◌, ◌∷◌, [], List, length, drop};
+ghost use Rattle.std.specs.Prelude.{IfOk, IfNone, IfSome, OnSome};
 ghost use Rattle.wasm_body.specs.Control.{Control as Meaning};
 ghost use Rattle.wasm_body.specs.Machine as M;
 ghost use Rattle.walrus_run.specs.Runs.{outcome_of};
@@ -38,14 +39,16 @@ pub enum Next {
 impl<'a> State<'a> {
     /// Tells that the operator at a position was executed.
     pub fn executed(&mut self, position: usize) -> Result<(), AllocError>
-        ensures { IfOk result (λ _. Does self.old self.new (λ _ k ls o. M.then (M.Executed position) (k ls o))) }
+        ensures { IfOk result (λ _. Does self.old self.new (λ _ k ls o.
+            M.then (M.Executed position) (k ls o))) }
     {
         self.events.extend_from_slice(&[Event::Op(position)])
     }
 
     /// Tells that a clause of the construct that is opened at a position took an exception.
     fn taken(&mut self, i: usize, clause: usize, tag: Option<TagId>) -> Result<(), AllocError>
-        ensures { IfOk result (λ _. Does self.old self.new (λ _ k ls o. M.then (M.Taken i clause tag) (k ls o))) }
+        ensures { IfOk result (λ _. Does self.old self.new (λ _ k ls o.
+            M.then (M.Taken i clause tag) (k ls o))) }
     {
         self.events.push(Event::Taken { i, clause, tag })?;
         Ok(())
@@ -54,7 +57,8 @@ impl<'a> State<'a> {
     /// The next outcome, which is used up, or none where none is left.
     pub fn ask(&mut self) -> Option<&'a Outcome>
         ensures none { IfNone result (Finds self.old self.new (λ _ k ls o. k ls [])) }
-        ensures some { IfSome result (λ x. Finds self.old self.new (λ _ k ls o. k ls (outcome_of x.now ∷ o))) }
+        ensures some { IfSome result (λ x. Finds self.old self.new (λ _ k ls o.
+            k ls (outcome_of x.now ∷ o))) }
     {
         match self.outcomes.split_first() {
             None => None,
@@ -67,7 +71,8 @@ impl<'a> State<'a> {
 
     /// Opens a label.
     pub fn open(&mut self, label: Label<'a>) -> Result<(), AllocError>
-        ensures { IfOk result (λ _. Does self.old self.new (λ cs k ls o. k (label_of cs label.entry ∷ ls) o)) }
+        ensures { IfOk result (λ _. Does self.old self.new (λ cs k ls o.
+            k (label_of cs label.entry ∷ ls) o)) }
     {
         self.labels.push(label)?;
         Ok(())
@@ -76,8 +81,10 @@ impl<'a> State<'a> {
     /// The innermost label, which is closed, or none where none is open.
     fn leave_label(&mut self) -> Option<Label<'a>>
         ensures none { IfNone result (Finds self.old self.new (λ _ k ls o. k [] o)) }
-        ensures some { IfSome result (λ l. Finds self.old self.new (λ cs k ls o. k (label_of cs l ∷ ls) o)) }
-        ensures fewer { OnSome result (length self.new.labels.items < length self.old.labels.items) }
+        ensures some { IfSome result (λ l. Finds self.old self.new (λ cs k ls o.
+            k (label_of cs l ∷ ls) o)) }
+        ensures fewer { OnSome result
+            (length self.new.labels.items < length self.old.labels.items) }
     {
         self.labels.pop()
     }
@@ -94,7 +101,8 @@ impl<'a> State<'a> {
     /// A branch to a label: to the operator behind a `loop`, behind the closer of another
     /// construct, or out of the function.
     pub fn branch(&mut self, table: &Table<'_>, n: u32) -> Result<Next, AllocError>
-        ensures { IfOk result (λ next. Leads table.now (λ again go. M.branch again go n) self.old next self.new) }
+        ensures { IfOk result (λ next.
+            Leads table.now (λ again go. M.branch again go n) self.old next self.new) }
     {
         self.close(n);
         let Some(label) = self.leave_label() else {
@@ -120,14 +128,23 @@ impl<'a> State<'a> {
     }
 
     /// An exception, which looks outwards from the innermost label.
-    pub fn raise(&mut self, table: &Table<'_>, tags: &'a BTreeSet<TagId>) -> Result<Next, AllocError>
-        ensures { IfOk result (λ next. Leads table.now (λ again go ls o. M.raise again go tags.now.keys ls o 0) self.old next self.new) }
+    pub fn raise(
+        &mut self,
+        table: &Table<'_>,
+        tags: &'a BTreeSet<TagId>,
+    ) -> Result<Next, AllocError>
+        ensures { IfOk result (λ next. Leads table.now (λ again go ls o.
+            M.raise again go tags.now.keys ls o 0) self.old next self.new) }
     {
         'labels: while let Some(label) = self.leave_label() {
             match label.respond(table, tags) {
                 Response::Passes => {}
                 Response::Hands(n) => self.close(n),
-                Response::Jumps { clause, tag, label: n } => {
+                Response::Jumps {
+                    clause,
+                    tag,
+                    label: n,
+                } => {
                     self.taken(label.opener, clause, tag)?;
                     let next = self.branch(table, n)?;
                     return Ok(next);
@@ -145,7 +162,8 @@ impl<'a> State<'a> {
 
     /// The tags that the handler of a label caught, or none where the label is no handler.
     pub fn caught_at(&self, n: u32) -> Option<&'a BTreeSet<TagId>>
-        ensures { (cs : List Meaning) → M.caught_at (opens cs self.now.labels.items) n ≡ caught_in result }
+        ensures { (cs : List Meaning)
+            → M.caught_at (opens cs self.now.labels.items) n ≡ caught_in result }
     {
         let depth = n as usize;
         if depth < self.labels.len() {

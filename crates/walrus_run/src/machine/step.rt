@@ -4,7 +4,7 @@ ghost use Rattle.wasm_body.specs.Control as C;
 ghost use Rattle.wasm_body.specs.Machine as M;
 ghost use Rattle.walrus_run.specs.Controls.{action_meaning, construct_meaning, control_meaning};
 ghost use Rattle.walrus_run.specs.Tables.{place_at};
-ghost use Rattle.walrus_run.specs.Tracing.{Does, Leads};
+ghost use Rattle.walrus_run.specs.Tracing.{opened, Does, Leads, Steps};
 
 use crate::machine::control::{Action, Construct, Control};
 use crate::machine::label::Label;
@@ -18,7 +18,8 @@ impl<'a> State<'a> {
     /// An operator that asks for `Go`, `Trap` or `Raise`.
     fn plain(&mut self, table: &Table<'_>, position: usize) -> Result<Next, AllocError>
         requires { position + 1 < 2 ^ 64 }
-        ensures { IfOk result (λ next. Leads table.now (λ again go. M.act again go C.Plain position (place_at table.now (position + 1))) self.old next self.new) }
+        ensures { IfOk result (λ next.
+            Steps table.now (C.Does C.Plain) position self.old next self.new) }
     {
         let Some(outcome) = self.ask() else {
             return Ok(Next::Over(Ending::OutcomesOut));
@@ -42,13 +43,9 @@ impl<'a> State<'a> {
     }
 
     /// A `throw`, which asks for `Raise` with its tag.
-    fn throw(
-        &mut self,
-        table: &Table<'_>,
-        position: usize,
-        tag: TagId,
-    ) -> Result<Next, AllocError>
-        ensures { IfOk result (λ next. Leads table.now (λ again go. M.act again go (C.Throw tag) position (place_at table.now (position + 1))) self.old next self.new) }
+    fn throw(&mut self, table: &Table<'_>, position: usize, tag: TagId) -> Result<Next, AllocError>
+        ensures { IfOk result (λ next.
+            Steps table.now (C.Does (C.Throw tag)) position self.old next self.new) }
     {
         let Some(outcome) = self.ask() else {
             return Ok(Next::Over(Ending::OutcomesOut));
@@ -62,13 +59,16 @@ impl<'a> State<'a> {
                 let next = self.raise(table, tags)?;
                 Ok(next)
             }
-            Outcome::Go | Outcome::Trap | Outcome::Way(_) | Outcome::Entry(_) => Ok(Next::Over(Ending::Mismatch)),
+            Outcome::Go | Outcome::Trap | Outcome::Way(_) | Outcome::Entry(_) => Ok(Next::Over(
+                Ending::Mismatch,
+            )),
         }
     }
 
     /// A `throw_ref`, which asks for `Raise` or `Trap`.
     fn throw_ref(&mut self, table: &Table<'_>, position: usize) -> Result<Next, AllocError>
-        ensures { IfOk result (λ next. Leads table.now (λ again go. M.act again go C.ThrowRef position (place_at table.now (position + 1))) self.old next self.new) }
+        ensures { IfOk result (λ next.
+            Steps table.now (C.Does C.ThrowRef) position self.old next self.new) }
     {
         let Some(outcome) = self.ask() else {
             return Ok(Next::Over(Ending::OutcomesOut));
@@ -89,7 +89,8 @@ impl<'a> State<'a> {
 
     /// A tail call, which asks for `Go` or `Trap`.
     fn tail_call(&mut self, table: &Table<'_>, position: usize) -> Result<Next, AllocError>
-        ensures { IfOk result (λ next. Leads table.now (λ again go. M.act again go C.TailCall position (place_at table.now (position + 1))) self.old next self.new) }
+        ensures { IfOk result (λ next.
+            Steps table.now (C.Does C.TailCall) position self.old next self.new) }
     {
         let Some(outcome) = self.ask() else {
             return Ok(Next::Over(Ending::OutcomesOut));
@@ -103,7 +104,9 @@ impl<'a> State<'a> {
                 self.executed(position)?;
                 Ok(Next::Over(Ending::Trapped))
             }
-            Outcome::Raise(_) | Outcome::Way(_) | Outcome::Entry(_) => Ok(Next::Over(Ending::Mismatch)),
+            Outcome::Raise(_) | Outcome::Way(_) | Outcome::Entry(_) => Ok(Next::Over(
+                Ending::Mismatch,
+            )),
         }
     }
 
@@ -115,7 +118,8 @@ impl<'a> State<'a> {
         n: u32,
     ) -> Result<Next, AllocError>
         requires { position + 1 < 2 ^ 64 }
-        ensures { IfOk result (λ next. Leads table.now (λ again go. M.act again go (C.ConditionalBranch n) position (place_at table.now (position + 1))) self.old next self.new) }
+        ensures { IfOk result (λ next.
+            Steps table.now (C.Does (C.ConditionalBranch n)) position self.old next self.new) }
     {
         let Some(outcome) = self.ask() else {
             return Ok(Next::Over(Ending::OutcomesOut));
@@ -130,7 +134,9 @@ impl<'a> State<'a> {
                     Ok(Next::On(position + 1))
                 }
             }
-            Outcome::Go | Outcome::Trap | Outcome::Raise(_) | Outcome::Entry(_) => Ok(Next::Over(Ending::Mismatch)),
+            Outcome::Go | Outcome::Trap | Outcome::Raise(_) | Outcome::Entry(_) => Ok(Next::Over(
+                Ending::Mismatch,
+            )),
         }
     }
 
@@ -142,7 +148,9 @@ impl<'a> State<'a> {
         targets: &[u32],
         default: u32,
     ) -> Result<Next, AllocError>
-        ensures { IfOk result (λ next. Leads table.now (λ again go. M.act again go (C.TableBranch targets.now default) position (place_at table.now (position + 1))) self.old next self.new) }
+        ensures { IfOk result (λ next.
+            Steps table.now (C.Does (C.TableBranch targets.now default)) position
+            self.old next self.new) }
     {
         let Some(outcome) = self.ask() else {
             return Ok(Next::Over(Ending::OutcomesOut));
@@ -153,18 +161,16 @@ impl<'a> State<'a> {
                 let next = self.branch(table, target(targets, default, *k))?;
                 Ok(next)
             }
-            Outcome::Go | Outcome::Trap | Outcome::Raise(_) | Outcome::Way(_) => Ok(Next::Over(Ending::Mismatch)),
+            Outcome::Go | Outcome::Trap | Outcome::Raise(_) | Outcome::Way(_) => Ok(Next::Over(
+                Ending::Mismatch,
+            )),
         }
     }
 
     /// A `rethrow`, which raises what the handler of a label caught.
-    fn rethrow(
-        &mut self,
-        table: &Table<'_>,
-        position: usize,
-        n: u32,
-    ) -> Result<Next, AllocError>
-        ensures { IfOk result (λ next. Leads table.now (λ again go. M.act again go (C.Rethrow n) position (place_at table.now (position + 1))) self.old next self.new) }
+    fn rethrow(&mut self, table: &Table<'_>, position: usize, n: u32) -> Result<Next, AllocError>
+        ensures { IfOk result (λ next.
+            Steps table.now (C.Does (C.Rethrow n)) position self.old next self.new) }
     {
         self.executed(position)?;
         match self.caught_at(n) {
@@ -183,7 +189,8 @@ impl<'a> State<'a> {
         position: usize,
     ) -> Result<(), AllocError>
         requires { position + 1 < 2 ^ 64 }
-        ensures { IfOk result (λ _. Does self.old self.new (λ cs k ls o. k (M.label position (construct_meaning construct.now) (place_at cs (position + 1)) ∷ ls) o)) }
+        ensures { IfOk result (λ _. Does self.old self.new (λ cs k ls o.
+            k (opened cs (construct_meaning construct.now) position ∷ ls) o)) }
     {
         let label = Label {
             opener: position,
@@ -198,7 +205,9 @@ impl<'a> State<'a> {
     /// none.
     fn other_way(&mut self, table: &Table<'_>, position: usize) -> Result<Next, AllocError>
         requires { position + 1 < 2 ^ 64 }
-        ensures { IfOk result (λ next. Leads table.now (λ again go ls o. M.other_way go (M.label position C.If (place_at table.now (position + 1))) ls o (M.seek M.is_else 0 0 (place_at table.now (position + 1)))) self.old next self.new) }
+        ensures { IfOk result (λ next. Leads table.now (λ _ go ls o.
+            M.other_way go (opened table.now C.If position) ls o
+            (M.seek M.is_else 0 0 (place_at table.now (position + 1)))) self.old next self.new) }
     {
         let found = table.seek(Wanted::Else, position);
         let Some(control) = table.control(found.position) else {
@@ -217,7 +226,8 @@ impl<'a> State<'a> {
     /// An `if`, which asks for `Way`.
     fn enter_if(&mut self, table: &Table<'_>, position: usize) -> Result<Next, AllocError>
         requires { position + 1 < 2 ^ 64 }
-        ensures { IfOk result (λ next. Leads table.now (λ again go. M.enter go C.If position (place_at table.now (position + 1))) self.old next self.new) }
+        ensures { IfOk result (λ next.
+            Steps table.now (C.Opens C.If) position self.old next self.new) }
     {
         let Some(outcome) = self.ask() else {
             return Ok(Next::Over(Ending::OutcomesOut));
@@ -247,7 +257,8 @@ impl<'a> State<'a> {
         position: usize,
     ) -> Result<Next, AllocError>
         requires { position + 1 < 2 ^ 64 }
-        ensures { IfOk result (λ next. Leads table.now (λ again go. M.enter go (construct_meaning construct.now) position (place_at table.now (position + 1))) self.old next self.new) }
+        ensures { IfOk result (λ next. Steps table.now (C.Opens (construct_meaning construct.now))
+            position self.old next self.new) }
     {
         match construct {
             Construct::If => {
@@ -270,7 +281,8 @@ impl<'a> State<'a> {
         position: usize,
     ) -> Result<Next, AllocError>
         requires { position + 1 < 2 ^ 64 }
-        ensures { IfOk result (λ next. Leads table.now (λ again go. M.act again go (action_meaning action.now) position (place_at table.now (position + 1))) self.old next self.new) }
+        ensures { IfOk result (λ next.
+            Steps table.now (C.Does (action_meaning action.now)) position self.old next self.new) }
     {
         match action {
             Action::Nop => Ok(Next::On(position + 1)),
@@ -326,7 +338,8 @@ impl<'a> State<'a> {
         position: usize,
     ) -> Result<Next, AllocError>
         requires { position + 1 < 2 ^ 64 }
-        ensures { IfOk result (λ next. Leads table.now (λ again go. M.step again go (control_meaning control.now) position (place_at table.now (position + 1))) self.old next self.new) }
+        ensures { IfOk result (λ next.
+            Steps table.now (control_meaning control.now) position self.old next self.new) }
     {
         match control {
             Control::Does(action) => {

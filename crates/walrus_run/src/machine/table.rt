@@ -1,11 +1,13 @@
 //! The operators of a body as the machine runs them. Where each construct's parts and closer stand
 //! is found once, from the last operator back to the first.
-ghost use Rattle.std.specs.Prelude.{◌≡◌, ◌+◌, ◌<◌, ◌≤◌, ℕ, List, length, map, slice_get, Some, true, IfOk};
+ghost use Rattle.std.specs.Prelude.{◌≡◌, ◌+◌, ◌<◌, ◌≤◌, ℕ, List, length, map, slice_get};
+ghost use Rattle.std.specs.Prelude.{Some, true, IfOk};
 ghost use Rattle.wasm_body.specs.Control.{Control as Meaning};
 ghost use Rattle.wasm_body.specs.Machine.{found, has, behind_closer};
 ghost use Rattle.wasm_body.specs.Machine as M;
 ghost use Rattle.walrus_run.specs.Controls.{control_meaning};
-ghost use Rattle.walrus_run.specs.Tables.{place_at, IsAhead, StandAhead, AreAhead, control_at, test_of, passes};
+ghost use Rattle.walrus_run.specs.Tables.{place_at, IsAhead, StandAhead, AreAhead};
+ghost use Rattle.walrus_run.specs.Tables.{control_at, test_of, passes};
 
 use crate::machine::control::Control;
 use std::alloc::{AllocError, Global};
@@ -34,7 +36,8 @@ pub struct Levels {
 impl Levels {
     /// What stands ahead in the innermost construct.
     fn innermost(&self) -> Ahead
-        ensures { (cs : List Meaning) → (place : ℕ) → StandAhead cs place self.now → IsAhead cs 0 place result }
+        ensures { (cs : List Meaning) → (place : ℕ) → StandAhead cs place self.now
+            → IsAhead cs 0 place result }
     {
         match self.levels.last() {
             Some(ahead) => *ahead,
@@ -186,7 +189,8 @@ impl<'a> Table<'a> {
     /// From behind the operator at a position: the next part of the construct around, or its
     /// closer.
     fn part(&self, position: usize) -> usize
-        ensures { place_at self.now result ≡ (M.seek (λ _. true) 0 0 (place_at self.now (position + 1))).rest }
+        ensures { place_at self.now result
+            ≡ (M.seek (λ _. true) 0 0 (place_at self.now (position + 1))).rest }
     {
         match self.ahead.get(position) {
             Some(ahead) => ahead.part,
@@ -207,7 +211,8 @@ impl<'a> Table<'a> {
     /// Among the parts of the construct that is opened at a position: the first that is wanted, or
     /// else the closer.
     pub fn seek(&self, wanted: Wanted<'_>, opener: usize) -> Found
-        ensures { M.seek (test_of wanted.entry) 0 0 (place_at self.now (opener + 1)) ≡ found result.passed (place_at self.now result.position) }
+        ensures { M.seek (test_of wanted.entry) 0 0 (place_at self.now (opener + 1))
+            ≡ found result.passed (place_at self.now result.position) }
     {
         let mut passed: usize = 0;
         let mut position = self.part(opener);

@@ -1,5 +1,4 @@
 use Rattle.std.proofs.Common.{◌+◌, Some, ap, sym, ◌∙◌, arith}
-use Rattle.wasm_body.specs.Machine as M
 use Rattle.walrus_run.specs.Controls.{control_meaning}
 use Rattle.walrus_run.specs.Tables.{place_at}
 use Rattle.walrus_run.specs.declared.machine.control.Control.{Control}

@@ -1,4 +1,4 @@
-use Rattle.std.proofs.Common.{◌+◌, ◌∷◌, ap, sym, ◌∙◌}
+use Rattle.std.proofs.Common.{◌+◌, ap, sym, ◌∙◌}
 use Rattle.wasm_body.specs.Machine as M
 use Rattle.walrus_run.specs.declared.machine.control.Construct.{Construct}
 use Rattle.walrus_run.specs.Controls.{construct_meaning}

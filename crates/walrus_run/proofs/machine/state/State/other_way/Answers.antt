@@ -1,4 +1,4 @@
-use Rattle.std.proofs.Common.{◌+◌, true, false, Some, ap, sym, ◌∙◌, arith}
+use Rattle.std.proofs.Common.{◌+◌, true, false, ap, sym, ◌∙◌, arith}
 use Rattle.wasm_body.specs.Control as C
 use Rattle.wasm_body.specs.Machine as M
 use Rattle.walrus_run.specs.declared.machine.control.Control.{Control}

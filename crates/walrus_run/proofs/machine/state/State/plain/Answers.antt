@@ -1,8 +1,8 @@
-use Rattle.std.proofs.Common.{◌+◌, ℕ, List, inl, inr, ap, sym, ◌∙◌}
+use Rattle.std.proofs.Common.{◌+◌, ℕ, List, inl, inr, ◌∙◌}
 use Rattle.wasm_body.specs.Control as C
 use Rattle.wasm_body.specs.Machine as M
 use Rattle.walrus_run.specs.Tables.{place_at}
-use Rattle.walrus_run.specs.Tracing.{Onwards, run_on}
+use Rattle.walrus_run.specs.Tracing.{Onwards}
 use Rattle.walrus_run.proofs.Tracing.{asked}
 use Rattle.walrus_run.proofs.machine.state.State.plain.Goals as goal
 

@@ -1,6 +1,5 @@
 use Rattle.std.proofs.Common.{◌≡◌, ◌+◌, ◌∷◌, List, ap, inl, inr, reverse, subst, sym, ◌∙◌}
-use Rattle.wasm_body.specs.Machine.{Opener, Part, Closer, Other, Shape, shape_of, tail}
-use Rattle.wasm_body.specs.Control.{Control as Meaning}
+use Rattle.wasm_body.specs.Machine.{shape_of}
 use Rattle.walrus_run.specs.Controls.{control_meaning}
 use Rattle.walrus_run.specs.declared.machine.control.Control.{Control}
 use Rattle.walrus_run.specs.declared.machine.table.Ahead.{Ahead}

@@ -1,5 +1,5 @@
 -- What stands ahead is found of the operators from the position on, and of the place there.
-use Rattle.std.proofs.Common.{◌≡◌, ◌+◌, ◌≤◌, List, length, map, reverse}
+use Rattle.std.proofs.Common.{◌≡◌, ◌+◌, length, map, reverse}
 use Rattle.walrus_run.specs.Controls.{control_meaning}
 use Rattle.walrus_run.specs.Tables.{StandAhead, AreAhead}
 use Rattle.walrus_run.proofs.machine.table.Table.new.Given as goal

@@ -36,7 +36,7 @@ parts-preserved c =
     let next = next_part test cs (c.parts.position + 1) c.part-position-in-Some.result c.part-position-in-Some.ensures 0 in (
       omega (arith, fewer, next.0, c.parts.invariant.0),
       c.parts.invariant.1
-      ∙ passes_here test cs c.parts.position (control_meaning c.in-Some.control.now) at c.parts.passed (sym c.if-not-passes.false ∙ c.passes.ensures) c.part-position-in-Some.result c.part-position-in-Some.ensures,
+          ∙ passes_here test cs c.parts.position (control_meaning c.in-Some.control.now) at c.parts.passed (sym c.if-not-passes.false ∙ c.passes.ensures) c.part-position-in-Some.result c.part-position-in-Some.ensures,
     )
 
 pub returns : goal.returns
