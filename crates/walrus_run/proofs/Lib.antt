@@ -7,3 +7,6 @@ mod RewritingLemmas
 mod NamesAnywhere
 mod Reading
 mod ReadBodies
+-- the trace machine: what stands ahead of a place; labels, exceptions and steps
+mod Tables
+mod Tracing

@@ -19,9 +19,9 @@ use Rattle.walrus_run.specs.Namers.{anywhere, HasName, AreLeft, with_next}
 
 module _ (env : Environment) where
   -- where bytes are left, an operator is
-  pub some_left : (at : Position) (xs : List Occurrence) → AreLeft env at xs → 0 < length at.rest → (x : Occurrence) × (ys : List Occurrence) × (xs ≡ x ∷ ys)
+  pub some_left : (at : Position) (xs : List Occurrence) → AreLeft env at xs → 0 < length at.rest → (x : Occurrence) × (ys : List Occurrence) × AreLeft env at (x ∷ ys) × (xs ≡ x ∷ ys)
   some_left at [] left some = absurd (omega (arith, ap length left.spelt))
-  some_left at (x ∷ xs) left some = (x, xs, refl)
+  some_left at (x ∷ xs) left some = (x, xs, left, refl)
 
   pub none_left : (at : Position) (xs : List Occurrence) → AreLeft env at xs → length at.rest ≡ 0 → xs ≡ []
   none_left at [] left none = refl
@@ -54,11 +54,15 @@ module _ (env : Environment) where
 abbrev pub before : BodyNames → List Occurrence → BodyNames
 before b xs = record { operators = b.operators ++ map (λ x. x.named) xs; places = b.places ++ map (λ x. x.place) xs }
 
-pub before_next : (b : BodyNames) (x : Occurrence) (xs : List Occurrence) → before (with_next b x.named x.place) xs ≡ before b (x ∷ xs)
+before_next : (b : BodyNames) (x : Occurrence) (xs : List Occurrence) → before (with_next b x.named x.place) xs ≡ before b (x ∷ xs)
 before_next b x xs = λ i. record {
   operators = append_assoc b.operators (x.named ∷ []) (map (λ y. y.named) xs) i;
   places = append_assoc b.places (x.place ∷ []) (map (λ y. y.place) xs) i;
 }
+
+-- what was taken so far, and what is left, are the whole behind the next operator too
+pub after_next : (b new : BodyNames) (x : Occurrence) (xs left : List Occurrence) (whole : BodyNames) → new ≡ with_next b x.named x.place → left ≡ x ∷ xs → before b left ≡ whole → before new xs ≡ whole
+after_next b new x xs left whole taken first kept = ap (λ n. before n xs) taken ∙ before_next b x xs ∙ ap (before b) (sym first) ∙ kept
 
 pub before_none : (b : BodyNames) → before b [] ≡ b
 before_none b = λ i. record { operators = append-nil b.operators i; places = append-nil b.places i }

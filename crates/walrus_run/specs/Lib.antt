@@ -5,3 +5,8 @@ pub mod Rewriting
 pub mod NamedOperators
 pub mod NamedBodies
 pub mod Namers
+-- the trace machine: what outcomes and runs mean, what operators do to the control, and what the machine keeps
+pub mod Runs
+pub mod Controls
+pub mod Tables
+pub mod Tracing

@@ -3,6 +3,7 @@
 
 mod demo;
 mod error;
+mod machine;
 mod named_body;
 mod named_op;
 mod names;
@@ -11,6 +12,7 @@ mod program;
 mod rewriting;
 
 pub use error::RewriteError;
+pub use machine::{Ending, Event, Outcome, Run, execute};
 pub use named_body::NamedBody;
 pub use named_op::{
     NamedBlockType, NamedCast, NamedCatch, NamedImmediates, NamedIndex, NamedMemArg, NamedOp,

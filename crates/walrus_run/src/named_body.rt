@@ -1,5 +1,5 @@
 //! Bodies as their modules name them.
-ghost use Rattle.std.specs.Prelude.{◌≡◌, ◌⊎◌, ◌≤◌, ◌<◌, ◌+◌, ◌∷◌, ◌^◌, ℕ, List, length, map, slice_get, IfOk, IfErr, IsErr, OnOk};
+ghost use Rattle.std.specs.Prelude.{◌≡◌, ◌⊎◌, ◌≤◌, ◌<◌, ◌+◌, ◌∷◌, ◌^◌, ℕ, List, length, map, slice_get, IsSome, ◌↔◌, IfOk, IfErr, IsErr, OnOk};
 ghost use Rattle.wasm_ops.specs.Laws.{AreBytes};
 ghost use Rattle.wasm_body.specs.declared.error.ParseError.{ParseError as ParseFault};
 ghost use Rattle.wasm_body.specs.declared.error.ParseFailure.{ParseFailure as Failure};
@@ -29,7 +29,7 @@ pub struct NamedBody {
 }
 
 impl Model for NamedBody {
-    ghost use Rattle.std.specs.Prelude.{map};
+    ghost use Rattle.std.specs.Prelude.{◌≡◌, length, map};
     ghost use Rattle.walrus_run.specs.NamedOperators.{named_operation};
     ghost use Rattle.walrus_run.specs.NamedBodies.{BodyNames};
 
@@ -39,6 +39,8 @@ impl Model for NamedBody {
       operators = map named_operation b.operators.items;
       places = b.places.items;
     } };
+
+    ghost invariant = { λ b. length b.places.items ≡ length b.operators.items };
 }
 
 /// Bytes are below 256.
@@ -170,14 +172,24 @@ impl NamedBody {
         }
     }
 
-    /// Appends an operator and its place. After a refusal it is used no more.
+    /// Appends an operator and its place.
     fn push(&mut self, operator: NamedOp, place: usize) -> Result<(), ParseError>
         ensures ok { OnOk result (self.new ≡ with_next self.old (named_operation operator) place) }
         ensures err { IfErr result (λ e. e ≡ ParseFault.Memory) }
     {
-        self.operators.push(operator)?;
         self.places.push(place)?;
-        Ok(())
+        match self.operators.push(operator) {
+            Ok(()) => Ok(()),
+            Err(_) => {
+                self.places.pop();
+                Err(ParseError::Memory)
+            }
+        }
+    }
+
+    /// What its lists take their memory from.
+    pub(crate) fn allocator(&self) -> Global {
+        *self.operators.allocator()
     }
 
     /// Its operators, in order. It takes no memory.
@@ -190,7 +202,8 @@ impl NamedBody {
     /// The place of the operator with this number, or none where there is no such operator. It
     /// takes no memory.
     pub fn place(&self, i: usize) -> Option<usize>
-        ensures { result ≡ slice_get self.now.places i }
+        ensures place { result ≡ slice_get self.now.places i }
+        ensures there { IsSome result ↔ (i < length self.now.operators) }
     {
         self.places.get(i).copied()
     }
