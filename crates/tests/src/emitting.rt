@@ -143,10 +143,7 @@ fn writes_numbers_of_locals(rt: HostRuntime) -> Result<(), Fail> {
         (0, Made::Local(Access::Set, 7), 2),
         (0, Made::Call(0), 3),
     ];
-    let second = [
-        (0, Made::Call(0), 1),
-        (0, Made::Local(Access::Tee, 7), 2),
-    ];
+    let second = [(0, Made::Call(0), 1), (0, Made::Local(Access::Tee, 7), 2)];
     let cases = [
         (
             numbered.as_slice(),

@@ -7,9 +7,7 @@ use std::test::Fail;
 use walrus_body::{
     DataSegmentsVisitor, EmitFacts, FactsVisitor, LocalFunction, SizeVisitor, law_facts,
 };
-use walrus_ir::{
-    DataId, FunctionBuilder, IdHashSet, InstrSeqId, LocalId, WalkError, dfs_in_order,
-};
+use walrus_ir::{DataId, FunctionBuilder, IdHashSet, InstrSeqId, LocalId, WalkError, dfs_in_order};
 
 // The number of instructions from a sequence on.
 pub(crate) fn size(builder: &FunctionBuilder, start: InstrSeqId) -> Result<u64, WalkError> {
