@@ -3,8 +3,9 @@ use crate::lent::append;
 use std::alloc::{AllocError, Global};
 use walrus_ir::{
     ArrayInitData, ArrayNewData, Block, Br, Call, Const, DataDrop, DataId, FunctionBuilder,
-    FunctionId, IfElse, Instr, InstrLocId, InstrSeqId, InstrSeqType, LegacyCatch, LocalGet,
-    LocalId, LocalSet, LocalTee, MemoryId, MemoryInit, RefFunc, TagId, Try, TypeId, Value,
+    FunctionId, IfElse, Instr, InstrLocId, InstrSeqId, InstrSeqType, LegacyCatch, Load, LoadKind,
+    LocalGet, LocalId, LocalSet, LocalTee, MemArg, MemoryId, MemoryInit, RefFunc, TagId, Try,
+    TypeId, Value,
 };
 
 /// An instruction, with the numbers of its ids.
@@ -19,6 +20,8 @@ pub(crate) enum Made {
     Local(Access, usize),
     RefFunc(usize),
     Data(Use, usize),
+    /// An `i32.load` with this alignment, in bytes.
+    Load(u32),
 }
 
 /// What is done with a local.
@@ -57,6 +60,14 @@ fn on_data(usage: Use, data_id: DataId) -> Instr {
     }
 }
 
+fn load(align: u32) -> Instr {
+    Instr::Load(Load {
+        memory: MemoryId::new(0),
+        kind: LoadKind::I32 { atomic: false },
+        arg: MemArg { align, offset: 0 },
+    })
+}
+
 fn if_else(consequent: usize, alternative: usize) -> Instr {
     let (consequent, alternative) = (InstrSeqId::new(consequent), InstrSeqId::new(alternative));
     Instr::IfElse(IfElse {
@@ -89,6 +100,7 @@ pub(crate) fn instr(made: Made) -> Instr {
             func: FunctionId::new(n),
         }),
         Made::Data(usage, n) => on_data(usage, DataId::new(n)),
+        Made::Load(align) => load(align),
     }
 }
 

@@ -1,7 +1,10 @@
 //! Tables of cases: what is answered about each text or function, as text, beside what is wanted.
 use crate::by_hand::{Item, function};
+use crate::demo_module::{DEMO, parse_demo};
 use crate::emitting::written;
-use crate::facts::{answered, visited};
+use crate::facts::{answered, both_answered, emitted, gathered, visited};
+use crate::locals::declared_as_used;
+use crate::named::named;
 use crate::program::printed;
 use crate::reading::read_all;
 use crate::rewriting::rewritten;
@@ -23,6 +26,10 @@ pub(crate) enum About {
     Entry,
     /// The function's size and data segments, and whether it is constant.
     Facts,
+    /// What is gathered of a function of the demo module, then its size and data segments.
+    Gathered,
+    /// What a function of the demo module declares.
+    Locals,
     /// The function's bytes and pairs when it is written.
     Written(Setting),
     /// The function where a validator refuses the third operator with 7.
@@ -33,6 +40,8 @@ pub(crate) enum About {
     Told,
     /// The body that is written over the demo module.
     Rewritten,
+    /// The operators of a body as its module names them, or its first fault.
+    Named(Setting),
     /// The operators that are read from a place on.
     Read(u32),
     /// What the program prints.
@@ -44,6 +53,8 @@ fn answer(alloc: Global, about: About, text: &str) -> Result<String, Fail> {
         About::Function(setting) => Ok(parsed(alloc, setting, text)?),
         About::Entry => entry_text(alloc, text),
         About::Facts => Ok(answered(alloc, &parse(alloc, Setting::PLAIN, text)?)?),
+        About::Gathered => Ok(both_answered(alloc, &parse_demo(alloc, DEMO, text)?)?),
+        About::Locals => declared_as_used(alloc, &parse_demo(alloc, DEMO, text)?),
         About::Written(setting) => written(alloc, &parse(alloc, setting, text)?),
         About::Counted => Ok(parsed_by(alloc, Setting::PLAIN, text, Counting { left: 2 })?),
         About::Kept => {
@@ -52,6 +63,7 @@ fn answer(alloc: Global, about: About, text: &str) -> Result<String, Fail> {
         }
         About::Told => Ok(told(alloc, text)?),
         About::Rewritten => Ok(rewritten(alloc, text)?),
+        About::Named(setting) => Ok(named(alloc, setting, text)?),
         About::Read(start) => read_all(alloc, text, start),
         About::Printed => Ok(printed(alloc, text)?),
     }
@@ -78,6 +90,8 @@ pub(crate) enum AboutMade {
     Walk,
     /// Its size and data segments, as visitors find them and as it answers itself.
     Facts,
+    /// What a visitor gathers, and what it answers itself.
+    Gathered,
     /// Its bytes and pairs when it is written.
     Written,
 }
@@ -90,11 +104,20 @@ fn both_facts(alloc: Global, builder: FunctionBuilder) -> Result<String, AllocEr
     format!(in alloc; "{visited}; {answered}")
 }
 
+// What a visitor gathers, and what the function answers.
+fn gathered_twice(alloc: Global, builder: FunctionBuilder) -> Result<String, AllocError> {
+    let gathered = gathered(alloc, &builder, 0)?;
+    let function = LocalFunction::new(Vec::new(alloc), builder);
+    let emitted = emitted(alloc, &function)?;
+    format!(in alloc; "{gathered}; {emitted}")
+}
+
 fn answer_made(alloc: Global, about: AboutMade, instrs: &[Item]) -> Result<String, Fail> {
     let builder = function(alloc, 3, instrs)?;
     match about {
         AboutMade::Walk => Ok(walked(alloc, &builder, 0, 1000)?),
         AboutMade::Facts => Ok(both_facts(alloc, builder)?),
+        AboutMade::Gathered => Ok(gathered_twice(alloc, builder)?),
         AboutMade::Written => written(alloc, &LocalFunction::new(Vec::new(alloc), builder)),
     }
 }

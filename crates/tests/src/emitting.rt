@@ -1,28 +1,32 @@
 //! Functions that are written: those that are made by hand, and those that are parsed.
-use crate::by_hand::{Made, function};
+use crate::by_hand::{Access, Made, function};
 use crate::cases::{About, AboutMade, check, check_made};
 use crate::function_text::{At, push_sequences};
+use crate::index_maps::give;
 use crate::small_module::Setting;
 use std::alloc::{AllocError, Global};
 use std::test::Fail;
-use walrus_body::{EmitError, IdsToIndices, IndexError, LocalFunction};
-use walrus_ir::{FunctionId, IdHashMap, InstrLocId, InstrSeqId, InstrSeqType, LocalId, TypeId};
+use walrus_body::{EmitError, IdsToIndices, IndexError, LocalFunction, Space};
+use walrus_ir::{IdHashMap, InstrLocId, InstrSeqId, InstrSeqType, LocalId, TypeId};
 use wasm_encode::FunctionEncoder;
 
-// The types 8, 2, 6 and 5 have the new indices 0 to 3, and the function 7 has 0.
+// The types 8, 2, 6 and 5 have the new indices 0 to 3, the function 7 has 0, and the memory 0 has 0.
 fn numbers(alloc: Global) -> Result<IdsToIndices, IndexError> {
     let mut numbers = IdsToIndices::new(alloc);
-    for id in [8, 2, 6, 5] {
-        let ty = TypeId::new(id);
-        if numbers.get_type_index(ty).is_err() {
-            numbers.push_type(ty)?;
-        }
+    for ty in [8, 2, 6, 5] {
+        give(&mut numbers, Space::Types, ty)?;
     }
-    let func = FunctionId::new(7);
-    if numbers.get_func_index(func).is_err() {
-        numbers.push_func(func)?;
-    }
+    give(&mut numbers, Space::Funcs, 7)?;
+    give(&mut numbers, Space::Memories, 0)?;
     Ok(numbers)
+}
+
+// The local 5 has the number 300, and 6 has 0.
+fn local_numbers(alloc: Global) -> Result<IdHashMap<LocalId, u32>, AllocError> {
+    let mut locals = IdHashMap::new(alloc);
+    locals.insert(LocalId::new(5), 300)?;
+    locals.insert(LocalId::new(6), 0)?;
+    Ok(locals)
 }
 
 // Writes a function, if it begins with a sequence of its builder.
@@ -48,7 +52,7 @@ fn write_into(
     map: Option<&mut Vec<(InstrLocId, usize)>>,
 ) -> Result<String, Fail> {
     let numbers = numbers(alloc)?;
-    let locals = IdHashMap::new(alloc);
+    let locals = local_numbers(alloc)?;
     match write(function, &numbers, &locals, encoder, map) {
         Some(Ok(())) => Ok(String::new(alloc)),
         Some(Err(error)) => Ok(format!(in alloc; "{error:?} ")?),
@@ -124,6 +128,59 @@ fn writes_what_is_made_by_hand(rt: HostRuntime) -> Result<(), Fail> {
         ),
     ];
     check_made(&rt, rt.alloc(), AboutMade::Written, &cases)
+}
+
+/// Locals are written by the numbers that are handed in; one without is refused in its turn.
+#[test]
+fn writes_numbers_of_locals(rt: HostRuntime) -> Result<(), Fail> {
+    let numbered = [
+        (0, Made::Local(Access::Get, 5), 1),
+        (0, Made::Local(Access::Set, 6), 2),
+        (0, Made::Local(Access::Tee, 5), 3),
+    ];
+    let first = [
+        (0, Made::Drop, 1),
+        (0, Made::Local(Access::Set, 7), 2),
+        (0, Made::Call(0), 3),
+    ];
+    let second = [(0, Made::Call(0), 1), (0, Made::Local(Access::Tee, 7), 2)];
+    let cases = [
+        (
+            numbered.as_slice(),
+            "0020ac02210022ac020b 9@9 1@1 2@4 3@6 -@9",
+        ),
+        (first.as_slice(), "UnnumberedLocal 00 9@9"),
+        (
+            second.as_slice(),
+            "Index(Unnumbered { space: Funcs }) 00 9@9",
+        ),
+    ];
+    check_made(&rt, rt.alloc(), AboutMade::Written, &cases)
+}
+
+/// An alignment in bytes is written as the exponent of the greatest power of two that is at most
+/// it, and 0 as that of 1.
+#[test]
+fn writes_exponents_of_alignments(rt: HostRuntime) -> Result<(), Fail> {
+    for (align, want) in [
+        (0, "002800000b 9@9 1@1 -@4"),
+        (1, "002800000b 9@9 1@1 -@4"),
+        (2, "002801000b 9@9 1@1 -@4"),
+        (3, "002801000b 9@9 1@1 -@4"),
+        (4, "002802000b 9@9 1@1 -@4"),
+        (6, "002802000b 9@9 1@1 -@4"),
+        (12, "002803000b 9@9 1@1 -@4"),
+        (u32::MAX, "00281f000b 9@9 1@1 -@4"),
+    ] {
+        let load = [(0, Made::Load(align), 1)];
+        check_made(
+            &rt,
+            rt.alloc(),
+            AboutMade::Written,
+            &[(load.as_slice(), want)],
+        )?;
+    }
+    Ok(())
 }
 
 /// Bodies whose places are known: of code that begins at 90, and at 0.

@@ -21,7 +21,8 @@ const SPACES: [(Space, usize); 8] = [
     (Space::Tags, 17),
 ];
 
-fn push(ids: &mut IndicesToIds, space: Space, id: usize) -> Result<u32, IndexError> {
+/// Gives an id the next old index.
+pub(crate) fn push(ids: &mut IndicesToIds, space: Space, id: usize) -> Result<u32, IndexError> {
     match space {
         Space::Tables => ids.push_table(TableId::new(id)),
         Space::Types => ids.push_type(TypeId::new(id)),
@@ -189,8 +190,8 @@ fn number(numbers: &IdsToIndices, space: Space, id: usize) -> Result<u32, IndexE
     }
 }
 
-// Gives an id that has none the next new index, and a data segment 0.
-fn give(numbers: &mut IdsToIndices, space: Space, id: usize) -> Result<(), IndexError> {
+/// Gives an id that has none the next new index, and a data segment 0.
+pub(crate) fn give(numbers: &mut IdsToIndices, space: Space, id: usize) -> Result<(), IndexError> {
     if number(numbers, space, id).is_ok() {
         return Ok(());
     }

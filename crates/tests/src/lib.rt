@@ -11,6 +11,8 @@ mod cases;
 #[cfg(test)]
 mod context;
 #[cfg(test)]
+mod demo_module;
+#[cfg(test)]
 mod emit;
 #[cfg(test)]
 mod emitting;
@@ -24,7 +26,11 @@ mod function_text;
 mod index_maps;
 mod lent;
 #[cfg(test)]
+mod locals;
+#[cfg(test)]
 mod modules;
+#[cfg(test)]
+mod named;
 #[cfg(test)]
 mod parse_refusals;
 #[cfg(test)]

@@ -123,31 +123,35 @@ fn doubled(place: usize) -> InstrLocId {
     InstrLocId::new((place % 1_000_000_000) as u32 * 2)
 }
 
-const OUT_OF_MEMORY: ParseFailure = ParseFailure {
+/// Want of memory, at no place.
+pub(crate) const OUT_OF_MEMORY: ParseFailure = ParseFailure {
     error: ParseError::Memory,
     at: 0,
 };
 
-/// Parses a function, whose body is hexadecimal text, with the list that is lent.
-pub(crate) fn parse_lent<V: OpCheck>(
-    alloc: Global,
+/// Parses a function with this id and these arguments, whose body is hexadecimal text, with the
+/// list that is lent.
+pub(crate) fn parse_in<V: OpCheck>(
+    example: &Example,
+    id: FunctionId,
+    args: Vec<LocalId>,
     setting: Setting,
     body: &str,
     validator: V,
     instrs: &mut Vec<(Instr, InstrLocId)>,
-) -> Result<LocalFunction, ParseFailure> {
-    let offset = setting.offset as usize;
-    let (Ok(bytes), Ok(example)) = (hex::decode(alloc, body), Example::new(alloc, offset)) else {
+) -> Result<LocalFunction, ParseFailure>
+    requires { example.now.module.code_section_offset ≡ setting.offset }
+{
+    let Ok(bytes) = hex::decode(*instrs.allocator(), body) else {
         return Err(OUT_OF_MEMORY);
     };
     let body = FunctionBody {
         bytes: &bytes,
-        start: offset + setting.before as usize,
+        start: setting.offset as usize + setting.before as usize,
         ops: setting.ops.min(bytes.len()),
     };
     let (module, indices) = (&example.module, &example.indices);
-    let (id, ty) = (FunctionId::new(12), TypeId::new(setting.ty));
-    let args: Vec<LocalId> = Vec::new(alloc);
+    let ty = TypeId::new(setting.ty);
     if setting.located {
         let locate = |place: &usize| doubled(*place);
         LocalFunction::parse(
@@ -167,6 +171,29 @@ pub(crate) fn parse_lent<V: OpCheck>(
             module, indices, id, ty, args, body, locate, validator, instrs,
         )
     }
+}
+
+/// Parses a function without arguments, whose body is hexadecimal text, with the list that is lent.
+pub(crate) fn parse_lent<V: OpCheck>(
+    alloc: Global,
+    setting: Setting,
+    body: &str,
+    validator: V,
+    instrs: &mut Vec<(Instr, InstrLocId)>,
+) -> Result<LocalFunction, ParseFailure> {
+    let Ok(example) = Example::new(alloc, setting.offset as usize) else {
+        return Err(OUT_OF_MEMORY);
+    };
+    let id = FunctionId::new(12);
+    parse_in(
+        &example,
+        id,
+        Vec::new(alloc),
+        setting,
+        body,
+        validator,
+        instrs,
+    )
 }
 
 /// Parses a function that no validator refuses.

@@ -19,7 +19,7 @@ pub use ids_to_indices::{IdsToIndices, law_numbers_of_pushes};
 pub use indices_to_ids::IndicesToIds;
 pub use local_function::{
     AcceptAll, CheckError, ControlFrame, ControlStack, FunctionBody, IfElseState, LocalFunction,
-    OpCheck, ValidationContext,
+    OpCheck, ValidationContext, heap_type_of, value_type,
 };
 pub use segments::DataSegmentsVisitor;
 pub use sizes::SizeVisitor;

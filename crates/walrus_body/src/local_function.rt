@@ -52,6 +52,7 @@ pub use context::ValidationContext;
 pub use frame::{ControlFrame, ControlStack, IfElseState};
 use std::marker::Model;
 use std::ops::Range;
+pub use types::{heap_type_of, value_type};
 use walrus_ir::{
     DataId, FunctionBuilder, FunctionId, IdHashMap, IdHashSet, Instr, InstrLocId, InstrSeq,
     InstrSeqId, LocalId, Module, TypeId, WalkError,

@@ -7,3 +7,10 @@ mod RewritingLemmas
 mod Counts
 mod RawBodyLemmas
 mod RewrittenLemmas
+-- the operators of an accepted body are read and named
+mod NamesAnywhere
+mod Reading
+mod ReadBodies
+-- the trace machine: what stands ahead of a place; labels, exceptions and steps
+mod Tables
+mod Tracing

@@ -3,3 +3,12 @@ pub mod Demo
 pub mod Rewriting
 pub mod RawBodies
 pub mod RewrittenBodies
+-- operators and bodies as they are named
+pub mod NamedOperators
+pub mod NamedBodies
+pub mod Namers
+-- the trace machine: what outcomes and runs mean, what operators do to the control, and what the machine keeps
+pub mod Runs
+pub mod Controls
+pub mod Tables
+pub mod Tracing

@@ -4,7 +4,11 @@
 mod code_entry;
 mod demo;
 mod error;
+mod machine;
+mod named_body;
+mod named_op;
 mod names;
+mod naming;
 mod program;
 mod raw_body;
 mod rewriting;
@@ -12,9 +16,14 @@ mod whole_body;
 
 pub use code_entry::CodeEntry;
 pub use error::RewriteError;
+pub use machine::{Ending, Event, Outcome, Run, execute};
+pub use named_body::NamedBody;
+pub use named_op::{
+    NamedBlockType, NamedCast, NamedCatch, NamedImmediates, NamedIndex, NamedMemArg, NamedOp,
+};
 pub use program::run_words;
 pub use rewriting::rewrite_demo;
-pub use whole_body::rewrite_body;
 pub use walrus_body::{
     law_accepted_again, law_executions, law_inverse_undoes, law_locations, law_read_back,
 };
+pub use whole_body::rewrite_body;

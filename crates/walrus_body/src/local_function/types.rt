@@ -7,8 +7,9 @@ use crate::{IndicesToIds, ParseError};
 use walrus_ir::{HeapType, RefType, ValType};
 use wasm_ops::{RawHeapType, RawValType};
 
-/// A heap type with the id of the type that it names, if it names one.
-pub(crate) fn heap_type_of(indices: &IndicesToIds, ty: RawHeapType) -> Result<HeapType, ParseError>
+/// A heap type with the id of the type that it names, if it names one; or `Index`. It takes no
+/// memory.
+pub fn heap_type_of(indices: &IndicesToIds, ty: RawHeapType) -> Result<HeapType, ParseError>
     ensures { result ≡ translate_heap (ids_at indices.now) ty }
 {
     match ty {
@@ -17,8 +18,9 @@ pub(crate) fn heap_type_of(indices: &IndicesToIds, ty: RawHeapType) -> Result<He
     }
 }
 
-/// A value type with the ids of the types that it names.
-pub(crate) fn value_type(indices: &IndicesToIds, ty: RawValType) -> Result<ValType, ParseError>
+/// A value type with the id of the type that it names, if it names one; or `Index`. It takes no
+/// memory.
+pub fn value_type(indices: &IndicesToIds, ty: RawValType) -> Result<ValType, ParseError>
     ensures { result ≡ translate_value (ids_at indices.now) ty }
 {
     match ty {

@@ -1,0 +1,150 @@
+//! The module over which the program runs, with locals of more types, and what its functions'
+//! bodies give.
+ghost use Rattle.std.specs.Prelude.{◌≡◌, IfOk};
+
+use crate::index_maps::{give, push};
+use crate::small_module::{Example, OUT_OF_MEMORY, Setting, parse_in};
+use std::alloc::{AllocError, Global};
+use walrus_body::{
+    AcceptAll, IdsToIndices, IndexError, IndicesToIds, LocalFunction, ParseFailure, Space,
+};
+use walrus_ir::{
+    AbstractHeapType, FunctionId, HeapType, LocalId, Module, ModuleLocals, ModuleTags, ModuleTypes,
+    RefType, TypeId, ValType,
+};
+
+/// How many locals there are.
+const LOCALS: usize = 16;
+
+/// Operators that stand at the place 0, of its function 0, which has the type 1.
+pub(crate) const DEMO: Setting = Setting {
+    ty: 1,
+    ..Setting::PLAIN
+};
+
+fn reference(nullable: bool, heap_type: HeapType) -> ValType {
+    ValType::Ref(RefType {
+        nullable,
+        heap_type,
+    })
+}
+
+// The type of a local. The first four are those of the program's module. The type 4 has no new
+// index.
+fn local_type(local: usize) -> ValType {
+    let function = HeapType::Abstract(AbstractHeapType::Func);
+    match local {
+        0 | 7 => ValType::I32,
+        4 => ValType::F64,
+        5 | 14 => reference(true, function),
+        6 => reference(false, function),
+        8 => reference(true, HeapType::Abstract(AbstractHeapType::Extern)),
+        9 => reference(true, HeapType::Concrete(TypeId::new(2))),
+        10 => reference(true, HeapType::Concrete(TypeId::new(1))),
+        11 => reference(false, HeapType::Concrete(TypeId::new(4))),
+        12 => ValType::F32,
+        13 => ValType::V128,
+        15 => reference(false, HeapType::Concrete(TypeId::new(1))),
+        _ => ValType::I64,
+    }
+}
+
+fn locals(alloc: Global) -> Result<ModuleLocals, AllocError> {
+    let mut locals = ModuleLocals::new(alloc);
+    for local in 0..LOCALS {
+        locals.add(local_type(local))?;
+    }
+    Ok(locals)
+}
+
+fn types(alloc: Global) -> Result<ModuleTypes, AllocError> {
+    let mut types = ModuleTypes::new(alloc);
+    types.add_func(&[], &[])?;
+    types.add_func(&[ValType::I32], &[])?;
+    types.add_func(&[ValType::I32, ValType::I32], &[ValType::I32])?;
+    types.add_func(&[ValType::I32], &[])?;
+    types.add_entry(&[])?;
+    Ok(types)
+}
+
+fn tags(alloc: Global) -> Result<ModuleTags, AllocError> {
+    let mut tags = ModuleTags::new(alloc);
+    tags.add(TypeId::new(0))?;
+    tags.add(TypeId::new(1))?;
+    Ok(tags)
+}
+
+// One of each kind but two functions and two tags.
+const ITEMS: [(Space, usize); 9] = [
+    (Space::Funcs, 0),
+    (Space::Funcs, 1),
+    (Space::Tags, 0),
+    (Space::Tags, 1),
+    (Space::Tables, 0),
+    (Space::Memories, 0),
+    (Space::Globals, 0),
+    (Space::Elements, 0),
+    (Space::Data, 0),
+];
+
+// The ids are the old indices, of locals those of the function 0.
+fn indices(alloc: Global) -> Result<IndicesToIds, IndexError> {
+    let mut indices = IndicesToIds::new(alloc);
+    for ty in 0..4 {
+        push(&mut indices, Space::Types, ty)?;
+    }
+    for (space, id) in ITEMS {
+        push(&mut indices, space, id)?;
+    }
+    for local in 0..LOCALS {
+        indices.push_local(FunctionId::new(0), LocalId::new(local))?;
+    }
+    Ok(indices)
+}
+
+/// The new indices are the old ones, but for those of types: the types 3, 2, 1 and 0 have the new
+/// indices 0 to 3.
+pub(crate) fn numbers(alloc: Global) -> Result<IdsToIndices, IndexError> {
+    let mut numbers = IdsToIndices::new(alloc);
+    for ty in [3, 2, 1, 0] {
+        give(&mut numbers, Space::Types, ty)?;
+    }
+    for (space, id) in ITEMS {
+        give(&mut numbers, space, id)?;
+    }
+    Ok(numbers)
+}
+
+/// The module, whose code begins at this place, and the ids of its old indices.
+pub(crate) fn demo(alloc: Global, code_section_offset: usize) -> Result<Example, IndexError>
+    ensures { IfOk result (λ example. example.module.code_section_offset ≡ code_section_offset) }
+{
+    let (Ok(types), Ok(tags), Ok(locals)) = (types(alloc), tags(alloc), locals(alloc)) else {
+        return Err(IndexError::Memory);
+    };
+    let indices = indices(alloc)?;
+    let module = Module {
+        types,
+        tags,
+        locals,
+        code_section_offset,
+    };
+    Ok(Example { module, indices })
+}
+
+/// Parses the body of the function 0, whose argument is the local 0.
+pub(crate) fn parse_demo(
+    alloc: Global,
+    setting: Setting,
+    body: &str,
+) -> Result<LocalFunction, ParseFailure> {
+    let Ok(demo) = demo(alloc, setting.offset as usize) else {
+        return Err(OUT_OF_MEMORY);
+    };
+    let Ok(args) = vec![in alloc; LocalId::new(0)] else {
+        return Err(OUT_OF_MEMORY);
+    };
+    let mut instrs = Vec::new(alloc);
+    let id = FunctionId::new(0);
+    parse_in(&demo, id, args, setting, body, AcceptAll, &mut instrs)
+}

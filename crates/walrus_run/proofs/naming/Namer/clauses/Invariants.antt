@@ -1,0 +1,12 @@
+-- What is named stands before the clauses that are left.
+use Rattle.std.proofs.Common.{◌≡◌, map}
+use Rattle.walrus_ir.specs.Results.{each}
+use Rattle.wasm_body.specs.Translation.{translate_clause}
+use Rattle.walrus_body.proofs.Listed.{behind_these}
+use Rattle.walrus_run.specs.NamedOperators.{named_clause}
+use Rattle.walrus_run.specs.Namers.{env_of, anywhere}
+use Rattle.walrus_run.proofs.naming.Namer.clauses.Given as goal
+
+abbrev pub invariant-clauses : goal.invariant-clauses
+invariant-clauses l =
+    (goal.iterator-clauses).can_next l.raw × (goal.iterator-clauses).is_finite l.raw × (behind_these (map named_clause l.made.items) (each (translate_clause (anywhere (env_of l.self))) l.raw) ≡ each (translate_clause (anywhere (env_of l.self))) l.catches)

@@ -1,0 +1,21 @@
+-- Reading a body as its module names it.
+use Rattle.std.specs.Prelude.{ℕ, List, map, Some, Ok}
+use Rattle.walrus_ir.specs.declared.module.Module.{Module}
+use Rattle.wasm_body.specs.Naming.{NamedOperation, Occurrence}
+use Rattle.wasm_body.specs.Parsing.Accepted.{Setting}
+use Rattle.walrus_body.specs.declared.indices_to_ids.IndicesToIds.{IndicesToIds}
+use Rattle.walrus_body.specs.declared.local_function.body.FunctionBody.{FunctionBody}
+use Rattle.walrus_body.specs.Parsing.Bodies.{body_setting}
+
+-- The operators of a body as they are named, in order, and the place of each.
+pub record BodyNames : Type 0 where
+  pub operators : List NamedOperation
+  pub places : List ℕ
+
+abbrev pub names_of : List Occurrence → BodyNames
+names_of xs = record { operators = map (λ x. x.named) xs; places = map (λ x. x.place) xs }
+
+-- What a body is read in: the validator takes every operator, and there is a location function, with which places have no
+-- limit.
+abbrev pub reading : Module → IndicesToIds → (function type : ℕ) → FunctionBody → (locate : ℕ → ℕ) → Setting (Unit {0})
+reading m indices function type body locate = body_setting m indices function type body (λ s x. Ok s) tt (Some locate)
