@@ -9,9 +9,7 @@ use walrus_ir::TagId;
 /// The bytes of the operator with this number, in a body that begins at place 0.
 fn operator_bytes<'a>(body: &NamedBody, bytes: &'a [u8], i: usize) -> &'a [u8] {
     let from = body.place(i).unwrap_or(0);
-    let to = body
-        .place(i.saturating_add(1))
-        .unwrap_or(bytes.len());
+    let to = body.place(i.saturating_add(1)).unwrap_or(bytes.len());
     bytes.get(from..to).unwrap_or(&[])
 }
 
@@ -39,19 +37,16 @@ fn push_event(
 }
 
 /// Tags in ascending order, with a `+` between them; `-` for none.
-fn push_tags(
-    alloc: Global,
-    text: &mut String,
-    tags: &BTreeSet<TagId>,
-) -> Result<(), AllocError> {
+fn push_tags(alloc: Global, text: &mut String, tags: &BTreeSet<TagId>) -> Result<(), AllocError> {
     if tags.is_empty() {
         return text.push_str("-");
     }
-    let mut between = "";
-    for tag in tags.iter() {
-        let number = tag.index();
-        text.push_str(format!(in alloc; "{between}{number}")?.as_str())?;
-        between = "+";
+    for (number, tag) in tags.iter().enumerate() {
+        if number > 0 {
+            text.push_str("+")?;
+        }
+        let tag = tag.index();
+        text.push_str(format!(in alloc; "{tag}")?.as_str())?;
     }
     Ok(())
 }
