@@ -107,7 +107,10 @@ fn traces_exceptions(rt: HostRuntime) -> Result<(), Fail> {
             "trace 0 r0 02401f4001020010000b0b0b",
             "0 0 0240\n2 1f40010200\n7 1000\n2 taken 0\nreturned\n|",
         ),
-        ("trace 0 r0 0640080018000b", "0 0 0640\n2 0800\nescaped 0\n|"),
+        (
+            "trace 0 r0 0640080018000b",
+            "0 0 0640\n2 0800\nescaped 0\n|",
+        ),
         (
             "trace 0 r0 06400800070009000b0b",
             "0 0 0640\n2 0800\n0 taken 0\n6 0900\nescaped 0\n|",
