@@ -12,6 +12,8 @@ mod naming;
 mod program;
 mod raw_body;
 mod rewriting;
+mod trace_text;
+mod trace_words;
 mod whole_body;
 
 pub use code_entry::CodeEntry;

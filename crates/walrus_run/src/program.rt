@@ -1,12 +1,18 @@
 //! The program `wbody`, over its words and two writers.
 
+use crate::demo;
 use crate::error::RewriteError;
+use crate::machine::execute;
+use crate::named_body::NamedBody;
 use crate::names::rewrite_name;
 use crate::rewriting::rewrite_demo;
+use crate::trace_text::run_text;
+use crate::trace_words::{outcomes, turns};
 use std::alloc::{AllocError, Global};
 use std::io::Write;
 use thiserror::Error;
-use walrus_body::ParseError;
+use walrus_body::{FunctionBody, ParseError, ParseFailure};
+use walrus_ir::{FunctionId, TypeId};
 
 /// Why nothing is printed to standard output; its text is the line that is printed to standard
 /// error instead.
@@ -68,10 +74,51 @@ fn rewritten(alloc: Global, body: &str) -> Result<String, Stop> {
     Ok(hex::encode(alloc, written)?)
 }
 
-/// The line that the words ask for.
+/// Reads the operators of a body over the demo module, as those of its function 0.
+fn read_demo(alloc: Global, ops: &[u8]) -> Result<NamedBody, RewriteError> {
+    let module = demo::module(alloc)?;
+    let indices = match demo::indices(alloc) {
+        Ok(indices) => indices,
+        Err(_) => return Err(RewriteError::from(AllocError)),
+    };
+    let body = FunctionBody {
+        bytes: ops,
+        start: 0,
+        ops: 0,
+    };
+    let (id, ty) = (FunctionId::new(0), TypeId::new(1));
+    match NamedBody::read(alloc, &module, &indices, id, ty, body) {
+        Ok(body) => Ok(body),
+        Err(failure) => Err(RewriteError::Parse(failure)),
+    }
+}
+
+/// The lines of a body's run.
+fn traced(
+    alloc: Global,
+    turns_word: &str,
+    outcomes_word: &str,
+    body: &str,
+) -> Result<String, Stop> {
+    let (Some(turns), Some(outcomes)) = (turns(turns_word), outcomes(alloc, outcomes_word)?) else {
+        return Err(Stop::WrongUse);
+    };
+    let bytes = hex::decode(alloc, body)?;
+    let body = read_demo(alloc, &bytes)?;
+    let run = execute(&body, &outcomes, turns)?;
+    Ok(run_text(alloc, &body, &bytes, &run)?)
+}
+
+/// The lines that the words ask for, without the last line end.
 fn answer(alloc: Global, words: &[String]) -> Result<String, Stop> {
     match words {
         [command, body] if command.as_str() == "rewrite" => rewritten(alloc, body.as_str()),
+        [command, turns, outcomes, body] if command.as_str() == "trace" => traced(
+            alloc,
+            turns.as_str(),
+            outcomes.as_str(),
+            body.as_str(),
+        ),
         _ => Err(Stop::WrongUse),
     }
 }
@@ -79,9 +126,16 @@ fn answer(alloc: Global, words: &[String]) -> Result<String, Stop> {
 /// Runs the program with these words, without its own name, and answers its status.
 ///
 /// `rewrite HEX` prints the written operators of the body that HEX spells, in lower case, and a
-/// line end to `out`, with status 0. A body that is refused prints `refused: ` with the fault's
-/// name and its place to `err`, with status 1; any other words print how the program is used to
-/// `err`, with status 2. Where a write fails the status is 1.
+/// line end to `out`, with status 0. `trace TURNS OUTCOMES HEX` prints the run of the body: a line
+/// for each event, which is the operator's place and its bytes, or the place of a construct's
+/// opener, `taken` and the number of the clause that took an exception; and then how it ended. A
+/// body that is refused prints `refused: ` with the fault's name and its place to `err`, with
+/// status 1; any other words print how the program is used to `err`, with status 2. Where a write
+/// fails the status is 1.
+///
+/// TURNS is a decimal number. OUTCOMES is `-` for none, or items with commas between them: `g`
+/// goes on, `t` traps, `1` and `0` say whether a branch or a condition is taken, `e` and a number
+/// is an entry of a branch table, and `r` with tags, which have a `+` between them, raises.
 pub fn run_words<W: Write, E: Write>(
     alloc: Global,
     words: &[String],

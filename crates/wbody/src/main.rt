@@ -1,15 +1,28 @@
-//! The program `wbody`: rewrites the body of a function that is given in hexadecimal.
+//! The program `wbody`: rewrites and runs bodies of functions that are given in hexadecimal.
 #![tactic(auto)]
 
 use std::process::ExitCode;
 use std::{env, io};
 use walrus_run::run_words;
 
-fn main(rt: HostRuntime) -> io::Result<ExitCode> {
+/// The program's words, without its own name; none where one isn't UTF-8, which is wrong use as
+/// well.
+fn words(rt: &HostRuntime) -> io::Result<Vec<String>> {
     let mut words = Vec::new(rt.alloc());
-    for word in env::args(&rt)?.skip(1) {
-        words.push(word)?;
+    match env::args(rt) {
+        Ok(args) => {
+            for word in args.skip(1) {
+                words.push(word)?;
+            }
+        }
+        Err(error) if error.kind() == io::ErrorKind::InvalidData => {}
+        Err(error) => return Err(error),
     }
+    Ok(words)
+}
+
+fn main(rt: HostRuntime) -> io::Result<ExitCode> {
+    let words = words(&rt)?;
     let status = run_words(rt.alloc(), &words, &mut rt.stdout(), &mut rt.stderr());
     Ok(ExitCode::from(status))
 }

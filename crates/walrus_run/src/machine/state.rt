@@ -42,6 +42,7 @@ impl<'a> State<'a> {
         ensures { IfOk result (λ _. Does self.old self.new (λ _ k ls o.
             M.then (M.Executed position) (k ls o))) }
     {
+        // The borrow checker doesn't cover a `push` of it here.
         self.events.extend_from_slice(&[Event::Op(position)])
     }
 

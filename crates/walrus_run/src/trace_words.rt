@@ -1,0 +1,76 @@
+//! Turns and outcomes as the program's words spell them.
+
+use crate::machine::Outcome;
+use std::alloc::{AllocError, Global};
+use std::collections::BTreeSet;
+use walrus_ir::TagId;
+
+/// A number in decimal digits, without a sign; leading zeros are allowed.
+fn digits(text: &str) -> Option<u64> {
+    for byte in text.as_bytes() {
+        if !byte.is_ascii_digit() {
+            return None;
+        }
+    }
+    text.parse().ok()
+}
+
+/// The number of turns that a word spells, or none where it spells none.
+pub(crate) fn turns(word: &str) -> Option<u64> {
+    digits(word)
+}
+
+/// The tags that stand behind an `r`, with a `+` between them, or none where no tags stand there.
+fn tags(alloc: Global, text: &str) -> Result<Option<BTreeSet<TagId>>, AllocError> {
+    let mut tags = BTreeSet::new(alloc);
+    if text.is_empty() {
+        return Ok(Some(tags));
+    }
+    for tag in text.split('+') {
+        let tag = match tag {
+            "0" => TagId::new(0),
+            "1" => TagId::new(1),
+            _ => return Ok(None),
+        };
+        tags.insert(tag)?;
+    }
+    Ok(Some(tags))
+}
+
+/// The outcome that an item spells, or none where it spells none.
+fn outcome(alloc: Global, item: &str) -> Result<Option<Outcome>, AllocError> {
+    let outcome = match item {
+        "g" => Some(Outcome::Go),
+        "t" => Some(Outcome::Trap),
+        "1" => Some(Outcome::Way(true)),
+        "0" => Some(Outcome::Way(false)),
+        _ => {
+            if let Some(text) = item.strip_prefix('r') {
+                tags(alloc, text)?.map(Outcome::Raise)
+            } else if let Some(text) = item.strip_prefix('e') {
+                digits(text)
+                    .and_then(|k| u32::try_from(k).ok())
+                    .map(Outcome::Entry)
+            } else {
+                None
+            }
+        }
+    };
+    Ok(outcome)
+}
+
+/// The outcomes that a word spells: `-` where there are none, else items with a comma between them.
+/// The answer is none where the word spells no outcomes.
+pub(crate) fn outcomes(alloc: Global, word: &str) -> Result<Option<Vec<Outcome>>, AllocError> {
+    let mut outcomes = Vec::new(alloc);
+    if word == "-" {
+        return Ok(Some(outcomes));
+    }
+    for item in word.split(',') {
+        match outcome(alloc, item)? {
+            Some(outcome) => outcomes.push(outcome)?,
+            None => return Ok(None),
+        }
+    }
+    Ok(Some(outcomes))
+}
