@@ -11,8 +11,8 @@ ghost use Rattle.walrus_run.specs.Demo.{demo_module, demo_indices, demo_numbers}
 use std::alloc::{AllocError, Global};
 use walrus_body::{IdsToIndices, IndexError, IndicesToIds};
 use walrus_ir::{
-    DataId, ElementId, FunctionId, GlobalId, LocalId, MemoryId, Module, ModuleLocals,
-    ModuleTags, ModuleTypes, TableId, TagId, TypeId, ValType,
+    DataId, ElementId, FunctionId, GlobalId, LocalId, MemoryId, Module, ModuleLocals, ModuleTags,
+    ModuleTypes, TableId, TagId, TypeId, ValType,
 };
 
 /// Its types, tags and locals.

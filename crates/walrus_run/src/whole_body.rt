@@ -19,9 +19,7 @@ ghost use Rattle.walrus_run.specs.RewrittenBodies.{Rewrites, RefusesRewriting, I
 use crate::error::RewriteError;
 use crate::raw_body::{raw_body, raw_body_with_map};
 use std::alloc::AllocError;
-use walrus_body::{
-    FunctionBody, IdsToIndices, IndicesToIds, LocalFunction, OpCheck, ParseFailure,
-};
+use walrus_body::{FunctionBody, IdsToIndices, IndicesToIds, LocalFunction, OpCheck, ParseFailure};
 use walrus_ir::{FunctionId, Instr, InstrLocId, LocalId, Module, TypeId};
 
 /// Appends both, or nothing where memory runs out.
@@ -65,7 +63,13 @@ fn append_raw_body(
         Ok(facts) => facts,
         Err(fault) => return Err(RewriteError::Walk(fault)),
     };
-    match raw_body(*dst.allocator(), function, &facts.used_locals, module, indices) {
+    match raw_body(
+        *dst.allocator(),
+        function,
+        &facts.used_locals,
+        module,
+        indices,
+    ) {
         Ok(bytes) => Ok(dst.extend_from_slice(&bytes)?),
         Err(fault) => Err(RewriteError::Emit(fault)),
     }
