@@ -67,7 +67,7 @@ accepted_texts ops b a = listed_texts a.operators _ ops [] a.all.spelt
 
 -- ---- a function with a tree
 
-one_function : (b : List InstrSeq) (start : ℕ) (t u : FunctionTree) → HasTree b start t → HasTree b start u → t ≡ u
+pub one_function : (b : List InstrSeq) (start : ℕ) (t u : FunctionTree) → HasTree b start t → HasTree b start u → t ≡ u
 one_function b start t u h k = sym h.is ∙ (ap tree_of (one_tree b start h.unfolded k.unfolded h.is_tree k.is_tree) ∙ k.is)
 
 not_ok : {A E : Type 0} (r : Result A E) (e : E) → IsOk r → r ≡ Err e → ⊥
@@ -78,7 +78,7 @@ module _ (f : Function) (t : FunctionTree) (has : IsFunction f t) where
   pub slot_is : first_slot f ≡ 0
   slot_is = ap (λ e. unwrap_or e 0) has.entry
 
-  from_slot : HasTree f.sequences (first_slot f) t
+  pub from_slot : HasTree f.sequences (first_slot f) t
   from_slot = subst (λ n. HasTree f.sequences n t) (sym slot_is) has.holds
 
   pub begins : HasEntry f
