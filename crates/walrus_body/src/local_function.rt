@@ -32,7 +32,7 @@ mod legacy_try;
 mod local_numbers;
 mod locating;
 mod next;
-mod own_lists;
+mod one_list;
 mod parse;
 mod references;
 mod try_tables;

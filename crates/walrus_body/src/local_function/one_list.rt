@@ -1,7 +1,8 @@
-//! The open frames, each with a list of instructions of its own.
-ghost use Rattle.std.specs.Prelude.{reverse, ◌≡◌, ◌⊎◌, ◌≤◌, ◌<◌, ◌∷◌, ◌++◌, [], List, length, MatchOption, IfOk, IfErr, OnOk, OnErr, IsSome, None, Ok, Err};
+//! The open frames, with the instructions of all of them in one list.
+ghost use Rattle.std.specs.Prelude.{reverse, ◌≡◌, ◌⊎◌, ◌≤◌, ◌<◌, ◌+◌, ◌^◌, ℕ, ◌∷◌, ◌++◌, [], List, length, MatchOption, IfOk, IfErr, OnOk, OnErr, IsSome, None, Some, Ok, Err};
 ghost use Rattle.wasm_body.specs.declared.error.ParseError.{ParseError as Fault};
-ghost use Rattle.walrus_body.specs.Parsing.OpenFrames.{OpenFrame, AreShown, ShowsAt, frame_with, new_frame, killed, with_instr, ChangesAt, HasNoFrame, HasNoFrameAt, InnerAreEmpty, with_last_clause, with_clause_around};
+ghost use Rattle.walrus_body.specs.Parsing.OpenFrames.{OpenFrame, AreShown, ShowsAt, frame_with, new_frame, killed, with_instr, ChangesAt, HasNoFrame, HasNoFrameAt, InnerAreEmpty, with_clause_in, with_clause_around};
+ghost use Rattle.walrus_body.specs.Parsing.OneList.{moved_from, StartFrom};
 
 use crate::ParseError;
 use crate::local_function::frame::{ControlFrame, ControlStack};
@@ -21,29 +22,29 @@ pub(crate) fn pushed<T: Drop>(list: &mut Vec<T>, item: T) -> Result<(), ParseErr
     }
 }
 
-/// Adds a clause to the `try` that ends a list of instructions.
-fn add_last_clause(
-    instrs: &mut Vec<(Instr, InstrLocId)>,
-    catch: LegacyCatch,
-) -> Result<(), ParseError>
-    ensures ok { OnOk result (with_last_clause catch instrs.old.items ≡ Some instrs.new.items) }
+/// Adds a clause to an instruction that is a `try`.
+fn add_clause_in(item: &mut (Instr, InstrLocId), catch: LegacyCatch) -> Result<(), ParseError>
+    ensures ok { OnOk result (with_clause_in catch item.old ≡ Some item.new) }
     ensures err { IfErr result (λ e. (e ≡ Fault.Memory)
-        ⊎ ((e ≡ Fault.NoTry) × (with_last_clause catch instrs.old.items ≡ None))) }
-    ensures same { OnErr result (instrs.new.items ≡ instrs.old.items) }
+        ⊎ ((e ≡ Fault.NoTry) × (with_clause_in catch item.old ≡ None))) }
+    ensures same { OnErr result (item.new ≡ item.old) }
 {
-    let Some((instr, location)) = instrs.pop() else {
-        return Err(ParseError::NoTry);
-    };
-    match instr {
-        Instr::Try(mut x) => {
-            let added = pushed(&mut x.catches, catch);
-            instrs.push((Instr::Try(x), location)).unwrap();
-            added
-        }
-        other => {
-            instrs.push((other, location)).unwrap();
-            Err(ParseError::NoTry)
-        }
+    match &mut item.0 {
+        Instr::Try(x) => pushed(&mut x.catches, catch),
+        _ => Err(ParseError::NoTry),
+    }
+}
+
+/// Has every frame from one on begin one instruction later.
+fn move_starts(controls: &mut ControlStack, from: usize)
+    requires within { from ≤ length controls.old.items }
+    requires fit { (end : ℕ) × (end + 1 < 2 ^ 64) × StartFrom 0 controls.old.items end }
+    ensures { controls.new.items ≡ moved_from from controls.old.items }
+{
+    let mut index = controls.len();
+    while index > from {
+        index -= 1;
+        controls[index].start += 1;
     }
 }
 
@@ -51,37 +52,30 @@ fn add_last_clause(
 #[derive(Drop)]
 pub struct FrameStack {
     controls: ControlStack,
-    lists: Vec<Vec<(Instr, InstrLocId)>>,
-    lent: Vec<(Instr, InstrLocId)>,
+    instrs: Vec<(Instr, InstrLocId)>,
 }
 
 impl Model for FrameStack {
-    ghost use Rattle.std.specs.Prelude.{◌≡◌, List, [], length};
+    ghost use Rattle.std.specs.Prelude.{List, [], length};
     ghost use Rattle.walrus_body.specs.Parsing.OpenFrames.{OpenFrame};
 
     ghost Value = { List OpenFrame };
 
-    ghost use Rattle.walrus_body.specs.Parsing.OwnLists.{frames_within};
+    ghost use Rattle.walrus_body.specs.Parsing.OneList.{frames_in, Divide};
 
-    ghost view = { λ s. frames_within [] s.controls.items s.lists.items };
+    ghost view = { λ s. frames_in s.instrs.items [] s.controls.items };
 
-    ghost invariant = { λ s. (length s.lists.items ≡ length s.controls.items)
-        × (s.lent.items ≡ []) };
+    ghost invariant = { λ s. Divide s.controls.items (length s.instrs.items) };
 }
 
 impl FrameStack {
     /// No frame is open.
-    pub fn new(controls: ControlStack, lent: Vec<(Instr, InstrLocId)>) -> FrameStack
+    pub fn new(controls: ControlStack, instrs: Vec<(Instr, InstrLocId)>) -> FrameStack
         requires none { controls.items ≡ [] }
-        requires empty { lent.items ≡ [] }
+        requires empty { instrs.items ≡ [] }
         ensures { result ≡ [] }
     {
-        let lists = Vec::new(*lent.allocator());
-        FrameStack {
-            controls,
-            lists,
-            lent,
-        }
+        FrameStack { controls, instrs }
     }
 
     /// The n-th frame from the innermost.
@@ -107,25 +101,16 @@ impl FrameStack {
         ensures err { IfErr result (λ e. e ≡ Fault.Memory) }
         ensures same { OnErr result (self.new ≡ self.old) }
     {
-        let alloc = *self.lent.allocator();
-        if self.lists.reserve(1).is_err() {
-            return Err(ParseError::Memory);
-        }
+        let start = self.instrs.len();
         let frame = ControlFrame {
             start_types,
             end_types,
             unreachable: false,
             block,
             kind,
-            start: 0,
+            start,
         };
-        match pushed(&mut self.controls, frame) {
-            Ok(()) => {
-                self.lists.push(Vec::new(alloc)).unwrap();
-                Ok(())
-            }
-            Err(error) => Err(error),
-        }
+        pushed(&mut self.controls, frame)
     }
 
     /// Closes the innermost frame.
@@ -137,8 +122,13 @@ impl FrameStack {
         let Some(frame) = self.controls.pop() else {
             return Err(ParseError::NoFrame);
         };
-        let list = self.lists.pop().unwrap();
-        Ok((frame, list))
+        match self.instrs.split_off(frame.start) {
+            Ok(tail) => Ok((frame, tail)),
+            Err(_) => {
+                self.controls.push(frame).unwrap();
+                Err(ParseError::Memory)
+            }
+        }
     }
 
     /// Closes the innermost frame and drops its instructions. It takes no memory.
@@ -146,8 +136,8 @@ impl FrameStack {
         requires { 0 < length self.old }
         ensures { (frame : OpenFrame) × (self.old ≡ frame ∷ self.new) }
     {
-        let _frame = self.controls.pop().unwrap();
-        let _list = self.lists.pop().unwrap();
+        let frame = self.controls.pop().unwrap();
+        self.instrs.truncate(frame.start);
     }
 
     /// What follows in the innermost frame is dropped.
@@ -181,7 +171,13 @@ impl FrameStack {
         if self.controls[index].unreachable {
             return Ok(());
         }
-        pushed(&mut self.lists[index], (instr, location))
+        match pushed(&mut self.instrs, (instr, location)) {
+            Ok(()) => {
+                move_starts(&mut self.controls, index + 1);
+                Ok(())
+            }
+            Err(error) => Err(error),
+        }
     }
 
     /// Adds a clause to the `try` that ends the frame around the innermost, or drops it where that
@@ -199,15 +195,20 @@ impl FrameStack {
         if self.controls[index].unreachable {
             return Ok(());
         }
-        add_last_clause(&mut self.lists[index], catch)
+        let end = self.controls[index + 1].start;
+        if self.controls[index].start == end {
+            return Err(ParseError::NoTry);
+        }
+        add_clause_in(&mut self.instrs[end - 1], catch)
     }
 
-    /// The frames as they are shown, the innermost last, and a list without instructions.
+    /// The frames as they are shown, the innermost last, and the list of instructions, which is
+    /// empty where no frame is open.
     pub fn into_parts(self) -> (ControlStack, Vec<(Instr, InstrLocId)>)
         ensures frames { AreShown (reverse result.0.items) self }
-        ensures empty { result.1.items ≡ [] }
+        ensures empty { self ≡ [] → result.1.items ≡ [] }
     {
-        let FrameStack { controls, lent, .. } = self;
-        (controls, lent)
+        let FrameStack { controls, instrs } = self;
+        (controls, instrs)
     }
 }
