@@ -20,6 +20,9 @@ use Rattle.walrus_body.specs.Parsing.OpenTrees.{StandIn}
 use Rattle.walrus_body.specs.Parsing.OneList.{frames_in, StartFrom}
 use Rattle.walrus_body.proofs.Parsing.OneList.{get, closed, starts_split, unchanged_at}
 
+pub some_same : {A : Type 0} (x y : A) → Some x ≡ Some y → x ≡ y
+some_same x y e = cc
+
 set_same : {A : Type 0} (xs : List A) (i : ℕ) (x : A) → slice_get xs i ≡ Some x → slice_set xs i x ≡ xs
 set_same xs i x at = ap (slice_set xs i) (sym (get_or_from_slice_get xs i x x at)) ∙ set-get_or xs i x
 
@@ -88,7 +91,7 @@ module _ (c : LegacyCatch) where
     ending : cs ≡ (ds ++ f ∷ []) ++ h ∷ []
     ending = last_two cs i f h is at behind ∙ sym (append_assoc ds (f ∷ []) (h ∷ []))
 
-    inside : StartFrom 0 (ds ++ f ∷ []) h.start × (h.start ≤ length all)
+    pub inside : StartFrom 0 (ds ++ f ∷ []) h.start × (h.start ≤ length all)
     inside = starts_split 0 (ds ++ f ∷ []) h (length all) (subst (λ k. StartFrom 0 k (length all)) ending rise)
 
     outside : StartFrom 0 ds f.start × (f.start ≤ h.start)
@@ -105,15 +108,15 @@ module _ (c : LegacyCatch) where
         ∙ ap (λ fs. frame_with h (drop h.start xs) ∷ fs) (closed (take h.start xs) [] ds f 0 outside.0 (omega arith))
 
     -- where the other has no instructions
-    pub lacks : f.unreachable ≡ false → f.start ≡ h.start → with_clause_around c (frames_in all [] cs) ≡ Err NoTry
-    lacks alive same =
+    pub lacks : f.unreachable ≡ false → h.start ≤ f.start → with_clause_around c (frames_in all [] cs) ≡ Err NoTry
+    lacks alive less =
         let l = length-take h.start all in
         let none : drop f.start (take h.start all) ≡ [] = drop_of_length-le (take h.start all) (omega arith) in
         let shown = two_inside all refl ∙ ap (λ xs. frame_with h (drop h.start all) ∷ frame_with f xs ∷ frames_in (take f.start (take h.start all)) [] ds) none in
         none_around (frames_in all [] cs) (frame_with f []) (ap (λ fs. slice_get fs 1) shown) (in_frame f [] alive)
 
     -- where it has some, of which this is the last
-    module _ (e : ℕ) (x : LocatedInstr) (end : e + 1 ≡ h.start) (less : f.start ≤ e) (last : slice_get all e ≡ Some x) where
+    module _ (e : ℕ) (x : LocatedInstr) (ends : e + 1 ≡ h.start) (less : f.start ≤ e) (last : slice_get all e ≡ Some x) where
       with_last : LocatedInstr → List OpenFrame
       with_last y = frame_with h (drop h.start all) ∷ frame_with f (drop f.start (take e all) ++ y ∷ []) ∷ frames_in (take f.start (take e all)) [] ds
 
@@ -122,7 +125,7 @@ module _ (c : LegacyCatch) where
           let within = slice_get_within all e x last in
           let l = length-take e all in
           let low : f.start ≤ length (take e all) = omega arith in
-          let front : take h.start (slice_set all e y) ≡ take e all ++ y ∷ [] = take-set_at all e h.start y (sym end) within in
+          let front : take h.start (slice_set all e y) ≡ take e all ++ y ∷ [] = take-set_at all e h.start y (sym ends) within in
           let back : drop h.start (slice_set all e y) ≡ drop h.start all = drop-set-lt h.start all e y (omega arith) in
           two_inside (slice_set all e y) (length-set all e y)
           ∙ ap (λ xs. frame_with h xs ∷ frame_with f (drop f.start (take h.start (slice_set all e y))) ∷ frames_in (take f.start (take h.start (slice_set all e y))) [] ds) back

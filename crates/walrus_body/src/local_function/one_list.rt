@@ -195,8 +195,9 @@ impl FrameStack {
         if self.controls[index].unreachable {
             return Ok(());
         }
+        let start = self.controls[index].start;
         let end = self.controls[index + 1].start;
-        if self.controls[index].start == end {
+        if start >= end {
             return Err(ParseError::NoTry);
         }
         add_clause_in(&mut self.instrs[end - 1], catch)

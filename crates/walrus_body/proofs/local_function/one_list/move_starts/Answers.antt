@@ -30,9 +30,8 @@ overflow_add-index_mut c =
     let same = ap length inv.0 ∙ moved_length xs c.loop-index.index in
     let f = c.index_mut.result.now in
     let at = ap (λ l. slice_get l i) (sym is) ∙ slice_get-get_or c.loop-index.controls.items i f (omega arith) ∙ ap Some (sym c.index_mut.ensures.value) in
-    let bound = moved_bound xs i 0 c.requires.starts.0 f c.requires.starts.2 at in
-    let count = c.requires.starts.1 in
-    let fits = c.ranges.count.fits in
+    let bound = moved_bound xs i 0 c.requires.fit.0 f c.requires.fit.2 at in
+    let fits = c.requires.fit.1 in
     omega arith
 
 pub loop-index-preserved : goal.loop-index-preserved

@@ -37,6 +37,14 @@ returns-then-index-clause-ok c =
           (ap (λ d. record frame { instrs = cond d found.0 (found.0 ++ (c.args.instr, c.args.location) ∷ []) }) c.if-index.true)),
     )
 
+pub move_starts-requires-clause-fit : goal.move_starts-requires-clause-fit
+move_starts-requires-clause-fit c =
+    let instrs = c.self.inside.instrs in
+    let long = instrs.ok.0 in
+    let within = instrs.ok.1 in
+    let small = instrs.small in
+    (length instrs.items, omega arith, c.self.invariant.rise)
+
 pub invariant_of-self : goal.invariant_of-self
 invariant_of-self c =
     let inside = c.self.inside in

@@ -1,0 +1,111 @@
+use Rattle.std.proofs.Common.{◌≡◌, ◌≤◌, ◌<◌, ◌+◌, ◌-◌, length, Some, slice_get, ap, sym, ◌∙◌, arith, inl, inr, IfErr, Result, Ok, Err}
+use Rattle.std.proofs.lemmas.Option.{slice_get-get_or}
+use Rattle.std.proofs.lemmas.Result.{on_ok_weaker, on_err_weaker}
+use Rattle.walrus_body.specs.declared.local_function.frame.ControlFrame.{ControlFrame}
+use Rattle.walrus_body.specs.Parsing.OpenFrames.{with_clause_around}
+use Rattle.walrus_body.proofs.Parsing.OneList.{count}
+use Rattle.walrus_body.proofs.Parsing.LastClauses.{few, passes, inside, lacks, adds, has_none, stays, some_same}
+use Rattle.walrus_body.proofs.local_function.one_list.FrameStack.add_clause.Goals as goal
+
+if_err_weaker : {T E : Type 0} {P Q : E → Type 0} (r : Result T E) → ((e : E) → P e → Q e) → IfErr r P → IfErr r Q
+if_err_weaker (Ok x) f h = tt
+if_err_weaker (Err e) f h = f e h
+
+pub returns-then-len-lt2-clause-err : goal.returns-then-len-lt2-clause-err
+returns-then-len-lt2-clause-err c =
+    let stack = c.self.inside in
+    let long = ap length (sym c.self.view_is) ∙ count stack.instrs.items [] stack.controls.items in
+    let len = c.len.ensures in
+    let ok = stack.controls.ok.0 in
+    let test = c.if-len-lt2.true in
+    inr (few c.args.catch c.args.self.now (omega arith))
+
+pub returns-then-index-clause-ok : goal.returns-then-index-clause-ok
+returns-then-index-clause-ok c =
+    let stack = c.self.inside in
+    let cs = stack.controls.items in
+    let len = c.len-index.ensures in
+    let first = c.len.ensures in
+    let ok = stack.controls.ok.0 in
+    let test = c.if-len-lt2.false in
+    let i = c.len-index.result - 2 in
+    let f = c.index.result.now in
+    let is : 1 + i + 1 ≡ length cs = omega arith in
+    let at = slice_get-get_or cs i f (omega arith) ∙ ap Some (sym c.index.ensures) in
+    ap (with_clause_around c.args.catch) (sym c.self.view_is) ∙ passes c.args.catch stack.instrs.items cs i f is at c.if-index.true ∙ ap Ok c.self.view_is
+
+pub returns-then-start-end-clause-err : goal.returns-then-start-end-clause-err
+returns-then-start-end-clause-err c =
+    let stack = c.self.inside in
+    let cs = stack.controls.items in
+    let len = c.len-index.ensures in
+    let first = c.len.ensures in
+    let ok = stack.controls.ok.0 in
+    let test = c.if-len-lt2.false in
+    let i = c.len-index.result - 2 in
+    let f = c.index.result.now in
+    let g = c.index-start.result.now in
+    let h = c.index-end.result.now in
+    let is : i + 2 ≡ length cs = omega arith in
+    let at = slice_get-get_or cs i f (omega arith) ∙ ap Some (sym c.index.ensures) in
+    let again = slice_get-get_or cs i g (omega arith) ∙ ap Some (sym c.index-start.ensures) in
+    let behind = slice_get-get_or cs (i + 1) h (omega arith) ∙ ap Some (sym c.index-end.ensures) in
+    let same = ap (λ (k : ControlFrame). k.start) (some_same f g (sym at ∙ again)) in
+    let none = c.if-start-end.true in
+    inr (ap (with_clause_around c.args.catch) (sym c.self.view_is) ∙ lacks c.args.catch stack.instrs.items cs i f h c.self.invariant.rise is at behind c.if-index.false (omega arith))
+
+pub index_mut-requires : goal.index_mut-requires
+index_mut-requires c =
+    let stack = c.self.inside in
+    let cs = stack.controls.items in
+    let len = c.len-index.ensures in
+    let first = c.len.ensures in
+    let ok = stack.controls.ok.0 in
+    let all_ok = stack.instrs.ok.0 in
+    let test = c.if-len-lt2.false in
+    let i = c.len-index.result - 2 in
+    let f = c.index.result.now in
+    let h = c.index-end.result.now in
+    let is : i + 2 ≡ length cs = omega arith in
+    let at = slice_get-get_or cs i f (omega arith) ∙ ap Some (sym c.index.ensures) in
+    let behind = slice_get-get_or cs (i + 1) h (omega arith) ∙ ap Some (sym c.index-end.ensures) in
+    let within = (inside c.args.catch stack.instrs.items cs i f h c.self.invariant.rise is at behind).1 in
+    let some = c.if-start-end.false in
+    omega arith
+
+pub returns : goal.returns
+returns c =
+    let stack = c.self.inside in
+    let cs = stack.controls.items in
+    let all = stack.instrs.items in
+    let len = c.len-index.ensures in
+    let first = c.len.ensures in
+    let ok = stack.controls.ok.0 in
+    let test = c.if-len-lt2.false in
+    let i = c.len-index.result - 2 in
+    let f = c.index.result.now in
+    let g = c.index-start.result.now in
+    let h = c.index-end.result.now in
+    let x = c.index_mut.result.now in
+    let y = c.add_clause_in.new.item in
+    let is : i + 2 ≡ length cs = omega arith in
+    let at = slice_get-get_or cs i f (omega arith) ∙ ap Some (sym c.index.ensures) in
+    let again = slice_get-get_or cs i g (omega arith) ∙ ap Some (sym c.index-start.ensures) in
+    let behind = slice_get-get_or cs (i + 1) h (omega arith) ∙ ap Some (sym c.index-end.ensures) in
+    let same = ap (λ (k : ControlFrame). k.start) (some_same f g (sym at ∙ again)) in
+    let rise = c.self.invariant.rise in
+    let within = (inside c.args.catch all cs i f h rise is at behind).1 in
+    let some = c.if-start-end.false in
+    let e = h.start - 1 in
+    let ends : e + 1 ≡ h.start = omega arith in
+    let less : f.start ≤ e = omega arith in
+    let last = slice_get-get_or all e x (omega arith) ∙ ap Some (sym c.index_mut.ensures.value) in
+    let here = ap (with_clause_around c.args.catch) (sym c.self.view_is) in
+    record {
+      ok = on_ok_weaker c.add_clause_in.result (λ added. here ∙ adds c.args.catch all cs i f h rise is at behind e x ends less last y c.if-index.false added) c.add_clause_in.ensures.ok;
+      err = if_err_weaker c.add_clause_in.result (λ error told. elim told [
+        | inl is_memory ↦ inl is_memory
+        | inr lacks ↦ inr (here ∙ has_none c.args.catch all cs i f h rise is at behind e x ends less last c.if-index.false lacks.1 ∙ ap Err (sym lacks.0))
+      ]) c.add_clause_in.ensures.err;
+      same = on_err_weaker c.add_clause_in.result (λ as_before. stays c.args.catch all cs i f h rise is at behind e x ends less last y as_before ∙ c.self.view_is) c.add_clause_in.ensures.same;
+    }
