@@ -159,8 +159,8 @@ fn call(
         Step::PutTry(seq) => {
             let seq = InstrSeqId::new(seq);
             let catches = Vec::new(alloc);
-            let instr = Instr::Try(Try { seq, catches });
-            push_done(text, context.alloc_instr(instr, at(0)))
+            let made = Instr::Try(Try { seq, catches });
+            push_done(text, context.alloc_instr(made, at(0)))
         }
         Step::PutHere(made, location) => push_done(
             text,

@@ -17,8 +17,8 @@ use Rattle.wasm_body.specs.declared.error.ParseError.TheVariants.{NoSuchLabel, N
 use Rattle.walrus_body.specs.declared.local_function.frame.ControlFrame.{ControlFrame}
 use Rattle.walrus_body.specs.Parsing.OpenFrames.{OpenFrame, frame_with, changed_at, with_clause_in, with_last_clause, with_clause, with_clause_around}
 use Rattle.walrus_body.specs.Parsing.OpenTrees.{StandIn}
-use Rattle.walrus_body.specs.Parsing.OneList.{frames_in, StartFrom}
-use Rattle.walrus_body.proofs.Parsing.OneList.{get, closed, starts_split, unchanged_at}
+use Rattle.walrus_body.specs.Parsing.FrameStacks.{frames_in, StartFrom}
+use Rattle.walrus_body.proofs.Parsing.FrameStacks.{get, closed, starts_split, unchanged_at}
 
 pub some_same : {A : Type 0} (x y : A) → Some x ≡ Some y → x ≡ y
 some_same x y e = cc
@@ -26,7 +26,7 @@ some_same x y e = cc
 set_same : {A : Type 0} (xs : List A) (i : ℕ) (x : A) → slice_get xs i ≡ Some x → slice_set xs i x ≡ xs
 set_same xs i x at = ap (slice_set xs i) (sym (get_or_from_slice_get xs i x x at)) ∙ set-get_or xs i x
 
-last_two : {A : Type 0} (xs : List A) (i : ℕ) (x y : A) → i + 2 ≡ length xs → slice_get xs i ≡ Some x → slice_get xs (i + 1) ≡ Some y → xs ≡ take i xs ++ x ∷ y ∷ []
+last_two : {A : Type 0} (xs : List A) (i : ℕ) (x y : A) → i + 2 ≡ length xs → slice_get xs i ≡ Some x → slice_get xs (suc i) ≡ Some y → xs ≡ take i xs ++ x ∷ y ∷ []
 last_two [] i x y is at behind = absurd cc
 last_two (z ∷ xs) (suc i) x y is at behind = ap (λ ys. z ∷ ys) (last_two xs i x y (omega arith) at behind)
 last_two (z ∷ []) zero x y is at behind = absurd cc
@@ -89,7 +89,7 @@ module _ (c : LegacyCatch) where
     ds = take i cs
 
     ending : cs ≡ (ds ++ f ∷ []) ++ h ∷ []
-    ending = last_two cs i f h is at behind ∙ sym (append_assoc ds (f ∷ []) (h ∷ []))
+    ending = last_two cs i f h is at (ap (slice_get cs) (let e : suc i ≡ i + 1 = omega arith in e) ∙ behind) ∙ sym (append_assoc ds (f ∷ []) (h ∷ []))
 
     pub inside : StartFrom 0 (ds ++ f ∷ []) h.start × (h.start ≤ length all)
     inside = starts_split 0 (ds ++ f ∷ []) h (length all) (subst (λ k. StartFrom 0 k (length all)) ending rise)

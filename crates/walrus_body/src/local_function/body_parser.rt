@@ -19,8 +19,8 @@ ghost use Rattle.walrus_body.specs.Parsing.BodyParsers.{Begins, IsSameBody, Step
 
 use crate::local_function::context::ValidationContext;
 use crate::local_function::frame::IfElseState;
+use crate::local_function::frame_stack::pushed;
 use crate::local_function::instructions::{constant, memory_argument};
-use crate::local_function::one_list::pushed;
 use crate::local_function::types::value_type;
 use crate::{IndicesToIds, ParseError};
 use std::alloc::Global;

@@ -1,8 +1,8 @@
 use Rattle.std.proofs.Common.{◌≡◌, ◌-◌, suc, length, Some, slice_get, slice_set, ap, sym, ◌∙◌, arith}
 use Rattle.std.proofs.lemmas.Option.{slice_get-get_or}
-use Rattle.walrus_body.specs.Parsing.OneList.{moved, moved_from}
-use Rattle.walrus_body.proofs.Parsing.OneList.{moved_none, moved_here, moved_bound, moved_length}
-use Rattle.walrus_body.proofs.local_function.one_list.move_starts.Goals as goal
+use Rattle.walrus_body.specs.Parsing.FrameStacks.{moved, moved_from}
+use Rattle.walrus_body.proofs.Parsing.FrameStacks.{moved_none, moved_here, moved_bound, moved_length}
+use Rattle.walrus_body.proofs.local_function.frame_stack.move_starts.Goals as goal
 
 pub loop-index-init : goal.loop-index-init
 loop-index-init c =

@@ -1,8 +1,8 @@
 use Rattle.std.proofs.Common.{◌≡◌, ◌<◌, ◌+◌, ◌-◌, [], length, Some, slice_get, refl, ap, sym, ◌∙◌, arith}
 use Rattle.std.proofs.lemmas.Option.{slice_get-get_or}
 use Rattle.walrus_body.specs.Parsing.OpenFrames.{frame_with}
-use Rattle.walrus_body.proofs.Parsing.OneList.{count, get}
-use Rattle.walrus_body.proofs.local_function.one_list.FrameStack.get.Goals as goal
+use Rattle.walrus_body.proofs.Parsing.FrameStacks.{count, get}
+use Rattle.walrus_body.proofs.local_function.frame_stack.FrameStack.get.Goals as goal
 
 pub returns-then-n-len : goal.returns-then-n-len
 returns-then-n-len c =

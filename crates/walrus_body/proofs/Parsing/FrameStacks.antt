@@ -6,7 +6,7 @@ use Rattle.std.proofs.Common.{append_assoc, reverse, refl, ap, sym, subst, ◌�
 use Rattle.walrus_ir.specs.Unfolding.{LocatedInstr}
 use Rattle.walrus_body.specs.declared.local_function.frame.ControlFrame.{ControlFrame}
 use Rattle.walrus_body.specs.Parsing.OpenFrames.{OpenFrame, AreShown, frame_with, changed_at, with_instr, InnerAreEmpty}
-use Rattle.walrus_body.specs.Parsing.OneList.{part, begin_of, frames_in, StartFrom, Divide, moved, moved_from}
+use Rattle.walrus_body.specs.Parsing.FrameStacks.{part, begin_of, frames_in, StartFrom, Divide, moved, moved_from}
 
 -- ---- parts of lists
 
@@ -162,7 +162,7 @@ unchanged_at change (g ∷ fs) (suc n) f at same = ap (λ xs. g ∷ xs) (unchang
 -- ---- an instruction behind all others, and the starts behind it moved
 
 -- frames that begin where the list ends
-abbrev AllAtEnd : ℕ → List ControlFrame → Type 0
+abbrev pub AllAtEnd : ℕ → List ControlFrame → Type 0
 AllAtEnd end cs = AllByRecursion (λ f. f.start ≡ end) cs
 
 -- the same of those behind the i-th

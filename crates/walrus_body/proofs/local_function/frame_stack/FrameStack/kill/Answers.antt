@@ -1,8 +1,8 @@
 use Rattle.std.proofs.Common.{◌≡◌, ◌≤◌, ◌<◌, ◌-◌, [], length, Some, refl, ap, sym, ◌∙◌, arith, true}
 use Rattle.std.proofs.lemmas.Option.{slice_get-get_or}
 use Rattle.walrus_body.specs.Parsing.OpenFrames.{changed_at, killed}
-use Rattle.walrus_body.proofs.Parsing.OneList.{count, set_control, divide_set}
-use Rattle.walrus_body.proofs.local_function.one_list.FrameStack.kill.Goals as goal
+use Rattle.walrus_body.proofs.Parsing.FrameStacks.{count, set_control, divide_set}
+use Rattle.walrus_body.proofs.local_function.frame_stack.FrameStack.kill.Goals as goal
 
 pub returns-in-Some-clause-ok : goal.returns-in-Some-clause-ok
 returns-in-Some-clause-ok c =
@@ -18,7 +18,7 @@ returns-in-Some-clause-ok c =
     let within : i < length inside.controls.items = omega arith in
     let at = slice_get-get_or inside.controls.items i f within ∙ ap Some (sym c.index_mut.ensures.value) in (
       omega arith,
-      set_control killed inside.instrs.items [] inside.controls.items i 0 f (record f { unreachable = true }) (omega arith) at refl (λ l. refl) ∙ ap (changed_at 0 killed) c.self.view_is,
+      set_control inside.instrs.items killed [] inside.controls.items i 0 f (record f { unreachable = true }) (omega arith) at refl (λ l. refl) ∙ ap (changed_at 0 killed) c.self.view_is,
     )
 
 pub invariant_of-self : goal.invariant_of-self

@@ -1,11 +1,13 @@
-use Rattle.std.proofs.Common.{◌≡◌, ◌≤◌, ◌<◌, ◌+◌, ◌-◌, length, Some, slice_get, ap, sym, ◌∙◌, arith, inl, inr, IfErr, Result, Ok, Err}
+use Rattle.std.proofs.Common.{◌≡◌, ◌≤◌, ◌<◌, ◌+◌, ◌-◌, length, Some, slice_get, ap, sym, ◌∙◌, subst, arith, inl, inr, IfErr, Result, Ok, Err}
+use Rattle.std.proofs.lemmas.List.{length-set}
 use Rattle.std.proofs.lemmas.Option.{slice_get-get_or}
 use Rattle.std.proofs.lemmas.Result.{on_ok_weaker, on_err_weaker}
 use Rattle.walrus_body.specs.declared.local_function.frame.ControlFrame.{ControlFrame}
+use Rattle.walrus_body.specs.Parsing.FrameStacks.{Divide}
 use Rattle.walrus_body.specs.Parsing.OpenFrames.{with_clause_around}
-use Rattle.walrus_body.proofs.Parsing.OneList.{count}
+use Rattle.walrus_body.proofs.Parsing.FrameStacks.{count}
 use Rattle.walrus_body.proofs.Parsing.LastClauses.{few, passes, inside, lacks, adds, has_none, stays, some_same}
-use Rattle.walrus_body.proofs.local_function.one_list.FrameStack.add_clause.Goals as goal
+use Rattle.walrus_body.proofs.local_function.frame_stack.FrameStack.add_clause.Goals as goal
 
 if_err_weaker : {T E : Type 0} {P Q : E → Type 0} (r : Result T E) → ((e : E) → P e → Q e) → IfErr r P → IfErr r Q
 if_err_weaker (Ok x) f h = tt
@@ -72,6 +74,11 @@ index_mut-requires c =
     let within = (inside c.args.catch stack.instrs.items cs i f h c.self.invariant.rise is at behind).1 in
     let some = c.if-start-end.false in
     omega arith
+
+pub invariant_of-self : goal.invariant_of-self
+invariant_of-self c =
+    let stack = c.self.inside in
+    subst (Divide stack.controls.items) (sym (length-set stack.instrs.items (c.index-end.result.now.start - 1) c.add_clause_in.new.item)) c.self.invariant
 
 pub returns : goal.returns
 returns c =

@@ -2,9 +2,9 @@ use Rattle.std.proofs.Common.{◌∷◌, [], length, ap, sym, subst, ◌∙◌, 
 use Rattle.std.proofs.lemmas.Result.{on_ok_weaker}
 use Rattle.walrus_body.specs.declared.local_function.frame.ControlFrame.{ControlFrame}
 use Rattle.walrus_body.specs.Parsing.OpenFrames.{frame_with}
-use Rattle.walrus_body.specs.Parsing.OneList.{frames_in, Divide}
-use Rattle.walrus_body.proofs.Parsing.OneList.{opened, divide_append}
-use Rattle.walrus_body.proofs.local_function.one_list.FrameStack.push.Goals as goal
+use Rattle.walrus_body.specs.Parsing.FrameStacks.{frames_in, Divide}
+use Rattle.walrus_body.proofs.Parsing.FrameStacks.{opened, divide_append}
+use Rattle.walrus_body.proofs.local_function.frame_stack.FrameStack.push.Goals as goal
 
 either_way : {E : Type 0} {P Q R : Type 0} (r : Result (Unit {0}) E) → (P → R) → (Q → R) → OnOk r P → OnErr r Q → R
 either_way (Ok u) f g p q = f p

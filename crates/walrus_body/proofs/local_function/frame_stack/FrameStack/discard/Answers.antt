@@ -2,9 +2,9 @@ use Rattle.std.proofs.Common.{◌≡◌, ◌++◌, ◌∷◌, [], length, take, 
 use Rattle.std.specs.Option.{option_to_list}
 use Rattle.std.proofs.lemmas.List.{length-take}
 use Rattle.walrus_body.specs.Parsing.OpenFrames.{frame_with}
-use Rattle.walrus_body.specs.Parsing.OneList.{frames_in, Divide}
-use Rattle.walrus_body.proofs.Parsing.OneList.{closed, divide_split}
-use Rattle.walrus_body.proofs.local_function.one_list.FrameStack.discard.Goals as goal
+use Rattle.walrus_body.specs.Parsing.FrameStacks.{frames_in, Divide}
+use Rattle.walrus_body.proofs.Parsing.FrameStacks.{closed, divide_split}
+use Rattle.walrus_body.proofs.local_function.frame_stack.FrameStack.discard.Goals as goal
 
 pub invariant_of-self : goal.invariant_of-self
 invariant_of-self c =

@@ -2,7 +2,7 @@
 ghost use Rattle.std.specs.Prelude.{reverse, ◌≡◌, ◌⊎◌, ◌≤◌, ◌<◌, ◌+◌, ◌^◌, ℕ, ◌∷◌, ◌++◌, [], List, length, MatchOption, IfOk, IfErr, OnOk, OnErr, IsSome, None, Some, Ok, Err};
 ghost use Rattle.wasm_body.specs.declared.error.ParseError.{ParseError as Fault};
 ghost use Rattle.walrus_body.specs.Parsing.OpenFrames.{OpenFrame, AreShown, ShowsAt, frame_with, new_frame, killed, with_instr, ChangesAt, HasNoFrame, HasNoFrameAt, InnerAreEmpty, with_clause_in, with_clause_around};
-ghost use Rattle.walrus_body.specs.Parsing.OneList.{moved_from, StartFrom};
+ghost use Rattle.walrus_body.specs.Parsing.FrameStacks.{moved_from, StartFrom};
 
 use crate::ParseError;
 use crate::local_function::frame::{ControlFrame, ControlStack};
@@ -61,7 +61,7 @@ impl Model for FrameStack {
 
     ghost Value = { List OpenFrame };
 
-    ghost use Rattle.walrus_body.specs.Parsing.OneList.{frames_in, Divide};
+    ghost use Rattle.walrus_body.specs.Parsing.FrameStacks.{frames_in, Divide};
 
     ghost view = { λ s. frames_in s.instrs.items [] s.controls.items };
 

@@ -2,10 +2,10 @@ use Rattle.std.proofs.Common.{◌≡◌, ◌<◌, ◌+◌, ◌-◌, ◌++◌, �
 use Rattle.std.proofs.lemmas.Option.{slice_get-get_or}
 use Rattle.std.proofs.lemmas.List.{length-append}
 use Rattle.walrus_ir.specs.Unfolding.{LocatedInstr}
-use Rattle.walrus_body.specs.Parsing.OneList.{frames_in, moved_from, Divide}
+use Rattle.walrus_body.specs.Parsing.FrameStacks.{frames_in, moved_from, Divide}
 use Rattle.walrus_body.specs.Parsing.OpenFrames.{frame_with, with_instr, changed_at, InnerAreEmpty}
-use Rattle.walrus_body.proofs.Parsing.OneList.{count, get, unchanged_at, behind_at_end, divide_moved, appended}
-use Rattle.walrus_body.proofs.local_function.one_list.FrameStack.append.Goals as goal
+use Rattle.walrus_body.proofs.Parsing.FrameStacks.{count, get, unchanged_at, behind_at_end, divide_moved, appended}
+use Rattle.walrus_body.proofs.local_function.frame_stack.FrameStack.append.Goals as goal
 
 pub returns-then-n-len-clause-err : goal.returns-then-n-len-clause-err
 returns-then-n-len-clause-err c =

@@ -1,9 +1,9 @@
 use Rattle.std.proofs.Common.{◌≡◌, ◌∷◌, [], length, take, ap, sym, subst, ◌∙◌, arith}
 use Rattle.std.proofs.lemmas.List.{length-take}
 use Rattle.walrus_body.specs.Parsing.OpenFrames.{frame_with}
-use Rattle.walrus_body.specs.Parsing.OneList.{frames_in, Divide}
-use Rattle.walrus_body.proofs.Parsing.OneList.{closed, divide_split}
-use Rattle.walrus_body.proofs.local_function.one_list.FrameStack.pop.Goals as goal
+use Rattle.walrus_body.specs.Parsing.FrameStacks.{frames_in, Divide}
+use Rattle.walrus_body.proofs.Parsing.FrameStacks.{closed, divide_split}
+use Rattle.walrus_body.proofs.local_function.frame_stack.FrameStack.pop.Goals as goal
 
 pub split_off-requires : goal.split_off-requires
 split_off-requires c =

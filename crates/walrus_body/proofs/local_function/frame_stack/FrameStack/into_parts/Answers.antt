@@ -1,8 +1,8 @@
 use Rattle.std.proofs.Common.{subst, sym, ◌∙◌}
 use Rattle.std.specs.Prelude.{reverse}
 use Rattle.walrus_body.specs.Parsing.OpenFrames.{AreShown}
-use Rattle.walrus_body.proofs.Parsing.OneList.{all_shown, none_left}
-use Rattle.walrus_body.proofs.local_function.one_list.FrameStack.into_parts.Goals as goal
+use Rattle.walrus_body.proofs.Parsing.FrameStacks.{all_shown, none_left}
+use Rattle.walrus_body.proofs.local_function.frame_stack.FrameStack.into_parts.Goals as goal
 
 pub returns-clause-frames : goal.returns-clause-frames
 returns-clause-frames c =
