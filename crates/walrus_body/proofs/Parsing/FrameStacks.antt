@@ -272,12 +272,12 @@ moved_none [] i e = refl
 moved_none (f ∷ fs) zero e = absurd (omega arith)
 moved_none (f ∷ fs) (suc i) e = ap (λ l. f ∷ l) (moved_none fs i (omega arith))
 
-pub moved_here : (cs : List ControlFrame) (i : ℕ) (f : ControlFrame) → slice_get (moved_from (suc i) cs) i ≡ Some f → slice_set (moved_from (suc i) cs) i (moved f) ≡ moved_from i cs
+moved_here : (cs : List ControlFrame) (i : ℕ) (f : ControlFrame) → slice_get (moved_from (suc i) cs) i ≡ Some f → slice_set (moved_from (suc i) cs) i (moved f) ≡ moved_from i cs
 moved_here [] i f e = refl
 moved_here (g ∷ cs) zero f e = let same : g ≡ f = cc in ap (λ h. moved h ∷ moved_from 0 cs) (sym same)
 moved_here (g ∷ cs) (suc i) f e = ap (λ l. g ∷ l) (moved_here cs i f e)
 
-pub moved_bound : (cs : List ControlFrame) (i low end : ℕ) (f : ControlFrame) → StartFrom low cs end → slice_get (moved_from (suc i) cs) i ≡ Some f → f.start ≤ end
+moved_bound : (cs : List ControlFrame) (i low end : ℕ) (f : ControlFrame) → StartFrom low cs end → slice_get (moved_from (suc i) cs) i ≡ Some f → f.start ≤ end
 moved_bound [] i low end f h e = absurd cc
 moved_bound (g ∷ cs) zero low end f h e =
     let same : g ≡ f = cc in
@@ -285,7 +285,25 @@ moved_bound (g ∷ cs) zero low end f h e =
     let s = ap (λ k. k.start) same in omega arith
 moved_bound (g ∷ cs) (suc i) low end f h e = moved_bound cs i g.start end f h.1 e
 
-pub moved_length : (cs : List ControlFrame) (i : ℕ) → length (moved_from i cs) ≡ length cs
+moved_length : (cs : List ControlFrame) (i : ℕ) → length (moved_from i cs) ≡ length cs
 moved_length [] i = refl
 moved_length (f ∷ fs) zero = ap suc (moved_length fs 0)
 moved_length (f ∷ fs) (suc i) = ap suc (moved_length fs i)
+
+-- one frame more is moved, before those that are
+module _ (xs cs : List ControlFrame) (k i : ℕ) (moving : cs ≡ moved_from k xs) (next : k ≡ suc i) where
+  moving_on : cs ≡ moved_from (suc i) xs
+  moving_on = moving ∙ ap (λ n. moved_from n xs) next
+
+  pub same_count : length cs ≡ length xs
+  same_count = ap length moving ∙ moved_length xs k
+
+  module _ (f : ControlFrame) (at : slice_get cs i ≡ Some f) where
+    there : slice_get (moved_from (suc i) xs) i ≡ Some f
+    there = ap (λ l. slice_get l i) (sym moving_on) ∙ at
+
+    pub one_moved : slice_set cs i (moved f) ≡ moved_from i xs
+    one_moved = ap (λ l. slice_set l i (moved f)) moving_on ∙ moved_here xs i f there
+
+    pub fits_moved : (end : ℕ) → StartFrom 0 xs end → f.start ≤ end
+    fits_moved end h = moved_bound xs i 0 end f h there

@@ -22,6 +22,18 @@ pub(crate) fn pushed<T: Drop>(list: &mut Vec<T>, item: T) -> Result<(), ParseErr
     }
 }
 
+/// Where the n-th frame from the innermost stands, if so many are open.
+#[inline(always)]
+fn index_of(controls: &ControlStack, n: usize) -> Option<usize>
+    ensures { MatchOption result (length controls.now.items ≤ n)
+        (λ index. n + index + 1 ≡ length controls.now.items) }
+{
+    if n >= controls.len() {
+        return None;
+    }
+    Some(controls.len() - n - 1)
+}
+
 /// Adds a clause to an instruction that is a `try`.
 fn add_clause_in(item: &mut (Instr, InstrLocId), catch: LegacyCatch) -> Result<(), ParseError>
     ensures ok { OnOk result (with_clause_in catch item.old ≡ Some item.new) }
@@ -82,10 +94,10 @@ impl FrameStack {
     pub fn get(&self, n: usize) -> Option<&ControlFrame>
         ensures { MatchOption result (length self.now ≤ n) (λ f. ShowsAt self.now n f.now) }
     {
-        if n >= self.controls.len() {
-            return None;
+        match index_of(&self.controls, n) {
+            Some(index) => Some(&self.controls[index]),
+            None => None,
         }
-        Some(&self.controls[self.controls.len() - n - 1])
     }
 
     /// Opens a frame without instructions.
@@ -146,7 +158,7 @@ impl FrameStack {
         ensures err { IfErr result (HasNoFrame self.old) }
         ensures same { OnErr result (self.new ≡ self.old) }
     {
-        match self.controls.len().checked_sub(1) {
+        match index_of(&self.controls, 0) {
             Some(index) => {
                 self.controls[index].unreachable = true;
                 Ok(())
@@ -164,10 +176,9 @@ impl FrameStack {
         ensures err { IfErr result (λ e. (e ≡ Fault.Memory) ⊎ HasNoFrameAt self.old n e) }
         ensures same { OnErr result (self.new ≡ self.old) }
     {
-        if n >= self.controls.len() {
+        let Some(index) = index_of(&self.controls, n) else {
             return Err(ParseError::NoSuchLabel);
-        }
-        let index = self.controls.len() - n - 1;
+        };
         if self.controls[index].unreachable {
             return Ok(());
         }
@@ -188,10 +199,9 @@ impl FrameStack {
             ⊎ (with_clause_around catch self.old ≡ Err e)) }
         ensures same { OnErr result (self.new ≡ self.old) }
     {
-        if self.controls.len() < 2 {
+        let Some(index) = index_of(&self.controls, 1) else {
             return Err(ParseError::NoSuchLabel);
-        }
-        let index = self.controls.len() - 2;
+        };
         if self.controls[index].unreachable {
             return Ok(());
         }

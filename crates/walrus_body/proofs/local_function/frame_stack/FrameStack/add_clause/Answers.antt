@@ -1,4 +1,4 @@
-use Rattle.std.proofs.Common.{◌≡◌, ◌≤◌, ◌<◌, ◌+◌, ◌-◌, length, Some, slice_get, ap, sym, ◌∙◌, subst, arith, inl, inr, IfErr, Result, Ok, Err}
+use Rattle.std.proofs.Common.{◌≡◌, ◌≤◌, ◌<◌, ◌+◌, ◌-◌, [], length, Some, slice_get, ap, sym, ◌∙◌, subst, arith, inl, inr, IfErr, Result, Ok, Err}
 use Rattle.std.proofs.lemmas.List.{length-set}
 use Rattle.std.proofs.lemmas.Option.{slice_get-get_or}
 use Rattle.std.proofs.lemmas.Result.{on_ok_weaker, on_err_weaker}
@@ -13,38 +13,29 @@ if_err_weaker : {T E : Type 0} {P Q : E → Type 0} (r : Result T E) → ((e : E
 if_err_weaker (Ok x) f h = tt
 if_err_weaker (Err e) f h = f e h
 
-pub returns-then-len-lt2-clause-err : goal.returns-then-len-lt2-clause-err
-returns-then-len-lt2-clause-err c =
+pub returns-in_default-clause-err : goal.returns-in_default-clause-err
+returns-in_default-clause-err c =
     let stack = c.self.inside in
     let long = ap length (sym c.self.view_is) ∙ count stack.instrs.items [] stack.controls.items in
-    let len = c.len.ensures in
-    let ok = stack.controls.ok.0 in
-    let test = c.if-len-lt2.true in
+    let none = c.in_default.ensures in
     inr (few c.args.catch c.args.self.now (omega arith))
 
 pub returns-then-index-clause-ok : goal.returns-then-index-clause-ok
 returns-then-index-clause-ok c =
     let stack = c.self.inside in
     let cs = stack.controls.items in
-    let len = c.len-index.ensures in
-    let first = c.len.ensures in
-    let ok = stack.controls.ok.0 in
-    let test = c.if-len-lt2.false in
-    let i = c.len-index.result - 2 in
+    let i = c.in-Some.index in
+    let told = c.in-Some.ensures in
     let f = c.index.result.now in
-    let is : 1 + i + 1 ≡ length cs = omega arith in
     let at = slice_get-get_or cs i f (omega arith) ∙ ap Some (sym c.index.ensures) in
-    ap (with_clause_around c.args.catch) (sym c.self.view_is) ∙ passes c.args.catch stack.instrs.items cs i f is at c.if-index.true ∙ ap Ok c.self.view_is
+    ap (with_clause_around c.args.catch) (sym c.self.view_is) ∙ passes c.args.catch stack.instrs.items cs i f told at c.if-index.true ∙ ap Ok c.self.view_is
 
 pub returns-then-start-end-clause-err : goal.returns-then-start-end-clause-err
 returns-then-start-end-clause-err c =
     let stack = c.self.inside in
     let cs = stack.controls.items in
-    let len = c.len-index.ensures in
-    let first = c.len.ensures in
-    let ok = stack.controls.ok.0 in
-    let test = c.if-len-lt2.false in
-    let i = c.len-index.result - 2 in
+    let i = c.in-Some.index in
+    let told = c.in-Some.ensures in
     let f = c.index.result.now in
     let g = c.index-start.result.now in
     let h = c.index-end.result.now in
@@ -85,11 +76,8 @@ returns c =
     let stack = c.self.inside in
     let cs = stack.controls.items in
     let all = stack.instrs.items in
-    let len = c.len-index.ensures in
-    let first = c.len.ensures in
-    let ok = stack.controls.ok.0 in
-    let test = c.if-len-lt2.false in
-    let i = c.len-index.result - 2 in
+    let i = c.in-Some.index in
+    let told = c.in-Some.ensures in
     let f = c.index.result.now in
     let g = c.index-start.result.now in
     let h = c.index-end.result.now in

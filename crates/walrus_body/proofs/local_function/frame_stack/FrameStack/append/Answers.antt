@@ -1,4 +1,4 @@
-use Rattle.std.proofs.Common.{◌≡◌, ◌<◌, ◌+◌, ◌-◌, ◌++◌, ◌∷◌, [], length, Some, slice_get, suc, refl, ap, sym, subst, ◌∙◌, arith, inr, cond}
+use Rattle.std.proofs.Common.{◌≡◌, ◌<◌, ◌+◌, ◌++◌, ◌∷◌, [], length, Some, slice_get, suc, refl, ap, sym, subst, ◌∙◌, arith, inr, cond}
 use Rattle.std.proofs.lemmas.Option.{slice_get-get_or}
 use Rattle.std.proofs.lemmas.List.{length-append}
 use Rattle.walrus_ir.specs.Unfolding.{LocatedInstr}
@@ -7,27 +7,21 @@ use Rattle.walrus_body.specs.Parsing.OpenFrames.{frame_with, with_instr, changed
 use Rattle.walrus_body.proofs.Parsing.FrameStacks.{count, get, unchanged_at, behind_at_end, divide_moved, appended}
 use Rattle.walrus_body.proofs.local_function.frame_stack.FrameStack.append.Goals as goal
 
-pub returns-then-n-len-clause-err : goal.returns-then-n-len-clause-err
-returns-then-n-len-clause-err c =
+pub returns-in_default-clause-err : goal.returns-in_default-clause-err
+returns-in_default-clause-err c =
     let inside = c.self.inside in
     let long = ap length (sym c.self.view_is) ∙ count inside.instrs.items [] inside.controls.items in
-    let len = c.len.ensures in
-    let ok = inside.controls.ok.0 in
-    let test = c.if-n-len.true in
+    let none = c.in_default.ensures in
     inr (refl, omega arith)
 
 pub returns-then-index-clause-ok : goal.returns-then-index-clause-ok
 returns-then-index-clause-ok c =
     let inside = c.self.inside in
     let long = ap length (sym c.self.view_is) ∙ count inside.instrs.items [] inside.controls.items in
-    let len = c.len.ensures in
-    let len-2 = c.len-2.ensures in
-    let ok = inside.controls.ok.0 in
-    let test = c.if-n-len.false in
-    let i = c.len-2.result - c.args.n - 1 in
+    let i = c.in-Some.index in
     let f = c.index.result.now in
+    let is = c.in-Some.ensures in
     let within : i < length inside.controls.items = omega arith in
-    let is : c.args.n + i + 1 ≡ length inside.controls.items = omega arith in
     let at = slice_get-get_or inside.controls.items i f within ∙ ap Some (sym c.index.ensures) in
     let found = get inside.instrs.items [] inside.controls.items i c.args.n f is at in
     let frame = frame_with f found.0 in
@@ -50,12 +44,8 @@ invariant_of-self c =
     let inside = c.self.inside in
     let all = inside.instrs.items in
     let cs = inside.controls.items in
-    let len = c.len.ensures in
-    let len-2 = c.len-2.ensures in
-    let ok = inside.controls.ok.0 in
-    let test = c.if-n-len.false in
-    let i = c.len-2.result - c.args.n - 1 in
-    let is : c.args.n + i + 1 ≡ length cs = omega arith in
+    let i = c.in-Some.index in
+    let is = c.in-Some.ensures in
     let x : LocatedInstr = (c.args.instr, c.args.location) in
     let inner = subst (InnerAreEmpty c.args.n) (sym c.self.view_is) c.requires in
     let behind = behind_at_end all [] 0 cs i c.args.n is c.self.invariant.rise inner in
@@ -69,14 +59,10 @@ returns-in-Ok-clause-ok c =
     let all = inside.instrs.items in
     let cs = inside.controls.items in
     let longest = ap length (sym c.self.view_is) ∙ count all [] cs in
-    let len = c.len.ensures in
-    let len-2 = c.len-2.ensures in
-    let ok = inside.controls.ok.0 in
-    let test = c.if-n-len.false in
-    let i = c.len-2.result - c.args.n - 1 in
+    let i = c.in-Some.index in
     let f = c.index.result.now in
+    let is = c.in-Some.ensures in
     let within : i < length cs = omega arith in
-    let is : c.args.n + i + 1 ≡ length cs = omega arith in
     let at = slice_get-get_or cs i f within ∙ ap Some (sym c.index.ensures) in
     let x : LocatedInstr = (c.args.instr, c.args.location) in
     let inner = subst (InnerAreEmpty c.args.n) (sym c.self.view_is) c.requires in

@@ -1,4 +1,4 @@
-use Rattle.std.proofs.Common.{subst, sym, ◌∙◌}
+use Rattle.std.proofs.Common.{subst, ◌∙◌}
 use Rattle.std.specs.Prelude.{reverse}
 use Rattle.walrus_body.specs.Parsing.OpenFrames.{AreShown}
 use Rattle.walrus_body.proofs.Parsing.FrameStacks.{all_shown, none_left}
