@@ -85,7 +85,7 @@ module _ (c : LegacyCatch) where
 
   -- the two innermost frames of some, the last of which begins behind the other
   module _ (all : List LocatedInstr) (cs : List ControlFrame) (i : ℕ) (f h : ControlFrame) (rise : StartFrom 0 cs (length all)) (is : i + 2 ≡ length cs) (at : slice_get cs i ≡ Some f) (behind : slice_get cs (i + 1) ≡ Some h) where
-    ds : List ControlFrame
+    abbrev pub ds : List ControlFrame
     ds = take i cs
 
     ending : cs ≡ (ds ++ f ∷ []) ++ h ∷ []
@@ -117,7 +117,7 @@ module _ (c : LegacyCatch) where
 
     -- where it has some, of which this is the last
     module _ (e : ℕ) (x : LocatedInstr) (ends : e + 1 ≡ h.start) (less : f.start ≤ e) (last : slice_get all e ≡ Some x) where
-      with_last : LocatedInstr → List OpenFrame
+      abbrev with_last : LocatedInstr → List OpenFrame
       with_last y = frame_with h (drop h.start all) ∷ frame_with f (drop f.start (take e all) ++ y ∷ []) ∷ frames_in (take f.start (take e all)) [] ds
 
       shown : (y : LocatedInstr) → frames_in (slice_set all e y) [] cs ≡ with_last y

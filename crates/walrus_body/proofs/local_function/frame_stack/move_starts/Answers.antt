@@ -1,4 +1,4 @@
-use Rattle.std.proofs.Common.{◌≡◌, ◌-◌, suc, length, Some, slice_get, ap, sym, ◌∙◌, arith}
+use Rattle.std.proofs.Common.{◌≡◌, ◌-◌, suc, Some, ap, sym, ◌∙◌, arith}
 use Rattle.std.proofs.lemmas.Option.{slice_get-get_or}
 use Rattle.walrus_body.proofs.Parsing.FrameStacks.{moved_none, same_count, one_moved, fits_moved}
 use Rattle.walrus_body.proofs.local_function.frame_stack.move_starts.Goals as goal

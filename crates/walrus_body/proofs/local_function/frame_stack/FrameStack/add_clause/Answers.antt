@@ -37,12 +37,12 @@ returns-then-start-end-clause-err c =
     let i = c.in-Some.index in
     let told = c.in-Some.ensures in
     let f = c.index.result.now in
-    let g = c.index-start.result.now in
-    let h = c.index-end.result.now in
+    let g = c.index-2.result.now in
+    let h = c.index-3.result.now in
     let is : i + 2 ≡ length cs = omega arith in
     let at = slice_get-get_or cs i f (omega arith) ∙ ap Some (sym c.index.ensures) in
-    let again = slice_get-get_or cs i g (omega arith) ∙ ap Some (sym c.index-start.ensures) in
-    let behind = slice_get-get_or cs (i + 1) h (omega arith) ∙ ap Some (sym c.index-end.ensures) in
+    let again = slice_get-get_or cs i g (omega arith) ∙ ap Some (sym c.index-2.ensures) in
+    let behind = slice_get-get_or cs (i + 1) h (omega arith) ∙ ap Some (sym c.index-3.ensures) in
     let same = ap (λ (k : ControlFrame). k.start) (some_same f g (sym at ∙ again)) in
     let none = c.if-start-end.true in
     inr (ap (with_clause_around c.args.catch) (sym c.self.view_is) ∙ lacks c.args.catch stack.instrs.items cs i f h c.self.invariant.rise is at behind c.if-index.false (omega arith))
@@ -51,17 +51,14 @@ pub index_mut-requires : goal.index_mut-requires
 index_mut-requires c =
     let stack = c.self.inside in
     let cs = stack.controls.items in
-    let len = c.len-index.ensures in
-    let first = c.len.ensures in
-    let ok = stack.controls.ok.0 in
-    let all_ok = stack.instrs.ok.0 in
-    let test = c.if-len-lt2.false in
-    let i = c.len-index.result - 2 in
+    let i = c.in-Some.index in
+    let told = c.in-Some.ensures in
+    let long = stack.instrs.ok.0 in
     let f = c.index.result.now in
-    let h = c.index-end.result.now in
+    let h = c.index-3.result.now in
     let is : i + 2 ≡ length cs = omega arith in
     let at = slice_get-get_or cs i f (omega arith) ∙ ap Some (sym c.index.ensures) in
-    let behind = slice_get-get_or cs (i + 1) h (omega arith) ∙ ap Some (sym c.index-end.ensures) in
+    let behind = slice_get-get_or cs (i + 1) h (omega arith) ∙ ap Some (sym c.index-3.ensures) in
     let within = (inside c.args.catch stack.instrs.items cs i f h c.self.invariant.rise is at behind).1 in
     let some = c.if-start-end.false in
     omega arith
@@ -69,7 +66,7 @@ index_mut-requires c =
 pub invariant_of-self : goal.invariant_of-self
 invariant_of-self c =
     let stack = c.self.inside in
-    subst (Divide stack.controls.items) (sym (length-set stack.instrs.items (c.index-end.result.now.start - 1) c.add_clause_in.new.item)) c.self.invariant
+    subst (Divide stack.controls.items) (sym (length-set stack.instrs.items (c.index-3.result.now.start - 1) c.add_clause_in.new.item)) c.self.invariant
 
 pub returns : goal.returns
 returns c =
@@ -79,14 +76,14 @@ returns c =
     let i = c.in-Some.index in
     let told = c.in-Some.ensures in
     let f = c.index.result.now in
-    let g = c.index-start.result.now in
-    let h = c.index-end.result.now in
+    let g = c.index-2.result.now in
+    let h = c.index-3.result.now in
     let x = c.index_mut.result.now in
     let y = c.add_clause_in.new.item in
     let is : i + 2 ≡ length cs = omega arith in
     let at = slice_get-get_or cs i f (omega arith) ∙ ap Some (sym c.index.ensures) in
-    let again = slice_get-get_or cs i g (omega arith) ∙ ap Some (sym c.index-start.ensures) in
-    let behind = slice_get-get_or cs (i + 1) h (omega arith) ∙ ap Some (sym c.index-end.ensures) in
+    let again = slice_get-get_or cs i g (omega arith) ∙ ap Some (sym c.index-2.ensures) in
+    let behind = slice_get-get_or cs (i + 1) h (omega arith) ∙ ap Some (sym c.index-3.ensures) in
     let same = ap (λ (k : ControlFrame). k.start) (some_same f g (sym at ∙ again)) in
     let rise = c.self.invariant.rise in
     let within = (inside c.args.catch all cs i f h rise is at behind).1 in
@@ -100,7 +97,7 @@ returns c =
       ok = on_ok_weaker c.add_clause_in.result (λ added. here ∙ adds c.args.catch all cs i f h rise is at behind e x ends less last y c.if-index.false added) c.add_clause_in.ensures.ok;
       err = if_err_weaker c.add_clause_in.result (λ error told. elim told [
         | inl is_memory ↦ inl is_memory
-        | inr lacks ↦ inr (here ∙ has_none c.args.catch all cs i f h rise is at behind e x ends less last c.if-index.false lacks.1 ∙ ap Err (sym lacks.0))
+        | inr none ↦ inr (here ∙ has_none c.args.catch all cs i f h rise is at behind e x ends less last c.if-index.false none.1 ∙ ap Err (sym none.0))
       ]) c.add_clause_in.ensures.err;
       same = on_err_weaker c.add_clause_in.result (λ as_before. stays c.args.catch all cs i f h rise is at behind e x ends less last y as_before ∙ c.self.view_is) c.add_clause_in.ensures.same;
     }
