@@ -48,6 +48,4 @@ mod validators;
 #[cfg(test)]
 mod walk;
 #[cfg(test)]
-mod whole_bodies;
-#[cfg(test)]
 mod writing;
