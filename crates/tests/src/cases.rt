@@ -11,6 +11,7 @@ use crate::rewriting::rewritten;
 use crate::small_module::{Setting, entry_text, parse, parsed, parsed_by, told};
 use crate::validators::{Counting, Keeping};
 use crate::walk::walked;
+use crate::whole_bodies::{entry_written, rewritten_whole};
 use std::alloc::{AllocError, Global};
 use std::process::Abort;
 use std::test::Fail;
@@ -42,6 +43,10 @@ pub(crate) enum About {
     Rewritten,
     /// The operators of a body as its module names them, or its first fault.
     Named(Setting),
+    /// The body with its declarations and pairs when it is rewritten over the demo module.
+    RewrittenWhole(Setting),
+    /// The body with its declarations and pairs when a function of the demo module is written.
+    CodeEntry(Setting),
     /// The operators that are read from a place on.
     Read(u32),
     /// What the program prints.
@@ -64,6 +69,8 @@ fn answer(alloc: Global, about: About, text: &str) -> Result<String, Fail> {
         About::Told => Ok(told(alloc, text)?),
         About::Rewritten => Ok(rewritten(alloc, text)?),
         About::Named(setting) => Ok(named(alloc, setting, text)?),
+        About::RewrittenWhole(setting) => rewritten_whole(alloc, setting, text),
+        About::CodeEntry(setting) => entry_written(alloc, &parse_demo(alloc, setting, text)?),
         About::Read(start) => read_all(alloc, text, start),
         About::Printed => Ok(printed(alloc, text)?),
     }
@@ -94,6 +101,8 @@ pub(crate) enum AboutMade {
     Gathered,
     /// Its bytes and pairs when it is written.
     Written,
+    /// Its body with its declarations and pairs when it is written.
+    CodeEntry,
 }
 
 // The facts as visitors find them, and as the function answers.
@@ -119,6 +128,9 @@ fn answer_made(alloc: Global, about: AboutMade, instrs: &[Item]) -> Result<Strin
         AboutMade::Facts => Ok(both_facts(alloc, builder)?),
         AboutMade::Gathered => Ok(gathered_twice(alloc, builder)?),
         AboutMade::Written => written(alloc, &LocalFunction::new(Vec::new(alloc), builder)),
+        AboutMade::CodeEntry => {
+            entry_written(alloc, &LocalFunction::new(Vec::new(alloc), builder))
+        }
     }
 }
 

@@ -1,5 +1,5 @@
-//! The module over which the program runs, with locals of more types, and what its functions'
-//! bodies give.
+//! The module over which the program runs, with locals of more types and old indices of a function
+//! without a new index and of a local that isn't there; and what its functions' bodies give.
 ghost use Rattle.std.specs.Prelude.{◌≡◌, IfOk};
 
 use crate::index_maps::{give, push};
@@ -74,7 +74,7 @@ fn tags(alloc: Global) -> Result<ModuleTags, AllocError> {
     Ok(tags)
 }
 
-// One of each kind but two functions and two tags.
+// What has old and new indices that are its ids.
 const ITEMS: [(Space, usize); 9] = [
     (Space::Funcs, 0),
     (Space::Funcs, 1),
@@ -87,7 +87,11 @@ const ITEMS: [(Space, usize); 9] = [
     (Space::Data, 0),
 ];
 
-// The ids are the old indices, of locals those of the function 0.
+/// An id of a local that the module doesn't hold.
+const UNKNOWN: usize = 99;
+
+// The ids are the old indices. The function 2 has no new index, and behind the locals of the
+// function 0 stands one that isn't in the module.
 fn indices(alloc: Global) -> Result<IndicesToIds, IndexError> {
     let mut indices = IndicesToIds::new(alloc);
     for ty in 0..4 {
@@ -96,9 +100,12 @@ fn indices(alloc: Global) -> Result<IndicesToIds, IndexError> {
     for (space, id) in ITEMS {
         push(&mut indices, space, id)?;
     }
+    push(&mut indices, Space::Funcs, 2)?;
+    let function = FunctionId::new(0);
     for local in 0..LOCALS {
-        indices.push_local(FunctionId::new(0), LocalId::new(local))?;
+        indices.push_local(function, LocalId::new(local))?;
     }
+    indices.push_local(function, LocalId::new(UNKNOWN))?;
     Ok(indices)
 }
 

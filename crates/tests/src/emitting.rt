@@ -10,7 +10,7 @@ use walrus_body::{EmitError, IdsToIndices, IndexError, LocalFunction, Space};
 use walrus_ir::{IdHashMap, InstrLocId, InstrSeqId, InstrSeqType, LocalId, TypeId};
 use wasm_encode::FunctionEncoder;
 
-// The types 8, 2, 6 and 5 have the new indices 0 to 3, the function 7 has 0, and the memory 0 has 0.
+// The types 8, 2, 6 and 5 have the new indices 0 to 3; the function 7 and the memory 0 have 0.
 fn numbers(alloc: Global) -> Result<IdsToIndices, IndexError> {
     let mut numbers = IdsToIndices::new(alloc);
     for ty in [8, 2, 6, 5] {
@@ -61,7 +61,7 @@ fn write_into(
 }
 
 // Appends bytes and pairs.
-fn push_written(
+pub(crate) fn push_written(
     text: &mut String,
     bytes: &[u8],
     map: &[(InstrLocId, usize)],

@@ -48,4 +48,6 @@ mod validators;
 #[cfg(test)]
 mod walk;
 #[cfg(test)]
+mod whole_bodies;
+#[cfg(test)]
 mod writing;

@@ -133,6 +133,7 @@ fn declares_what_a_body_uses(rt: HostRuntime) -> Result<(), Fail> {
         // Those in dropped code aren't used.
         ("0f20011a0b", "00 0:0"),
         ("200b1a0b", "Index(Unnumbered { space: Types })"),
+        ("200b1a20101a0b", "UnknownLocal"),
     ];
     check(&rt, rt.alloc(), About::Locals, &cases)
 }

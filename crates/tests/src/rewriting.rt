@@ -14,10 +14,17 @@ pub(crate) fn rewritten(alloc: Global, ops: &str) -> Result<String, AllocError> 
     };
     match rewrite_demo(alloc, &ops) {
         Ok(written) => hex::encode(alloc, written),
-        Err(RewriteError::Parse(ParseFailure { error, at })) => {
+        Err(error) => refusal_text(alloc, error),
+    }
+}
+
+// Why a body isn't rewritten: the fault, and at which place where it isn't parsed.
+pub(crate) fn refusal_text(alloc: Global, error: RewriteError) -> Result<String, AllocError> {
+    match error {
+        RewriteError::Parse(ParseFailure { error, at }) => {
             format!(in alloc; "{} at {at}", Fault(error))
         }
-        Err(error) => format!(in alloc; "{error:?}"),
+        error => format!(in alloc; "{error:?}"),
     }
 }
 
@@ -67,6 +74,21 @@ fn rewrites_other_operators(rt: HostRuntime) -> Result<(), Fail> {
         ("4100fe1002001a0b", "4100fe1002001a0b"),
         ("fe4e00000b", "fe4e00000b"),
         ("20011a0b", "20011a0b"),
+    ];
+    check(&rt, rt.alloc(), About::Rewritten, &cases)
+}
+
+/// Locals that are no arguments are numbered behind them, by type and by id, whichever is used
+/// first.
+#[test]
+fn rewrites_locals(rt: HostRuntime) -> Result<(), Fail> {
+    let cases = [
+        ("20001a0b", "20001a0b"),
+        ("20011a20031a0b", "20011a20021a0b"),
+        ("200321010b", "200221010b"),
+        ("20021a0b", "20011a0b"),
+        ("0f200320020b", "0f0b"),
+        ("20838080800022030b", "200122010b"),
     ];
     check(&rt, rt.alloc(), About::Rewritten, &cases)
 }

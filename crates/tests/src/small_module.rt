@@ -119,7 +119,7 @@ impl Setting {
 }
 
 // Twice the place, where that fits.
-fn doubled(place: usize) -> InstrLocId {
+pub(crate) fn doubled(place: usize) -> InstrLocId {
     InstrLocId::new((place % 1_000_000_000) as u32 * 2)
 }
 
