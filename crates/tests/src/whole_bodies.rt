@@ -33,26 +33,25 @@ impl Output {
     }
 }
 
-// Rewrites the body of the function 0, without a list of pairs where this says so.
-fn rewrite(
+// Rewrites the body of the function 0, with a list of pairs where one is given.
+fn rewrite_into(
     demo: &Example,
     out: &IdsToIndices,
     setting: Setting,
     args: Vec<LocalId>,
     bytes: &[u8],
-    output: &mut Output,
-    has_map: bool,
+    dst: &mut Vec<u8>,
+    map: Option<&mut Vec<(InstrLocId, usize)>>,
 ) -> Result<LocalFunction, RewriteError>
     requires { demo.now.module.code_section_offset ≡ setting.offset }
 {
-    let alloc = *output.bytes.allocator();
     let body = FunctionBody {
         bytes,
         start: setting.offset as usize + setting.before as usize,
         ops: setting.ops.min(bytes.len()),
     };
     let locate = |place: &usize| doubled(*place);
-    let mut instrs = Vec::new(alloc);
+    let mut instrs = Vec::new(*args.allocator());
     rewrite_body(
         &demo.module,
         &demo.indices,
@@ -64,13 +63,28 @@ fn rewrite(
         AcceptAll,
         &mut instrs,
         out,
-        &mut output.bytes,
-        if has_map {
-            Some(&mut output.pairs)
-        } else {
-            None
-        },
+        dst,
+        map,
     )
+}
+
+// The same behind what stands in the output, without a list of pairs where this says so.
+fn rewrite(
+    demo: &Example,
+    out: &IdsToIndices,
+    setting: Setting,
+    args: Vec<LocalId>,
+    bytes: &[u8],
+    output: &mut Output,
+    has_map: bool,
+) -> Result<LocalFunction, RewriteError>
+    requires { demo.now.module.code_section_offset ≡ setting.offset }
+{
+    let Output { bytes: dst, pairs } = output;
+    match has_map {
+        true => rewrite_into(demo, out, setting, args, bytes, dst, Some(pairs)),
+        false => rewrite_into(demo, out, setting, args, bytes, dst, None),
+    }
 }
 
 // The fault, if there is one, and then what stands in the output.
@@ -94,11 +108,10 @@ fn rewritten(alloc: Global, setting: Setting, body: &str, has_map: bool) -> Resu
     let bytes = hex::decode(alloc, body)?;
     let mut output = Output::of_others(alloc)?;
     let args = vec![in alloc; LocalId::new(0)]?;
-    let fault = match rewrite(&demo, &out, setting, args, &bytes, &mut output, has_map) {
-        Ok(_) => None,
-        Err(error) => Some(refusal_text(alloc, error)?),
-    };
-    Ok(output_text(alloc, fault, &output)?)
+    match rewrite(&demo, &out, setting, args, &bytes, &mut output, has_map) {
+        Ok(_) => Ok(output_text(alloc, None, &output)?),
+        Err(error) => Ok(output_text(alloc, Some(refusal_text(alloc, error)?), &output)?),
+    }
 }
 
 // The same, with a list of pairs.
