@@ -1,0 +1,34 @@
+-- Reading operators and writing them, with maps of one's own.
+use Rattle.std.specs.Prelude.{◌≡◌, ℕ, List, Some, Ok}
+use Rattle.walrus_ir.specs.Function.{Function}
+use Rattle.wasm_body.specs.SourceTree.{Body}
+use Rattle.wasm_body.specs.Naming.{Environment, Occurrence}
+use Rattle.wasm_body.specs.NormalForm.{body_tree}
+use Rattle.wasm_body.specs.Bytes.{Numbers, tree_bytes}
+use Rattle.wasm_body.specs.Parsing.Accepted.{Setting, Accepted}
+use Rattle.walrus_body.specs.Parsing.Bodies.{IsFunction}
+use Rattle.walrus_body.specs.Parsing.Settings.{given_with}
+
+-- How operators are read that stand at place 0: with a location function, and with a validator that takes every operator.
+abbrev pub reading_by : Environment → (locate : ℕ → ℕ) → Setting (Unit {0})
+reading_by env locate = given_with env 0 (λ s _. Ok s) tt (Some locate)
+
+-- The operators are accepted as a body, of which the function has the normal form.
+pub record IsReadAs (env : Environment) (ops : List ℕ) (function : Function) : Type 0 where
+  pub locate : ℕ → ℕ
+  pub body : Body Occurrence
+  pub accepted : Accepted (reading_by env locate) ops body
+  pub is_function : IsFunction function (body_tree env body)
+
+-- The operators are accepted as a body, and these are the bytes of its normal form under the numbers.
+pub record IsWrittenAs (env : Environment) (to : Numbers) (ops bytes : List ℕ) : Type 0 where
+  pub locate : ℕ → ℕ
+  pub body : Body Occurrence
+  pub accepted : Accepted (reading_by env locate) ops body
+  pub bytes_are : tree_bytes to (body_tree env body) ≡ Ok bytes
+
+-- Whatever their locations are, the operators are accepted as a body, and these are the bytes of its normal form.
+pub record HasBytes (env : Environment) (to : Numbers) (ops bytes : List ℕ) : Type 0 where
+  pub body : (locate : ℕ → ℕ) → Body Occurrence
+  pub accepted : (locate : ℕ → ℕ) → Accepted (reading_by env locate) ops (body locate)
+  pub bytes_are : (locate : ℕ → ℕ) (b : Body Occurrence) → Accepted (reading_by env locate) ops b → tree_bytes to (body_tree env b) ≡ Ok bytes
