@@ -90,6 +90,9 @@ fn control(instr: &Instr) -> Shown<'_> {
 
 fn storage(instr: &Instr) -> Shown<'_> {
     match instr {
+        Instr::LocalGet(x) => Shown::One("local.get", x.local.index()),
+        Instr::LocalSet(x) => Shown::One("local.set", x.local.index()),
+        Instr::LocalTee(x) => Shown::One("local.tee", x.local.index()),
         Instr::GlobalGet(x) => Shown::One("global.get", x.global.index()),
         Instr::GlobalSet(x) => Shown::One("global.set", x.global.index()),
         Instr::TableGet(x) => Shown::One("table.get", x.table.index()),

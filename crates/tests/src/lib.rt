@@ -37,6 +37,7 @@ mod parse_refusals;
 mod parsing;
 #[cfg(test)]
 mod program;
+mod read_back;
 #[cfg(test)]
 mod reading;
 mod recorder;
@@ -44,6 +45,8 @@ mod recorder;
 mod rewriting;
 #[cfg(test)]
 mod small_module;
+#[cfg(test)]
+mod unchanged;
 mod validators;
 #[cfg(test)]
 mod walk;
