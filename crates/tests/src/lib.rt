@@ -28,6 +28,8 @@ mod lent;
 #[cfg(test)]
 mod locals;
 #[cfg(test)]
+mod long_runs;
+#[cfg(test)]
 mod modules;
 #[cfg(test)]
 mod named;
