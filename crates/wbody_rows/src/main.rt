@@ -32,6 +32,21 @@ struct Row {
     wanted: Answer,
 }
 
+impl Row {
+    /// The case that a line spells, four fields with a tab between them.
+    fn read(alloc: Global, line: &str) -> Result<Row, AllocError> {
+        let mut fields = line.split('\t');
+        Ok(Row {
+            words: fields.next().unwrap_or("").to_string(alloc)?,
+            wanted: Answer {
+                status: fields.next().unwrap_or("").to_string(alloc)?,
+                out: fields.next().unwrap_or("").to_string(alloc)?,
+                err: fields.next().unwrap_or("").to_string(alloc)?,
+            },
+        })
+    }
+}
+
 /// How many cases and bodies there were, and how many of each are not as they should be.
 #[derive(Clone, Copy)]
 struct Counts {
@@ -67,19 +82,6 @@ fn found(alloc: Global, words: &str) -> Result<Answer, AllocError> {
         status: format!(in alloc; "{status}")?,
         out: joined_lines(alloc, &out)?,
         err: joined_lines(alloc, &err)?,
-    })
-}
-
-/// The case that a line spells, four fields with a tab between them.
-fn row(alloc: Global, line: &str) -> Result<Row, AllocError> {
-    let mut fields = line.split('\t');
-    Ok(Row {
-        words: fields.next().unwrap_or("").to_string(alloc)?,
-        wanted: Answer {
-            status: fields.next().unwrap_or("").to_string(alloc)?,
-            out: fields.next().unwrap_or("").to_string(alloc)?,
-            err: fields.next().unwrap_or("").to_string(alloc)?,
-        },
     })
 }
 
@@ -137,7 +139,7 @@ fn main(rt: HostRuntime) -> io::Result<()> {
         bodies_differ: 0,
     };
     for line in BufReader::new(alloc, rt.reader())?.lines(alloc) {
-        counts.take(&rt, &demo, &row(alloc, line?.as_str())?)?;
+        counts.take(&rt, &demo, &Row::read(alloc, line?.as_str())?)?;
     }
     let Counts {
         rows,

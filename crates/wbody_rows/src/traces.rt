@@ -6,8 +6,8 @@ use std::collections::BTreeSet;
 use walrus_ir::TagId;
 use walrus_run::{Ending, Event, NamedBody, Outcome, Run, execute};
 
-/// How many outcomes are tried.
-const OUTCOMES: usize = 8;
+/// How many outcomes there are to choose from.
+const CHOICES: usize = 8;
 
 /// How many outcomes a run is given at most.
 const STEPS: usize = 10;
@@ -29,7 +29,7 @@ fn tags(alloc: Global, count: usize) -> Result<BTreeSet<TagId>, AllocError> {
 
 /// An outcome to be tried, by its number.
 fn outcome(alloc: Global, number: usize) -> Result<Outcome, AllocError> {
-    let outcome = match number % OUTCOMES {
+    let outcome = match number % CHOICES {
         0 => Outcome::Way(true),
         1 => Outcome::Entry(0),
         2 => Outcome::Raise(tags(alloc, 1)?),
@@ -51,7 +51,7 @@ fn add_outcome(
     turns: u64,
     first: usize,
 ) -> Result<bool, AllocError> {
-    for number in 0..OUTCOMES {
+    for number in 0..CHOICES {
         outcomes.push(outcome(alloc, first.wrapping_add(number))?)?;
         let run = execute(source, outcomes, turns)?;
         if !matches!(run.ending, Ending::Mismatch) {
