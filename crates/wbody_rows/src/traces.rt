@@ -42,8 +42,8 @@ fn outcome(alloc: Global, number: usize) -> Result<Outcome, AllocError> {
     Ok(outcome)
 }
 
-/// Adds the first outcome, from one of this number on, that the next operator asks for; or none
-/// where it asks for none of them.
+/// Adds the first outcome, from the one with this number on, that the next operator asks for.
+/// Answers whether the run then asks for another one.
 fn add_outcome(
     alloc: Global,
     source: &NamedBody,
@@ -53,11 +53,12 @@ fn add_outcome(
 ) -> Result<bool, AllocError> {
     for number in 0..CHOICES {
         outcomes.push(outcome(alloc, first.wrapping_add(number))?)?;
-        let run = execute(source, outcomes, turns)?;
-        if !matches!(run.ending, Ending::Mismatch) {
-            return Ok(true);
+        match execute(source, outcomes, turns)?.ending {
+            Ending::Mismatch => {
+                outcomes.pop();
+            }
+            ending => return Ok(matches!(ending, Ending::OutcomesOut)),
         }
-        outcomes.pop();
     }
     Ok(false)
 }
@@ -70,13 +71,14 @@ fn outcomes(
     seed: usize,
 ) -> Result<Vec<Outcome>, AllocError> {
     let mut outcomes = Vec::new(alloc);
+    let run = execute(source, &outcomes, turns)?;
+    let mut asks = matches!(run.ending, Ending::OutcomesOut);
     for step in 0..STEPS {
-        let run = execute(source, &outcomes, turns)?;
-        let first = seed.wrapping_mul(3).wrapping_add(step);
-        let is_over = !matches!(run.ending, Ending::OutcomesOut);
-        if is_over || !add_outcome(alloc, source, &mut outcomes, turns, first)? {
+        if !asks {
             break;
         }
+        let first = seed.wrapping_mul(3).wrapping_add(step);
+        asks = add_outcome(alloc, source, &mut outcomes, turns, first)?;
     }
     Ok(outcomes)
 }
