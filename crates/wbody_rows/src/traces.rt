@@ -148,6 +148,10 @@ pub(crate) fn compare_runs(
             let outcomes = outcomes(alloc, source, turns, seed)?;
             let run = execute(source, &outcomes, turns)?;
             compare(source, &run, text, &execute(text, &outcomes, turns)?)?;
+            // A body that asks for no outcome gets the same list by every seed.
+            if outcomes.is_empty() {
+                break;
+            }
         }
     }
     Ok(())
