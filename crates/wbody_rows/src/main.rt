@@ -1,7 +1,16 @@
 //! The program `wbody_rows`: runs the cases that it reads from standard input through the program
-//! `wbody`, over memory.
+//! `wbody`, over memory. Of each body that is accepted it reads back what is written, and runs both.
 #![tactic(auto)]
 
+mod demo;
+mod fault;
+mod read_back;
+mod traces;
+
+use crate::demo::Demo;
+use crate::fault::Fault;
+use crate::read_back::read_back;
+use crate::traces::compare_runs;
 use std::alloc::{AllocError, Global};
 use std::io;
 use std::io::{BufRead, BufReader};
@@ -14,6 +23,37 @@ struct Answer {
     status: String,
     out: String,
     err: String,
+}
+
+/// A case: words with one space between them, and the answer that is wanted of them.
+#[derive(Drop)]
+struct Row {
+    words: String,
+    wanted: Answer,
+}
+
+impl Row {
+    /// The case that a line spells, four fields with a tab between them.
+    fn read(alloc: Global, line: &str) -> Result<Row, AllocError> {
+        let mut fields = line.split('\t');
+        Ok(Row {
+            words: fields.next().unwrap_or("").to_string(alloc)?,
+            wanted: Answer {
+                status: fields.next().unwrap_or("").to_string(alloc)?,
+                out: fields.next().unwrap_or("").to_string(alloc)?,
+                err: fields.next().unwrap_or("").to_string(alloc)?,
+            },
+        })
+    }
+}
+
+/// How many cases and bodies there were, and how many of each are not as they should be.
+#[derive(Clone, Copy)]
+struct Counts {
+    rows: u64,
+    rows_differ: u64,
+    bodies: u64,
+    bodies_differ: u64,
 }
 
 /// The lines of a text, with `;` between them.
@@ -45,34 +85,68 @@ fn found(alloc: Global, words: &str) -> Result<Answer, AllocError> {
     })
 }
 
-/// Whether the case, four fields with a tab between them, has the answer that it names; its words,
-/// and what was found instead, otherwise.
-fn difference(alloc: Global, case: &str) -> Result<Option<String>, AllocError> {
-    let mut fields = case.split('\t');
-    let words = fields.next().unwrap_or("");
-    let wanted = Answer {
-        status: fields.next().unwrap_or("").to_string(alloc)?,
-        out: fields.next().unwrap_or("").to_string(alloc)?,
-        err: fields.next().unwrap_or("").to_string(alloc)?,
+/// Reads back what is written of the body that the last of these words spells, and runs both.
+fn check_body(alloc: Global, demo: &Demo, words: &str) -> Result<(), Fault> {
+    let bytes = hex::decode(alloc, words.rsplit(' ').next().unwrap_or(""))?;
+    let source = demo.source(&bytes);
+    let written = read_back(alloc, demo, source)?;
+    let text = match demo.named(alloc, written.body()) {
+        Ok(text) => text,
+        Err(fault) => return Err(Fault::NotReadBack.unless(fault == Fault::Memory)),
     };
-    let found = found(alloc, words)?;
-    if found == wanted {
-        return Ok(None);
+    compare_runs(alloc, &demo.named(alloc, source)?, &text)
+}
+
+/// What is wrong with the body of these words, if anything is.
+fn body_fault(alloc: Global, demo: &Demo, words: &str) -> Result<Option<Fault>, AllocError> {
+    match check_body(alloc, demo, words) {
+        Ok(()) => Ok(None),
+        Err(Fault::Memory) => Err(AllocError),
+        Err(fault) => Ok(Some(fault)),
     }
-    let Answer { status, out, err } = found;
-    Ok(Some(format!(in alloc; "{words}: {status} {out} {err}")?))
+}
+
+impl Counts {
+    /// Counts a case, and the body of one that is accepted; prints its words where it is not as it
+    /// should be, and what was found instead.
+    fn take(&mut self, rt: &HostRuntime, demo: &Demo, row: &Row) -> io::Result<()> {
+        let words = row.words.as_str();
+        let found = found(rt.alloc(), words)?;
+        self.rows = self.rows.saturating_add(1);
+        if found != row.wanted {
+            self.rows_differ = self.rows_differ.saturating_add(1);
+            let Answer { status, out, err } = &found;
+            println!(rt; "{words}: {status} {out} {err}")?;
+        }
+        if found.status.as_str() == "0" {
+            self.bodies = self.bodies.saturating_add(1);
+            if let Some(fault) = body_fault(rt.alloc(), demo, words)? {
+                self.bodies_differ = self.bodies_differ.saturating_add(1);
+                println!(rt; "{words}: {fault}")?;
+            }
+        }
+        Ok(())
+    }
 }
 
 fn main(rt: HostRuntime) -> io::Result<()> {
     let alloc = rt.alloc();
-    let mut rows: u64 = 0;
-    let mut differ: u64 = 0;
-    for case in BufReader::new(alloc, rt.reader())?.lines(alloc) {
-        rows = rows.saturating_add(1);
-        if let Some(line) = difference(alloc, case?.as_str())? {
-            differ = differ.saturating_add(1);
-            println!(rt; "{line}")?;
-        }
+    let demo = Demo::new(alloc)?;
+    let mut counts = Counts {
+        rows: 0,
+        rows_differ: 0,
+        bodies: 0,
+        bodies_differ: 0,
+    };
+    for line in BufReader::new(alloc, rt.reader())?.lines(alloc) {
+        counts.take(&rt, &demo, &Row::read(alloc, line?.as_str())?)?;
     }
-    println!(rt; "{rows} rows, {differ} differ")
+    let Counts {
+        rows,
+        rows_differ,
+        bodies,
+        bodies_differ,
+    } = counts;
+    println!(rt; "{rows} rows, {rows_differ} differ")?;
+    println!(rt; "{bodies} bodies read back and traced, {bodies_differ} differ")
 }

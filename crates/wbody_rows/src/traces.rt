@@ -1,0 +1,158 @@
+//! Runs of a body and of what is written of it.
+
+use crate::fault::Fault;
+use std::alloc::{AllocError, Global};
+use std::collections::BTreeSet;
+use walrus_ir::TagId;
+use walrus_run::{Ending, Event, NamedBody, Outcome, Run, execute};
+
+/// How many outcomes there are to choose from.
+const CHOICES: usize = 8;
+
+/// How many outcomes a run is given at most.
+const STEPS: usize = 10;
+
+/// How many lists of outcomes there are for each number of turns.
+const SEEDS: usize = 3;
+
+/// The numbers of turns.
+const TURNS: [u64; 2] = [0, 2];
+
+/// So many of the module's tags, from the first on.
+fn tags(alloc: Global, count: usize) -> Result<BTreeSet<TagId>, AllocError> {
+    let mut tags = BTreeSet::new(alloc);
+    for tag in 0..count {
+        tags.insert(TagId::new(tag))?;
+    }
+    Ok(tags)
+}
+
+/// An outcome to be tried, by its number.
+fn outcome(alloc: Global, number: usize) -> Result<Outcome, AllocError> {
+    let outcome = match number % CHOICES {
+        0 => Outcome::Way(true),
+        1 => Outcome::Entry(0),
+        2 => Outcome::Raise(tags(alloc, 1)?),
+        3 => Outcome::Go,
+        4 => Outcome::Way(false),
+        5 => Outcome::Entry(1),
+        6 => Outcome::Raise(tags(alloc, 2)?),
+        _ => Outcome::Trap,
+    };
+    Ok(outcome)
+}
+
+/// Adds the first outcome, from the one with this number on, that the next operator asks for.
+/// Answers whether the run then asks for another one.
+fn add_outcome(
+    alloc: Global,
+    source: &NamedBody,
+    outcomes: &mut Vec<Outcome>,
+    turns: u64,
+    first: usize,
+) -> Result<bool, AllocError> {
+    for number in 0..CHOICES {
+        outcomes.push(outcome(alloc, first.wrapping_add(number))?)?;
+        match execute(source, outcomes, turns)?.ending {
+            Ending::Mismatch => {
+                outcomes.pop();
+            }
+            ending => return Ok(matches!(ending, Ending::OutcomesOut)),
+        }
+    }
+    Ok(false)
+}
+
+/// Outcomes that a body asks for in so many turns. Another seed mostly gives other ones.
+fn outcomes(
+    alloc: Global,
+    source: &NamedBody,
+    turns: u64,
+    seed: usize,
+) -> Result<Vec<Outcome>, AllocError> {
+    let mut outcomes = Vec::new(alloc);
+    let run = execute(source, &outcomes, turns)?;
+    let mut asks = matches!(run.ending, Ending::OutcomesOut);
+    for step in 0..STEPS {
+        if !asks {
+            break;
+        }
+        let first = seed.wrapping_mul(3).wrapping_add(step);
+        asks = add_outcome(alloc, source, &mut outcomes, turns, first)?;
+    }
+    Ok(outcomes)
+}
+
+/// Whether both bodies have an operator at these positions, and the same one.
+fn is_same_operator(source: &NamedBody, i: usize, text: &NamedBody, j: usize) -> bool {
+    match (source.ops().get(i), text.ops().get(j)) {
+        (Some(operator), Some(other)) => operator == other,
+        _ => false,
+    }
+}
+
+/// Whether an event of a body shows the same as one of another body.
+fn is_same_event(source: &NamedBody, event: &Event, text: &NamedBody, other: &Event) -> bool {
+    match (event, other) {
+        (Event::Op(i), Event::Op(j)) => is_same_operator(source, *i, text, *j),
+        (
+            Event::Taken { i, clause, tag },
+            Event::Taken {
+                i: j,
+                clause: other_clause,
+                tag: other_tag,
+            },
+        ) => is_same_operator(source, *i, text, *j) && clause == other_clause && tag == other_tag,
+        _ => false,
+    }
+}
+
+fn is_same_ending(ending: &Ending, other: &Ending) -> bool {
+    match (ending, other) {
+        (Ending::Escaped(tags), Ending::Escaped(others)) => tags == others,
+        (Ending::Returned, Ending::Returned)
+        | (Ending::TailCalled, Ending::TailCalled)
+        | (Ending::Trapped, Ending::Trapped)
+        | (Ending::OutcomesOut, Ending::OutcomesOut)
+        | (Ending::TurnsOut, Ending::TurnsOut)
+        | (Ending::Mismatch, Ending::Mismatch) => true,
+        _ => false,
+    }
+}
+
+/// Compares a run of a body with one of another body.
+fn compare(source: &NamedBody, run: &Run, text: &NamedBody, other: &Run) -> Result<(), Fault> {
+    if run.events.len() != other.events.len() {
+        return Err(Fault::OtherEvents);
+    }
+    for (event, other) in run.events.iter().zip(other.events.iter()) {
+        if !is_same_event(source, event, text, other) {
+            return Err(Fault::OtherEvents);
+        }
+    }
+    if !is_same_ending(&run.ending, &other.ending) {
+        return Err(Fault::OtherEnding);
+    }
+    Ok(())
+}
+
+/// Runs a body and what is written of it for several lists of outcomes and numbers of turns: they
+/// execute the same operators and end alike.
+pub(crate) fn compare_runs(
+    alloc: Global,
+    source: &NamedBody,
+    text: &NamedBody,
+) -> Result<(), Fault> {
+    for turns in TURNS {
+        for seed in 0..SEEDS {
+            let outcomes = outcomes(alloc, source, turns, seed)?;
+            let run = execute(source, &outcomes, turns)?;
+            compare(source, &run, text, &execute(text, &outcomes, turns)?)?;
+            // A body that asks for no outcome gets the same list by every seed.
+            if outcomes.is_empty() {
+                break;
+            }
+        }
+    }
+    Ok(())
+}
