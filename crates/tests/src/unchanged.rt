@@ -38,7 +38,7 @@ struct Numbers {
 }
 
 // The numbers of these ids.
-fn numbers(alloc: Global, order: Order) -> Result<Numbers, Fail> {
+fn numbers_of(alloc: Global, order: Order) -> Result<Numbers, Fail> {
     let mut out = IdsToIndices::new(alloc);
     for id in order.functions {
         out.push_func(FunctionId::new(*id))?;
@@ -79,7 +79,7 @@ fn push_written(
 fn twice(alloc: Global, before: Order, after: Order, ops: &str) -> Result<String, Fail> {
     let demo = demo(alloc, 0)?;
     let ops = hex::decode(alloc, ops)?;
-    let numbers = numbers(alloc, after)?;
+    let numbers = numbers_of(alloc, after)?;
     let mut text = String::new(alloc);
     let first = push_written(
         alloc,

@@ -1,0 +1,41 @@
+use Rattle.wasm_body.specs.NormalForm.{body_tree}
+use Rattle.walrus_body.specs.Environments.{environment_of}
+use Rattle.walrus_body.specs.TreeWriting.Operators.{numbers_by}
+use Rattle.walrus_run.proofs.RewritingLemmas.{begins}
+use Rattle.tests.proofs.ReadBackLemmas.{is_written, only_bytes, no_fault}
+use Rattle.tests.proofs.read_back.rewritten.Goals as goal
+
+pub written-requires : goal.written-requires
+written-requires c =
+    let a = c.args in
+    let read = c.in-Ok.ensures.accepted in
+    begins c.in-Ok.function.builder (body_tree (environment_of a.module.now a.indices.now a.id a.ty) read.body) read.is_function
+
+pub returns-in-Ok-written-clause-written : goal.returns-in-Ok-written-clause-written
+returns-in-Ok-written-clause-written c =
+    let a = c.args in
+    let made = c.in-Ok-written.ensures.ok in
+    is_written (environment_of a.module.now a.indices.now a.id a.ty) (numbers_by a.out.now a.locals.now.entries) a.ops.now
+    c.in-Ok.function.builder c.in-Ok.ensures.accepted made.0 made.1 c.in-Ok-written.bytes.items made.2
+
+pub returns-in-Ok-written-clause-each_body : goal.returns-in-Ok-written-clause-each_body
+returns-in-Ok-written-clause-each_body c bytes has =
+    let a = c.args in
+    let made = c.in-Ok-written.ensures.ok in (
+      tt,
+      only_bytes (environment_of a.module.now a.indices.now a.id a.ty) (numbers_by a.out.now a.locals.now.entries) a.ops.now
+      c.in-Ok.function.builder c.in-Ok.ensures.accepted bytes has made.0 made.1 c.in-Ok-written.bytes.items made.2,
+    )
+
+pub returns-in-Ok-clause-each_body : goal.returns-in-Ok-clause-each_body
+returns-in-Ok-clause-each_body c bytes has =
+    let a = c.args in (
+      no_fault (environment_of a.module.now a.indices.now a.id a.ty) (numbers_by a.out.now a.locals.now.entries) a.ops.now
+      c.in-Ok.function.builder c.in-Ok.ensures.accepted bytes has c.in-Err-written.fault c.in-Err-written.ensures.err,
+      tt,
+    )
+
+pub returns-clause-each_body : goal.returns-clause-each_body
+returns-clause-each_body c bytes has =
+    let everywhere = has.accepted (λ n. n) in
+    (c.in-Err.ensures.each_body (λ n. n) (has.body (λ n. n)) everywhere, tt)

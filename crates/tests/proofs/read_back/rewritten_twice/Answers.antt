@@ -1,0 +1,24 @@
+use Rattle.std.proofs.Common.{sym, subst}
+use Rattle.walrus_body.specs.Environments.{environment_of}
+use Rattle.walrus_body.specs.TreeWriting.Operators.{numbers_by}
+use Rattle.tests.specs.ReadBack.{HasBytes}
+use Rattle.tests.proofs.ReadBackLemmas.{has_itself}
+use Rattle.tests.proofs.read_back.rewritten_twice.Goals as goal
+
+pub returns-in-Ok-rewritten-clause-unchanged : goal.returns-in-Ok-rewritten-clause-unchanged
+returns-in-Ok-rewritten-clause-unchanged c =
+    let a = c.args in
+    let to = numbers_by a.out.now a.locals.now.entries in
+    let first = c.in-Ok.bytes.items in
+    let itself = has_itself a.module.now a.indices.now a.again.now a.id a.ty to c.requires.undone c.law_inverse_undoes.ensures c.law_accepted_again.ensures a.ops.now first c.in-Ok.ensures.written in
+    let answer = c.in-Ok-rewritten.ensures.each_body first (subst (λ l. HasBytes (environment_of a.module.now a.again.now a.id a.ty) to l first) (sym c.deref.ensures.value) itself) in
+    answer.1
+
+pub returns-in-Err-rewritten-clause-each_body : goal.returns-in-Err-rewritten-clause-each_body
+returns-in-Err-rewritten-clause-each_body c bytes has =
+    let a = c.args in
+    let to = numbers_by a.out.now a.locals.now.entries in
+    let first = c.in-Ok.bytes.items in
+    let itself = has_itself a.module.now a.indices.now a.again.now a.id a.ty to c.requires.undone c.law_inverse_undoes.ensures c.law_accepted_again.ensures a.ops.now first c.in-Ok.ensures.written in
+    let answer = c.in-Err-rewritten.ensures.each_body first (subst (λ l. HasBytes (environment_of a.module.now a.again.now a.id a.ty) to l first) (sym c.deref.ensures.value) itself) in
+    answer.0
