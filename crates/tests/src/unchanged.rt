@@ -50,54 +50,61 @@ fn numbers_of(alloc: Global, order: Order) -> Result<Numbers, Fail> {
     Ok(Numbers { out, locals })
 }
 
-// Reads operators of the function 0 over the demo module, and appends what is written of them and
-// the sequences that were read.
+// Reads operators of the function 0 over the demo module, where indices stand for ids in this order,
+// and appends what is written of them and the sequences that were read.
 fn push_written(
     alloc: Global,
     demo: &Example,
-    ids: &IndicesToIds,
+    order: Order,
     ops: &[u8],
     numbers: &Numbers,
     text: &mut String,
 ) -> Result<Vec<u8>, Fail>
     requires { demo.now.module.code_section_offset ≡ 0 }
 {
+    let ids = ids(alloc, order)?;
     let id = FunctionId::new(0);
-    let function = read(alloc, &demo.module, ids, id, TypeId::new(1), ops)?;
+    let function = read(alloc, &demo.module, &ids, id, TypeId::new(1), ops)?;
     if !function.has_entry() {
         return Ok(Vec::new(alloc));
     }
     let bytes = written(alloc, &function, &numbers.out, &numbers.locals)?;
-    for byte in &bytes {
-        write!(text, "{byte:02x}")?;
-    }
+    push_hexadecimal(text, &bytes)?;
     push_sequences(text, &function)?;
     Ok(bytes)
+}
+
+fn push_hexadecimal(text: &mut String, bytes: &[u8]) -> Result<(), AllocError> {
+    for byte in bytes {
+        write!(text, "{byte:02x}")?;
+    }
+    Ok(())
+}
+
+// The same of what is written.
+fn push_both(
+    demo: &Example,
+    before: Order,
+    after: Order,
+    ops: &[u8],
+    text: &mut String,
+) -> Result<(), Fail>
+    requires { demo.now.module.code_section_offset ≡ 0 }
+{
+    let alloc = *text.allocator();
+    let numbers = numbers_of(alloc, after)?;
+    let first = push_written(alloc, demo, before, ops, &numbers, text)?;
+    text.push_str("; ")?;
+    push_written(alloc, demo, after, &first, &numbers, text)?;
+    Ok(())
 }
 
 // What is written of operators, and their sequences; and the same of what is written.
 fn twice(alloc: Global, before: Order, after: Order, ops: &str) -> Result<String, Fail> {
     let demo = demo(alloc, 0)?;
     let ops = hex::decode(alloc, ops)?;
-    let numbers = numbers_of(alloc, after)?;
     let mut text = String::new(alloc);
-    let first = push_written(
-        alloc,
-        &demo,
-        &ids(alloc, before)?,
-        &ops,
-        &numbers,
-        &mut text,
-    )?;
-    text.push_str("; ")?;
-    push_written(
-        alloc,
-        &demo,
-        &ids(alloc, after)?,
-        &first,
-        &numbers,
-        &mut text,
-    )?;
+    push_both(&demo, before, after, &ops, &mut text)?;
     Ok(text)
 }
 

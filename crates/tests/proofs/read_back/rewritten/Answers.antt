@@ -24,14 +24,14 @@ returns-in-Ok-written-clause-each_body c bytes has =
     let made = c.in-Ok-written.ensures.ok in (
       tt,
       only_bytes (environment_of a.module.now a.indices.now a.id a.ty) (numbers_by a.out.now a.locals.now.entries) a.ops.now
-      c.in-Ok.function.builder c.in-Ok.ensures.accepted bytes has made.0 made.1 c.in-Ok-written.bytes.items made.2,
+          c.in-Ok.function.builder c.in-Ok.ensures.accepted bytes has made.0 made.1 c.in-Ok-written.bytes.items made.2,
     )
 
 pub returns-in-Ok-clause-each_body : goal.returns-in-Ok-clause-each_body
 returns-in-Ok-clause-each_body c bytes has =
     let a = c.args in (
       no_fault (environment_of a.module.now a.indices.now a.id a.ty) (numbers_by a.out.now a.locals.now.entries) a.ops.now
-      c.in-Ok.function.builder c.in-Ok.ensures.accepted bytes has c.in-Err-written.fault c.in-Err-written.ensures.err,
+          c.in-Ok.function.builder c.in-Ok.ensures.accepted bytes has c.in-Err-written.fault c.in-Err-written.ensures.err,
       tt,
     )
 
