@@ -1,28 +1,38 @@
 -- Reading back: the contracts of parsing and of writing, and the laws, put together.
-use Rattle.std.specs.Prelude.{◌≡◌, ◌⊎◌, ℕ, List, [], ◌∷◌, length, drop, Option, Some, IsOk, IfOk, IfErr, Result, Ok, Err}
+use Rattle.std.specs.Prelude.{◌≡◌, ◌⊎◌, ◌<◌, ℕ, List, [], ◌∷◌, length, Some, IsOk, unwrap_or, Result, Ok, Err}
 use Rattle.std.specs.List.{AllByRecursion}
 use Rattle.std.proofs.Common.{inl, inr, refl, sym, ap, subst, ◌∙◌}
+use Rattle.std.proofs.lemmas.Option.{slice_get_within}
+use Rattle.walrus_ir.specs.Tree.{Sequences}
+use Rattle.walrus_ir.specs.Unfolding.{SequenceAt, LocatedInstr, AreSequences, are_sequences}
 use Rattle.walrus_ir.specs.declared.module.Module.{Module}
 use Rattle.walrus_ir.specs.Function.{Function}
 use Rattle.walrus_ir.specs.Faults.{FirstWalkFault}
-use Rattle.walrus_ir.proofs.WalkLaws.{tree_has_no_fault}
+use Rattle.walrus_ir.proofs.WalkLaws.{one_tree, tree_has_no_fault}
 use Rattle.wasm_ops.specs.OperatorList.{Placed}
 use Rattle.wasm_body.specs.declared.error.EmitError.{EmitError}
-use Rattle.wasm_body.specs.declared.error.EmitError.TheVariants.{Memory}
+use Rattle.wasm_body.specs.declared.error.EmitError.TheVariants.{Memory, Index, UnnumberedLocal}
+use Rattle.wasm_body.specs.declared.error.IndexError.TheVariants.{Unnumbered}
+use Rattle.walrus_ir.specs.Results.{some_or, with_fault}
+use Rattle.std.specs.Ordering.{nat_cmp}
+use Rattle.std.specs.FinMap.{empty, get, from_entries, get-empty}
+use Rattle.wasm_ops.specs.declared.types.Space.{Space}
+use Rattle.walrus_body.specs.declared.ids_to_indices.IdsToIndices.{IdsToIndices}
+use Rattle.walrus_body.specs.IndexMaps.{numbers_in}
+use Rattle.walrus_body.specs.TreeWriting.Operators.{numbers_by}
 use Rattle.wasm_body.specs.Naming.{Environment, Occurrence}
 use Rattle.wasm_body.specs.SourceTree.{Body}
 use Rattle.wasm_body.specs.FunctionTree.{FunctionTree}
-use Rattle.wasm_body.specs.TreeOfFunction.{HasTree}
+use Rattle.wasm_body.specs.TreeOfFunction.{tree_of, HasTree}
 use Rattle.wasm_body.specs.NormalForm.{body_tree}
 use Rattle.wasm_body.specs.Bytes.{Numbers, tree_bytes}
 use Rattle.wasm_body.specs.Parsing.Accepted.{Accepted, validated}
 use Rattle.wasm_body.specs.ReadBack.{IsInverse, InverseUndoes, AcceptedAgain, AreReadable, IsAcceptedAgain}
 use Rattle.walrus_body.specs.declared.indices_to_ids.IndicesToIds.{IndicesToIds}
 use Rattle.walrus_body.specs.Environments.{environment_of}
-use Rattle.walrus_body.specs.LocalFunctions.{first_slot}
+use Rattle.walrus_body.specs.LocalFunctions.{first_slot, HasEntry}
 use Rattle.walrus_body.specs.Parsing.Bodies.{IsFunction}
 use Rattle.walrus_body.specs.TreeWriting.EmittedInstructions.{IsUnemitted}
-use Rattle.walrus_run.proofs.RewritingLemmas.{one_function, from_slot}
 use Rattle.tests.specs.ReadBack.{reading_by, IsReadAs, IsWrittenAs, HasBytes}
 
 -- ---- a function that was read has one tree
@@ -31,11 +41,21 @@ module _ (env : Environment) (to : Numbers) (ops : List ℕ) (f : Function) (rea
   abbrev tree : FunctionTree
   tree = body_tree env read.body
 
+  slot_is : first_slot f ≡ 0
+  slot_is = ap (λ e. unwrap_or e 0) read.is_function.entry
+
   its_tree : HasTree f.sequences (first_slot f) tree
-  its_tree = from_slot f tree read.is_function
+  its_tree = subst (λ n. HasTree f.sequences n tree) (sym slot_is) read.is_function.holds
 
   only_tree : (t : FunctionTree) → HasTree f.sequences (first_slot f) t → t ≡ tree
-  only_tree t h = one_function f.sequences (first_slot f) t tree h its_tree
+  only_tree t h = sym h.is ∙ (ap tree_of (one_tree f.sequences (first_slot f) h.unfolded its_tree.unfolded h.is_tree its_tree.is_tree) ∙ its_tree.is)
+
+  -- it begins with a sequence of its builder
+  pub begins : HasEntry f
+  begins = record { is = read.is_function.entry ∙ ap Some (sym slot_is); stands = within (first_slot f) its_tree.is_tree.unfolds }
+    where
+      within : (slot : ℕ) {rest : Sequences SequenceAt LocatedInstr} → AreSequences f.sequences (slot ∷ []) rest → slot < length f.sequences
+      within slot (are_sequences stands items rest) = slice_get_within f.sequences slot _ stands
 
   -- its bytes are those of the body's normal form
   pub is_written : (t : FunctionTree) → HasTree f.sequences (first_slot f) t → (bytes : List ℕ) → tree_bytes to t ≡ Ok bytes → IsWrittenAs env to ops bytes
@@ -101,3 +121,14 @@ module _ (m : Module) (from again : IndicesToIds) (id type : ℕ) (to : Numbers)
       accepted = λ locate. (read_again locate).accepted;
       bytes_are = λ locate b accepted. (read_again locate).unchanged b accepted;
     }
+
+-- ---- where there is no number, all are undone
+
+no_number : (r : Result ℕ EmitError) (e : EmitError) (n : ℕ) {A : Type 0} → r ≡ Err e → r ≡ Ok n → A
+no_number r e n {A} x y = let both : (let q : Result ℕ EmitError = Err e in q) ≡ Ok n = sym x ∙ y in absurd cc
+
+pub none_undone : (out : IdsToIndices) (locals : List (ℕ × ℕ)) (again : Environment) → ((space : Space) → numbers_in out space ≡ empty) → locals ≡ [] → IsInverse (numbers_by out locals) again
+none_undone out locals again none no_locals = record {
+  indices = λ space id n h. no_number ((numbers_by out locals).number_of space id) (Index (Unnumbered space)) n (ap (λ m. with_fault Index (some_or (get m id) (Unnumbered space))) (none space) ∙ ap (λ o. with_fault Index (some_or o (Unnumbered space))) (get-empty nat_cmp id)) h;
+  locals = λ id n h. no_number ((numbers_by out locals).local_number id) UnnumberedLocal n (ap (λ l. some_or (get (from_entries {R = nat_cmp} l) id) UnnumberedLocal) no_locals ∙ ap (λ o. some_or o UnnumberedLocal) (get-empty nat_cmp id)) h;
+}

@@ -4,11 +4,12 @@ ghost use Rattle.std.specs.Prelude.{◌≡◌};
 
 use crate::demo_module::demo;
 use crate::function_text::push_sequences;
+use crate::index_maps::give;
 use crate::read_back::{read, rewritten_twice, written};
 use crate::small_module::Example;
 use std::alloc::{AllocError, Global};
 use std::test::Fail;
-use walrus_body::{IdsToIndices, IndexError, IndicesToIds};
+use walrus_body::{IdsToIndices, IndexError, IndicesToIds, Space};
 use walrus_ir::{FunctionId, IdHashMap, LocalId, TypeId};
 
 /// Functions, and the locals of the function 0, in the order of their numbers.
@@ -41,11 +42,11 @@ struct Numbers {
 fn numbers_of(alloc: Global, order: Order) -> Result<Numbers, Fail> {
     let mut out = IdsToIndices::new(alloc);
     for id in order.functions {
-        out.push_func(FunctionId::new(*id))?;
+        give(&mut out, Space::Funcs, *id)?;
     }
     let mut locals = IdHashMap::new(alloc);
-    for (number, id) in order.locals.iter().enumerate() {
-        locals.insert(LocalId::new(*id), number as u32)?;
+    for (number, id) in (0..u32::MAX).zip(order.locals.iter()) {
+        locals.insert(LocalId::new(*id), number)?;
     }
     Ok(Numbers { out, locals })
 }

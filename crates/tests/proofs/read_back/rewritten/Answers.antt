@@ -1,15 +1,13 @@
-use Rattle.wasm_body.specs.NormalForm.{body_tree}
 use Rattle.walrus_body.specs.Environments.{environment_of}
 use Rattle.walrus_body.specs.TreeWriting.Operators.{numbers_by}
-use Rattle.walrus_run.proofs.RewritingLemmas.{begins}
-use Rattle.tests.proofs.ReadBackLemmas.{is_written, only_bytes, no_fault}
+use Rattle.tests.proofs.ReadBackLemmas.{begins, is_written, only_bytes, no_fault}
 use Rattle.tests.proofs.read_back.rewritten.Goals as goal
 
 pub written-requires : goal.written-requires
 written-requires c =
     let a = c.args in
-    let read = c.in-Ok.ensures.accepted in
-    begins c.in-Ok.function.builder (body_tree (environment_of a.module.now a.indices.now a.id a.ty) read.body) read.is_function
+    begins (environment_of a.module.now a.indices.now a.id a.ty) (numbers_by a.out.now a.locals.now.entries) a.ops.now
+    c.in-Ok.function.builder c.in-Ok.ensures.accepted
 
 pub returns-in-Ok-written-clause-written : goal.returns-in-Ok-written-clause-written
 returns-in-Ok-written-clause-written c =
