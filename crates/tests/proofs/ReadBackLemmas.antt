@@ -1,5 +1,5 @@
 -- Reading back: the contracts of parsing and of writing, and the laws, put together.
-use Rattle.std.specs.Prelude.{◌≡◌, ◌⊎◌, ◌<◌, ℕ, List, [], ◌∷◌, length, Some, IsOk, unwrap_or, Result, Ok, Err}
+use Rattle.std.specs.Prelude.{◌≡◌, ◌<◌, ℕ, List, [], ◌∷◌, length, Some, IsOk, unwrap_or, Result, Ok, Err}
 use Rattle.std.specs.List.{AllByRecursion}
 use Rattle.std.proofs.Common.{inl, inr, refl, sym, ap, subst, ◌∙◌}
 use Rattle.std.proofs.lemmas.Option.{slice_get_within}
@@ -7,7 +7,6 @@ use Rattle.walrus_ir.specs.Tree.{Sequences}
 use Rattle.walrus_ir.specs.Unfolding.{SequenceAt, LocatedInstr, AreSequences, are_sequences}
 use Rattle.walrus_ir.specs.declared.module.Module.{Module}
 use Rattle.walrus_ir.specs.Function.{Function}
-use Rattle.walrus_ir.specs.Faults.{FirstWalkFault}
 use Rattle.walrus_ir.proofs.WalkLaws.{one_tree, tree_has_no_fault}
 use Rattle.wasm_ops.specs.OperatorList.{Placed}
 use Rattle.wasm_body.specs.declared.error.EmitError.{EmitError}
@@ -20,18 +19,16 @@ use Rattle.wasm_ops.specs.declared.types.Space.{Space}
 use Rattle.walrus_body.specs.declared.ids_to_indices.IdsToIndices.{IdsToIndices}
 use Rattle.walrus_body.specs.IndexMaps.{numbers_in}
 use Rattle.walrus_body.specs.TreeWriting.Operators.{numbers_by}
-use Rattle.wasm_body.specs.Naming.{Environment, Occurrence}
-use Rattle.wasm_body.specs.SourceTree.{Body}
+use Rattle.wasm_body.specs.Naming.{Environment}
 use Rattle.wasm_body.specs.FunctionTree.{FunctionTree}
 use Rattle.wasm_body.specs.TreeOfFunction.{tree_of, HasTree}
 use Rattle.wasm_body.specs.NormalForm.{body_tree}
 use Rattle.wasm_body.specs.Bytes.{Numbers, tree_bytes}
-use Rattle.wasm_body.specs.Parsing.Accepted.{Accepted, validated}
+use Rattle.wasm_body.specs.Parsing.Accepted.{validated}
 use Rattle.wasm_body.specs.ReadBack.{IsInverse, InverseUndoes, AcceptedAgain, AreReadable, IsAcceptedAgain}
 use Rattle.walrus_body.specs.declared.indices_to_ids.IndicesToIds.{IndicesToIds}
 use Rattle.walrus_body.specs.Environments.{environment_of}
 use Rattle.walrus_body.specs.LocalFunctions.{first_slot, HasEntry}
-use Rattle.walrus_body.specs.Parsing.Bodies.{IsFunction}
 use Rattle.walrus_body.specs.TreeWriting.EmittedInstructions.{IsUnemitted}
 use Rattle.tests.specs.ReadBack.{reading_by, IsReadAs, IsWrittenAs, HasBytes}
 
