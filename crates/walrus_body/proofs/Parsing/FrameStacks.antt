@@ -1,12 +1,12 @@
 -- Frames whose instructions stand in one list, one frame behind the other.
 use Rattle.std.specs.Prelude.{◌≡◌, ℕ, zero, suc, ◌+◌, ◌-◌, ◌<◌, ◌≤◌, List, [], ◌∷◌, ◌++◌, length, take, drop, Some, slice_get, slice_set, false, cond}
 use Rattle.std.specs.List.{AllByRecursion}
-use Rattle.std.proofs.lemmas.List.{append-nil, reverse-append, take-append-drop, take-append-le, drop-append-le, take_all, length-take, length-drop, length-append, nil_from_length}
+use Rattle.std.proofs.lemmas.List.{append-nil, reverse-append, take-append-drop, take-append-le, drop-append-le, take_all, length-take, length-drop, length-append}
 use Rattle.std.proofs.Common.{append_assoc, reverse, refl, ap, sym, subst, ◌∙◌, arith}
 use Rattle.walrus_ir.specs.Unfolding.{LocatedInstr}
 use Rattle.walrus_body.specs.declared.local_function.frame.ControlFrame.{ControlFrame}
 use Rattle.walrus_body.specs.Parsing.OpenFrames.{OpenFrame, AreShown, frame_with, changed_at, with_instr, InnerAreEmpty}
-use Rattle.walrus_body.specs.Parsing.FrameStacks.{part, begin_of, frames_in, StartFrom, Divide, moved, moved_from}
+use Rattle.walrus_body.specs.Parsing.FrameStacks.{part, begin_of, frames_in, StartFrom, moved, moved_from}
 
 -- ---- parts of lists
 
@@ -37,24 +37,18 @@ end_within : (low : ℕ) (cs : List ControlFrame) (end : ℕ) → StartFrom low 
 end_within low [] end h = omega arith
 end_within low (f ∷ fs) end h = let a = starts_to f.start fs end h.1 in let b = end_within f.start fs end h.1 in omega arith
 
+-- one frame less, or one more
 pub starts_split : (low : ℕ) (cs : List ControlFrame) (f : ControlFrame) (end : ℕ) → StartFrom low (cs ++ f ∷ []) end → StartFrom low cs f.start × (f.start ≤ end)
 starts_split low [] f end h = (h.0, h.1)
 starts_split low (g ∷ cs) f end h = let r = starts_split g.start cs f end h.1 in ((h.0, r.0), r.1)
 
-starts_append : (low : ℕ) (cs : List ControlFrame) (f : ControlFrame) (end : ℕ) → StartFrom low cs end → f.start ≡ end → StartFrom low (cs ++ f ∷ []) end
+pub starts_append : (low : ℕ) (cs : List ControlFrame) (f : ControlFrame) (end : ℕ) → StartFrom low cs end → f.start ≡ end → StartFrom low (cs ++ f ∷ []) end
 starts_append low [] f end h e = (omega arith, omega arith)
 starts_append low (g ∷ cs) f end h e = (h.0, starts_append g.start cs f end h.1 e)
 
 begin_append : (cs : List ControlFrame) (f : ControlFrame) (end : ℕ) → begin_of (cs ++ f ∷ []) end ≡ begin_of cs f.start
 begin_append [] f end = refl
 begin_append (g ∷ cs) f end = refl
-
--- one frame less, or one more
-pub divide_split : (cs : List ControlFrame) (f : ControlFrame) (end : ℕ) → Divide (cs ++ f ∷ []) end → Divide cs f.start × (f.start ≤ end)
-divide_split cs f end d = let s = starts_split 0 cs f end d.rise in (record { first = sym (begin_append cs f end) ∙ d.first; rise = s.0 }, s.1)
-
-pub divide_append : (cs : List ControlFrame) (f : ControlFrame) (end : ℕ) → Divide cs end → f.start ≡ end → Divide (cs ++ f ∷ []) end
-divide_append cs f end d e = record { first = begin_append cs f end ∙ ap (begin_of cs) e ∙ d.first; rise = starts_append 0 cs f end d.rise e }
 
 -- what the first of some frames is, where these are behind it
 abbrev first_in : List LocatedInstr → List ControlFrame → ControlFrame → OpenFrame
@@ -89,17 +83,14 @@ begin_set [] i f h end at e = refl
 begin_set (g ∷ cs) zero f h end at e = let same : g ≡ f = cc in e ∙ ap (λ x. x.start) (sym same)
 begin_set (g ∷ cs) (suc i) f h end at e = refl
 
-starts_set : (low : ℕ) (cs : List ControlFrame) (i : ℕ) (f h : ControlFrame) (end : ℕ) → slice_get cs i ≡ Some f → h.start ≡ f.start → StartFrom low cs end → StartFrom low (slice_set cs i h) end
+-- a frame that begins where it did
+pub starts_set : (low : ℕ) (cs : List ControlFrame) (i : ℕ) (f h : ControlFrame) (end : ℕ) → slice_get cs i ≡ Some f → h.start ≡ f.start → StartFrom low cs end → StartFrom low (slice_set cs i h) end
 starts_set low [] i f h end at e s = s
 starts_set low (g ∷ cs) zero f h end at e s =
     let same : g ≡ f = cc in
     let is : h.start ≡ g.start = e ∙ ap (λ x. x.start) (sym same) in
     (let l = s.0 in omega arith, subst (λ k. StartFrom k cs end) (sym is) s.1)
 starts_set low (g ∷ cs) (suc i) f h end at e s = (s.0, starts_set g.start cs i f h end at e s.1)
-
--- a frame that begins where it did
-pub divide_set : (cs : List ControlFrame) (i : ℕ) (f h : ControlFrame) (end : ℕ) → slice_get cs i ≡ Some f → h.start ≡ f.start → Divide cs end → Divide (slice_set cs i h) end
-divide_set cs i f h end at e d = record { first = begin_set cs i f h end at e ∙ d.first; rise = starts_set 0 cs i f h end at e d.rise }
 
 module _ (all : List LocatedInstr) where
   pub count : (outer : List OpenFrame) (cs : List ControlFrame) → length (frames_in all outer cs) ≡ length cs + length outer
@@ -147,11 +138,6 @@ module _ (all : List LocatedInstr) where
 
   pub all_shown : (cs : List ControlFrame) → AreShown (reverse cs) (frames_in all [] cs)
   all_shown cs = subst (λ xs. AreShown xs (frames_in all [] cs)) (append-nil (reverse cs)) (shown_onto [] [] cs tt)
-
-  -- where no frame is open there is no instruction
-  pub none_left : (cs : List ControlFrame) → Divide cs (length all) → frames_in all [] cs ≡ [] → all ≡ []
-  none_left [] d e = nil_from_length all d.first
-  none_left (f ∷ fs) d e = let l = count [] (f ∷ fs) in let n = ap length e in absurd (omega arith)
 
 -- what a change that changes nothing leaves
 pub unchanged_at : (change : OpenFrame → OpenFrame) (fs : List OpenFrame) (n : ℕ) (f : OpenFrame) → slice_get fs n ≡ Some f → change f ≡ f → changed_at n change fs ≡ fs
@@ -257,13 +243,10 @@ all_moved : (low end : ℕ) (cs : List ControlFrame) → low ≤ end + 1 → All
 all_moved low end [] l e = l
 all_moved low end (f ∷ fs) l e = let s = e.0 in (omega arith, all_moved (f.start + 1) end fs (omega arith) e.1)
 
-starts_moved : (low end : ℕ) (cs : List ControlFrame) (i : ℕ) → StartFrom low cs end → BehindAtEnd end i cs → StartFrom low (moved_from (suc i) cs) (end + 1)
+pub starts_moved : (low end : ℕ) (cs : List ControlFrame) (i : ℕ) → StartFrom low cs end → BehindAtEnd end i cs → StartFrom low (moved_from (suc i) cs) (end + 1)
 starts_moved low end [] i h e = omega arith
 starts_moved low end (f ∷ fs) zero h e = let a = starts_to f.start fs end h.1 in let b = end_within f.start fs end h.1 in (h.0, all_moved f.start end fs (omega arith) e)
 starts_moved low end (f ∷ fs) (suc i) h e = (h.0, starts_moved f.start end fs i h.1 e)
-
-pub divide_moved : (end : ℕ) (cs : List ControlFrame) (i : ℕ) → i < length cs → Divide cs end → BehindAtEnd end i cs → Divide (moved_from (suc i) cs) (end + 1)
-divide_moved end cs i less d e = record { first = begin_stays end (end + 1) cs i less ∙ d.first; rise = starts_moved 0 end cs i d.rise e }
 
 -- ---- moving, frame by frame
 

@@ -1,5 +1,5 @@
 -- Frames whose instructions stand in one list, one frame behind the other.
-use Rattle.std.specs.Prelude.{◌≡◌, ℕ, zero, suc, ◌+◌, ◌-◌, ◌≤◌, List, [], ◌∷◌, length, take, drop}
+use Rattle.std.specs.Prelude.{ℕ, zero, suc, ◌+◌, ◌-◌, ◌≤◌, List, [], ◌∷◌, length, take, drop}
 use Rattle.walrus_ir.specs.Unfolding.{LocatedInstr}
 use Rattle.walrus_body.specs.declared.local_function.frame.ControlFrame.{ControlFrame}
 use Rattle.walrus_body.specs.Parsing.OpenFrames.{OpenFrame, frame_with}
@@ -22,11 +22,6 @@ frames_in all outer (f ∷ fs) = frames_in all (frame_with f (part all f.start (
 abbrev pub StartFrom : (low : ℕ) → List ControlFrame → (end : ℕ) → Type 0
 StartFrom low [] end = low ≤ end
 StartFrom low (f ∷ fs) end = (low ≤ f.start) × StartFrom f.start fs end
-
--- Each instruction of a list is in one of the frames.
-pub record Divide (fs : List ControlFrame) (end : ℕ) : Type 0 where
-  pub first : begin_of fs end ≡ 0
-  pub rise : StartFrom 0 fs end
 
 -- a frame that begins one instruction later
 abbrev pub moved : ControlFrame → ControlFrame

@@ -73,21 +73,24 @@ impl Model for FrameStack {
 
     ghost Value = { List OpenFrame };
 
-    ghost use Rattle.walrus_body.specs.Parsing.FrameStacks.{frames_in, Divide};
+    ghost use Rattle.walrus_body.specs.Parsing.FrameStacks.{frames_in, StartFrom};
 
     ghost view = { λ s. frames_in s.instrs.items [] s.controls.items };
 
-    ghost invariant = { λ s. Divide s.controls.items (length s.instrs.items) };
+    ghost invariant = { λ s. StartFrom 0 s.controls.items (length s.instrs.items) };
 }
 
 impl FrameStack {
     /// No frame is open.
-    pub fn new(controls: ControlStack, instrs: Vec<(Instr, InstrLocId)>) -> FrameStack
+    pub fn new(controls: ControlStack, lent: Vec<(Instr, InstrLocId)>) -> FrameStack
         requires none { controls.items ≡ [] }
-        requires empty { instrs.items ≡ [] }
+        requires empty { lent.items ≡ [] }
         ensures { result ≡ [] }
     {
-        FrameStack { controls, instrs }
+        FrameStack {
+            controls,
+            instrs: lent,
+        }
     }
 
     /// The n-th frame from the innermost.
@@ -213,13 +216,16 @@ impl FrameStack {
         add_clause_in(&mut self.instrs[end - 1], catch)
     }
 
-    /// The frames as they are shown, the innermost last, and the list of instructions, which is
-    /// empty where no frame is open.
+    /// The frames as they are shown, the innermost last, and a list without instructions.
     pub fn into_parts(self) -> (ControlStack, Vec<(Instr, InstrLocId)>)
         ensures frames { AreShown (reverse result.0.items) self }
-        ensures empty { self ≡ [] → result.1.items ≡ [] }
+        ensures empty { result.1.items ≡ [] }
     {
-        let FrameStack { controls, instrs } = self;
+        let FrameStack {
+            controls,
+            mut instrs,
+        } = self;
+        instrs.clear();
         (controls, instrs)
     }
 }

@@ -3,7 +3,7 @@ use Rattle.std.proofs.lemmas.List.{length-set}
 use Rattle.std.proofs.lemmas.Option.{slice_get-get_or}
 use Rattle.std.proofs.lemmas.Result.{on_ok_weaker, on_err_weaker}
 use Rattle.walrus_body.specs.declared.local_function.frame.ControlFrame.{ControlFrame}
-use Rattle.walrus_body.specs.Parsing.FrameStacks.{Divide}
+use Rattle.walrus_body.specs.Parsing.FrameStacks.{StartFrom}
 use Rattle.walrus_body.specs.Parsing.OpenFrames.{with_clause_around}
 use Rattle.walrus_body.proofs.Parsing.FrameStacks.{count}
 use Rattle.walrus_body.proofs.Parsing.LastClauses.{few, passes, inside, lacks, adds, has_none, stays, some_same}
@@ -45,7 +45,7 @@ returns-then-start-end-clause-err c =
     let behind = slice_get-get_or cs (i + 1) h (omega arith) ∙ ap Some (sym c.index-3.ensures) in
     let same = ap (λ (k : ControlFrame). k.start) (some_same f g (sym at ∙ again)) in
     let none = c.if-start-end.true in
-    inr (ap (with_clause_around c.args.catch) (sym c.self.view_is) ∙ lacks c.args.catch stack.instrs.items cs i f h c.self.invariant.rise is at behind c.if-index.false (omega arith))
+    inr (ap (with_clause_around c.args.catch) (sym c.self.view_is) ∙ lacks c.args.catch stack.instrs.items cs i f h c.self.invariant is at behind c.if-index.false (omega arith))
 
 pub index_mut-requires : goal.index_mut-requires
 index_mut-requires c =
@@ -59,14 +59,14 @@ index_mut-requires c =
     let is : i + 2 ≡ length cs = omega arith in
     let at = slice_get-get_or cs i f (omega arith) ∙ ap Some (sym c.index.ensures) in
     let behind = slice_get-get_or cs (i + 1) h (omega arith) ∙ ap Some (sym c.index-3.ensures) in
-    let within = (inside c.args.catch stack.instrs.items cs i f h c.self.invariant.rise is at behind).1 in
+    let within = (inside c.args.catch stack.instrs.items cs i f h c.self.invariant is at behind).1 in
     let some = c.if-start-end.false in
     omega arith
 
 pub invariant_of-self : goal.invariant_of-self
 invariant_of-self c =
     let stack = c.self.inside in
-    subst (Divide stack.controls.items) (sym (length-set stack.instrs.items (c.index-3.result.now.start - 1) c.add_clause_in.new.item)) c.self.invariant
+    subst (StartFrom 0 stack.controls.items) (sym (length-set stack.instrs.items (c.index-3.result.now.start - 1) c.add_clause_in.new.item)) c.self.invariant
 
 pub returns : goal.returns
 returns c =
@@ -85,7 +85,7 @@ returns c =
     let again = slice_get-get_or cs i g (omega arith) ∙ ap Some (sym c.index-2.ensures) in
     let behind = slice_get-get_or cs (i + 1) h (omega arith) ∙ ap Some (sym c.index-3.ensures) in
     let same = ap (λ (k : ControlFrame). k.start) (some_same f g (sym at ∙ again)) in
-    let rise = c.self.invariant.rise in
+    let rise = c.self.invariant in
     let within = (inside c.args.catch all cs i f h rise is at behind).1 in
     let some = c.if-start-end.false in
     let e = h.start - 1 in

@@ -2,7 +2,7 @@ use Rattle.std.proofs.Common.{◌<◌, [], length, Some, refl, ap, sym, ◌∙�
 use Rattle.std.proofs.lemmas.List.{nil_from_length}
 use Rattle.std.proofs.lemmas.Option.{slice_get-get_or}
 use Rattle.walrus_body.specs.Parsing.OpenFrames.{changed_at, killed}
-use Rattle.walrus_body.proofs.Parsing.FrameStacks.{count, set_control, divide_set}
+use Rattle.walrus_body.proofs.Parsing.FrameStacks.{count, set_control, starts_set}
 use Rattle.walrus_body.proofs.local_function.frame_stack.FrameStack.kill.Goals as goal
 
 pub returns-in-Some-clause-ok : goal.returns-in-Some-clause-ok
@@ -26,7 +26,7 @@ invariant_of-self c =
     let is = c.in-Some.ensures in
     let within : i < length inside.controls.items = omega arith in
     let at = slice_get-get_or inside.controls.items i f within ∙ ap Some (sym c.index_mut.ensures.value) in
-    divide_set inside.controls.items i f (record f { unreachable = true }) (length inside.instrs.items) at refl c.self.invariant
+    starts_set 0 inside.controls.items i f (record f { unreachable = true }) (length inside.instrs.items) at refl c.self.invariant
 
 pub returns-in-None-clause-err : goal.returns-in-None-clause-err
 returns-in-None-clause-err c =

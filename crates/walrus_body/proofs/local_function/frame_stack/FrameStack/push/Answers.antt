@@ -2,8 +2,8 @@ use Rattle.std.proofs.Common.{◌∷◌, [], length, ap, sym, subst, ◌∙◌, 
 use Rattle.std.proofs.lemmas.Result.{on_ok_weaker}
 use Rattle.walrus_body.specs.declared.local_function.frame.ControlFrame.{ControlFrame}
 use Rattle.walrus_body.specs.Parsing.OpenFrames.{frame_with}
-use Rattle.walrus_body.specs.Parsing.FrameStacks.{frames_in, Divide}
-use Rattle.walrus_body.proofs.Parsing.FrameStacks.{opened, divide_append}
+use Rattle.walrus_body.specs.Parsing.FrameStacks.{frames_in, StartFrom}
+use Rattle.walrus_body.proofs.Parsing.FrameStacks.{opened, starts_append}
 use Rattle.walrus_body.proofs.local_function.frame_stack.FrameStack.push.Goals as goal
 
 either_way : {E : Type 0} {P Q R : Type 0} (r : Result (Unit {0}) E) → (P → R) → (Q → R) → OnOk r P → OnErr r Q → R
@@ -16,8 +16,8 @@ invariant_of-self c =
     let f : ControlFrame = record { start_types = c.args.start_types; end_types = c.args.end_types; unreachable = false; block = c.args.block; kind = c.args.kind; start = c.len-start.result } in
     let at = c.len-start.ensures ∙ inside.instrs.ok.0 in
     either_way c.pushed.result
-    (λ e. subst (λ cs. Divide cs (length inside.instrs.items)) (sym e) (divide_append inside.controls.items f (length inside.instrs.items) c.self.invariant at))
-    (λ e. subst (λ cs. Divide cs (length inside.instrs.items)) (sym e) c.self.invariant)
+    (λ e. subst (λ cs. StartFrom 0 cs (length inside.instrs.items)) (sym e) (starts_append 0 inside.controls.items f (length inside.instrs.items) c.self.invariant at))
+    (λ e. subst (λ cs. StartFrom 0 cs (length inside.instrs.items)) (sym e) c.self.invariant)
     c.pushed.ensures.ok c.pushed.ensures.same
 
 pub returns-clause-ok : goal.returns-clause-ok
