@@ -4,6 +4,7 @@ mod control;
 mod execution;
 mod label;
 mod operator;
+mod reply;
 mod respond;
 mod run;
 mod state;
