@@ -1,0 +1,2 @@
+-- what the validator of locals means
+pub mod LocalsBelow
