@@ -1,13 +1,15 @@
 //! Why a module isn't read or rewritten.
 
 use std::alloc::{AllocError, AllocFailed};
-use thiserror::Error;
+use std::error::Error;
+use std::fmt;
+use thiserror::Error as ErrorText;
 use walrus_body::{IndexError, ParseError, ParseFailure, Space};
 use walrus_run::{RewriteError, rewrite_name};
 use wasm_ops::ReadError;
 
 /// What is wrong with a module.
-#[derive(Clone, Copy, Debug, PartialEq, Eq, Error)]
+#[derive(Clone, Copy, Debug, PartialEq, Eq, ErrorText)]
 pub enum ModuleFault {
     /// The bytes, or those of a section, of a body or of a vector, end inside an item.
     #[error("the bytes end too early")]
@@ -122,12 +124,22 @@ impl ModuleFault {
 }
 
 /// A fault of a module, and the place in the file where it stands. The place is open for `Memory`.
-#[derive(Clone, Copy, Debug, PartialEq, Eq, Error)]
-#[error("{fault} at {at}")]
+#[derive(Clone, Copy, Debug, PartialEq, Eq)]
 pub struct ModuleError {
     pub fault: ModuleFault,
     pub at: usize,
 }
+
+/// The name of the fault, its place in hexadecimal, and its text.
+impl fmt::Display for ModuleError {
+    fn fmt<W: fmt::Write>(&self, f: &mut fmt::Formatter<W>) -> fmt::Result {
+        let ModuleError { fault, at } = self;
+        let name = fault.name();
+        write!(f, "{name} at 0x{at:x}: {fault}")
+    }
+}
+
+impl Error for ModuleError {}
 
 impl ModuleError {
     /// No memory was left.

@@ -2,21 +2,35 @@
 //! and a module is written that has all else as it was.
 #![tactic(auto)]
 
+mod bodies;
+mod changes;
 mod code;
 mod constant;
+mod custom;
 mod exports;
 mod fault;
+mod function_items;
 mod imports;
 mod input;
+mod labels;
 mod locals;
+mod missing;
+mod output;
 mod parsed;
+mod program;
+mod rewriting;
 mod sections;
 mod segments;
 mod spaces;
 mod storage;
 mod types;
 
+pub use bodies::Scratch;
+pub use changes::Changes;
 pub use code::{Bodies, Body};
+pub use custom::{Note, NoteKind};
 pub use fault::{ModuleError, ModuleFault};
 pub use parsed::ParsedModule;
+pub use rewriting::{MapError, RewrittenModule};
 pub use sections::{Section, SectionKind, Sections};
+pub use program::{Command, Task, USAGE};

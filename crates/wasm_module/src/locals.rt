@@ -66,6 +66,17 @@ impl Locals {
     }
 }
 
+impl Input<'_> {
+    /// Passes the declarations of a body's locals.
+    pub fn pass_declarations(&mut self) -> Result<(), ModuleError> {
+        for _ in 0..self.number()? {
+            self.number()?;
+            self.value_type()?;
+        }
+        Ok(())
+    }
+}
+
 /// The ids of a function's parameters, which are the first of its locals.
 pub(crate) fn arguments(alloc: Global, count: usize) -> Result<Vec<LocalId>, ModuleError> {
     let mut ids = Vec::new(alloc);

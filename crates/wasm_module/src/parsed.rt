@@ -27,6 +27,8 @@ pub struct ParsedModule<'a> {
     imported: usize,
     /// What follows the number of bodies in the code section.
     code: Option<Input<'a>>,
+    /// Where the code section stands.
+    code_at: Option<usize>,
     /// What the data count section tells, and where.
     data_count: Option<(u32, usize)>,
     ghost places: { «module».code_section_offset ≡ 0 },
@@ -60,6 +62,7 @@ impl<'a> ParsedModule<'a> {
             func_types: Vec::new(alloc),
             imported: 0,
             code: None,
+            code_at: None,
             data_count: None,
         };
         for section in Sections::new(bytes)? {
@@ -75,6 +78,20 @@ impl<'a> ParsedModule<'a> {
     /// The bytes that it was read from.
     pub fn bytes(&self) -> &'a [u8] {
         self.bytes
+    }
+
+    /// Its sections, in order.
+    ///
+    /// # Errors
+    ///
+    /// None, since they were read before.
+    pub fn sections(&self) -> Result<Sections<'a>, ModuleError> {
+        Sections::new(self.bytes)
+    }
+
+    /// Where its code section stands, if it has one.
+    pub fn code_at(&self) -> Option<usize> {
+        self.code_at
     }
 
     /// The bodies of its functions that are not imported, in order.
@@ -106,7 +123,10 @@ impl<'a> ParsedModule<'a> {
                 let place = input.at();
                 self.data_count = Some((input.number()?, place));
             }
-            SectionKind::Code => input = self.read_code(input)?,
+            SectionKind::Code => {
+                self.code_at = Some(section.at);
+                input = self.read_code(input)?;
+            }
             _ => {
                 for _ in 0..input.number()? {
                     self.read_item(section.kind, &mut input)?;
