@@ -19,6 +19,7 @@ pub(crate) enum RawType {
 }
 
 /// Reads types that may name so many types.
+#[derive(Drop)]
 struct TypeReader<'a> {
     input: Input<'a>,
     count: usize,

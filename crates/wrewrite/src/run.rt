@@ -12,6 +12,7 @@ const REFUSED: u8 = 1;
 const WRONG_USE: u8 = 2;
 
 /// What was done: said where it is asked for.
+#[derive(Clone, Copy)]
 struct Done {
     functions: usize,
     bytes: usize,
