@@ -50,4 +50,6 @@ mod walk;
 #[cfg(test)]
 mod whole_bodies;
 #[cfg(test)]
+mod whole_modules;
+#[cfg(test)]
 mod writing;

@@ -5,9 +5,7 @@ use crate::fault::{ModuleError, ModuleFault};
 use crate::locals::{Locals, LocalsBelow, MOST_LOCALS, arguments};
 use crate::parsed::ParsedModule;
 use std::alloc::AllocError;
-use walrus_body::{
-    Emit, EmitContext, FunctionBody, LocalFunction, ParseError, ParseFailure,
-};
+use walrus_body::{Emit, EmitContext, FunctionBody, LocalFunction, ParseError, ParseFailure};
 use walrus_ir::{IdHashMap, Instr, InstrLocId, LocalId, TypeId};
 use walrus_run::{CodeEntry, RewriteError, rewrite_body};
 
@@ -37,12 +35,10 @@ const PLACES: Option<&fn(&usize) -> InstrLocId> = None;
 fn wants_type(error: &ModuleError) -> bool {
     matches!(
         error.fault,
-        ModuleFault::Body(
-            RewriteError::Parse(ParseFailure {
-                error: ParseError::TypeMissing,
-                ..
-            }),
-        )
+        ModuleFault::Body(RewriteError::Parse(ParseFailure {
+            error: ParseError::TypeMissing,
+            ..
+        }),)
     )
 }
 
@@ -183,10 +179,7 @@ impl<'a> ParsedModule<'a> {
         );
         match parsed {
             Ok(function) => Ok(function),
-            Err(failure) => Err(ModuleError::of_body(
-                RewriteError::Parse(failure),
-                body.start(),
-            )),
+            Err(failure) => Err(ModuleError::of_body(RewriteError::Parse(failure), body.start())),
         }
     }
 

@@ -31,6 +31,6 @@ pub use code::{Bodies, Body};
 pub use custom::{Note, NoteKind};
 pub use fault::{ModuleError, ModuleFault};
 pub use parsed::ParsedModule;
+pub use program::{Command, Task, USAGE};
 pub use rewriting::{MapError, RewrittenModule};
 pub use sections::{Section, SectionKind, Sections};
-pub use program::{Command, Task, USAGE};

@@ -105,10 +105,7 @@ impl OpCheck for LocalsBelow {
             Operator::LocalGet { local }
             | Operator::LocalSet { local }
             | Operator::LocalTee { local }
-                if *local as usize >= self.0 =>
-            {
-                Err(CheckError::Refused(0))
-            }
+                if *local as usize >= self.0 => { Err(CheckError::Refused(0)) }
             _ => Ok(()),
         }
     }

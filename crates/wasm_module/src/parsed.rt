@@ -137,11 +137,7 @@ impl<'a> ParsedModule<'a> {
     }
 
     /// One of the items of a section.
-    fn read_item(
-        &mut self,
-        kind: SectionKind,
-        input: &mut Input<'a>,
-    ) -> Result<(), ModuleError> {
+    fn read_item(&mut self, kind: SectionKind, input: &mut Input<'a>) -> Result<(), ModuleError> {
         let place = input.at();
         match kind {
             SectionKind::Import => return self.read_import(input),
@@ -226,10 +222,7 @@ impl<'a> ParsedModule<'a> {
     }
 
     /// The different lists of results of function types.
-    fn result_lists<'t>(
-        &self,
-        types: &'t [RawType],
-    ) -> Result<Vec<&'t [RawValType]>, ModuleError> {
+    fn result_lists<'t>(&self, types: &'t [RawType]) -> Result<Vec<&'t [RawValType]>, ModuleError> {
         let mut lists: Vec<&'t [RawValType]> = Vec::new(self.alloc);
         for ty in types {
             if let RawType::Func { results, .. } = ty {

@@ -44,10 +44,7 @@ struct Words<'a> {
 }
 
 /// Takes the words apart; none where an option is unknown, or wants a path.
-fn split_words<'a>(
-    alloc: Global,
-    words: &'a [String],
-) -> Result<Option<Words<'a>>, AllocError> {
+fn split_words<'a>(alloc: Global, words: &'a [String]) -> Result<Option<Words<'a>>, AllocError> {
     let mut split = Words {
         is_verbose: false,
         is_check: false,

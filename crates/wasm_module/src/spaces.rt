@@ -116,7 +116,8 @@ impl Spaces {
     /// Lets so many first indices of locals stand for ids, which are the indices.
     pub fn reach_locals(&mut self, count: usize) -> Result<(), IndexError> {
         for index in self.locals..count {
-            self.indices.push_local(self.local_lists(), LocalId::new(index))?;
+            self.indices
+                .push_local(self.local_lists(), LocalId::new(index))?;
             self.locals = index + 1;
         }
         Ok(())

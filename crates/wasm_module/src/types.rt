@@ -142,10 +142,7 @@ fn read_naming(
 ///
 /// `Truncated`, `BadNumber`, `BadType`, `BadMutability`, `Trailing`; else `IndexOutOfRange` where a
 /// type names one that the section doesn't have; or `Memory`.
-pub(crate) fn read_types(
-    alloc: Global,
-    section: Input<'_>,
-) -> Result<Vec<RawType>, ModuleError> {
+pub(crate) fn read_types(alloc: Global, section: Input<'_>) -> Result<Vec<RawType>, ModuleError> {
     // How many there are isn't known before all are read.
     let count = read_naming(alloc, section, usize::MAX)?.len();
     read_naming(alloc, section, count)

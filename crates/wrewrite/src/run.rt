@@ -51,12 +51,42 @@ fn map_error(error: MapError) -> io::Error {
     }
 }
 
+/// Where the module or its map is written.
+#[derive(Drop)]
+enum Target<'a> {
+    StandardOutput,
+    File(Draft<'a>),
+}
+
+impl<'a> Target<'a> {
+    fn create(rt: &HostRuntime, path: &'a str) -> io::Result<Target<'a>> {
+        if path == "-" {
+            return Ok(Target::StandardOutput);
+        }
+        Ok(Target::File(Draft::create(rt, path)?))
+    }
+
+    /// Keeps what was written, or takes it away where that went wrong.
+    fn close(self, rt: &HostRuntime, written: io::Result<()>) -> io::Result<()> {
+        match self {
+            Target::StandardOutput => written,
+            Target::File(draft) => match written {
+                Ok(()) => draft.finish(rt),
+                Err(error) => {
+                    draft.discard(rt);
+                    Err(error)
+                }
+            },
+        }
+    }
+}
+
 /// Writes the map of a module that was rewritten.
-fn write_map(
+fn write_map_to<W: Write + Drop>(
     rt: &HostRuntime,
     parsed: &mut ParsedModule<'_>,
     rewritten: &RewrittenModule<'_>,
-    out: &mut impl Write,
+    out: W,
 ) -> io::Result<()> {
     let mut out = BufWriter::new(rt.alloc(), out)?;
     match parsed.write_map(&rewritten.changes, &mut out) {
@@ -65,7 +95,31 @@ fn write_map(
     }
 }
 
-/// Writes the files: first each beside its place.
+fn write_map(
+    rt: &HostRuntime,
+    parsed: &mut ParsedModule<'_>,
+    rewritten: &RewrittenModule<'_>,
+    target: &mut Target<'_>,
+) -> io::Result<()> {
+    match target {
+        Target::StandardOutput => write_map_to(rt, parsed, rewritten, rt.stdout()),
+        Target::File(draft) => write_map_to(rt, parsed, rewritten, draft.file()),
+    }
+}
+
+fn write_module(
+    rt: &HostRuntime,
+    parsed: &ParsedModule<'_>,
+    rewritten: &RewrittenModule<'_>,
+    target: &mut Target<'_>,
+) -> io::Result<()> {
+    match target {
+        Target::StandardOutput => parsed.write_module(&rewritten.changes, &mut rt.stdout()),
+        Target::File(draft) => parsed.write_module(&rewritten.changes, draft.file()),
+    }
+}
+
+/// Writes the module, and its map where one is asked for: both or none.
 fn write_all(
     rt: &HostRuntime,
     parsed: &mut ParsedModule<'_>,
@@ -73,26 +127,26 @@ fn write_all(
     output: &str,
     map: Option<&String>,
 ) -> io::Result<()> {
-    if let Some(path) = map {
-        let mut draft = Draft::create(rt, path.as_str())?;
-        let written = write_map(rt, parsed, rewritten, draft.file());
-        draft.finish(rt, written)?;
-    }
-    if output == "-" {
-        return parsed.write_module(&rewritten.changes, &mut rt.stdout());
-    }
-    let mut draft = Draft::create(rt, output)?;
-    let written = parsed.write_module(&rewritten.changes, draft.file());
-    draft.finish(rt, written)
+    let mut target = Target::create(rt, output)?;
+    let Some(path) = map else {
+        let written = write_module(rt, parsed, rewritten, &mut target);
+        return target.close(rt, written);
+    };
+    let mut map_target = match Target::create(rt, path.as_str()) {
+        Ok(map_target) => map_target,
+        Err(error) => return target.close(rt, Err(error)),
+    };
+    let mapped = write_map(rt, parsed, rewritten, &mut map_target);
+    let written = match mapped {
+        Ok(()) => write_module(rt, parsed, rewritten, &mut target),
+        Err(error) => Err(error),
+    };
+    let closed = target.close(rt, written);
+    map_target.close(rt, closed)
 }
 
 /// Rewrites a module.
-fn rewrite(
-    rt: &HostRuntime,
-    input: &str,
-    output: &str,
-    map: Option<&String>,
-) -> io::Result<Done> {
+fn rewrite(rt: &HostRuntime, input: &str, output: &str, map: Option<&String>) -> io::Result<Done> {
     let bytes = read(rt, input)?;
     let mut parsed = match ParsedModule::read(rt.alloc(), &bytes) {
         Ok(parsed) => parsed,
@@ -135,7 +189,11 @@ pub fn run(rt: &HostRuntime, words: &[String]) -> io::Result<u8> {
         }
     };
     if command.is_verbose || rt.stderr().is_terminal() {
-        let Done { functions, bytes, .. } = done;
+        let Done {
+            functions,
+            bytes,
+            ..
+        } = done;
         let time = start.elapsed(rt)?.as_millis();
         eprintln!(rt; "{functions} functions, {bytes} bytes, {time} ms")?;
     }
