@@ -5,7 +5,7 @@ use crate::fault::{ModuleError, ModuleFault};
 use crate::locals::{Locals, LocalsBelow, MOST_LOCALS, arguments};
 use crate::parsed::ParsedModule;
 use std::alloc::AllocError;
-use walrus_body::{Emit, EmitContext, FunctionBody, LocalFunction, ParseError, ParseFailure};
+use walrus_body::{Emit, EmitContext, FunctionBody, LocalFunction, ParseError};
 use walrus_ir::{IdHashMap, Instr, InstrLocId, LocalId, TypeId};
 use walrus_run::{CodeEntry, RewriteError, rewrite_body};
 
@@ -33,13 +33,7 @@ const PLACES: Option<&fn(&usize) -> InstrLocId> = None;
 
 /// Whether a body wants a type that the module doesn't have.
 fn wants_type(error: &ModuleError) -> bool {
-    matches!(
-        error.fault,
-        ModuleFault::Body(RewriteError::Parse(ParseFailure {
-            error: ParseError::TypeMissing,
-            ..
-        }),)
-    )
+    error.fault == ModuleFault::Parse(ParseError::TypeMissing)
 }
 
 impl<'a> ParsedModule<'a> {

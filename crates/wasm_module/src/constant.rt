@@ -33,10 +33,8 @@ impl Input<'_> {
             let operator = match reader.read() {
                 Ok(operator) => operator,
                 Err(error) => {
-                    return Err(ModuleError {
-                        fault: ModuleFault::Constant(error),
-                        at,
-                    });
+                    let fault = ModuleFault::Read(error.fault);
+                    return Err(ModuleError { fault, at });
                 }
             };
             if matches!(operator, Operator::End) {

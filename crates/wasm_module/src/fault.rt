@@ -4,9 +4,10 @@ use std::alloc::{AllocError, AllocFailed};
 use std::error::Error;
 use std::fmt;
 use thiserror::Error as ErrorText;
-use walrus_body::{IndexError, ParseError, ParseFailure, Space};
+use walrus_body::{EmitError, IndexError, ParseError, ParseFailure, Space};
+use walrus_ir::WalkError;
 use walrus_run::{RewriteError, rewrite_name};
-use wasm_ops::ReadError;
+use wasm_ops::{ReadError, ReadFault};
 
 /// What is wrong with a module.
 #[derive(Clone, Copy, Debug, PartialEq, Eq, ErrorText)]
@@ -54,9 +55,9 @@ pub enum ModuleFault {
     /// A constant expression has an operator that opens or parts a construct.
     #[error("no such operator stands in a constant expression")]
     BadConstant,
-    /// An operator of a constant expression can't be read.
+    /// An operator can't be read.
     #[error(transparent)]
-    Constant(ReadError),
+    Read(ReadFault),
     /// An index names nothing that the module has.
     #[error("an index is out of bounds for {0}")]
     IndexOutOfRange(Space),
@@ -75,9 +76,15 @@ pub enum ModuleFault {
     /// An operator names a local that the function doesn't have.
     #[error("an index is out of bounds for the function's locals")]
     LocalOutOfRange,
-    /// A body can't be rewritten.
+    /// A body isn't parsed, for another reason.
     #[error(transparent)]
-    Body(RewriteError),
+    Parse(ParseError),
+    /// No facts about a body are found.
+    #[error(transparent)]
+    Walk(WalkError),
+    /// A body isn't written.
+    #[error(transparent)]
+    Emit(EmitError),
     /// A count or a size doesn't fit 32 bits, or 2^32 items are there.
     #[error("a count is too great")]
     TooGreat,
@@ -85,8 +92,13 @@ pub enum ModuleFault {
     Memory,
 }
 
+/// The name of a parser's fault.
+fn parse_name(error: ParseError) -> &'static str {
+    rewrite_name(RewriteError::Parse(ParseFailure { error, at: 0 }))
+}
+
 impl ModuleFault {
-    /// The name of the fault: of a body that can't be rewritten that of the innermost reason.
+    /// The name of the fault, which is that of its innermost variant.
     pub fn name(self) -> &'static str {
         match self {
             ModuleFault::Truncated => "Truncated",
@@ -106,17 +118,16 @@ impl ModuleFault {
             ModuleFault::BadSegmentFlags => "BadSegmentFlags",
             ModuleFault::BadElementKind => "BadElementKind",
             ModuleFault::BadConstant => "BadConstant",
-            ModuleFault::Constant(error) => rewrite_name(RewriteError::Parse(ParseFailure {
-                error: ParseError::Read(error),
-                at: error.at,
-            })),
+            ModuleFault::Read(fault) => parse_name(ParseError::Read(ReadError { fault, at: 0 })),
             ModuleFault::IndexOutOfRange(_) => "IndexOutOfRange",
             ModuleFault::NotAFunctionType => "NotAFunctionType",
             ModuleFault::BodyCount => "BodyCount",
             ModuleFault::DataCount => "DataCount",
             ModuleFault::TooManyLocals => "TooManyLocals",
             ModuleFault::LocalOutOfRange => "LocalOutOfRange",
-            ModuleFault::Body(error) => rewrite_name(error),
+            ModuleFault::Parse(error) => parse_name(error),
+            ModuleFault::Walk(error) => rewrite_name(RewriteError::Walk(error)),
+            ModuleFault::Emit(error) => rewrite_name(RewriteError::Emit(error)),
             ModuleFault::TooGreat => "TooGreat",
             ModuleFault::Memory => "Memory",
         }
@@ -172,22 +183,31 @@ impl ModuleError {
         }
     }
 
+    /// Why a body isn't parsed.
+    pub(crate) fn of_parse(failure: ParseFailure) -> ModuleError {
+        let fault = match failure.error {
+            ParseError::Read(error) => ModuleFault::Read(error.fault),
+            ParseError::Checked(_) => ModuleFault::LocalOutOfRange,
+            ParseError::Memory => ModuleFault::Memory,
+            error => ModuleFault::Parse(error),
+        };
+        ModuleError {
+            fault,
+            at: failure.at,
+        }
+    }
+
     /// Why the body that begins at this place isn't rewritten.
     pub(crate) fn of_body(error: RewriteError, start: usize) -> ModuleError {
-        match error {
-            RewriteError::Parse(failure) => ModuleError {
-                fault: match failure.error {
-                    ParseError::Checked(_) => ModuleFault::LocalOutOfRange,
-                    ParseError::Memory => ModuleFault::Memory,
-                    _ => ModuleFault::Body(error),
-                },
-                at: failure.at,
-            },
-            _ => ModuleError {
-                fault: ModuleFault::Body(error),
-                at: start,
-            },
-        }
+        let fault = match error {
+            RewriteError::Parse(failure) => return ModuleError::of_parse(failure),
+            RewriteError::Walk(WalkError::Memory) | RewriteError::Emit(EmitError::Memory) => {
+                ModuleFault::Memory
+            }
+            RewriteError::Walk(error) => ModuleFault::Walk(error),
+            RewriteError::Emit(error) => ModuleFault::Emit(error),
+        };
+        ModuleError { fault, at: start }
     }
 }
 
