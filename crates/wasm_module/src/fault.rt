@@ -85,6 +85,9 @@ pub enum ModuleFault {
     /// A body isn't written.
     #[error(transparent)]
     Emit(EmitError),
+    /// An export that is to be added has the name of one that is there.
+    #[error("an export has this name already")]
+    ExportTaken,
     /// A count or a size doesn't fit 32 bits, or 2^32 items are there.
     #[error("a count is too great")]
     TooGreat,
@@ -128,6 +131,7 @@ impl ModuleFault {
             ModuleFault::Parse(error) => parse_name(error),
             ModuleFault::Walk(error) => rewrite_name(RewriteError::Walk(error)),
             ModuleFault::Emit(error) => rewrite_name(RewriteError::Emit(error)),
+            ModuleFault::ExportTaken => "ExportTaken",
             ModuleFault::TooGreat => "TooGreat",
             ModuleFault::Memory => "Memory",
         }

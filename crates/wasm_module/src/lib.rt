@@ -2,8 +2,10 @@
 //! and a module is written that has all else as it was.
 #![tactic(auto)]
 
+mod adding;
 mod bodies;
 mod changes;
+mod changing;
 mod code;
 mod constant;
 mod custom;
@@ -27,6 +29,7 @@ mod types;
 
 pub use bodies::Scratch;
 pub use changes::Changes;
+pub use changing::ChangeFunction;
 pub use code::{Bodies, Body};
 pub use custom::{Note, NoteKind};
 pub use fault::{ModuleError, ModuleFault};

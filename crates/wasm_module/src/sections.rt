@@ -66,7 +66,7 @@ impl SectionKind {
 
     /// How many sections but custom ones may stand before one of this kind. Those of tags stand
     /// behind memories, and the data count stands before the code.
-    fn rank(self) -> u8 {
+    pub(crate) fn rank(self) -> u8 {
         match self {
             SectionKind::Custom => 0,
             SectionKind::Type => 1,

@@ -84,6 +84,11 @@ impl Spaces {
         add_next!(self, GlobalId, globals, push_global, get_global_index)
     }
 
+    /// How many globals there are.
+    pub fn globals(&self) -> usize {
+        self.counts.globals
+    }
+
     /// Adds a tag, whose id is its index.
     pub fn add_tag(&mut self) -> Result<(), IndexError> {
         add_next!(self, TagId, tags, push_tag, get_tag_index)

@@ -1,0 +1,42 @@
+//! Functions whose bodies are taken away.
+
+use std::alloc::Global;
+use walrus_body::LocalFunction;
+use walrus_ir::{Instr, InstrLocId};
+use wasm_module::{ChangeFunction, Changes, ModuleError, ParsedModule, RewrittenModule};
+
+/// Which functions lose their bodies, ascending.
+#[derive(Drop)]
+struct Snip<'i>(&'i [usize]);
+
+impl ChangeFunction for Snip<'_> {
+    fn change(&mut self, index: usize, function: &mut LocalFunction) -> Result<(), ModuleError> {
+        if self.0.binary_search(&index).is_err() || !function.has_entry() {
+            return Ok(());
+        }
+        let entry = function.entry_block();
+        let block = function.block_mut(entry);
+        block.instrs.clear();
+        block
+            .instrs
+            .push((Instr::Unreachable, InstrLocId::default()))?;
+        block.end = InstrLocId::default();
+        Ok(())
+    }
+}
+
+/// Puts `unreachable` in the place of the bodies of the functions with these indices, which count
+/// behind imported ones. Those that have no body are passed over; all other bodies are rewritten.
+///
+/// # Errors
+///
+/// The first fault of a body, with its place, or `Memory`.
+pub fn snip<'a>(
+    alloc: Global,
+    parsed: &mut ParsedModule<'a>,
+    indices: &[usize],
+) -> Result<RewrittenModule<'a>, ModuleError> {
+    let mut ascending = Vec::from_slice(alloc, indices)?;
+    ascending.sort_unstable();
+    parsed.change_all(&mut Snip(&ascending), Changes::new(alloc))
+}
