@@ -2,9 +2,7 @@
 
 use std::alloc::Global;
 use walrus_body::LocalFunction;
-use walrus_ir::{
-    BinaryOp, Binop, Const, GlobalGet, GlobalId, GlobalSet, Instr, InstrLocId, Value,
-};
+use walrus_ir::{BinaryOp, Binop, Const, GlobalGet, GlobalId, GlobalSet, Instr, InstrLocId, Value};
 use wasm_module::{ChangeFunction, Changes, ModuleError, ParsedModule, RewrittenModule};
 
 /// The name under which the number of calls is exported.

@@ -17,6 +17,8 @@ mod emit;
 #[cfg(test)]
 mod emitting;
 #[cfg(test)]
+mod every_operator;
+#[cfg(test)]
 mod exceptions;
 #[cfg(test)]
 mod facts;
@@ -44,6 +46,8 @@ mod recorder;
 mod rewriting;
 #[cfg(test)]
 mod small_module;
+#[cfg(test)]
+mod tools;
 mod validators;
 #[cfg(test)]
 mod walk;

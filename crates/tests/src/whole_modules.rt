@@ -26,7 +26,7 @@ const EVERY_SECTION: &str = "0061736d01000000 0007056669727374ff \
 /// hints stand at 12, 17 and 28, counted from the first byte of g's body. That declares an i64, an
 /// f32 and an i32, and is: nop, block [ local.get 0, br_if 0, nop, local.get 0, if [ unreachable,
 /// block [ nop ] ] ], local.get 0, if [ i64.const 1, local.set 1 ], local.get 3.
-const FOLLOWED: &str =
+pub(crate) const FOLLOWED: &str =
     "0061736d01000000 01090260017f017f600000 020701016d01660001 0303020001 07050101670001 \
     0026196d657461646174612e636f64652e6272616e63685f68696e740101030c01011101001c0101 \
     0a31022603017e017d017f01024020000d000120000440000240010b0b0b20000440420121010b20030b080101\
@@ -38,7 +38,7 @@ const FOLLOWED: &str =
 /// The same, rewritten: the i32 stands before the i64, the f32 isn't declared, each `if` has an
 /// `else`, and the block behind `unreachable` is dropped. So b is the local 1, and a is 2; last is
 /// the label 2; and the hints stand at 9, 13 and 21.
-const FOLLOWED_REWRITTEN: &str =
+pub(crate) const FOLLOWED_REWRITTEN: &str =
     "0061736d01000000 01090260017f017f600000 020701016d01660001 0303020001 07050101670001 \
     0026196d657461646174612e636f64652e6272616e63685f68696e740101030901010d0100150101 \
     0a2a022002017f017e024020000d002000044000050b0b2000044042012102050b20010b0701017f20001a0b \
@@ -57,7 +57,7 @@ const HANDLERS_REWRITTEN: &str =
     "0061736d01000000 010c0360000060017f006000017f 0303020202 0d03010001 0709020167000001680001 \
     0a1d020e00067f4107080007000b41016a0b0c00067f410308001941090b0b";
 
-fn bytes_of(alloc: Global, module: &str) -> Result<Vec<u8>, Fail> {
+pub(crate) fn bytes_of(alloc: Global, module: &str) -> Result<Vec<u8>, Fail> {
     let mut bytes = Vec::new(alloc);
     for part in module.split(' ') {
         bytes.extend_from_slice(&hex::decode(alloc, part)?)?;
@@ -66,13 +66,13 @@ fn bytes_of(alloc: Global, module: &str) -> Result<Vec<u8>, Fail> {
 }
 
 /// A fault's name, and its place.
-fn fault_text(alloc: Global, error: ModuleError) -> Result<String, AllocError> {
+pub(crate) fn fault_text(alloc: Global, error: ModuleError) -> Result<String, AllocError> {
     let name = error.fault.name();
     format!(in alloc; "{name} at {}", error.at)
 }
 
 /// The module that is written for the one of these bytes, in hexadecimal; or its first fault.
-fn rewritten_bytes(alloc: Global, bytes: &[u8]) -> Result<String, Fail> {
+pub(crate) fn rewritten_bytes(alloc: Global, bytes: &[u8]) -> Result<String, Fail> {
     let mut parsed = match ParsedModule::read(alloc, bytes) {
         Ok(parsed) => parsed,
         Err(error) => return Ok(fault_text(alloc, error)?),

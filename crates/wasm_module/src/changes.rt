@@ -102,7 +102,11 @@ impl Changes {
     /// How many bytes the sections take that were put in at this place of the source.
     fn inserted_len(&self, place: usize) -> usize {
         let mut all = 0usize;
-        for Inserted { before, contents, .. } in &self.inserted {
+        for Inserted {
+            before,
+            contents,
+            ..
+        } in &self.inserted {
             if *before == place {
                 let len = contents.len();
                 all = all.saturating_add(1 + number_len(len)).saturating_add(len);
