@@ -2,7 +2,7 @@
 //! input or output.
 
 use crate::ending::Stop;
-use std::io::Read;
+use std::io::{Read, Write};
 use std::rt::Files;
 use std::{fs, io};
 use wasm_module::{ParsedModule, RewrittenModule};
@@ -26,22 +26,73 @@ fn is_special(rt: &impl Files, path: &str) -> bool {
     }
 }
 
-/// Writes a module that was changed to a file beside the one that it becomes.
-fn write_beside<R: Files + AllocGlobal>(
-    rt: &R,
-    parsed: &ParsedModule<'_>,
-    module: &RewrittenModule<'_>,
-    path: &str,
-) -> io::Result<()> {
-    let beside = format!(in rt.alloc(); "{path}.part")?;
-    let mut file = fs::create(rt, beside.as_str())?;
-    let written = parsed.write_module(&module.changes, &mut file);
-    drop(file);
-    match written {
-        Ok(()) => fs::rename(rt, beside.as_str(), path),
-        Err(error) => {
-            let _ = fs::remove_file(rt, beside.as_str());
-            Err(error)
+/// A file that is being written, beside the one that it becomes; or standard output.
+#[derive(Drop)]
+pub struct Target<'a, R: Files> {
+    rt: &'a R,
+    path: &'a str,
+    /// Where it is written; none where it is written at its place.
+    beside: Option<String>,
+    /// None for standard output.
+    file: Option<R::File>,
+}
+
+impl<'a, R: Files + AllocGlobal> Target<'a, R> {
+    /// A file that is to be written to this path. What stands there stays until it is closed.
+    pub fn create(rt: &'a R, path: &'a str) -> io::Result<Target<'a, R>> {
+        let mut target = Target {
+            rt,
+            path,
+            beside: None,
+            file: None,
+        };
+        if path == "-" {
+            return Ok(target);
+        }
+        if is_special(rt, path) {
+            target.file = Some(fs::create(rt, path)?);
+            return Ok(target);
+        }
+        let beside = format!(in rt.alloc(); "{path}.part")?;
+        target.file = Some(fs::create(rt, beside.as_str())?);
+        target.beside = Some(beside);
+        Ok(target)
+    }
+
+    /// Puts the file in its place, or takes it away where writing it went wrong.
+    pub fn close(self, written: io::Result<()>) -> io::Result<()> {
+        let Target {
+            rt,
+            path,
+            beside,
+            file,
+        } = self;
+        drop(file);
+        let Some(beside) = beside else {
+            return written;
+        };
+        match written {
+            Ok(()) => fs::rename(rt, beside.as_str(), path),
+            Err(error) => {
+                let _ = fs::remove_file(rt, beside.as_str());
+                Err(error)
+            }
+        }
+    }
+}
+
+impl<R: Files + Print> Write for Target<'_, R> {
+    fn write(&mut self, bytes: &[u8]) -> io::Result<usize> {
+        match &mut self.file {
+            Some(file) => file.write(bytes),
+            None => self.rt.write_some(bytes),
+        }
+    }
+
+    fn flush(&mut self) -> io::Result<()> {
+        match &mut self.file {
+            Some(file) => file.flush(),
+            None => Ok(()),
         }
     }
 }
@@ -51,7 +102,7 @@ fn write_beside<R: Files + AllocGlobal>(
 /// # Errors
 ///
 /// Where it can't be written. The file is then as before.
-pub fn write_module<R: Files + Print + Eprint + AllocGlobal>(
+pub fn write_module<R: Files + Print + Eprint + AllocGlobal + Drop>(
     rt: &R,
     parsed: &ParsedModule<'_>,
     module: &RewrittenModule<'_>,
@@ -60,12 +111,7 @@ pub fn write_module<R: Files + Print + Eprint + AllocGlobal>(
     for note in &module.notes {
         eprintln!(rt; "note: {note}")?;
     }
-    let written = if path == "-" {
-        parsed.write_module(&module.changes, &mut io::writer(rt))
-    } else if is_special(rt, path) {
-        parsed.write_module(&module.changes, &mut fs::create(rt, path)?)
-    } else {
-        write_beside(rt, parsed, module, path)
-    };
-    Ok(written?)
+    let mut target = Target::create(rt, path)?;
+    let written = parsed.write_module(&module.changes, &mut target);
+    Ok(target.close(written)?)
 }

@@ -8,5 +8,5 @@ mod snipping;
 
 pub use counting::{CALLS, count_calls};
 pub use ending::{Stop, exit_code, words};
-pub use files::{read_file, write_module};
+pub use files::{Target, read_file, write_module};
 pub use snipping::snip;

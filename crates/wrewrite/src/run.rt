@@ -1,6 +1,6 @@
 //! Running the program.
 
-use crate::files::{Draft, read};
+use module_tools::{Target, read_file};
 use std::io;
 use std::io::{BufWriter, IsTerminal, Write};
 use std::time::Instant;
@@ -30,7 +30,7 @@ fn refuse(rt: &HostRuntime, error: ModuleError, bytes: usize) -> io::Result<Done
 
 /// Says which bodies of a module are refused.
 fn check(rt: &HostRuntime, input: &str) -> io::Result<Done> {
-    let bytes = read(rt, input)?;
+    let bytes = read_file(rt, input)?;
     let mut parsed = match ParsedModule::read(rt.alloc(), &bytes) {
         Ok(parsed) => parsed,
         Err(error) => return refuse(rt, error, bytes.len()),
@@ -51,71 +51,17 @@ fn map_error(error: MapError) -> io::Error {
     }
 }
 
-/// Where the module or its map is written.
-#[derive(Drop)]
-enum Target<'a> {
-    StandardOutput,
-    File(Draft<'a>),
-}
-
-impl<'a> Target<'a> {
-    fn create(rt: &HostRuntime, path: &'a str) -> io::Result<Target<'a>> {
-        if path == "-" {
-            return Ok(Target::StandardOutput);
-        }
-        Ok(Target::File(Draft::create(rt, path)?))
-    }
-
-    /// Keeps what was written, or takes it away where that went wrong.
-    fn close(self, rt: &HostRuntime, written: io::Result<()>) -> io::Result<()> {
-        match self {
-            Target::StandardOutput => written,
-            Target::File(draft) => match written {
-                Ok(()) => draft.finish(rt),
-                Err(error) => {
-                    draft.discard(rt);
-                    Err(error)
-                }
-            },
-        }
-    }
-}
-
 /// Writes the map of a module that was rewritten.
-fn write_map_to<W: Write + Drop>(
-    rt: &HostRuntime,
-    parsed: &mut ParsedModule<'_>,
-    rewritten: &RewrittenModule<'_>,
-    out: W,
-) -> io::Result<()> {
-    let mut out = BufWriter::new(rt.alloc(), out)?;
-    match parsed.write_map(&rewritten.changes, &mut out) {
-        Ok(()) => out.flush(),
-        Err(error) => Err(map_error(error)),
-    }
-}
-
 fn write_map(
     rt: &HostRuntime,
     parsed: &mut ParsedModule<'_>,
     rewritten: &RewrittenModule<'_>,
-    target: &mut Target<'_>,
+    target: &mut Target<'_, HostRuntime>,
 ) -> io::Result<()> {
-    match target {
-        Target::StandardOutput => write_map_to(rt, parsed, rewritten, rt.stdout()),
-        Target::File(draft) => write_map_to(rt, parsed, rewritten, draft.file()),
-    }
-}
-
-fn write_module(
-    rt: &HostRuntime,
-    parsed: &ParsedModule<'_>,
-    rewritten: &RewrittenModule<'_>,
-    target: &mut Target<'_>,
-) -> io::Result<()> {
-    match target {
-        Target::StandardOutput => parsed.write_module(&rewritten.changes, &mut rt.stdout()),
-        Target::File(draft) => parsed.write_module(&rewritten.changes, draft.file()),
+    let mut out = BufWriter::new(rt.alloc(), target)?;
+    match parsed.write_map(&rewritten.changes, &mut out) {
+        Ok(()) => out.flush(),
+        Err(error) => Err(map_error(error)),
     }
 }
 
@@ -129,25 +75,25 @@ fn write_all(
 ) -> io::Result<()> {
     let mut target = Target::create(rt, output)?;
     let Some(path) = map else {
-        let written = write_module(rt, parsed, rewritten, &mut target);
-        return target.close(rt, written);
+        let written = parsed.write_module(&rewritten.changes, &mut target);
+        return target.close(written);
     };
     let mut map_target = match Target::create(rt, path.as_str()) {
         Ok(map_target) => map_target,
-        Err(error) => return target.close(rt, Err(error)),
+        Err(error) => return target.close(Err(error)),
     };
     let mapped = write_map(rt, parsed, rewritten, &mut map_target);
     let written = match mapped {
-        Ok(()) => write_module(rt, parsed, rewritten, &mut target),
+        Ok(()) => parsed.write_module(&rewritten.changes, &mut target),
         Err(error) => Err(error),
     };
-    let closed = target.close(rt, written);
-    map_target.close(rt, closed)
+    let closed = target.close(written);
+    map_target.close(closed)
 }
 
 /// Rewrites a module.
 fn rewrite(rt: &HostRuntime, input: &str, output: &str, map: Option<&String>) -> io::Result<Done> {
-    let bytes = read(rt, input)?;
+    let bytes = read_file(rt, input)?;
     let mut parsed = match ParsedModule::read(rt.alloc(), &bytes) {
         Ok(parsed) => parsed,
         Err(error) => return refuse(rt, error, bytes.len()),
