@@ -1,2 +1,4 @@
 -- what the validator of locals means
 pub mod LocalsBelow
+-- where a body stands
+pub mod Bodies

@@ -1,11 +1,13 @@
 //! Bodies of a module: parsed, rewritten, and written.
 
+ghost use Rattle.std.specs.Prelude.{◌≡◌, OnOk, IfOk};
+ghost use Rattle.wasm_module.specs.Bodies.{IsWithin};
+
 use crate::code::Body;
 use crate::fault::{ModuleError, ModuleFault};
 use crate::locals::{Locals, LocalsBelow, MOST_LOCALS, arguments};
 use crate::parsed::ParsedModule;
-use std::alloc::AllocError;
-use walrus_body::{Emit, EmitContext, FunctionBody, LocalFunction, ParseError};
+use walrus_body::{Emit, EmitContext, FunctionBody, LocalFunction};
 use walrus_ir::{IdHashMap, Instr, InstrLocId, LocalId, TypeId};
 use walrus_run::{CodeEntry, RewriteError, rewrite_body};
 
@@ -33,13 +35,16 @@ const PLACES: Option<&fn(&usize) -> InstrLocId> = None;
 
 /// Whether a body wants a type that the module doesn't have.
 fn wants_type(error: &ModuleError) -> bool {
-    error.fault == ModuleFault::Parse(ParseError::TypeMissing)
+    error.fault == ModuleFault::TypeMissing
 }
 
 impl<'a> ParsedModule<'a> {
     /// Reads the declarations of a body's locals, and makes the function's locals those of the
     /// module.
-    fn enter(&mut self, body: Body<'a>) -> Result<Entered<'a>, ModuleError> {
+    fn enter(&mut self, body: Body<'a>) -> Result<Entered<'a>, ModuleError>
+        ensures place { OnOk result (self.new.«module».code_section_offset ≡ 0) }
+        ensures fits { IfOk result (λ e. IsWithin e.body) }
+    {
         let start = body.start();
         let Some(ty) = self.func_types.get(body.func).copied() else {
             return Err(body.input.fault(ModuleFault::BodyCount));
@@ -58,6 +63,8 @@ impl<'a> ParsedModule<'a> {
         }
         let Locals { types, count: all } = locals;
         self.module.locals = types;
+        // Places count from the start of the file.
+        self.module.code_section_offset = 0;
         Ok(Entered {
             ty,
             args: arguments(self.alloc, count)?,

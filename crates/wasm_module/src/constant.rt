@@ -32,10 +32,7 @@ impl Input<'_> {
             let at = reader.original_position();
             let operator = match reader.read() {
                 Ok(operator) => operator,
-                Err(error) => {
-                    let fault = ModuleFault::Read(error.fault);
-                    return Err(ModuleError { fault, at });
-                }
+                Err(error) => return Err(ModuleError::of_read(error)),
             };
             if matches!(operator, Operator::End) {
                 return self.skip_to(reader.original_position());

@@ -4,10 +4,10 @@ use std::alloc::{AllocError, AllocFailed};
 use std::error::Error;
 use std::fmt;
 use thiserror::Error as ErrorText;
-use walrus_body::{EmitError, IndexError, ParseError, ParseFailure, Space};
+use walrus_body::{EmitError, IndexError, ParseError, ParseFailure};
 use walrus_ir::WalkError;
 use walrus_run::{RewriteError, rewrite_name};
-use wasm_ops::{ReadError, ReadFault};
+use wasm_ops::ReadError;
 
 /// What is wrong with a module.
 #[derive(Clone, Copy, Debug, PartialEq, Eq, ErrorText)]
@@ -55,12 +55,9 @@ pub enum ModuleFault {
     /// A constant expression has an operator that opens or parts a construct.
     #[error("no such operator stands in a constant expression")]
     BadConstant,
-    /// An operator can't be read.
-    #[error(transparent)]
-    Read(ReadFault),
     /// An index names nothing that the module has.
-    #[error("an index is out of bounds for {0}")]
-    IndexOutOfRange(Space),
+    #[error("an index names nothing")]
+    IndexOutOfRange,
     /// The type of a function or of a tag isn't a function type.
     #[error("a type is not a function type")]
     NotAFunctionType,
@@ -76,15 +73,13 @@ pub enum ModuleFault {
     /// An operator names a local that the function doesn't have.
     #[error("an index is out of bounds for the function's locals")]
     LocalOutOfRange,
-    /// A body isn't parsed, for another reason.
-    #[error(transparent)]
-    Parse(ParseError),
-    /// No facts about a body are found.
-    #[error(transparent)]
-    Walk(WalkError),
-    /// A body isn't written.
-    #[error(transparent)]
-    Emit(EmitError),
+    /// The module has no type for a handler. No call of a parsed module answers it.
+    #[error("the module has no type for a handler")]
+    TypeMissing,
+    /// A body or a constant expression isn't accepted, or a body can't be written, for the reason of
+    /// this name.
+    #[error("an operator is not accepted")]
+    Code(&'static str),
     /// An export that is to be added has the name of one that is there.
     #[error("an export has this name already")]
     ExportTaken,
@@ -95,13 +90,8 @@ pub enum ModuleFault {
     Memory,
 }
 
-/// The name of a parser's fault.
-fn parse_name(error: ParseError) -> &'static str {
-    rewrite_name(RewriteError::Parse(ParseFailure { error, at: 0 }))
-}
-
 impl ModuleFault {
-    /// The name of the fault, which is that of its innermost variant.
+    /// The name of the fault.
     pub fn name(self) -> &'static str {
         match self {
             ModuleFault::Truncated => "Truncated",
@@ -121,16 +111,14 @@ impl ModuleFault {
             ModuleFault::BadSegmentFlags => "BadSegmentFlags",
             ModuleFault::BadElementKind => "BadElementKind",
             ModuleFault::BadConstant => "BadConstant",
-            ModuleFault::Read(fault) => parse_name(ParseError::Read(ReadError { fault, at: 0 })),
-            ModuleFault::IndexOutOfRange(_) => "IndexOutOfRange",
+            ModuleFault::IndexOutOfRange => "IndexOutOfRange",
             ModuleFault::NotAFunctionType => "NotAFunctionType",
             ModuleFault::BodyCount => "BodyCount",
             ModuleFault::DataCount => "DataCount",
             ModuleFault::TooManyLocals => "TooManyLocals",
             ModuleFault::LocalOutOfRange => "LocalOutOfRange",
-            ModuleFault::Parse(error) => parse_name(error),
-            ModuleFault::Walk(error) => rewrite_name(RewriteError::Walk(error)),
-            ModuleFault::Emit(error) => rewrite_name(RewriteError::Emit(error)),
+            ModuleFault::TypeMissing => "TypeMissing",
+            ModuleFault::Code(name) => name,
             ModuleFault::ExportTaken => "ExportTaken",
             ModuleFault::TooGreat => "TooGreat",
             ModuleFault::Memory => "Memory",
@@ -145,12 +133,12 @@ pub struct ModuleError {
     pub at: usize,
 }
 
-/// The name of the fault, its place in hexadecimal, and its text.
+/// The name of the fault, and its place in hexadecimal.
 impl fmt::Display for ModuleError {
     fn fmt<W: fmt::Write>(&self, f: &mut fmt::Formatter<W>) -> fmt::Result {
-        let ModuleError { fault, at } = self;
-        let name = fault.name();
-        write!(f, "{name} at 0x{at:x}: {fault}")
+        let name = self.fault.name();
+        let at = self.at;
+        write!(f, "{name} at 0x{at:x}")
     }
 }
 
@@ -166,7 +154,7 @@ impl ModuleError {
     /// Why an index map has no answer, or can't grow, at this place.
     pub(crate) fn of_index(error: IndexError, at: usize) -> ModuleError {
         let fault = match error {
-            IndexError::OutOfRange { space, .. } => ModuleFault::IndexOutOfRange(space),
+            IndexError::OutOfRange { .. } => ModuleFault::IndexOutOfRange,
             IndexError::Memory => ModuleFault::Memory,
             IndexError::NoLocals { .. } | IndexError::LocalOutOfRange { .. } => {
                 ModuleFault::LocalOutOfRange
@@ -190,15 +178,23 @@ impl ModuleError {
     /// Why a body isn't parsed.
     pub(crate) fn of_parse(failure: ParseFailure) -> ModuleError {
         let fault = match failure.error {
-            ParseError::Read(error) => ModuleFault::Read(error.fault),
             ParseError::Checked(_) => ModuleFault::LocalOutOfRange,
+            ParseError::TypeMissing => ModuleFault::TypeMissing,
             ParseError::Memory => ModuleFault::Memory,
-            error => ModuleFault::Parse(error),
+            _ => ModuleFault::Code(rewrite_name(RewriteError::Parse(failure))),
         };
         ModuleError {
             fault,
             at: failure.at,
         }
+    }
+
+    /// Why an operator isn't read.
+    pub(crate) fn of_read(error: ReadError) -> ModuleError {
+        ModuleError::of_parse(ParseFailure {
+            error: ParseError::Read(error),
+            at: error.at,
+        })
     }
 
     /// Why the body that begins at this place isn't rewritten.
@@ -208,8 +204,7 @@ impl ModuleError {
             RewriteError::Walk(WalkError::Memory) | RewriteError::Emit(EmitError::Memory) => {
                 ModuleFault::Memory
             }
-            RewriteError::Walk(error) => ModuleFault::Walk(error),
-            RewriteError::Emit(error) => ModuleFault::Emit(error),
+            _ => ModuleFault::Code(rewrite_name(error)),
         };
         ModuleError { fault, at: start }
     }

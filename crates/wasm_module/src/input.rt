@@ -1,6 +1,6 @@
 //! Bytes of a module, read from the front (WebAssembly core specification 3.0, binary format,
 //! values).
-ghost use Rattle.std.specs.Prelude.{◌≤◌, length};
+ghost use Rattle.std.specs.Prelude.{◌≡◌, ◌==◌, ◌<◌, ◌≤◌, ◌+◌, ◌^◌, length, OnOk, IfOk};
 
 use crate::fault::{ModuleError, ModuleFault};
 use walrus_ir::{AbstractHeapType, HeapType, RefType, ValType};
@@ -11,7 +11,6 @@ use wasm_ops::{RawHeapType, RawValType};
 pub(crate) struct Input<'a> {
     rest: &'a [u8],
     end: usize,
-    ghost within: { length rest.now ≤ end },
 }
 
 impl<'a> Input<'a> {
@@ -24,16 +23,22 @@ impl<'a> Input<'a> {
     }
 
     /// The place of the next byte.
-    pub fn at(&self) -> usize {
-        self.end - self.rest.len()
+    pub fn at(&self) -> usize
+        ensures { result + length self.now.rest.now < 2 ^ 64 }
+    {
+        self.end.saturating_sub(self.rest.len())
     }
 
     /// The bytes that are left.
-    pub fn rest(&self) -> &'a [u8] {
+    pub fn rest(&self) -> &'a [u8]
+        ensures { result.now ≡ self.now.rest.now }
+    {
         self.rest
     }
 
-    pub fn is_empty(&self) -> bool {
+    pub fn is_empty(&self) -> bool
+        ensures { result ≡ (length self.now.rest.now == 0) }
+    {
         self.rest.is_empty()
     }
 
@@ -46,7 +51,9 @@ impl<'a> Input<'a> {
     }
 
     /// The next so many bytes, as a part of its own.
-    pub fn part(&mut self, len: usize) -> Result<Input<'a>, ModuleError> {
+    pub fn part(&mut self, len: usize) -> Result<Input<'a>, ModuleError>
+        ensures { OnOk result (length self.new.rest.now ≤ length self.old.rest.now) }
+    {
         if len > self.rest.len() {
             return Err(self.fault(ModuleFault::Truncated));
         }
@@ -54,12 +61,14 @@ impl<'a> Input<'a> {
         self.rest = rest;
         Ok(Input {
             rest: front,
-            end: self.end - rest.len(),
+            end: self.end.saturating_sub(rest.len()),
         })
     }
 
     /// The same part with no bytes left.
-    pub fn ended(&self) -> Input<'a> {
+    pub fn ended(&self) -> Input<'a>
+        ensures { length result.rest.now ≡ 0 }
+    {
         Input {
             rest: &[],
             end: self.end,
@@ -93,7 +102,9 @@ impl<'a> Input<'a> {
         }
     }
 
-    pub fn byte(&mut self) -> Result<u8, ModuleError> {
+    pub fn byte(&mut self) -> Result<u8, ModuleError>
+        ensures { OnOk result (length self.new.rest.now + 1 ≡ length self.old.rest.now) }
+    {
         match self.rest {
             [first, rest @ ..] => {
                 self.rest = rest;
@@ -104,7 +115,9 @@ impl<'a> Input<'a> {
     }
 
     /// An unsigned number of 64 bits in LEB128, of at most so many bytes.
-    fn unsigned(&mut self, most: u32) -> Result<u64, ModuleError> {
+    fn unsigned(&mut self, most: u32) -> Result<u64, ModuleError>
+        ensures { OnOk result (length self.new.rest.now < length self.old.rest.now) }
+    {
         let begin = *self;
         let mut number = 0;
         for place in 0..most.min(10) {
@@ -121,7 +134,9 @@ impl<'a> Input<'a> {
     }
 
     /// An unsigned number of 32 bits.
-    pub fn number(&mut self) -> Result<u32, ModuleError> {
+    pub fn number(&mut self) -> Result<u32, ModuleError>
+        ensures { OnOk result (length self.new.rest.now < length self.old.rest.now) }
+    {
         let begin = *self;
         match u32::try_from(self.unsigned(5)?) {
             Ok(number) => Ok(number),

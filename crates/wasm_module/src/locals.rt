@@ -6,7 +6,7 @@ use crate::input::Input;
 use std::alloc::Global;
 use walrus_body::{CheckError, IndicesToIds, OpCheck, value_type};
 use walrus_ir::{LocalId, ModuleLocals, ValType};
-use wasm_ops::Operator;
+use wasm_ops::{Immediates, Operator};
 
 /// How many locals a function has at most, its parameters among them: engines take no more.
 pub(crate) const MOST_LOCALS: usize = 50_000;
@@ -101,11 +101,9 @@ impl OpCheck for LocalsBelow {
     ghost check = { locals_below };
 
     fn op(&mut self, _pos: usize, op: &Operator<'_>) -> Result<(), CheckError> {
-        match op {
-            Operator::LocalGet { local }
-            | Operator::LocalSet { local }
-            | Operator::LocalTee { local }
-                if *local as usize >= self.0 => { Err(CheckError::Refused(0)) }
+        let (_, immediates) = op.parts();
+        match immediates {
+            Immediates::Local(local) if local as usize >= self.0 => Err(CheckError::Refused(0)),
             _ => Ok(()),
         }
     }

@@ -31,7 +31,6 @@ pub struct ParsedModule<'a> {
     code_at: Option<usize>,
     /// What the data count section tells, and where.
     data_count: Option<(u32, usize)>,
-    ghost places: { «module».code_section_offset ≡ 0 },
 }
 
 /// Whether nothing is wrong, else the fault at this place.

@@ -1,4 +1,5 @@
 //! Sections (WebAssembly core specification 3.0, binary format, modules).
+ghost use Rattle.std.specs.Prelude.{◌<◌, length, IfOk};
 
 use crate::fault::{ModuleError, ModuleFault};
 use crate::input::Input;
@@ -123,7 +124,9 @@ impl<'a> Section<'a> {
 }
 
 /// The section at the front, and what follows it.
-fn read_section(mut left: Input<'_>) -> Result<(Section<'_>, Input<'_>), ModuleError> {
+fn read_section(mut left: Input<'_>) -> Result<(Section<'_>, Input<'_>), ModuleError>
+    ensures { IfOk result (λ x. length x.1.rest.now < length left.entry.rest.now) }
+{
     let begin = left;
     let id = left.byte()?;
     let Some(kind) = SectionKind::of_id(id) else {

@@ -3,7 +3,6 @@
 use crate::fault::{ModuleError, ModuleFault};
 use crate::input::Input;
 use std::alloc::Global;
-use walrus_body::Space;
 use walrus_ir::{HeapType, RefType, ValType};
 use wasm_ops::RawValType;
 
@@ -36,9 +35,7 @@ impl TypeReader<'_> {
                     heap_type: HeapType::Concrete(index),
                     ..
                 },
-            ) if index as usize >= self.count => {
-                Err(begin.fault(ModuleFault::IndexOutOfRange(Space::Types)))
-            }
+            ) if index as usize >= self.count => { Err(begin.fault(ModuleFault::IndexOutOfRange)) }
             _ => Ok(ty),
         }
     }
@@ -96,7 +93,7 @@ impl TypeReader<'_> {
             for _ in 0..self.input.number()? {
                 let begin = self.input;
                 if self.input.number()? as usize >= self.count {
-                    return Err(begin.fault(ModuleFault::IndexOutOfRange(Space::Types)));
+                    return Err(begin.fault(ModuleFault::IndexOutOfRange));
                 }
             }
         }
