@@ -1,6 +1,6 @@
 //! Why a module isn't read or rewritten.
 
-use crate::names::rewrite_name;
+use crate::names::{parse_name, rewrite_name};
 use std::alloc::{AllocError, AllocFailed};
 use std::error::Error;
 use std::fmt;
@@ -174,17 +174,15 @@ impl ModuleError {
 
     /// Why a body isn't parsed.
     pub(crate) fn of_parse(failure: ParseFailure) -> ModuleError {
-        let name = rewrite_name(RewriteError::Parse(failure));
-        let fault = match failure.error {
+        let ParseFailure { error, at } = failure;
+        let name = parse_name(error);
+        let fault = match error {
             ParseError::Checked(_) => ModuleFault::LocalOutOfRange,
             ParseError::TypeMissing => ModuleFault::TypeMissing,
             ParseError::Memory => ModuleFault::Memory,
             _ => ModuleFault::Code(name),
         };
-        ModuleError {
-            fault,
-            at: failure.at,
-        }
+        ModuleError { fault, at }
     }
 
     /// Why an operator isn't read.

@@ -23,7 +23,7 @@ fn walk_name(error: WalkError) -> &'static str {
     }
 }
 
-fn parse_name(error: ParseError) -> &'static str {
+pub(crate) fn parse_name(error: ParseError) -> &'static str {
     match error {
         ParseError::Read(error) => read_name(error.fault),
         ParseError::PlaceTooGreat => "PlaceTooGreat",

@@ -199,14 +199,20 @@ impl<'a> ParsedModule<'a> {
     fn add_func(&mut self, index: u32, place: usize) -> Result<(), ModuleError> {
         let ty = self.func_type(index, place)?;
         let id = FunctionId::new(self.func_types.len());
-        added_at(self.spaces.add_func(id), place)?;
+        match self.spaces.add_func(id) {
+            Ok(()) => {}
+            Err(error) => return Err(ModuleError::of_index(error, place)),
+        }
         self.func_types.push(ty)?;
         Ok(())
     }
 
     fn add_tag(&mut self, index: u32, place: usize) -> Result<(), ModuleError> {
         let ty = self.func_type(index, place)?;
-        added_at(self.spaces.add_tag(), place)?;
+        match self.spaces.add_tag() {
+            Ok(()) => {}
+            Err(error) => return Err(ModuleError::of_index(error, place)),
+        }
         self.module.tags.add(ty)?;
         Ok(())
     }
@@ -242,7 +248,10 @@ impl<'a> ParsedModule<'a> {
         let lists = self.result_lists(types)?;
         for index in 0..types.len() {
             let id = TypeId::new(lists.len().saturating_add(index));
-            added_at(self.spaces.add_type(id), 0)?;
+            match self.spaces.add_type(id) {
+                Ok(()) => {}
+                Err(error) => return Err(ModuleError::of_index(error, 0)),
+            }
         }
         for results in &lists {
             let results = self.value_types(results)?;

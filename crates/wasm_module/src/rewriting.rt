@@ -4,7 +4,7 @@ use crate::bodies::Scratch;
 use crate::changes::Changes;
 use crate::code::Body;
 use crate::code_section::CodeSection;
-use crate::custom::{Followers, Note, RewrittenBody};
+use crate::custom::{Followers, Note};
 use crate::fault::ModuleError;
 use crate::output::number_len;
 use crate::parsed::ParsedModule;
@@ -61,15 +61,8 @@ impl<'a> ParsedModule<'a> {
             Ok(function) => function,
             Err(error) => return Err(error),
         };
-        followers.pass(
-            self,
-            RewrittenBody {
-                source: body,
-                function: &function,
-                pairs: &scratch.pairs,
-                raw,
-            },
-        )
+        let (pairs, raw) = (scratch.pairs.as_slice(), raw.as_slice());
+        followers.pass(self, body, &function, pairs, raw)
     }
 
     /// The contents of the code section that is written: the number of bodies, and each body as it
