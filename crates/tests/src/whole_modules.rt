@@ -321,9 +321,7 @@ fn maps_and_checks(rt: HostRuntime) -> Result<(), Fail> {
         (
             "0061736d01000000 010401600000 020701016d01660000 030403000000 \
             0a0f0304000c010b02000b050020001a0b",
-            "function 1: NoSuchLabel at 0x22: a label is not open\n\
-            function 3: LocalOutOfRange at 0x2a: an index is out of bounds for the function's \
-            locals\n",
+            "function 1: NoSuchLabel at 0x22\nfunction 3: LocalOutOfRange at 0x2a\n",
         ),
     ] {
         let found = map_and_check(rt.alloc(), module)?;

@@ -23,7 +23,6 @@ pub use named_body::NamedBody;
 pub use named_op::{
     NamedBlockType, NamedCast, NamedCatch, NamedImmediates, NamedIndex, NamedMemArg, NamedOp,
 };
-pub use names::rewrite_name;
 pub use program::run_words;
 pub use rewriting::rewrite_demo;
 pub use walrus_body::{

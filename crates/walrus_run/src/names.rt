@@ -5,8 +5,8 @@ use walrus_body::{EmitError, IndexError, ParseError};
 use walrus_ir::WalkError;
 use wasm_ops::ReadFault;
 
-/// The name of a fault: that of its innermost variant.
-pub fn rewrite_name(error: RewriteError) -> &'static str {
+/// The name of a fault.
+pub(crate) fn rewrite_name(error: RewriteError) -> &'static str {
     match error {
         RewriteError::Parse(failure) => parse_name(failure.error),
         RewriteError::Walk(error) => walk_name(error),

@@ -2,3 +2,5 @@
 pub mod LocalsBelow
 -- where a body stands
 pub mod Bodies
+-- the code section
+pub mod CodeSections

@@ -91,10 +91,11 @@ impl<'a> ParsedModule<'a> {
             body: source,
             locals,
         } = self.enter(body)?;
+        let lists = self.spaces.local_lists();
         let rewritten = rewrite_body(
             &self.module,
             &self.spaces.indices,
-            self.spaces.local_lists(),
+            lists,
             ty,
             args,
             source,
@@ -167,10 +168,11 @@ impl<'a> ParsedModule<'a> {
             body: source,
             locals,
         } = self.enter(body)?;
+        let lists = self.spaces.local_lists();
         let parsed = LocalFunction::parse(
             &self.module,
             &self.spaces.indices,
-            self.spaces.local_lists(),
+            lists,
             ty,
             args,
             source,

@@ -329,8 +329,17 @@ impl<'a> Followers<'a> {
     pub fn pass(
         &mut self,
         parsed: &ParsedModule<'a>,
-        body: RewrittenBody<'_, 'a>,
+        source: Body<'a>,
+        function: &LocalFunction,
+        pairs: &[(InstrLocId, usize)],
+        raw: &[u8],
     ) -> Result<(), ModuleError> {
+        let body = RewrittenBody {
+            source,
+            function,
+            pairs,
+            raw,
+        };
         for section in self.sections.iter_mut() {
             for part in section.parts.iter_mut() {
                 part.pass(parsed, body)?;

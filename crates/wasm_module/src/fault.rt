@@ -1,12 +1,13 @@
 //! Why a module isn't read or rewritten.
 
+use crate::names::{parse_name, rewrite_name};
 use std::alloc::{AllocError, AllocFailed};
 use std::error::Error;
 use std::fmt;
 use thiserror::Error as ErrorText;
 use walrus_body::{EmitError, IndexError, ParseError, ParseFailure};
 use walrus_ir::WalkError;
-use walrus_run::{RewriteError, rewrite_name};
+use walrus_run::RewriteError;
 use wasm_ops::ReadError;
 
 /// What is wrong with a module.
@@ -177,16 +178,15 @@ impl ModuleError {
 
     /// Why a body isn't parsed.
     pub(crate) fn of_parse(failure: ParseFailure) -> ModuleError {
-        let fault = match failure.error {
+        let ParseFailure { error, at } = failure;
+        let name = parse_name(error);
+        let fault = match error {
             ParseError::Checked(_) => ModuleFault::LocalOutOfRange,
             ParseError::TypeMissing => ModuleFault::TypeMissing,
             ParseError::Memory => ModuleFault::Memory,
-            _ => ModuleFault::Code(rewrite_name(RewriteError::Parse(failure))),
+            _ => ModuleFault::Code(name),
         };
-        ModuleError {
-            fault,
-            at: failure.at,
-        }
+        ModuleError { fault, at }
     }
 
     /// Why an operator isn't read.

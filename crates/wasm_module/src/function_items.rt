@@ -20,19 +20,24 @@ pub(crate) struct FunctionItems<'a> {
     functions: u32,
 }
 
-/// The items of one function, or only passes them.
-fn read_items<'a>(
-    input: &mut Input<'a>,
-    mut items: Option<&mut Vec<Item<'a>>>,
-) -> Result<(), ModuleError> {
+/// Passes the items of one function.
+fn pass_items(input: &mut Input<'_>) -> Result<(), ModuleError> {
+    for _ in 0..input.number()? {
+        input.number()?;
+        input.bytes()?;
+    }
+    Ok(())
+}
+
+/// The items of one function.
+fn read_items<'a>(alloc: Global, input: &mut Input<'a>) -> Result<Vec<Item<'a>>, ModuleError> {
+    let mut items = Vec::new(alloc);
     for _ in 0..input.number()? {
         let number = input.number()?;
         let bytes = input.bytes()?;
-        if let Some(items) = &mut items {
-            items.push((number, bytes))?;
-        }
+        items.push((number, bytes))?;
     }
-    Ok(())
+    Ok(items)
 }
 
 impl<'a> FunctionItems<'a> {
@@ -53,7 +58,7 @@ impl<'a> FunctionItems<'a> {
                 return Err(begin.fault(ModuleFault::SectionOutOfOrder));
             }
             next = func as usize + 1;
-            read_items(&mut input, None)?;
+            pass_items(&mut input)?;
         }
         input.finish()?;
         Ok(FunctionItems {
@@ -76,7 +81,7 @@ impl<'a> FunctionItems<'a> {
     fn carry(&mut self) -> Result<(), ModuleError> {
         let mut input = self.left;
         input.number()?;
-        read_items(&mut input, None)?;
+        pass_items(&mut input)?;
         self.written.extend_from_slice(self.left.until(&input))?;
         self.functions = self.functions.saturating_add(1);
         self.left = input;
@@ -102,10 +107,9 @@ impl<'a> FunctionItems<'a> {
 
     /// Takes the items of the next function.
     pub fn take(&mut self) -> Result<Vec<Item<'a>>, ModuleError> {
-        let mut items = Vec::new(*self.written.allocator());
         let mut input = self.left;
         input.number()?;
-        read_items(&mut input, Some(&mut items))?;
+        let items = read_items(*self.written.allocator(), &mut input)?;
         self.left = input;
         Ok(items)
     }

@@ -32,9 +32,9 @@ impl Locals {
     }
 
     /// Adds so many locals of a type.
-    fn add(&mut self, count: u32, ty: ValType) -> Result<(), ModuleError> {
+    fn add(&mut self, count: u32, ty: &ValType) -> Result<(), ModuleError> {
         for _ in 0..count {
-            self.types.add(ty)?;
+            self.types.add(*ty)?;
         }
         self.count = self.count.saturating_add(count as usize);
         Ok(())
@@ -58,7 +58,7 @@ impl Locals {
             }
             let begin = *input;
             match value_type(indices, input.value_type()?) {
-                Ok(ty) => self.add(count, ty)?,
+                Ok(ty) => self.add(count, &ty)?,
                 Err(error) => return Err(ModuleError::of_type(error, begin.at())),
             }
         }

@@ -33,10 +33,10 @@ pub struct ParsedModule<'a> {
     data_count: Option<(u32, usize)>,
 }
 
-/// Whether nothing is wrong, else the fault at this place.
-fn at<T>(answer: Result<T, IndexError>, place: usize) -> Result<T, ModuleError> {
+/// What was added at this place, or why it wasn't.
+fn added_at(answer: Result<(), IndexError>, place: usize) -> Result<(), ModuleError> {
     match answer {
-        Ok(value) => Ok(value),
+        Ok(()) => Ok(()),
         Err(error) => Err(ModuleError::of_index(error, place)),
     }
 }
@@ -162,7 +162,7 @@ impl<'a> ParsedModule<'a> {
             SectionKind::Element => self.spaces.add_element(),
             _ => self.spaces.add_data(),
         };
-        at(added, place)
+        added_at(added, place)
     }
 
     fn read_import(&mut self, input: &mut Input<'a>) -> Result<(), ModuleError> {
@@ -178,12 +178,15 @@ impl<'a> ParsedModule<'a> {
             Imported::Memory => self.spaces.add_memory(),
             Imported::Global => self.spaces.add_global(),
         };
-        at(added, place)
+        added_at(added, place)
     }
 
     /// The function type with this index.
     fn func_type(&self, index: u32, place: usize) -> Result<TypeId, ModuleError> {
-        let id = at(self.spaces.indices.get_type(index), place)?;
+        let id = match self.spaces.indices.get_type(index) {
+            Ok(id) => id,
+            Err(error) => return Err(ModuleError::of_index(error, place)),
+        };
         if self.module.types.is_func(id) {
             return Ok(id);
         }
@@ -196,14 +199,20 @@ impl<'a> ParsedModule<'a> {
     fn add_func(&mut self, index: u32, place: usize) -> Result<(), ModuleError> {
         let ty = self.func_type(index, place)?;
         let id = FunctionId::new(self.func_types.len());
-        at(self.spaces.add_func(id), place)?;
+        match self.spaces.add_func(id) {
+            Ok(()) => {}
+            Err(error) => return Err(ModuleError::of_index(error, place)),
+        }
         self.func_types.push(ty)?;
         Ok(())
     }
 
     fn add_tag(&mut self, index: u32, place: usize) -> Result<(), ModuleError> {
         let ty = self.func_type(index, place)?;
-        at(self.spaces.add_tag(), place)?;
+        match self.spaces.add_tag() {
+            Ok(()) => {}
+            Err(error) => return Err(ModuleError::of_index(error, place)),
+        }
         self.module.tags.add(ty)?;
         Ok(())
     }
@@ -239,7 +248,10 @@ impl<'a> ParsedModule<'a> {
         let lists = self.result_lists(types)?;
         for index in 0..types.len() {
             let id = TypeId::new(lists.len().saturating_add(index));
-            at(self.spaces.add_type(id), 0)?;
+            match self.spaces.add_type(id) {
+                Ok(()) => {}
+                Err(error) => return Err(ModuleError::of_index(error, 0)),
+            }
         }
         for results in &lists {
             let results = self.value_types(results)?;

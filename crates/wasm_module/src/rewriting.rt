@@ -3,14 +3,16 @@
 use crate::bodies::Scratch;
 use crate::changes::Changes;
 use crate::code::Body;
-use crate::custom::{Followers, Note, RewrittenBody};
+use crate::code_section::CodeSection;
+use crate::custom::{Followers, Note};
 use crate::fault::ModuleError;
-use crate::output::{number_len, write_bytes, write_number};
+use crate::output::number_len;
 use crate::parsed::ParsedModule;
 use crate::sections::SectionKind;
 use std::alloc::Global;
 use std::io;
 use std::io::Write;
+use walrus_body::LocalFunction;
 use walrus_ir::InstrLocId;
 
 /// A module whose bodies were rewritten: what is written in the place of some of its sections, and
@@ -32,6 +34,20 @@ impl Scratch {
 }
 
 impl<'a> ParsedModule<'a> {
+    /// Rewrites a body into `raw`, with its location pairs where they are needed.
+    fn rewrite_into(
+        &mut self,
+        body: Body<'a>,
+        needs_pairs: bool,
+        scratch: &mut Scratch,
+        raw: &mut Vec<u8>,
+    ) -> Result<LocalFunction, ModuleError> {
+        match needs_pairs {
+            true => self.rewrite_with_pairs(body, scratch, raw),
+            false => self.rewrite(body, scratch, raw),
+        }
+    }
+
     /// Rewrites a body into `raw`, and what follows it.
     fn rewrite_followed(
         &mut self,
@@ -40,20 +56,13 @@ impl<'a> ParsedModule<'a> {
         scratch: &mut Scratch,
         raw: &mut Vec<u8>,
     ) -> Result<(), ModuleError> {
-        let function = if followers.reach(body.func)? {
-            self.rewrite_with_pairs(body, scratch, raw)?
-        } else {
-            self.rewrite(body, scratch, raw)?
+        let needs_pairs = followers.reach(body.func)?;
+        let function = match self.rewrite_into(body, needs_pairs, scratch, raw) {
+            Ok(function) => function,
+            Err(error) => return Err(error),
         };
-        followers.pass(
-            self,
-            RewrittenBody {
-                source: body,
-                function: &function,
-                pairs: &scratch.pairs,
-                raw,
-            },
-        )
+        let (pairs, raw) = (scratch.pairs.as_slice(), raw.as_slice());
+        followers.pass(self, body, &function, pairs, raw)
     }
 
     /// The contents of the code section that is written: the number of bodies, and each body as it
@@ -61,15 +70,13 @@ impl<'a> ParsedModule<'a> {
     fn rewrite_code(&mut self, followers: &mut Followers<'a>) -> Result<Vec<u8>, ModuleError> {
         let mut scratch = Scratch::new(self.alloc);
         let mut raw = Vec::new(self.alloc);
-        let mut code = Vec::new(self.alloc);
-        code.reserve(self.bytes.len())?;
-        write_number(&mut code, self.body_count())?;
+        let mut code = CodeSection::new(self.alloc, self.body_count(), self.bytes.len())?;
         for body in self.bodies() {
             raw.clear();
             self.rewrite_followed(body, followers, &mut scratch, &mut raw)?;
-            write_bytes(&mut code, &raw)?;
+            code.push(&raw)?;
         }
-        Ok(code)
+        Ok(code.into_contents())
     }
 
     /// Rewrites the bodies of all functions. Names of locals and of labels and metadata of code

@@ -120,9 +120,9 @@ impl Spaces {
 
     /// Lets so many first indices of locals stand for ids, which are the indices.
     pub fn reach_locals(&mut self, count: usize) -> Result<(), IndexError> {
+        let lists = self.local_lists();
         for index in self.locals..count {
-            self.indices
-                .push_local(self.local_lists(), LocalId::new(index))?;
+            self.indices.push_local(lists, LocalId::new(index))?;
             self.locals = index + 1;
         }
         Ok(())
