@@ -3,9 +3,9 @@
 use crate::bodies::Scratch;
 use crate::changes::Changes;
 use crate::code::Body;
-use crate::custom::{Followers, RewrittenBody};
+use crate::code_section::CodeSection;
+use crate::custom::Followers;
 use crate::fault::ModuleError;
-use crate::output::{write_bytes, write_number};
 use crate::parsed::ParsedModule;
 use crate::rewriting::RewrittenModule;
 use std::mem;
@@ -73,18 +73,14 @@ impl<'a> ParsedModule<'a> {
         raw: &mut Vec<u8>,
     ) -> Result<(), ModuleError> {
         followers.reach(body.func)?;
-        let mut function = self.parse(body, scratch)?;
+        let mut function = match self.parse(body, scratch) {
+            Ok(function) => function,
+            Err(error) => return Err(error),
+        };
         change.change(body.func, &mut function)?;
         self.write_changed(&function, body.start(), scratch, raw)?;
-        followers.pass(
-            self,
-            RewrittenBody {
-                source: body,
-                function: &function,
-                pairs: &scratch.pairs,
-                raw,
-            },
-        )
+        let (pairs, raw) = (scratch.pairs.as_slice(), raw.as_slice());
+        followers.pass(self, body, &function, pairs, raw)
     }
 
     /// The contents of the code section that is written: the number of bodies, and each body as it
@@ -96,14 +92,12 @@ impl<'a> ParsedModule<'a> {
     ) -> Result<Vec<u8>, ModuleError> {
         let mut scratch = Scratch::new(self.alloc);
         let mut raw = Vec::new(self.alloc);
-        let mut code = Vec::new(self.alloc);
-        code.reserve(self.bytes.len())?;
-        write_number(&mut code, self.body_count())?;
+        let mut code = CodeSection::new(self.alloc, self.body_count(), self.bytes.len())?;
         for body in self.bodies() {
             self.change_body(body, change, followers, &mut scratch, &mut raw)?;
-            write_bytes(&mut code, &raw)?;
+            code.push(&raw)?;
         }
-        Ok(code)
+        Ok(code.into_contents())
     }
 
     /// Writes the bodies of all functions as they are changed, beside these changes of other
