@@ -7,9 +7,9 @@ use wasm_module::{ChangeFunction, Changes, ModuleError, ParsedModule, RewrittenM
 
 /// Which functions lose their bodies, ascending.
 #[derive(Drop)]
-struct Snip<'i>(&'i [usize]);
+struct Snipped<'i>(&'i [usize]);
 
-impl ChangeFunction for Snip<'_> {
+impl ChangeFunction for Snipped<'_> {
     fn change(&mut self, index: usize, function: &mut LocalFunction) -> Result<(), ModuleError> {
         if self.0.binary_search(&index).is_err() || !function.has_entry() {
             return Ok(());
@@ -38,5 +38,5 @@ pub fn snip<'a>(
 ) -> Result<RewrittenModule<'a>, ModuleError> {
     let mut ascending = Vec::from_slice(alloc, indices)?;
     ascending.sort_unstable();
-    parsed.change_all(&mut Snip(&ascending), Changes::new(alloc))
+    parsed.change_all(&mut Snipped(&ascending), Changes::new(alloc))
 }
