@@ -1,8 +1,9 @@
 //! Functions that count their calls.
 
+use crate::edits::count_call;
 use std::alloc::Global;
 use walrus_body::LocalFunction;
-use walrus_ir::{BinaryOp, Binop, Const, GlobalGet, GlobalId, GlobalSet, Instr, InstrLocId, Value};
+use walrus_ir::GlobalId;
 use wasm_module::{ChangeFunction, Changes, ModuleError, ParsedModule, RewrittenModule};
 
 /// The name under which the number of calls is exported.
@@ -17,22 +18,8 @@ struct CountCalls(GlobalId);
 
 impl ChangeFunction for CountCalls {
     fn change(&mut self, _index: usize, function: &mut LocalFunction) -> Result<(), ModuleError> {
-        if !function.has_entry() {
-            return Ok(());
-        }
-        let entry = function.entry_block();
-        let block = function.block_mut(entry);
-        let global = self.0;
-        let value = Value::I64(1);
-        let op = BinaryOp::I64Add;
-        // From the last to the first, each before what is there.
-        for instr in [
-            Instr::GlobalSet(GlobalSet { global }),
-            Instr::Binop(Binop { op }),
-            Instr::Const(Const { value }),
-            Instr::GlobalGet(GlobalGet { global }),
-        ] {
-            block.instrs.insert(0, (instr, InstrLocId::default()))?;
+        if function.has_entry() {
+            count_call(function, self.0)?;
         }
         Ok(())
     }

@@ -2,6 +2,7 @@
 #![tactic(auto)]
 
 mod counting;
+mod edits;
 mod ending;
 mod files;
 mod snipping;

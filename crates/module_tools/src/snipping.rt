@@ -1,8 +1,8 @@
 //! Functions whose bodies are taken away.
 
+use crate::edits::trap;
 use std::alloc::Global;
 use walrus_body::LocalFunction;
-use walrus_ir::{Instr, InstrLocId};
 use wasm_module::{ChangeFunction, Changes, ModuleError, ParsedModule, RewrittenModule};
 
 /// Which functions lose their bodies, ascending.
@@ -11,16 +11,9 @@ struct Snipped<'i>(&'i [usize]);
 
 impl ChangeFunction for Snipped<'_> {
     fn change(&mut self, index: usize, function: &mut LocalFunction) -> Result<(), ModuleError> {
-        if self.0.binary_search(&index).is_err() || !function.has_entry() {
-            return Ok(());
+        if self.0.binary_search(&index).is_ok() && function.has_entry() {
+            trap(function)?;
         }
-        let entry = function.entry_block();
-        let block = function.block_mut(entry);
-        block.instrs.clear();
-        block
-            .instrs
-            .push((Instr::Unreachable, InstrLocId::default()))?;
-        block.end = InstrLocId::default();
         Ok(())
     }
 }
