@@ -1,5 +1,5 @@
 -- What the tools change of a function's first sequence.
-use Rattle.std.specs.Prelude.{ℕ, [], ◌∷◌}
+use Rattle.std.specs.Prelude.{ℕ, [], ◌∷◌, pos}
 use Rattle.walrus_ir.specs.declared.seq.InstrSeq.{InstrSeq}
 use Rattle.walrus_ir.specs.declared.instr.Instr.TheVariants as instr
 use Rattle.walrus_ir.specs.declared.binary.BinaryOp.TheVariants.{I64Add}
@@ -13,7 +13,7 @@ abbrev pub counted : ℕ → InstrSeq → InstrSeq
 counted global was = record was {
   instrs =
       (instr.GlobalGet (record { global = global }), default_location)
-      ∷ (instr.Const (record { value = I64 1 }), default_location)
+      ∷ (instr.Const (record { value = I64 (pos 1) }), default_location)
       ∷ (instr.Binop (record { op = I64Add }), default_location)
       ∷ (instr.GlobalSet (record { global = global }), default_location)
       ∷ was.instrs;
