@@ -92,6 +92,16 @@ pub enum ModuleFault {
 }
 
 impl ModuleFault {
+    /// What is wrong with a body that isn't parsed.
+    fn of_parse(error: ParseError) -> ModuleFault {
+        match error {
+            ParseError::Checked(_) => ModuleFault::LocalOutOfRange,
+            ParseError::TypeMissing => ModuleFault::TypeMissing,
+            ParseError::Memory => ModuleFault::Memory,
+            error => ModuleFault::Code(parse_name(error)),
+        }
+    }
+
     /// The name of the fault.
     pub fn name(self) -> &'static str {
         match self {
@@ -178,15 +188,10 @@ impl ModuleError {
 
     /// Why a body isn't parsed.
     pub(crate) fn of_parse(failure: ParseFailure) -> ModuleError {
-        let ParseFailure { error, at } = failure;
-        let name = parse_name(error);
-        let fault = match error {
-            ParseError::Checked(_) => ModuleFault::LocalOutOfRange,
-            ParseError::TypeMissing => ModuleFault::TypeMissing,
-            ParseError::Memory => ModuleFault::Memory,
-            _ => ModuleFault::Code(name),
-        };
-        ModuleError { fault, at }
+        ModuleError {
+            fault: ModuleFault::of_parse(failure.error),
+            at: failure.at,
+        }
     }
 
     /// Why an operator isn't read.
