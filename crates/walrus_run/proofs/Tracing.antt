@@ -7,15 +7,13 @@ use Rattle.wasm_body.specs.Machine as M
 use Rattle.walrus_run.specs.declared.machine.control.Control.{Control}
 use Rattle.walrus_run.specs.Controls.{control_meaning}
 use Rattle.walrus_run.specs.Tables.{place_at}
-use Rattle.walrus_run.specs.declared.machine.control.Asking.{Asking}
 use Rattle.walrus_run.specs.declared.machine.control.Construct.{Construct}
-use Rattle.walrus_run.specs.declared.machine.reply.Reply.{Reply}
 use Rattle.walrus_run.specs.declared.machine.label.Label.{Label}
 use Rattle.walrus_run.specs.declared.machine.run.Outcome.{Outcome}
 use Rattle.walrus_run.specs.declared.machine.state.State.{State}
-use Rattle.walrus_run.specs.Controls.{asking_meaning, construct_meaning}
+use Rattle.walrus_run.specs.Controls.{construct_meaning}
 use Rattle.walrus_run.specs.Runs.{outcome_of}
-use Rattle.walrus_run.specs.Tracing.{caught_in, label_of, opens, Onwards, seen, run_on, Finds, answered, Replies}
+use Rattle.walrus_run.specs.Tracing.{caught_in, label_of, opens, Onwards, seen, run_on, Finds}
 use Rattle.walrus_run.proofs.Tables.{here, nothing_at, reverse_left, pushed}
 
 -- ---- the clauses of a legacy `try`
@@ -91,23 +89,6 @@ module _ (again go : M.From ℕ) where
 -- an outcome that was asked for
 pub asked : (cs : List C.Control) (old new : State) (k : Onwards) (x y : Outcome) → Finds old new (λ cs k ls o. k ls (outcome_of x ∷ o)) → x ≡ y → run_on cs old k ≡ run_on cs new (λ ls o. k ls (outcome_of y ∷ o))
 asked cs old new k x y found e = found cs k ∙ ap (λ z. run_on cs new (λ ls o. k ls (outcome_of z ∷ o))) e
-
--- an operator that asks, where no outcome is left
-pub none_asked : (again go : M.From ℕ) (a : Asking) (i : ℕ) (rest : List (C.Marked ℕ)) (ls : List (M.Label ℕ)) → M.act again go (asking_meaning a) i rest ls [] ≡ M.ends M.OutcomesOut
-none_asked again go Asking.Plain i rest ls = refl
-none_asked again go (Asking.ConditionalBranch n) i rest ls = refl
-none_asked again go (Asking.TableBranch targets default) i rest ls = refl
-none_asked again go (Asking.Throw tag) i rest ls = refl
-none_asked again go Asking.ThrowRef i rest ls = refl
-none_asked again go Asking.TailCall i rest ls = refl
-
--- and where one is: what it makes of this
-pub replies_on : (again go : M.From ℕ) (cs : List C.Control) (old new : State) (a : C.Action) (x : Outcome) (i : ℕ) (r s : Option Reply) → Finds old new (λ cs k ls o. k ls (outcome_of x ∷ o))
-    → Replies a (outcome_of x) r → r ≡ s → run_on cs old (M.act again go a i (place_at cs (i + 1))) ≡ run_on cs new (answered again go cs i s)
-replies_on again go cs old new a x i r s found replies e =
-    found cs (M.act again go a i (place_at cs (i + 1)))
-    ∙ (same_on cs new (λ ls o. M.act again go a i (place_at cs (i + 1)) ls (outcome_of x ∷ o)) (answered again go cs i r) (λ ls o. replies again go cs i ls o)
-    ∙ ap (λ q. run_on cs new (answered again go cs i q)) e)
 
 -- what a `rethrow` raises again: what its handler caught
 pub rethrown : (again go : M.From ℕ) (cs : List C.Control) (s : State) (n : ℕ) (caught : Option M.Tags) → M.caught_at (opens cs s.labels.items) n ≡ caught →

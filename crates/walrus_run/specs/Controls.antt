@@ -2,7 +2,6 @@
 use Rattle.std.specs.Prelude.{map}
 use Rattle.walrus_run.specs.declared.named_op.NamedCatch.{NamedCatch}
 use Rattle.walrus_run.specs.declared.machine.control.Action.{Action}
-use Rattle.walrus_run.specs.declared.machine.control.Asking.{Asking}
 use Rattle.walrus_run.specs.declared.machine.control.Construct.{Construct}
 use Rattle.walrus_run.specs.declared.machine.control.Control.{Control}
 use Rattle.walrus_run.specs.declared.machine.operator.Role.{Role}
@@ -34,21 +33,18 @@ role_meaning Role.Plain = C.a_plain
 abbrev pub clause_meaning : NamedCatch → C.Clause
 clause_meaning c = record { tag = c.tag; label = c.label }
 
-abbrev pub asking_meaning : Asking → C.Action
-asking_meaning Asking.Plain = C.Plain
-asking_meaning (Asking.ConditionalBranch n) = C.ConditionalBranch n
-asking_meaning (Asking.TableBranch targets default) = C.TableBranch targets.now default
-asking_meaning (Asking.Throw tag) = C.Throw tag
-asking_meaning Asking.ThrowRef = C.ThrowRef
-asking_meaning Asking.TailCall = C.TailCall
-
 abbrev pub action_meaning : Action → C.Action
 action_meaning Action.Nop = C.Nop
+action_meaning Action.Plain = C.Plain
 action_meaning (Action.Branch n) = C.Branch n
+action_meaning (Action.ConditionalBranch n) = C.ConditionalBranch n
+action_meaning (Action.TableBranch targets default) = C.TableBranch targets.now default
 action_meaning Action.Return = C.Return
 action_meaning Action.Unreachable = C.Unreachable
+action_meaning (Action.Throw tag) = C.Throw tag
+action_meaning Action.ThrowRef = C.ThrowRef
 action_meaning (Action.Rethrow n) = C.Rethrow n
-action_meaning (Action.Asks a) = asking_meaning a
+action_meaning Action.TailCall = C.TailCall
 
 abbrev pub construct_meaning : Construct → C.Construct
 construct_meaning Construct.Block = C.Block

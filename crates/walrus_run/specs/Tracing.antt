@@ -1,5 +1,5 @@
 -- What the machine keeps while it runs, and where its steps lead.
-use Rattle.std.specs.Prelude.{◌≡◌, ℕ, ◌+◌, List, ◌∷◌, ◌++◌, length, map, reverse, Option, Some, None, option_map}
+use Rattle.std.specs.Prelude.{◌≡◌, ℕ, ◌+◌, List, ◌++◌, length, map, reverse, Option, option_map}
 use Rattle.std.specs.Borrow.{Bor}
 use Rattle.std.specs.BTreeSet.{BTreeSet}
 use Rattle.wasm_body.specs.Control as C
@@ -10,7 +10,6 @@ use Rattle.walrus_run.specs.declared.machine.label.Response.{Response}
 use Rattle.walrus_run.specs.declared.machine.state.State.{State}
 use Rattle.walrus_run.specs.declared.machine.state.Next.{Next}
 use Rattle.walrus_run.specs.declared.machine.execution.Stop.{Stop}
-use Rattle.walrus_run.specs.declared.machine.reply.Reply.{Reply}
 use Rattle.walrus_run.specs.Controls.{construct_meaning}
 use Rattle.walrus_run.specs.Runs.{outcome_of, event_of, ending_of}
 use Rattle.walrus_run.specs.Tables.{place_at}
@@ -75,24 +74,6 @@ Leads cs step old next new = (again go : M.From ℕ) → run_on cs old (step aga
 -- The step of an operator at a position.
 abbrev pub Steps : List C.Control → C.Control → (position : ℕ) → State → Next → State → Type 0
 Steps cs control position = Leads cs (λ again go. M.step again go control position (place_at cs (position + 1)))
-
--- what follows an operator at a position that was executed, by the reply to it
-abbrev pub replied : (again go : M.From ℕ) → List C.Control → (position : ℕ) → Reply → Onwards
-replied again go cs position Reply.GoesOn ls o = go (place_at cs (position + 1)) ls o
-replied again go cs position (Reply.Branches n) ls o = M.branch again go n ls o
-replied again go cs position (Reply.Raises tags) ls o = M.raise again go tags.now.keys ls o 0
-replied again go cs position Reply.Traps ls o = M.ends M.Trapped
-replied again go cs position Reply.TailCalls ls o = M.ends M.TailCalled
-
--- The operator is executed, or it doesn't ask for this.
-abbrev pub answered : (again go : M.From ℕ) → List C.Control → (position : ℕ) → Option Reply → Onwards
-answered again go cs position None ls o = M.ends M.Mismatch
-answered again go cs position (Some r) ls o = M.then (M.Executed position) (replied again go cs position r ls o)
-
--- what an operator makes of the outcome that it gets
-abbrev pub Replies : C.Action → M.Outcome → Option Reply → Type 0
-Replies a x r = (again go : M.From ℕ) (cs : List C.Control) (position : ℕ) (ls : List (M.Label ℕ)) (o : List M.Outcome)
-    → M.act again go a position (place_at cs (position + 1)) ls (x ∷ o) ≡ answered again go cs position r ls o
 
 -- to where the steps of a turn lead
 abbrev pub stopping : (again : M.From ℕ) → List C.Control → Stop → Onwards

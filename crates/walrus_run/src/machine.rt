@@ -4,7 +4,6 @@ mod control;
 mod execution;
 mod label;
 mod operator;
-mod reply;
 mod respond;
 mod run;
 mod state;

@@ -3,12 +3,15 @@
 use crate::named_op::NamedCatch;
 use walrus_ir::TagId;
 
-/// What an operator does that asks for an outcome, and neither opens, parts nor closes a construct.
-/// Labels are depths.
+/// What an operator does that neither opens, parts nor closes a construct. Labels are depths.
 #[derive(Clone, Copy)]
-pub enum Asking<'a> {
+pub enum Action<'a> {
+    /// Nothing at all.
+    Nop,
     /// What any operator does that isn't named here.
     Plain,
+    /// Branches to a label.
+    Branch(u32),
     /// Branches to a label, or goes on.
     ConditionalBranch(u32),
     /// Branches to one of these labels.
@@ -18,29 +21,18 @@ pub enum Asking<'a> {
         /// The label where the table has no such entry.
         default: u32,
     },
-    /// Raises an exception of a tag.
-    Throw(TagId),
-    /// Raises an exception that it is handed.
-    ThrowRef,
-    /// Leaves the function by a call.
-    TailCall,
-}
-
-/// What an operator does that neither opens, parts nor closes a construct. Labels are depths.
-#[derive(Clone, Copy)]
-pub enum Action<'a> {
-    /// Nothing at all.
-    Nop,
-    /// Branches to a label.
-    Branch(u32),
     /// Returns from the function.
     Return,
     /// Traps.
     Unreachable,
+    /// Raises an exception of a tag.
+    Throw(TagId),
+    /// Raises an exception that it is handed.
+    ThrowRef,
     /// Raises the exception again that the handler of a label caught.
     Rethrow(u32),
-    /// Something that it asks an outcome for.
-    Asks(Asking<'a>),
+    /// Leaves the function by a call.
+    TailCall,
 }
 
 /// What an opener opens.

@@ -2,12 +2,12 @@
 ghost use Rattle.std.specs.Prelude.{◌≡◌, ◌∷◌, List, unwrap_or, map, IfOk};
 ghost use Rattle.wasm_ops.specs.Types.{row_at};
 ghost use Rattle.wasm_body.specs.Control as C;
-ghost use Rattle.walrus_run.specs.Controls.{role_meaning, clause_meaning, asking_meaning};
+ghost use Rattle.walrus_run.specs.Controls.{role_meaning, clause_meaning, action_meaning};
 ghost use Rattle.walrus_run.specs.Controls.{control_meaning};
 ghost use Rattle.walrus_run.specs.NamedOperators.{NamedImmediate, named_index};
 ghost use Rattle.walrus_run.specs.NamedOperators.{named_immediates, named_operation};
 
-use crate::machine::control::{Action, Asking, Construct, Control};
+use crate::machine::control::{Action, Construct, Control};
 use crate::named_op::{NamedCatch, NamedImmediates, NamedIndex, NamedOp};
 use std::alloc::{AllocError, Global};
 use walrus_ir::TagId;
@@ -155,15 +155,15 @@ impl NamedImmediates {
     }
 
     /// The branch of a table, where there is one.
-    fn branches(&self) -> Asking<'_>
-        ensures { asking_meaning result ≡ C.branches (named_immediates self.now) }
+    fn branches(&self) -> Action<'_>
+        ensures { action_meaning result ≡ C.branches (named_immediates self.now) }
     {
         match self {
-            NamedImmediates::Table(targets, default) => Asking::TableBranch {
+            NamedImmediates::Table(targets, default) => Action::TableBranch {
                 targets,
                 default: *default,
             },
-            _ => Asking::TableBranch {
+            _ => Action::TableBranch {
                 targets: &[],
                 default: 0,
             },
@@ -181,13 +181,6 @@ impl NamedImmediates {
     }
 }
 
-/// An operator that asks for an outcome.
-fn asks(asking: Asking<'_>) -> Control<'_>
-    ensures { control_meaning result ≡ C.Does (asking_meaning asking) }
-{
-    Control::Does(Action::Asks(asking))
-}
-
 /// What a named operator does to the control.
 pub fn control(op: &NamedOp) -> Control<'_>
     ensures { control_meaning result ≡ C.control_of (named_operation op.now) }
@@ -202,19 +195,19 @@ pub fn control(op: &NamedOp) -> Control<'_>
         Role::Else => Control::Else,
         Role::Try => Control::Opens(Construct::Try),
         Role::Catch => Control::Catch(immediates.tag()),
-        Role::Throw => asks(Asking::Throw(immediates.tag())),
+        Role::Throw => Control::Does(Action::Throw(immediates.tag())),
         Role::Rethrow => Control::Does(Action::Rethrow(immediates.depth())),
-        Role::ThrowRef => asks(Asking::ThrowRef),
+        Role::ThrowRef => Control::Does(Action::ThrowRef),
         Role::End => Control::End,
         Role::Branch => Control::Does(Action::Branch(immediates.label())),
-        Role::ConditionalBranch => asks(Asking::ConditionalBranch(immediates.label())),
-        Role::TableBranch => asks(immediates.branches()),
+        Role::ConditionalBranch => Control::Does(Action::ConditionalBranch(immediates.label())),
+        Role::TableBranch => Control::Does(immediates.branches()),
         Role::Return => Control::Does(Action::Return),
-        Role::TailCall => asks(Asking::TailCall),
+        Role::TailCall => Control::Does(Action::TailCall),
         Role::Delegate => Control::Delegate(immediates.depth()),
         Role::CatchAll => Control::CatchAll,
         Role::TryTable => Control::Opens(Construct::TryTable(immediates.clauses())),
-        Role::Plain => asks(Asking::Plain),
+        Role::Plain => Control::Does(Action::Plain),
     }
 }
 

@@ -2,49 +2,168 @@
 ghost use Rattle.std.specs.Prelude.{◌≡◌, ◌+◌, ◌<◌, ◌^◌, ◌∷◌, IfOk};
 ghost use Rattle.wasm_body.specs.Control as C;
 ghost use Rattle.wasm_body.specs.Machine as M;
-ghost use Rattle.walrus_run.specs.Controls.{action_meaning, asking_meaning, construct_meaning, control_meaning};
+ghost use Rattle.walrus_run.specs.Controls.{action_meaning, construct_meaning, control_meaning};
 ghost use Rattle.walrus_run.specs.Tables.{place_at};
 ghost use Rattle.walrus_run.specs.Tracing.{opened, Does, Leads, Steps};
 
-use crate::machine::control::{Action, Asking, Construct, Control};
+use crate::machine::control::{Action, Construct, Control};
 use crate::machine::label::Label;
-use crate::machine::reply::Reply;
 use crate::machine::run::{Ending, Outcome};
 use crate::machine::state::{Next, State};
-use crate::machine::table::{Table, Wanted};
+use crate::machine::table::{Table, Wanted, has_tag};
 use std::alloc::AllocError;
+use walrus_ir::TagId;
 
 impl<'a> State<'a> {
-    /// An operator that asks for an outcome.
-    fn ask_for(
-        &mut self,
-        table: &Table<'_>,
-        asking: &Asking<'_>,
-        position: usize,
-    ) -> Result<Next, AllocError>
+    /// An operator that asks for `Go`, `Trap` or `Raise`.
+    fn plain(&mut self, table: &Table<'_>, position: usize) -> Result<Next, AllocError>
         requires { position + 1 < 2 ^ 64 }
         ensures { IfOk result (λ next.
-            Steps table.now (C.Does (asking_meaning asking.now)) position self.old next self.new) }
+            Steps table.now (C.Does C.Plain) position self.old next self.new) }
     {
         let Some(outcome) = self.ask() else {
             return Ok(Next::Over(Ending::OutcomesOut));
         };
-        let Some(reply) = asking.reply(outcome) else {
-            return Ok(Next::Over(Ending::Mismatch));
-        };
-        self.executed(position)?;
-        match reply {
-            Reply::GoesOn => Ok(Next::On(position + 1)),
-            Reply::Branches(n) => {
-                let next = self.branch(table, n)?;
-                Ok(next)
+        match outcome {
+            Outcome::Go => {
+                self.executed(position)?;
+                Ok(Next::On(position + 1))
             }
-            Reply::Raises(tags) => {
+            Outcome::Trap => {
+                self.executed(position)?;
+                Ok(Next::Over(Ending::Trapped))
+            }
+            Outcome::Raise(tags) => {
+                self.executed(position)?;
                 let next = self.raise(table, tags)?;
                 Ok(next)
             }
-            Reply::Traps => Ok(Next::Over(Ending::Trapped)),
-            Reply::TailCalls => Ok(Next::Over(Ending::TailCalled)),
+            Outcome::Way(_) | Outcome::Entry(_) => Ok(Next::Over(Ending::Mismatch)),
+        }
+    }
+
+    /// A `throw`, which asks for `Raise` with its tag.
+    fn throw(&mut self, table: &Table<'_>, position: usize, tag: TagId) -> Result<Next, AllocError>
+        ensures { IfOk result (λ next.
+            Steps table.now (C.Does (C.Throw tag)) position self.old next self.new) }
+    {
+        let Some(outcome) = self.ask() else {
+            return Ok(Next::Over(Ending::OutcomesOut));
+        };
+        match outcome {
+            Outcome::Raise(tags) => {
+                if !has_tag(tags, tag) {
+                    return Ok(Next::Over(Ending::Mismatch));
+                }
+                self.executed(position)?;
+                let next = self.raise(table, tags)?;
+                Ok(next)
+            }
+            Outcome::Go | Outcome::Trap | Outcome::Way(_) | Outcome::Entry(_) => Ok(Next::Over(
+                Ending::Mismatch,
+            )),
+        }
+    }
+
+    /// A `throw_ref`, which asks for `Raise` or `Trap`.
+    fn throw_ref(&mut self, table: &Table<'_>, position: usize) -> Result<Next, AllocError>
+        ensures { IfOk result (λ next.
+            Steps table.now (C.Does C.ThrowRef) position self.old next self.new) }
+    {
+        let Some(outcome) = self.ask() else {
+            return Ok(Next::Over(Ending::OutcomesOut));
+        };
+        match outcome {
+            Outcome::Trap => {
+                self.executed(position)?;
+                Ok(Next::Over(Ending::Trapped))
+            }
+            Outcome::Raise(tags) => {
+                self.executed(position)?;
+                let next = self.raise(table, tags)?;
+                Ok(next)
+            }
+            Outcome::Go | Outcome::Way(_) | Outcome::Entry(_) => Ok(Next::Over(Ending::Mismatch)),
+        }
+    }
+
+    /// A tail call, which asks for `Go` or `Trap`.
+    fn tail_call(&mut self, table: &Table<'_>, position: usize) -> Result<Next, AllocError>
+        ensures { IfOk result (λ next.
+            Steps table.now (C.Does C.TailCall) position self.old next self.new) }
+    {
+        let Some(outcome) = self.ask() else {
+            return Ok(Next::Over(Ending::OutcomesOut));
+        };
+        match outcome {
+            Outcome::Go => {
+                self.executed(position)?;
+                Ok(Next::Over(Ending::TailCalled))
+            }
+            Outcome::Trap => {
+                self.executed(position)?;
+                Ok(Next::Over(Ending::Trapped))
+            }
+            Outcome::Raise(_) | Outcome::Way(_) | Outcome::Entry(_) => Ok(Next::Over(
+                Ending::Mismatch,
+            )),
+        }
+    }
+
+    /// A branch that is taken or not, which asks for `Way`.
+    fn conditional_branch(
+        &mut self,
+        table: &Table<'_>,
+        position: usize,
+        n: u32,
+    ) -> Result<Next, AllocError>
+        requires { position + 1 < 2 ^ 64 }
+        ensures { IfOk result (λ next.
+            Steps table.now (C.Does (C.ConditionalBranch n)) position self.old next self.new) }
+    {
+        let Some(outcome) = self.ask() else {
+            return Ok(Next::Over(Ending::OutcomesOut));
+        };
+        match outcome {
+            Outcome::Way(taken) => {
+                self.executed(position)?;
+                if *taken {
+                    let next = self.branch(table, n)?;
+                    Ok(next)
+                } else {
+                    Ok(Next::On(position + 1))
+                }
+            }
+            Outcome::Go | Outcome::Trap | Outcome::Raise(_) | Outcome::Entry(_) => Ok(Next::Over(
+                Ending::Mismatch,
+            )),
+        }
+    }
+
+    /// A branch by a table, which asks for `Entry`.
+    fn table_branch(
+        &mut self,
+        table: &Table<'_>,
+        position: usize,
+        targets: &[u32],
+        default: u32,
+    ) -> Result<Next, AllocError>
+        ensures { IfOk result (λ next.
+            Steps table.now (C.Does (C.TableBranch targets.now default)) position
+            self.old next self.new) }
+    {
+        let Some(outcome) = self.ask() else {
+            return Ok(Next::Over(Ending::OutcomesOut));
+        };
+        match outcome {
+            Outcome::Entry(k) => {
+                self.executed(position)?;
+                let next = self.branch(table, target(targets, default, *k))?;
+                Ok(next)
+            }
+            Outcome::Go | Outcome::Trap | Outcome::Raise(_) | Outcome::Way(_) => Ok(Next::Over(
+                Ending::Mismatch,
+            )),
         }
     }
 
@@ -167,9 +286,21 @@ impl<'a> State<'a> {
     {
         match action {
             Action::Nop => Ok(Next::On(position + 1)),
+            Action::Plain => {
+                let next = self.plain(table, position)?;
+                Ok(next)
+            }
             Action::Branch(n) => {
                 self.executed(position)?;
                 let next = self.branch(table, *n)?;
+                Ok(next)
+            }
+            Action::ConditionalBranch(n) => {
+                let next = self.conditional_branch(table, position, *n)?;
+                Ok(next)
+            }
+            Action::TableBranch { targets, default } => {
+                let next = self.table_branch(table, position, targets, *default)?;
                 Ok(next)
             }
             Action::Return => {
@@ -180,12 +311,20 @@ impl<'a> State<'a> {
                 self.executed(position)?;
                 Ok(Next::Over(Ending::Trapped))
             }
+            Action::Throw(tag) => {
+                let next = self.throw(table, position, *tag)?;
+                Ok(next)
+            }
+            Action::ThrowRef => {
+                let next = self.throw_ref(table, position)?;
+                Ok(next)
+            }
             Action::Rethrow(n) => {
                 let next = self.rethrow(table, position, *n)?;
                 Ok(next)
             }
-            Action::Asks(asking) => {
-                let next = self.ask_for(table, asking, position)?;
+            Action::TailCall => {
+                let next = self.tail_call(table, position)?;
                 Ok(next)
             }
         }
@@ -217,5 +356,15 @@ impl<'a> State<'a> {
             | Control::End
             | Control::Delegate(_) => Ok(self.leave(table)),
         }
+    }
+}
+
+/// The label of a table's entry: the default where there is no such entry.
+fn target(targets: &[u32], default: u32, k: u32) -> u32
+    ensures { result ≡ M.target targets.now default k }
+{
+    match targets.get(k as usize) {
+        Some(n) => *n,
+        None => default,
     }
 }
