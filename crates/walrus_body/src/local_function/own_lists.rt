@@ -1,8 +1,7 @@
-//! The open frames, with the instructions of all of them in one list.
-ghost use Rattle.std.specs.Prelude.{reverse, ◌≡◌, ◌⊎◌, ◌≤◌, ◌<◌, ◌+◌, ◌^◌, ℕ, ◌∷◌, ◌++◌, [], List, length, MatchOption, IfOk, IfErr, OnOk, OnErr, IsSome, None, Some, Ok, Err};
+//! The open frames, each with a list of instructions of its own.
+ghost use Rattle.std.specs.Prelude.{reverse, ◌≡◌, ◌⊎◌, ◌≤◌, ◌<◌, ◌∷◌, ◌++◌, [], List, length, MatchOption, IfOk, IfErr, OnOk, OnErr, IsSome, None, Ok, Err};
 ghost use Rattle.wasm_body.specs.declared.error.ParseError.{ParseError as Fault};
-ghost use Rattle.walrus_body.specs.Parsing.OpenFrames.{OpenFrame, AreShown, ShowsAt, frame_with, new_frame, killed, with_instr, ChangesAt, HasNoFrame, HasNoFrameAt, InnerAreEmpty, with_clause_in, with_clause_around};
-ghost use Rattle.walrus_body.specs.Parsing.FrameStacks.{moved_from, StartFrom};
+ghost use Rattle.walrus_body.specs.Parsing.OpenFrames.{OpenFrame, AreShown, ShowsAt, frame_with, new_frame, killed, with_instr, ChangesAt, HasNoFrame, HasNoFrameAt, InnerAreEmpty, with_last_clause, with_clause_around};
 
 use crate::ParseError;
 use crate::local_function::frame::{ControlFrame, ControlStack};
@@ -22,41 +21,29 @@ pub(crate) fn pushed<T: Drop>(list: &mut Vec<T>, item: T) -> Result<(), ParseErr
     }
 }
 
-/// Where the n-th frame from the innermost stands, if so many are open.
-#[inline(always)]
-fn index_of(controls: &ControlStack, n: usize) -> Option<usize>
-    ensures { MatchOption result (length controls.now.items ≤ n)
-        (λ index. n + index + 1 ≡ length controls.now.items) }
-{
-    if n >= controls.len() {
-        return None;
-    }
-    Some(controls.len() - n - 1)
-}
-
-/// Adds a clause to an instruction that is a `try`.
-fn add_clause_in(item: &mut (Instr, InstrLocId), catch: LegacyCatch) -> Result<(), ParseError>
-    ensures ok { OnOk result (with_clause_in catch item.old ≡ Some item.new) }
+/// Adds a clause to the `try` that ends a list of instructions.
+fn add_last_clause(
+    instrs: &mut Vec<(Instr, InstrLocId)>,
+    catch: LegacyCatch,
+) -> Result<(), ParseError>
+    ensures ok { OnOk result (with_last_clause catch instrs.old.items ≡ Some instrs.new.items) }
     ensures err { IfErr result (λ e. (e ≡ Fault.Memory)
-        ⊎ ((e ≡ Fault.NoTry) × (with_clause_in catch item.old ≡ None))) }
-    ensures same { OnErr result (item.new ≡ item.old) }
+        ⊎ ((e ≡ Fault.NoTry) × (with_last_clause catch instrs.old.items ≡ None))) }
+    ensures same { OnErr result (instrs.new.items ≡ instrs.old.items) }
 {
-    match &mut item.0 {
-        Instr::Try(x) => pushed(&mut x.catches, catch),
-        _ => Err(ParseError::NoTry),
-    }
-}
-
-/// Has every frame from one on begin one instruction later.
-fn move_starts(controls: &mut ControlStack, from: usize)
-    requires within { from ≤ length controls.old.items }
-    requires fit { (end : ℕ) × (end + 1 < 2 ^ 64) × StartFrom 0 controls.old.items end }
-    ensures { controls.new.items ≡ moved_from from controls.old.items }
-{
-    let mut index = controls.len();
-    while index > from {
-        index -= 1;
-        controls[index].start += 1;
+    let Some((instr, location)) = instrs.pop() else {
+        return Err(ParseError::NoTry);
+    };
+    match instr {
+        Instr::Try(mut x) => {
+            let added = pushed(&mut x.catches, catch);
+            instrs.push((Instr::Try(x), location)).unwrap();
+            added
+        }
+        other => {
+            instrs.push((other, location)).unwrap();
+            Err(ParseError::NoTry)
+        }
     }
 }
 
@@ -64,20 +51,22 @@ fn move_starts(controls: &mut ControlStack, from: usize)
 #[derive(Drop)]
 pub struct FrameStack {
     controls: ControlStack,
-    instrs: Vec<(Instr, InstrLocId)>,
+    lists: Vec<Vec<(Instr, InstrLocId)>>,
+    lent: Vec<(Instr, InstrLocId)>,
 }
 
 impl Model for FrameStack {
-    ghost use Rattle.std.specs.Prelude.{List, [], length};
+    ghost use Rattle.std.specs.Prelude.{◌≡◌, List, [], length};
     ghost use Rattle.walrus_body.specs.Parsing.OpenFrames.{OpenFrame};
 
     ghost Value = { List OpenFrame };
 
-    ghost use Rattle.walrus_body.specs.Parsing.FrameStacks.{frames_in, StartFrom};
+    ghost use Rattle.walrus_body.specs.Parsing.OwnLists.{frames_within};
 
-    ghost view = { λ s. frames_in s.instrs.items [] s.controls.items };
+    ghost view = { λ s. frames_within [] s.controls.items s.lists.items };
 
-    ghost invariant = { λ s. StartFrom 0 s.controls.items (length s.instrs.items) };
+    ghost invariant = { λ s. (length s.lists.items ≡ length s.controls.items)
+        × (s.lent.items ≡ []) };
 }
 
 impl FrameStack {
@@ -87,9 +76,11 @@ impl FrameStack {
         requires empty { lent.items ≡ [] }
         ensures { result ≡ [] }
     {
+        let lists = Vec::new(*lent.allocator());
         FrameStack {
             controls,
-            instrs: lent,
+            lists,
+            lent,
         }
     }
 
@@ -97,10 +88,10 @@ impl FrameStack {
     pub fn get(&self, n: usize) -> Option<&ControlFrame>
         ensures { MatchOption result (length self.now ≤ n) (λ f. ShowsAt self.now n f.now) }
     {
-        match index_of(&self.controls, n) {
-            Some(index) => Some(&self.controls[index]),
-            None => None,
+        if n >= self.controls.len() {
+            return None;
         }
+        Some(&self.controls[self.controls.len() - n - 1])
     }
 
     /// Opens a frame without instructions.
@@ -116,16 +107,25 @@ impl FrameStack {
         ensures err { IfErr result (λ e. e ≡ Fault.Memory) }
         ensures same { OnErr result (self.new ≡ self.old) }
     {
-        let start = self.instrs.len();
+        let alloc = *self.lent.allocator();
+        if self.lists.reserve(1).is_err() {
+            return Err(ParseError::Memory);
+        }
         let frame = ControlFrame {
             start_types,
             end_types,
             unreachable: false,
             block,
             kind,
-            start,
+            start: 0,
         };
-        pushed(&mut self.controls, frame)
+        match pushed(&mut self.controls, frame) {
+            Ok(()) => {
+                self.lists.push(Vec::new(alloc)).unwrap();
+                Ok(())
+            }
+            Err(error) => Err(error),
+        }
     }
 
     /// Closes the innermost frame.
@@ -137,13 +137,8 @@ impl FrameStack {
         let Some(frame) = self.controls.pop() else {
             return Err(ParseError::NoFrame);
         };
-        match self.instrs.split_off(frame.start) {
-            Ok(tail) => Ok((frame, tail)),
-            Err(_) => {
-                self.controls.push(frame).unwrap();
-                Err(ParseError::Memory)
-            }
-        }
+        let list = self.lists.pop().unwrap();
+        Ok((frame, list))
     }
 
     /// Closes the innermost frame and drops its instructions. It takes no memory.
@@ -151,8 +146,8 @@ impl FrameStack {
         requires { 0 < length self.old }
         ensures { (frame : OpenFrame) × (self.old ≡ frame ∷ self.new) }
     {
-        let frame = self.controls.pop().unwrap();
-        self.instrs.truncate(frame.start);
+        let _frame = self.controls.pop().unwrap();
+        let _list = self.lists.pop().unwrap();
     }
 
     /// What follows in the innermost frame is dropped.
@@ -161,7 +156,7 @@ impl FrameStack {
         ensures err { IfErr result (HasNoFrame self.old) }
         ensures same { OnErr result (self.new ≡ self.old) }
     {
-        match index_of(&self.controls, 0) {
+        match self.controls.len().checked_sub(1) {
             Some(index) => {
                 self.controls[index].unreachable = true;
                 Ok(())
@@ -179,19 +174,14 @@ impl FrameStack {
         ensures err { IfErr result (λ e. (e ≡ Fault.Memory) ⊎ HasNoFrameAt self.old n e) }
         ensures same { OnErr result (self.new ≡ self.old) }
     {
-        let Some(index) = index_of(&self.controls, n) else {
+        if n >= self.controls.len() {
             return Err(ParseError::NoSuchLabel);
-        };
+        }
+        let index = self.controls.len() - n - 1;
         if self.controls[index].unreachable {
             return Ok(());
         }
-        match pushed(&mut self.instrs, (instr, location)) {
-            Ok(()) => {
-                move_starts(&mut self.controls, index + 1);
-                Ok(())
-            }
-            Err(error) => Err(error),
-        }
+        pushed(&mut self.lists[index], (instr, location))
     }
 
     /// Adds a clause to the `try` that ends the frame around the innermost, or drops it where that
@@ -202,18 +192,14 @@ impl FrameStack {
             ⊎ (with_clause_around catch self.old ≡ Err e)) }
         ensures same { OnErr result (self.new ≡ self.old) }
     {
-        let Some(index) = index_of(&self.controls, 1) else {
+        if self.controls.len() < 2 {
             return Err(ParseError::NoSuchLabel);
-        };
+        }
+        let index = self.controls.len() - 2;
         if self.controls[index].unreachable {
             return Ok(());
         }
-        let start = self.controls[index].start;
-        let end = self.controls[index + 1].start;
-        if start >= end {
-            return Err(ParseError::NoTry);
-        }
-        add_clause_in(&mut self.instrs[end - 1], catch)
+        add_last_clause(&mut self.lists[index], catch)
     }
 
     /// The frames as they are shown, the innermost last, and a list without instructions.
@@ -221,11 +207,7 @@ impl FrameStack {
         ensures frames { AreShown (reverse result.0.items) self }
         ensures empty { result.1.items ≡ [] }
     {
-        let FrameStack {
-            controls,
-            mut instrs,
-        } = self;
-        instrs.clear();
-        (controls, instrs)
+        let FrameStack { controls, lent, .. } = self;
+        (controls, lent)
     }
 }
