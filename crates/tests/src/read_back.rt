@@ -1,5 +1,5 @@
 //! What is written of a body is read again, and written unchanged: by the contracts of parsing and
-//! of writing and the laws, and by nothing else of what stands behind them.
+//! of writing, the laws of reading back, and that a function has one tree.
 ghost use Rattle.std.specs.Prelude.{◌≡◌, ◌≤◌, ℕ, List, drop, length, IfOk, IfErr};
 ghost use Rattle.wasm_body.specs.declared.error.ParseError.TheVariants as parse;
 ghost use Rattle.wasm_body.specs.SourceTree.{Body};
