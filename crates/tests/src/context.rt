@@ -1,6 +1,6 @@
 //! Contexts of a parse, whose calls are made by hand.
 use crate::by_hand::{Made, instr};
-use crate::function_text::push_sequence;
+use crate::function_text::push_sequences;
 use crate::small_module::Example;
 use std::alloc::{AllocError, Global};
 use std::process::Abort;
@@ -188,21 +188,10 @@ fn make_calls(
     Ok(())
 }
 
-// Appends open frames and all sequences.
-fn push_parts(
-    text: &mut String,
-    builder: &FunctionBuilder,
-    controls: &[ControlFrame],
-) -> Result<(), AllocError> {
-    write!(text, " |")?;
+// Appends open frames.
+fn push_frames(text: &mut String, controls: &[ControlFrame]) -> Result<(), AllocError> {
     for frame in controls {
         push_frame(text, frame)?;
-    }
-    for slot in 0..builder.count() {
-        let id = InstrSeqId::new(slot);
-        if builder.has(id) {
-            push_sequence(text, builder.seq(id))?;
-        }
     }
     Ok(())
 }
@@ -221,7 +210,9 @@ fn called(alloc: Global, example: &Example, steps: &[Step]) -> Result<String, Al
     );
     make_calls(alloc, &mut context, steps, &mut text)?;
     let (builder, controls, _instrs) = context.into_parts();
-    push_parts(&mut text, &builder, controls.as_slice())?;
+    write!(text, " |")?;
+    push_frames(&mut text, controls.as_slice())?;
+    push_sequences(&mut text, &builder)?;
     Ok(text)
 }
 

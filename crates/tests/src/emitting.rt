@@ -246,7 +246,7 @@ fn changed(alloc: Global) -> Result<LocalFunction, AllocError> {
 #[test]
 fn changes_one_sequence(rt: HostRuntime) -> Result<(), Fail> {
     let mut text = written(rt.alloc(), &changed(rt.alloc())?)?;
-    push_sequences(&mut text, &changed(rt.alloc())?)?;
+    push_sequences(&mut text, changed(rt.alloc())?.builder())?;
     assert_eq!(rt;
         text.as_str(),
         "0002030b1a0b 9@9 1@1 77@3 2@4 -@5 ()[ block 1@1 drop@2 ]- type5[ ]77"

@@ -4,8 +4,8 @@ use std::alloc::AllocError;
 use std::fmt;
 use walrus_body::{IndexError, LocalFunction, ParseError};
 use walrus_ir::{
-    BinaryOp, BrTable, Const, Instr, InstrLocId, InstrSeq, InstrSeqId, InstrSeqType, Load, Store,
-    UnaryOp, ValType, Value,
+    BinaryOp, BrTable, Const, FunctionBuilder, Instr, InstrLocId, InstrSeq, InstrSeqId,
+    InstrSeqType, Load, Store, UnaryOp, ValType, Value,
 };
 use wasm_ops::ReadError;
 
@@ -153,15 +153,15 @@ pub(crate) fn push_sequence(text: &mut String, seq: &InstrSeq) -> Result<(), All
     Ok(())
 }
 
-/// All sequences of a function, by their slots.
+/// All sequences of a builder, by their slots.
 pub(crate) fn push_sequences(
     text: &mut String,
-    function: &LocalFunction,
+    builder: &FunctionBuilder,
 ) -> Result<(), AllocError> {
-    for slot in 0..function.builder().count() {
+    for slot in 0..builder.count() {
         let id = InstrSeqId::new(slot);
-        if function.has_block(id) {
-            push_sequence(text, function.block(id))?;
+        if builder.has(id) {
+            push_sequence(text, builder.seq(id))?;
         }
     }
     Ok(())
@@ -177,7 +177,7 @@ pub(crate) fn function_text(function: &LocalFunction) -> Result<String, AllocErr
     for (place, location) in &function.instruction_mapping {
         write!(text, " {place}:{}", location.data())?;
     }
-    push_sequences(&mut text, function)?;
+    push_sequences(&mut text, function.builder())?;
     Ok(text)
 }
 
