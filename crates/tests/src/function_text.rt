@@ -5,7 +5,7 @@ use std::fmt;
 use walrus_body::{IndexError, LocalFunction, ParseError};
 use walrus_ir::{
     BinaryOp, BrTable, Const, FunctionBuilder, Instr, InstrLocId, InstrSeq, InstrSeqId,
-    InstrSeqType, Load, Store, UnaryOp, ValType, Value,
+    InstrSeqType, Load, MemArg, MemoryId, Store, UnaryOp, ValType, Value,
 };
 use wasm_ops::ReadError;
 
@@ -33,6 +33,17 @@ fn write_labels<W: fmt::Write>(f: &mut fmt::Formatter<W>, table: &BrTable) -> fm
     write!(f, " {}", table.default.index())
 }
 
+// An access: its kind, its memory, its alignment, and its offset.
+fn write_access<W: fmt::Write, K: fmt::Debug>(
+    f: &mut fmt::Formatter<W>,
+    name: &str,
+    kind: &K,
+    memory: MemoryId,
+    MemArg { align, offset }: MemArg,
+) -> fmt::Result {
+    write!(f, "{name} {kind:?} {} {align} {offset}", memory.index())
+}
+
 impl fmt::Display for Shown<'_> {
     fn fmt<W: fmt::Write>(&self, f: &mut fmt::Formatter<W>) -> fmt::Result {
         match self {
@@ -44,14 +55,8 @@ impl fmt::Display for Shown<'_> {
             Shown::Unary(op) => write!(f, "{op:?}"),
             Shown::Binary(op) => write!(f, "{op:?}"),
             Shown::Select(ty) => write!(f, "select {ty:?}"),
-            Shown::Load(x) => {
-                let (memory, align, offset) = (x.memory.index(), x.arg.align, x.arg.offset);
-                write!(f, "load {:?} {memory} {align} {offset}", x.kind)
-            }
-            Shown::Store(x) => {
-                let (memory, align, offset) = (x.memory.index(), x.arg.align, x.arg.offset);
-                write!(f, "store {:?} {memory} {align} {offset}", x.kind)
-            }
+            Shown::Load(x) => write_access(f, "load", &x.kind, x.memory, x.arg),
+            Shown::Store(x) => write_access(f, "store", &x.kind, x.memory, x.arg),
         }
     }
 }
