@@ -1,4 +1,4 @@
-use Rattle.std.proofs.Common.{◌≡◌, Some, None, Ok}
+use Rattle.std.proofs.Common.{Some, None}
 use Rattle.walrus_body.specs.Parsing.Bodies.{body_input}
 use Rattle.walrus_run.proofs.RewrittenLemmas.{begins_all, all_with_map, all_without_map, few_operators, refused_all, faults_all, bodies_all}
 use Rattle.walrus_run.proofs.whole_body.rewrite_body.Goals as goal
