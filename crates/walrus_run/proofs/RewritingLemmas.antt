@@ -1,5 +1,5 @@
 -- Bodies over the demo module: what is parsed is written, and what is answered is what is accepted.
-use Rattle.std.specs.Prelude.{◌≡◌, ◌⊎◌, ℕ, List, [], ◌∷◌, length, drop, map, Option, None, IsErr, IfOk, IfErr, Result, Ok, Err}
+use Rattle.std.specs.Prelude.{◌≡◌, ◌⊎◌, ℕ, List, [], ◌∷◌, length, drop, map, Option, None, Ok}
 use Rattle.std.specs.Borrow.{Bor}
 use Rattle.std.specs.Fn.{Shared}
 use Rattle.std.specs.List.{AllByRecursion}
@@ -160,17 +160,3 @@ pub fault_answered : (ops : List ℕ) (e : RewriteError) (f : ParseFailure) → 
 fault_answered ops e f fault (inl memory) = inl memory
 fault_answered ops e f fault (inr g) =
     inr (g.2 ∙ ap Parse (same_refusal (parsed demo ops) g.0 f (fault_parsed demo reading_agrees ops g.0 g.1) (fault_parsed demo reading_agrees ops f fault)))
-
--- ---- what an answer has
-
-pub if_ok : {A E : Type 0} (P Q : A → Type 0) → ((x : A) → P x → Q x) → (r : Result A E) → IfOk r P → IfOk r Q
-if_ok P Q f (Ok x) h = f x h
-if_ok P Q f (Err e) h = tt
-
-pub if_err : {A E : Type 0} (P Q : E → Type 0) → ((e : E) → P e → Q e) → (r : Result A E) → IfErr r P → IfErr r Q
-if_err P Q f (Ok x) h = tt
-if_err P Q f (Err e) h = f e h
-
-pub no_answer : {A E : Type 0} (P : A → Type 0) → ((x : A) → P x → ⊥) → (r : Result A E) → IfOk r P → IsErr r
-no_answer P f (Ok x) h = absurd (f x h)
-no_answer P f (Err e) h = refl
