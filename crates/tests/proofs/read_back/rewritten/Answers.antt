@@ -31,9 +31,9 @@ returns-in-Ok-written-clause-each_fault c e has =
     let a = c.args in
     let made = c.in-Ok-written.ensures.ok in
     absurd (fault_not_written (environment_of a.module.now a.indices.now a.id a.ty) (numbers_by a.out.now a.locals.now.entries) a.ops.now
-        c.in-Ok.function.builder c.in-Ok.ensures.accepted
-        (λ locate f fault. let refused = c.in-Ok.ensures.each_fault locate f fault in absurd (let none = refused.0 in cc))
-        e has made.0 made.1 c.in-Ok-written.bytes.items made.2)
+    c.in-Ok.function.builder c.in-Ok.ensures.accepted
+    (λ locate f fault. let refused = c.in-Ok.ensures.each_fault locate f fault in absurd (let none = refused.0 in cc))
+    e has made.0 made.1 c.in-Ok-written.bytes.items made.2)
 
 pub returns-in-Ok-clause-refused : goal.returns-in-Ok-clause-refused
 returns-in-Ok-clause-refused c =
