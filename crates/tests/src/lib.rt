@@ -17,6 +17,8 @@ mod emit;
 #[cfg(test)]
 mod emitting;
 #[cfg(test)]
+mod every_operator;
+#[cfg(test)]
 mod exceptions;
 #[cfg(test)]
 mod facts;
@@ -54,5 +56,7 @@ mod validators;
 mod walk;
 #[cfg(test)]
 mod whole_bodies;
+#[cfg(test)]
+mod whole_modules;
 #[cfg(test)]
 mod writing;
