@@ -170,22 +170,21 @@ impl<'a> Sections<'a> {
         }
         Ok(Sections { left, rank: 0 })
     }
+}
 
-    /// Puts a section that isn't custom behind those before it.
-    fn pass(&mut self, section: &Section<'a>) -> Result<(), ModuleError> {
-        let rank = section.kind.rank();
-        if section.kind == SectionKind::Custom {
-            return Ok(());
-        }
-        if rank <= self.rank {
-            return Err(ModuleError {
-                fault: ModuleFault::SectionOutOfOrder,
-                at: section.at,
-            });
-        }
-        self.rank = rank;
-        Ok(())
+/// The rank of the last section that isn't custom, behind one more.
+fn rank_behind(before: u8, section: &Section<'_>) -> Result<u8, ModuleError> {
+    let rank = section.kind.rank();
+    if section.kind == SectionKind::Custom {
+        return Ok(before);
     }
+    if rank <= before {
+        return Err(ModuleError {
+            fault: ModuleFault::SectionOutOfOrder,
+            at: section.at,
+        });
+    }
+    Ok(rank)
 }
 
 impl<'a> Iterator for Sections<'a> {
@@ -206,8 +205,9 @@ impl<'a> Iterator for Sections<'a> {
             Ok(read) => read,
             Err(error) => return Some(Err(error)),
         };
-        match self.pass(&section) {
-            Ok(()) => {
+        match rank_behind(self.rank, &section) {
+            Ok(rank) => {
+                self.rank = rank;
                 self.left = left;
                 Some(Ok(section))
             }
