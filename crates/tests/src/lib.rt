@@ -50,6 +50,8 @@ mod rewriting;
 #[cfg(test)]
 mod small_module;
 #[cfg(test)]
+mod tools;
+#[cfg(test)]
 mod unchanged;
 mod validators;
 #[cfg(test)]
