@@ -2,5 +2,6 @@
 pub mod LocalsBelow
 -- where a body stands
 pub mod Bodies
--- the code section
+-- the code section, and that of a module that is rewritten
 pub mod CodeSections
+pub mod RewrittenCode

@@ -1,7 +1,9 @@
 //! Bodies of a module: parsed, rewritten, and written.
 
-ghost use Rattle.std.specs.Prelude.{◌≡◌, OnOk, IfOk};
+ghost use Rattle.std.specs.Prelude.{◌≡◌, List, ℕ, ◌++◌, slice_get, Some, OnOk, OnErr, IfOk};
 ghost use Rattle.wasm_module.specs.Bodies.{IsWithin};
+ghost use Rattle.wasm_module.specs.CodeSections.{bytes_of};
+ghost use Rattle.wasm_module.specs.RewrittenCode.{Extends, AppendsRewritten};
 
 use crate::code::Body;
 use crate::fault::{ModuleError, ModuleFault};
@@ -30,9 +32,6 @@ struct Entered<'a> {
     locals: usize,
 }
 
-/// No location function is asked: a location is the operator's place in the file.
-const PLACES: Option<&fn(&usize) -> InstrLocId> = None;
-
 /// Whether a body wants a type that the module doesn't have.
 fn wants_type(error: &ModuleError) -> bool {
     error.fault == ModuleFault::TypeMissing
@@ -42,7 +41,11 @@ impl<'a> ParsedModule<'a> {
     /// Reads the declarations of a body's locals, and makes the function's locals those of the
     /// module.
     fn enter(&mut self, body: Body<'a>) -> Result<Entered<'a>, ModuleError>
+        ensures extends { Extends self.old self.new }
         ensures place { OnOk result (self.new.«module».code_section_offset ≡ 0) }
+        ensures is_type { IfOk result
+            (λ e. slice_get self.old.func_types.items body.func ≡ Some e.ty) }
+        ensures bytes { IfOk result (λ e. e.body.bytes.now ≡ bytes_of body) }
         ensures fits { IfOk result (λ e. IsWithin e.body) }
     {
         let start = body.start();
@@ -84,7 +87,12 @@ impl<'a> ParsedModule<'a> {
         instrs: &mut Vec<(Instr, InstrLocId)>,
         dst: &mut Vec<u8>,
         map: Option<&mut Vec<(InstrLocId, usize)>>,
-    ) -> Result<LocalFunction, ModuleError> {
+    ) -> Result<LocalFunction, ModuleError>
+        ensures extends { Extends self.old self.new }
+        ensures rewritten { OnOk result
+            (AppendsRewritten self.old body.func (bytes_of body) dst.old.items dst.new.items) }
+        ensures same_bytes { OnErr result (dst.new.items ≡ dst.old.items) }
+    {
         let Entered {
             ty,
             args,
@@ -99,7 +107,8 @@ impl<'a> ParsedModule<'a> {
             ty,
             args,
             source,
-            PLACES,
+            // A location is the operator's place in the file.
+            None::<&fn(&usize) -> InstrLocId>,
             LocalsBelow(locals),
             instrs,
             &self.spaces.numbers,
@@ -125,7 +134,12 @@ impl<'a> ParsedModule<'a> {
         body: Body<'a>,
         scratch: &mut Scratch,
         dst: &mut Vec<u8>,
-    ) -> Result<LocalFunction, ModuleError> {
+    ) -> Result<LocalFunction, ModuleError>
+        ensures extends { OnOk result (Extends self.old self.new) }
+        ensures rewritten { OnOk result
+            (AppendsRewritten self.old body.func (bytes_of body) dst.old.items dst.new.items) }
+        ensures same_bytes { OnErr result (dst.new.items ≡ dst.old.items) }
+    {
         match self.rewrite_once(body, &mut scratch.instrs, dst, None) {
             Err(error) if wants_type(&error) => {
                 self.add_missing_types(body)?;
@@ -145,7 +159,12 @@ impl<'a> ParsedModule<'a> {
         body: Body<'a>,
         scratch: &mut Scratch,
         dst: &mut Vec<u8>,
-    ) -> Result<LocalFunction, ModuleError> {
+    ) -> Result<LocalFunction, ModuleError>
+        ensures extends { OnOk result (Extends self.old self.new) }
+        ensures rewritten { OnOk result
+            (AppendsRewritten self.old body.func (bytes_of body) dst.old.items dst.new.items) }
+        ensures same_bytes { OnErr result (dst.new.items ≡ dst.old.items) }
+    {
         let Scratch { instrs, pairs } = scratch;
         pairs.clear();
         match self.rewrite_once(body, instrs, dst, Some(pairs)) {
@@ -176,7 +195,8 @@ impl<'a> ParsedModule<'a> {
             ty,
             args,
             source,
-            PLACES,
+            // A location is the operator's place in the file.
+            None::<&fn(&usize) -> InstrLocId>,
             LocalsBelow(locals),
             instrs,
         );

@@ -1,4 +1,6 @@
 //! What is written of a module: its sections, some of them with other contents.
+ghost use Rattle.std.specs.Prelude.{OnOk};
+ghost use Rattle.wasm_module.specs.RewrittenCode.{GivesLast};
 
 use crate::fault::{ModuleError, ModuleFault};
 use crate::output::{number_len, write_number};
@@ -50,7 +52,9 @@ impl Changes {
     /// # Errors
     ///
     /// `TooGreat` where their number doesn't fit 32 bits; or `Memory`.
-    pub fn replace(&mut self, at: usize, contents: Vec<u8>) -> Result<(), ModuleError> {
+    pub fn replace(&mut self, at: usize, contents: Vec<u8>) -> Result<(), ModuleError>
+        ensures { OnOk result (GivesLast self.new at contents.items) }
+    {
         if contents.len() > u32::MAX as usize {
             return Err(ModuleError {
                 fault: ModuleFault::TooGreat,

@@ -97,7 +97,7 @@ impl<'a> ParsedModule<'a> {
             self.change_body(body, change, followers, &mut scratch, &mut raw)?;
             code.push(&raw)?;
         }
-        Ok(code.into_contents())
+        code.into_contents()
     }
 
     /// Writes the bodies of all functions as they are changed, beside these changes of other

@@ -1,5 +1,8 @@
 //! The code section (WebAssembly core specification 3.0, binary format, code section).
 
+ghost use Rattle.std.specs.Prelude.{◌≡◌, ◌<◌, ◌+◌, ◌^◌, length};
+ghost use Rattle.wasm_module.specs.CodeSections.{bytes_of};
+
 use crate::input::Input;
 use walrus_ir::FunctionId;
 
@@ -13,12 +16,16 @@ pub struct Body<'a> {
 
 impl<'a> Body<'a> {
     /// Its bytes, without their number.
-    pub fn bytes(&self) -> &'a [u8] {
+    pub fn bytes(&self) -> &'a [u8]
+        ensures { result.now ≡ bytes_of self.now }
+    {
         self.input.rest()
     }
 
     /// The place of its first byte in the file.
-    pub fn start(&self) -> usize {
+    pub fn start(&self) -> usize
+        ensures { result + length (bytes_of self.now) < 2 ^ 64 }
+    {
         self.input.at()
     }
 
@@ -38,21 +45,26 @@ pub struct Bodies<'a> {
 impl<'a> Iterator for Bodies<'a> {
     ghost use Rattle.std.specs.Prelude.{length};
     ghost use Rattle.std.specs.Iterator.{at_most};
+    ghost use Rattle.wasm_module.specs.CodeSections.{TakesBody};
 
     type Item = Body<'a>;
+
+    ghost next_gives = { TakesBody };
 
     ghost remaining = { λ b. at_most (length b.left.rest.now) };
 
     fn next(&mut self) -> Option<Body<'a>> {
+        let func = self.next;
+        let next = func.checked_add(1)?;
         let mut left = self.left;
-        let (Ok(len), func) = (left.number(), self.next) else {
+        let Ok(len) = left.number() else {
             return None;
         };
         let Ok(input) = left.part(len as usize) else {
             return None;
         };
         self.left = left;
-        self.next = func.saturating_add(1);
+        self.next = next;
         Some(Body { func, input })
     }
 }

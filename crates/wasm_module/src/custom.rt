@@ -6,7 +6,6 @@ use crate::code::Body;
 use crate::fault::{ModuleError, ModuleFault};
 use crate::function_items::{FunctionItems, Item};
 use crate::labels::follow_labels;
-use crate::output::write_bytes;
 use crate::parsed::ParsedModule;
 use crate::sections::{Section, SectionKind};
 use std::alloc::Global;
@@ -216,12 +215,7 @@ impl<'a> Part<'a> {
     /// Appends it, and what stands before it.
     fn finish(&mut self, out: &mut Vec<u8>) -> Result<(), ModuleError> {
         out.extend_from_slice(self.before)?;
-        if !self.is_sized {
-            return self.items.finish(out);
-        }
-        let mut contents = Vec::new(*out.allocator());
-        self.items.finish(&mut contents)?;
-        write_bytes(out, &contents)
+        self.items.finish(self.is_sized, out)
     }
 }
 

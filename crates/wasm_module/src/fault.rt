@@ -162,6 +162,12 @@ impl ModuleError {
         at: 0,
     };
 
+    /// A code section is written with another number of bodies than was told.
+    pub(crate) const BODY_COUNT: ModuleError = ModuleError {
+        fault: ModuleFault::BodyCount,
+        at: 0,
+    };
+
     /// Why an index map has no answer, or can't grow, at this place.
     pub(crate) fn of_index(error: IndexError, at: usize) -> ModuleError {
         let fault = match error {

@@ -5,7 +5,7 @@
 
 use crate::fault::{ModuleError, ModuleFault};
 use crate::input::Input;
-use crate::output::{write_bytes, write_number};
+use crate::output::{number_len, write_bytes, write_number};
 use std::alloc::Global;
 
 /// An item: its number, and its bytes.
@@ -61,9 +61,11 @@ impl<'a> FunctionItems<'a> {
             pass_items(&mut input)?;
         }
         input.finish()?;
+        let mut written = Vec::new(alloc);
+        written.reserve(left.rest().len())?;
         Ok(FunctionItems {
             left,
-            written: Vec::new(alloc),
+            written,
             functions: 0,
         })
     }
@@ -130,10 +132,16 @@ impl<'a> FunctionItems<'a> {
         Ok(())
     }
 
-    /// Carries over what is left, and appends all: the number of functions, and their items.
-    pub fn finish(&mut self, out: &mut Vec<u8>) -> Result<(), ModuleError> {
+    /// Carries over what is left, and appends all: the number of functions, and their items; behind
+    /// the size of all where one is written.
+    pub fn finish(&mut self, is_sized: bool, out: &mut Vec<u8>) -> Result<(), ModuleError> {
         self.carry_before(usize::MAX)?;
-        write_number(out, self.functions as usize)?;
+        let functions = self.functions as usize;
+        if is_sized {
+            let len = self.written.len();
+            write_number(out, len.saturating_add(number_len(functions)))?;
+        }
+        write_number(out, functions)?;
         out.extend_from_slice(&self.written)?;
         Ok(())
     }

@@ -1,10 +1,12 @@
 //! Bytes of a module, read from the front (WebAssembly core specification 3.0, binary format,
 //! values).
-ghost use Rattle.std.specs.Prelude.{◌≡◌, ◌==◌, ◌<◌, ◌≤◌, ◌+◌, ◌^◌, length, OnOk, IfOk};
+ghost use Rattle.std.specs.Prelude.{◌≡◌, ◌==◌, ◌<◌, ◌≤◌, ◌+◌, ◌++◌, ◌∷◌, ◌^◌, length, OnOk, IfOk, Ok};
+ghost use Rattle.wasm_ops.specs.Numbers.{unsigned as spelt, integer, u32 as a_u32};
 
 use crate::fault::{ModuleError, ModuleFault};
+use crate::number::read_unsigned;
 use walrus_ir::{AbstractHeapType, HeapType, RefType, ValType};
-use wasm_ops::{RawHeapType, RawValType};
+use wasm_ops::{RawHeapType, RawValType, ReadFault};
 
 /// The bytes that are left of a part of a module, and the place where the part ends.
 #[derive(Clone, Copy)]
@@ -52,7 +54,10 @@ impl<'a> Input<'a> {
 
     /// The next so many bytes, as a part of its own.
     pub fn part(&mut self, len: usize) -> Result<Input<'a>, ModuleError>
-        ensures { OnOk result (length self.new.rest.now ≤ length self.old.rest.now) }
+        ensures parts { IfOk result
+            (λ part. self.old.rest.now ≡ part.rest.now ++ self.new.rest.now) }
+        ensures len { IfOk result (λ part. length part.rest.now ≡ len) }
+        ensures shorter { OnOk result (length self.new.rest.now ≤ length self.old.rest.now) }
     {
         if len > self.rest.len() {
             return Err(self.fault(ModuleFault::Truncated));
@@ -76,7 +81,9 @@ impl<'a> Input<'a> {
     }
 
     /// The bytes that are left here and no more there; none where more are left there.
-    pub fn until(&self, later: &Input<'a>) -> &'a [u8] {
+    pub fn until(&self, later: &Input<'a>) -> &'a [u8]
+        ensures { length result.now ≤ length self.now.rest.now }
+    {
         match self.rest.len().checked_sub(later.rest.len()) {
             Some(len) => &self.rest[..len],
             None => &[],
@@ -103,7 +110,7 @@ impl<'a> Input<'a> {
     }
 
     pub fn byte(&mut self) -> Result<u8, ModuleError>
-        ensures { OnOk result (length self.new.rest.now + 1 ≡ length self.old.rest.now) }
+        ensures { OnOk result (length self.new.rest.now < length self.old.rest.now) }
     {
         match self.rest {
             [first, rest @ ..] => {
@@ -114,39 +121,36 @@ impl<'a> Input<'a> {
         }
     }
 
-    /// An unsigned number of 64 bits in LEB128, of at most so many bytes.
-    fn unsigned(&mut self, most: u32) -> Result<u64, ModuleError>
-        ensures { OnOk result (length self.new.rest.now < length self.old.rest.now) }
+    /// An unsigned number of so many bits in LEB128. A number that is too long or too great is a
+    /// fault where it begins.
+    fn unsigned(&mut self, bits: u32) -> Result<u64, ModuleError>
+        requires { bits ≤ 64 }
+        ensures value { IfOk result
+            (λ n. integer spelt bits self.old.rest.now ≡ Ok (n, self.new.rest.now)) }
+        ensures fits { IfOk result (λ n. n < 2 ^ bits) }
+        ensures shorter { OnOk result (length self.new.rest.now < length self.old.rest.now) }
     {
-        let begin = *self;
-        let mut number = 0;
-        for place in 0..most.min(10) {
-            let byte = self.byte()?;
-            if place == 9 && byte > 1 {
-                return Err(begin.fault(ModuleFault::BadNumber));
+        match read_unsigned(bits, self.rest) {
+            Ok((number, rest)) => {
+                self.rest = rest;
+                Ok(number)
             }
-            number |= ((byte & 0x7f) as u64) << (7 * place);
-            if byte < 0x80 {
-                return Ok(number);
-            }
+            Err(ReadFault::Truncated) => Err(self.ended().fault(ModuleFault::Truncated)),
+            Err(_) => Err(self.fault(ModuleFault::BadNumber)),
         }
-        Err(begin.fault(ModuleFault::BadNumber))
     }
 
     /// An unsigned number of 32 bits.
     pub fn number(&mut self) -> Result<u32, ModuleError>
-        ensures { OnOk result (length self.new.rest.now < length self.old.rest.now) }
+        ensures value { IfOk result (λ n. a_u32 self.old.rest.now ≡ Ok (n, self.new.rest.now)) }
+        ensures shorter { OnOk result (length self.new.rest.now < length self.old.rest.now) }
     {
-        let begin = *self;
-        match u32::try_from(self.unsigned(5)?) {
-            Ok(number) => Ok(number),
-            Err(_) => Err(begin.fault(ModuleFault::BadNumber)),
-        }
+        Ok(self.unsigned(32)? as u32)
     }
 
     /// An unsigned number of 64 bits.
     pub fn long_number(&mut self) -> Result<u64, ModuleError> {
-        self.unsigned(10)
+        self.unsigned(64)
     }
 
     /// A vector of bytes: their number, and the bytes.
@@ -165,16 +169,15 @@ impl<'a> Input<'a> {
         }
     }
 
-    /// A type index that is no negative number of 33 bits.
+    /// A type index: a signed number of 33 bits that isn't negative.
     fn type_index(&mut self) -> Result<u32, ModuleError> {
         let begin = *self;
-        let number = self.unsigned(5)?;
-        let is_negative = match begin.rest {
-            [first, ..] if *first < 0x80 => number >= 0x40,
-            _ => number >= 1 << 32,
-        };
+        let number = self.unsigned(33)?;
+        // The last of the bits that are spelt, of 33 at most, is the sign.
+        let spelt = begin.until(self).len().saturating_mul(7);
+        let limit = 1u64 << spelt.saturating_sub(1).min(32);
         match u32::try_from(number) {
-            Ok(index) if !is_negative => Ok(index),
+            Ok(index) if number < limit => Ok(index),
             _ => Err(begin.fault(ModuleFault::BadType)),
         }
     }

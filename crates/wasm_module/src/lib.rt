@@ -19,6 +19,7 @@ mod labels;
 mod locals;
 mod missing;
 mod names;
+mod number;
 mod output;
 mod parsed;
 mod program;

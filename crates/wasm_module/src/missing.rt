@@ -1,5 +1,8 @@
 //! Types that handlers of legacy `try` constructs need, and the module lacks.
 
+ghost use Rattle.std.specs.Prelude.{OnOk};
+ghost use Rattle.wasm_module.specs.RewrittenCode.{Extends};
+
 use crate::code::Body;
 use crate::fault::ModuleError;
 use crate::parsed::ParsedModule;
@@ -50,7 +53,9 @@ impl<'a> ParsedModule<'a> {
     }
 
     /// Adds a function type, where the module has none with these lists and a sequence needs one.
-    fn add_type_for(&mut self, params: &[ValType], results: &[ValType]) -> Result<(), ModuleError> {
+    fn add_type_for(&mut self, params: &[ValType], results: &[ValType]) -> Result<(), ModuleError>
+        ensures { OnOk result (Extends self.old self.new) }
+    {
         if InstrSeqType::existing(&self.module.types, params, results).is_none() {
             self.module.types.add_func(params, results)?;
         }
@@ -59,7 +64,9 @@ impl<'a> ParsedModule<'a> {
 
     /// Adds the types that the handlers of a body's `try` constructs need: what the tag carries, to
     /// the results of the construct. No handler's type is written, so that they have no index.
-    pub(crate) fn add_missing_types(&mut self, body: Body<'a>) -> Result<(), ModuleError> {
+    pub(crate) fn add_missing_types(&mut self, body: Body<'a>) -> Result<(), ModuleError>
+        ensures { OnOk result (Extends self.old self.new) }
+    {
         let bytes = body.bytes();
         let mut declarations = body.input;
         declarations.pass_declarations()?;

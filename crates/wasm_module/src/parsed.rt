@@ -1,4 +1,6 @@
 //! A module that was read.
+ghost use Rattle.std.specs.Prelude.{◌≡◌};
+ghost use Rattle.wasm_module.specs.RewrittenCode.{code_bytes, count_bodies};
 
 use crate::code::Bodies;
 use crate::fault::{ModuleError, ModuleFault};
@@ -89,12 +91,17 @@ impl<'a> ParsedModule<'a> {
     }
 
     /// Where its code section stands, if it has one.
-    pub fn code_at(&self) -> Option<usize> {
+    pub fn code_at(&self) -> Option<usize>
+        ensures { result ≡ self.now.code_at }
+    {
         self.code_at
     }
 
     /// The bodies of its functions that are not imported, in order.
-    pub fn bodies(&self) -> Bodies<'a> {
+    pub fn bodies(&self) -> Bodies<'a>
+        ensures left { result.left.rest.now ≡ code_bytes self.now }
+        ensures next { result.next ≡ self.now.imported }
+    {
         Bodies {
             left: match self.code {
                 Some(left) => left,
@@ -105,7 +112,9 @@ impl<'a> ParsedModule<'a> {
     }
 
     /// How many functions have a body.
-    pub fn body_count(&self) -> usize {
+    pub fn body_count(&self) -> usize
+        ensures { result ≡ count_bodies self.now }
+    {
         self.func_types.len().saturating_sub(self.imported)
     }
 

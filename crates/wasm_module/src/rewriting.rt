@@ -1,4 +1,7 @@
 //! Rewriting a module: each body, and what follows the code.
+ghost use Rattle.std.specs.Prelude.{OnOk, IfOk};
+ghost use Rattle.wasm_module.specs.CodeSections.{bytes_of};
+ghost use Rattle.wasm_module.specs.RewrittenCode.{Extends, AppendsRewritten, IsRewrittenCode, ChangesCode};
 
 use crate::bodies::Scratch;
 use crate::changes::Changes;
@@ -41,7 +44,11 @@ impl<'a> ParsedModule<'a> {
         needs_pairs: bool,
         scratch: &mut Scratch,
         raw: &mut Vec<u8>,
-    ) -> Result<LocalFunction, ModuleError> {
+    ) -> Result<LocalFunction, ModuleError>
+        ensures extends { OnOk result (Extends self.old self.new) }
+        ensures rewritten { OnOk result
+            (AppendsRewritten self.old body.func (bytes_of body) raw.old.items raw.new.items) }
+    {
         match needs_pairs {
             true => self.rewrite_with_pairs(body, scratch, raw),
             false => self.rewrite(body, scratch, raw),
@@ -55,7 +62,11 @@ impl<'a> ParsedModule<'a> {
         followers: &mut Followers<'a>,
         scratch: &mut Scratch,
         raw: &mut Vec<u8>,
-    ) -> Result<(), ModuleError> {
+    ) -> Result<(), ModuleError>
+        ensures extends { OnOk result (Extends self.old self.new) }
+        ensures rewritten { OnOk result
+            (AppendsRewritten self.old body.func (bytes_of body) raw.old.items raw.new.items) }
+    {
         let needs_pairs = followers.reach(body.func)?;
         let function = match self.rewrite_into(body, needs_pairs, scratch, raw) {
             Ok(function) => function,
@@ -67,7 +78,9 @@ impl<'a> ParsedModule<'a> {
 
     /// The contents of the code section that is written: the number of bodies, and each body as it
     /// is rewritten, behind its size.
-    fn rewrite_code(&mut self, followers: &mut Followers<'a>) -> Result<Vec<u8>, ModuleError> {
+    fn rewrite_code(&mut self, followers: &mut Followers<'a>) -> Result<Vec<u8>, ModuleError>
+        ensures { IfOk result (λ code. IsRewrittenCode self.old code.items) }
+    {
         let mut scratch = Scratch::new(self.alloc);
         let mut raw = Vec::new(self.alloc);
         let mut code = CodeSection::new(self.alloc, self.body_count(), self.bytes.len())?;
@@ -76,7 +89,7 @@ impl<'a> ParsedModule<'a> {
             self.rewrite_followed(body, followers, &mut scratch, &mut raw)?;
             code.push(&raw)?;
         }
-        Ok(code.into_contents())
+        code.into_contents()
     }
 
     /// Rewrites the bodies of all functions. Names of locals and of labels and metadata of code
@@ -85,13 +98,15 @@ impl<'a> ParsedModule<'a> {
     /// # Errors
     ///
     /// The first fault of a body, with its place, or `Memory`.
-    pub fn rewrite_all(&mut self) -> Result<RewrittenModule<'a>, ModuleError> {
+    pub fn rewrite_all(&mut self) -> Result<RewrittenModule<'a>, ModuleError>
+        ensures { IfOk result (λ made. ChangesCode self.old made.changes) }
+    {
         let mut changes = Changes::new(self.alloc);
         let mut followers = Followers::read(self)?;
         if let Some(at) = self.code_at() {
             let code = self.rewrite_code(&mut followers)?;
-            changes.replace(at, code)?;
             followers.finish(&mut changes)?;
+            changes.replace(at, code)?;
         }
         let Followers { notes, .. } = followers;
         Ok(RewrittenModule { changes, notes })

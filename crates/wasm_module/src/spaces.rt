@@ -1,5 +1,7 @@
 //! The index spaces of a module: what stands in each keeps its index.
 
+ghost use Rattle.wasm_module.specs.RewrittenCode.{HasOtherLocals};
+
 use std::alloc::Global;
 use walrus_body::{IdsToIndices, IndexError, IndicesToIds};
 use walrus_ir::{
@@ -119,7 +121,9 @@ impl Spaces {
     }
 
     /// Lets so many first indices of locals stand for ids, which are the indices.
-    pub fn reach_locals(&mut self, count: usize) -> Result<(), IndexError> {
+    pub fn reach_locals(&mut self, count: usize) -> Result<(), IndexError>
+        ensures { HasOtherLocals self.old self.new }
+    {
         let lists = self.local_lists();
         for index in self.locals..count {
             self.indices.push_local(lists, LocalId::new(index))?;

@@ -1,0 +1,2 @@
+-- the code section that is written, body by body
+pub mod CodeLemmas
