@@ -7,6 +7,7 @@ use Rattle.wasm_ops.specs.Numbers.{u32}
 use Rattle.wasm_ops.specs.Shortest.{short_number}
 use Rattle.wasm_module.specs.declared.parsed.ParsedModule.{ParsedModule}
 use Rattle.wasm_module.specs.declared.spaces.Spaces.{Spaces}
+use Rattle.wasm_module.proofs.BodyLemmas.{extends_same}
 use Rattle.wasm_module.specs.CodeSections.{entry, entries, BeginsWith}
 use Rattle.wasm_module.specs.RewrittenCode.{HasOtherLocals, Extends, IsRewritten, AppendsRewritten, AreRewritten, code_bytes, count_bodies, IsRewrittenCode}
 
@@ -81,6 +82,22 @@ pub record Progress (source now : ParsedModule) (left : List ℕ) (next : ℕ) (
   pub are_rewritten : AreRewritten source source.imported bodies raws
   pub code_is : code ≡ short_number (count_bodies source) ++ entries raws
   pub count_is : length bodies + missing ≡ count_bodies source
+
+pub progress_begin :
+    (source : ParsedModule) (left : List ℕ) (next n : ℕ) (code : List ℕ × ℕ) → left ≡ code_bytes source → next ≡ source.imported → n ≡ count_bodies source →
+    code ≡ (short_number n, n) → Progress source source left next code.0 code.1
+progress_begin source left next n code l i k e =
+    let missing : code.1 ≡ n = ap (λ (x : List ℕ × ℕ). x.1) e in
+    record {
+      extends = extends_same source;
+      bodies = [];
+      are_bodies = sym l;
+      next_is = omega (arith, i);
+      raws = [];
+      are_rewritten = tt;
+      code_is = ap (λ (x : List ℕ × ℕ). x.0) e ∙ ap short_number k ∙ sym (append-nil (short_number (count_bodies source)));
+      count_is = omega (arith, missing, k);
+    }
 
 pub progress_more :
     (source now later : ParsedModule) (left behind : List ℕ) (next function : ℕ) (code raw bytes written : List ℕ) (missing less : ℕ) →

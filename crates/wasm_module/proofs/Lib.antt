@@ -1,2 +1,3 @@
--- the code section that is written, body by body
+-- a body that is rewritten, and the code section, body by body
+pub mod BodyLemmas
 pub mod CodeLemmas

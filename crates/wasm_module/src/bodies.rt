@@ -10,7 +10,7 @@ use crate::fault::{ModuleError, ModuleFault};
 use crate::locals::{Locals, LocalsBelow, MOST_LOCALS, arguments};
 use crate::parsed::ParsedModule;
 use walrus_body::{Emit, EmitContext, FunctionBody, LocalFunction};
-use walrus_ir::{IdHashMap, Instr, InstrLocId, LocalId, TypeId};
+use walrus_ir::{IdHashMap, Instr, InstrLocId, LocalId, ModuleLocals, TypeId};
 use walrus_run::{CodeEntry, RewriteError, rewrite_body};
 
 /// What is lent to the parse of one body after the other, and the location pairs of the last that
@@ -38,6 +38,36 @@ fn wants_type(error: &ModuleError) -> bool {
 }
 
 impl<'a> ParsedModule<'a> {
+    /// Reads the declarations of a body's locals: the types of all locals of the function, and what
+    /// it is parsed with.
+    fn declared(&self, body: Body<'a>) -> Result<(ModuleLocals, Entered<'a>), ModuleError>
+        ensures is_type { IfOk result
+            (λ e. slice_get self.now.func_types.items body.func ≡ Some e.1.ty) }
+        ensures bytes { IfOk result (λ e. e.1.body.bytes.now ≡ bytes_of body) }
+        ensures fits { IfOk result (λ e. IsWithin e.1.body) }
+    {
+        let Some(ty) = self.func_types.get(body.func).copied() else {
+            return Err(body.input.fault(ModuleFault::BodyCount));
+        };
+        let params = self.params(ty);
+        if params.len() > MOST_LOCALS {
+            return Err(body.input.fault(ModuleFault::TooManyLocals));
+        }
+        let mut input = body.input;
+        let locals = Locals::declared(self.alloc, params, &mut input, &self.spaces.indices)?;
+        let entered = Entered {
+            ty,
+            args: arguments(self.alloc, params.len())?,
+            body: FunctionBody {
+                bytes: body.bytes(),
+                start: body.start(),
+                ops: body.input.until(&input).len(),
+            },
+            locals: locals.count,
+        };
+        Ok((locals.types, entered))
+    }
+
     /// Reads the declarations of a body's locals, and makes the function's locals those of the
     /// module.
     fn enter(&mut self, body: Body<'a>) -> Result<Entered<'a>, ModuleError>
@@ -48,36 +78,15 @@ impl<'a> ParsedModule<'a> {
         ensures bytes { IfOk result (λ e. e.body.bytes.now ≡ bytes_of body) }
         ensures fits { IfOk result (λ e. IsWithin e.body) }
     {
-        let start = body.start();
-        let Some(ty) = self.func_types.get(body.func).copied() else {
-            return Err(body.input.fault(ModuleFault::BodyCount));
-        };
-        let params = self.params(ty);
-        let count = params.len();
-        if count > MOST_LOCALS {
-            return Err(body.input.fault(ModuleFault::TooManyLocals));
-        }
-        let mut locals = Locals::of_params(self.alloc, params)?;
-        let mut input = body.input;
-        locals.declare(&mut input, &self.spaces.indices)?;
-        match self.spaces.reach_locals(locals.count) {
+        let (types, entered) = self.declared(body)?;
+        match self.spaces.reach_locals(entered.locals) {
             Ok(()) => {}
-            Err(error) => return Err(ModuleError::of_index(error, start)),
+            Err(error) => return Err(ModuleError::of_index(error, entered.body.start)),
         }
-        let Locals { types, count: all } = locals;
         self.module.locals = types;
         // Places count from the start of the file.
         self.module.code_section_offset = 0;
-        Ok(Entered {
-            ty,
-            args: arguments(self.alloc, count)?,
-            body: FunctionBody {
-                bytes: body.bytes(),
-                start,
-                ops: body.input.until(&input).len(),
-            },
-            locals: all,
-        })
+        Ok(entered)
     }
 
     /// Rewrites a body as it is, with its location pairs where a list is handed in.

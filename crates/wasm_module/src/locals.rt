@@ -20,7 +20,7 @@ pub(crate) struct Locals {
 
 impl Locals {
     /// The parameters of a function.
-    pub fn of_params(alloc: Global, params: &[ValType]) -> Result<Locals, ModuleError> {
+    fn of_params(alloc: Global, params: &[ValType]) -> Result<Locals, ModuleError> {
         let mut types = ModuleLocals::new(alloc);
         for ty in params {
             types.add(*ty)?;
@@ -29,6 +29,22 @@ impl Locals {
             types,
             count: params.len(),
         })
+    }
+
+    /// The parameters of a function, and the locals that are declared at the front.
+    ///
+    /// # Errors
+    ///
+    /// `Truncated`, `BadNumber`, `BadType`; `TooManyLocals`; `IndexOutOfRange`; or `Memory`.
+    pub fn declared(
+        alloc: Global,
+        params: &[ValType],
+        input: &mut Input<'_>,
+        indices: &IndicesToIds,
+    ) -> Result<Locals, ModuleError> {
+        let mut locals = Locals::of_params(alloc, params)?;
+        locals.declare(input, indices)?;
+        Ok(locals)
     }
 
     /// Adds so many locals of a type.
@@ -41,11 +57,7 @@ impl Locals {
     }
 
     /// Adds the locals that are declared at the front.
-    ///
-    /// # Errors
-    ///
-    /// `Truncated`, `BadNumber`, `BadType`; `TooManyLocals`; `IndexOutOfRange`; or `Memory`.
-    pub fn declare(
+    fn declare(
         &mut self,
         input: &mut Input<'_>,
         indices: &IndicesToIds,

@@ -1,5 +1,6 @@
 //! The index spaces of a module: what stands in each keeps its index.
 
+ghost use Rattle.std.specs.Prelude.{◌≡◌};
 ghost use Rattle.wasm_module.specs.RewrittenCode.{HasOtherLocals};
 
 use std::alloc::Global;
@@ -116,7 +117,9 @@ impl Spaces {
 
     /// The function under whose id the locals of all functions are found: those of each are
     /// numbered alike, so that one list serves for all.
-    pub fn local_lists(&self) -> FunctionId {
+    pub fn local_lists(&self) -> FunctionId
+        ensures { result ≡ 0 }
+    {
         FunctionId::new(0)
     }
 
