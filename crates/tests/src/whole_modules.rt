@@ -154,6 +154,7 @@ fn names_faults_of_sections(rt: HostRuntime) -> Result<(), Fail> {
         ("0061736d01000000 0106015f01630500", "IndexOutOfRange at 13"),
         ("0061736d01000000 0104015e7f02", "BadMutability at 13"),
         ("0061736d01000000 0106015f01634000", "BadType at 14"),
+        ("0061736d01000000 0107015f0163ff7f00", "BadType at 14"),
         ("0061736d01000000 02050100000500", "BadImportKind at 13"),
         ("0061736d01000000 02030101ff", "BadName at 11"),
         ("0061736d01000000 02050100000000", "IndexOutOfRange at 13"),

@@ -42,8 +42,8 @@ impl<'a> ParsedModule<'a> {
     /// it is parsed with.
     fn declared(&self, body: Body<'a>) -> Result<(ModuleLocals, Entered<'a>), ModuleError>
         ensures is_type { IfOk result
-            (λ e. slice_get self.now.func_types.items body.func ≡ Some e.1.ty) }
-        ensures bytes { IfOk result (λ e. e.1.body.bytes.now ≡ bytes_of body) }
+            (λ e. slice_get self.now.func_types.items body.entry.func ≡ Some e.1.ty) }
+        ensures bytes { IfOk result (λ e. e.1.body.bytes.now ≡ bytes_of body.entry) }
         ensures fits { IfOk result (λ e. IsWithin e.1.body) }
     {
         let Some(ty) = self.func_types.get(body.func).copied() else {
@@ -74,8 +74,8 @@ impl<'a> ParsedModule<'a> {
         ensures extends { Extends self.old self.new }
         ensures place { OnOk result (self.new.«module».code_section_offset ≡ 0) }
         ensures is_type { IfOk result
-            (λ e. slice_get self.old.func_types.items body.func ≡ Some e.ty) }
-        ensures bytes { IfOk result (λ e. e.body.bytes.now ≡ bytes_of body) }
+            (λ e. slice_get self.old.func_types.items body.entry.func ≡ Some e.ty) }
+        ensures bytes { IfOk result (λ e. e.body.bytes.now ≡ bytes_of body.entry) }
         ensures fits { IfOk result (λ e. IsWithin e.body) }
     {
         let (types, entered) = self.declared(body)?;
@@ -99,7 +99,8 @@ impl<'a> ParsedModule<'a> {
     ) -> Result<LocalFunction, ModuleError>
         ensures extends { Extends self.old self.new }
         ensures rewritten { OnOk result
-            (AppendsRewritten self.old body.func (bytes_of body) dst.old.items dst.new.items) }
+            (AppendsRewritten self.old body.entry.func (bytes_of body.entry) dst.old.items
+            dst.new.items) }
         ensures same_bytes { OnErr result (dst.new.items ≡ dst.old.items) }
     {
         let Entered {
@@ -146,7 +147,8 @@ impl<'a> ParsedModule<'a> {
     ) -> Result<LocalFunction, ModuleError>
         ensures extends { OnOk result (Extends self.old self.new) }
         ensures rewritten { OnOk result
-            (AppendsRewritten self.old body.func (bytes_of body) dst.old.items dst.new.items) }
+            (AppendsRewritten self.old body.entry.func (bytes_of body.entry) dst.old.items
+            dst.new.items) }
         ensures same_bytes { OnErr result (dst.new.items ≡ dst.old.items) }
     {
         match self.rewrite_once(body, &mut scratch.instrs, dst, None) {
@@ -171,7 +173,8 @@ impl<'a> ParsedModule<'a> {
     ) -> Result<LocalFunction, ModuleError>
         ensures extends { OnOk result (Extends self.old self.new) }
         ensures rewritten { OnOk result
-            (AppendsRewritten self.old body.func (bytes_of body) dst.old.items dst.new.items) }
+            (AppendsRewritten self.old body.entry.func (bytes_of body.entry) dst.old.items
+            dst.new.items) }
         ensures same_bytes { OnErr result (dst.new.items ≡ dst.old.items) }
     {
         let Scratch { instrs, pairs } = scratch;

@@ -47,7 +47,8 @@ impl<'a> ParsedModule<'a> {
     ) -> Result<LocalFunction, ModuleError>
         ensures extends { OnOk result (Extends self.old self.new) }
         ensures rewritten { OnOk result
-            (AppendsRewritten self.old body.func (bytes_of body) raw.old.items raw.new.items) }
+            (AppendsRewritten self.old body.entry.func (bytes_of body.entry) raw.old.items
+            raw.new.items) }
     {
         match needs_pairs {
             true => self.rewrite_with_pairs(body, scratch, raw),
@@ -65,7 +66,8 @@ impl<'a> ParsedModule<'a> {
     ) -> Result<(), ModuleError>
         ensures extends { OnOk result (Extends self.old self.new) }
         ensures rewritten { OnOk result
-            (AppendsRewritten self.old body.func (bytes_of body) raw.old.items raw.new.items) }
+            (AppendsRewritten self.old body.entry.func (bytes_of body.entry) raw.old.items
+            raw.new.items) }
     {
         let needs_pairs = followers.reach(body.func)?;
         let function = match self.rewrite_into(body, needs_pairs, scratch, raw) {
