@@ -19,3 +19,4 @@ pub mod ShortNumbers
 pub mod Lanes
 pub mod BorrowedLists
 pub mod SameLists
+pub mod Shapes

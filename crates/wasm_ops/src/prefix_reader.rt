@@ -14,8 +14,8 @@ use crate::row::{made, read_indices, read_pair};
 use crate::types::Opcode;
 use crate::vector_access_rows::{read_lane_access, read_wide_load};
 use crate::vector_reader::{
-    bitwise, narrow_vector, read_float_vector, read_i16x8, read_i32x4, read_i64x2, read_lane,
-    relaxed_vector, splat, vector_comparison,
+    read_bitwise, read_float_vector, read_i16x8, read_i32x4, read_i64x2, read_lane,
+    read_narrow_vector, read_relaxed_vector, read_splat, read_vector_comparison,
 };
 use walrus_ir::{LoadKind, LoadSimdKind, StoreKind};
 
@@ -67,10 +67,10 @@ pub(crate) fn read_behind_fd(number: u32, bytes: &[u8]) -> Result<(Operator<'_>,
         ),
         12 => made!(read_v128(bytes), bits => Operator::V128Const { bits }),
         13 => made!(read_lanes(bytes), lanes => Operator::I8x16Shuffle { indices: *lanes }),
-        14..=20 => Ok((splat(number), bytes)),
+        14..=20 => read_splat(number, bytes),
         21..=34 => read_lane(number, bytes),
-        35..=76 => Ok((vector_comparison(number), bytes)),
-        77..=83 => Ok((bitwise(number), bytes)),
+        35..=76 => read_vector_comparison(number, bytes),
+        77..=83 => read_bitwise(number, bytes),
         84..=91 => read_lane_access(number, bytes),
         92 => made!(
             read_memarg(bytes),
@@ -80,12 +80,12 @@ pub(crate) fn read_behind_fd(number: u32, bytes: &[u8]) -> Result<(Operator<'_>,
             read_memarg(bytes),
             memarg => Operator::LoadSimd { kind: LoadSimdKind::V128Load64Zero, memarg }
         ),
-        94..=127 => Ok((narrow_vector(number), bytes)),
+        94..=127 => read_narrow_vector(number, bytes),
         128..=159 => read_i16x8(number, bytes),
         160..=191 => read_i32x4(number, bytes),
         192..=223 => read_i64x2(number, bytes),
         224..=255 => read_float_vector(number, bytes),
-        256..=275 => Ok((relaxed_vector(number), bytes)),
+        256..=275 => read_relaxed_vector(number, bytes),
         _ => Err(ReadFault::UnknownOperator),
     }
 }

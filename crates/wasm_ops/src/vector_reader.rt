@@ -12,8 +12,8 @@ use crate::operator::Operator;
 use crate::types::Opcode;
 use walrus_ir::{BinaryOp, TernaryOp, UnaryOp};
 
-/// The operator of 0xfd and a number from 14 to 20: `i8x16.swizzle`, and splats.
-pub(crate) fn splat(number: u32) -> Operator<'static>
+/// The operator of 0xfd and a number from 14 to 20: `i8x16.swizzle`, or a splat.
+fn splat(number: u32) -> Operator<'static>
     requires low { 14 ≤ number }
     requires high { number ≤ 20 }
     ensures { meaning result ≡ operation (Opcode.Prefixed 0xfd number) [] }
@@ -27,6 +27,17 @@ pub(crate) fn splat(number: u32) -> Operator<'static>
         19 => Operator::Unop(UnaryOp::F32x4Splat),
         _ => Operator::Unop(UnaryOp::F64x2Splat),
     }
+}
+
+/// What follows 0xfd and a number from 14 to 20: `i8x16.swizzle`, and splats.
+#[tactic(auto, unfolding(crate::specs::Opcodes::kinds_behind))]
+pub(crate) fn read_splat(number: u32, bytes: &[u8]) -> Result<(Operator<'_>, &[u8]), ReadFault>
+    requires low { 14 ≤ number }
+    requires high { number ≤ 20 }
+    ensures { Gives (λ x. (meaning x.0, x.1.now)) result
+        (operands (Opcode.Prefixed 0xfd number) bytes.now) }
+{
+    Ok((splat(number), bytes))
 }
 
 /// The operator of 0xfd and a number from 21 to 34: a lane is read or replaced.
@@ -148,7 +159,7 @@ fn float_comparison(number: u32) -> Operator<'static>
 }
 
 /// The operator of 0xfd and a number from 35 to 76: a comparison.
-pub(crate) fn vector_comparison(number: u32) -> Operator<'static>
+fn vector_comparison(number: u32) -> Operator<'static>
     requires low { 35 ≤ number }
     requires high { number ≤ 76 }
     ensures { meaning result ≡ operation (Opcode.Prefixed 0xfd number) [] }
@@ -161,8 +172,22 @@ pub(crate) fn vector_comparison(number: u32) -> Operator<'static>
     }
 }
 
+/// What follows 0xfd and a number from 35 to 76: comparisons.
+#[tactic(auto, unfolding(crate::specs::Opcodes::kinds_behind))]
+pub(crate) fn read_vector_comparison(
+    number: u32,
+    bytes: &[u8],
+) -> Result<(Operator<'_>, &[u8]), ReadFault>
+    requires low { 35 ≤ number }
+    requires high { number ≤ 76 }
+    ensures { Gives (λ x. (meaning x.0, x.1.now)) result
+        (operands (Opcode.Prefixed 0xfd number) bytes.now) }
+{
+    Ok((vector_comparison(number), bytes))
+}
+
 /// The operator of 0xfd and a number from 77 to 83: one on all bits.
-pub(crate) fn bitwise(number: u32) -> Operator<'static>
+fn bitwise(number: u32) -> Operator<'static>
     requires low { 77 ≤ number }
     requires high { number ≤ 83 }
     ensures { meaning result ≡ operation (Opcode.Prefixed 0xfd number) [] }
@@ -176,6 +201,17 @@ pub(crate) fn bitwise(number: u32) -> Operator<'static>
         82 => Operator::V128Bitselect,
         _ => Operator::Unop(UnaryOp::V128AnyTrue),
     }
+}
+
+/// What follows 0xfd and a number from 77 to 83: operators on all bits.
+#[tactic(auto, unfolding(crate::specs::Opcodes::kinds_behind))]
+pub(crate) fn read_bitwise(number: u32, bytes: &[u8]) -> Result<(Operator<'_>, &[u8]), ReadFault>
+    requires low { 77 ≤ number }
+    requires high { number ≤ 83 }
+    ensures { Gives (λ x. (meaning x.0, x.1.now)) result
+        (operands (Opcode.Prefixed 0xfd number) bytes.now) }
+{
+    Ok((bitwise(number), bytes))
 }
 
 /// The operator of 0xfd and a number from 94 to 102: a conversion of floats, or one on lanes of a
@@ -246,7 +282,7 @@ fn i8x16_bound(number: u32) -> Operator<'static>
 }
 
 /// The operator of 0xfd and a number from 94 to 127: one on lanes of a byte, and others.
-pub(crate) fn narrow_vector(number: u32) -> Operator<'static>
+fn narrow_vector(number: u32) -> Operator<'static>
     requires low { 94 ≤ number }
     requires high { number ≤ 127 }
     ensures { meaning result ≡ operation (Opcode.Prefixed 0xfd number) [] }
@@ -256,6 +292,21 @@ pub(crate) fn narrow_vector(number: u32) -> Operator<'static>
         103..=115 => i8x16_sum(number),
         _ => i8x16_bound(number),
     }
+}
+
+/// What follows 0xfd and a number from 94 to 127: conversions of floats, operators on lanes of a
+/// byte, and others.
+#[tactic(auto, unfolding(crate::specs::Opcodes::kinds_behind))]
+pub(crate) fn read_narrow_vector(
+    number: u32,
+    bytes: &[u8],
+) -> Result<(Operator<'_>, &[u8]), ReadFault>
+    requires low { 94 ≤ number }
+    requires high { number ≤ 127 }
+    ensures { Gives (λ x. (meaning x.0, x.1.now)) result
+        (operands (Opcode.Prefixed 0xfd number) bytes.now) }
+{
+    Ok((narrow_vector(number), bytes))
 }
 
 /// The operator of 0xfd and a number from 128 to 138: one on lanes of two bytes, or one that
@@ -535,7 +586,7 @@ fn relaxed_arithmetic(number: u32) -> Operator<'static>
 }
 
 /// The operator of 0xfd and a number from 256 to 275: a relaxed one.
-pub(crate) fn relaxed_vector(number: u32) -> Operator<'static>
+fn relaxed_vector(number: u32) -> Operator<'static>
     requires low { 256 ≤ number }
     requires high { number ≤ 275 }
     ensures { meaning result ≡ operation (Opcode.Prefixed 0xfd number) [] }
@@ -544,4 +595,18 @@ pub(crate) fn relaxed_vector(number: u32) -> Operator<'static>
         256..=268 => relaxed_lanes(number),
         _ => relaxed_arithmetic(number),
     }
+}
+
+/// What follows 0xfd and a number from 256 to 275: relaxed operators.
+#[tactic(auto, unfolding(crate::specs::Opcodes::kinds_behind))]
+pub(crate) fn read_relaxed_vector(
+    number: u32,
+    bytes: &[u8],
+) -> Result<(Operator<'_>, &[u8]), ReadFault>
+    requires low { 256 ≤ number }
+    requires high { number ≤ 275 }
+    ensures { Gives (λ x. (meaning x.0, x.1.now)) result
+        (operands (Opcode.Prefixed 0xfd number) bytes.now) }
+{
+    Ok((relaxed_vector(number), bytes))
 }
