@@ -20,3 +20,4 @@ pub mod Lanes
 pub mod BorrowedLists
 pub mod SameLists
 pub mod Shapes
+pub mod VectorRanges

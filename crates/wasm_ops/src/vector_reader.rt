@@ -9,25 +9,9 @@ ghost use Rattle.wasm_ops.specs.Meaning.{meaning};
 use crate::fault::ReadFault;
 use crate::number::read_byte;
 use crate::operator::Operator;
+use crate::row::made;
 use crate::types::Opcode;
 use walrus_ir::{BinaryOp, TernaryOp, UnaryOp};
-
-/// The operator of 0xfd and a number from 14 to 20: `i8x16.swizzle`, or a splat.
-fn splat(number: u32) -> Operator<'static>
-    requires low { 14 ≤ number }
-    requires high { number ≤ 20 }
-    ensures { meaning result ≡ operation (Opcode.Prefixed 0xfd number) [] }
-{
-    match number {
-        14 => Operator::I8x16Swizzle,
-        15 => Operator::Unop(UnaryOp::I8x16Splat),
-        16 => Operator::Unop(UnaryOp::I16x8Splat),
-        17 => Operator::Unop(UnaryOp::I32x4Splat),
-        18 => Operator::Unop(UnaryOp::I64x2Splat),
-        19 => Operator::Unop(UnaryOp::F32x4Splat),
-        _ => Operator::Unop(UnaryOp::F64x2Splat),
-    }
-}
 
 /// What follows 0xfd and a number from 14 to 20: `i8x16.swizzle`, and splats.
 #[tactic(auto, unfolding(crate::specs::Opcodes::kinds_behind))]
@@ -37,7 +21,15 @@ pub(crate) fn read_splat(number: u32, bytes: &[u8]) -> Result<(Operator<'_>, &[u
     ensures { Gives (λ x. (meaning x.0, x.1.now)) result
         (operands (Opcode.Prefixed 0xfd number) bytes.now) }
 {
-    Ok((splat(number), bytes))
+    match number {
+        14 => Ok((Operator::I8x16Swizzle, bytes)),
+        15 => Ok((Operator::Unop(UnaryOp::I8x16Splat), bytes)),
+        16 => Ok((Operator::Unop(UnaryOp::I16x8Splat), bytes)),
+        17 => Ok((Operator::Unop(UnaryOp::I32x4Splat), bytes)),
+        18 => Ok((Operator::Unop(UnaryOp::I64x2Splat), bytes)),
+        19 => Ok((Operator::Unop(UnaryOp::F32x4Splat), bytes)),
+        _ => Ok((Operator::Unop(UnaryOp::F64x2Splat), bytes)),
+    }
 }
 
 /// The operator of 0xfd and a number from 21 to 34: a lane is read or replaced.
@@ -64,7 +56,7 @@ fn lane(number: u32, idx: u8) -> Operator<'static>
     }
 }
 
-/// What follows 0xfd and a number from 21 to 34.
+/// What follows 0xfd and a number from 21 to 34: lanes that are read or replaced.
 #[tactic(auto, unfolding(crate::specs::Opcodes::kinds_behind))]
 pub(crate) fn read_lane(number: u32, bytes: &[u8]) -> Result<(Operator<'_>, &[u8]), ReadFault>
     requires low { 21 ≤ number }
@@ -72,8 +64,7 @@ pub(crate) fn read_lane(number: u32, bytes: &[u8]) -> Result<(Operator<'_>, &[u8
     ensures { Gives (λ x. (meaning x.0, x.1.now)) result
         (operands (Opcode.Prefixed 0xfd number) bytes.now) }
 {
-    let (idx, rest) = read_byte(bytes)?;
-    Ok((lane(number, idx), rest))
+    made!(read_byte(bytes), idx => lane(number, idx))
 }
 
 /// The operator of 0xfd and a number from 35 to 44: a comparison of lanes of a byte.
@@ -186,23 +177,6 @@ pub(crate) fn read_vector_comparison(
     Ok((vector_comparison(number), bytes))
 }
 
-/// The operator of 0xfd and a number from 77 to 83: one on all bits.
-fn bitwise(number: u32) -> Operator<'static>
-    requires low { 77 ≤ number }
-    requires high { number ≤ 83 }
-    ensures { meaning result ≡ operation (Opcode.Prefixed 0xfd number) [] }
-{
-    match number {
-        77 => Operator::Unop(UnaryOp::V128Not),
-        78 => Operator::Binop(BinaryOp::V128And),
-        79 => Operator::Binop(BinaryOp::V128AndNot),
-        80 => Operator::Binop(BinaryOp::V128Or),
-        81 => Operator::Binop(BinaryOp::V128Xor),
-        82 => Operator::V128Bitselect,
-        _ => Operator::Unop(UnaryOp::V128AnyTrue),
-    }
-}
-
 /// What follows 0xfd and a number from 77 to 83: operators on all bits.
 #[tactic(auto, unfolding(crate::specs::Opcodes::kinds_behind))]
 pub(crate) fn read_bitwise(number: u32, bytes: &[u8]) -> Result<(Operator<'_>, &[u8]), ReadFault>
@@ -211,7 +185,15 @@ pub(crate) fn read_bitwise(number: u32, bytes: &[u8]) -> Result<(Operator<'_>, &
     ensures { Gives (λ x. (meaning x.0, x.1.now)) result
         (operands (Opcode.Prefixed 0xfd number) bytes.now) }
 {
-    Ok((bitwise(number), bytes))
+    match number {
+        77 => Ok((Operator::Unop(UnaryOp::V128Not), bytes)),
+        78 => Ok((Operator::Binop(BinaryOp::V128And), bytes)),
+        79 => Ok((Operator::Binop(BinaryOp::V128AndNot), bytes)),
+        80 => Ok((Operator::Binop(BinaryOp::V128Or), bytes)),
+        81 => Ok((Operator::Binop(BinaryOp::V128Xor), bytes)),
+        82 => Ok((Operator::V128Bitselect, bytes)),
+        _ => Ok((Operator::Unop(UnaryOp::V128AnyTrue), bytes)),
+    }
 }
 
 /// The operator of 0xfd and a number from 94 to 102: a conversion of floats, or one on lanes of a
@@ -281,34 +263,6 @@ fn i8x16_bound(number: u32) -> Operator<'static>
     }
 }
 
-/// The operator of 0xfd and a number from 94 to 127: one on lanes of a byte, and others.
-fn narrow_vector(number: u32) -> Operator<'static>
-    requires low { 94 ≤ number }
-    requires high { number ≤ 127 }
-    ensures { meaning result ≡ operation (Opcode.Prefixed 0xfd number) [] }
-{
-    match number {
-        94..=102 => i8x16_by_lane(number),
-        103..=115 => i8x16_sum(number),
-        _ => i8x16_bound(number),
-    }
-}
-
-/// What follows 0xfd and a number from 94 to 127: conversions of floats, operators on lanes of a
-/// byte, and others.
-#[tactic(auto, unfolding(crate::specs::Opcodes::kinds_behind))]
-pub(crate) fn read_narrow_vector(
-    number: u32,
-    bytes: &[u8],
-) -> Result<(Operator<'_>, &[u8]), ReadFault>
-    requires low { 94 ≤ number }
-    requires high { number ≤ 127 }
-    ensures { Gives (λ x. (meaning x.0, x.1.now)) result
-        (operands (Opcode.Prefixed 0xfd number) bytes.now) }
-{
-    Ok((narrow_vector(number), bytes))
-}
-
 /// The operator of 0xfd and a number from 128 to 138: one on lanes of two bytes, or one that
 /// narrows or widens to them.
 fn i16x8_by_lane(number: u32) -> Operator<'static>
@@ -357,35 +311,53 @@ fn i16x8_arithmetic(number: u32) -> Operator<'static>
     }
 }
 
-/// The operator of 0xfd and a number from 155 to 159: a mean or a long product of lanes of two
-/// bytes.
-fn i16x8_product(number: u32) -> Operator<'static>
-    requires low { 155 ≤ number }
-    requires high { number ≤ 159 }
+/// The operator of 0xfd and a number from 94 to 153: one on lanes of a byte or two, and others.
+fn narrow_vector(number: u32) -> Operator<'static>
+    requires low { 94 ≤ number }
+    requires high { number ≤ 153 }
     ensures { meaning result ≡ operation (Opcode.Prefixed 0xfd number) [] }
 {
     match number {
-        155 => Operator::Binop(BinaryOp::I16x8AvgrU),
-        156 => Operator::Binop(BinaryOp::I16x8ExtMulLowI8x16S),
-        157 => Operator::Binop(BinaryOp::I16x8ExtMulHighI8x16S),
-        158 => Operator::Binop(BinaryOp::I16x8ExtMulLowI8x16U),
-        _ => Operator::Binop(BinaryOp::I16x8ExtMulHighI8x16U),
+        94..=102 => i8x16_by_lane(number),
+        103..=115 => i8x16_sum(number),
+        116..=127 => i8x16_bound(number),
+        128..=138 => i16x8_by_lane(number),
+        _ => i16x8_arithmetic(number),
     }
 }
 
-/// What follows 0xfd and a number from 128 to 159: operators on lanes of two bytes and others.
+/// What follows 0xfd and a number from 94 to 153: conversions of floats, operators on lanes of a
+/// byte or two, and others.
 #[tactic(auto, unfolding(crate::specs::Opcodes::kinds_behind))]
-pub(crate) fn read_i16x8(number: u32, bytes: &[u8]) -> Result<(Operator<'_>, &[u8]), ReadFault>
-    requires low { 128 ≤ number }
+pub(crate) fn read_narrow_vector(
+    number: u32,
+    bytes: &[u8],
+) -> Result<(Operator<'_>, &[u8]), ReadFault>
+    requires low { 94 ≤ number }
+    requires high { number ≤ 153 }
+    ensures { Gives (λ x. (meaning x.0, x.1.now)) result
+        (operands (Opcode.Prefixed 0xfd number) bytes.now) }
+{
+    Ok((narrow_vector(number), bytes))
+}
+
+/// What follows 0xfd and a number from 155 to 159: means and long products of lanes of two bytes.
+#[tactic(auto, unfolding(crate::specs::Opcodes::kinds_behind))]
+pub(crate) fn read_i16x8_product(
+    number: u32,
+    bytes: &[u8],
+) -> Result<(Operator<'_>, &[u8]), ReadFault>
+    requires low { 155 ≤ number }
     requires high { number ≤ 159 }
     ensures { Gives (λ x. (meaning x.0, x.1.now)) result
         (operands (Opcode.Prefixed 0xfd number) bytes.now) }
 {
     match number {
-        128..=138 => Ok((i16x8_by_lane(number), bytes)),
-        139..=153 => Ok((i16x8_arithmetic(number), bytes)),
-        154 => Err(ReadFault::UnknownOperator),
-        _ => Ok((i16x8_product(number), bytes)),
+        155 => Ok((Operator::Binop(BinaryOp::I16x8AvgrU), bytes)),
+        156 => Ok((Operator::Binop(BinaryOp::I16x8ExtMulLowI8x16S), bytes)),
+        157 => Ok((Operator::Binop(BinaryOp::I16x8ExtMulHighI8x16S), bytes)),
+        158 => Ok((Operator::Binop(BinaryOp::I16x8ExtMulLowI8x16U), bytes)),
+        _ => Ok((Operator::Binop(BinaryOp::I16x8ExtMulHighI8x16U), bytes)),
     }
 }
 
@@ -462,25 +434,30 @@ pub(crate) fn read_i64x2(number: u32, bytes: &[u8]) -> Result<(Operator<'_>, &[u
     }
 }
 
-/// The operator of 0xfd and a number from 227 to 237: arithmetic on lanes of four bytes that are
-/// floats, or a sign of eight bytes.
-fn f32x4_arithmetic(number: u32) -> Operator<'static>
-    requires low { 227 ≤ number }
+/// What follows 0xfd and a number from 224 to 237: operators on lanes of four bytes that are floats, and
+/// signs of those of eight bytes.
+#[tactic(auto, unfolding(crate::specs::Opcodes::kinds_behind))]
+pub(crate) fn read_f32x4(number: u32, bytes: &[u8]) -> Result<(Operator<'_>, &[u8]), ReadFault>
+    requires low { 224 ≤ number }
     requires high { number ≤ 237 }
-    ensures { meaning result ≡ operation (Opcode.Prefixed 0xfd number) [] }
+    ensures { Gives (λ x. (meaning x.0, x.1.now)) result
+        (operands (Opcode.Prefixed 0xfd number) bytes.now) }
 {
     match number {
-        227 => Operator::Unop(UnaryOp::F32x4Sqrt),
-        228 => Operator::Binop(BinaryOp::F32x4Add),
-        229 => Operator::Binop(BinaryOp::F32x4Sub),
-        230 => Operator::Binop(BinaryOp::F32x4Mul),
-        231 => Operator::Binop(BinaryOp::F32x4Div),
-        232 => Operator::Binop(BinaryOp::F32x4Min),
-        233 => Operator::Binop(BinaryOp::F32x4Max),
-        234 => Operator::Binop(BinaryOp::F32x4PMin),
-        235 => Operator::Binop(BinaryOp::F32x4PMax),
-        236 => Operator::Unop(UnaryOp::F64x2Abs),
-        _ => Operator::Unop(UnaryOp::F64x2Neg),
+        226 => Err(ReadFault::UnknownOperator),
+        224 => Ok((Operator::Unop(UnaryOp::F32x4Abs), bytes)),
+        225 => Ok((Operator::Unop(UnaryOp::F32x4Neg), bytes)),
+        227 => Ok((Operator::Unop(UnaryOp::F32x4Sqrt), bytes)),
+        228 => Ok((Operator::Binop(BinaryOp::F32x4Add), bytes)),
+        229 => Ok((Operator::Binop(BinaryOp::F32x4Sub), bytes)),
+        230 => Ok((Operator::Binop(BinaryOp::F32x4Mul), bytes)),
+        231 => Ok((Operator::Binop(BinaryOp::F32x4Div), bytes)),
+        232 => Ok((Operator::Binop(BinaryOp::F32x4Min), bytes)),
+        233 => Ok((Operator::Binop(BinaryOp::F32x4Max), bytes)),
+        234 => Ok((Operator::Binop(BinaryOp::F32x4PMin), bytes)),
+        235 => Ok((Operator::Binop(BinaryOp::F32x4PMax), bytes)),
+        236 => Ok((Operator::Unop(UnaryOp::F64x2Abs), bytes)),
+        _ => Ok((Operator::Unop(UnaryOp::F64x2Neg), bytes)),
     }
 }
 
@@ -520,27 +497,6 @@ fn float_conversion(number: u32) -> Operator<'static>
         253 => Operator::Unop(UnaryOp::I32x4TruncSatF64x2UZero),
         254 => Operator::Unop(UnaryOp::F64x2ConvertLowI32x4S),
         _ => Operator::Unop(UnaryOp::F64x2ConvertLowI32x4U),
-    }
-}
-
-/// What follows 0xfd and a number from 224 to 255: operators on lanes of floats, and conversions.
-#[tactic(auto, unfolding(crate::specs::Opcodes::kinds_behind))]
-pub(crate) fn read_float_vector(
-    number: u32,
-    bytes: &[u8],
-) -> Result<(Operator<'_>, &[u8]), ReadFault>
-    requires low { 224 ≤ number }
-    requires high { number ≤ 255 }
-    ensures { Gives (λ x. (meaning x.0, x.1.now)) result
-        (operands (Opcode.Prefixed 0xfd number) bytes.now) }
-{
-    match number {
-        226 | 238 => Err(ReadFault::UnknownOperator),
-        224 => Ok((Operator::Unop(UnaryOp::F32x4Abs), bytes)),
-        225 => Ok((Operator::Unop(UnaryOp::F32x4Neg), bytes)),
-        227..=237 => Ok((f32x4_arithmetic(number), bytes)),
-        239..=247 => Ok((f64x2_arithmetic(number), bytes)),
-        _ => Ok((float_conversion(number), bytes)),
     }
 }
 
@@ -585,28 +541,32 @@ fn relaxed_arithmetic(number: u32) -> Operator<'static>
     }
 }
 
-/// The operator of 0xfd and a number from 256 to 275: a relaxed one.
-fn relaxed_vector(number: u32) -> Operator<'static>
-    requires low { 256 ≤ number }
+/// The operator of 0xfd and a number from 239 to 275: one on lanes of eight bytes that are floats, a
+/// conversion, or a relaxed one.
+fn f64x2_or_relaxed(number: u32) -> Operator<'static>
+    requires low { 239 ≤ number }
     requires high { number ≤ 275 }
     ensures { meaning result ≡ operation (Opcode.Prefixed 0xfd number) [] }
 {
     match number {
+        239..=247 => f64x2_arithmetic(number),
+        248..=255 => float_conversion(number),
         256..=268 => relaxed_lanes(number),
         _ => relaxed_arithmetic(number),
     }
 }
 
-/// What follows 0xfd and a number from 256 to 275: relaxed operators.
+/// What follows 0xfd and a number from 239 to 275: operators on lanes of eight bytes that are floats,
+/// conversions, and relaxed operators.
 #[tactic(auto, unfolding(crate::specs::Opcodes::kinds_behind))]
-pub(crate) fn read_relaxed_vector(
+pub(crate) fn read_f64x2_or_relaxed(
     number: u32,
     bytes: &[u8],
 ) -> Result<(Operator<'_>, &[u8]), ReadFault>
-    requires low { 256 ≤ number }
+    requires low { 239 ≤ number }
     requires high { number ≤ 275 }
     ensures { Gives (λ x. (meaning x.0, x.1.now)) result
         (operands (Opcode.Prefixed 0xfd number) bytes.now) }
 {
-    Ok((relaxed_vector(number), bytes))
+    Ok((f64x2_or_relaxed(number), bytes))
 }
