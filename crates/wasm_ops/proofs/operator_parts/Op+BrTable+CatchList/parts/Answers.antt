@@ -1,7 +1,7 @@
 use Rattle.std.proofs.Common.{ap, sym, ◌∙◌}
 use Rattle.wasm_ops.specs.Parts.{parts_of}
 use Rattle.wasm_ops.proofs.Shapes.{shape_again}
-use Rattle.wasm_ops.proofs.operator_parts.OpBrTableCatchList.parts.Goals as goal
+use Rattle.wasm_ops.proofs.operator_parts.Op+BrTable+CatchList.parts.Goals as goal
 
 -- The parts are those of what they mean.
 pub returns-clause-exact : goal.returns-clause-exact
