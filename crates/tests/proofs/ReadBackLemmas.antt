@@ -41,12 +41,12 @@ use Rattle.tests.specs.ReadBack.{reading_by, IsReadAs, IsWrittenAs, HasBytes, Is
 -- ---- what is refused
 
 -- a fault that is the first with any location function is so with each of them
-pub first_fault : (env : Environment) (ops : List ℕ) {A : Type 0} {AreGiven : Option (ℕ → ℕ) → Type 0} (r : Result A ParseFailure)
+pub first_fault : (env : Environment) (ops : List ℕ) (AreGiven : Option (ℕ → ℕ) → Type 0) {A : Type 0} (r : Result A ParseFailure)
     → IfErr r (λ f. (f.error ≡ parse.Memory) ⊎ ((locations : Option (ℕ → ℕ)) → AreGiven locations → FirstFault (given_with {S = Unit {0}} env 0 (λ s _. Ok s) tt locations) ops f))
     → ((locate : ℕ → ℕ) → AreGiven (Some locate)) → IfErr r (λ f. (f.error ≡ parse.Memory) ⊎ IsFirstFault env ops f)
-first_fault env ops (Ok made) h given = tt
-first_fault env ops (Err f) (inl memory) given = inl memory
-first_fault env ops (Err f) (inr first) given = inr (λ locate. first (Some locate) (given locate))
+first_fault env ops AreGiven (Ok made) h given = tt
+first_fault env ops AreGiven (Err f) (inl memory) given = inl memory
+first_fault env ops AreGiven (Err f) (inr first) given = inr (λ locate. first (Some locate) (given locate))
 
 -- ---- a function that was read
 
