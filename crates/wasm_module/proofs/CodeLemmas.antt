@@ -5,10 +5,12 @@ use Rattle.std.proofs.lemmas.List.{append-nil}
 use Rattle.walrus_ir.specs.Types.{ModuleType}
 use Rattle.wasm_ops.specs.Numbers.{u32}
 use Rattle.wasm_ops.specs.Shortest.{short_number}
+use Rattle.wasm_module.specs.declared.code.Bodies.{Bodies}
+use Rattle.wasm_module.specs.declared.code.Body.{Body}
 use Rattle.wasm_module.specs.declared.parsed.ParsedModule.{ParsedModule}
 use Rattle.wasm_module.specs.declared.spaces.Spaces.{Spaces}
 use Rattle.wasm_module.proofs.BodyLemmas.{extends_same}
-use Rattle.wasm_module.specs.CodeSections.{entry, entries, BeginsWith}
+use Rattle.wasm_module.specs.CodeSections.{entry, entries, BeginsWith, bytes_of, TakesBody}
 use Rattle.wasm_module.specs.RewrittenCode.{HasOtherLocals, Extends, IsRewritten, AppendsRewritten, AreRewritten, code_bytes, count_bodies, IsRewrittenCode}
 
 -- ---- lists
@@ -120,6 +122,18 @@ progress_more source now later left behind next function code raw bytes written 
           ∙ ap (λ c. short_number (count_bodies source) ++ c) (sym (entries_more p.raws raw));
       count_is = omega (arith, len, p.count_is, m);
     }
+
+-- the same at a turn of the loop
+pub progress_turn :
+    (source now later : ParsedModule) (s t : Bodies) (r : Option Body) (b : Body) (code cleared raw written : List ℕ) (missing less : ℕ) →
+    Progress source now s.left.rest.now s.next code missing → r ≡ Some b → TakesBody s r t → Extends now later →
+    cleared ≡ [] → AppendsRewritten now b.func (bytes_of b) cleared raw → written ≡ code ++ entry raw → less + 1 ≡ missing →
+    Progress source later t.left.rest.now t.next written less
+progress_turn source now later s t r b code cleared raw written missing less p i takes x e appends w m =
+    let taken : TakesBody s (Some b) t = subst (λ (o : Option Body). TakesBody s o t) i takes in
+    let made : AppendsRewritten now b.func (bytes_of b) [] raw = subst (λ (old : List ℕ). AppendsRewritten now b.func (bytes_of b) old raw) e appends in
+    subst (λ (n : ℕ). Progress source later t.left.rest.now n written less) (sym taken.1)
+    (progress_more source now later s.left.rest.now t.left.rest.now s.next b.func code raw (bytes_of b) written missing less p taken.0 taken.2 x made w m)
 
 pub progress_done :
     (source now : ParsedModule) (left : List ℕ) (next : ℕ) (code : List ℕ) (missing : ℕ) → Progress source now left next code missing →

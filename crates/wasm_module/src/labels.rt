@@ -7,18 +7,18 @@ use crate::function_items::Item;
 use crate::input::Input;
 use std::alloc::Global;
 use walrus_ir::InstrLocId;
-use wasm_ops::{Operator, Reader};
+use wasm_ops::{BlockType, Operator, Reader};
 
-/// Whether an operator opens a construct, which has a label.
-fn opens(operator: &Operator<'_>) -> bool {
-    matches!(
-        operator,
-        Operator::Block { .. }
-            | Operator::Loop { .. }
-            | Operator::If { .. }
-            | Operator::Try { .. }
-            | Operator::TryTable { .. }
-    )
+/// The type of the construct that an operator opens, which has a label, if it opens one.
+pub(crate) fn opened(operator: &Operator<'_>) -> Option<BlockType> {
+    match operator {
+        Operator::Block { ty }
+        | Operator::Loop { ty }
+        | Operator::If { ty }
+        | Operator::Try { ty }
+        | Operator::TryTable { ty, .. } => Some(*ty),
+        _ => None,
+    }
 }
 
 /// The places of the operators of a body that open constructs, in order.
@@ -31,7 +31,7 @@ fn openers(alloc: Global, body: Input<'_>) -> Result<Vec<usize>, ModuleError> {
     for _ in 0..input.rest().len() {
         let at = reader.original_position();
         match reader.read() {
-            Ok(operator) if opens(&operator) => found.push(at)?,
+            Ok(operator) if opened(&operator).is_some() => found.push(at)?,
             Ok(_) => {}
             Err(_) => break,
         }

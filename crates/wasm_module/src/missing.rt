@@ -5,6 +5,7 @@ ghost use Rattle.wasm_module.specs.RewrittenCode.{Extends};
 
 use crate::code::Body;
 use crate::fault::ModuleError;
+use crate::labels::opened;
 use crate::parsed::ParsedModule;
 use walrus_body::value_type;
 use walrus_ir::{InstrSeqType, TypeId, ValType};
@@ -62,45 +63,64 @@ impl<'a> ParsedModule<'a> {
         Ok(())
     }
 
+    /// Adds the type of a handler that takes this, in a construct of this type.
+    fn add_handler_type(&mut self, caught: &[ValType], ty: BlockType) -> Result<(), ModuleError>
+        ensures { OnOk result (Extends self.old self.new) }
+    {
+        let results = self.results_of(ty)?;
+        self.add_type_for(caught, &results)
+    }
+
+    /// Adds the type of the handler of a `catch`, in a construct of this type.
+    fn add_catch_type(&mut self, tag: u32, ty: BlockType) -> Result<(), ModuleError>
+        ensures { OnOk result (Extends self.old self.new) }
+    {
+        let caught = self.caught(tag)?;
+        self.add_handler_type(&caught, ty)
+    }
+
+    /// Adds the type that an operator needs, behind operators that have opened constructs of these
+    /// types and left them open.
+    fn add_type_at(
+        &mut self,
+        operator: &Operator<'_>,
+        open: &mut Vec<BlockType>,
+    ) -> Result<(), ModuleError>
+        ensures { OnOk result (Extends self.old self.new) }
+    {
+        if let Some(ty) = opened(operator) {
+            open.push(ty)?;
+            return Ok(());
+        }
+        let Some(ty) = open.last().copied() else {
+            return Ok(());
+        };
+        match operator {
+            Operator::Catch { tag } => self.add_catch_type(*tag, ty),
+            Operator::CatchAll => self.add_handler_type(&[], ty),
+            Operator::End | Operator::Delegate { .. } => {
+                let _ = open.pop();
+                Ok(())
+            }
+            _ => Ok(()),
+        }
+    }
+
     /// Adds the types that the handlers of a body's `try` constructs need: what the tag carries, to
     /// the results of the construct. No handler's type is written, so that they have no index.
     pub(crate) fn add_missing_types(&mut self, body: Body<'a>) -> Result<(), ModuleError>
         ensures { OnOk result (Extends self.old self.new) }
     {
-        let bytes = body.bytes();
         let mut declarations = body.input;
         declarations.pass_declarations()?;
         let mut open = Vec::new(self.alloc);
         let mut reader = Reader::new(declarations.rest(), declarations.at());
         // An operator takes a byte at least.
-        for _ in 0..bytes.len() {
+        'operators: for _ in 0..body.bytes().len() {
             let Ok(operator) = reader.read() else {
-                return Ok(());
+                break 'operators;
             };
-            match operator {
-                Operator::Block { ty }
-                | Operator::Loop { ty }
-                | Operator::If { ty }
-                | Operator::Try { ty }
-                | Operator::TryTable { ty, .. } => open.push(ty)?,
-                Operator::End | Operator::Delegate { .. } => {
-                    let _ = open.pop();
-                }
-                Operator::Catch { tag } => {
-                    if let Some(ty) = open.last() {
-                        let results = self.results_of(*ty)?;
-                        let caught = self.caught(tag)?;
-                        self.add_type_for(&caught, &results)?;
-                    }
-                }
-                Operator::CatchAll => {
-                    if let Some(ty) = open.last() {
-                        let results = self.results_of(*ty)?;
-                        self.add_type_for(&[], &results)?;
-                    }
-                }
-                _ => {}
-            }
+            self.add_type_at(&operator, &mut open)?;
         }
         Ok(())
     }

@@ -86,7 +86,7 @@ impl<'a> ParsedModule<'a> {
         let mut scratch = Scratch::new(self.alloc);
         let mut raw = Vec::new(self.alloc);
         let mut code = CodeSection::new(self.alloc, self.body_count(), self.bytes.len())?;
-        for body in self.bodies() {
+        'functions: for body in self.bodies() {
             raw.clear();
             self.rewrite_followed(body, followers, &mut scratch, &mut raw)?;
             code.push(&raw)?;
@@ -103,13 +103,15 @@ impl<'a> ParsedModule<'a> {
     pub fn rewrite_all(&mut self) -> Result<RewrittenModule<'a>, ModuleError>
         ensures { IfOk result (λ made. ChangesCode self.old made.changes) }
     {
-        let mut changes = Changes::new(self.alloc);
         let mut followers = Followers::read(self)?;
-        if let Some(at) = self.code_at() {
-            let code = self.rewrite_code(&mut followers)?;
-            followers.finish(&mut changes)?;
-            changes.replace(at, code)?;
-        }
+        let mut changes = Changes::new(self.alloc);
+        let Some(at) = self.code_at() else {
+            let Followers { notes, .. } = followers;
+            return Ok(RewrittenModule { changes, notes });
+        };
+        let code = self.rewrite_code(&mut followers)?;
+        followers.finish(&mut changes)?;
+        changes.replace(at, code)?;
         let Followers { notes, .. } = followers;
         Ok(RewrittenModule { changes, notes })
     }
