@@ -13,7 +13,7 @@ use Rattle.wasm_ops.specs.Spelling.{operands}
 use Rattle.wasm_ops.proofs.SameLists.{both}
 
 -- whether all ranges end below a number
-all_below : {V : Type 0} → ℕ → List (ℕ × V) → Bool
+abbrev pub all_below : {V : Type 0} → ℕ → List (ℕ × V) → Bool
 all_below low [] = true
 all_below low (row ∷ rows) = nat_lt row.0 low && all_below low rows
 
