@@ -1,0 +1,101 @@
+-- A body that is rewritten: what is kept of the module, and what `rewrite_body` promises.
+use Rattle.std.proofs.Common.{◌≡◌, ℕ, List, [], ◌∷◌, ◌++◌, slice_get, Option, Some, None, Result, Ok, Err, OnOk, refl, sym}
+use Rattle.std.proofs.lemmas.List.{append-nil}
+use Rattle.std.specs.Borrow.{Bor}
+use Rattle.std.specs.Fn.{Shared}
+use Rattle.walrus_ir.specs.declared.val_type.ValType.{ValType}
+use Rattle.walrus_ir.specs.Function.{Function}
+use Rattle.walrus_ir.specs.Types.{ModuleType}
+use Rattle.walrus_body.specs.declared.local_function.body.FunctionBody.{FunctionBody}
+use Rattle.walrus_body.specs.Parsing.Bodies.{body_input}
+use Rattle.walrus_body.specs.TreeWriting.EmittedInstructions.{LentPairs, Left}
+use Rattle.walrus_body.specs.TreeWriting.Operators.{numbers_by}
+use Rattle.walrus_run.specs.RewrittenBodies.{Rewrites}
+use Rattle.wasm_module.specs.declared.parsed.ParsedModule.{ParsedModule}
+use Rattle.wasm_module.specs.declared.spaces.Spaces.{Spaces}
+use Rattle.wasm_module.specs.LocalsBelow.{locals_below}
+use Rattle.wasm_module.specs.RewrittenCode.{HasOtherLocals, Extends, IsRewrittenAs, AppendsRewritten}
+
+pub others_same : (a : Spaces) → HasOtherLocals a a
+others_same a = record { locals = a.indices.locals; indices = refl; numbers = refl }
+
+-- other locals are given, and no type is added
+pub extends_locals : (a : ParsedModule) (spaces : Spaces) (types : List (ValType ℕ)) (offset : ℕ) → HasOtherLocals a.spaces spaces → Extends a (record a { spaces = spaces; «module» = record a.module { locals = types; code_section_offset = offset } })
+extends_locals a spaces types offset others = record {
+  types = ([], sym (append-nil a.module.types));
+  tags = refl;
+  spaces = others;
+  func_types = refl;
+  imported = refl;
+  code = refl;
+  code_at = refl;
+}
+
+pub extends_same : (a : ParsedModule) → Extends a a
+extends_same a = record {
+  types = ([], sym (append-nil a.module.types));
+  tags = refl;
+  spaces = others_same a.spaces;
+  func_types = refl;
+  imported = refl;
+  code = refl;
+  code_at = refl;
+}
+
+-- a type is added
+pub extends_types : (a : ParsedModule) (added : ModuleType) (types : List ModuleType) → types ≡ a.module.types ++ added ∷ [] → Extends a (record a { «module» = record a.module { types = types } })
+extends_types a added types e = record {
+  types = (added ∷ [], e);
+  tags = refl;
+  spaces = others_same a.spaces;
+  func_types = refl;
+  imported = refl;
+  code = refl;
+  code_at = refl;
+}
+
+-- what is appended
+pub as_rewritten :
+    {F Z : Type 0} (asks : Shared F (Bor ℕ × Unit {0}) ℕ) (parsed : ParsedModule) (type : ℕ) (args : List ℕ) (locals : ℕ) (body : FunctionBody)
+    (made : Function) (mapping : List (ℕ × ℕ)) (old new : List ℕ) (entry : Option (LentPairs Z)) (exit : Left (LentPairs Z)) →
+    Rewrites asks (body_input parsed.module parsed.spaces.indices 0 type body (None {A = Bor F}) locals_below locals)
+    (record { to = numbers_by parsed.spaces.numbers []; types = parsed.module.locals; args = args }) made mapping old new entry exit →
+    (raw : List ℕ) × IsRewrittenAs parsed type args locals body raw × (new ≡ old ++ raw)
+as_rewritten asks parsed type args locals body made mapping old new entry exit r = (
+  r.raw,
+  record { body = r.accepts.body; accepted = r.accepts.accepted; pairs = r.pairs; is_raw_body = r.is_raw_body; keeps = r.keeps },
+  r.bytes,
+)
+
+-- the locals of the module's maps are others
+pub extends_spaces : (a : ParsedModule) (spaces : Spaces) → HasOtherLocals a.spaces spaces → Extends a (record a { spaces = spaces })
+extends_spaces a spaces others = record {
+  types = ([], sym (append-nil a.module.types));
+  tags = refl;
+  spaces = others;
+  func_types = refl;
+  imported = refl;
+  code = refl;
+  code_at = refl;
+}
+
+-- the same of the body of a function of the source
+pub appends_once :
+    {F Z : Type 0} (asks : Shared F (Bor ℕ × Unit {0}) ℕ) (source parsed : ParsedModule) (function type : ℕ) (bytes args : List ℕ) (locals : ℕ) (body : FunctionBody)
+    (made : Function) (mapping : List (ℕ × ℕ)) (old new : List ℕ) (entry : Option (LentPairs Z)) (exit : Left (LentPairs Z)) →
+    Extends source parsed → slice_get source.func_types.items function ≡ Some type → body.bytes.now ≡ bytes →
+    Rewrites asks (body_input parsed.module parsed.spaces.indices 0 type body (None {A = Bor F}) locals_below locals)
+    (record { to = numbers_by parsed.spaces.numbers []; types = parsed.module.locals; args = args }) made mapping old new entry exit →
+    AppendsRewritten source function bytes old new
+appends_once asks source parsed function type bytes args locals body made mapping old new entry exit e t b r =
+    let x = as_rewritten asks parsed type args locals body made mapping old new entry exit r in (
+      x.0,
+      record { parsed = parsed; extends = e; type = type; is_type = t; args = args; locals = locals; body = body; bytes_are = b; is_rewritten = x.1 },
+      x.2,
+    )
+
+-- ---- answers
+
+pub on_ok : {A E P Q : Type 0} (r : Result A E) → (P → Q) → OnOk r P → OnOk r Q
+on_ok (Ok x) f h = f h
+on_ok (Err e) f h = tt
