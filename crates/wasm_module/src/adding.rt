@@ -61,17 +61,15 @@ impl<'a> ParsedModule<'a> {
     ) -> Result<(), ModuleError> {
         if let Some(section) = self.section(kind)? {
             let contents = match changes.contents_of(&section) {
-                Some(contents) => contents,
-                None => section.contents(),
+                Some(contents) => with_item(self.alloc, contents, item)?,
+                None => with_item(self.alloc, section.contents(), item)?,
             };
-            let contents = with_item(self.alloc, contents, item)?;
             return changes.replace(section.at, contents);
         }
         let contents = match changes.inserted_contents(kind) {
-            Some(contents) => contents,
-            None => &[0],
+            Some(contents) => with_item(self.alloc, contents, item)?,
+            None => with_item(self.alloc, &[0], item)?,
         };
-        let contents = with_item(self.alloc, contents, item)?;
         changes.insert(self.place_of_new(kind)?, kind, contents)
     }
 
