@@ -206,7 +206,10 @@ impl<'a> ParsedModule<'a> {
     }
 
     fn add_func(&mut self, index: u32, place: usize) -> Result<(), ModuleError> {
-        let ty = self.func_type(index, place)?;
+        let ty = match self.func_type(index, place) {
+            Ok(ty) => ty,
+            Err(error) => return Err(error),
+        };
         let id = FunctionId::new(self.func_types.len());
         match self.spaces.add_func(id) {
             Ok(()) => {}
@@ -217,7 +220,10 @@ impl<'a> ParsedModule<'a> {
     }
 
     fn add_tag(&mut self, index: u32, place: usize) -> Result<(), ModuleError> {
-        let ty = self.func_type(index, place)?;
+        let ty = match self.func_type(index, place) {
+            Ok(ty) => ty,
+            Err(error) => return Err(error),
+        };
         match self.spaces.add_tag() {
             Ok(()) => {}
             Err(error) => return Err(ModuleError::of_index(error, place)),
