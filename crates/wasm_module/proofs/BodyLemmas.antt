@@ -1,12 +1,15 @@
 -- A body that is rewritten: what is kept of the module, and what `rewrite_body` promises.
-use Rattle.std.proofs.Common.{◌≡◌, ℕ, List, [], ◌∷◌, ◌++◌, slice_get, Option, Some, None, Result, Ok, Err, OnOk, refl, sym}
+use Rattle.std.proofs.Common.{◌≡◌, ℕ, List, [], ◌∷◌, ◌++◌, slice_get, Option, Some, None, Result, Ok, Err, OnOk, refl, sym, ap, ◌∙◌}
 use Rattle.std.proofs.lemmas.List.{append-nil}
 use Rattle.std.specs.Borrow.{Bor}
 use Rattle.std.specs.Fn.{Shared}
 use Rattle.walrus_ir.specs.declared.val_type.ValType.{ValType}
 use Rattle.walrus_ir.specs.Function.{Function}
 use Rattle.walrus_ir.specs.Types.{ModuleType}
+use Rattle.walrus_body.specs.declared.indices_to_ids.IndicesToIds.{IndicesToIds}
 use Rattle.walrus_body.specs.declared.local_function.body.FunctionBody.{FunctionBody}
+use Rattle.walrus_body.specs.IndexMaps.{with_next_local}
+use Rattle.walrus_body.specs.Locals.{with_local}
 use Rattle.walrus_body.specs.Parsing.Bodies.{body_input}
 use Rattle.walrus_body.specs.TreeWriting.EmittedInstructions.{LentPairs, Left}
 use Rattle.walrus_body.specs.TreeWriting.Operators.{numbers_by}
@@ -15,6 +18,16 @@ use Rattle.wasm_module.specs.declared.parsed.ParsedModule.{ParsedModule}
 use Rattle.wasm_module.specs.declared.spaces.Spaces.{Spaces}
 use Rattle.wasm_module.specs.LocalsBelow.{locals_below}
 use Rattle.wasm_module.specs.RewrittenCode.{HasOtherLocals, Extends, IsRewrittenAs, AppendsRewritten}
+
+-- a local more stands for an id
+pub others_pushed :
+    (a b : Spaces) (function local count : ℕ) (indices : IndicesToIds) → HasOtherLocals a b → indices ≡ with_next_local function local b.indices →
+    HasOtherLocals a (record b { indices = indices; locals = count })
+others_pushed a b function local count indices p e = record {
+  locals = with_local function local b.indices.locals;
+  indices = e ∙ ap (λ m. record m { locals = with_local function local b.indices.locals }) p.indices;
+  numbers = p.numbers;
+}
 
 pub others_same : (a : Spaces) → HasOtherLocals a a
 others_same a = record { locals = a.indices.locals; indices = refl; numbers = refl }
