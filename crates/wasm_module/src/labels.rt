@@ -48,11 +48,13 @@ fn label_numbers(
 ) -> Result<Vec<(usize, usize)>, ModuleError> {
     let mut numbers = Vec::new(alloc);
     let mut old = old.iter().enumerate();
-    let mut new = new.iter().enumerate().peekable();
+    let mut left = new;
     for (location, place) in pairs {
-        let Some((new_index, _)) = new.next_if(|(_, opener)| **opener == *place) else {
-            continue;
-        };
+        let new_index = new.len().saturating_sub(left.len());
+        match left.split_first() {
+            Some((opener, behind)) if opener == place => left = behind,
+            _ => continue,
+        }
         let source = location.data() as usize;
         if let Some((old_index, _)) = old.find(|(_, opener)| **opener >= source) {
             numbers.push((old_index, new_index))?;
