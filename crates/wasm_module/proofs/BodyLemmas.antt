@@ -23,14 +23,16 @@ use Rattle.wasm_module.specs.RewrittenCode.{HasOtherLocals, Extends, IsRewritten
 pub others_pushed :
     (a b : Spaces) (function local count : ℕ) (indices : IndicesToIds) → HasOtherLocals a b → indices ≡ with_next_local function local b.indices →
     HasOtherLocals a (record b { indices = indices; locals = count })
-others_pushed a b function local count indices p e = record {
-  locals = with_local function local b.indices.locals;
-  indices = e ∙ ap (λ m. record m { locals = with_local function local b.indices.locals }) p.indices;
-  numbers = p.numbers;
-}
+others_pushed a b function local count indices p e =
+    let more : IndicesToIds → IndicesToIds = λ m. record m { locals = with_local function local b.indices.locals } in
+    record { locals = with_local function local b.indices.locals; indices = e ∙ ap more p.indices; numbers = p.numbers }
 
 pub others_same : (a : Spaces) → HasOtherLocals a a
 others_same a = record { locals = a.indices.locals; indices = refl; numbers = refl }
+
+-- what is the same in the end
+pub others_kept : (a b : Spaces) (indices : IndicesToIds) → HasOtherLocals a b → indices ≡ b.indices → HasOtherLocals a (record b { indices = indices })
+others_kept a b indices p e = record { locals = p.locals; indices = e ∙ p.indices; numbers = p.numbers }
 
 -- other locals are given, and no type is added
 pub extends_locals : (a : ParsedModule) (spaces : Spaces) (types : List (ValType ℕ)) (offset : ℕ) → HasOtherLocals a.spaces spaces → Extends a (record a { spaces = spaces; «module» = record a.module { locals = types; code_section_offset = offset } })
@@ -67,11 +69,15 @@ extends_types a added types e = record {
   code_at = refl;
 }
 
+-- no location function
+abbrev nothing_asked : (F : Type 0) → Option (Bor F)
+nothing_asked F = None
+
 -- what is appended
 pub as_rewritten :
     {F Z : Type 0} (asks : Shared F (Bor ℕ × Unit {0}) ℕ) (parsed : ParsedModule) (type : ℕ) (args : List ℕ) (locals : ℕ) (body : FunctionBody)
     (made : Function) (mapping : List (ℕ × ℕ)) (old new : List ℕ) (entry : Option (LentPairs Z)) (exit : Left (LentPairs Z)) →
-    Rewrites asks (body_input parsed.module parsed.spaces.indices 0 type body (None {A = Bor F}) locals_below locals)
+    Rewrites asks (body_input parsed.module parsed.spaces.indices 0 type body (nothing_asked F) locals_below locals)
     (record { to = numbers_by parsed.spaces.numbers []; types = parsed.module.locals; args = args }) made mapping old new entry exit →
     (raw : List ℕ) × IsRewrittenAs parsed type args locals body raw × (new ≡ old ++ raw)
 as_rewritten asks parsed type args locals body made mapping old new entry exit r = (
@@ -97,7 +103,7 @@ pub appends_once :
     {F Z : Type 0} (asks : Shared F (Bor ℕ × Unit {0}) ℕ) (source parsed : ParsedModule) (function type : ℕ) (bytes args : List ℕ) (locals : ℕ) (body : FunctionBody)
     (made : Function) (mapping : List (ℕ × ℕ)) (old new : List ℕ) (entry : Option (LentPairs Z)) (exit : Left (LentPairs Z)) →
     Extends source parsed → slice_get source.func_types.items function ≡ Some type → body.bytes.now ≡ bytes →
-    Rewrites asks (body_input parsed.module parsed.spaces.indices 0 type body (None {A = Bor F}) locals_below locals)
+    Rewrites asks (body_input parsed.module parsed.spaces.indices 0 type body (nothing_asked F) locals_below locals)
     (record { to = numbers_by parsed.spaces.numbers []; types = parsed.module.locals; args = args }) made mapping old new entry exit →
     AppendsRewritten source function bytes old new
 appends_once asks source parsed function type bytes args locals body made mapping old new entry exit e t b r =
