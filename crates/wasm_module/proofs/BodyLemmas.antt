@@ -1,5 +1,5 @@
 -- A body that is rewritten: what is kept of the module, and what `rewrite_body` promises.
-use Rattle.std.proofs.Common.{◌≡◌, ℕ, List, [], ◌∷◌, ◌++◌, slice_get, Option, Some, None, Result, Ok, Err, OnOk, refl, sym, ap, ◌∙◌}
+use Rattle.std.proofs.Common.{◌≡◌, ℕ, List, [], ◌∷◌, ◌++◌, slice_get, Option, Some, None, Result, Ok, Err, OnOk, refl, sym, ap, subst, ◌∙◌}
 use Rattle.std.proofs.lemmas.List.{append-nil}
 use Rattle.std.specs.Borrow.{Bor}
 use Rattle.std.specs.Fn.{Shared}
@@ -100,14 +100,17 @@ extends_spaces a spaces others = record {
 
 -- the same of the body of a function of the source
 pub appends_once :
-    {F Z : Type 0} (asks : Shared F (Bor ℕ × Unit {0}) ℕ) (source parsed : ParsedModule) (function type : ℕ) (bytes args : List ℕ) (locals : ℕ) (body : FunctionBody)
-    (made : Function) (mapping : List (ℕ × ℕ)) (old new : List ℕ) (entry : Option (LentPairs Z)) (exit : Left (LentPairs Z)) →
-    Extends source parsed → slice_get source.func_types.items function ≡ Some type → body.bytes.now ≡ bytes →
-    Rewrites asks (body_input parsed.module parsed.spaces.indices 0 type body (nothing_asked F) locals_below locals)
+    {F Z : Type 0} {asks : Shared F (Bor ℕ × Unit {0}) ℕ} {made : Function} {mapping : List (ℕ × ℕ)} {entry : Option (LentPairs Z)} {exit : Left (LentPairs Z)}
+    (source parsed : ParsedModule) (function type id : ℕ) (bytes args : List ℕ) (locals : ℕ) (body : FunctionBody) (old new : List ℕ) →
+    Extends source parsed → slice_get source.func_types.items function ≡ Some type → body.bytes.now ≡ bytes → id ≡ 0 →
+    Rewrites asks (body_input parsed.module parsed.spaces.indices id type body (nothing_asked F) locals_below locals)
     (record { to = numbers_by parsed.spaces.numbers []; types = parsed.module.locals; args = args }) made mapping old new entry exit →
     AppendsRewritten source function bytes old new
-appends_once asks source parsed function type bytes args locals body made mapping old new entry exit e t b r =
-    let x = as_rewritten asks parsed type args locals body made mapping old new entry exit r in (
+appends_once {F} {Z} {asks} {made} {mapping} {entry} {exit} source parsed function type id bytes args locals body old new e t b i r =
+    let P : ℕ → Type 0 =
+        λ n. Rewrites asks (body_input parsed.module parsed.spaces.indices n type body (nothing_asked F) locals_below locals)
+        (record { to = numbers_by parsed.spaces.numbers []; types = parsed.module.locals; args = args }) made mapping old new entry exit in
+    let x = as_rewritten asks parsed type args locals body made mapping old new entry exit (subst P i r) in (
       x.0,
       record { parsed = parsed; extends = e; type = type; is_type = t; args = args; locals = locals; body = body; bytes_are = b; is_rewritten = x.1 },
       x.2,
@@ -118,3 +121,7 @@ appends_once asks source parsed function type bytes args locals body made mappin
 pub on_ok : {A E P Q : Type 0} (r : Result A E) → (P → Q) → OnOk r P → OnOk r Q
 on_ok (Ok x) f h = f h
 on_ok (Err e) f h = tt
+
+pub if_so : {A E P : Type 0} (r : Result A E) → P → OnOk r P
+if_so (Ok x) h = h
+if_so (Err e) h = tt

@@ -3,6 +3,7 @@ use Rattle.std.proofs.Common.{◌≡◌, ℕ, ◌+◌, ◌-◌, List, [], ◌∷
 use Rattle.std.proofs.Common.{slice_get, suc, length-append}
 use Rattle.std.proofs.lemmas.List.{append-nil}
 use Rattle.walrus_ir.specs.Types.{ModuleType}
+use Rattle.walrus_body.specs.declared.indices_to_ids.IndicesToIds.{IndicesToIds}
 use Rattle.wasm_ops.specs.Numbers.{u32}
 use Rattle.wasm_ops.specs.Shortest.{short_number}
 use Rattle.wasm_module.specs.declared.code.Bodies.{Bodies}
@@ -44,11 +45,9 @@ same_count source f (b ∷ bodies) (w ∷ raws) h = ap (λ n. suc n) (same_count
 -- ---- what is kept
 
 pub others_then : (a b c : Spaces) → HasOtherLocals a b → HasOtherLocals b c → HasOtherLocals a c
-others_then a b c p q = record {
-  locals = q.locals;
-  indices = q.indices ∙ ap (λ m. record m { locals = q.locals }) p.indices;
-  numbers = q.numbers ∙ p.numbers;
-}
+others_then a b c p q =
+    let other : IndicesToIds → IndicesToIds = λ m. record m { locals = q.locals } in
+    record { locals = q.locals; indices = q.indices ∙ ap other p.indices; numbers = q.numbers ∙ p.numbers }
 
 pub extends_then : (a b c : ParsedModule) → Extends a b → Extends b c → Extends a c
 extends_then a b c p q = record {
@@ -65,13 +64,27 @@ extends_then a b c p q = record {
 }
 
 pub rewritten_then : (a b : ParsedModule) (f : ℕ) (bytes raw : List ℕ) → Extends a b → IsRewritten b f bytes raw → IsRewritten a f bytes raw
-rewritten_then a b f bytes raw e r = record r {
+rewritten_then a b f bytes raw e r = record {
+  parsed = r.parsed;
   extends = extends_then a b r.parsed e r.extends;
+  type = r.type;
   is_type = ap (λ ts. slice_get ts.items f) (sym e.func_types) ∙ r.is_type;
+  args = r.args;
+  locals = r.locals;
+  body = r.body;
+  bytes_are = r.bytes_are;
+  is_rewritten = r.is_rewritten;
 }
 
 pub appends_then : (a b : ParsedModule) (f : ℕ) (bytes old new : List ℕ) → Extends a b → AppendsRewritten b f bytes old new → AppendsRewritten a f bytes old new
 appends_then a b f bytes old new e r = (r.0, rewritten_then a b f bytes r.0 e r.1, r.2)
+
+-- the same, where as many bytes stood there
+pub appends_behind :
+    (a b : ParsedModule) (f : ℕ) (bytes old same new : List ℕ) → Extends a b → same ≡ old → AppendsRewritten b f bytes same new →
+    AppendsRewritten a f bytes old new
+appends_behind a b f bytes old same new e i r =
+    let P : List ℕ → Type 0 = λ l. AppendsRewritten a f bytes l new in subst P i (appends_then a b f bytes same new e r)
 
 -- ---- the loop over the bodies: what is written so far, and how many bodies are still to be
 

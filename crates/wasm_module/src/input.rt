@@ -17,7 +17,9 @@ pub(crate) struct Input<'a> {
 
 impl<'a> Input<'a> {
     /// All bytes of a file.
-    pub fn new(bytes: &'a [u8]) -> Input<'a> {
+    pub fn new(bytes: &'a [u8]) -> Input<'a>
+        ensures { result.rest.now ≡ bytes.now }
+    {
         Input {
             rest: bytes,
             end: bytes.len(),

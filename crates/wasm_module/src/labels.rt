@@ -47,7 +47,6 @@ fn label_numbers(
     pairs: &[(InstrLocId, usize)],
 ) -> Result<Vec<(usize, usize)>, ModuleError> {
     let mut numbers = Vec::new(alloc);
-    let mut old = old.iter().enumerate();
     let mut left = new;
     for (location, place) in pairs {
         let new_index = new.len().saturating_sub(left.len());
@@ -55,8 +54,7 @@ fn label_numbers(
             Some((opener, behind)) if opener == place => left = behind,
             _ => continue,
         }
-        let source = location.data() as usize;
-        if let Some((old_index, _)) = old.find(|(_, opener)| **opener >= source) {
+        if let Ok(old_index) = old.binary_search(&(location.data() as usize)) {
             numbers.push((old_index, new_index))?;
         }
     }
