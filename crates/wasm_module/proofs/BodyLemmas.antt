@@ -1,5 +1,5 @@
 -- A body that is rewritten: what is kept of the module, and what `rewrite_body` promises.
-use Rattle.std.proofs.Common.{◌≡◌, ℕ, List, [], ◌∷◌, ◌++◌, slice_get, Option, Some, None, Result, Ok, Err, OnOk, refl, sym, ap, subst, ◌∙◌}
+use Rattle.std.proofs.Common.{◌≡◌, ℕ, List, [], ◌∷◌, ◌++◌, slice_get, Option, Some, None, Result, Ok, Err, OnOk, IfOk, refl, sym, ap, subst, ◌∙◌}
 use Rattle.std.proofs.lemmas.List.{append-nil}
 use Rattle.std.specs.Borrow.{Bor}
 use Rattle.std.specs.Fn.{Shared}
@@ -108,8 +108,8 @@ pub appends_once :
     AppendsRewritten source function bytes old new
 appends_once {F} {Z} {asks} {made} {mapping} {entry} {exit} source parsed function type id bytes args locals body old new e t b i r =
     let P : ℕ → Type 0 =
-        λ n. Rewrites asks (body_input parsed.module parsed.spaces.indices n type body (nothing_asked F) locals_below locals)
-        (record { to = numbers_by parsed.spaces.numbers []; types = parsed.module.locals; args = args }) made mapping old new entry exit in
+    λ n. Rewrites asks (body_input parsed.module parsed.spaces.indices n type body (nothing_asked F) locals_below locals)
+    (record { to = numbers_by parsed.spaces.numbers []; types = parsed.module.locals; args = args }) made mapping old new entry exit in
     let x = as_rewritten asks parsed type args locals body made mapping old new entry exit (subst P i r) in (
       x.0,
       record { parsed = parsed; extends = e; type = type; is_type = t; args = args; locals = locals; body = body; bytes_are = b; is_rewritten = x.1 },
@@ -125,3 +125,7 @@ on_ok (Err e) f h = tt
 pub if_so : {A E P : Type 0} (r : Result A E) → P → OnOk r P
 if_so (Ok x) h = h
 if_so (Err e) h = tt
+
+pub if_both : {A E R : Type 0} {P Q : A → Type 0} (r : Result A E) → IfOk r P → OnOk r R → ((a : A) → P a → R → Q a) → IfOk r Q
+if_both (Ok a) p h f = f a p h
+if_both (Err e) p h f = tt

@@ -37,6 +37,38 @@ fn wants_type(error: &ModuleError) -> bool {
     error.fault == ModuleFault::TypeMissing
 }
 
+/// Rewrites a body as it is, with a list of location pairs or none.
+macro_rules! rewrite_once {
+    ($parsed:ident, $body:ident, $instrs:ident, $dst:ident, $map:expr) => {{
+        let Entered {
+            ty,
+            args,
+            body: source,
+            locals,
+        } = $parsed.enter($body)?;
+        let lists = $parsed.spaces.local_lists();
+        let rewritten = rewrite_body(
+            &$parsed.module,
+            &$parsed.spaces.indices,
+            lists,
+            ty,
+            args,
+            source,
+            // A location is the operator's place in the file.
+            None::<&fn(&usize) -> InstrLocId>,
+            LocalsBelow(locals),
+            $instrs,
+            &$parsed.spaces.numbers,
+            $dst,
+            $map,
+        );
+        match rewritten {
+            Ok(function) => Ok(function),
+            Err(error) => Err(ModuleError::of_body(error, $body.start())),
+        }
+    }};
+}
+
 impl<'a> ParsedModule<'a> {
     /// Reads the declarations of a body's locals: the types of all locals of the function, and what
     /// it is parsed with.
@@ -89,13 +121,12 @@ impl<'a> ParsedModule<'a> {
         Ok(entered)
     }
 
-    /// Rewrites a body as it is, with its location pairs where a list is handed in.
+    /// Rewrites a body as it is.
     fn rewrite_once(
         &mut self,
         body: Body<'a>,
         instrs: &mut Vec<(Instr, InstrLocId)>,
         dst: &mut Vec<u8>,
-        map: Option<&mut Vec<(InstrLocId, usize)>>,
     ) -> Result<LocalFunction, ModuleError>
         ensures extends { Extends self.old self.new }
         ensures rewritten { OnOk result
@@ -103,32 +134,24 @@ impl<'a> ParsedModule<'a> {
             dst.new.items) }
         ensures same_bytes { OnErr result (dst.new.items ≡ dst.old.items) }
     {
-        let Entered {
-            ty,
-            args,
-            body: source,
-            locals,
-        } = self.enter(body)?;
-        let lists = self.spaces.local_lists();
-        let rewritten = rewrite_body(
-            &self.module,
-            &self.spaces.indices,
-            lists,
-            ty,
-            args,
-            source,
-            // A location is the operator's place in the file.
-            None::<&fn(&usize) -> InstrLocId>,
-            LocalsBelow(locals),
-            instrs,
-            &self.spaces.numbers,
-            dst,
-            map,
-        );
-        match rewritten {
-            Ok(function) => Ok(function),
-            Err(error) => Err(ModuleError::of_body(error, body.start())),
-        }
+        rewrite_once!(self, body, instrs, dst, None)
+    }
+
+    /// The same, with its location pairs behind those of the list.
+    fn rewrite_once_with_pairs(
+        &mut self,
+        body: Body<'a>,
+        instrs: &mut Vec<(Instr, InstrLocId)>,
+        dst: &mut Vec<u8>,
+        pairs: &mut Vec<(InstrLocId, usize)>,
+    ) -> Result<LocalFunction, ModuleError>
+        ensures extends { Extends self.old self.new }
+        ensures rewritten { OnOk result
+            (AppendsRewritten self.old body.entry.func (bytes_of body.entry) dst.old.items
+            dst.new.items) }
+        ensures same_bytes { OnErr result (dst.new.items ≡ dst.old.items) }
+    {
+        rewrite_once!(self, body, instrs, dst, Some(pairs))
     }
 
     /// Rewrites a body: appends to `dst` its declarations of locals and its operators, as
@@ -151,10 +174,10 @@ impl<'a> ParsedModule<'a> {
             dst.new.items) }
         ensures same_bytes { OnErr result (dst.new.items ≡ dst.old.items) }
     {
-        match self.rewrite_once(body, &mut scratch.instrs, dst, None) {
+        match self.rewrite_once(body, &mut scratch.instrs, dst) {
             Err(error) if wants_type(&error) => {
                 self.add_missing_types(body)?;
-                self.rewrite_once(body, &mut scratch.instrs, dst, None)
+                self.rewrite_once(body, &mut scratch.instrs, dst)
             }
             answer => answer,
         }
@@ -179,10 +202,10 @@ impl<'a> ParsedModule<'a> {
     {
         let Scratch { instrs, pairs } = scratch;
         pairs.clear();
-        match self.rewrite_once(body, instrs, dst, Some(pairs)) {
+        match self.rewrite_once_with_pairs(body, instrs, dst, pairs) {
             Err(error) if wants_type(&error) => {
                 self.add_missing_types(body)?;
-                self.rewrite_once(body, instrs, dst, Some(pairs))
+                self.rewrite_once_with_pairs(body, instrs, dst, pairs)
             }
             answer => answer,
         }

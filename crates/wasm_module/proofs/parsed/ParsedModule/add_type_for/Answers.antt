@@ -12,6 +12,6 @@ returns c =
     let a = c.args in
     let P : ParsedModule → Type 0 = λ s. Extends a.self.now s in
     elim c.if-is_none.branch [
-      then-is_none+in_ok-add_func w ↦ subst P (sym w.self-is) (extends_types a.self.now (Func a.params.now a.results.now) w.add_func.new.self w.in_ok-add_func.ensures.ok)
+      | then-is_none+in_ok-add_func w ↦ subst P (sym w.self-is) (extends_types a.self.now (Func a.params.now a.results.now) w.add_func.new.self w.in_ok-add_func.ensures.ok)
       | else-is_none w ↦ subst P (sym w.self-is) (extends_same a.self.now)
     ]

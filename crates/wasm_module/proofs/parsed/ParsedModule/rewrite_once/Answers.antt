@@ -9,7 +9,7 @@ returns-in-Ok-clause-rewritten c =
     let a = c.args in
     let entered = c.in_ok-ty in
     let some : ℕ → Option ℕ = λ n. Some n in
-    let bytes = ap (λ (b : FunctionBody). b.bytes.now) entered.source-is ∙ entered.ensures.bytes in
+    let bytes = ap (λ (b : FunctionBody). b.bytes.now) (sym entered.source-is) ∙ entered.ensures.bytes in
     appends_once a.self.now c.enter.new.self a.body.func entered.ty c.local_lists-lists.result (bytes_of a.body) entered.args.items entered.locals entered.source
-    a.dst.now.items c.rewrite_body-rewritten.new.dst.items c.enter.ensures.extends (entered.ensures.is_type ∙ ap some (sym entered.ty-is)) bytes c.local_lists-lists.ensures
+    a.dst.now.items c.rewrite_body-rewritten.new.dst.items c.enter.ensures.extends (entered.ensures.is_type ∙ ap some entered.ty-is) bytes c.local_lists-lists.ensures
     c.in-Ok.ensures.rewritten
