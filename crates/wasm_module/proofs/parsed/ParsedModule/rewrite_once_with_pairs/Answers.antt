@@ -1,5 +1,3 @@
-use Rattle.std.proofs.Common.{ℕ, Option, Some, sym, ap, ◌∙◌}
-use Rattle.walrus_body.specs.declared.local_function.body.FunctionBody.{FunctionBody}
 use Rattle.wasm_module.specs.CodeSections.{bytes_of}
 use Rattle.wasm_module.proofs.BodyLemmas.{appends_once}
 use Rattle.wasm_module.proofs.parsed.ParsedModule.rewrite_once_with_pairs.Goals as goal
@@ -7,9 +5,7 @@ use Rattle.wasm_module.proofs.parsed.ParsedModule.rewrite_once_with_pairs.Goals 
 pub returns-in-Ok-clause-rewritten : goal.returns-in-Ok-clause-rewritten
 returns-in-Ok-clause-rewritten c =
     let a = c.args in
-    let entered = c.in_ok-ty in
-    let some : ℕ → Option ℕ = λ n. Some n in
-    let bytes = ap (λ (b : FunctionBody). b.bytes.now) (sym entered.source-is) ∙ entered.ensures.bytes in
-    appends_once a.self.now c.enter.new.self a.body.func entered.ty c.local_lists-lists.result (bytes_of a.body) entered.args.items entered.locals entered.source
-    a.dst.now.items c.rewrite_body-rewritten.new.dst.items c.enter.ensures.extends (entered.ensures.is_type ∙ ap some entered.ty-is) bytes c.local_lists-lists.ensures
+    let entered = c.in_ok-ty.field-0 in
+    appends_once a.self.now c.enter.new.self a.body.func entered.ty c.local_lists-lists.result (bytes_of a.body) entered.args.items entered.locals entered.body
+    a.dst.now.items c.rewrite_body-rewritten.new.dst.items c.enter.ensures.extends c.in_ok-ty.ensures.is_type c.in_ok-ty.ensures.bytes c.local_lists-lists.ensures
     c.in-Ok.ensures.rewritten
