@@ -84,16 +84,7 @@ fn emit_three(nop: &Nop, cx: &mut EmitContext<'_>) -> usize {
     count
 }
 
-// How many parts were written, the bytes, and the pairs.
-fn written_text(alloc: Global, count: usize, cx: &EmitContext<'_>) -> Result<String, AllocError> {
-    let mut text = format!(in alloc; "{count} {:?}", cx.bytes.as_slice())?;
-    for (location, place) in &cx.code_transform {
-        write!(text, " {}@{place}", At(*location))?;
-    }
-    Ok(text)
-}
-
-// The same of the three parts.
+// How many of the three are written, the bytes, and the pairs.
 fn emitted(alloc: Global, module: &Module) -> Result<String, AllocError> {
     let mut indices = IdsToIndices::new(alloc);
     let mut cx = EmitContext {
@@ -105,7 +96,11 @@ fn emitted(alloc: Global, module: &Module) -> Result<String, AllocError> {
     };
     let location = InstrLocId::new(7);
     let count = emit_three(&Nop { location }, &mut cx);
-    written_text(alloc, count, &cx)
+    let mut text = format!(in alloc; "{count} {:?}", cx.bytes.as_slice())?;
+    for (location, place) in &cx.code_transform {
+        write!(text, " {}@{place}", At(*location))?;
+    }
+    Ok(text)
 }
 
 /// A part that is refused leaves what was written before it.

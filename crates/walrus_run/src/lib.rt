@@ -2,7 +2,7 @@
 #![tactic(auto)]
 
 mod code_entry;
-pub mod demo;
+mod demo;
 mod error;
 mod machine;
 mod named_body;
