@@ -1,17 +1,17 @@
 -- Reading back: the contracts of parsing and of writing, and the laws, put together.
-use Rattle.std.specs.Prelude.{◌≡◌, ◌<◌, ℕ, List, [], ◌∷◌, length, Some, IsOk, unwrap_or, Result, Ok, Err}
+use Rattle.std.specs.Prelude.{◌≡◌, ◌⊎◌, ℕ, List, [], ◌∷◌, Option, Some, IsOk, IfErr, Result, Ok, Err}
 use Rattle.std.specs.List.{AllByRecursion}
-use Rattle.std.proofs.Common.{inl, inr, refl, sym, ap, subst, ◌∙◌}
-use Rattle.std.proofs.lemmas.Option.{slice_get_within}
-use Rattle.walrus_ir.specs.Tree.{Sequences}
-use Rattle.walrus_ir.specs.Unfolding.{SequenceAt, LocatedInstr, AreSequences, are_sequences}
+use Rattle.std.proofs.Common.{inl, inr, refl, ap, subst, ◌∙◌}
 use Rattle.walrus_ir.specs.declared.module.Module.{Module}
 use Rattle.walrus_ir.specs.Function.{Function}
-use Rattle.walrus_ir.proofs.WalkLaws.{one_tree, tree_has_no_fault}
+use Rattle.walrus_ir.proofs.WalkLaws.{tree_has_no_fault}
 use Rattle.wasm_ops.specs.OperatorList.{Placed}
 use Rattle.wasm_body.specs.declared.error.EmitError.{EmitError}
 use Rattle.wasm_body.specs.declared.error.EmitError.TheVariants.{Memory, Index, UnnumberedLocal}
 use Rattle.wasm_body.specs.declared.error.IndexError.TheVariants.{Unnumbered}
+use Rattle.wasm_body.specs.declared.error.ParseError.TheVariants as parse
+use Rattle.wasm_body.specs.declared.error.ParseFailure.{ParseFailure}
+use Rattle.wasm_body.specs.SourceTree.{Body}
 use Rattle.walrus_ir.specs.Results.{some_or, with_fault}
 use Rattle.std.specs.Ordering.{nat_cmp}
 use Rattle.std.specs.FinMap.{empty, get, from_entries, get-empty}
@@ -19,66 +19,109 @@ use Rattle.wasm_ops.specs.declared.types.Space.{Space}
 use Rattle.walrus_body.specs.declared.ids_to_indices.IdsToIndices.{IdsToIndices}
 use Rattle.walrus_body.specs.IndexMaps.{numbers_in}
 use Rattle.walrus_body.specs.TreeWriting.Operators.{numbers_by}
-use Rattle.wasm_body.specs.Naming.{Environment}
+use Rattle.wasm_body.specs.Naming.{Environment, Occurrence}
 use Rattle.wasm_body.specs.FunctionTree.{FunctionTree}
-use Rattle.wasm_body.specs.TreeOfFunction.{tree_of, HasTree}
+use Rattle.wasm_body.specs.TreeOfFunction.{HasTree}
 use Rattle.wasm_body.specs.NormalForm.{body_tree}
 use Rattle.wasm_body.specs.Bytes.{Numbers, tree_bytes}
-use Rattle.wasm_body.specs.Parsing.Accepted.{validated}
+use Rattle.wasm_body.specs.Parsing.Accepted.{Accepted, FirstFault, validated}
 use Rattle.wasm_body.specs.ReadBack.{IsInverse, InverseUndoes, AcceptedAgain, AreReadable, IsAcceptedAgain}
 use Rattle.walrus_body.specs.declared.indices_to_ids.IndicesToIds.{IndicesToIds}
 use Rattle.walrus_body.specs.Environments.{environment_of}
 use Rattle.walrus_body.specs.LocalFunctions.{first_slot, HasEntry}
+use Rattle.walrus_body.specs.Parsing.Settings.{given_with}
 use Rattle.walrus_body.specs.TreeWriting.EmittedInstructions.{IsUnemitted}
-use Rattle.tests.specs.ReadBack.{reading_by, IsReadAs, IsWrittenAs, HasBytes}
+use Rattle.walrus_run.specs.declared.error.RewriteError.{RewriteError}
+use Rattle.walrus_run.specs.declared.error.RewriteError.TheVariants.{Parse, Walk, Emit}
+use Rattle.walrus_run.specs.Rewriting.{WantsMemory}
+use Rattle.walrus_run.proofs.OneTree.{from_slot, only_tree, begins}
+use Rattle.walrus_run.proofs.SameAnswers.{same_answer, same_refusal, not_both}
+use Rattle.tests.specs.ReadBack.{reading_by, IsReadAs, IsWrittenAs, HasBytes, IsFirstFault, IsRefusedAs, HasFault}
 
--- ---- a function that was read has one tree
+-- ---- what is refused
+
+-- a fault that is the first with any location function is so with each of them
+pub first_fault : (env : Environment) (ops : List ℕ) (AreGiven : Option (ℕ → ℕ) → Type 0) {A : Type 0} (r : Result A ParseFailure)
+    → IfErr r (λ f. (f.error ≡ parse.Memory) ⊎ ((locations : Option (ℕ → ℕ)) → AreGiven locations → FirstFault (given_with {S = Unit {0}} env 0 (λ s _. Ok s) tt locations) ops f))
+    → ((locate : ℕ → ℕ) → AreGiven (Some locate)) → IfErr r (λ f. (f.error ≡ parse.Memory) ⊎ IsFirstFault env ops f)
+first_fault env ops AreGiven (Ok made) h given = tt
+first_fault env ops AreGiven (Err f) (inl memory) given = inl memory
+first_fault env ops AreGiven (Err f) (inr first) given = inr (λ locate. first (Some locate) (given locate))
+
+-- ---- a function that was read
 
 module _ (env : Environment) (to : Numbers) (ops : List ℕ) (f : Function) (read : IsReadAs env ops f) where
   abbrev tree : FunctionTree
   tree = body_tree env read.body
 
-  slot_is : first_slot f ≡ 0
-  slot_is = ap (λ e. unwrap_or e 0) read.is_function.entry
-
-  its_tree : HasTree f.sequences (first_slot f) tree
-  its_tree = subst (λ n. HasTree f.sequences n tree) (sym slot_is) read.is_function.holds
-
-  only_tree : (t : FunctionTree) → HasTree f.sequences (first_slot f) t → t ≡ tree
-  only_tree t h = sym h.is ∙ (ap tree_of (one_tree f.sequences (first_slot f) h.unfolded its_tree.unfolded h.is_tree its_tree.is_tree) ∙ its_tree.is)
-
   -- it begins with a sequence of its builder
-  pub begins : HasEntry f
-  begins = record { is = read.is_function.entry ∙ ap Some (sym slot_is); stands = within (first_slot f) its_tree.is_tree.unfolds }
-    where
-      within : (slot : ℕ) {rest : Sequences SequenceAt LocatedInstr} → AreSequences f.sequences (slot ∷ []) rest → slot < length f.sequences
-      within slot (are_sequences stands items rest) = slice_get_within f.sequences slot _ stands
+  pub read_begins : HasEntry f
+  read_begins = begins f tree read.is_function
 
   -- its bytes are those of the body's normal form
   pub is_written : (t : FunctionTree) → HasTree f.sequences (first_slot f) t → (bytes : List ℕ) → tree_bytes to t ≡ Ok bytes → IsWrittenAs env to ops bytes
   is_written t h bytes e =
-      record { locate = read.locate; body = read.body; accepted = read.accepted; bytes_are = subst (λ u. tree_bytes to u ≡ Ok bytes) (only_tree t h) e }
+      record { locate = read.locate; body = read.body; accepted = read.accepted; bytes_are = subst (λ u. tree_bytes to u ≡ Ok bytes) (only_tree f tree read.is_function t h) e }
+
+  -- where it isn't written, memory ran out, or this is the first fault of writing the normal form
+  unwritten : (e : EmitError) → IsUnemitted f to e → (e ≡ Memory) ⊎ (tree_bytes to tree ≡ Err e)
+  unwritten e (inl memory) = inl memory
+  unwritten e (inr (inl walk)) =
+      let has = from_slot f tree read.is_function in
+      absurd (tree_has_no_fault f.sequences (first_slot f) has.unfolded walk.0 has.is_tree walk.1)
+  unwritten e (inr (inr h)) = inr (subst (λ u. tree_bytes to u ≡ Err e) (only_tree f tree read.is_function h.0 h.1) h.2)
+
+  pub is_refused : (e : EmitError) → IsUnemitted f to e → WantsMemory (Emit e) ⊎ IsRefusedAs env to ops (Emit e)
+  is_refused e h = by_fault (unwritten e h)
+    where
+      by_fault : (e ≡ Memory) ⊎ (tree_bytes to tree ≡ Err e) → WantsMemory (Emit e) ⊎ IsRefusedAs env to ops (Emit e)
+      by_fault (inl memory) = inl memory
+      by_fault (inr fault) = inr (record { locate = read.locate; body = read.body; accepted = read.accepted; fault_is = fault })
 
   module _ (bytes : List ℕ) (has : HasBytes env to ops bytes) where
     its_bytes : tree_bytes to tree ≡ Ok bytes
     its_bytes = has.bytes_are read.locate read.body read.accepted
 
     pub only_bytes : (t : FunctionTree) → HasTree f.sequences (first_slot f) t → (made : List ℕ) → tree_bytes to t ≡ Ok made → made ≡ bytes
-    only_bytes t h made e = same_bytes (tree_bytes to tree) (subst (λ u. tree_bytes to u ≡ Ok made) (only_tree t h) e) its_bytes
-      where
-        same_bytes : (r : Result (List ℕ) EmitError) → r ≡ Ok made → r ≡ Ok bytes → made ≡ bytes
-        same_bytes r x y = let both : (let q : Result (List ℕ) EmitError = Ok made in q) ≡ Ok bytes = sym x ∙ y in cc
+    only_bytes t h made e = same_answer (tree_bytes to tree) made bytes (subst (λ u. tree_bytes to u ≡ Ok made) (only_tree f tree read.is_function t h) e) its_bytes
 
     -- where it has bytes it is written, want of memory aside
     pub no_fault : (e : EmitError) → IsUnemitted f to e → e ≡ Memory
-    no_fault e (inl memory) = memory
-    no_fault e (inr (inl walk)) = absurd (tree_has_no_fault f.sequences (first_slot f) its_tree.unfolded walk.0 its_tree.is_tree walk.1)
-    no_fault e (inr (inr h)) =
-        let refused : tree_bytes to tree ≡ Err e = subst (λ u. tree_bytes to u ≡ Err e) (only_tree h.0 h.1) h.2 in
-        not_both (tree_bytes to tree) refused its_bytes
+    no_fault e h = by_fault (unwritten e h)
       where
-        not_both : (r : Result (List ℕ) EmitError) → r ≡ Err e → r ≡ Ok bytes → e ≡ Memory
-        not_both r x y = let both : (let q : Result (List ℕ) EmitError = Err e in q) ≡ Ok bytes = sym x ∙ y in absurd cc
+        by_fault : (e ≡ Memory) ⊎ (tree_bytes to tree ≡ Err e) → e ≡ Memory
+        by_fault (inl memory) = memory
+        by_fault (inr fault) = absurd (not_both (tree_bytes to tree) bytes e its_bytes fault)
+
+  -- what has a fault isn't written, and where it is read it is refused for that fault, want of memory aside
+  module _ (found : (locate : ℕ → ℕ) (p : ParseFailure) → FirstFault (reading_by env locate) ops p → ⊥) where
+    pub fault_not_written : (fault : RewriteError) → HasFault env to ops fault → (t : FunctionTree) → HasTree f.sequences (first_slot f) t → (bytes : List ℕ) → tree_bytes to t ≡ Ok bytes → ⊥
+    fault_not_written (Parse p) has t h bytes e = found has.0 p has.1
+    fault_not_written (Walk w) has t h bytes e = has
+    fault_not_written (Emit x) has t h bytes e =
+        not_both (tree_bytes to tree) bytes x (subst (λ u. tree_bytes to u ≡ Ok bytes) (only_tree f tree read.is_function t h) e) (has.fault_is read.locate read.body read.accepted)
+
+    pub fault_written : (fault : RewriteError) → HasFault env to ops fault → (e : EmitError) → IsUnemitted f to e → WantsMemory (Emit e) ⊎ (Emit e ≡ fault)
+    fault_written (Parse p) has e h = absurd (found has.0 p has.1)
+    fault_written (Walk w) has e h = absurd has
+    fault_written (Emit x) has e h = by_fault (unwritten e h)
+      where
+        by_fault : (e ≡ Memory) ⊎ (tree_bytes to tree ≡ Err e) → WantsMemory (Emit e) ⊎ (Emit e ≡ Emit x)
+        by_fault (inl memory) = inl memory
+        by_fault (inr fault) = inr (ap Emit (same_refusal (tree_bytes to tree) e x fault (has.fault_is read.locate read.body read.accepted)))
+
+-- what isn't read is refused for the fault that it has
+module _ (env : Environment) (to : Numbers) (ops : List ℕ) (failure : ParseFailure) where
+  module _ (each_body : (locate : ℕ → ℕ) (b : Body Occurrence) → Accepted (reading_by env locate) ops b → failure.error ≡ parse.Memory)
+      (each_fault : (locate : ℕ → ℕ) (p : ParseFailure) → FirstFault (reading_by env locate) ops p → (failure.error ≡ parse.Memory) ⊎ (failure ≡ p)) where
+    pub fault_read : (fault : RewriteError) → HasFault env to ops fault → WantsMemory (Parse failure) ⊎ (Parse failure ≡ fault)
+    fault_read (Parse p) has = by_fault (each_fault has.0 p has.1)
+      where
+        by_fault : (failure.error ≡ parse.Memory) ⊎ (failure ≡ p) → WantsMemory (Parse failure) ⊎ (Parse failure ≡ Parse p)
+        by_fault (inl memory) = inl memory
+        by_fault (inr same) = inr (ap Parse same)
+    fault_read (Walk w) has = absurd has
+    fault_read (Emit x) has = inl (each_body (λ n. n) (has.body (λ n. n)) (has.accepted (λ n. n)))
 
 -- ---- read again
 
@@ -121,11 +164,10 @@ module _ (m : Module) (from again : IndicesToIds) (id type : ℕ) (to : Numbers)
 
 -- ---- where there is no number, all are undone
 
-no_number : (r : Result ℕ EmitError) (e : EmitError) (n : ℕ) {A : Type 0} → r ≡ Err e → r ≡ Ok n → A
-no_number r e n {A} x y = let both : (let q : Result ℕ EmitError = Err e in q) ≡ Ok n = sym x ∙ y in absurd cc
-
 pub none_undone : (out : IdsToIndices) (locals : List (ℕ × ℕ)) (again : Environment) → ((space : Space) → numbers_in out space ≡ empty) → locals ≡ [] → IsInverse (numbers_by out locals) again
 none_undone out locals again none no_locals = record {
-  indices = λ space id n h. no_number ((numbers_by out locals).number_of space id) (Index (Unnumbered space)) n (ap (λ m. with_fault Index (some_or (get m id) (Unnumbered space))) (none space) ∙ ap (λ o. with_fault Index (some_or o (Unnumbered space))) (get-empty nat_cmp id)) h;
-  locals = λ id n h. no_number ((numbers_by out locals).local_number id) UnnumberedLocal n (ap (λ l. some_or (get (from_entries {R = nat_cmp} l) id) UnnumberedLocal) no_locals ∙ ap (λ o. some_or o UnnumberedLocal) (get-empty nat_cmp id)) h;
+  indices = λ space id n h. absurd (not_both ((numbers_by out locals).number_of space id) n (Index (Unnumbered space)) h
+      (ap (λ m. with_fault Index (some_or (get m id) (Unnumbered space))) (none space) ∙ ap (λ o. with_fault Index (some_or o (Unnumbered space))) (get-empty nat_cmp id)));
+  locals = λ id n h. absurd (not_both ((numbers_by out locals).local_number id) n UnnumberedLocal h
+      (ap (λ l. some_or (get (from_entries {R = nat_cmp} l) id) UnnumberedLocal) no_locals ∙ ap (λ o. some_or o UnnumberedLocal) (get-empty nat_cmp id)));
 }

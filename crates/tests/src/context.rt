@@ -1,6 +1,6 @@
 //! Contexts of a parse, whose calls are made by hand.
 use crate::by_hand::{Made, instr};
-use crate::function_text::push_sequence;
+use crate::function_text::push_sequences;
 use crate::small_module::Example;
 use std::alloc::{AllocError, Global};
 use std::process::Abort;
@@ -26,8 +26,11 @@ enum Step {
     PutTry(usize),
     /// `alloc_instr_in_control` of the innermost frame.
     PutHere(Made, u16),
-    /// `push_control` of a block, and `alloc_instr_in_control` of the frame around it.
+    /// `push_control` of a block, and `alloc_instr_in_control` of the frame around it, with the
+    /// start of the block before and behind.
     PutAround(Made, u16),
+    /// The same with two blocks, of the frame around both.
+    PutOutside(Made, u16),
     /// `add_legacy_catch`.
     Delegate(u32),
 }
@@ -44,19 +47,9 @@ fn push_frame(text: &mut String, frame: &ControlFrame) -> Result<(), AllocError>
     )
 }
 
-fn kill(context: &mut ValidationContext<'_>, text: &mut String) -> Result<(), AllocError> {
-    match context.unreachable() {
-        Ok(()) => write!(text, " ok"),
-        Err(error) => write!(text, " {error:?}"),
-    }
-}
-
-fn add_clause(
-    context: &mut ValidationContext<'_>,
-    clause: LegacyCatch,
-    text: &mut String,
-) -> Result<(), AllocError> {
-    match context.add_legacy_catch(clause) {
+// Appends an answer of a call that gives nothing.
+fn push_done(text: &mut String, answer: Result<(), ParseError>) -> Result<(), AllocError> {
+    match answer {
         Ok(()) => write!(text, " ok"),
         Err(error) => write!(text, " {error:?}"),
     }
@@ -90,30 +83,20 @@ fn show(context: &ValidationContext<'_>, n: usize, text: &mut String) -> Result<
     }
 }
 
-fn put(
-    context: &mut ValidationContext<'_>,
-    instr: Instr,
-    location: u16,
+// Appends where the instructions of the n-th frame from the innermost begin.
+fn push_start(
+    context: &ValidationContext<'_>,
+    n: usize,
     text: &mut String,
 ) -> Result<(), AllocError> {
-    let location = InstrLocId::new(u32::from(location));
-    match context.alloc_instr(instr, location) {
-        Ok(()) => write!(text, " ok"),
+    match context.control(n) {
+        Ok(frame) => write!(text, " {}", frame.start),
         Err(error) => write!(text, " {error:?}"),
     }
 }
 
-fn put_here(
-    context: &mut ValidationContext<'_>,
-    made: Made,
-    location: u16,
-    text: &mut String,
-) -> Result<(), AllocError> {
-    let location = InstrLocId::new(u32::from(location));
-    match context.alloc_instr_in_control(0, instr(made), location) {
-        Ok(()) => write!(text, " ok"),
-        Err(error) => write!(text, " {error:?}"),
-    }
+fn at(location: u16) -> InstrLocId {
+    InstrLocId::new(u32::from(location))
 }
 
 fn put_around(
@@ -122,14 +105,33 @@ fn put_around(
     location: u16,
     text: &mut String,
 ) -> Result<(), AllocError> {
-    let location = InstrLocId::new(u32::from(location));
     if let Err(error) = context.push_control(BlockKind::Block, &[], &[]) {
         return write!(text, " {error:?}");
     }
-    match context.alloc_instr_in_control(1, instr(made), location) {
-        Ok(()) => write!(text, " ok"),
-        Err(error) => write!(text, " {error:?}"),
+    push_start(context, 0, text)?;
+    let answer = context.alloc_instr_in_control(1, instr(made), at(location));
+    push_done(text, answer)?;
+    push_start(context, 0, text)
+}
+
+fn put_outside(
+    context: &mut ValidationContext<'_>,
+    made: Made,
+    location: u16,
+    text: &mut String,
+) -> Result<(), AllocError> {
+    if let Err(error) = context.push_control(BlockKind::Block, &[], &[]) {
+        return write!(text, " {error:?}");
     }
+    if let Err(error) = context.push_control(BlockKind::Block, &[], &[]) {
+        return write!(text, " {error:?}");
+    }
+    push_start(context, 1, text)?;
+    push_start(context, 0, text)?;
+    let answer = context.alloc_instr_in_control(2, instr(made), at(location));
+    push_done(text, answer)?;
+    push_start(context, 1, text)?;
+    push_start(context, 0, text)
 }
 
 // Makes a call, and appends what it answers.
@@ -149,19 +151,26 @@ fn call(
             push_opened(text, context.push_control_with_ty(kind, TypeId::new(ty)))
         }
         Step::Pop => pop(context, text),
-        Step::Kill => kill(context, text),
+        Step::Kill => push_done(text, context.unreachable()),
         Step::Show(n) => show(context, n, text),
-        Step::Put(made, location) => put(context, instr(made), location, text),
+        Step::Put(made, location) => {
+            push_done(text, context.alloc_instr(instr(made), at(location)))
+        }
         Step::PutTry(seq) => {
             let seq = InstrSeqId::new(seq);
             let catches = Vec::new(alloc);
-            put(context, Instr::Try(Try { seq, catches }), 0, text)
+            let made = Instr::Try(Try { seq, catches });
+            push_done(text, context.alloc_instr(made, at(0)))
         }
-        Step::PutHere(made, location) => put_here(context, made, location, text),
+        Step::PutHere(made, location) => push_done(
+            text,
+            context.alloc_instr_in_control(0, instr(made), at(location)),
+        ),
         Step::PutAround(made, location) => put_around(context, made, location, text),
+        Step::PutOutside(made, location) => put_outside(context, made, location, text),
         Step::Delegate(relative_depth) => {
             let clause = LegacyCatch::Delegate { relative_depth };
-            add_clause(context, clause, text)
+            push_done(text, context.add_legacy_catch(clause))
         }
     }
 }
@@ -179,21 +188,10 @@ fn make_calls(
     Ok(())
 }
 
-// Appends open frames and all sequences.
-fn push_parts(
-    text: &mut String,
-    builder: &FunctionBuilder,
-    controls: &[ControlFrame],
-) -> Result<(), AllocError> {
-    write!(text, " |")?;
+// Appends open frames.
+fn push_frames(text: &mut String, controls: &[ControlFrame]) -> Result<(), AllocError> {
     for frame in controls {
         push_frame(text, frame)?;
-    }
-    for slot in 0..builder.count() {
-        let id = InstrSeqId::new(slot);
-        if builder.has(id) {
-            push_sequence(text, builder.seq(id))?;
-        }
     }
     Ok(())
 }
@@ -212,7 +210,9 @@ fn called(alloc: Global, example: &Example, steps: &[Step]) -> Result<String, Al
     );
     make_calls(alloc, &mut context, steps, &mut text)?;
     let (builder, controls, _instrs) = context.into_parts();
-    push_parts(&mut text, &builder, controls.as_slice())?;
+    write!(text, " |")?;
+    push_frames(&mut text, controls.as_slice())?;
+    push_sequences(&mut text, &builder)?;
     Ok(text)
 }
 
@@ -256,14 +256,14 @@ fn opens_and_closes_frames(rt: HostRuntime) -> Result<(), Fail> {
     let cases = [
         (
             closed.as_slice(),
-            " 0 ok 1 ok ok ok Loop 1 dead [] [I32] 0 of 1 | FunctionEntry 0 alive [] [] 0 \
+            " 0 ok 1 ok ok ok Loop 1 dead [] [I32] 1 of 1 | FunctionEntry 0 alive [] [] 0 \
             ()[ ]- I32[ call 3@7 ]-",
         ),
         (
             shown.as_slice(),
-            " 0 ok 1 2 ok Block 2 dead [I32] [I32] 0 If 1 alive [I32] [I32] 0 \
+            " 0 ok 1 2 ok Block 2 dead [I32] [I32] 1 If 1 alive [I32] [I32] 1 \
             FunctionEntry 0 alive [] [] 0 NoSuchLabel | FunctionEntry 0 alive [] [] 0 \
-            If 1 alive [I32] [I32] 0 Block 2 dead [I32] [I32] 0 type4[ ]- type2[ ]- type1[ ]-",
+            If 1 alive [I32] [I32] 1 Block 2 dead [I32] [I32] 1 type4[ ]- type2[ ]- type1[ ]-",
         ),
     ];
     check_calls(&rt, rt.alloc(), &cases)
@@ -284,9 +284,54 @@ fn appends_to_frames(rt: HostRuntime) -> Result<(), Fail> {
     ];
     let cases = [(
         around.as_slice(),
-        " 0 ok ok Block 1 alive [] [] 0 of 1 ok ok Block 2 alive [] [] 0 of 2 \
+        " 0 0 ok 1 ok Block 1 alive [] [] 1 of 1 ok 1 ok 1 Block 2 alive [] [] 1 of 2 \
             FunctionEntry 0 dead [] [] 0 of 0 | ()[ drop@6 ]- ()[ call 3@7 ]- ()[ ]-",
     )];
+    check_calls(&rt, rt.alloc(), &cases)
+}
+
+/// Instructions of frames around others move where these begin, unless they are dropped.
+#[test]
+fn moves_the_starts_of_inner_frames(rt: HostRuntime) -> Result<(), Fail> {
+    let block = [
+        ENTRY,
+        Step::Put(Made::Drop, 6),
+        Step::PutAround(Made::Block(1), 7),
+        Step::Put(Made::Const(5), 8),
+        Step::Pop,
+        Step::Pop,
+    ];
+    let both = [
+        ENTRY,
+        Step::Put(Made::Drop, 6),
+        Step::PutOutside(Made::Call(3), 7),
+        Step::Pop,
+        Step::Pop,
+        Step::Pop,
+    ];
+    let neither = [
+        ENTRY,
+        Step::Put(Made::Drop, 6),
+        Step::Kill,
+        Step::PutOutside(Made::Call(3), 7),
+    ];
+    let cases = [
+        (
+            block.as_slice(),
+            " 0 ok 1 ok 2 ok Block 1 alive [] [] 2 of 1 FunctionEntry 0 alive [] [] 0 of 0 | \
+            ()[ drop@6 block 1@7 ]- ()[ i32.const 5@8 ]-",
+        ),
+        (
+            both.as_slice(),
+            " 0 ok 1 1 ok 2 2 Block 2 alive [] [] 2 of 2 Block 1 alive [] [] 2 of 1 \
+            FunctionEntry 0 alive [] [] 0 of 0 | ()[ drop@6 call 3@7 ]- ()[ ]- ()[ ]-",
+        ),
+        (
+            neither.as_slice(),
+            " 0 ok ok 1 1 ok 1 1 | FunctionEntry 0 dead [] [] 0 Block 1 alive [] [] 1 \
+            Block 2 alive [] [] 1 ()[ ]- ()[ ]- ()[ ]-",
+        ),
+    ];
     check_calls(&rt, rt.alloc(), &cases)
 }
 
@@ -307,13 +352,32 @@ fn adds_clauses_to_a_try(rt: HostRuntime) -> Result<(), Fail> {
         Step::Pop,
         Step::Pop,
     ];
+    let behind = [
+        ENTRY,
+        Step::PutTry(1),
+        tries,
+        Step::Put(Made::Drop, 8),
+        Step::Delegate(4),
+        Step::Pop,
+        Step::Pop,
+    ];
+    let empty = [ENTRY, BLOCK, Step::Put(Made::Drop, 8), Step::Delegate(4)];
     let dropped = [ENTRY, Step::Kill, Step::PutTry(1), tries, Step::Delegate(4)];
     let cases = [
         (
             added.as_slice(),
-            " 0 NoSuchLabel ok 1 ok ok 2 NoTry Block 2 alive [] [] 0 of 2 \
-            Try 1 alive [] [] 0 of 1 FunctionEntry 0 alive [] [] 0 of 0 | \
+            " 0 NoSuchLabel ok 1 ok ok 2 NoTry Block 2 alive [] [] 2 of 2 \
+            Try 1 alive [] [] 1 of 1 FunctionEntry 0 alive [] [] 0 of 0 | \
             ()[ try 1 1@0 ]- ()[ drop@8 ]- ()[ ]-",
+        ),
+        (
+            behind.as_slice(),
+            " 0 ok 1 ok ok Try 1 alive [] [] 1 of 1 FunctionEntry 0 alive [] [] 0 of 0 | \
+            ()[ try 1 1@0 ]- ()[ drop@8 ]-",
+        ),
+        (
+            empty.as_slice(),
+            " 0 1 ok NoTry | FunctionEntry 0 alive [] [] 0 Block 1 alive [] [] 0 ()[ ]- ()[ ]-",
         ),
         (
             dropped.as_slice(),
@@ -345,7 +409,7 @@ fn refuses_calls(rt: HostRuntime) -> Result<(), Fail> {
     let cases = [
         (
             closed.as_slice(),
-            " NoFrame NoSuchLabel NoFrame NoFrame NoSuchLabel NoSuchLabel NoSuchLabel | \
+            " NoFrame NoSuchLabel NoFrame NoFrame NoSuchLabel NoSuchLabel 0 NoSuchLabel 0 | \
             Block 0 alive [] [] 0 ()[ ]-",
         ),
         (

@@ -9,8 +9,7 @@ use walrus_body::{
     AcceptAll, IdsToIndices, IndexError, IndicesToIds, LocalFunction, ParseFailure, Space,
 };
 use walrus_ir::{
-    AbstractHeapType, FunctionId, HeapType, LocalId, Module, ModuleLocals, ModuleTags, ModuleTypes,
-    RefType, TypeId, ValType,
+    AbstractHeapType, FunctionId, HeapType, LocalId, Module, RefType, TypeId, ValType,
 };
 
 /// How many locals there are.
@@ -29,52 +28,38 @@ fn reference(nullable: bool, heap_type: HeapType) -> ValType {
     })
 }
 
-// The type of a local. The first four are those of the program's module. The type 4 has no new
-// index.
+// The type of a local behind the first four, which are those of the program's module. The type 4 has
+// no new index.
 fn local_type(local: usize) -> ValType {
     let function = HeapType::Abstract(AbstractHeapType::Func);
     match local {
-        0 | 7 => ValType::I32,
         4 => ValType::F64,
         5 | 14 => reference(true, function),
         6 => reference(false, function),
+        7 => ValType::I32,
         8 => reference(true, HeapType::Abstract(AbstractHeapType::Extern)),
         9 => reference(true, HeapType::Concrete(TypeId::new(2))),
         10 => reference(true, HeapType::Concrete(TypeId::new(1))),
         11 => reference(false, HeapType::Concrete(TypeId::new(4))),
         12 => ValType::F32,
         13 => ValType::V128,
-        15 => reference(false, HeapType::Concrete(TypeId::new(1))),
-        _ => ValType::I64,
+        _ => reference(false, HeapType::Concrete(TypeId::new(1))),
     }
 }
 
-fn locals(alloc: Global) -> Result<ModuleLocals, AllocError> {
-    let mut locals = ModuleLocals::new(alloc);
-    for local in 0..LOCALS {
-        locals.add(local_type(local))?;
+// The program's module with the other locals, whose code begins at this place.
+fn module(alloc: Global, code_section_offset: usize) -> Result<Module, AllocError>
+    ensures { IfOk result (λ m. m.code_section_offset ≡ code_section_offset) }
+{
+    let mut module = walrus_run::demo::module(alloc)?;
+    for local in 4..LOCALS {
+        module.locals.add(local_type(local))?;
     }
-    Ok(locals)
+    module.code_section_offset = code_section_offset;
+    Ok(module)
 }
 
-fn types(alloc: Global) -> Result<ModuleTypes, AllocError> {
-    let mut types = ModuleTypes::new(alloc);
-    types.add_func(&[], &[])?;
-    types.add_func(&[ValType::I32], &[])?;
-    types.add_func(&[ValType::I32, ValType::I32], &[ValType::I32])?;
-    types.add_func(&[ValType::I32], &[])?;
-    types.add_entry(&[])?;
-    Ok(types)
-}
-
-fn tags(alloc: Global) -> Result<ModuleTags, AllocError> {
-    let mut tags = ModuleTags::new(alloc);
-    tags.add(TypeId::new(0))?;
-    tags.add(TypeId::new(1))?;
-    Ok(tags)
-}
-
-// What has old and new indices that are its ids.
+// What has new indices that are its ids.
 const ITEMS: [(Space, usize); 9] = [
     (Space::Funcs, 0),
     (Space::Funcs, 1),
@@ -93,13 +78,7 @@ const UNKNOWN: usize = 99;
 // The ids are the old indices. The function 2 has no new index, and behind the locals of the
 // function 0 stands one that isn't in the module.
 fn indices(alloc: Global) -> Result<IndicesToIds, IndexError> {
-    let mut indices = IndicesToIds::new(alloc);
-    for ty in 0..4 {
-        push(&mut indices, Space::Types, ty)?;
-    }
-    for (space, id) in ITEMS {
-        push(&mut indices, space, id)?;
-    }
+    let mut indices = walrus_run::demo::indices_of_items(alloc)?;
     push(&mut indices, Space::Funcs, 2)?;
     let function = FunctionId::new(0);
     for local in 0..LOCALS {
@@ -122,19 +101,12 @@ pub(crate) fn numbers(alloc: Global) -> Result<IdsToIndices, IndexError> {
     Ok(numbers)
 }
 
-/// The module, whose code begins at this place, and the ids of its old indices.
+/// The module and the ids of its old indices.
 pub(crate) fn demo(alloc: Global, code_section_offset: usize) -> Result<Example, IndexError>
     ensures { IfOk result (λ example. example.module.code_section_offset ≡ code_section_offset) }
 {
-    let (Ok(types), Ok(tags), Ok(locals)) = (types(alloc), tags(alloc), locals(alloc)) else {
+    let (Ok(module), Ok(indices)) = (module(alloc, code_section_offset), indices(alloc)) else {
         return Err(IndexError::Memory);
-    };
-    let indices = indices(alloc)?;
-    let module = Module {
-        types,
-        tags,
-        locals,
-        code_section_offset,
     };
     Ok(Example { module, indices })
 }

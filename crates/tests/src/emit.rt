@@ -84,7 +84,16 @@ fn emit_three(nop: &Nop, cx: &mut EmitContext<'_>) -> usize {
     count
 }
 
-// How many of the three are written, the bytes, and the pairs.
+// How many parts were written, the bytes, and the pairs.
+fn written_text(alloc: Global, count: usize, cx: &EmitContext<'_>) -> Result<String, AllocError> {
+    let mut text = format!(in alloc; "{count} {:?}", cx.bytes.as_slice())?;
+    for (location, place) in &cx.code_transform {
+        write!(text, " {}@{place}", At(*location))?;
+    }
+    Ok(text)
+}
+
+// The same of the three parts.
 fn emitted(alloc: Global, module: &Module) -> Result<String, AllocError> {
     let mut indices = IdsToIndices::new(alloc);
     let mut cx = EmitContext {
@@ -96,11 +105,7 @@ fn emitted(alloc: Global, module: &Module) -> Result<String, AllocError> {
     };
     let location = InstrLocId::new(7);
     let count = emit_three(&Nop { location }, &mut cx);
-    let mut text = format!(in alloc; "{count} {:?}", cx.bytes.as_slice())?;
-    for (location, place) in &cx.code_transform {
-        write!(text, " {}@{place}", At(*location))?;
-    }
-    Ok(text)
+    written_text(alloc, count, &cx)
 }
 
 /// A part that is refused leaves what was written before it.

@@ -44,7 +44,16 @@ fn write(
     Some(function.emit_instructions(indices, locals, encoder, map))
 }
 
-// Writes a function, and answers the fault as text, which is empty where there is none.
+// The fault as text, which is empty where there is none.
+fn fault_text(alloc: Global, answer: Option<Result<(), EmitError>>) -> Result<String, AllocError> {
+    match answer {
+        Some(Ok(())) => Ok(String::new(alloc)),
+        Some(Err(error)) => format!(in alloc; "{error:?} "),
+        None => "no entry ".to_string(alloc),
+    }
+}
+
+// Writes a function, and answers the fault as text.
 fn write_into(
     alloc: Global,
     function: &LocalFunction,
@@ -53,11 +62,8 @@ fn write_into(
 ) -> Result<String, Fail> {
     let numbers = numbers(alloc)?;
     let locals = local_numbers(alloc)?;
-    match write(function, &numbers, &locals, encoder, map) {
-        Some(Ok(())) => Ok(String::new(alloc)),
-        Some(Err(error)) => Ok(format!(in alloc; "{error:?} ")?),
-        None => Ok("no entry ".to_string(alloc)?),
-    }
+    let answer = write(function, &numbers, &locals, encoder, map);
+    Ok(fault_text(alloc, answer)?)
 }
 
 // Appends bytes and pairs.
@@ -246,7 +252,7 @@ fn changed(alloc: Global) -> Result<LocalFunction, AllocError> {
 #[test]
 fn changes_one_sequence(rt: HostRuntime) -> Result<(), Fail> {
     let mut text = written(rt.alloc(), &changed(rt.alloc())?)?;
-    push_sequences(&mut text, &changed(rt.alloc())?)?;
+    push_sequences(&mut text, changed(rt.alloc())?.builder())?;
     assert_eq!(rt;
         text.as_str(),
         "0002030b1a0b 9@9 1@1 77@3 2@4 -@5 ()[ block 1@1 drop@2 ]- type5[ ]77"

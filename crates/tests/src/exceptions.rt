@@ -4,6 +4,7 @@ use crate::cases::{About, check};
 use crate::emitting::written;
 use crate::small_module::Setting;
 use std::alloc::{AllocError, Global};
+use std::process::Abort;
 use std::test::Fail;
 use walrus_body::LocalFunction;
 use walrus_ir::{
@@ -76,61 +77,85 @@ fn writes_a_delegate_nowhere(rt: HostRuntime) -> Result<(), Fail> {
     check(&rt, rt.alloc(), About::Written(setting), &cases)
 }
 
-// A function whose entry is a `try` with these clauses, and the type of its body this.
-fn with_clauses(
-    alloc: Global,
-    ty: InstrSeqType,
-    clauses: &[LegacyCatch],
-) -> Result<LocalFunction, AllocError> {
-    let mut builder = FunctionBuilder::without_entry(alloc, TypeId::new(0));
-    for ty in [InstrSeqType::Simple(None), ty] {
-        builder.alloc(ty)?;
+/// A clause that a test gives to a `try`; a handler is a slot.
+#[derive(Clone, Copy)]
+enum Clause {
+    Catch(usize),
+    CatchAll(usize),
+    Delegate,
+}
+
+// Lists of clauses in no lawful order.
+const UNLAWFUL: [[Clause; 2]; 4] = [
+    [Clause::CatchAll(2), Clause::Catch(3)],
+    [Clause::CatchAll(2), Clause::CatchAll(3)],
+    [Clause::Catch(2), Clause::Delegate],
+    [Clause::Delegate, Clause::CatchAll(2)],
+];
+
+fn legacy_catch(clause: Clause) -> LegacyCatch {
+    match clause {
+        Clause::Catch(handler) => LegacyCatch::Catch {
+            tag: TagId::new(0),
+            handler: InstrSeqId::new(handler),
+        },
+        Clause::CatchAll(handler) => LegacyCatch::CatchAll {
+            handler: InstrSeqId::new(handler),
+        },
+        Clause::Delegate => LegacyCatch::Delegate { relative_depth: 0 },
     }
+}
+
+fn legacy_catches(alloc: Global, clauses: &[Clause]) -> Result<Vec<LegacyCatch>, AllocError> {
+    let mut catches = Vec::new(alloc);
+    for clause in clauses {
+        catches.push(legacy_catch(*clause))?;
+    }
+    Ok(catches)
+}
+
+// What writing a function gives whose entry is a `try` with these clauses, and the type of its
+// body this.
+fn written_try(alloc: Global, ty: InstrSeqType, clauses: &[Clause]) -> Result<String, Fail> {
+    let mut builder = FunctionBuilder::without_entry(alloc, TypeId::new(0));
+    builder.alloc(InstrSeqType::Simple(None))?;
+    builder.alloc(ty)?;
     for _ in 2..4 {
         builder.alloc(InstrSeqType::Simple(None))?;
     }
     builder.set_entry(InstrSeqId::new(0));
     let seq = InstrSeqId::new(1);
-    let catches = Vec::from_slice(alloc, clauses)?;
+    let catches = legacy_catches(alloc, clauses)?;
     put(&mut builder, 0, Instr::Try(Try { seq, catches }), 1)?;
-    Ok(LocalFunction::new(Vec::new(alloc), builder))
+    written(alloc, &LocalFunction::new(Vec::new(alloc), builder))
 }
 
-fn catch(handler: usize) -> LegacyCatch {
-    LegacyCatch::Catch {
-        tag: TagId::new(0),
-        handler: InstrSeqId::new(handler),
+// Checks that no `try` is written whose body has this type; bytes and pairs are as before.
+fn refuses_unlawful(rt: &impl Abort, alloc: Global, ty: &InstrSeqType) -> Result<(), Fail> {
+    for clauses in &UNLAWFUL {
+        let text = written_try(alloc, *ty, clauses)?;
+        assert_eq!(rt; text.as_str(), "BadClauses 00 9@9");
     }
+    Ok(())
 }
 
-fn catch_all(handler: usize) -> LegacyCatch {
-    LegacyCatch::CatchAll {
-        handler: InstrSeqId::new(handler),
-    }
-}
-
-/// A `try` whose clauses are in no lawful order isn't written, also where its type has no number;
-/// bytes and pairs are as before.
+/// A `try` whose clauses are in no lawful order isn't written.
 #[test]
 fn refuses_unlawful_clauses(rt: HostRuntime) -> Result<(), Fail> {
-    let delegate = LegacyCatch::Delegate { relative_depth: 0 };
-    let lists = [
-        [catch_all(2), catch(3)],
-        [catch_all(2), catch_all(3)],
-        [catch(2), delegate],
-        [delegate, catch_all(2)],
-    ];
-    for ty in [
-        InstrSeqType::Simple(None),
-        InstrSeqType::MultiValue(TypeId::new(77)),
-    ] {
-        for clauses in &lists {
-            let text = written(rt.alloc(), &with_clauses(rt.alloc(), ty, clauses)?)?;
-            assert_eq!(rt; text.as_str(), "BadClauses 00 9@9");
-        }
-    }
-    let plain = with_clauses(rt.alloc(), InstrSeqType::Simple(None), &[catch_all(2)])?;
-    let text = written(rt.alloc(), &plain)?;
+    refuses_unlawful(&rt, rt.alloc(), &InstrSeqType::Simple(None))
+}
+
+/// That is said first where its type has no number.
+#[test]
+fn refuses_unlawful_clauses_of_an_unnumbered_type(rt: HostRuntime) -> Result<(), Fail> {
+    refuses_unlawful(&rt, rt.alloc(), &InstrSeqType::MultiValue(TypeId::new(77)))
+}
+
+/// A `catch_all` alone is lawful.
+#[test]
+fn writes_a_lawful_clause(rt: HostRuntime) -> Result<(), Fail> {
+    let ty = InstrSeqType::Simple(None);
+    let text = written_try(rt.alloc(), ty, &[Clause::CatchAll(2)])?;
     assert_eq!(rt; text.as_str(), "000640190b0b 9@9 1@1 -@3 -@4 -@5");
     Ok(())
 }

@@ -4,8 +4,8 @@ use std::alloc::AllocError;
 use std::fmt;
 use walrus_body::{IndexError, LocalFunction, ParseError};
 use walrus_ir::{
-    BinaryOp, BrTable, Const, Instr, InstrLocId, InstrSeq, InstrSeqId, InstrSeqType, Load, Store,
-    UnaryOp, ValType, Value,
+    BinaryOp, BrTable, Const, FunctionBuilder, Instr, InstrLocId, InstrSeq, InstrSeqId,
+    InstrSeqType, Load, MemArg, MemoryId, Store, UnaryOp, ValType, Value,
 };
 use wasm_ops::ReadError;
 
@@ -33,6 +33,17 @@ fn write_labels<W: fmt::Write>(f: &mut fmt::Formatter<W>, table: &BrTable) -> fm
     write!(f, " {}", table.default.index())
 }
 
+// An access: its kind, its memory, its alignment, and its offset.
+fn write_access<W: fmt::Write, K: fmt::Debug>(
+    f: &mut fmt::Formatter<W>,
+    name: &str,
+    kind: &K,
+    memory: MemoryId,
+    MemArg { align, offset }: MemArg,
+) -> fmt::Result {
+    write!(f, "{name} {kind:?} {} {align} {offset}", memory.index())
+}
+
 impl fmt::Display for Shown<'_> {
     fn fmt<W: fmt::Write>(&self, f: &mut fmt::Formatter<W>) -> fmt::Result {
         match self {
@@ -44,14 +55,8 @@ impl fmt::Display for Shown<'_> {
             Shown::Unary(op) => write!(f, "{op:?}"),
             Shown::Binary(op) => write!(f, "{op:?}"),
             Shown::Select(ty) => write!(f, "select {ty:?}"),
-            Shown::Load(x) => {
-                let (memory, align, offset) = (x.memory.index(), x.arg.align, x.arg.offset);
-                write!(f, "load {:?} {memory} {align} {offset}", x.kind)
-            }
-            Shown::Store(x) => {
-                let (memory, align, offset) = (x.memory.index(), x.arg.align, x.arg.offset);
-                write!(f, "store {:?} {memory} {align} {offset}", x.kind)
-            }
+            Shown::Load(x) => write_access(f, "load", &x.kind, x.memory, x.arg),
+            Shown::Store(x) => write_access(f, "store", &x.kind, x.memory, x.arg),
         }
     }
 }
@@ -153,15 +158,15 @@ pub(crate) fn push_sequence(text: &mut String, seq: &InstrSeq) -> Result<(), All
     Ok(())
 }
 
-/// All sequences of a function, by their slots.
+/// All sequences of a builder, by their slots.
 pub(crate) fn push_sequences(
     text: &mut String,
-    function: &LocalFunction,
+    builder: &FunctionBuilder,
 ) -> Result<(), AllocError> {
-    for slot in 0..function.builder().count() {
+    for slot in 0..builder.count() {
         let id = InstrSeqId::new(slot);
-        if function.has_block(id) {
-            push_sequence(text, function.block(id))?;
+        if builder.has(id) {
+            push_sequence(text, builder.seq(id))?;
         }
     }
     Ok(())
@@ -177,7 +182,7 @@ pub(crate) fn function_text(function: &LocalFunction) -> Result<String, AllocErr
     for (place, location) in &function.instruction_mapping {
         write!(text, " {place}:{}", location.data())?;
     }
-    push_sequences(&mut text, function)?;
+    push_sequences(&mut text, function.builder())?;
     Ok(text)
 }
 

@@ -3,6 +3,7 @@ ghost use Rattle.std.specs.Prelude.{◌≡◌};
 ghost use Rattle.walrus_body.specs.IndexMaps.{number_of};
 
 use std::alloc::{AllocError, Global};
+use std::process::Abort;
 use std::test::Fail;
 use walrus_body::{IdsToIndices, IndexError, IndicesToIds, Space};
 use walrus_ir::{
@@ -235,28 +236,47 @@ fn numbers_of_spaces(alloc: Global) -> Result<IdsToIndices, IndexError> {
     Ok(numbers)
 }
 
+// Ids of spaces with their new indices, or the faults.
+const NUMBERS: [(Space, usize, &str); 13] = [
+    (Space::Tables, 10, "0"),
+    (Space::Types, 11, "0"),
+    (Space::Funcs, 12, "0"),
+    (Space::Funcs, 5, "1"),
+    (Space::Funcs, 2, "2"),
+    (Space::Funcs, 7, "an id has no index among funcs"),
+    (Space::Globals, 13, "0"),
+    (Space::Memories, 14, "0"),
+    (Space::Elements, 15, "0"),
+    (Space::Data, 16, "0"),
+    (Space::Data, 1, "4"),
+    (Space::Tags, 17, "0"),
+    (Space::Tags, 10, "an id has no index among tags"),
+];
+
+// Checks the new index of an id, or the fault.
+fn check_number(
+    rt: &impl Abort,
+    alloc: Global,
+    numbers: &IdsToIndices,
+    (space, id, want): (Space, usize, &str),
+) -> Result<(), Fail> {
+    let found = number_text(alloc, numbers, space, id)?;
+    assert_eq!(rt; found.as_str(), want);
+    Ok(())
+}
+
+// Checks new indices, row by row.
+fn check_numbers(rt: &impl Abort, alloc: Global, numbers: &IdsToIndices) -> Result<(), Fail> {
+    for row in &NUMBERS {
+        check_number(rt, alloc, numbers, *row)?;
+    }
+    Ok(())
+}
+
 /// Each space has new indices of its own, in the order in which ids were pushed; that of a data
 /// segment is replaced.
 #[test]
 fn each_space_has_its_numbers(rt: HostRuntime) -> Result<(), Fail> {
     let numbers = numbers_of_spaces(rt.alloc())?;
-    for (space, id, want) in [
-        (Space::Tables, 10, "0"),
-        (Space::Types, 11, "0"),
-        (Space::Funcs, 12, "0"),
-        (Space::Funcs, 5, "1"),
-        (Space::Funcs, 2, "2"),
-        (Space::Funcs, 7, "an id has no index among funcs"),
-        (Space::Globals, 13, "0"),
-        (Space::Memories, 14, "0"),
-        (Space::Elements, 15, "0"),
-        (Space::Data, 16, "0"),
-        (Space::Data, 1, "4"),
-        (Space::Tags, 17, "0"),
-        (Space::Tags, 10, "an id has no index among tags"),
-    ] {
-        let found = number_text(rt.alloc(), &numbers, space, id)?;
-        assert_eq!(rt; found.as_str(), want);
-    }
-    Ok(())
+    check_numbers(&rt, rt.alloc(), &numbers)
 }

@@ -2,6 +2,7 @@
 ghost use Rattle.std.specs.Prelude.{◌≡◌};
 
 use crate::demo_module::demo;
+use crate::small_module::Example;
 use std::alloc::{AllocError, Global};
 use std::test::Fail;
 use walrus_body::FunctionBody;
@@ -24,18 +25,25 @@ fn nested(alloc: Global) -> Result<Vec<u8>, AllocError> {
     Ok(ops)
 }
 
-// Its run, with so many turns.
-fn run(alloc: Global, turns: u64) -> Result<Run, Fail> {
-    let demo = demo(alloc, 0)?;
-    let ops = nested(alloc)?;
+// The run of a body over the demo module, with so many turns.
+fn run_over(alloc: Global, demo: &Example, ops: &[u8], turns: u64) -> Result<Run, Fail>
+    requires { demo.now.module.code_section_offset ≡ 0 }
+{
     let body = FunctionBody {
-        bytes: &ops,
+        bytes: ops,
         start: 0,
         ops: 0,
     };
     let (id, ty) = (FunctionId::new(0), TypeId::new(1));
     let body = NamedBody::read(alloc, &demo.module, &demo.indices, id, ty, body)?;
     Ok(execute(&body, &[], turns)?)
+}
+
+// Its run, with so many turns.
+fn run(alloc: Global, turns: u64) -> Result<Run, Fail> {
+    let demo = demo(alloc, 0)?;
+    let ops = nested(alloc)?;
+    run_over(alloc, &demo, &ops, turns)
 }
 
 /// A million turns: an event for each block and for the loop, and one for each time that the branch

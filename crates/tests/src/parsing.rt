@@ -207,3 +207,19 @@ fn clears_the_lent_list(rt: HostRuntime) -> Result<(), Fail> {
     assert!(rt; instrs.is_empty());
     Ok(())
 }
+
+/// Bodies that are accepted leave the list empty that is lent, with the memory that it had.
+#[test]
+fn keeps_the_memory_of_the_lent_list(rt: HostRuntime) -> Result<(), Fail> {
+    let mut instrs = Vec::new(rt.alloc());
+    let long = "1a1a1a1a1a1a1a1a1a1a1a1a1a1a1a1a1a1a1a1a0b";
+    parse_lent(rt.alloc(), Setting::PLAIN, long, AcceptAll, &mut instrs)?;
+    let reserved = instrs.capacity();
+    assert!(rt; reserved >= 20);
+    for body in ["0b", long] {
+        parse_lent(rt.alloc(), Setting::PLAIN, body, AcceptAll, &mut instrs)?;
+        assert_eq!(rt; instrs.capacity(), reserved);
+        assert!(rt; instrs.is_empty());
+    }
+    Ok(())
+}

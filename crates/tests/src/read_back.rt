@@ -1,10 +1,11 @@
 //! What is written of a body is read again, and written unchanged: by the contracts of parsing and
 //! of writing, the laws of reading back, and that a function has one tree.
-ghost use Rattle.std.specs.Prelude.{◌≡◌, ◌≤◌, ℕ, List, drop, length, IfOk, IfErr};
+ghost use Rattle.std.specs.Prelude.{◌≡◌, ◌⊎◌, ◌≤◌, ℕ, List, drop, length, IfOk, IfErr, IsErr};
 ghost use Rattle.wasm_body.specs.declared.error.ParseError.TheVariants as parse;
+ghost use Rattle.wasm_body.specs.declared.error.ParseFailure.{ParseFailure as Failure};
 ghost use Rattle.wasm_body.specs.SourceTree.{Body};
 ghost use Rattle.wasm_body.specs.Naming.{Occurrence};
-ghost use Rattle.wasm_body.specs.Parsing.Accepted.{Accepted};
+ghost use Rattle.wasm_body.specs.Parsing.Accepted.{Accepted, FirstFault};
 ghost use Rattle.wasm_body.specs.Bytes.{tree_bytes};
 ghost use Rattle.wasm_body.specs.FunctionTree.{FunctionTree};
 ghost use Rattle.wasm_body.specs.ReadBack.{IsInverse};
@@ -13,8 +14,9 @@ ghost use Rattle.walrus_body.specs.Environments.{environment_of};
 ghost use Rattle.walrus_body.specs.LocalFunctions.{HasEntry, first_slot};
 ghost use Rattle.walrus_body.specs.TreeWriting.EmittedInstructions.{IsUnemitted};
 ghost use Rattle.walrus_body.specs.TreeWriting.Operators.{numbers_by};
+ghost use Rattle.walrus_run.specs.declared.error.RewriteError.{RewriteError as Refusal};
 ghost use Rattle.walrus_run.specs.Rewriting.{WantsMemory};
-ghost use Rattle.tests.specs.ReadBack.{reading_by, IsReadAs, IsWrittenAs, HasBytes};
+ghost use Rattle.tests.specs.ReadBack.{reading_by, IsReadAs, IsWrittenAs, HasBytes, HasFault, IsFirstFault, IsRefusedAs};
 
 use std::alloc::{AllocError, Global};
 use walrus_body::{
@@ -36,9 +38,16 @@ pub fn read(
     requires begins { «module».now.code_section_offset ≡ 0 }
     ensures accepted { IfOk result (λ made. IsReadAs (environment_of «module».now indices.now id ty)
         ops.now made.builder) }
+    // What is refused is so for the first fault.
+    ensures refused { IfErr result (λ f. (f.error ≡ parse.Memory)
+        ⊎ IsFirstFault (environment_of «module».now indices.now id ty) ops.now f) }
+    // Want of memory aside, each accepted body is answered, and each first fault is.
     ensures each_body { (locate : ℕ → ℕ) (b : Body Occurrence)
         → Accepted (reading_by (environment_of «module».now indices.now id ty) locate) ops.now b
         → IfErr result (λ f. f.error ≡ parse.Memory) }
+    ensures each_fault { (locate : ℕ → ℕ) (f : Failure)
+        → FirstFault (reading_by (environment_of «module».now indices.now id ty) locate) ops.now f
+        → IsErr result × IfErr result (λ e. (e.error ≡ parse.Memory) ⊎ (e ≡ f)) }
 {
     let nowhere = |_: &usize| InstrLocId::default();
     let body = FunctionBody {
@@ -112,10 +121,18 @@ pub fn rewritten(
     ensures written { IfOk result (λ bytes. IsWrittenAs
         (environment_of «module».now indices.now id ty) (numbers_by out.now locals.now.entries)
         ops.now bytes.items) }
-    // Want of memory aside, operators of an accepted body that has bytes are written by them.
+    // What is refused is so for the first fault of reading, or else of writing.
+    ensures refused { IfErr result (λ e. WantsMemory e
+        ⊎ IsRefusedAs (environment_of «module».now indices.now id ty)
+        (numbers_by out.now locals.now.entries) ops.now e) }
+    // Want of memory aside, operators of an accepted body that has bytes are written by them, and
+    // each fault is answered.
     ensures each_body { (bytes : List ℕ) → HasBytes (environment_of «module».now indices.now id ty)
         (numbers_by out.now locals.now.entries) ops.now bytes
         → IfErr result WantsMemory × IfOk result (λ made. made.items ≡ bytes) }
+    ensures each_fault { (e : Refusal) → HasFault (environment_of «module».now indices.now id ty)
+        (numbers_by out.now locals.now.entries) ops.now e
+        → IsErr result × IfErr result (λ r. WantsMemory r ⊎ (r ≡ e)) }
 {
     match read(alloc, module, indices, id, ty, ops) {
         Ok(function) => match written(alloc, &function, out, locals) {
@@ -147,10 +164,17 @@ pub fn rewritten_twice(
         ops.now both.0.items) }
     // What is written is read again and written unchanged.
     ensures unchanged { IfOk result (λ both. both.1.items ≡ both.0.items) }
-    // And it isn't refused: want of memory aside, operators of an accepted body that has bytes are
-    // written twice.
+    // And it isn't refused: what is refused is so for the first fault of the operators that were
+    // handed in. Want of memory aside, operators of an accepted body that has bytes are written
+    // twice, and each fault is answered.
+    ensures refused { IfErr result (λ e. WantsMemory e
+        ⊎ IsRefusedAs (environment_of «module».now indices.now id ty)
+        (numbers_by out.now locals.now.entries) ops.now e) }
     ensures each_body { (bytes : List ℕ) → HasBytes (environment_of «module».now indices.now id ty)
         (numbers_by out.now locals.now.entries) ops.now bytes → IfErr result WantsMemory }
+    ensures each_fault { (e : Refusal) → HasFault (environment_of «module».now indices.now id ty)
+        (numbers_by out.now locals.now.entries) ops.now e
+        → IsErr result × IfErr result (λ r. WantsMemory r ⊎ (r ≡ e)) }
 {
     law_inverse_undoes();
     law_accepted_again::<(), ()>();

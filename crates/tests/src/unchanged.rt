@@ -71,7 +71,7 @@ fn push_written(
     }
     let bytes = written(alloc, &function, &numbers.out, &numbers.locals)?;
     push_hexadecimal(text, &bytes)?;
-    push_sequences(text, &function)?;
+    push_sequences(text, function.builder())?;
     Ok(bytes)
 }
 

@@ -13,7 +13,7 @@ pub mod Endings
 pub mod Placements
 pub mod Roles
 pub mod Alone
-pub mod FrameLists
+pub mod FrameStacks
 pub mod TreeChanges
 pub mod LastClauses
 pub mod Handlers

@@ -5,7 +5,7 @@ pub mod Locating
 pub mod Settings
 pub mod OpenFrames
 pub mod OpenTrees
-pub mod OwnLists
+pub mod FrameStacks
 pub mod Keeping
 pub mod Placing
 pub mod Advancing

@@ -27,12 +27,12 @@ mod check;
 mod context;
 mod emit;
 mod frame;
+mod frame_stack;
 mod instructions;
 mod legacy_try;
 mod local_numbers;
 mod locating;
 mod next;
-mod own_lists;
 mod parse;
 mod references;
 mod try_tables;
@@ -107,7 +107,8 @@ impl LocalFunction {
 
     /// Parses a function's body. Each operator's location is what `on_instr_pos` answers for its
     /// place, or where there is none the place itself; the validator is asked about each operator.
-    /// The list `instrs` is cleared; what it held makes no difference.
+    /// The list `instrs` holds the instructions of open sequences meanwhile; what it held makes no
+    /// difference. It is empty in the end, and keeps its memory where the body is accepted.
     ///
     /// # Errors
     ///
@@ -155,7 +156,6 @@ impl LocalFunction {
             «module».now.code_section_offset)) }
         ensures instrs { instrs.new.items ≡ [] }
     {
-        instrs.clear();
         let alloc = *instrs.allocator();
         let start = body.start + body.ops;
         let parsed = parse_function(
@@ -168,7 +168,9 @@ impl LocalFunction {
             start,
             on_instr_pos,
             validator,
+            instrs,
         );
+        instrs.clear();
         match parsed {
             Ok(parsed) => Ok(LocalFunction {
                 builder: parsed.builder,

@@ -1,11 +1,11 @@
 -- How many instructions the normal form of a body has: no more than the body has operators, and so than there are bytes.
-use Rattle.std.proofs.Common.{◌≡◌, ℕ, suc, ◌+◌, ◌≤◌, List, [], ◌∷◌, ◌++◌, length, map, refl, sym, ap, ◌∙◌, subst, arith}
+use Rattle.std.proofs.Common.{◌≡◌, ℕ, suc, ◌+◌, ◌≤◌, List, [], ◌∷◌, length, map, sym, ap, ◌∙◌, arith}
 use Rattle.std.proofs.lemmas.List.{length-append, length-map}
 use Rattle.walrus_ir.specs.Tree.{Items, no_items, item, Sequences, no_sequences, sequence}
 use Rattle.wasm_ops.specs.OperatorList.{Placed, Lists}
 use Rattle.wasm_ops.proofs.ListLaws.{spelt_length}
-use Rattle.wasm_body.specs.Control.{Action, Opens, If, Try, Else, Catch, CatchAll, End, Delegate, Marked, with_control}
-use Rattle.wasm_body.specs.SourceTree.{Sequence, Empty, Single, Wrapped, IfThen, IfElse, TryCatch, TryDelegate, Clauses, Ended, Catches, CatchesAll, construct_of, text, clauses_text, Body, body_text}
+use Rattle.wasm_body.specs.Control.{Else, End, Delegate, Marked, with_control}
+use Rattle.wasm_body.specs.SourceTree.{Sequence, Empty, Single, Wrapped, IfThen, IfElse, TryCatch, TryDelegate, Clauses, Ended, Catches, CatchesAll, text, clauses_text, Body}
 use Rattle.wasm_body.specs.Translation.{Located}
 use Rattle.wasm_body.specs.Naming.{NamedOperation, Environment, Occurrence}
 use Rattle.wasm_body.specs.Parsing.Accepted.{placed, IsBody}

@@ -1,19 +1,17 @@
 -- The locals of bodies over the demo module: those that are used are there, can be declared, and have numbers.
-use Rattle.std.specs.Prelude.{◌≡◌, ◌⊎◌, ◌≤◌, ◌<◌, ◌+◌, ◌^◌, ◌==◌, ℕ, zero, suc, List, [], ◌∷◌, ◌++◌, length, map, Bool, true, false, not, ◌&&◌, ◌||◌, nat_lt, nat_le, if◌then◌else◌, Option, Some, None, is_some, slice_get, IsOk, is_ok, Result, Ok, Err}
+use Rattle.std.specs.Prelude.{◌≡◌, ◌⊎◌, ◌≤◌, ◌<◌, ◌+◌, ◌^◌, ◌==◌, ℕ, zero, suc, List, [], ◌∷◌, ◌++◌, length, map, Bool, true, false, not, ◌&&◌, ◌||◌, nat_lt, nat_le, if◌then◌else◌, Option, Some, None, slice_get, IsOk, Result, Ok, Err}
 use Rattle.std.specs.List.{AllByRecursion}
 use Rattle.std.specs.Option.{option_map, option_or}
 use Rattle.std.specs.declared.cmp.Ordering.TheVariants.{Less}
 use Rattle.std.specs.Ordering.{nat_cmp}
-use Rattle.std.proofs.Common.{inl, inr, refl, sym, ap, subst, ◌∙◌, arith, rules}
+use Rattle.std.proofs.Common.{inl, inr, refl, sym, ap, subst, ◌∙◌, arith}
 use Rattle.std.proofs.lemmas.Bool.{eqb-true, eq-eqb}
 use Rattle.std.proofs.lemmas.List.{length-append, length-map}
 use Rattle.std.proofs.lemmas.List.Elements.{recursion_from_All}
 use Rattle.std.proofs.lemmas.Option.{same_Some, slice_get_within}
 use Rattle.walrus_ir.specs.declared.val_type.ValType.{ValType}
-use Rattle.walrus_ir.specs.declared.val_type.ValType.TheVariants.{I32, I64}
+use Rattle.walrus_ir.specs.declared.val_type.ValType.TheVariants.{I64}
 use Rattle.walrus_ir.specs.declared.val_type.InstrSeqType.{InstrSeqType}
-use Rattle.walrus_ir.specs.declared.val_type.InstrSeqType.TheVariants.{Simple, MultiValue}
-use Rattle.walrus_ir.specs.Types.{same_type}
 use Rattle.walrus_ir.specs.Unfolding.{among}
 use Rattle.walrus_ir.specs.Results.{◌>>=◌, unless, some_or, each}
 use Rattle.wasm_body.specs.declared.error.EmitError.{EmitError}
@@ -21,10 +19,9 @@ use Rattle.wasm_body.specs.declared.error.EmitError.TheVariants.{TooLarge, Unnum
 use Rattle.wasm_body.specs.declared.error.IndexError.TheVariants.{NoLocals, LocalOutOfRange}
 use Rattle.wasm_body.specs.Control.{Control, End, with_control}
 use Rattle.wasm_body.specs.SourceTree.{Body, map_sequence}
-use Rattle.wasm_body.specs.Frames.{Frame}
-use Rattle.wasm_body.specs.Naming.{Occurrence, named_in}
+use Rattle.wasm_body.specs.Naming.{Occurrence}
 use Rattle.wasm_body.specs.FunctionTree.{FunctionTree}
-use Rattle.wasm_body.specs.NormalForm.{typing_of, name_at, named_body, body_tree}
+use Rattle.wasm_body.specs.NormalForm.{typing_of, name_at, body_tree}
 use Rattle.wasm_body.specs.Parsing.Accepted.{mark, Lawful}
 use Rattle.wasm_body.specs.LocalNumbers.{Local, ids_of, types_of, locals_among, locals_of, uses_local, AreDeclared, last_place, number_of_local, one_more, runs, declaration, declarations, declared, with_locals}
 use Rattle.wasm_body.specs.Bytes.{Numbers, in_32_bits, numbered_block, tree_bytes}

@@ -1,8 +1,8 @@
 -- The demo module's numbers: there is one for each id that an old index stands for, and for the type of each sequence.
-use Rattle.std.specs.Prelude.{◌≡◌, ℕ, suc, zero, List, [], ◌∷◌, Bool, true, Option, Some, None, slice_get, IsOk, is_ok, Result, Ok, Err}
+use Rattle.std.specs.Prelude.{◌≡◌, ℕ, suc, zero, List, [], ◌∷◌, Bool, Option, Some, None, slice_get, IsOk, is_ok, Result, Ok, Err}
 use Rattle.std.specs.List.{AllByRecursion}
 use Rattle.std.specs.FinMap.{get, gets}
-use Rattle.std.proofs.Common.{refl, ap, sym, subst, ◌∙◌, rules}
+use Rattle.std.proofs.Common.{refl, ap, subst, rules}
 use Rattle.walrus_ir.specs.declared.val_type.HeapType.{HeapType}
 use Rattle.walrus_ir.specs.declared.val_type.HeapType.TheVariants.{Abstract, Concrete}
 use Rattle.walrus_ir.specs.declared.val_type.ValType.{ValType}
@@ -18,11 +18,8 @@ use Rattle.walrus_ir.specs.Results.{◌>>=◌, some_or, with_fault}
 use Rattle.walrus_body.specs.IndexMaps.{ids_in}
 use Rattle.wasm_body.specs.Translation.{translate_heap, translate_value}
 use Rattle.wasm_body.specs.Naming.{id_at, name_block, function_type}
-use Rattle.wasm_body.specs.declared.error.EmitError.TheVariants.{UnnumberedLocal}
-use Rattle.wasm_body.specs.declared.error.IndexError.TheVariants.{NoLocals, LocalOutOfRange}
-use Rattle.wasm_body.specs.Bytes.{in_32_bits, numbers_in_32_bits, numbered_block}
+use Rattle.wasm_body.specs.Bytes.{numbers_in_32_bits, numbered_block}
 use Rattle.wasm_body.proofs.Translation.Steps.{bound}
-use Rattle.wasm_body.proofs.Bytes.NumberedBodies.{HasNumbers}
 use Rattle.walrus_run.specs.Demo.{demo_types, demo_indices, demo_environment, demo_numbers}
 
 -- ---- ids of old indices

@@ -2,6 +2,9 @@
 mod DemoMaps
 mod DemoNumbers
 mod DemoLocals
+-- a function has one tree, and a result one answer
+pub mod OneTree
+pub mod SameAnswers
 -- what is parsed, and what is written of it
 mod RewritingLemmas
 mod Counts

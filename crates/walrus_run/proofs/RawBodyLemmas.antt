@@ -1,6 +1,6 @@
 -- The raw body of a function: what its parts write, and why they don't.
-use Rattle.std.proofs.Common.{◌≡◌, ◌⊎◌, ◌++◌, ◌+◌, ◌<◌, ◌≤◌, ◌^◌, ℕ, List, [], ◌∷◌, Bool, Option, Some, None, Result, Ok, Err, length, refl, sym, ap, subst, ◌∙◌, inl, inr, arith}
-use Rattle.std.specs.Prelude.{nat_lt, ◌&&◌, true, false, IsOk}
+use Rattle.std.proofs.Common.{◌≡◌, ◌⊎◌, ◌++◌, ◌+◌, ◌<◌, ◌≤◌, ◌^◌, ℕ, List, [], ◌∷◌, Bool, Result, Ok, Err, length, refl, sym, ap, subst, ◌∙◌, inl, inr, arith}
+use Rattle.std.specs.Prelude.{nat_lt, ◌&&◌, true, false}
 use Rattle.std.specs.List.{list_all, AllByRecursion}
 use Rattle.std.proofs.lemmas.List.{length-append}
 use Rattle.walrus_ir.specs.declared.val_type.ValType.{ValType}
@@ -8,7 +8,7 @@ use Rattle.walrus_ir.specs.Function.{Function}
 use Rattle.walrus_ir.specs.Results.{◌>>=◌, some_or, unless, each}
 use Rattle.walrus_ir.specs.Tree.{Tree}
 use Rattle.walrus_ir.specs.Unfolding.{SequenceAt, LocatedInstr, IsTree, among}
-use Rattle.walrus_ir.proofs.WalkLaws.{one_tree, tree_has_no_fault}
+use Rattle.walrus_ir.proofs.WalkLaws.{tree_has_no_fault}
 use Rattle.wasm_ops.specs.Operations.{RawOperation}
 use Rattle.wasm_ops.specs.Shortest.{short}
 use Rattle.wasm_encode.specs.Declarations as encoded
@@ -17,18 +17,19 @@ use Rattle.wasm_body.specs.declared.error.EmitError.TheVariants.{Memory, TooLarg
 use Rattle.wasm_body.specs.Bytes.{Numbers, numbered_text, bytes_of, tree_bytes}
 use Rattle.wasm_body.specs.Translation.{Located}
 use Rattle.wasm_body.specs.FunctionTree.{FunctionTree}
-use Rattle.wasm_body.specs.LocalNumbers.{Local, ids_of, AreDeclared, number_of_local, declaration, declarations, declared, runs, types_of, locals_of, uses_local, with_locals}
+use Rattle.wasm_body.specs.LocalNumbers.{Local, ids_of, AreDeclared, number_of_local, declaration, declarations, declared, runs, types_of, uses_local, with_locals}
 use Rattle.wasm_body.specs.Pairs.{Pair, pairs_from, tree_pairs}
 use Rattle.wasm_body.specs.TreeOfFunction.{tree_of, HasTree}
 use Rattle.wasm_body.proofs.Translation.Steps.{bound, length-each}
 use Rattle.walrus_body.specs.declared.ids_to_indices.IdsToIndices.{IdsToIndices}
-use Rattle.walrus_body.specs.EmittedLocals.{number_in, Declares, HasUnknown, IsUndeclared}
+use Rattle.walrus_body.specs.EmittedLocals.{number_in, HasUnknown}
 use Rattle.walrus_body.specs.Facts.{locals_used}
 use Rattle.walrus_body.specs.LocalFunctions.{first_slot}
 use Rattle.walrus_body.specs.TreeWriting.EmittedInstructions.{IsUnemitted}
 use Rattle.walrus_body.specs.TreeWriting.Operators.{numbers_by}
 use Rattle.walrus_body.proofs.LocalsOfTrees.{locals_of_tree}
-use Rattle.walrus_run.specs.RawBodies.{Given, IsRawBody, HasNoRawBody, unknown, undeclared, unwritten, IsRawBodyOf, Begins, IsNotBegun, Writes, WritesBytes, WritesBoth, Declines, not_begun, not_written}
+use Rattle.walrus_run.proofs.OneTree.{one_function}
+use Rattle.walrus_run.specs.RawBodies.{Given, HasNoRawBody, unknown, undeclared, unwritten, IsRawBodyOf, Begins, IsNotBegun, Writes, WritesBytes, WritesBoth, Declines, not_begun, not_written}
 
 -- ---- declarations
 
@@ -95,7 +96,7 @@ module _ (f : Function) (u : Tree SequenceAt LocatedInstr) (is_tree : IsTree f.s
   has_tree = record { unfolded = u; is_tree = is_tree; is = refl }
 
   pub only_tree : (t : FunctionTree) → HasTree f.sequences (first_slot f) t → t ≡ tree_of u
-  only_tree t h = sym h.is ∙ ap tree_of (one_tree f.sequences (first_slot f) h.unfolded u h.is_tree is_tree)
+  only_tree t h = one_function f.sequences (first_slot f) t (tree_of u) h has_tree
 
   used_is : used ≡ uses_local (tree_of u)
   used_is = λ k. λ l. (used_are l ∙ ap (λ ls. among l ls) (sym (locals_of_tree u))) k

@@ -1,20 +1,16 @@
 -- Bodies over the demo module: what is parsed is written, and what is answered is what is accepted.
-use Rattle.std.specs.Prelude.{◌≡◌, ◌⊎◌, ◌++◌, ◌<◌, ℕ, List, [], ◌∷◌, length, drop, map, Option, Some, None, IsOk, IsErr, IfOk, IfErr, unwrap_or, Result, Ok, Err}
+use Rattle.std.specs.Prelude.{◌≡◌, ◌⊎◌, ℕ, List, [], ◌∷◌, length, drop, map, Option, None, Ok}
 use Rattle.std.specs.Borrow.{Bor}
 use Rattle.std.specs.Fn.{Shared}
 use Rattle.std.specs.List.{AllByRecursion}
-use Rattle.std.proofs.lemmas.Option.{slice_get_within}
 use Rattle.std.proofs.Common.{inl, inr, refl, sym, ap, subst, ◌∙◌, arith}
 use Rattle.std.proofs.Math.Seq.{drop-append_seam}
 use Rattle.walrus_ir.specs.declared.module.Module.{Module}
-use Rattle.walrus_ir.specs.declared.seq.InstrSeq.{InstrSeq}
 use Rattle.walrus_ir.specs.declared.error.WalkError.{WalkError}
 use Rattle.walrus_ir.specs.declared.error.WalkError.TheVariants as walk
 use Rattle.walrus_ir.specs.Function.{Function}
-use Rattle.walrus_ir.specs.Tree.{Sequences}
-use Rattle.walrus_ir.specs.Unfolding.{SequenceAt, LocatedInstr, AreSequences, are_sequences}
 use Rattle.walrus_ir.specs.Walk.{HasNoWalk}
-use Rattle.walrus_ir.proofs.WalkLaws.{one_tree, tree_has_no_fault}
+use Rattle.walrus_ir.proofs.WalkLaws.{tree_has_no_fault}
 use Rattle.wasm_ops.specs.OperatorList.{Lists}
 use Rattle.wasm_ops.proofs.ReadingBytes.{reading_agrees}
 use Rattle.wasm_encode.specs.Declarations as encoded
@@ -51,6 +47,8 @@ use Rattle.walrus_run.specs.RawBodies.{Given, given, IsRawBodyOf, HasNoRawBody}
 use Rattle.walrus_run.specs.Rewriting.{IsNormalBytes, IsRewritten, IsParsed, WantsMemory, IsFaulty}
 use Rattle.walrus_run.proofs.Counts.{few_instructions}
 use Rattle.walrus_run.proofs.DemoLocals.{has_raw_body}
+use Rattle.walrus_run.proofs.OneTree.{from_slot, only_tree, begins}
+use Rattle.walrus_run.proofs.SameAnswers.{same_answer, same_refusal, not_both}
 
 abbrev pub demo_tree : Body Occurrence → FunctionTree
 demo_tree b = body_tree demo_environment b
@@ -64,31 +62,6 @@ listed_texts (x ∷ xs) place bytes rest l = ((l.1, l.4), listed_texts xs _ l.2 
 
 pub accepted_texts : (ops : List ℕ) (b : Body Occurrence) (a : Accepted demo ops b) → AllByRecursion HasText a.operators
 accepted_texts ops b a = listed_texts a.operators _ ops [] a.all.spelt
-
--- ---- a function with a tree
-
-pub one_function : (b : List InstrSeq) (start : ℕ) (t u : FunctionTree) → HasTree b start t → HasTree b start u → t ≡ u
-one_function b start t u h k = sym h.is ∙ (ap tree_of (one_tree b start h.unfolded k.unfolded h.is_tree k.is_tree) ∙ k.is)
-
-not_ok : {A E : Type 0} (r : Result A E) (e : E) → IsOk r → r ≡ Err e → ⊥
-not_ok (Ok x) e h k = cc
-not_ok (Err g) e h k = cc h
-
-module _ (f : Function) (t : FunctionTree) (has : IsFunction f t) where
-  pub slot_is : first_slot f ≡ 0
-  slot_is = ap (λ e. unwrap_or e 0) has.entry
-
-  pub from_slot : HasTree f.sequences (first_slot f) t
-  from_slot = subst (λ n. HasTree f.sequences n t) (sym slot_is) has.holds
-
-  pub begins : HasEntry f
-  begins = record { is = has.entry ∙ ap Some (sym slot_is); stands = within (first_slot f) from_slot.is_tree.unfolds }
-    where
-      within : (slot : ℕ) {rest : Sequences SequenceAt LocatedInstr} → AreSequences f.sequences (slot ∷ []) rest → slot < length f.sequences
-      within slot (are_sequences stands items rest) = slice_get_within f.sequences slot _ stands
-
-  pub one_tree_of : (u : FunctionTree) → IsFunction f u → u ≡ t
-  one_tree_of u k = one_function f.sequences 0 u t k.holds has.holds
 
 -- ---- a function that a parse over the demo module made
 
@@ -111,7 +84,7 @@ module _ (f : Function) (p : IsParsed f) where
   no_walk w (inl (inr fault)) = absurd (tree_has_no_fault f.sequences (first_slot f) its_tree.unfolded w its_tree.is_tree fault)
   no_walk w (inr large) =
       let t = large.1 in
-      let same = one_function f.sequences (first_slot f) (tree_of t.tree) tree (record { unfolded = t.tree; is_tree = t.is_tree; is = refl }) its_tree in
+      let same = only_tree f tree p.is_function (tree_of t.tree) (record { unfolded = t.tree; is_tree = t.is_tree; is = refl }) in
       let counted = sym (count_of_tree t.tree) ∙ ap (λ (u : FunctionTree). count u.items) same in
       let bounded = few_instructions demo_environment p.accepted.operators p.body 0 p.ops p.accepted.all.spelt p.accepted.lawful.is_body in
       absurd (omega (arith, t.holds, counted, bounded, p.few))
@@ -120,14 +93,14 @@ module _ (f : Function) (p : IsParsed f) where
   pub no_fault : (e : EmitError) → (e ≡ Memory) ⊎ ((t : FunctionTree) × HasTree f.sequences (first_slot f) t × HasNoRawBody demo_given t e) → e ≡ Memory
   no_fault e (inl memory) = memory
   no_fault e (inr h) =
-      let same = one_function f.sequences (first_slot f) h.0 tree h.1 its_tree in
+      let same = only_tree f tree p.is_function h.0 h.1 in
       absurd (has_raw_body p.accepted.operators p.body (accepted_texts p.ops p.body p.accepted) p.accepted.lawful e (subst (λ t. HasNoRawBody demo_given t e) same h.2))
 
   -- of which the bytes behind the declarations are those of the normal form
   pub normal_bytes : (g : Given) → g ≡ demo_given → (raw : List ℕ) (pairs : List Pair) (r : IsRawBodyOf g f raw pairs) (out : List ℕ)
       → out ≡ drop (length (encoded.declarations r.is_raw_body.declarations)) raw → (b : Body Occurrence) → IsFunction f (demo_tree b) → IsNormalBytes b out
   normal_bytes g same raw pairs r out is b has =
-      let tree_is = one_function f.sequences (first_slot f) r.tree (demo_tree b) r.has_tree (from_slot f (demo_tree b) has) in
+      let tree_is = only_tree f (demo_tree b) has r.tree r.has_tree in
       let w = r.is_raw_body in
       let declared = encoded.declarations w.declarations in
       let written = is ∙ (ap (λ l. drop (length declared) l) w.bytes_are ∙ drop-append_seam declared w.operators) in
@@ -169,15 +142,6 @@ demo_refuses m i function type m_is i_is function_is type_is ops f (inr fault) =
 
 -- ---- each body and each fault
 
-same_answer : {A E : Type 0} (r : Result A E) (x y : A) → r ≡ Ok x → r ≡ Ok y → x ≡ y
-same_answer {A} {E} r x y e d = let both : (let q : Result A E = Ok x in q) ≡ Ok y = sym e ∙ d in cc
-
-same_refusal : {A E : Type 0} (r : Result A E) (x y : E) → r ≡ Err x → r ≡ Err y → x ≡ y
-same_refusal {A} {E} r x y e d = let both : (let q : Result A E = Err x in q) ≡ Err y = sym e ∙ d in cc
-
-not_both : {A E : Type 0} (r : Result A E) (x : A) (y : E) → r ≡ Ok x → r ≡ Err y → ⊥
-not_both {A} {E} r x y e d = let both : (let q : Result A E = Ok x in q) ≡ Err y = sym e ∙ d in cc
-
 -- an accepted body's bytes are answered, and it is refused for want of memory only
 pub body_answered : (ops out : List ℕ) (b : Body Occurrence) → Accepted demo ops b → IsRewritten ops out → IsNormalBytes b out
 body_answered ops out b a w =
@@ -196,17 +160,3 @@ pub fault_answered : (ops : List ℕ) (e : RewriteError) (f : ParseFailure) → 
 fault_answered ops e f fault (inl memory) = inl memory
 fault_answered ops e f fault (inr g) =
     inr (g.2 ∙ ap Parse (same_refusal (parsed demo ops) g.0 f (fault_parsed demo reading_agrees ops g.0 g.1) (fault_parsed demo reading_agrees ops f fault)))
-
--- ---- what an answer has
-
-pub if_ok : {A E : Type 0} (P Q : A → Type 0) → ((x : A) → P x → Q x) → (r : Result A E) → IfOk r P → IfOk r Q
-if_ok P Q f (Ok x) h = f x h
-if_ok P Q f (Err e) h = tt
-
-pub if_err : {A E : Type 0} (P Q : E → Type 0) → ((e : E) → P e → Q e) → (r : Result A E) → IfErr r P → IfErr r Q
-if_err P Q f (Ok x) h = tt
-if_err P Q f (Err e) h = f e h
-
-pub no_answer : {A E : Type 0} (P : A → Type 0) → ((x : A) → P x → ⊥) → (r : Result A E) → IfOk r P → IsErr r
-no_answer P f (Ok x) h = absurd (f x h)
-no_answer P f (Err e) h = refl

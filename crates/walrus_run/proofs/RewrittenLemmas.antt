@@ -1,20 +1,15 @@
 -- Rewriting a body: what is appended is that of the accepted body, and keeps its source.
-use Rattle.std.specs.Prelude.{◌≡◌, ◌⊎◌, ◌++◌, ◌≤◌, ◌^◌, ℕ, List, [], ◌∷◌, length, map, Option, Some, None, IsErr, IfOk, IfErr, Result, Ok, Err}
+use Rattle.std.specs.Prelude.{◌≡◌, ◌⊎◌, ◌++◌, ◌+◌, ◌<◌, ◌^◌, ℕ, List, [], ◌∷◌, length, map, Option, Some, None, IsErr, IfOk, IfErr, Result, Ok, Err}
 use Rattle.std.specs.Borrow.{Bor}
 use Rattle.std.specs.Fn.{Shared}
 use Rattle.std.specs.List.{AllByRecursion}
-use Rattle.std.proofs.Common.{inl, inr, refl, sym, ap, subst, ◌∙◌}
+use Rattle.std.proofs.Common.{inl, inr, refl, sym, ap, subst, ◌∙◌, arith}
+use Rattle.std.proofs.lemmas.List.{length-drop}
 use Rattle.walrus_ir.specs.declared.module.Module.{Module}
 use Rattle.walrus_ir.specs.Function.{Function}
-use Rattle.walrus_ir.specs.declared.error.WalkError.{WalkError}
-use Rattle.walrus_ir.specs.declared.error.WalkError.TheVariants as walk
-use Rattle.walrus_ir.specs.Tree.{Tree}
-use Rattle.walrus_ir.specs.Unfolding.{SequenceAt, LocatedInstr, IsTree}
 use Rattle.walrus_ir.proofs.WalkLaws.{tree_has_no_fault}
 use Rattle.wasm_ops.specs.OperatorList.{Lists}
 use Rattle.wasm_encode.specs.Declarations as encoded
-use Rattle.wasm_body.specs.declared.error.EmitError.{EmitError}
-use Rattle.wasm_body.specs.declared.error.EmitError.TheVariants as emit
 use Rattle.wasm_body.specs.declared.error.ParseError.TheVariants as parse
 use Rattle.wasm_body.specs.declared.error.ParseFailure.{ParseFailure}
 use Rattle.wasm_body.specs.SourceTree.{Body}
@@ -25,7 +20,7 @@ use Rattle.wasm_body.specs.NormalForm.{typing_of, name_at, named_body, body_tree
 use Rattle.wasm_body.specs.Bytes.{Numbers}
 use Rattle.wasm_body.specs.LocalNumbers.{ids_of, with_locals}
 use Rattle.wasm_body.specs.Pairs.{Pair, tree_pairs}
-use Rattle.wasm_body.specs.Parsing.Accepted.{HasSpelling, Lawful, Accepted, placed}
+use Rattle.wasm_body.specs.Parsing.Accepted.{HasSpelling, Lawful, placed}
 use Rattle.wasm_body.proofs.Bytes.LawfulTyped.{lawful_named}
 use Rattle.wasm_body.proofs.Executions.Locations.{places_increase, pairs_located, say_locations}
 use Rattle.wasm_body.proofs.Executions.NormalForms.{named_executions_kept}
@@ -34,7 +29,8 @@ use Rattle.walrus_body.specs.Facts.{count}
 use Rattle.walrus_body.specs.declared.ids_to_indices.IdsToIndices.{IdsToIndices}
 use Rattle.walrus_body.specs.FunctionParts.{FunctionParts}
 use Rattle.walrus_body.specs.LocalFunctions.{first_slot, HasEntry}
-use Rattle.walrus_body.specs.Parsing.Bodies.{ParseInput, AreGiven, AcceptsBody, RefusesBody, mapped_by}
+use Rattle.walrus_body.specs.declared.local_function.body.FunctionBody.{FunctionBody}
+use Rattle.walrus_body.specs.Parsing.Bodies.{ParseInput, AcceptsBody, RefusesBody, mapped_by, body_operators}
 use Rattle.walrus_body.specs.Parsing.Settings.{BothOrNone, locations_in}
 use Rattle.walrus_body.specs.TreeWriting.EmittedInstructions.{LentPairs, Left}
 use Rattle.walrus_body.specs.TreeWriting.Operators.{numbers_by}
@@ -42,9 +38,10 @@ use Rattle.walrus_body.proofs.LocalsOfTrees.{count_of_tree}
 use Rattle.walrus_run.specs.declared.error.RewriteError.{RewriteError}
 use Rattle.walrus_run.specs.declared.error.RewriteError.TheVariants.{Parse, Walk, Emit}
 use Rattle.walrus_run.specs.RawBodies.{Given, IsRawBody, HasNoRawBody, IsRawBodyOf, AppendsPairs, AppendsBytes, AppendsBoth, IsUnappended, IsUnfinished, given}
+use Rattle.walrus_run.proofs.Counts.{few_instructions}
 use Rattle.walrus_run.specs.RewrittenBodies.{KeepsSource, Rewrites, IsAcceptedAs, RefusesRewriting, IsOfWriting}
 use Rattle.walrus_run.specs.Rewriting.{WantsMemory}
-use Rattle.walrus_run.proofs.RewritingLemmas.{one_function, from_slot, begins}
+use Rattle.walrus_run.proofs.OneTree.{from_slot, only_tree, begins}
 
 -- operators that bytes list have spellings
 listed_spelt : (xs : List Occurrence) (place : ℕ) (bytes rest : List ℕ) → Lists (map placed xs) place bytes rest → AllByRecursion HasSpelling xs
@@ -78,13 +75,10 @@ module _ {S F : Type 0} (asks : Shared F (Bor ℕ × Unit {0}) ℕ) (i : ParseIn
   its_tree : HasTree f.sequences (first_slot f) tree
   its_tree = from_slot f tree a.is_function
 
-  only_tree : (t : FunctionTree) → HasTree f.sequences (first_slot f) t → t ≡ tree
-  only_tree t h = one_function f.sequences (first_slot f) t tree h its_tree
-
   pub rewrites : {Z : Type 0} (old new : List ℕ) (entry : Option (LentPairs Z)) (exit : Left (LentPairs Z)) (bytes : List ℕ) (pairs : List Pair) → IsRawBodyOf by f bytes pairs
       → new ≡ old ++ bytes → AppendsPairs pairs entry exit → Rewrites asks i by f mapping old new entry exit
   rewrites old new entry exit bytes pairs h appends appends_pairs =
-      let raw = subst (λ t. IsRawBody by t bytes pairs) (only_tree h.tree h.has_tree) h.is_raw_body in
+      let raw = subst (λ t. IsRawBody by t bytes pairs) (only_tree f tree a.is_function h.tree h.has_tree) h.is_raw_body in
       record {
         accepts = a;
         raw = bytes;
@@ -102,16 +96,23 @@ module _ {S F : Type 0} (asks : Shared F (Bor ℕ × Unit {0}) ℕ) (i : ParseIn
   is_accepted : IsAcceptedAs asks i by a.body
   is_accepted = record { locations = mapped_by asks i mapping; are_given = given_both i.on_instr_pos; accepted = a.accepted }
 
-  pub refuses : (e : RewriteError) → IsUnappended by f e → RefusesRewriting asks i by e
-  refuses (Parse p) h = absurd h
-  refuses (Walk w) (inl (inl memory)) = inl memory
-  refuses (Walk w) (inl (inr fault)) = absurd (tree_has_no_fault f.sequences (first_slot f) its_tree.unfolded w its_tree.is_tree fault)
-  refuses (Walk w) (inr large) =
+  -- its instructions can be counted: they are no more than the bytes
+  pub refuses : length i.bytes < 2 ^ 64 → (e : RewriteError) → IsUnappended by f e → RefusesRewriting asks i by e
+  refuses few (Parse p) h = absurd h
+  refuses few (Walk w) (inl (inl memory)) = memory
+  refuses few (Walk w) (inl (inr fault)) = absurd (tree_has_no_fault f.sequences (first_slot f) its_tree.unfolded w its_tree.is_tree fault)
+  refuses few (Walk w) (inr large) =
       let t = large.1 in
-      let same = only_tree (tree_of t.tree) (record { unfolded = t.tree; is_tree = t.is_tree; is = refl }) in
-      inr (large.0, a.body, is_accepted, subst (λ n. 2 ^ 64 ≤ n) (sym (count_of_tree t.tree) ∙ ap (λ (u : FunctionTree). count u.items) same) t.holds)
-  refuses (Emit e) (inl memory) = inl memory
-  refuses (Emit e) (inr h) = inr (a.body, is_accepted, subst (λ t. HasNoRawBody by t e) (only_tree h.0 h.1) h.2)
+      let same = only_tree f tree a.is_function (tree_of t.tree) (record { unfolded = t.tree; is_tree = t.is_tree; is = refl }) in
+      let counted = sym (count_of_tree t.tree) ∙ ap (λ (u : FunctionTree). count u.items) same in
+      let bounded = few_instructions i.environment a.accepted.operators a.body _ i.bytes a.accepted.all.spelt a.accepted.lawful.is_body in
+      absurd (omega (arith, t.holds, counted, bounded, few))
+  refuses few (Emit e) (inl memory) = inl memory
+  refuses few (Emit e) (inr h) = inr (a.body, is_accepted, subst (λ t. HasNoRawBody by t e) (only_tree f tree a.is_function h.0 h.1) h.2)
+
+-- the operators of a body are no more bytes than it has
+pub few_operators : (body : FunctionBody) → body.start + length body.bytes.now < 2 ^ 64 → length (body_operators body) < 2 ^ 64
+few_operators body fits = omega (arith, fits, length-drop body.ops body.bytes.now)
 
 -- ---- of what a parse answered
 
@@ -156,15 +157,15 @@ module _ {S F : Type 0} (asks : Shared F (Bor ℕ × Unit {0}) ℕ) (i : ParseIn
   begins_all (Ok p) a = begins p.builder (body_tree i.environment a.body) a.is_function
   begins_all (Err f) a = tt
 
-  refuses_all : (r : Result FunctionParts ParseFailure) → IfOk r Accepts → IfErr r (RefusesBody asks i) → IfOk r (λ p. p.args ≡ args) → (e : RewriteError)
+  refuses_all : (r : Result FunctionParts ParseFailure) → IfOk r Accepts → IfErr r (RefusesBody asks i) → IfOk r (λ p. p.args ≡ args) → length i.bytes < 2 ^ 64 → (e : RewriteError)
       → IsUnfinished (given out m) r e → RefusesRewriting asks i by e
-  refuses_all (Ok p) a f g e h = refuses asks i by p.builder p.instruction_mapping a e (subst (λ b. IsUnappended b p.builder e) (by_is p g) h)
-  refuses_all (Err p) a f g e h = subst (RefusesRewriting asks i by) (sym h) f
+  refuses_all (Ok p) a f g few e h = refuses asks i by p.builder p.instruction_mapping a few e (subst (λ b. IsUnappended b p.builder e) (by_is p g) h)
+  refuses_all (Err p) a f g few e h = subst (RefusesRewriting asks i by) (sym h) f
 
-  pub refused_all : (r : Result FunctionParts ParseFailure) → IfOk r Accepts → IfErr r (RefusesBody asks i) → IfOk r (λ p. p.args ≡ args)
+  pub refused_all : (r : Result FunctionParts ParseFailure) → IfOk r Accepts → IfErr r (RefusesBody asks i) → IfOk r (λ p. p.args ≡ args) → length i.bytes < 2 ^ 64
       → (s : Result FunctionParts RewriteError) → IfErr s (IsUnfinished (given out m) r) → IfErr s (RefusesRewriting asks i by)
-  refused_all r a f g (Ok made) h = tt
-  refused_all r a f g (Err e) h = refuses_all r a f g e h
+  refused_all r a f g few (Ok made) h = tt
+  refused_all r a f g few (Err e) h = refuses_all r a f g few e h
 
   -- a fault of the parse is answered
   pub faults_all : (r : Result FunctionParts ParseFailure) (p : ParseFailure) → IsErr r × IfErr r (λ q. (q.error ≡ parse.Memory) ⊎ (q ≡ p))

@@ -41,6 +41,10 @@ demo_indices = record {
   locals = insert empty 0 (0 ∷ 1 ∷ 2 ∷ 3 ∷ []);
 }
 
+-- the same without those of locals
+abbrev pub demo_items : IndicesToIds
+demo_items = record demo_indices { locals = empty }
+
 -- The body is that of function 0, which has type 1.
 abbrev pub demo_environment : Environment
 demo_environment = environment_of demo_module demo_indices 0 1

@@ -1,5 +1,5 @@
 -- Rewriting a body: what is written of an accepted one, what it keeps of its source, and why there is none.
-use Rattle.std.specs.Prelude.{◌≡◌, ◌⊎◌, ◌≤◌, ◌^◌, ℕ, List, ◌++◌, length, map, Option, Some, None}
+use Rattle.std.specs.Prelude.{◌≡◌, ◌⊎◌, ℕ, List, ◌++◌, map, Option}
 use Rattle.std.specs.Fn.{Shared}
 use Rattle.std.specs.Borrow.{Bor}
 use Rattle.std.specs.List.Sorted.{IsStrictlyIncreasing}
@@ -17,7 +17,6 @@ use Rattle.wasm_body.specs.ExecutionLaws.{ExecuteAlike}
 use Rattle.wasm_body.specs.LocationLaws.{StandFor, SayLocations}
 use Rattle.wasm_body.specs.Pairs.{Pair}
 use Rattle.wasm_body.specs.Parsing.Accepted.{Accepted}
-use Rattle.walrus_body.specs.Facts.{count}
 use Rattle.walrus_body.specs.Parsing.Bodies.{ParseInput, setting_with, AcceptsBody, RefusesBody, AreGiven}
 use Rattle.walrus_body.specs.TreeWriting.EmittedInstructions.{LentPairs, Left}
 use Rattle.walrus_run.specs.declared.error.RewriteError.{RewriteError}
@@ -59,11 +58,10 @@ module _ {S F : Type 0} (asks : Shared F (Bor ℕ × Unit {0}) ℕ) (i : ParseIn
     pub are_given : AreGiven asks i locations
     pub accepted : Accepted (setting_with i locations) i.bytes b
 
-  -- The bytes are refused by the parse; or they are accepted, and there are more instructions than can be counted, or there
-  -- is no raw body. Or memory ran out.
+  -- The bytes are refused by the parse; or they are accepted, and there is no raw body. Or memory ran out.
   abbrev pub RefusesRewriting : RewriteError → Type 0
   RefusesRewriting (Parse f) = RefusesBody asks i f
-  RefusesRewriting (Walk w) = (w ≡ walk.Memory) ⊎ ((w ≡ walk.TooLarge) × (b : Body Occurrence) × IsAcceptedAs b × (2 ^ 64 ≤ count (body_tree i.environment b).items))
+  RefusesRewriting (Walk w) = w ≡ walk.Memory
   RefusesRewriting (Emit e) = (e ≡ emit.Memory) ⊎ ((b : Body Occurrence) × IsAcceptedAs b × HasNoRawBody by (body_tree i.environment b) e)
 
 -- memory ran out, or the fault isn't one of parsing

@@ -1,4 +1,4 @@
-//! The demo module, over which the program parses and writes bodies.
+//! The demo module, over which the program parses and writes bodies, and its index maps.
 ghost use Rattle.std.specs.Prelude.{◌≡◌, [], ◌∷◌, None, IfOk, IfErr, OnOk};
 ghost use Rattle.std.specs.FinMap as map;
 ghost use Rattle.wasm_body.specs.declared.error.IndexError.TheVariants.{Memory};
@@ -6,7 +6,7 @@ ghost use Rattle.wasm_ops.specs.declared.types.Space.TheVariants.{Tables, Types,
 ghost use Rattle.walrus_body.specs.IndexMaps.{no_ids, ids_in, with_ids_in, with_locals, numbers_in, with_numbers};
 ghost use Rattle.walrus_body.specs.Numbering.{pushed};
 ghost use Rattle.walrus_body.specs.TreeWriting.Operators.{numbers_by};
-ghost use Rattle.walrus_run.specs.Demo.{demo_module, demo_indices, demo_numbers};
+ghost use Rattle.walrus_run.specs.Demo.{demo_module, demo_items, demo_indices, demo_numbers};
 
 use std::alloc::{AllocError, Global};
 use walrus_body::{IdsToIndices, IndexError, IndicesToIds};
@@ -15,8 +15,13 @@ use walrus_ir::{
     ModuleTypes, TableId, TagId, TypeId, ValType,
 };
 
-/// Its types, tags and locals.
-pub(crate) fn module(alloc: Global) -> Result<Module, AllocError>
+/// The demo module: four types of functions and one of an entry, two tags, and the four locals of its
+/// function 0. Its code begins at place 0.
+///
+/// # Errors
+///
+/// That memory ran out.
+pub fn module(alloc: Global) -> Result<Module, AllocError>
     ensures { IfOk result (λ m. m ≡ demo_module) }
 {
     let mut types = ModuleTypes::new(alloc);
@@ -104,16 +109,34 @@ fn push_locals(indices: &mut IndicesToIds) -> Result<(), IndexError>
     Ok(())
 }
 
-/// The ids that its old indices stand for.
-#[tactic(auto, using(crate::proofs::DemoMaps::local_maps))]
-pub(crate) fn indices(alloc: Global) -> Result<IndicesToIds, IndexError>
-    ensures ok { IfOk result (λ m. m ≡ demo_indices) }
+/// The ids that the old indices of the module's items stand for: each stands for the id that it is.
+/// Locals have none.
+///
+/// # Errors
+///
+/// `Memory`.
+pub fn indices_of_items(alloc: Global) -> Result<IndicesToIds, IndexError>
+    ensures ok { IfOk result (λ m. m ≡ demo_items) }
     ensures err { IfErr result (λ e. e ≡ Memory) }
 {
     let mut indices = IndicesToIds::new(alloc);
     push_types(&mut indices)?;
     push_funcs_and_tags(&mut indices)?;
     push_storage(&mut indices)?;
+    Ok(indices)
+}
+
+/// The same with the old indices of the module's locals, which are those of its function 0.
+///
+/// # Errors
+///
+/// `Memory`.
+#[tactic(auto, using(crate::proofs::DemoMaps::local_maps))]
+pub fn indices(alloc: Global) -> Result<IndicesToIds, IndexError>
+    ensures ok { IfOk result (λ m. m ≡ demo_indices) }
+    ensures err { IfErr result (λ e. e ≡ Memory) }
+{
+    let mut indices = indices_of_items(alloc)?;
     push_locals(&mut indices)?;
     Ok(indices)
 }
@@ -169,8 +192,12 @@ fn number_storage(numbers: &mut IdsToIndices) -> Result<(), IndexError>
     Ok(())
 }
 
-/// Its new indices, which are the old ones.
-pub(crate) fn numbers(alloc: Global) -> Result<IdsToIndices, IndexError>
+/// The new indices of the module's items, which are the old ones.
+///
+/// # Errors
+///
+/// `Memory`.
+pub fn numbers(alloc: Global) -> Result<IdsToIndices, IndexError>
     ensures ok { IfOk result (λ m. numbers_by m [] ≡ demo_numbers) }
     ensures err { IfErr result (λ e. e ≡ Memory) }
 {

@@ -2,7 +2,7 @@
 #![tactic(auto)]
 
 mod code_entry;
-mod demo;
+pub mod demo;
 mod error;
 mod machine;
 mod named_body;

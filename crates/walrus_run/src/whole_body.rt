@@ -172,9 +172,9 @@ fn finish_with_map(
 ///
 /// # Errors
 ///
-/// `Parse` with the body's first fault and its place; else `Walk` where the locals that it uses
-/// can't be found; else `Emit` where a used local, a number or a count is missing or too large; or
-/// the `Memory` of each. `dst` and `map` are then as before.
+/// `Parse` with the body's first fault and its place; else `Emit` where a used local, a number or a
+/// count is missing or too large; or the `Memory` of these and of `Walk`. `dst` and `map` are then as
+/// before.
 pub fn rewrite_body<V: OpCheck, F: Fn(&usize) -> InstrLocId>(
     module: &Module,
     indices: &IndicesToIds,

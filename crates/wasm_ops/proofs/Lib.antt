@@ -19,3 +19,5 @@ pub mod ShortNumbers
 pub mod Lanes
 pub mod BorrowedLists
 pub mod SameLists
+pub mod Shapes
+pub mod VectorRanges

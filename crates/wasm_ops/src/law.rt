@@ -119,79 +119,79 @@ fn same_clauses(a: &CatchList<'_>, b: &CatchList<'_>) -> bool
     a == b
 }
 
-/// What follows an opcode is compared as equal exactly where it is the same.
+/// What follows an opcode is the same where it is compared as equal.
 #[tactic(auto, using(crate::proofs::SameLists::same_lists))]
+fn equal_immediates(a: &OperatorImmediates<'_>, b: &OperatorImmediates<'_>)
+    ensures { ⟦<Immediates<BrTable<'static>, CatchList<'static>> as PartialEq>⟧.eq a.now b.now ≡ true
+        → a.now ≡ b.now }
+{
+    match a {
+        Immediates::Nothing => {}
+        Immediates::Index(..) => {}
+        Immediates::Pair(first, _, second, _) => {
+            if let Immediates::Pair(other_first, _, other_second, _) = b {
+                let _first = same_space(first, other_first);
+                let _second = same_space(second, other_second);
+            }
+        }
+        Immediates::IndexNumber(..) => {}
+        Immediates::Local(_) => {}
+        Immediates::Label(_) => {}
+        Immediates::Handler(_) => {}
+        Immediates::Outer(_) => {}
+        Immediates::Table(_) => {}
+        Immediates::Access(_) => {}
+        Immediates::LaneAccess(..) => {}
+        Immediates::Block(ty) => {
+            if let Immediates::Block(other) = b {
+                let _same = same_block_type(ty, other);
+            }
+        }
+        Immediates::Clauses(ty, catches) => {
+            if let Immediates::Clauses(other, other_catches) = b {
+                let _ty = same_block_type(ty, other);
+                let _catches = same_clauses(catches, other_catches);
+            }
+        }
+        Immediates::Heap(ty) => {
+            if let Immediates::Heap(other) = b {
+                let _same = same_heap_type(ty, other);
+            }
+        }
+        Immediates::Value(ty) => {
+            if let Immediates::Value(other) = b {
+                let _same = same_value_type(ty, other);
+            }
+        }
+        Immediates::Cast(cast) => {
+            if let Immediates::Cast(other) = b {
+                let _same = same_cast(cast, other);
+            }
+        }
+        Immediates::I32(_) => {}
+        Immediates::I64(_) => {}
+        Immediates::F32(_) => {}
+        Immediates::F64(_) => {}
+        Immediates::V128(_) => {}
+        Immediates::Lane(_) => {}
+        Immediates::Lanes(lanes) => {
+            if let Immediates::Lanes(other) = b {
+                let _same = same_lanes(lanes, other);
+            }
+        }
+        Immediates::ZeroByte => {}
+    }
+}
+
+/// What follows an opcode is compared as equal exactly where it is the same.
 fn same_immediates(a: &OperatorImmediates<'_>, b: &OperatorImmediates<'_>) -> bool
     ensures compares { result
         ≡ ⟦<Immediates<BrTable<'static>, CatchList<'static>> as PartialEq>⟧.eq a.now b.now }
     ensures same { result ≡ true → a.now ≡ b.now }
     ensures equal { a.now ≡ b.now → result ≡ true }
 {
-    match a {
-        Immediates::Nothing => a == b,
-        Immediates::Index(..) => a == b,
-        Immediates::Pair(first, _, second, _) => {
-            let Immediates::Pair(other_first, _, other_second, _) = b else {
-                return a == b;
-            };
-            let _first = same_space(first, other_first);
-            let _second = same_space(second, other_second);
-            a == b
-        }
-        Immediates::IndexNumber(..) => a == b,
-        Immediates::Local(_) => a == b,
-        Immediates::Label(_) => a == b,
-        Immediates::Handler(_) => a == b,
-        Immediates::Outer(_) => a == b,
-        Immediates::Table(_) => a == b,
-        Immediates::Access(_) => a == b,
-        Immediates::LaneAccess(..) => a == b,
-        Immediates::Block(ty) => {
-            if let Immediates::Block(other) = b {
-                let _same = same_block_type(ty, other);
-            }
-            a == b
-        }
-        Immediates::Clauses(ty, catches) => {
-            let Immediates::Clauses(other, other_catches) = b else {
-                return a == b;
-            };
-            let _ty = same_block_type(ty, other);
-            let _catches = same_clauses(catches, other_catches);
-            a == b
-        }
-        Immediates::Heap(ty) => {
-            if let Immediates::Heap(other) = b {
-                let _same = same_heap_type(ty, other);
-            }
-            a == b
-        }
-        Immediates::Value(ty) => {
-            if let Immediates::Value(other) = b {
-                let _same = same_value_type(ty, other);
-            }
-            a == b
-        }
-        Immediates::Cast(cast) => {
-            if let Immediates::Cast(other) = b {
-                let _same = same_cast(cast, other);
-            }
-            a == b
-        }
-        Immediates::I32(_) => a == b,
-        Immediates::I64(_) => a == b,
-        Immediates::F32(_) => a == b,
-        Immediates::F64(_) => a == b,
-        Immediates::V128(_) => a == b,
-        Immediates::Lane(_) => a == b,
-        Immediates::Lanes(lanes) => {
-            if let Immediates::Lanes(other) = b {
-                let _same = same_lanes(lanes, other);
-            }
-            a == b
-        }
-        Immediates::ZeroByte => a == b,
-    }
+    equal_immediates(a, b);
+    a == b
 }
 
 /// Two operators are equal exactly where they mean the same.

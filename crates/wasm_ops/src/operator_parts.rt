@@ -20,10 +20,9 @@ impl<'a> Op<BrTable<'a>, CatchList<'a>> {
     ghost use Rattle.wasm_ops.specs.Meaning.{meaning};
     ghost use Rattle.wasm_ops.specs.Parts.{immediates_of, parts_of};
 
-    /// The operator's opcode, and what follows it.
-    pub fn parts(&self) -> (Opcode, Immediates<BrTable<'a>, CatchList<'a>>)
-        ensures means { operation result.0 (immediates_of result.1) ≡ meaning self.now }
-        ensures exact { result ≡ parts_of (meaning self.now) }
+    // The operator's opcode, and what follows it.
+    fn taken_apart(&self) -> (Opcode, Immediates<BrTable<'a>, CatchList<'a>>)
+        ensures { operation result.0 (immediates_of result.1) ≡ meaning self.now }
     {
         index_rows!(
             parts_of, pair () self,
@@ -32,6 +31,14 @@ impl<'a> Op<BrTable<'a>, CatchList<'a>> {
                 (Opcode::Byte(0x1f), Immediates::Clauses(*ty, catches.again()))
             }
         )
+    }
+
+    /// The operator's opcode, and what follows it.
+    pub fn parts(&self) -> (Opcode, Immediates<BrTable<'a>, CatchList<'a>>)
+        ensures means { operation result.0 (immediates_of result.1) ≡ meaning self.now }
+        ensures exact { result ≡ parts_of (meaning self.now) }
+    {
+        self.taken_apart()
     }
 }
 

@@ -14,8 +14,8 @@ use crate::row::{made, read_indices, read_pair};
 use crate::types::Opcode;
 use crate::vector_access_rows::{read_lane_access, read_wide_load};
 use crate::vector_reader::{
-    read_bitwise, read_float_vector, read_i16x8, read_i32x4, read_i64x2, read_lane,
-    read_narrow_vector, read_relaxed_vector, read_splat, read_vector_comparison,
+    read_bitwise, read_f32x4, read_f64x2_or_relaxed, read_i16x8_product, read_i32x4, read_i64x2,
+    read_lane, read_narrow_vector, read_splat, read_vector_comparison,
 };
 use walrus_ir::{LoadKind, LoadSimdKind, StoreKind};
 
@@ -80,12 +80,13 @@ pub(crate) fn read_behind_fd(number: u32, bytes: &[u8]) -> Result<(Operator<'_>,
             read_memarg(bytes),
             memarg => Operator::LoadSimd { kind: LoadSimdKind::V128Load64Zero, memarg }
         ),
-        94..=127 => read_narrow_vector(number, bytes),
-        128..=159 => read_i16x8(number, bytes),
+        94..=153 => read_narrow_vector(number, bytes),
+        155..=159 => read_i16x8_product(number, bytes),
         160..=191 => read_i32x4(number, bytes),
         192..=223 => read_i64x2(number, bytes),
-        224..=255 => read_float_vector(number, bytes),
-        256..=275 => read_relaxed_vector(number, bytes),
+        224..=237 => read_f32x4(number, bytes),
+        239..=275 => read_f64x2_or_relaxed(number, bytes),
+        154 | 238 => Err(ReadFault::UnknownOperator),
         _ => Err(ReadFault::UnknownOperator),
     }
 }

@@ -1,7 +1,8 @@
 //! The operators of vectors that access no memory, which stand behind 0xfd: a row an operator.
 
-ghost use Rattle.std.specs.Prelude.{◌≤◌};
+ghost use Rattle.std.specs.Prelude.{◌≡◌, ◌≤◌, [], ◌∷◌};
 ghost use Rattle.walrus_ir.specs.Results.{Gives};
+ghost use Rattle.wasm_ops.specs.Operations.{lane as a_lane, operation};
 ghost use Rattle.wasm_ops.specs.Spelling.{operands};
 ghost use Rattle.wasm_ops.specs.Meaning.{meaning};
 
@@ -31,6 +32,30 @@ pub(crate) fn read_splat(number: u32, bytes: &[u8]) -> Result<(Operator<'_>, &[u
     }
 }
 
+/// The operator of 0xfd and a number from 21 to 34: a lane is read or replaced.
+fn lane(number: u32, idx: u8) -> Operator<'static>
+    requires low { 21 ≤ number }
+    requires high { number ≤ 34 }
+    ensures { meaning result ≡ operation (Opcode.Prefixed 0xfd number) (a_lane idx ∷ []) }
+{
+    match number {
+        21 => Operator::Unop(UnaryOp::I8x16ExtractLaneS { idx }),
+        22 => Operator::Unop(UnaryOp::I8x16ExtractLaneU { idx }),
+        23 => Operator::Binop(BinaryOp::I8x16ReplaceLane { idx }),
+        24 => Operator::Unop(UnaryOp::I16x8ExtractLaneS { idx }),
+        25 => Operator::Unop(UnaryOp::I16x8ExtractLaneU { idx }),
+        26 => Operator::Binop(BinaryOp::I16x8ReplaceLane { idx }),
+        27 => Operator::Unop(UnaryOp::I32x4ExtractLane { idx }),
+        28 => Operator::Binop(BinaryOp::I32x4ReplaceLane { idx }),
+        29 => Operator::Unop(UnaryOp::I64x2ExtractLane { idx }),
+        30 => Operator::Binop(BinaryOp::I64x2ReplaceLane { idx }),
+        31 => Operator::Unop(UnaryOp::F32x4ExtractLane { idx }),
+        32 => Operator::Binop(BinaryOp::F32x4ReplaceLane { idx }),
+        33 => Operator::Unop(UnaryOp::F64x2ExtractLane { idx }),
+        _ => Operator::Binop(BinaryOp::F64x2ReplaceLane { idx }),
+    }
+}
+
 /// What follows 0xfd and a number from 21 to 34: lanes that are read or replaced.
 #[tactic(auto, unfolding(crate::specs::Opcodes::kinds_behind))]
 pub(crate) fn read_lane(number: u32, bytes: &[u8]) -> Result<(Operator<'_>, &[u8]), ReadFault>
@@ -39,21 +64,102 @@ pub(crate) fn read_lane(number: u32, bytes: &[u8]) -> Result<(Operator<'_>, &[u8
     ensures { Gives (λ x. (meaning x.0, x.1.now)) result
         (operands (Opcode.Prefixed 0xfd number) bytes.now) }
 {
+    made!(read_byte(bytes), idx => lane(number, idx))
+}
+
+/// The operator of 0xfd and a number from 35 to 44: a comparison of lanes of a byte.
+fn i8x16_comparison(number: u32) -> Operator<'static>
+    requires low { 35 ≤ number }
+    requires high { number ≤ 44 }
+    ensures { meaning result ≡ operation (Opcode.Prefixed 0xfd number) [] }
+{
     match number {
-        21 => made!(read_byte(bytes), idx => Operator::Unop(UnaryOp::I8x16ExtractLaneS { idx })),
-        22 => made!(read_byte(bytes), idx => Operator::Unop(UnaryOp::I8x16ExtractLaneU { idx })),
-        23 => made!(read_byte(bytes), idx => Operator::Binop(BinaryOp::I8x16ReplaceLane { idx })),
-        24 => made!(read_byte(bytes), idx => Operator::Unop(UnaryOp::I16x8ExtractLaneS { idx })),
-        25 => made!(read_byte(bytes), idx => Operator::Unop(UnaryOp::I16x8ExtractLaneU { idx })),
-        26 => made!(read_byte(bytes), idx => Operator::Binop(BinaryOp::I16x8ReplaceLane { idx })),
-        27 => made!(read_byte(bytes), idx => Operator::Unop(UnaryOp::I32x4ExtractLane { idx })),
-        28 => made!(read_byte(bytes), idx => Operator::Binop(BinaryOp::I32x4ReplaceLane { idx })),
-        29 => made!(read_byte(bytes), idx => Operator::Unop(UnaryOp::I64x2ExtractLane { idx })),
-        30 => made!(read_byte(bytes), idx => Operator::Binop(BinaryOp::I64x2ReplaceLane { idx })),
-        31 => made!(read_byte(bytes), idx => Operator::Unop(UnaryOp::F32x4ExtractLane { idx })),
-        32 => made!(read_byte(bytes), idx => Operator::Binop(BinaryOp::F32x4ReplaceLane { idx })),
-        33 => made!(read_byte(bytes), idx => Operator::Unop(UnaryOp::F64x2ExtractLane { idx })),
-        _ => made!(read_byte(bytes), idx => Operator::Binop(BinaryOp::F64x2ReplaceLane { idx })),
+        35 => Operator::Binop(BinaryOp::I8x16Eq),
+        36 => Operator::Binop(BinaryOp::I8x16Ne),
+        37 => Operator::Binop(BinaryOp::I8x16LtS),
+        38 => Operator::Binop(BinaryOp::I8x16LtU),
+        39 => Operator::Binop(BinaryOp::I8x16GtS),
+        40 => Operator::Binop(BinaryOp::I8x16GtU),
+        41 => Operator::Binop(BinaryOp::I8x16LeS),
+        42 => Operator::Binop(BinaryOp::I8x16LeU),
+        43 => Operator::Binop(BinaryOp::I8x16GeS),
+        _ => Operator::Binop(BinaryOp::I8x16GeU),
+    }
+}
+
+/// The operator of 0xfd and a number from 45 to 54: a comparison of lanes of two bytes.
+fn i16x8_comparison(number: u32) -> Operator<'static>
+    requires low { 45 ≤ number }
+    requires high { number ≤ 54 }
+    ensures { meaning result ≡ operation (Opcode.Prefixed 0xfd number) [] }
+{
+    match number {
+        45 => Operator::Binop(BinaryOp::I16x8Eq),
+        46 => Operator::Binop(BinaryOp::I16x8Ne),
+        47 => Operator::Binop(BinaryOp::I16x8LtS),
+        48 => Operator::Binop(BinaryOp::I16x8LtU),
+        49 => Operator::Binop(BinaryOp::I16x8GtS),
+        50 => Operator::Binop(BinaryOp::I16x8GtU),
+        51 => Operator::Binop(BinaryOp::I16x8LeS),
+        52 => Operator::Binop(BinaryOp::I16x8LeU),
+        53 => Operator::Binop(BinaryOp::I16x8GeS),
+        _ => Operator::Binop(BinaryOp::I16x8GeU),
+    }
+}
+
+/// The operator of 0xfd and a number from 55 to 64: a comparison of lanes of four bytes.
+fn i32x4_comparison(number: u32) -> Operator<'static>
+    requires low { 55 ≤ number }
+    requires high { number ≤ 64 }
+    ensures { meaning result ≡ operation (Opcode.Prefixed 0xfd number) [] }
+{
+    match number {
+        55 => Operator::Binop(BinaryOp::I32x4Eq),
+        56 => Operator::Binop(BinaryOp::I32x4Ne),
+        57 => Operator::Binop(BinaryOp::I32x4LtS),
+        58 => Operator::Binop(BinaryOp::I32x4LtU),
+        59 => Operator::Binop(BinaryOp::I32x4GtS),
+        60 => Operator::Binop(BinaryOp::I32x4GtU),
+        61 => Operator::Binop(BinaryOp::I32x4LeS),
+        62 => Operator::Binop(BinaryOp::I32x4LeU),
+        63 => Operator::Binop(BinaryOp::I32x4GeS),
+        _ => Operator::Binop(BinaryOp::I32x4GeU),
+    }
+}
+
+/// The operator of 0xfd and a number from 65 to 76: a comparison of lanes that are floats.
+fn float_comparison(number: u32) -> Operator<'static>
+    requires low { 65 ≤ number }
+    requires high { number ≤ 76 }
+    ensures { meaning result ≡ operation (Opcode.Prefixed 0xfd number) [] }
+{
+    match number {
+        65 => Operator::Binop(BinaryOp::F32x4Eq),
+        66 => Operator::Binop(BinaryOp::F32x4Ne),
+        67 => Operator::Binop(BinaryOp::F32x4Lt),
+        68 => Operator::Binop(BinaryOp::F32x4Gt),
+        69 => Operator::Binop(BinaryOp::F32x4Le),
+        70 => Operator::Binop(BinaryOp::F32x4Ge),
+        71 => Operator::Binop(BinaryOp::F64x2Eq),
+        72 => Operator::Binop(BinaryOp::F64x2Ne),
+        73 => Operator::Binop(BinaryOp::F64x2Lt),
+        74 => Operator::Binop(BinaryOp::F64x2Gt),
+        75 => Operator::Binop(BinaryOp::F64x2Le),
+        _ => Operator::Binop(BinaryOp::F64x2Ge),
+    }
+}
+
+/// The operator of 0xfd and a number from 35 to 76: a comparison.
+fn vector_comparison(number: u32) -> Operator<'static>
+    requires low { 35 ≤ number }
+    requires high { number ≤ 76 }
+    ensures { meaning result ≡ operation (Opcode.Prefixed 0xfd number) [] }
+{
+    match number {
+        35..=44 => i8x16_comparison(number),
+        45..=54 => i16x8_comparison(number),
+        55..=64 => i32x4_comparison(number),
+        _ => float_comparison(number),
     }
 }
 
@@ -68,50 +174,7 @@ pub(crate) fn read_vector_comparison(
     ensures { Gives (λ x. (meaning x.0, x.1.now)) result
         (operands (Opcode.Prefixed 0xfd number) bytes.now) }
 {
-    match number {
-        35 => Ok((Operator::Binop(BinaryOp::I8x16Eq), bytes)),
-        36 => Ok((Operator::Binop(BinaryOp::I8x16Ne), bytes)),
-        37 => Ok((Operator::Binop(BinaryOp::I8x16LtS), bytes)),
-        38 => Ok((Operator::Binop(BinaryOp::I8x16LtU), bytes)),
-        39 => Ok((Operator::Binop(BinaryOp::I8x16GtS), bytes)),
-        40 => Ok((Operator::Binop(BinaryOp::I8x16GtU), bytes)),
-        41 => Ok((Operator::Binop(BinaryOp::I8x16LeS), bytes)),
-        42 => Ok((Operator::Binop(BinaryOp::I8x16LeU), bytes)),
-        43 => Ok((Operator::Binop(BinaryOp::I8x16GeS), bytes)),
-        44 => Ok((Operator::Binop(BinaryOp::I8x16GeU), bytes)),
-        45 => Ok((Operator::Binop(BinaryOp::I16x8Eq), bytes)),
-        46 => Ok((Operator::Binop(BinaryOp::I16x8Ne), bytes)),
-        47 => Ok((Operator::Binop(BinaryOp::I16x8LtS), bytes)),
-        48 => Ok((Operator::Binop(BinaryOp::I16x8LtU), bytes)),
-        49 => Ok((Operator::Binop(BinaryOp::I16x8GtS), bytes)),
-        50 => Ok((Operator::Binop(BinaryOp::I16x8GtU), bytes)),
-        51 => Ok((Operator::Binop(BinaryOp::I16x8LeS), bytes)),
-        52 => Ok((Operator::Binop(BinaryOp::I16x8LeU), bytes)),
-        53 => Ok((Operator::Binop(BinaryOp::I16x8GeS), bytes)),
-        54 => Ok((Operator::Binop(BinaryOp::I16x8GeU), bytes)),
-        55 => Ok((Operator::Binop(BinaryOp::I32x4Eq), bytes)),
-        56 => Ok((Operator::Binop(BinaryOp::I32x4Ne), bytes)),
-        57 => Ok((Operator::Binop(BinaryOp::I32x4LtS), bytes)),
-        58 => Ok((Operator::Binop(BinaryOp::I32x4LtU), bytes)),
-        59 => Ok((Operator::Binop(BinaryOp::I32x4GtS), bytes)),
-        60 => Ok((Operator::Binop(BinaryOp::I32x4GtU), bytes)),
-        61 => Ok((Operator::Binop(BinaryOp::I32x4LeS), bytes)),
-        62 => Ok((Operator::Binop(BinaryOp::I32x4LeU), bytes)),
-        63 => Ok((Operator::Binop(BinaryOp::I32x4GeS), bytes)),
-        64 => Ok((Operator::Binop(BinaryOp::I32x4GeU), bytes)),
-        65 => Ok((Operator::Binop(BinaryOp::F32x4Eq), bytes)),
-        66 => Ok((Operator::Binop(BinaryOp::F32x4Ne), bytes)),
-        67 => Ok((Operator::Binop(BinaryOp::F32x4Lt), bytes)),
-        68 => Ok((Operator::Binop(BinaryOp::F32x4Gt), bytes)),
-        69 => Ok((Operator::Binop(BinaryOp::F32x4Le), bytes)),
-        70 => Ok((Operator::Binop(BinaryOp::F32x4Ge), bytes)),
-        71 => Ok((Operator::Binop(BinaryOp::F64x2Eq), bytes)),
-        72 => Ok((Operator::Binop(BinaryOp::F64x2Ne), bytes)),
-        73 => Ok((Operator::Binop(BinaryOp::F64x2Lt), bytes)),
-        74 => Ok((Operator::Binop(BinaryOp::F64x2Gt), bytes)),
-        75 => Ok((Operator::Binop(BinaryOp::F64x2Le), bytes)),
-        _ => Ok((Operator::Binop(BinaryOp::F64x2Ge), bytes)),
-    }
+    Ok((vector_comparison(number), bytes))
 }
 
 /// What follows 0xfd and a number from 77 to 83: operators on all bits.
@@ -133,92 +196,163 @@ pub(crate) fn read_bitwise(number: u32, bytes: &[u8]) -> Result<(Operator<'_>, &
     }
 }
 
-/// What follows 0xfd and a number from 94 to 127: conversions of floats, operators on lanes of a
-/// byte, and others.
+/// The operator of 0xfd and a number from 94 to 102: a conversion of floats, or one on lanes of a
+/// byte.
+fn i8x16_by_lane(number: u32) -> Operator<'static>
+    requires low { 94 ≤ number }
+    requires high { number ≤ 102 }
+    ensures { meaning result ≡ operation (Opcode.Prefixed 0xfd number) [] }
+{
+    match number {
+        94 => Operator::Unop(UnaryOp::F32x4DemoteF64x2Zero),
+        95 => Operator::Unop(UnaryOp::F64x2PromoteLowF32x4),
+        96 => Operator::Unop(UnaryOp::I8x16Abs),
+        97 => Operator::Unop(UnaryOp::I8x16Neg),
+        98 => Operator::Unop(UnaryOp::I8x16Popcnt),
+        99 => Operator::Unop(UnaryOp::I8x16AllTrue),
+        100 => Operator::Unop(UnaryOp::I8x16Bitmask),
+        101 => Operator::Binop(BinaryOp::I8x16NarrowI16x8S),
+        _ => Operator::Binop(BinaryOp::I8x16NarrowI16x8U),
+    }
+}
+
+/// The operator of 0xfd and a number from 103 to 115: one that rounds floats, or a shift, a sum or
+/// a difference of lanes of a byte.
+fn i8x16_sum(number: u32) -> Operator<'static>
+    requires low { 103 ≤ number }
+    requires high { number ≤ 115 }
+    ensures { meaning result ≡ operation (Opcode.Prefixed 0xfd number) [] }
+{
+    match number {
+        103 => Operator::Unop(UnaryOp::F32x4Ceil),
+        104 => Operator::Unop(UnaryOp::F32x4Floor),
+        105 => Operator::Unop(UnaryOp::F32x4Trunc),
+        106 => Operator::Unop(UnaryOp::F32x4Nearest),
+        107 => Operator::Binop(BinaryOp::I8x16Shl),
+        108 => Operator::Binop(BinaryOp::I8x16ShrS),
+        109 => Operator::Binop(BinaryOp::I8x16ShrU),
+        110 => Operator::Binop(BinaryOp::I8x16Add),
+        111 => Operator::Binop(BinaryOp::I8x16AddSatS),
+        112 => Operator::Binop(BinaryOp::I8x16AddSatU),
+        113 => Operator::Binop(BinaryOp::I8x16Sub),
+        114 => Operator::Binop(BinaryOp::I8x16SubSatS),
+        _ => Operator::Binop(BinaryOp::I8x16SubSatU),
+    }
+}
+
+/// The operator of 0xfd and a number from 116 to 127: one that rounds floats, a bound or a mean of
+/// lanes of a byte, or sums of neighbours.
+fn i8x16_bound(number: u32) -> Operator<'static>
+    requires low { 116 ≤ number }
+    requires high { number ≤ 127 }
+    ensures { meaning result ≡ operation (Opcode.Prefixed 0xfd number) [] }
+{
+    match number {
+        116 => Operator::Unop(UnaryOp::F64x2Ceil),
+        117 => Operator::Unop(UnaryOp::F64x2Floor),
+        118 => Operator::Binop(BinaryOp::I8x16MinS),
+        119 => Operator::Binop(BinaryOp::I8x16MinU),
+        120 => Operator::Binop(BinaryOp::I8x16MaxS),
+        121 => Operator::Binop(BinaryOp::I8x16MaxU),
+        122 => Operator::Unop(UnaryOp::F64x2Trunc),
+        123 => Operator::Binop(BinaryOp::I8x16AvgrU),
+        124 => Operator::Unop(UnaryOp::I16x8ExtAddPairwiseI8x16S),
+        125 => Operator::Unop(UnaryOp::I16x8ExtAddPairwiseI8x16U),
+        126 => Operator::Unop(UnaryOp::I32x4ExtAddPairwiseI16x8S),
+        _ => Operator::Unop(UnaryOp::I32x4ExtAddPairwiseI16x8U),
+    }
+}
+
+/// The operator of 0xfd and a number from 128 to 138: one on lanes of two bytes, or one that
+/// narrows or widens to them.
+fn i16x8_by_lane(number: u32) -> Operator<'static>
+    requires low { 128 ≤ number }
+    requires high { number ≤ 138 }
+    ensures { meaning result ≡ operation (Opcode.Prefixed 0xfd number) [] }
+{
+    match number {
+        128 => Operator::Unop(UnaryOp::I16x8Abs),
+        129 => Operator::Unop(UnaryOp::I16x8Neg),
+        130 => Operator::Binop(BinaryOp::I16x8Q15MulrSatS),
+        131 => Operator::Unop(UnaryOp::I16x8AllTrue),
+        132 => Operator::Unop(UnaryOp::I16x8Bitmask),
+        133 => Operator::Binop(BinaryOp::I16x8NarrowI32x4S),
+        134 => Operator::Binop(BinaryOp::I16x8NarrowI32x4U),
+        135 => Operator::Unop(UnaryOp::I16x8WidenLowI8x16S),
+        136 => Operator::Unop(UnaryOp::I16x8WidenHighI8x16S),
+        137 => Operator::Unop(UnaryOp::I16x8WidenLowI8x16U),
+        _ => Operator::Unop(UnaryOp::I16x8WidenHighI8x16U),
+    }
+}
+
+/// The operator of 0xfd and a number from 139 to 153: a shift, arithmetic or a bound of lanes of
+/// two bytes, or one that rounds floats.
+fn i16x8_arithmetic(number: u32) -> Operator<'static>
+    requires low { 139 ≤ number }
+    requires high { number ≤ 153 }
+    ensures { meaning result ≡ operation (Opcode.Prefixed 0xfd number) [] }
+{
+    match number {
+        139 => Operator::Binop(BinaryOp::I16x8Shl),
+        140 => Operator::Binop(BinaryOp::I16x8ShrS),
+        141 => Operator::Binop(BinaryOp::I16x8ShrU),
+        142 => Operator::Binop(BinaryOp::I16x8Add),
+        143 => Operator::Binop(BinaryOp::I16x8AddSatS),
+        144 => Operator::Binop(BinaryOp::I16x8AddSatU),
+        145 => Operator::Binop(BinaryOp::I16x8Sub),
+        146 => Operator::Binop(BinaryOp::I16x8SubSatS),
+        147 => Operator::Binop(BinaryOp::I16x8SubSatU),
+        148 => Operator::Unop(UnaryOp::F64x2Nearest),
+        149 => Operator::Binop(BinaryOp::I16x8Mul),
+        150 => Operator::Binop(BinaryOp::I16x8MinS),
+        151 => Operator::Binop(BinaryOp::I16x8MinU),
+        152 => Operator::Binop(BinaryOp::I16x8MaxS),
+        _ => Operator::Binop(BinaryOp::I16x8MaxU),
+    }
+}
+
+/// The operator of 0xfd and a number from 94 to 153: one on lanes of a byte or two, and others.
+fn narrow_vector(number: u32) -> Operator<'static>
+    requires low { 94 ≤ number }
+    requires high { number ≤ 153 }
+    ensures { meaning result ≡ operation (Opcode.Prefixed 0xfd number) [] }
+{
+    match number {
+        94..=102 => i8x16_by_lane(number),
+        103..=115 => i8x16_sum(number),
+        116..=127 => i8x16_bound(number),
+        128..=138 => i16x8_by_lane(number),
+        _ => i16x8_arithmetic(number),
+    }
+}
+
+/// What follows 0xfd and a number from 94 to 153: conversions of floats, operators on lanes of a
+/// byte or two, and others.
 #[tactic(auto, unfolding(crate::specs::Opcodes::kinds_behind))]
 pub(crate) fn read_narrow_vector(
     number: u32,
     bytes: &[u8],
 ) -> Result<(Operator<'_>, &[u8]), ReadFault>
     requires low { 94 ≤ number }
-    requires high { number ≤ 127 }
+    requires high { number ≤ 153 }
     ensures { Gives (λ x. (meaning x.0, x.1.now)) result
         (operands (Opcode.Prefixed 0xfd number) bytes.now) }
 {
-    match number {
-        94 => Ok((Operator::Unop(UnaryOp::F32x4DemoteF64x2Zero), bytes)),
-        95 => Ok((Operator::Unop(UnaryOp::F64x2PromoteLowF32x4), bytes)),
-        96 => Ok((Operator::Unop(UnaryOp::I8x16Abs), bytes)),
-        97 => Ok((Operator::Unop(UnaryOp::I8x16Neg), bytes)),
-        98 => Ok((Operator::Unop(UnaryOp::I8x16Popcnt), bytes)),
-        99 => Ok((Operator::Unop(UnaryOp::I8x16AllTrue), bytes)),
-        100 => Ok((Operator::Unop(UnaryOp::I8x16Bitmask), bytes)),
-        101 => Ok((Operator::Binop(BinaryOp::I8x16NarrowI16x8S), bytes)),
-        102 => Ok((Operator::Binop(BinaryOp::I8x16NarrowI16x8U), bytes)),
-        103 => Ok((Operator::Unop(UnaryOp::F32x4Ceil), bytes)),
-        104 => Ok((Operator::Unop(UnaryOp::F32x4Floor), bytes)),
-        105 => Ok((Operator::Unop(UnaryOp::F32x4Trunc), bytes)),
-        106 => Ok((Operator::Unop(UnaryOp::F32x4Nearest), bytes)),
-        107 => Ok((Operator::Binop(BinaryOp::I8x16Shl), bytes)),
-        108 => Ok((Operator::Binop(BinaryOp::I8x16ShrS), bytes)),
-        109 => Ok((Operator::Binop(BinaryOp::I8x16ShrU), bytes)),
-        110 => Ok((Operator::Binop(BinaryOp::I8x16Add), bytes)),
-        111 => Ok((Operator::Binop(BinaryOp::I8x16AddSatS), bytes)),
-        112 => Ok((Operator::Binop(BinaryOp::I8x16AddSatU), bytes)),
-        113 => Ok((Operator::Binop(BinaryOp::I8x16Sub), bytes)),
-        114 => Ok((Operator::Binop(BinaryOp::I8x16SubSatS), bytes)),
-        115 => Ok((Operator::Binop(BinaryOp::I8x16SubSatU), bytes)),
-        116 => Ok((Operator::Unop(UnaryOp::F64x2Ceil), bytes)),
-        117 => Ok((Operator::Unop(UnaryOp::F64x2Floor), bytes)),
-        118 => Ok((Operator::Binop(BinaryOp::I8x16MinS), bytes)),
-        119 => Ok((Operator::Binop(BinaryOp::I8x16MinU), bytes)),
-        120 => Ok((Operator::Binop(BinaryOp::I8x16MaxS), bytes)),
-        121 => Ok((Operator::Binop(BinaryOp::I8x16MaxU), bytes)),
-        122 => Ok((Operator::Unop(UnaryOp::F64x2Trunc), bytes)),
-        123 => Ok((Operator::Binop(BinaryOp::I8x16AvgrU), bytes)),
-        124 => Ok((Operator::Unop(UnaryOp::I16x8ExtAddPairwiseI8x16S), bytes)),
-        125 => Ok((Operator::Unop(UnaryOp::I16x8ExtAddPairwiseI8x16U), bytes)),
-        126 => Ok((Operator::Unop(UnaryOp::I32x4ExtAddPairwiseI16x8S), bytes)),
-        _ => Ok((Operator::Unop(UnaryOp::I32x4ExtAddPairwiseI16x8U), bytes)),
-    }
+    Ok((narrow_vector(number), bytes))
 }
 
-/// What follows 0xfd and a number from 128 to 159: operators on lanes of two bytes and others.
+/// What follows 0xfd and a number from 155 to 159: means and long products of lanes of two bytes.
 #[tactic(auto, unfolding(crate::specs::Opcodes::kinds_behind))]
-pub(crate) fn read_i16x8(number: u32, bytes: &[u8]) -> Result<(Operator<'_>, &[u8]), ReadFault>
-    requires low { 128 ≤ number }
+pub(crate) fn read_i16x8_product(
+    number: u32,
+    bytes: &[u8],
+) -> Result<(Operator<'_>, &[u8]), ReadFault>
+    requires low { 155 ≤ number }
     requires high { number ≤ 159 }
     ensures { Gives (λ x. (meaning x.0, x.1.now)) result
         (operands (Opcode.Prefixed 0xfd number) bytes.now) }
 {
     match number {
-        154 => Err(ReadFault::UnknownOperator),
-        128 => Ok((Operator::Unop(UnaryOp::I16x8Abs), bytes)),
-        129 => Ok((Operator::Unop(UnaryOp::I16x8Neg), bytes)),
-        130 => Ok((Operator::Binop(BinaryOp::I16x8Q15MulrSatS), bytes)),
-        131 => Ok((Operator::Unop(UnaryOp::I16x8AllTrue), bytes)),
-        132 => Ok((Operator::Unop(UnaryOp::I16x8Bitmask), bytes)),
-        133 => Ok((Operator::Binop(BinaryOp::I16x8NarrowI32x4S), bytes)),
-        134 => Ok((Operator::Binop(BinaryOp::I16x8NarrowI32x4U), bytes)),
-        135 => Ok((Operator::Unop(UnaryOp::I16x8WidenLowI8x16S), bytes)),
-        136 => Ok((Operator::Unop(UnaryOp::I16x8WidenHighI8x16S), bytes)),
-        137 => Ok((Operator::Unop(UnaryOp::I16x8WidenLowI8x16U), bytes)),
-        138 => Ok((Operator::Unop(UnaryOp::I16x8WidenHighI8x16U), bytes)),
-        139 => Ok((Operator::Binop(BinaryOp::I16x8Shl), bytes)),
-        140 => Ok((Operator::Binop(BinaryOp::I16x8ShrS), bytes)),
-        141 => Ok((Operator::Binop(BinaryOp::I16x8ShrU), bytes)),
-        142 => Ok((Operator::Binop(BinaryOp::I16x8Add), bytes)),
-        143 => Ok((Operator::Binop(BinaryOp::I16x8AddSatS), bytes)),
-        144 => Ok((Operator::Binop(BinaryOp::I16x8AddSatU), bytes)),
-        145 => Ok((Operator::Binop(BinaryOp::I16x8Sub), bytes)),
-        146 => Ok((Operator::Binop(BinaryOp::I16x8SubSatS), bytes)),
-        147 => Ok((Operator::Binop(BinaryOp::I16x8SubSatU), bytes)),
-        148 => Ok((Operator::Unop(UnaryOp::F64x2Nearest), bytes)),
-        149 => Ok((Operator::Binop(BinaryOp::I16x8Mul), bytes)),
-        150 => Ok((Operator::Binop(BinaryOp::I16x8MinS), bytes)),
-        151 => Ok((Operator::Binop(BinaryOp::I16x8MinU), bytes)),
-        152 => Ok((Operator::Binop(BinaryOp::I16x8MaxS), bytes)),
-        153 => Ok((Operator::Binop(BinaryOp::I16x8MaxU), bytes)),
         155 => Ok((Operator::Binop(BinaryOp::I16x8AvgrU), bytes)),
         156 => Ok((Operator::Binop(BinaryOp::I16x8ExtMulLowI8x16S), bytes)),
         157 => Ok((Operator::Binop(BinaryOp::I16x8ExtMulHighI8x16S), bytes)),
@@ -300,19 +434,17 @@ pub(crate) fn read_i64x2(number: u32, bytes: &[u8]) -> Result<(Operator<'_>, &[u
     }
 }
 
-/// What follows 0xfd and a number from 224 to 255: operators on lanes of floats, and conversions.
+/// What follows 0xfd and a number from 224 to 237: operators on lanes of four bytes that are floats, and
+/// signs of those of eight bytes.
 #[tactic(auto, unfolding(crate::specs::Opcodes::kinds_behind))]
-pub(crate) fn read_float_vector(
-    number: u32,
-    bytes: &[u8],
-) -> Result<(Operator<'_>, &[u8]), ReadFault>
+pub(crate) fn read_f32x4(number: u32, bytes: &[u8]) -> Result<(Operator<'_>, &[u8]), ReadFault>
     requires low { 224 ≤ number }
-    requires high { number ≤ 255 }
+    requires high { number ≤ 237 }
     ensures { Gives (λ x. (meaning x.0, x.1.now)) result
         (operands (Opcode.Prefixed 0xfd number) bytes.now) }
 {
     match number {
-        226 | 238 => Err(ReadFault::UnknownOperator),
+        226 => Err(ReadFault::UnknownOperator),
         224 => Ok((Operator::Unop(UnaryOp::F32x4Abs), bytes)),
         225 => Ok((Operator::Unop(UnaryOp::F32x4Neg), bytes)),
         227 => Ok((Operator::Unop(UnaryOp::F32x4Sqrt), bytes)),
@@ -325,61 +457,116 @@ pub(crate) fn read_float_vector(
         234 => Ok((Operator::Binop(BinaryOp::F32x4PMin), bytes)),
         235 => Ok((Operator::Binop(BinaryOp::F32x4PMax), bytes)),
         236 => Ok((Operator::Unop(UnaryOp::F64x2Abs), bytes)),
-        237 => Ok((Operator::Unop(UnaryOp::F64x2Neg), bytes)),
-        239 => Ok((Operator::Unop(UnaryOp::F64x2Sqrt), bytes)),
-        240 => Ok((Operator::Binop(BinaryOp::F64x2Add), bytes)),
-        241 => Ok((Operator::Binop(BinaryOp::F64x2Sub), bytes)),
-        242 => Ok((Operator::Binop(BinaryOp::F64x2Mul), bytes)),
-        243 => Ok((Operator::Binop(BinaryOp::F64x2Div), bytes)),
-        244 => Ok((Operator::Binop(BinaryOp::F64x2Min), bytes)),
-        245 => Ok((Operator::Binop(BinaryOp::F64x2Max), bytes)),
-        246 => Ok((Operator::Binop(BinaryOp::F64x2PMin), bytes)),
-        247 => Ok((Operator::Binop(BinaryOp::F64x2PMax), bytes)),
-        248 => Ok((Operator::Unop(UnaryOp::I32x4TruncSatF32x4S), bytes)),
-        249 => Ok((Operator::Unop(UnaryOp::I32x4TruncSatF32x4U), bytes)),
-        250 => Ok((Operator::Unop(UnaryOp::F32x4ConvertI32x4S), bytes)),
-        251 => Ok((Operator::Unop(UnaryOp::F32x4ConvertI32x4U), bytes)),
-        252 => Ok((Operator::Unop(UnaryOp::I32x4TruncSatF64x2SZero), bytes)),
-        253 => Ok((Operator::Unop(UnaryOp::I32x4TruncSatF64x2UZero), bytes)),
-        254 => Ok((Operator::Unop(UnaryOp::F64x2ConvertLowI32x4S), bytes)),
-        _ => Ok((Operator::Unop(UnaryOp::F64x2ConvertLowI32x4U), bytes)),
+        _ => Ok((Operator::Unop(UnaryOp::F64x2Neg), bytes)),
     }
 }
 
-/// What follows 0xfd and a number from 256 to 275: relaxed operators.
+/// The operator of 0xfd and a number from 239 to 247: arithmetic on lanes of eight bytes that are
+/// floats.
+fn f64x2_arithmetic(number: u32) -> Operator<'static>
+    requires low { 239 ≤ number }
+    requires high { number ≤ 247 }
+    ensures { meaning result ≡ operation (Opcode.Prefixed 0xfd number) [] }
+{
+    match number {
+        239 => Operator::Unop(UnaryOp::F64x2Sqrt),
+        240 => Operator::Binop(BinaryOp::F64x2Add),
+        241 => Operator::Binop(BinaryOp::F64x2Sub),
+        242 => Operator::Binop(BinaryOp::F64x2Mul),
+        243 => Operator::Binop(BinaryOp::F64x2Div),
+        244 => Operator::Binop(BinaryOp::F64x2Min),
+        245 => Operator::Binop(BinaryOp::F64x2Max),
+        246 => Operator::Binop(BinaryOp::F64x2PMin),
+        _ => Operator::Binop(BinaryOp::F64x2PMax),
+    }
+}
+
+/// The operator of 0xfd and a number from 248 to 255: a conversion of lanes to floats, or from
+/// them.
+fn float_conversion(number: u32) -> Operator<'static>
+    requires low { 248 ≤ number }
+    requires high { number ≤ 255 }
+    ensures { meaning result ≡ operation (Opcode.Prefixed 0xfd number) [] }
+{
+    match number {
+        248 => Operator::Unop(UnaryOp::I32x4TruncSatF32x4S),
+        249 => Operator::Unop(UnaryOp::I32x4TruncSatF32x4U),
+        250 => Operator::Unop(UnaryOp::F32x4ConvertI32x4S),
+        251 => Operator::Unop(UnaryOp::F32x4ConvertI32x4U),
+        252 => Operator::Unop(UnaryOp::I32x4TruncSatF64x2SZero),
+        253 => Operator::Unop(UnaryOp::I32x4TruncSatF64x2UZero),
+        254 => Operator::Unop(UnaryOp::F64x2ConvertLowI32x4S),
+        _ => Operator::Unop(UnaryOp::F64x2ConvertLowI32x4U),
+    }
+}
+
+/// The operator of 0xfd and a number from 256 to 268: a relaxed operator of one operand or three,
+/// or `i8x16.relaxed_swizzle`.
+fn relaxed_lanes(number: u32) -> Operator<'static>
+    requires low { 256 ≤ number }
+    requires high { number ≤ 268 }
+    ensures { meaning result ≡ operation (Opcode.Prefixed 0xfd number) [] }
+{
+    match number {
+        256 => Operator::Binop(BinaryOp::I8x16RelaxedSwizzle),
+        257 => Operator::Unop(UnaryOp::I32x4RelaxedTruncF32x4S),
+        258 => Operator::Unop(UnaryOp::I32x4RelaxedTruncF32x4U),
+        259 => Operator::Unop(UnaryOp::I32x4RelaxedTruncF64x2SZero),
+        260 => Operator::Unop(UnaryOp::I32x4RelaxedTruncF64x2UZero),
+        261 => Operator::TernOp(TernaryOp::F32x4RelaxedMadd),
+        262 => Operator::TernOp(TernaryOp::F32x4RelaxedNmadd),
+        263 => Operator::TernOp(TernaryOp::F64x2RelaxedMadd),
+        264 => Operator::TernOp(TernaryOp::F64x2RelaxedNmadd),
+        265 => Operator::TernOp(TernaryOp::I8x16RelaxedLaneselect),
+        266 => Operator::TernOp(TernaryOp::I16x8RelaxedLaneselect),
+        267 => Operator::TernOp(TernaryOp::I32x4RelaxedLaneselect),
+        _ => Operator::TernOp(TernaryOp::I64x2RelaxedLaneselect),
+    }
+}
+
+/// The operator of 0xfd and a number from 269 to 275: relaxed arithmetic.
+fn relaxed_arithmetic(number: u32) -> Operator<'static>
+    requires low { 269 ≤ number }
+    requires high { number ≤ 275 }
+    ensures { meaning result ≡ operation (Opcode.Prefixed 0xfd number) [] }
+{
+    match number {
+        269 => Operator::Binop(BinaryOp::F32x4RelaxedMin),
+        270 => Operator::Binop(BinaryOp::F32x4RelaxedMax),
+        271 => Operator::Binop(BinaryOp::F64x2RelaxedMin),
+        272 => Operator::Binop(BinaryOp::F64x2RelaxedMax),
+        273 => Operator::Binop(BinaryOp::I16x8RelaxedQ15mulrS),
+        274 => Operator::Binop(BinaryOp::I16x8RelaxedDotI8x16I7x16S),
+        _ => Operator::TernOp(TernaryOp::I32x4RelaxedDotI8x16I7x16AddS),
+    }
+}
+
+/// The operator of 0xfd and a number from 239 to 275: one on lanes of eight bytes that are floats, a
+/// conversion, or a relaxed one.
+fn f64x2_or_relaxed(number: u32) -> Operator<'static>
+    requires low { 239 ≤ number }
+    requires high { number ≤ 275 }
+    ensures { meaning result ≡ operation (Opcode.Prefixed 0xfd number) [] }
+{
+    match number {
+        239..=247 => f64x2_arithmetic(number),
+        248..=255 => float_conversion(number),
+        256..=268 => relaxed_lanes(number),
+        _ => relaxed_arithmetic(number),
+    }
+}
+
+/// What follows 0xfd and a number from 239 to 275: operators on lanes of eight bytes that are floats,
+/// conversions, and relaxed operators.
 #[tactic(auto, unfolding(crate::specs::Opcodes::kinds_behind))]
-pub(crate) fn read_relaxed_vector(
+pub(crate) fn read_f64x2_or_relaxed(
     number: u32,
     bytes: &[u8],
 ) -> Result<(Operator<'_>, &[u8]), ReadFault>
-    requires low { 256 ≤ number }
+    requires low { 239 ≤ number }
     requires high { number ≤ 275 }
     ensures { Gives (λ x. (meaning x.0, x.1.now)) result
         (operands (Opcode.Prefixed 0xfd number) bytes.now) }
 {
-    match number {
-        256 => Ok((Operator::Binop(BinaryOp::I8x16RelaxedSwizzle), bytes)),
-        257 => Ok((Operator::Unop(UnaryOp::I32x4RelaxedTruncF32x4S), bytes)),
-        258 => Ok((Operator::Unop(UnaryOp::I32x4RelaxedTruncF32x4U), bytes)),
-        259 => Ok((Operator::Unop(UnaryOp::I32x4RelaxedTruncF64x2SZero), bytes)),
-        260 => Ok((Operator::Unop(UnaryOp::I32x4RelaxedTruncF64x2UZero), bytes)),
-        261 => Ok((Operator::TernOp(TernaryOp::F32x4RelaxedMadd), bytes)),
-        262 => Ok((Operator::TernOp(TernaryOp::F32x4RelaxedNmadd), bytes)),
-        263 => Ok((Operator::TernOp(TernaryOp::F64x2RelaxedMadd), bytes)),
-        264 => Ok((Operator::TernOp(TernaryOp::F64x2RelaxedNmadd), bytes)),
-        265 => Ok((Operator::TernOp(TernaryOp::I8x16RelaxedLaneselect), bytes)),
-        266 => Ok((Operator::TernOp(TernaryOp::I16x8RelaxedLaneselect), bytes)),
-        267 => Ok((Operator::TernOp(TernaryOp::I32x4RelaxedLaneselect), bytes)),
-        268 => Ok((Operator::TernOp(TernaryOp::I64x2RelaxedLaneselect), bytes)),
-        269 => Ok((Operator::Binop(BinaryOp::F32x4RelaxedMin), bytes)),
-        270 => Ok((Operator::Binop(BinaryOp::F32x4RelaxedMax), bytes)),
-        271 => Ok((Operator::Binop(BinaryOp::F64x2RelaxedMin), bytes)),
-        272 => Ok((Operator::Binop(BinaryOp::F64x2RelaxedMax), bytes)),
-        273 => Ok((Operator::Binop(BinaryOp::I16x8RelaxedQ15mulrS), bytes)),
-        274 => Ok((Operator::Binop(BinaryOp::I16x8RelaxedDotI8x16I7x16S), bytes)),
-        _ => Ok((
-            Operator::TernOp(TernaryOp::I32x4RelaxedDotI8x16I7x16AddS),
-            bytes,
-        )),
-    }
+    Ok((f64x2_or_relaxed(number), bytes))
 }

@@ -1,37 +1,14 @@
 //! The module over which `wbody` runs, its index maps, and what is read over them.
-ghost use Rattle.std.specs.Prelude.{◌≡◌, ◌≤◌, ◌<◌, ◌+◌, ◌^◌, length, IfOk};
-ghost use Rattle.walrus_body.specs.IndexMaps.{number_of};
+ghost use Rattle.std.specs.Prelude.{◌≡◌, ◌≤◌, ◌<◌, ◌+◌, ◌^◌, length};
 
 use crate::fault::Fault;
 use std::alloc::{AllocError, Global};
-use walrus_body::{
-    AcceptAll, FunctionBody, IdsToIndices, IndexError, IndicesToIds, LocalFunction, Space,
-};
-use walrus_ir::{
-    DataId, ElementId, FunctionId, GlobalId, InstrLocId, LocalId, MemoryId, Module, ModuleLocals,
-    ModuleTags, ModuleTypes, TableId, TagId, TypeId, ValType,
-};
-use walrus_run::NamedBody;
+use walrus_body::{AcceptAll, FunctionBody, IdsToIndices, IndexError, IndicesToIds, LocalFunction};
+use walrus_ir::{FunctionId, InstrLocId, LocalId, Module, TypeId};
+use walrus_run::{NamedBody, demo};
 
 /// How many locals the module has, which are those of function 0.
 pub(crate) const LOCALS: usize = 4;
-
-/// What has old and new indices, which are the ids.
-const ITEMS: [(Space, usize); 13] = [
-    (Space::Types, 0),
-    (Space::Types, 1),
-    (Space::Types, 2),
-    (Space::Types, 3),
-    (Space::Funcs, 0),
-    (Space::Funcs, 1),
-    (Space::Tags, 0),
-    (Space::Tags, 1),
-    (Space::Tables, 0),
-    (Space::Memories, 0),
-    (Space::Globals, 0),
-    (Space::Elements, 0),
-    (Space::Data, 0),
-];
 
 /// The function whose bodies are read.
 pub(crate) fn function() -> FunctionId {
@@ -57,96 +34,13 @@ pub(crate) struct Demo {
     ghost begins_at_zero: { «module».code_section_offset ≡ 0 },
 }
 
-fn module(alloc: Global) -> Result<Module, AllocError>
-    ensures { IfOk result (λ m. m.code_section_offset ≡ 0) }
-{
-    let mut types = ModuleTypes::new(alloc);
-    types.add_func(&[], &[])?;
-    types.add_func(&[ValType::I32], &[])?;
-    types.add_func(&[ValType::I32, ValType::I32], &[ValType::I32])?;
-    types.add_func(&[ValType::I32], &[])?;
-    types.add_entry(&[])?;
-    let mut tags = ModuleTags::new(alloc);
-    tags.add(TypeId::new(0))?;
-    tags.add(TypeId::new(1))?;
-    let mut locals = ModuleLocals::new(alloc);
-    for ty in [ValType::I32, ValType::I64, ValType::I64, ValType::I64] {
-        locals.add(ty)?;
-    }
-    Ok(Module {
-        types,
-        tags,
-        locals,
-        code_section_offset: 0,
-    })
-}
-
-/// Gives an id the next old index.
-fn push(indices: &mut IndicesToIds, space: Space, id: usize) -> Result<u32, IndexError> {
-    match space {
-        Space::Tables => indices.push_table(TableId::new(id)),
-        Space::Types => indices.push_type(TypeId::new(id)),
-        Space::Funcs => indices.push_func(FunctionId::new(id)),
-        Space::Globals => indices.push_global(GlobalId::new(id)),
-        Space::Memories => indices.push_memory(MemoryId::new(id)),
-        Space::Elements => indices.push_element(ElementId::new(id)),
-        Space::Data => indices.push_data(DataId::new(id)),
-        Space::Tags => indices.push_tag(TagId::new(id)),
-    }
-}
-
 /// The ids of the old indices, where these are function 0's locals, in order.
 pub(crate) fn indices(alloc: Global, locals: &[LocalId]) -> Result<IndicesToIds, IndexError> {
-    let mut indices = IndicesToIds::new(alloc);
-    for (space, id) in ITEMS {
-        push(&mut indices, space, id)?;
-    }
+    let mut indices = demo::indices_of_items(alloc)?;
     for local in locals {
         indices.push_local(function(), *local)?;
     }
     Ok(indices)
-}
-
-/// The new index of an id.
-fn number(numbers: &IdsToIndices, space: Space, id: usize) -> Result<u32, IndexError>
-    ensures { result ≡ number_of numbers.now space id }
-{
-    match space {
-        Space::Tables => numbers.get_table_index(TableId::new(id)),
-        Space::Types => numbers.get_type_index(TypeId::new(id)),
-        Space::Funcs => numbers.get_func_index(FunctionId::new(id)),
-        Space::Globals => numbers.get_global_index(GlobalId::new(id)),
-        Space::Memories => numbers.get_memory_index(MemoryId::new(id)),
-        Space::Elements => numbers.get_element_index(ElementId::new(id)),
-        Space::Data => numbers.get_data_index(DataId::new(id)),
-        Space::Tags => numbers.get_tag_index(TagId::new(id)),
-    }
-}
-
-/// Gives an id that has none the next new index, and a data segment 0.
-fn give(numbers: &mut IdsToIndices, space: Space, id: usize) -> Result<(), IndexError> {
-    if number(numbers, space, id).is_ok() {
-        return Ok(());
-    }
-    match space {
-        Space::Tables => numbers.push_table(TableId::new(id)),
-        Space::Types => numbers.push_type(TypeId::new(id)),
-        Space::Funcs => numbers.push_func(FunctionId::new(id)),
-        Space::Globals => numbers.push_global(GlobalId::new(id)),
-        Space::Memories => numbers.push_memory(MemoryId::new(id)),
-        Space::Elements => numbers.push_element(ElementId::new(id)),
-        Space::Data => numbers.set_data_index(DataId::new(id), 0),
-        Space::Tags => numbers.push_tag(TagId::new(id)),
-    }
-}
-
-/// The new indices of ids, but for locals.
-fn numbers(alloc: Global) -> Result<IdsToIndices, IndexError> {
-    let mut numbers = IdsToIndices::new(alloc);
-    for (space, id) in ITEMS {
-        give(&mut numbers, space, id)?;
-    }
-    Ok(numbers)
 }
 
 /// A body of the function: its bytes, where its operators begin, and what its indices stand for.
@@ -174,12 +68,8 @@ impl<'a> Body<'a> {
 
 impl Demo {
     pub(crate) fn new(alloc: Global) -> Result<Demo, AllocError> {
-        let module = module(alloc)?;
-        let mut locals = Vec::new(alloc);
-        for local in 0..LOCALS {
-            locals.push(LocalId::new(local))?;
-        }
-        let (Ok(indices), Ok(numbers)) = (indices(alloc, &locals), numbers(alloc)) else {
+        let module = demo::module(alloc)?;
+        let (Ok(indices), Ok(numbers)) = (demo::indices(alloc), demo::numbers(alloc)) else {
             return Err(AllocError);
         };
         Ok(Demo {

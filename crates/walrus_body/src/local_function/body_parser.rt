@@ -19,11 +19,12 @@ ghost use Rattle.walrus_body.specs.Parsing.BodyParsers.{Begins, IsSameBody, Step
 
 use crate::local_function::context::ValidationContext;
 use crate::local_function::frame::IfElseState;
+use crate::local_function::frame_stack::pushed;
 use crate::local_function::instructions::{constant, memory_argument};
-use crate::local_function::own_lists::pushed;
 use crate::local_function::types::value_type;
 use crate::{IndicesToIds, ParseError};
 use std::alloc::Global;
+use std::mem;
 use walrus_ir::{
     Binop, Block, BlockKind, BrIf, Call, FunctionBuilder, FunctionId, GlobalGet, GlobalSet, IfElse,
     Instr, InstrLocId, InstrSeqId, InstrSeqType, Load, LoadKind, Loop, Module, Store, StoreKind,
@@ -40,8 +41,18 @@ pub(crate) struct BodyParser<'a> {
     pub if_else: Vec<IfElseState>,
 }
 
+/// The list that is lent, cleared. A new one stands in its place.
+fn cleared(alloc: Global, lent: &mut Vec<(Instr, InstrLocId)>) -> Vec<(Instr, InstrLocId)>
+    ensures { result.items ≡ [] }
+{
+    let mut instrs = mem::replace(lent, Vec::new(alloc));
+    instrs.clear();
+    instrs
+}
+
 impl<'a> BodyParser<'a> {
-    /// Nothing is read yet of the body of this function, whose entry has the type `entry`.
+    /// Nothing is read yet of the body of this function, whose entry has the type `entry`. The
+    /// list that is lent is that of the open sequences until `finish`.
     pub fn new(
         alloc: Global,
         module: &'a Module,
@@ -49,6 +60,7 @@ impl<'a> BodyParser<'a> {
         function: FunctionId,
         ty: TypeId,
         entry: TypeId,
+        lent: &mut Vec<(Instr, InstrLocId)>,
     ) -> Result<BodyParser<'a>, ParseError>
         requires { entry_type_of (environment_of «module».now indices.now function ty) ≡ Ok entry }
         ensures env { IfOk result (λ p.
@@ -59,7 +71,7 @@ impl<'a> BodyParser<'a> {
         let mut builder = FunctionBuilder::without_entry(alloc, ty);
         builder.set_entry(InstrSeqId::new(0));
         let controls = Vec::new(alloc);
-        let instrs = Vec::new(alloc);
+        let instrs = cleared(alloc, lent);
         let mut context = ValidationContext::new(
             module, indices, function, builder, controls, instrs,
         );
@@ -481,8 +493,13 @@ impl BodyParser<'_> {
         }
     }
 
-    /// Takes the function's own `end`: its sequences.
-    pub fn finish(mut self, location: InstrLocId) -> Result<FunctionBuilder, ParseError>
+    /// Takes the function's own `end`: its sequences. The list of the open sequences is put back
+    /// where it was lent.
+    pub fn finish(
+        mut self,
+        location: InstrLocId,
+        lent: &mut Vec<(Instr, InstrLocId)>,
+    ) -> Result<FunctionBuilder, ParseError>
         ensures ok { IfOk result (Finishes self.entry location) }
         ensures err { IfErr result (λ e. (e ≡ ParseFault.Memory)
             ⊎ ((e ≡ ParseFault.NoFrame) × (self.entry.context.frames ≡ []))) }
@@ -492,7 +509,8 @@ impl BodyParser<'_> {
             Err(error) => return Err(error),
         };
         self.context.end_sequence(block, location);
-        let (builder, _controls, _instrs) = self.context.into_parts();
+        let (builder, _controls, instrs) = self.context.into_parts();
+        *lent = instrs;
         Ok(builder)
     }
 }

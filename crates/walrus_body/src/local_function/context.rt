@@ -12,7 +12,7 @@ ghost use Rattle.walrus_body.specs.Parsing.Placing.{block_found, kind_at};
 ghost use Rattle.walrus_body.specs.Parsing.OpenTrees.{env_of, Opens, OpensBlock, HasNoType, Pops, ChangesFrame, AddsClauseAround, EndsAt};
 
 use crate::local_function::frame::{ControlFrame, ControlStack};
-use crate::local_function::own_lists::FrameStack;
+use crate::local_function::frame_stack::FrameStack;
 use crate::local_function::types::value_type;
 use crate::{IndicesToIds, ParseError};
 use std::alloc::Global;

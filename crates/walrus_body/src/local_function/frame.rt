@@ -15,7 +15,7 @@ pub struct ControlFrame {
     pub block: InstrSeqId,
     /// What it is to the construct that holds it.
     pub kind: BlockKind,
-    /// Where its instructions begin.
+    /// The position of its first instruction in the list of the instructions of all open frames.
     pub start: usize,
 }
 

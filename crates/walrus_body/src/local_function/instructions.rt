@@ -16,7 +16,7 @@ ghost use Rattle.walrus_body.specs.Parsing.Placing.{place_at};
 
 use crate::ParseError;
 use crate::local_function::body_parser::BodyParser;
-use crate::local_function::own_lists::pushed;
+use crate::local_function::frame_stack::pushed;
 use crate::local_function::types::value_type;
 use walrus_ir::{
     AtomicNotify, AtomicRmw, AtomicWait, Binop, Br, BrIf, Cmpxchg, Const, I8x16Shuffle, Instr,

@@ -15,7 +15,7 @@ use crate::local_function::check::OpCheck;
 use crate::local_function::next::{accepted_at, read_next};
 use crate::{IndicesToIds, ParseError, ParseFailure};
 use std::alloc::Global;
-use walrus_ir::{FunctionBuilder, FunctionId, InstrLocId, Module, TypeId};
+use walrus_ir::{FunctionBuilder, FunctionId, Instr, InstrLocId, Module, TypeId};
 use wasm_ops::{Operator, Reader};
 
 /// A function's sequences, and the place and location of each operator that was read.
@@ -32,7 +32,7 @@ fn failure(error: ParseError, at: usize) -> ParseFailure
 }
 
 /// Parses the operators of a body, of which nothing is read yet. Places in the mapping are less the
-/// code offset.
+/// code offset. The parser's list is put back where it was lent, if the body is accepted.
 pub(crate) fn parse_operators<V: OpCheck, F: Fn(&usize) -> InstrLocId>(
     alloc: Global,
     mut parser: BodyParser<'_>,
@@ -40,6 +40,7 @@ pub(crate) fn parse_operators<V: OpCheck, F: Fn(&usize) -> InstrLocId>(
     on_instr_pos: Option<&F>,
     mut validator: V,
     code_offset: usize,
+    lent: &mut Vec<(Instr, InstrLocId)>,
 ) -> Result<ParsedOperators, ParseFailure>
     requires fresh { Begins parser }
     requires offset { code_offset ≤ reader.old.place }
@@ -68,7 +69,7 @@ pub(crate) fn parse_operators<V: OpCheck, F: Fn(&usize) -> InstrLocId>(
             if !reader.eof() {
                 return Err(failure(ParseError::Trailing, reader.original_position()));
             }
-            match parser.finish(location) {
+            match parser.finish(location, lent) {
                 Ok(builder) => {
                     return Ok(ParsedOperators {
                         builder,
@@ -87,7 +88,7 @@ pub(crate) fn parse_operators<V: OpCheck, F: Fn(&usize) -> InstrLocId>(
 }
 
 /// Parses the operators of the body of this function, the first of which stands at the place
-/// `start`.
+/// `start`, with the list that is lent.
 pub(crate) fn parse_function<V: OpCheck, F: Fn(&usize) -> InstrLocId>(
     alloc: Global,
     module: &Module,
@@ -98,6 +99,7 @@ pub(crate) fn parse_function<V: OpCheck, F: Fn(&usize) -> InstrLocId>(
     start: usize,
     on_instr_pos: Option<&F>,
     validator: V,
+    lent: &mut Vec<(Instr, InstrLocId)>,
 ) -> Result<ParsedOperators, ParseFailure>
     requires offset { «module».now.code_section_offset ≤ start }
     requires fits { start + length ops.now < 2 ^ 64 }
@@ -115,7 +117,7 @@ pub(crate) fn parse_function<V: OpCheck, F: Fn(&usize) -> InstrLocId>(
     let Some(entry) = types.find_for_function_entry(types.results(ty)) else {
         return Err(failure(ParseError::EntryTypeMissing, start));
     };
-    match BodyParser::new(alloc, module, indices, function, ty, entry) {
+    match BodyParser::new(alloc, module, indices, function, ty, entry, lent) {
         Ok(parser) => parse_operators(
             alloc,
             parser,
@@ -123,6 +125,7 @@ pub(crate) fn parse_function<V: OpCheck, F: Fn(&usize) -> InstrLocId>(
             on_instr_pos,
             validator,
             module.code_section_offset,
+            lent,
         ),
         Err(error) => Err(failure(error, start)),
     }

@@ -9,7 +9,7 @@ ghost use Rattle.walrus_body.specs.Parsing.BodyParsers.{IsSameBody, Steps, claus
 
 use crate::ParseError;
 use crate::local_function::body_parser::BodyParser;
-use crate::local_function::own_lists::pushed;
+use crate::local_function::frame_stack::pushed;
 use walrus_ir::{BlockKind, Instr, InstrLocId, InstrSeqId, TagId, TryTable, TryTableCatch};
 use wasm_ops::{BlockType, CatchList, RawCatch};
 

@@ -1,4 +1,4 @@
-use Rattle.std.proofs.Common.{sym, subst}
+use Rattle.std.proofs.Common.{sym, subst, inl}
 use Rattle.walrus_body.specs.Environments.{environment_of}
 use Rattle.walrus_body.specs.TreeWriting.Operators.{numbers_by}
 use Rattle.tests.specs.ReadBack.{HasBytes}
@@ -14,6 +14,20 @@ returns-in-Ok-rewritten-clause-unchanged c =
     let answer = c.in-Ok-rewritten.ensures.each_body first (subst (λ l. HasBytes (environment_of a.module.now a.again.now a.id a.ty) to l first) (sym c.deref.ensures.value) itself) in
     answer.1
 
+pub returns-in-Ok-rewritten-clause-each_fault : goal.returns-in-Ok-rewritten-clause-each_fault
+returns-in-Ok-rewritten-clause-each_fault c e has =
+    let refused = c.in-Ok.ensures.each_fault e has in
+    absurd (let none = refused.0 in cc)
+
+pub returns-in-Err-rewritten-clause-refused : goal.returns-in-Err-rewritten-clause-refused
+returns-in-Err-rewritten-clause-refused c =
+    let a = c.args in
+    let to = numbers_by a.out.now a.locals.now.entries in
+    let first = c.in-Ok.bytes.items in
+    let itself = has_itself a.module.now a.indices.now a.again.now a.id a.ty to c.requires.undone c.law_inverse_undoes.ensures c.law_accepted_again.ensures a.ops.now first c.in-Ok.ensures.written in
+    let answer = c.in-Err-rewritten.ensures.each_body first (subst (λ l. HasBytes (environment_of a.module.now a.again.now a.id a.ty) to l first) (sym c.deref.ensures.value) itself) in
+    inl answer.0
+
 pub returns-in-Err-rewritten-clause-each_body : goal.returns-in-Err-rewritten-clause-each_body
 returns-in-Err-rewritten-clause-each_body c bytes has =
     let a = c.args in
@@ -22,3 +36,8 @@ returns-in-Err-rewritten-clause-each_body c bytes has =
     let itself = has_itself a.module.now a.indices.now a.again.now a.id a.ty to c.requires.undone c.law_inverse_undoes.ensures c.law_accepted_again.ensures a.ops.now first c.in-Ok.ensures.written in
     let answer = c.in-Err-rewritten.ensures.each_body first (subst (λ l. HasBytes (environment_of a.module.now a.again.now a.id a.ty) to l first) (sym c.deref.ensures.value) itself) in
     answer.0
+
+pub returns-in-Err-rewritten-clause-each_fault : goal.returns-in-Err-rewritten-clause-each_fault
+returns-in-Err-rewritten-clause-each_fault c e has =
+    let refused = c.in-Ok.ensures.each_fault e has in
+    absurd (let none = refused.0 in cc)

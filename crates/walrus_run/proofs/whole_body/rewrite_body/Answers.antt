@@ -1,6 +1,6 @@
-use Rattle.std.proofs.Common.{◌≡◌, Some, None, Ok}
+use Rattle.std.proofs.Common.{Some, None}
 use Rattle.walrus_body.specs.Parsing.Bodies.{body_input}
-use Rattle.walrus_run.proofs.RewrittenLemmas.{begins_all, all_with_map, all_without_map, refused_all, faults_all, bodies_all}
+use Rattle.walrus_run.proofs.RewrittenLemmas.{begins_all, all_with_map, all_without_map, few_operators, refused_all, faults_all, bodies_all}
 use Rattle.walrus_run.proofs.whole_body.rewrite_body.Goals as goal
 
 pub finish_with_map-requires : goal.finish_with_map-requires
@@ -18,7 +18,7 @@ returns-in-Some-clause-same_pairs g c = rw c.in-Some.is c.finish_with_map.ensure
 
 pub returns-in-Some-clause-refused : goal.returns-in-Some-clause-refused
 returns-in-Some-clause-refused g c =
-    refused_all g.F.Fn (body_input c.args.module.now c.args.indices.now c.args.id c.args.ty c.args.body c.args.on_instr_pos g.V.OpCheck.check (g.V.OpCheck.state c.args.validator)) c.args.module.now c.args.out.now c.args.args.items c.parse-parsed.result c.parse-parsed.ensures.accepted c.parse-parsed.ensures.refused c.parse-parsed.ensures.args c.finish_with_map.result c.finish_with_map.ensures.err
+    refused_all g.F.Fn (body_input c.args.module.now c.args.indices.now c.args.id c.args.ty c.args.body c.args.on_instr_pos g.V.OpCheck.check (g.V.OpCheck.state c.args.validator)) c.args.module.now c.args.out.now c.args.args.items c.parse-parsed.result c.parse-parsed.ensures.accepted c.parse-parsed.ensures.refused c.parse-parsed.ensures.args (few_operators c.args.body c.requires.fits) c.finish_with_map.result c.finish_with_map.ensures.err
 
 pub returns-in-Some-clause-each_body : goal.returns-in-Some-clause-each_body
 returns-in-Some-clause-each_body g c locations b both accepted =
@@ -34,7 +34,7 @@ returns-in-None-clause-rewritten g c =
 
 pub returns-in-None-clause-refused : goal.returns-in-None-clause-refused
 returns-in-None-clause-refused g c =
-    refused_all g.F.Fn (body_input c.args.module.now c.args.indices.now c.args.id c.args.ty c.args.body c.args.on_instr_pos g.V.OpCheck.check (g.V.OpCheck.state c.args.validator)) c.args.module.now c.args.out.now c.args.args.items c.parse-parsed.result c.parse-parsed.ensures.accepted c.parse-parsed.ensures.refused c.parse-parsed.ensures.args c.finish.result c.finish.ensures.err
+    refused_all g.F.Fn (body_input c.args.module.now c.args.indices.now c.args.id c.args.ty c.args.body c.args.on_instr_pos g.V.OpCheck.check (g.V.OpCheck.state c.args.validator)) c.args.module.now c.args.out.now c.args.args.items c.parse-parsed.result c.parse-parsed.ensures.accepted c.parse-parsed.ensures.refused c.parse-parsed.ensures.args (few_operators c.args.body c.requires.fits) c.finish.result c.finish.ensures.err
 
 pub returns-in-None-clause-each_body : goal.returns-in-None-clause-each_body
 returns-in-None-clause-each_body g c locations b both accepted =

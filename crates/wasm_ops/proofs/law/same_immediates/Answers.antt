@@ -1,22 +1,26 @@
-use Rattle.std.proofs.Common.{◌≡◌, true, sym, ◌∙◌}
-use Rattle.std.specs.Prelude.{◌&&◌}
-use Rattle.wasm_ops.specs.declared.immediates.Immediates.TheVariants.{Clauses}
+use denote.Signature.{static_lft}
+use Rattle.std.proofs.Common.{sym, ap, ◌∙◌}
 use Rattle.wasm_ops.specs.Parts.{ListedImmediates}
-use Rattle.wasm_ops.proofs.SameLists.{both}
+use Rattle.wasm_ops.specs.contracts.immediates.ImmediatesPartialEq.TheImpl.{ghosts as immediates_ghosts}
+use Rattle.wasm_ops.specs.contracts.immediates.ImmediatesEq.TheImpl.Laws.{laws-law as immediates_equiv}
+use Rattle.wasm_ops.specs.contracts.branch_table.BrTable.{the_row as table_row}
+use Rattle.wasm_ops.specs.contracts.branch_table.BrTablePartialEq.TheImpl.{ghosts as table_ghosts, dict as table_dict}
+use Rattle.wasm_ops.specs.contracts.branch_table.BrTablePartialEq.TheImpl.Laws.{lawful as table_per}
+use Rattle.wasm_ops.specs.contracts.branch_table.BrTableEq.TheImpl.{ghosts as table_eq_ghosts, dict as table_eq_dict}
+use Rattle.wasm_ops.specs.contracts.branch_table.BrTableEq.TheImpl.Laws.{lawful as table_equiv}
+use Rattle.wasm_ops.specs.contracts.catch_list.CatchList.{the_row as clauses_row}
+use Rattle.wasm_ops.specs.contracts.catch_list.CatchListPartialEq.TheImpl.{ghosts as clauses_ghosts, dict as clauses_dict}
+use Rattle.wasm_ops.specs.contracts.catch_list.CatchListPartialEq.TheImpl.Laws.{lawful as clauses_per}
+use Rattle.wasm_ops.specs.contracts.catch_list.CatchListEq.TheImpl.{ghosts as clauses_eq_ghosts, dict as clauses_eq_dict}
+use Rattle.wasm_ops.specs.contracts.catch_list.CatchListEq.TheImpl.Laws.{lawful as clauses_equiv}
 use Rattle.wasm_ops.proofs.law.same_immediates.Goals as goal
 
-pub returns-in-Clauses-b-clause-same : goal.returns-in-Clauses-b-clause-same
-returns-in-Clauses-b-clause-same c = λ e.
-    let compared = sym c.eq-in-Clauses.ensures ∙ e in
-    let type = c.same_block_type-ty.result in
-    let list = c.same_clauses-catches.result in
-    let joined : (type && list) ≡ true =
-    (λ i. c.same_block_type-ty.ensures.compares i && c.same_clauses-catches.ensures.compares i)
-    ∙ rw (c.in-Clauses.is, c.in-Clauses-b.is) at compared in
-    let p = both type list joined in
-    let types = c.same_block_type-ty.ensures.same p.0 in
-    let lists = c.same_clauses-catches.ensures.same p.1 in
-    let behind : ListedImmediates = Clauses c.in-Clauses.ty c.in-Clauses.catches in
-    let other : ListedImmediates = Clauses c.in-Clauses-b.other c.in-Clauses-b.other_catches in
-    let same : behind ≡ other = λ i. Clauses (types i) (lists i) in
-    c.in-Clauses.is ∙ (same ∙ sym c.in-Clauses-b.is)
+pub returns-clause-same : goal.returns-clause-same
+returns-clause-same c = λ e. c.equal_immediates.ensures (sym c.eq.ensures ∙ e)
+
+pub returns-clause-equal : goal.returns-clause-equal
+returns-clause-equal c = λ e.
+    let equal = (immediates_ghosts (table_row static_lft) (clauses_row static_lft) table_ghosts table_dict clauses_ghosts clauses_dict).eq in
+    let themselves = immediates_equiv (table_row static_lft) (clauses_row static_lft) table_eq_ghosts table_eq_dict table_ghosts table_dict
+    clauses_eq_ghosts clauses_eq_dict clauses_ghosts clauses_dict table_equiv table_per clauses_equiv clauses_per in
+    c.eq.ensures ∙ (ap (λ (i : ListedImmediates). equal i c.args.b.now) e ∙ themselves.refl c.args.b.now)

@@ -1,7 +1,8 @@
-//! The open frames, each with a list of instructions of its own.
-ghost use Rattle.std.specs.Prelude.{reverse, ◌≡◌, ◌⊎◌, ◌≤◌, ◌<◌, ◌∷◌, ◌++◌, [], List, length, MatchOption, IfOk, IfErr, OnOk, OnErr, IsSome, None, Ok, Err};
+//! The open frames, with the instructions of all of them in one list.
+ghost use Rattle.std.specs.Prelude.{reverse, ◌≡◌, ◌⊎◌, ◌≤◌, ◌<◌, ◌+◌, ◌^◌, ℕ, ◌∷◌, ◌++◌, [], List, length, MatchOption, IfOk, IfErr, OnOk, OnErr, IsSome, None, Some, Ok, Err};
 ghost use Rattle.wasm_body.specs.declared.error.ParseError.{ParseError as Fault};
-ghost use Rattle.walrus_body.specs.Parsing.OpenFrames.{OpenFrame, AreShown, ShowsAt, frame_with, new_frame, killed, with_instr, ChangesAt, HasNoFrame, HasNoFrameAt, InnerAreEmpty, with_last_clause, with_clause_around};
+ghost use Rattle.walrus_body.specs.Parsing.OpenFrames.{OpenFrame, AreShown, ShowsAt, frame_with, new_frame, killed, with_instr, ChangesAt, HasNoFrame, HasNoFrameAt, InnerAreEmpty, with_clause_in, with_clause_around};
+ghost use Rattle.walrus_body.specs.Parsing.FrameStacks.{moved_from, StartFrom};
 
 use crate::ParseError;
 use crate::local_function::frame::{ControlFrame, ControlStack};
@@ -21,29 +22,41 @@ pub(crate) fn pushed<T: Drop>(list: &mut Vec<T>, item: T) -> Result<(), ParseErr
     }
 }
 
-/// Adds a clause to the `try` that ends a list of instructions.
-fn add_last_clause(
-    instrs: &mut Vec<(Instr, InstrLocId)>,
-    catch: LegacyCatch,
-) -> Result<(), ParseError>
-    ensures ok { OnOk result (with_last_clause catch instrs.old.items ≡ Some instrs.new.items) }
-    ensures err { IfErr result (λ e. (e ≡ Fault.Memory)
-        ⊎ ((e ≡ Fault.NoTry) × (with_last_clause catch instrs.old.items ≡ None))) }
-    ensures same { OnErr result (instrs.new.items ≡ instrs.old.items) }
+/// Where the n-th frame from the innermost stands, if so many are open.
+#[inline(always)]
+fn index_of(controls: &ControlStack, n: usize) -> Option<usize>
+    ensures { MatchOption result (length controls.now.items ≤ n)
+        (λ index. n + index + 1 ≡ length controls.now.items) }
 {
-    let Some((instr, location)) = instrs.pop() else {
-        return Err(ParseError::NoTry);
-    };
-    match instr {
-        Instr::Try(mut x) => {
-            let added = pushed(&mut x.catches, catch);
-            instrs.push((Instr::Try(x), location)).unwrap();
-            added
-        }
-        other => {
-            instrs.push((other, location)).unwrap();
-            Err(ParseError::NoTry)
-        }
+    if n >= controls.len() {
+        return None;
+    }
+    Some(controls.len() - n - 1)
+}
+
+/// Adds a clause to an instruction that is a `try`.
+fn add_clause_in(item: &mut (Instr, InstrLocId), catch: LegacyCatch) -> Result<(), ParseError>
+    ensures ok { OnOk result (with_clause_in catch item.old ≡ Some item.new) }
+    ensures err { IfErr result (λ e. (e ≡ Fault.Memory)
+        ⊎ ((e ≡ Fault.NoTry) × (with_clause_in catch item.old ≡ None))) }
+    ensures same { OnErr result (item.new ≡ item.old) }
+{
+    match &mut item.0 {
+        Instr::Try(x) => pushed(&mut x.catches, catch),
+        _ => Err(ParseError::NoTry),
+    }
+}
+
+/// Has every frame from one on begin one instruction later.
+fn move_starts(controls: &mut ControlStack, from: usize)
+    requires within { from ≤ length controls.old.items }
+    requires fit { (end : ℕ) × (end + 1 < 2 ^ 64) × StartFrom 0 controls.old.items end }
+    ensures { controls.new.items ≡ moved_from from controls.old.items }
+{
+    let mut index = controls.len();
+    while index > from {
+        index -= 1;
+        controls[index].start += 1;
     }
 }
 
@@ -51,22 +64,20 @@ fn add_last_clause(
 #[derive(Drop)]
 pub struct FrameStack {
     controls: ControlStack,
-    lists: Vec<Vec<(Instr, InstrLocId)>>,
-    lent: Vec<(Instr, InstrLocId)>,
+    instrs: Vec<(Instr, InstrLocId)>,
 }
 
 impl Model for FrameStack {
-    ghost use Rattle.std.specs.Prelude.{◌≡◌, List, [], length};
+    ghost use Rattle.std.specs.Prelude.{List, [], length};
     ghost use Rattle.walrus_body.specs.Parsing.OpenFrames.{OpenFrame};
 
     ghost Value = { List OpenFrame };
 
-    ghost use Rattle.walrus_body.specs.Parsing.OwnLists.{frames_within};
+    ghost use Rattle.walrus_body.specs.Parsing.FrameStacks.{frames_in, StartFrom};
 
-    ghost view = { λ s. frames_within [] s.controls.items s.lists.items };
+    ghost view = { λ s. frames_in s.instrs.items [] s.controls.items };
 
-    ghost invariant = { λ s. (length s.lists.items ≡ length s.controls.items)
-        × (s.lent.items ≡ []) };
+    ghost invariant = { λ s. StartFrom 0 s.controls.items (length s.instrs.items) };
 }
 
 impl FrameStack {
@@ -76,11 +87,9 @@ impl FrameStack {
         requires empty { lent.items ≡ [] }
         ensures { result ≡ [] }
     {
-        let lists = Vec::new(*lent.allocator());
         FrameStack {
             controls,
-            lists,
-            lent,
+            instrs: lent,
         }
     }
 
@@ -88,10 +97,10 @@ impl FrameStack {
     pub fn get(&self, n: usize) -> Option<&ControlFrame>
         ensures { MatchOption result (length self.now ≤ n) (λ f. ShowsAt self.now n f.now) }
     {
-        if n >= self.controls.len() {
-            return None;
+        match index_of(&self.controls, n) {
+            Some(index) => Some(&self.controls[index]),
+            None => None,
         }
-        Some(&self.controls[self.controls.len() - n - 1])
     }
 
     /// Opens a frame without instructions.
@@ -107,25 +116,16 @@ impl FrameStack {
         ensures err { IfErr result (λ e. e ≡ Fault.Memory) }
         ensures same { OnErr result (self.new ≡ self.old) }
     {
-        let alloc = *self.lent.allocator();
-        if self.lists.reserve(1).is_err() {
-            return Err(ParseError::Memory);
-        }
+        let start = self.instrs.len();
         let frame = ControlFrame {
             start_types,
             end_types,
             unreachable: false,
             block,
             kind,
-            start: 0,
+            start,
         };
-        match pushed(&mut self.controls, frame) {
-            Ok(()) => {
-                self.lists.push(Vec::new(alloc)).unwrap();
-                Ok(())
-            }
-            Err(error) => Err(error),
-        }
+        pushed(&mut self.controls, frame)
     }
 
     /// Closes the innermost frame.
@@ -137,8 +137,13 @@ impl FrameStack {
         let Some(frame) = self.controls.pop() else {
             return Err(ParseError::NoFrame);
         };
-        let list = self.lists.pop().unwrap();
-        Ok((frame, list))
+        match self.instrs.split_off(frame.start) {
+            Ok(tail) => Ok((frame, tail)),
+            Err(_) => {
+                self.controls.push(frame).unwrap();
+                Err(ParseError::Memory)
+            }
+        }
     }
 
     /// Closes the innermost frame and drops its instructions. It takes no memory.
@@ -146,8 +151,8 @@ impl FrameStack {
         requires { 0 < length self.old }
         ensures { (frame : OpenFrame) × (self.old ≡ frame ∷ self.new) }
     {
-        let _frame = self.controls.pop().unwrap();
-        let _list = self.lists.pop().unwrap();
+        let frame = self.controls.pop().unwrap();
+        self.instrs.truncate(frame.start);
     }
 
     /// What follows in the innermost frame is dropped.
@@ -156,7 +161,7 @@ impl FrameStack {
         ensures err { IfErr result (HasNoFrame self.old) }
         ensures same { OnErr result (self.new ≡ self.old) }
     {
-        match self.controls.len().checked_sub(1) {
+        match index_of(&self.controls, 0) {
             Some(index) => {
                 self.controls[index].unreachable = true;
                 Ok(())
@@ -174,14 +179,19 @@ impl FrameStack {
         ensures err { IfErr result (λ e. (e ≡ Fault.Memory) ⊎ HasNoFrameAt self.old n e) }
         ensures same { OnErr result (self.new ≡ self.old) }
     {
-        if n >= self.controls.len() {
+        let Some(index) = index_of(&self.controls, n) else {
             return Err(ParseError::NoSuchLabel);
-        }
-        let index = self.controls.len() - n - 1;
+        };
         if self.controls[index].unreachable {
             return Ok(());
         }
-        pushed(&mut self.lists[index], (instr, location))
+        match pushed(&mut self.instrs, (instr, location)) {
+            Ok(()) => {
+                move_starts(&mut self.controls, index + 1);
+                Ok(())
+            }
+            Err(error) => Err(error),
+        }
     }
 
     /// Adds a clause to the `try` that ends the frame around the innermost, or drops it where that
@@ -192,14 +202,18 @@ impl FrameStack {
             ⊎ (with_clause_around catch self.old ≡ Err e)) }
         ensures same { OnErr result (self.new ≡ self.old) }
     {
-        if self.controls.len() < 2 {
+        let Some(index) = index_of(&self.controls, 1) else {
             return Err(ParseError::NoSuchLabel);
-        }
-        let index = self.controls.len() - 2;
+        };
         if self.controls[index].unreachable {
             return Ok(());
         }
-        add_last_clause(&mut self.lists[index], catch)
+        let start = self.controls[index].start;
+        let end = self.controls[index + 1].start;
+        if start >= end {
+            return Err(ParseError::NoTry);
+        }
+        add_clause_in(&mut self.instrs[end - 1], catch)
     }
 
     /// The frames as they are shown, the innermost last, and a list without instructions.
@@ -207,7 +221,11 @@ impl FrameStack {
         ensures frames { AreShown (reverse result.0.items) self }
         ensures empty { result.1.items ≡ [] }
     {
-        let FrameStack { controls, lent, .. } = self;
-        (controls, lent)
+        let FrameStack {
+            controls,
+            mut instrs,
+        } = self;
+        instrs.clear();
+        (controls, instrs)
     }
 }
