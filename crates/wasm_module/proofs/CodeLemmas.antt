@@ -1,8 +1,7 @@
 -- The code section of a module that is rewritten, one body after the other.
-use Rattle.std.proofs.Common.{◌≡◌, ℕ, ◌+◌, ◌-◌, List, [], ◌∷◌, ◌++◌, length, Option, Some, Ok, refl, sym, ap, subst, ◌∙◌, append_assoc, arith}
+use Rattle.std.proofs.Common.{◌≡◌, ℕ, ◌+◌, List, [], ◌∷◌, ◌++◌, length, Option, Some, Ok, refl, sym, ap, subst, ◌∙◌, append_assoc, arith}
 use Rattle.std.proofs.Common.{slice_get, suc, length-append}
 use Rattle.std.proofs.lemmas.List.{append-nil}
-use Rattle.walrus_ir.specs.Types.{ModuleType}
 use Rattle.walrus_body.specs.declared.indices_to_ids.IndicesToIds.{IndicesToIds}
 use Rattle.wasm_ops.specs.Numbers.{u32}
 use Rattle.wasm_ops.specs.Shortest.{short_number}

@@ -1,5 +1,4 @@
 use Rattle.std.proofs.Common.{sym, subst}
-use Rattle.walrus_ir.specs.Types.{ModuleType}
 use Rattle.walrus_ir.specs.Types.ModuleType.{Func}
 use Rattle.wasm_module.specs.declared.parsed.ParsedModule.{ParsedModule}
 use Rattle.wasm_module.specs.RewrittenCode.{Extends}
