@@ -37,7 +37,10 @@ pub fn count_calls<'a>(
     parsed: &mut ParsedModule<'a>,
 ) -> Result<RewrittenModule<'a>, ModuleError> {
     let mut changes = Changes::new(alloc);
-    let global = parsed.add_global(&mut changes, &COUNTER)?;
+    let global = match parsed.add_global(&mut changes, &COUNTER) {
+        Ok(global) => global,
+        Err(error) => return Err(error),
+    };
     parsed.export_global(&mut changes, CALLS, global)?;
     parsed.change_all(&mut CountCalls(global), changes)
 }
