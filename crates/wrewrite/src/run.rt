@@ -1,6 +1,7 @@
 //! Running the program.
 
 use module_tools::{Target, read_file};
+use std::alloc::Global;
 use std::io;
 use std::io::{BufWriter, IsTerminal, Write};
 use std::time::Instant;
@@ -52,13 +53,13 @@ fn map_error(error: MapError) -> io::Error {
 }
 
 /// Writes the map of a module that was rewritten.
-fn write_map(
-    rt: &HostRuntime,
+fn write_map<W: Write>(
+    alloc: Global,
     parsed: &mut ParsedModule<'_>,
     rewritten: &RewrittenModule<'_>,
-    target: &mut Target<'_, HostRuntime>,
+    target: &mut W,
 ) -> io::Result<()> {
-    let mut out = BufWriter::new(rt.alloc(), target)?;
+    let mut out = BufWriter::new(alloc, target)?;
     match parsed.write_map(&rewritten.changes, &mut out) {
         Ok(()) => out.flush(),
         Err(error) => Err(map_error(error)),
@@ -82,7 +83,7 @@ fn write_all(
         Ok(map_target) => map_target,
         Err(error) => return target.close(Err(error)),
     };
-    let mapped = write_map(rt, parsed, rewritten, &mut map_target);
+    let mapped = write_map(rt.alloc(), parsed, rewritten, &mut map_target);
     let written = match mapped {
         Ok(()) => parsed.write_module(&rewritten.changes, &mut target),
         Err(error) => Err(error),
