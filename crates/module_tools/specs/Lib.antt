@@ -1,0 +1,2 @@
+-- what the tools change of a sequence
+pub mod Sequences

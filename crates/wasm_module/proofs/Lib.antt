@@ -1,0 +1,3 @@
+-- a body that is rewritten, and the code section, body by body
+pub mod BodyLemmas
+pub mod CodeLemmas
