@@ -1,2 +1,0 @@
--- what the tools change of a sequence
-pub mod Sequences
