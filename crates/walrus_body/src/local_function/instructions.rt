@@ -116,7 +116,8 @@ macro_rules! with_ids {
     };
 }
 
-pub(crate) use {id, with_ids};
+pub(crate) use id;
+pub(crate) use with_ids;
 
 /// The instruction of an operator: the rows, and those of the other operators.
 macro_rules! instruction_row {

@@ -110,7 +110,8 @@ macro_rules! with_indices {
     };
 }
 
-pub(crate) use {index, with_indices};
+pub(crate) use index;
+pub(crate) use with_indices;
 
 /// The operator of an instruction: the rows, and those of the other instructions.
 macro_rules! operator_row {
