@@ -17,6 +17,8 @@ mod emit;
 #[cfg(test)]
 mod emitting;
 #[cfg(test)]
+mod every_operator;
+#[cfg(test)]
 mod exceptions;
 #[cfg(test)]
 mod facts;
@@ -48,11 +50,15 @@ mod rewriting;
 #[cfg(test)]
 mod small_module;
 #[cfg(test)]
+mod tools;
+#[cfg(test)]
 mod unchanged;
 mod validators;
 #[cfg(test)]
 mod walk;
 #[cfg(test)]
 mod whole_bodies;
+#[cfg(test)]
+mod whole_modules;
 #[cfg(test)]
 mod writing;

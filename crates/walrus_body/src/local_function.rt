@@ -32,6 +32,7 @@ mod instructions;
 mod legacy_try;
 mod local_numbers;
 mod locating;
+mod lookups;
 mod next;
 mod parse;
 mod references;

@@ -28,4 +28,4 @@ pub use rewriting::rewrite_demo;
 pub use walrus_body::{
     law_accepted_again, law_executions, law_inverse_undoes, law_locations, law_read_back,
 };
-pub use whole_body::rewrite_body;
+pub use whole_body::{append_raw_body, append_raw_body_with_map, rewrite_body};

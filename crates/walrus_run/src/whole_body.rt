@@ -46,7 +46,7 @@ pub(crate) fn append_both(
 ///
 /// `Walk` where facts about the function can't be gathered, and then `Emit` where it can't be
 /// written. `dst` is then as before.
-fn append_raw_body(
+pub fn append_raw_body(
     function: &LocalFunction,
     module: &Module,
     indices: &IdsToIndices,
@@ -81,7 +81,7 @@ fn append_raw_body(
 /// # Errors
 ///
 /// Those of `append_raw_body`. `dst` and `map` are then as before.
-fn append_raw_body_with_map(
+pub fn append_raw_body_with_map(
     function: &LocalFunction,
     module: &Module,
     indices: &IdsToIndices,

@@ -1,4 +1,4 @@
-//! Operators of WebAssembly as they are written: each by its shortest spelling.
+//! Operators of WebAssembly as they are written, each by its shortest spelling; and numbers.
 #![tactic(auto)]
 
 mod encoder;
@@ -11,5 +11,6 @@ mod type_writer;
 
 pub use encoder::FunctionEncoder;
 pub use law::law_written;
+pub use number::write_number;
 pub use operation::write_op;
 pub use out_operator::{OutClauses, OutOp, OutTable};

@@ -32,10 +32,14 @@ fn write_unsigned(out: &mut Vec<u8>, more: u32, n: u64) -> Result<(), AllocError
     write_unsigned(out, more - 1, n / 128)
 }
 
-/// Appends the shortest spelling of an unsigned number.
+/// Appends the shortest spelling of an unsigned number in LEB128.
+///
+/// # Errors
+///
+/// `AllocError` for want of memory. What was there before stays in front.
 #[inline(always)]
 #[tactic(auto, unfolding(wasm_ops::specs::Shortest::short_unsigned))]
-pub(crate) fn write_number(out: &mut Vec<u8>, n: u64) -> Result<(), AllocError>
+pub fn write_number(out: &mut Vec<u8>, n: u64) -> Result<(), AllocError>
     ensures ok { OnOk result (out.new.items ≡ out.old.items ++ short_number n) }
     ensures kept { take (length out.old.items) out.new.items ≡ out.old.items }
 {

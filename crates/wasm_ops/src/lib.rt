@@ -1,4 +1,5 @@
-//! Operators of WebAssembly as they are spelt, and how they are read.
+//! Operators of WebAssembly as they are spelt, and how they are read; with the numbers and the types
+//! that other parts of a module spell too.
 #![tactic(auto)]
 
 mod access_reader;
@@ -40,11 +41,13 @@ pub use law::{
     law_one_list, law_one_spelling, law_operator_equality, law_reading, law_shortest,
     law_shortest_number,
 };
+pub use number::{read_u32, read_u64};
 pub use operator::{Op, Operator};
 pub use reader::Reader;
 pub use reference_operator::ReferenceOp;
 pub use reference_rows::{reference_immediates, reference_opcode};
 pub use ternary_rows::ternary_opcode;
+pub use type_reader::read_value_type;
 pub use types::{
     AtomicKind, BlockType, Opcode, RawCast, RawCatch, RawHeapType, RawMemArg, RawValType, Space,
 };

@@ -132,10 +132,14 @@ fn read_u32_of_any_length(bytes: &[u8]) -> Result<(u32, &[u8]), ReadFault>
     Ok((value as u32, rest))
 }
 
-/// A `u32` at the front, and what follows it. Most are of one byte.
+/// A `u32` at the front, and what follows it. Most are of one byte. It takes no memory.
+///
+/// # Errors
+///
+/// `BadNumber` where it is too long or too great; else `Truncated` where the bytes end inside it.
 #[inline(always)]
 #[tactic(auto, using(crate::proofs::Powers::powers), unfolding(crate::specs::Numbers::integer))]
-pub(crate) fn read_u32(bytes: &[u8]) -> Result<(u32, &[u8]), ReadFault>
+pub fn read_u32(bytes: &[u8]) -> Result<(u32, &[u8]), ReadFault>
     ensures { Gives (λ x. (x.0, x.1.now)) result (a_u32 bytes.now) }
 {
     if let [byte, rest @ ..] = bytes {
@@ -154,10 +158,14 @@ fn read_u64_of_any_length(bytes: &[u8]) -> Result<(u64, &[u8]), ReadFault>
     read_unsigned(64, bytes)
 }
 
-/// A `u64` at the front, and what follows it. Most are of one byte.
+/// A `u64` at the front, and what follows it. Most are of one byte. It takes no memory.
+///
+/// # Errors
+///
+/// Those of `read_u32`.
 #[inline(always)]
 #[tactic(auto, using(crate::proofs::Powers::powers), unfolding(crate::specs::Numbers::integer))]
-pub(crate) fn read_u64(bytes: &[u8]) -> Result<(u64, &[u8]), ReadFault>
+pub fn read_u64(bytes: &[u8]) -> Result<(u64, &[u8]), ReadFault>
     ensures { Gives (λ x. (x.0, x.1.now)) result (a_u64 bytes.now) }
 {
     if let [byte, rest @ ..] = bytes {

@@ -100,8 +100,13 @@ pub(crate) fn read_heap_type(bytes: &[u8]) -> Result<(RawHeapType, &[u8]), ReadF
     }
 }
 
-/// A value type at the front, and what follows it.
-pub(crate) fn read_value_type(bytes: &[u8]) -> Result<(RawValType, &[u8]), ReadFault>
+/// A value type at the front, and what follows it. It takes no memory.
+///
+/// # Errors
+///
+/// `Truncated`; `BadType` where no value type begins with the byte at the front, or the type index
+/// behind it is negative; `BadNumber` where that is too long or too great.
+pub fn read_value_type(bytes: &[u8]) -> Result<(RawValType, &[u8]), ReadFault>
     ensures { Gives (λ x. (x.0, x.1.now)) result (value_type bytes.now) }
 {
     match bytes {

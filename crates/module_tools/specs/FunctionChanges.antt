@@ -1,0 +1,21 @@
+-- What the tools make of functions.
+use Rattle.std.specs.Prelude.{◌≡◌, ◌==◌, ℕ, if◌then◌else◌, slice_get, Some}
+use Rattle.std.specs.HashSet.{HashSet, contains}
+use Rattle.walrus_ir.specs.declared.seq.InstrSeq.{InstrSeq}
+use Rattle.walrus_body.specs.FunctionParts.{FunctionParts}
+use Rattle.walrus_body.specs.LocalFunctions.{HasEntry, first_slot}
+use Rattle.module_tools.specs.Sequences.{counted, trapping, with_first}
+
+-- The function's first sequence is another, and all else is as it was.
+abbrev pub ChangesFirst : (change : InstrSeq → InstrSeq) → (old new : FunctionParts) → Type 0
+ChangesFirst change old new =
+    (was : InstrSeq) → slice_get old.builder.sequences (first_slot old.builder) ≡ Some was → new ≡ record old { builder = with_first old.builder (change was) }
+
+-- each function adds 1 to the global before all else
+abbrev pub Counts : (global function : ℕ) → (old new : FunctionParts) → Type 0
+Counts global function old new = HasEntry old.builder → ChangesFirst (counted global) old new
+
+-- those of these functions only trap, and the others are as they were
+abbrev pub Snips : (functions : HashSet ℕ) → (function : ℕ) → (old new : FunctionParts) → Type 0
+Snips functions function old new =
+    if contains (λ x y. x == y) functions function then (HasEntry old.builder → ChangesFirst trapping old new) else (new ≡ old)

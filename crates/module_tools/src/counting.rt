@@ -1,0 +1,50 @@
+//! Functions that count their calls.
+
+use crate::edits::count_call;
+use std::alloc::Global;
+use walrus_body::LocalFunction;
+use walrus_ir::GlobalId;
+use wasm_module::{ChangeFunction, Changes, Changing, ModuleError, ParsedModule, RewrittenModule};
+
+/// The name under which the number of calls is exported.
+pub const CALLS: &str = "calls";
+
+/// A mutable i64 that is 0 at first: its type, and `i64.const 0` with its `end`.
+const COUNTER: [u8; 5] = [0x7e, 0x01, 0x42, 0x00, 0x0b];
+
+/// Lets each function count its calls in a global.
+#[derive(Clone, Copy, Drop)]
+pub struct CountCalls(GlobalId);
+
+impl ChangeFunction for CountCalls {
+    ghost use Rattle.module_tools.specs.FunctionChanges.{Counts};
+
+    ghost changes = { λ self. Counts self.0 };
+
+    fn change(&self, _index: usize, function: &mut LocalFunction) -> Result<(), ModuleError> {
+        if function.has_entry() {
+            count_call(function, self.0)?;
+        }
+        Ok(())
+    }
+}
+
+/// Adds a global, exported as `calls`, and to each function that has a body its increment by 1,
+/// before all else that the function does.
+///
+/// # Errors
+///
+/// `ExportTaken` where the module exports something else under this name; else the first fault of a
+/// body, with its place; or `Memory`.
+pub fn count_calls<'a>(
+    alloc: Global,
+    parsed: &mut ParsedModule<'a>,
+) -> Result<RewrittenModule<'a, Changing<CountCalls>>, ModuleError> {
+    let mut changes = Changes::new(alloc);
+    let global = match parsed.add_global(&mut changes, &COUNTER) {
+        Ok(global) => global,
+        Err(error) => return Err(error),
+    };
+    parsed.export_global(&mut changes, CALLS, global)?;
+    parsed.change_all(CountCalls(global), changes)
+}

@@ -1,0 +1,41 @@
+//! What tools change of a function: the sequence that it begins with.
+ghost use Rattle.std.specs.Prelude.{OnOk};
+ghost use Rattle.walrus_body.specs.LocalFunctions.{HasEntry};
+ghost use Rattle.module_tools.specs.Sequences.{counted, trapping};
+ghost use Rattle.module_tools.specs.FunctionChanges.{ChangesFirst};
+
+use std::alloc::AllocError;
+use walrus_body::LocalFunction;
+use walrus_ir::{BinaryOp, Binop, Const, GlobalGet, GlobalId, GlobalSet, Instr, InstrLocId, Value};
+
+/// Lets a function add 1 to a global of type i64, before all else that it does.
+pub(crate) fn count_call(function: &mut LocalFunction, global: GlobalId) -> Result<(), AllocError>
+    requires { HasEntry function.old.builder }
+    ensures { OnOk result (ChangesFirst (counted global) function.old function.new) }
+{
+    let entry = function.entry_block();
+    let nowhere = InstrLocId::default();
+    let value = Value::I64(1);
+    let op = BinaryOp::I64Add;
+    let instrs = &mut function.block_mut(entry).instrs;
+    instrs.insert(0, (Instr::GlobalSet(GlobalSet { global }), nowhere))?;
+    instrs.insert(0, (Instr::Binop(Binop { op }), nowhere))?;
+    instrs.insert(0, (Instr::Const(Const { value }), nowhere))?;
+    instrs.insert(0, (Instr::GlobalGet(GlobalGet { global }), nowhere))?;
+    Ok(())
+}
+
+/// Lets a function only trap.
+pub(crate) fn trap(function: &mut LocalFunction) -> Result<(), AllocError>
+    requires { HasEntry function.old.builder }
+    ensures { OnOk result (ChangesFirst trapping function.old function.new) }
+{
+    let entry = function.entry_block();
+    let block = function.block_mut(entry);
+    block.instrs.clear();
+    block.end = InstrLocId::default();
+    block
+        .instrs
+        .push((Instr::Unreachable, InstrLocId::default()))?;
+    Ok(())
+}

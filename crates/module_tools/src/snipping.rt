@@ -1,0 +1,51 @@
+//! Functions whose bodies are taken away.
+
+ghost use Rattle.std.specs.Prelude.{◌≡◌, ◌==◌, ℕ, [], IfOk};
+ghost use Rattle.std.specs.HashSet.{contains};
+ghost use Rattle.walrus_ir.specs.Unfolding.{among};
+ghost use Rattle.wasm_module.specs.WrittenModules.{given_in};
+
+use crate::edits::trap;
+use std::alloc::Global;
+use walrus_body::LocalFunction;
+use walrus_ir::{FunctionId, IdHashSet};
+use wasm_module::{ChangeFunction, Changes, Changing, ModuleError, ParsedModule, RewrittenModule};
+
+/// Takes away the bodies of these functions.
+#[derive(Drop)]
+pub struct Snipping(IdHashSet<FunctionId>);
+
+impl ChangeFunction for Snipping {
+    ghost use Rattle.module_tools.specs.FunctionChanges.{Snips};
+
+    ghost changes = { λ self. Snips self.0 };
+
+    fn change(&self, index: usize, function: &mut LocalFunction) -> Result<(), ModuleError> {
+        if self.0.contains(&FunctionId::new(index)) && function.has_entry() {
+            trap(function)?;
+        }
+        Ok(())
+    }
+}
+
+/// Puts `unreachable` in the place of the bodies of the functions with these indices, which count
+/// behind imported ones. Those that have no body are passed over; all other bodies are rewritten.
+///
+/// # Errors
+///
+/// The first fault of a body, with its place, or `Memory`.
+pub fn snip<'a>(
+    alloc: Global,
+    parsed: &mut ParsedModule<'a>,
+    indices: &[usize],
+) -> Result<RewrittenModule<'a, Changing<Snipping>>, ModuleError>
+    ensures none_given { IfOk result (λ made. given_in made ≡ []) }
+    ensures snips { IfOk result (λ made. (function : ℕ)
+        → contains (λ x y. x == y) made.bodies.0.0 function ≡ among function indices.now) }
+{
+    let mut functions = IdHashSet::new(alloc);
+    'indices: for index in indices {
+        functions.insert(FunctionId::new(*index))?;
+    }
+    parsed.change_all(Snipping(functions), Changes::new(alloc))
+}

@@ -1,0 +1,127 @@
+-- The code section that is written, one body after the other.
+use Rattle.std.proofs.Common.{◌≡◌, ℕ, ◌+◌, ◌-◌, List, [], ◌∷◌, ◌++◌, length, Option, Some, None, Ok, refl, sym, ap, subst, ◌∙◌, append_assoc, length-append, suc, arith}
+use Rattle.std.proofs.lemmas.List.{append-nil}
+use Rattle.wasm_ops.specs.Numbers.{u32}
+use Rattle.wasm_ops.specs.Shortest.{short_number}
+use Rattle.wasm_module.specs.declared.code.Bodies.{Bodies}
+use Rattle.wasm_module.specs.declared.code.Body.{Body}
+use Rattle.wasm_module.specs.declared.parsed.ParsedModule.{ParsedModule}
+use Rattle.wasm_module.specs.CodeSections.{entry, entries, code_section, BodyAt, AreBodies, IsCode, body_at, bytes_of, place_of, TakesBody}
+use Rattle.wasm_module.specs.RewrittenCode.{Extends}
+use Rattle.wasm_module.specs.Sections.{SectionAt}
+use Rattle.wasm_module.specs.WrittenModules.{Puts, Writes, AreWritten, IsWrittenCode, count_bodies}
+use Rattle.wasm_module.proofs.WritingLemmas.{puts_then, puts_same}
+
+-- ---- one more behind others
+
+entries_more : (raws : List (List ℕ)) (raw : List ℕ) → entries (raws ++ raw ∷ []) ≡ entries raws ++ entry raw
+entries_more [] raw = append-nil (entry raw)
+entries_more (r ∷ raws) raw = ap (λ (x : List ℕ). entry r ++ x) (entries_more raws raw) ∙ sym (append_assoc (entry r) (entries raws) (entry raw))
+
+-- these bodies stand in front of what is left
+abbrev pub StandBefore : (end : ℕ) → (text : List ℕ) → List BodyAt → (left : List ℕ) → Type 0
+StandBefore end text [] left = text ≡ left
+StandBefore end text (b ∷ bs) left =
+    (behind : List ℕ) × (u32 text ≡ Ok (length b.bytes, b.bytes ++ behind)) × (b.start ≡ end - length (b.bytes ++ behind))
+    × StandBefore end behind bs left
+
+stand_more :
+    (end : ℕ) (text : List ℕ) (bs : List BodyAt) (left : List ℕ) (b : BodyAt) (behind : List ℕ) → StandBefore end text bs left →
+    u32 left ≡ Ok (length b.bytes, b.bytes ++ behind) → b.start ≡ end - length (b.bytes ++ behind) → StandBefore end text (bs ++ b ∷ []) behind
+stand_more end text [] left b behind h e p = (behind, ap u32 h ∙ e, p, refl)
+stand_more end text (a ∷ bs) left b behind h e p = (h.0, h.1, h.2, stand_more end h.0 bs left b behind h.3 e p)
+
+stand_alone : (end : ℕ) (text : List ℕ) (bs : List BodyAt) (left : List ℕ) → StandBefore end text bs left → left ≡ [] → AreBodies end text bs
+stand_alone end text [] left h e = h ∙ e
+stand_alone end text (b ∷ bs) left h e = (h.0, h.1, h.2, stand_alone end h.0 bs left h.3 e)
+
+-- as many functions of the source have a body
+same_bodies : (source now : ParsedModule) → Extends source now → count_bodies now ≡ count_bodies source
+same_bodies source now x = ap (λ ts. length ts.items - now.imported) x.func_types ∙ ap (λ (n : ℕ). length source.func_types.items - n) x.imported
+
+module _ (writes : Writes) (source : ParsedModule) where
+  written_more :
+      (f : ℕ) (bs : List BodyAt) (raws : List (List ℕ)) (b : BodyAt) (raw : List ℕ) → AreWritten writes source f bs raws →
+      (n : ℕ) → n ≡ f + length bs → writes source n b raw → AreWritten writes source f (bs ++ b ∷ []) (raws ++ raw ∷ [])
+  written_more f [] [] b raw h n e r = let same : n ≡ f = omega arith in (subst (λ (k : ℕ). writes source k b raw) same r, tt)
+  written_more f [] (w ∷ raws) b raw h n e r = absurd h
+  written_more f (a ∷ bs) [] b raw h n e r = absurd h
+  written_more f (a ∷ bs) (w ∷ raws) b raw h n e r =
+      let next : n ≡ f + 1 + length bs = omega arith in
+      (h.0, written_more (f + 1) bs raws b raw h.1 n next r)
+
+  same_count : (f : ℕ) (bs : List BodyAt) (raws : List (List ℕ)) → AreWritten writes source f bs raws → length bs ≡ length raws
+  same_count f [] [] h = refl
+  same_count f [] (w ∷ raws) h = absurd h
+  same_count f (a ∷ bs) [] h = absurd h
+  same_count f (a ∷ bs) (w ∷ raws) h = ap (λ (n : ℕ). suc n) (same_count (f + 1) bs raws h.1)
+
+  -- ---- so many bodies are written
+
+  -- Of the text behind the number of bodies, which ends at this place, so many bodies are written behind the number.
+  pub record CodeSoFar (stop : ℕ) (text : List ℕ) (left : Bodies) (counter count : ℕ) (old now : Option (List ℕ)) (at end : ℕ) : Type 0 where
+    pub bodies : List BodyAt
+    pub stand_before : StandBefore stop text bodies left.left.rest.now
+    pub stop_is : left.left.end ≡ stop
+    pub next_is : left.next ≡ source.imported + length bodies
+    pub count_is : length bodies ≡ counter
+    pub raws : List (List ℕ)
+    pub are_written : AreWritten writes source source.imported bodies raws
+    pub puts : Puts old now at end (short_number count ++ entries raws)
+
+  pub no_bodies :
+      (now : ParsedModule) (left : Bodies) (count : ℕ) (old new : Option (List ℕ)) (at end stop : ℕ) (text : List ℕ) → Extends source now → left.left.rest.now ≡ text →
+      left.left.end ≡ stop → left.next ≡ now.imported → Puts old new at end (short_number count) → CodeSoFar stop text left 0 count old new at end
+  no_bodies now left count old new at end stop text x t e n p = record {
+    bodies = [];
+    stand_before = sym t;
+    stop_is = e;
+    next_is = let same = x.imported in omega arith;
+    count_is = refl;
+    raws = [];
+    are_written = tt;
+    puts = puts_same old new at end (short_number count) (short_number count ++ []) (sym (append-nil (short_number count))) p;
+  }
+
+  pub one_more_body :
+      (stop : ℕ) (text : List ℕ) (s t : Bodies) (r : Option Body) (b : Body) (counter count : ℕ) (old now later : Option (List ℕ)) (at middle end : ℕ) (raw : List ℕ) →
+      CodeSoFar stop text s counter count old now at middle → r ≡ Some b → TakesBody s r t → writes source b.func (body_at b) raw → Puts now later middle end (entry raw) →
+      CodeSoFar stop text t (counter + 1) count old later at end
+  one_more_body stop text s t r b counter count old now later at middle end raw p i takes w q =
+      let taken : TakesBody s (Some b) t = subst (λ (o : Option Body). TakesBody s o t) i takes in
+      let behind = t.left.rest.now in
+      let start : place_of b ≡ stop - length (bytes_of b ++ behind) =
+      let e = taken.3 in let f = p.stop_is in let len = length-append (bytes_of b) behind in let n = length (bytes_of b) in let m = length behind in omega arith in
+      record {
+        bodies = p.bodies ++ body_at b ∷ [];
+        stand_before = stand_more stop text p.bodies s.left.rest.now (body_at b) behind p.stand_before taken.4 start;
+        stop_is = taken.2 ∙ p.stop_is;
+        next_is = let len = length-append p.bodies (body_at b ∷ []) in let n = p.next_is in let k = taken.1 in omega arith;
+        count_is = let len = length-append p.bodies (body_at b ∷ []) in let n = p.count_is in omega arith;
+        raws = p.raws ++ raw ∷ [];
+        are_written = written_more source.imported p.bodies p.raws (body_at b) raw p.are_written b.func (taken.0 ∙ p.next_is) w;
+        puts = puts_same old later at end ((short_number count ++ entries p.raws) ++ entry raw) (short_number count ++ entries (p.raws ++ raw ∷ []))
+        (append_assoc (short_number count) (entries p.raws) (entry raw) ∙ ap (λ (l : List ℕ). short_number count ++ l) (sym (entries_more p.raws raw)))
+        (puts_then old now later at middle end (short_number count ++ entries p.raws) (entry raw) p.puts q);
+      }
+
+  pub all_bodies :
+      (now : ParsedModule) (s : SectionAt) (text : List ℕ) (left : Bodies) (count : ℕ) (old new : Option (List ℕ)) (at end : ℕ) → Extends source now → u32 s.contents ≡ Ok (count, text) →
+      count ≡ count_bodies now → CodeSoFar s.end text left count count old new at end → left.left.rest.now ≡ [] →
+      (code : List ℕ) × IsWrittenCode writes source s code × Puts old new at end code
+  all_bodies now s text left count old new at end x e n p done =
+      let all : length p.bodies ≡ count = p.count_is in
+      let code_is : short_number count ++ entries p.raws ≡ code_section p.raws =
+      ap (λ (n : ℕ). short_number n ++ entries p.raws) (sym all ∙ same_count source.imported p.bodies p.raws p.are_written) in
+      (
+      short_number count ++ entries p.raws,
+      record {
+        bodies = p.bodies;
+        are_bodies = (text, e ∙ ap (λ (n : ℕ). Ok (n, text)) (sym all), stand_alone s.end text p.bodies left.left.rest.now p.stand_before done);
+        are_all = all ∙ n ∙ same_bodies source now x;
+        raws = p.raws;
+        are_written = p.are_written;
+        code_is = code_is;
+      },
+      p.puts,
+    )

@@ -1,0 +1,12 @@
+-- numbers, and declarations of locals
+pub mod NumberLemmas
+pub mod Leaving
+pub mod LocalLemmas
+pub mod SpaceLemmas
+-- what is kept of a module
+pub mod ModuleLemmas
+pub mod RewritingLemmas
+-- what is written
+pub mod WritingLemmas
+pub mod CodeLemmas
+pub mod SectionLemmas

@@ -1,0 +1,120 @@
+-- Declarations of locals, group by group.
+use Rattle.std.proofs.Common.{◌≡◌, ℕ, zero, suc, ◌+◌, add-one, List, [], ◌∷◌, ◌++◌, length, replicate, Result, Ok, Err, OnOk, take, drop, ◌-◌, subst, refl, sym, ap, ◌∙◌, append_assoc}
+use Rattle.std.proofs.lemmas.List.{append-nil}
+use Rattle.walrus_ir.specs.Results.{◌>>=◌, each}
+use Rattle.walrus_ir.specs.declared.val_type.ValType.{ValType}
+use Rattle.walrus_ir.proofs.ResultLemmas.{bind_ok, ok_same}
+use Rattle.wasm_ops.specs.Numbers.{u32}
+use Rattle.wasm_ops.specs.Types.{value_type}
+use Rattle.wasm_body.specs.Translation.{translate_value}
+use Rattle.walrus_body.specs.Parsing.Placing.{ids_at}
+use Rattle.wasm_ops.specs.Reading.{Reader, many}
+use Rattle.wasm_ops.proofs.Agreement.{ok_is}
+use Rattle.walrus_body.specs.declared.indices_to_ids.IndicesToIds.{IndicesToIds}
+use Rattle.wasm_module.proofs.Leaving.{groups_leave, dropped}
+use Rattle.wasm_module.specs.Declarations.{group, groups, named_group, expanded, HaveLocals, DeclaresGroup}
+
+-- ---- one more behind others
+
+-- the next step of one that did not fail
+bind_is : {A B E : Type 0} (r : Result A E) (f : A → Result B E) (x : A) (y : Result B E) → r ≡ Ok x → f x ≡ y → (r >>= f) ≡ y
+bind_is r f x y e h = ap (λ q. q >>= f) e ∙ h
+
+many_more :
+    {A : Type 0} (one : Reader A) (n : ℕ) (bytes : List ℕ) (xs : List A) (behind : List ℕ) (x : A) (rest : List ℕ) → many one n bytes ≡ Ok (xs, behind) →
+    one behind ≡ Ok (x, rest) → many one (suc n) bytes ≡ Ok (xs ++ x ∷ [], rest)
+unfolding many
+many_more {A} one zero bytes xs behind x rest h e =
+    let both = ok_is ([], bytes) (xs, behind) h in
+    let here : one bytes ≡ Ok (x, rest) = ap (λ (p : List A × List ℕ). one p.1) both ∙ e in
+    bind_is (one bytes) (λ first. many one zero first.1 >>= λ others. Ok (first.0 ∷ others.0, others.1)) (x, rest) (Ok (xs ++ x ∷ [], rest)) here
+    (ap (λ (p : List A × List ℕ). Ok (p.0 ++ x ∷ [], rest)) both)
+many_more {A} one (suc n) bytes xs behind x rest h e =
+    let a = bind_ok (one bytes) (λ first. many one n first.1 >>= λ others. Ok (first.0 ∷ others.0, others.1)) (xs, behind) h in
+    let b = bind_ok (many one n a.0.1) (λ others. Ok (a.0.0 ∷ others.0, others.1)) (xs, behind) a.2 in
+    let both = ok_is (a.0.0 ∷ b.0.0, b.0.1) (xs, behind) b.2 in
+    let here : many one n a.0.1 ≡ Ok (b.0.0, behind) = b.1 ∙ ap (λ (p : List A × List ℕ). Ok (b.0.0, p.1)) both in
+    let more = many_more one n a.0.1 b.0.0 behind x rest here e in
+    bind_is (one bytes) (λ first. many one (suc n) first.1 >>= λ others. Ok (first.0 ∷ others.0, others.1)) a.0 (Ok (xs ++ x ∷ [], rest)) a.1
+    (bind_is (many one (suc n) a.0.1) (λ others. Ok (a.0.0 ∷ others.0, others.1)) (b.0.0 ++ x ∷ [], rest) (Ok (xs ++ x ∷ [], rest)) more
+    (ap (λ (p : List A × List ℕ). Ok (p.0 ++ x ∷ [], rest)) both))
+
+each_more : {A B E : Type 0} (f : A → Result B E) (xs : List A) (ys : List B) (x : A) (y : B) → each f xs ≡ Ok ys → f x ≡ Ok y → each f (xs ++ x ∷ []) ≡ Ok (ys ++ y ∷ [])
+each_more {A} {B} f [] ys x y h e = bind_is (f x) (λ w. Ok (w ∷ [])) y (Ok (ys ++ y ∷ [])) e (ap (λ (l : List B). Ok (l ++ y ∷ [])) (ok_same [] ys h))
+each_more {A} {B} f (z ∷ zs) ys x y h e =
+    let a = bind_ok (f z) (λ w. each f zs >>= λ ws. Ok (w ∷ ws)) ys h in
+    let b = bind_ok (each f zs) (λ ws. Ok (a.0 ∷ ws)) ys a.2 in
+    let more = each_more f zs b.0 x y b.1 e in
+    bind_is (f z) (λ w. each f (zs ++ x ∷ []) >>= λ ws. Ok (w ∷ ws)) a.0 (Ok (ys ++ y ∷ [])) a.1
+    (bind_is (each f (zs ++ x ∷ [])) (λ ws. Ok (a.0 ∷ ws)) (b.0 ++ y ∷ []) (Ok (ys ++ y ∷ [])) more
+    (ap (λ (l : List B). Ok (l ++ y ∷ [])) (ok_same (a.0 ∷ b.0) ys b.2)))
+
+expanded_more : (gs : List (ℕ × ValType ℕ)) (g : ℕ × ValType ℕ) → expanded (gs ++ g ∷ []) ≡ expanded gs ++ replicate g.0 g.1
+expanded_more [] g = append-nil (replicate g.0 g.1)
+expanded_more (h ∷ gs) g = ap (λ (l : List (ValType ℕ)). replicate h.0 h.1 ++ l) (expanded_more gs g) ∙ sym (append_assoc (replicate h.0 h.1) (expanded gs) (replicate g.0 g.1))
+
+-- ---- so many groups, which stand in front of these bytes, and the locals with those that they declare
+
+pub record DeclareSoFar (indices : IndicesToIds) (n : ℕ) (text now : List ℕ) (before types : List (ValType ℕ)) : Type 0 where
+  pub declared : List (ℕ × ValType ℕ)
+  pub are_read : many group n text ≡ Ok (declared, now)
+  pub named : List (ℕ × ValType ℕ)
+  pub are_named : each (named_group indices) declared ≡ Ok named
+  pub types_are : types ≡ before ++ expanded named
+
+pub none_declared : (indices : IndicesToIds) (text : List ℕ) (before types : List (ValType ℕ)) → types ≡ before → DeclareSoFar indices 0 text text before types
+unfolding many
+none_declared indices text before types e = record { declared = []; are_read = refl; named = []; are_named = refl; types_are = e ∙ sym (append-nil before) }
+
+pub one_more_declared :
+    (indices : IndicesToIds) (n : ℕ) (text now behind : List ℕ) (before types more : List (ValType ℕ)) → DeclareSoFar indices n text now before types →
+    DeclaresGroup indices now behind types more → DeclareSoFar indices (n + 1) text behind before more
+one_more_declared indices n text now behind before types more p g = record {
+  declared = p.declared ++ g.declared ∷ [];
+  are_read = rw add-one (many_more group n text p.declared now g.declared behind p.are_read g.is_read);
+  named = p.named ++ g.named ∷ [];
+  are_named = each_more (named_group indices) p.declared p.named g.declared g.named p.are_named g.is_named;
+  types_are =
+      g.new_are ∙ ap (λ (l : List (ValType ℕ)). l ++ replicate g.named.0 g.named.1) p.types_are
+      ∙ append_assoc before (expanded p.named) (replicate g.named.0 g.named.1)
+      ∙ ap (λ (l : List (ValType ℕ)). before ++ l) (sym (expanded_more p.named g.named));
+}
+
+pub all_declared :
+    (indices : IndicesToIds) (n : ℕ) (bytes text now : List ℕ) (before types : List (ValType ℕ)) → u32 bytes ≡ Ok (n, text) →
+    DeclareSoFar indices n text now before types → HaveLocals indices before bytes now types
+all_declared indices n bytes text now before types e p = record {
+  declared = p.declared;
+  are_read = rw e p.are_read;
+  named = p.named;
+  are_named = p.are_named;
+  locals_are = p.types_are;
+}
+
+-- ---- one group
+
+pub reads_group :
+    (bytes typed behind : List ℕ) (count : ℕ) (type : ValType ℕ) → u32 bytes ≡ Ok (count, typed) → value_type typed ≡ Ok (type, behind) →
+    group bytes ≡ Ok ((count, type), behind)
+reads_group bytes typed behind count type e t =
+    bind_is (u32 bytes) (λ x. value_type x.1 >>= λ y. Ok ((x.0, y.0), y.1)) (count, typed) (Ok ((count, type), behind)) e
+    (bind_is (value_type typed) (λ y. Ok ((count, y.0), y.1)) (type, behind) (Ok ((count, type), behind)) t refl)
+
+pub names_group :
+    (indices : IndicesToIds) (count : ℕ) (type named : ValType ℕ) → translate_value (ids_at indices) type ≡ Ok named →
+    named_group indices (count, type) ≡ Ok (count, named)
+names_group indices count type named e = bind_is (translate_value (ids_at indices) type) (λ t. Ok (count, t)) named (Ok (count, named)) e refl
+
+pub on_ok_so : {A E P Q : Type 0} (r : Result A E) → OnOk r P → (P → Q) → OnOk r Q
+on_ok_so (Ok x) p f = f p
+on_ok_so (Err e) p f = tt
+
+-- ---- the operators are what the declarations leave
+
+pub operators_left :
+    (indices : IndicesToIds) (parameters given : List (ValType ℕ)) (all rest before bytes : List ℕ) (locals : List (ValType ℕ)) → given ≡ parameters →
+    HaveLocals indices given all rest locals → before ≡ take (length all - length rest) all → bytes ≡ all → HaveLocals indices parameters all (drop (length before) bytes) locals
+operators_left indices parameters given all rest before bytes locals e have b s =
+    let front = groups_leave all have.declared rest have.are_read in
+    let operators : rest ≡ drop (length before) bytes = sym (rw (b, s) (dropped all front.0 rest front.1)) in
+    subst (λ (left : List ℕ). HaveLocals indices parameters all left locals) operators (subst (λ (ps : List (ValType ℕ)). HaveLocals indices ps all rest locals) e have)

@@ -1,0 +1,148 @@
+-- Sections that are given contents, and the places of new ones.
+use Rattle.std.proofs.Common.{◌≡◌, ◌≢◌, ◌≤◌, ◌<◌, ℕ, suc, Bool, true, false, List, [], ◌∷◌, ◌++◌, length, drop, get_or, nat_lt, ◌==◌, if◌then◌else◌, Option, Some, None, Result, Ok, Err, refl, sym, ap, subst, ◌∙◌, append_assoc}
+use Rattle.std.proofs.Math.Seq.{drop-cons, drop-append_seam}
+use Rattle.std.proofs.lemmas.Bool.{lt-ltb, le-ltb, eq-eqb, ne_eqb}
+use Rattle.std.proofs.lemmas.List.{append-nil, drop_all}
+use Rattle.wasm_ops.specs.Numbers.{u32}
+use Rattle.wasm_ops.proofs.Agreement.{ok_is}
+use Rattle.wasm_module.specs.declared.changes.Given.{Given}
+use Rattle.wasm_module.specs.declared.fault.ModuleError.{ModuleError}
+use Rattle.wasm_module.specs.declared.sections.Section.{Section}
+use Rattle.wasm_module.specs.declared.sections.Sections.{Sections}
+use Rattle.wasm_module.specs.Sections.{preamble, rank, next_rank, SectionAt, Begins, AreSections, IsModule, section, section_at, id_of, TakesSection}
+use Rattle.wasm_module.specs.WrittenModules.{Puts, contents_in, stands_between, between}
+use Rattle.wasm_module.proofs.WritingLemmas.{puts_then, puts_nothing, puts_same}
+
+-- ---- at the front of a module
+
+-- A section at the front has one rank, and one end.
+one_rank :
+    (end : ℕ) (text : List ℕ) (s t : SectionAt) (behind after : List ℕ) → Begins end text s behind → Begins end text t after →
+    (rank s.id ≡ rank t.id) × (behind ≡ after)
+one_rank end text s t behind after p q =
+    let whole : s.id ∷ p.sized ≡ t.id ∷ q.sized = sym p.id_is ∙ q.id_is in
+    let sized = sym p.size_is ∙ ap (λ (l : List ℕ). u32 (drop 1 l)) whole ∙ q.size_is in
+    let same = ok_is (length s.contents, s.contents ++ behind) (length t.contents, t.contents ++ after) sized in
+    (
+    ap (λ (l : List ℕ). rank (get_or l 0 0)) whole,
+    sym (drop-append_seam s.contents behind) ∙ ap (λ (x : ℕ × List ℕ). drop x.0 x.1) same ∙ drop-append_seam t.contents after,
+  )
+
+first_left :
+    (end : ℕ) (text : List ℕ) (left : List SectionAt) (x : SectionAt) (behind : List ℕ) → AreSections end text left → Begins end text x behind →
+    (y : SectionAt) (ys : List SectionAt) × (left ≡ y ∷ ys) × (rank y.id ≡ rank x.id) × AreSections end behind ys
+first_left end text [] x behind a b = let e : [] ≡ x.id ∷ b.sized = sym a ∙ b.id_is in absurd cc
+first_left end text (y ∷ ys) x behind a b =
+    let same = one_rank end text y x a.0 behind a.1 b in (y, ys, refl, same.0, subst (λ (l : List ℕ). AreSections end l ys) same.1 a.2)
+
+-- ---- the next rank
+
+-- The sections that are left of a module have the next rank of all.
+pub record RankSoFar (all : List SectionAt) (r : ℕ) (s : Sections) : Type 0 where
+  pub left : List SectionAt
+  pub are_left : AreSections s.left.end s.left.rest.now left
+  pub same : next_rank r left ≡ next_rank r all
+
+pub all_left :
+    (file : List ℕ) (all : List SectionAt) (r : ℕ) (s : Sections) → IsModule file all → file ≡ preamble ++ s.left.rest.now → s.left.end ≡ length file → RankSoFar all r s
+all_left file all r s m e f =
+    let text : m.0 ≡ s.left.rest.now = ap (λ (l : List ℕ). drop 8 l) (sym m.1 ∙ e) in
+    let here = subst (λ (n : ℕ). AreSections n m.0 all) (sym f) m.2 in
+    record { left = all; are_left = subst (λ (l : List ℕ). AreSections s.left.end l all) text here; same = refl }
+
+rank_passed : (r : ℕ) (y : SectionAt) (ys : List SectionAt) → rank y.id ≤ r → next_rank r (y ∷ ys) ≡ next_rank r ys
+rank_passed r y ys h = ap (λ (b : Bool). if b then rank y.id else next_rank r ys) (le-ltb r (rank y.id) h)
+
+rank_found : (r : ℕ) (y : SectionAt) (ys : List SectionAt) → r < rank y.id → next_rank r (y ∷ ys) ≡ rank y.id
+rank_found r y ys h = ap (λ (b : Bool). if b then rank y.id else next_rank r ys) (lt-ltb r (rank y.id) h)
+
+module _ (all : List SectionAt) (r : ℕ) (s t : Sections) (o : Option (Result Section ModuleError)) (x : Section) where
+  first_taken :
+      (p : RankSoFar all r s) → o ≡ Some (Ok x) → TakesSection s o t →
+      (y : SectionAt) (ys : List SectionAt) × (p.left ≡ y ∷ ys) × (rank y.id ≡ rank (id_of x.kind)) × AreSections t.left.end t.left.rest.now ys
+  first_taken p i takes =
+      let taken : TakesSection s (Some (Ok x)) t = subst (λ (o : Option (Result Section ModuleError)). TakesSection s o t) i takes in
+      let f = first_left s.left.end s.left.rest.now p.left (section_at x) t.left.rest.now p.are_left taken.0 in
+      (f.0, f.1, f.2, f.3, subst (λ (n : ℕ). AreSections n t.left.rest.now f.1) (sym taken.1) f.4)
+
+  pub one_passed : RankSoFar all r s → o ≡ Some (Ok x) → TakesSection s o t → rank (id_of x.kind) ≤ r → RankSoFar all r t
+  one_passed p i takes h =
+      let f = first_taken p i takes in
+      let passed = rank_passed r f.0 f.1 (subst (λ (n : ℕ). n ≤ r) (sym f.3) h) in
+      record { left = f.1; are_left = f.4; same = sym passed ∙ ap (λ (ss : List SectionAt). next_rank r ss) (sym f.2) ∙ p.same }
+
+  pub one_found : RankSoFar all r s → o ≡ Some (Ok x) → TakesSection s o t → r < rank (id_of x.kind) → rank (id_of x.kind) ≡ next_rank r all
+  one_found p i takes h =
+      let f = first_taken p i takes in
+      let found = rank_found r f.0 f.1 (subst (λ (n : ℕ). r < n) (sym f.3) h) in
+      sym f.3 ∙ sym found ∙ ap (λ (ss : List SectionAt). next_rank r ss) (sym f.2) ∙ p.same
+
+-- where no section is left
+nothing_left : (end : ℕ) (text : List ℕ) (left : List SectionAt) → AreSections end text left → text ≡ [] → left ≡ []
+nothing_left end text [] a e = refl
+nothing_left end text (y ∷ ys) a e = let e : [] ≡ y.id ∷ a.1.sized = sym e ∙ a.1.id_is in absurd cc
+
+pub none_found :
+    (all : List SectionAt) (r : ℕ) (s t : Sections) (o : Option (Result Section ModuleError)) → RankSoFar all r s → o ≡ None → TakesSection s o t → 14 ≡ next_rank r all
+none_found all r s t o p i takes =
+    let none : TakesSection s None t = subst (λ (o : Option (Result Section ModuleError)). TakesSection s o t) i takes in
+    ap (λ (ss : List SectionAt). next_rank r ss) (sym (nothing_left s.left.end s.left.rest.now p.left p.are_left none)) ∙ p.same
+
+-- ---- given contents, one after the other
+
+pub this_given :
+    (gs : List Given) (i : ℕ) (d : Given) (id : ℕ) → i < length gs → id_of (get_or gs i d).kind ≡ id →
+    contents_in (drop i gs) id ≡ Some (get_or gs i d).contents.items
+this_given gs i d id h e =
+    let g = get_or gs i d in
+    ap (λ (l : List Given). contents_in l id) (drop-cons gs i d h)
+    ∙ ap (λ (b : Bool). if b then Some g.contents.items else contents_in (drop (suc i) gs) id) (eq-eqb (id_of g.kind) id e)
+
+pub another_given :
+    (gs : List Given) (i : ℕ) (d : Given) (id : ℕ) → i < length gs → id_of (get_or gs i d).kind ≢ id →
+    contents_in (drop i gs) id ≡ contents_in (drop (suc i) gs) id
+another_given gs i d id h e =
+    let g = get_or gs i d in
+    ap (λ (l : List Given). contents_in l id) (drop-cons gs i d h)
+    ∙ ap (λ (b : Bool). if b then Some g.contents.items else contents_in (drop (suc i) gs) id) (ne_eqb (id_of g.kind) id e)
+
+-- So many of the given sections were looked at, and those that stand between two ranks were written.
+pub record NewSoFar (first second : ℕ) (gs : List Given) (i : ℕ) (old now : Option (List ℕ)) (at end : ℕ) : Type 0 where
+  pub text : List ℕ
+  pub puts : Puts old now at end text
+  pub same : text ++ between first second (drop i gs) ≡ between first second gs
+
+pub nothing_new : (first second : ℕ) (gs : List Given) (known : Option (List ℕ)) (at : ℕ) → NewSoFar first second gs 0 known known at at
+nothing_new first second gs known at = record { text = []; puts = puts_nothing known at; same = refl }
+
+module _ (first second : ℕ) (gs : List Given) (i : ℕ) (d : Given) (old now : Option (List ℕ)) (at middle : ℕ) where
+  step : i < length gs → (b : Bool) → stands_between first second (get_or gs i d) ≡ b →
+      between first second (drop i gs)
+      ≡ (if b then section (id_of (get_or gs i d).kind) (get_or gs i d).contents.items ++ between first second (drop (suc i) gs) else between first second (drop (suc i) gs))
+  step h b e =
+      let g = get_or gs i d in
+      ap (λ (l : List Given). between first second l) (drop-cons gs i d h)
+      ∙ ap (λ (b : Bool). if b then section (id_of g.kind) g.contents.items ++ between first second (drop (suc i) gs) else between first second (drop (suc i) gs)) e
+
+  pub one_new :
+      (later : Option (List ℕ)) (end : ℕ) → NewSoFar first second gs i old now at middle → i < length gs → stands_between first second (get_or gs i d) ≡ true →
+      Puts now later middle end (section (id_of (get_or gs i d).kind) (get_or gs i d).contents.items) → NewSoFar first second gs (suc i) old later at end
+  one_new later end p h b q =
+      let g = get_or gs i d in
+      let own = section (id_of g.kind) g.contents.items in
+      record {
+        text = p.text ++ own;
+        puts = puts_then old now later at middle end p.text own p.puts q;
+        same = append_assoc p.text own (between first second (drop (suc i) gs)) ∙ ap (λ (l : List ℕ). p.text ++ l) (sym (step h true b)) ∙ p.same;
+      }
+
+  pub one_elsewhere :
+      NewSoFar first second gs i old now at middle → i < length gs → stands_between first second (get_or gs i d) ≡ false → NewSoFar first second gs (suc i) old now at middle
+  one_elsewhere p h b = record { text = p.text; puts = p.puts; same = ap (λ (l : List ℕ). p.text ++ l) (sym (step h false b)) ∙ p.same }
+
+pub all_new :
+    (first second : ℕ) (gs : List Given) (i : ℕ) (old now : Option (List ℕ)) (at end : ℕ) → NewSoFar first second gs i old now at end → length gs ≤ i →
+    Puts old now at end (between first second gs)
+all_new first second gs i old now at end p h =
+    let none = ap (λ (l : List Given). p.text ++ between first second l) (drop_all i gs h) in
+    puts_same old now at end p.text (between first second gs) (sym (append-nil p.text) ∙ sym none ∙ p.same) p.puts

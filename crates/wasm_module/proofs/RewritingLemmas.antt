@@ -1,0 +1,118 @@
+-- A body that is rewritten: what `rewrite_body` promises of it.
+use Rattle.std.proofs.Common.{◌≡◌, ℕ, List, [], ◌++◌, slice_get, Option, None, Result, Ok, Err, OnOk, IfOk, refl, sym, ap, subst, ◌∙◌}
+use Rattle.std.specs.Borrow.{Bor}
+use Rattle.std.specs.Fn.{Shared}
+use Rattle.walrus_ir.specs.Function.{Function}
+use Rattle.walrus_body.specs.declared.local_function.body.FunctionBody.{FunctionBody}
+use Rattle.walrus_body.specs.FunctionParts.{FunctionParts}
+use Rattle.walrus_body.specs.Parsing.Bodies.{AcceptsBody, body_input}
+use Rattle.walrus_body.specs.TreeWriting.EmittedInstructions.{LentPairs, Left}
+use Rattle.walrus_body.specs.TreeWriting.Operators.{numbers_by}
+use Rattle.walrus_run.specs.RewrittenBodies.{Rewrites}
+use Rattle.wasm_module.specs.declared.parsed.ParsedModule.{ParsedModule}
+use Rattle.wasm_module.specs.CodeSections.{BodyAt}
+use Rattle.wasm_module.specs.LocalsBelow.{locals_below}
+use Rattle.wasm_module.specs.RewrittenCode.{Extends, Enters, IsRewrittenAs, IsRewritten, IsParsed}
+use Rattle.wasm_module.proofs.ModuleLemmas.{extends_then}
+
+-- no location function
+abbrev nothing_asked : (F : Type 0) → Option (Bor F)
+nothing_asked F = None
+
+-- what is written into an empty list
+pub rewritten :
+    {F Z : Type 0} {asks : Shared F (Bor ℕ × Unit {0}) ℕ} {made : Function} {mapping : List (ℕ × ℕ)} {entry : Option (LentPairs Z)} {exit : Left (LentPairs Z)}
+    (source now : ParsedModule) (function : ℕ) (b : BodyAt) (type id : ℕ) (args : List ℕ) (count : ℕ) (body : FunctionBody) (old raw : List ℕ) →
+    Enters source function b now type args count body → id ≡ 0 → old ≡ [] →
+    Rewrites asks (body_input now.module now.spaces.indices id type body (nothing_asked F) locals_below count)
+    (record { to = numbers_by now.spaces.numbers []; types = now.module.locals; args = args }) made mapping old raw entry exit →
+    IsRewritten source function b raw
+rewritten {F} {Z} {asks} {made} {mapping} {entry} {exit} source now function b type id args count body old raw enters is_first none r =
+    let At : ℕ → Type 0 =
+    λ n. Rewrites asks (body_input now.module now.spaces.indices n type body (nothing_asked F) locals_below count)
+    (record { to = numbers_by now.spaces.numbers []; types = now.module.locals; args = args }) made mapping old raw entry exit in
+    let x = subst At is_first r in
+    let all : x.raw ≡ raw = sym (x.bytes ∙ ap (λ (l : List ℕ). l ++ x.raw) none) in
+    let is_rewritten : IsRewrittenAs now type args count body x.raw x.pairs =
+    record { body = x.accepts.body; accepted = x.accepts.accepted; is_raw_body = x.is_raw_body; keeps = x.keeps } in
+    record {
+      now = now;
+      type = type;
+      args = args;
+      count = count;
+      body = body;
+      enters = enters;
+      pairs = x.pairs;
+      is_rewritten = subst (λ (l : List ℕ). IsRewrittenAs now type args count body l x.pairs) all is_rewritten;
+    }
+
+-- what a parse makes
+pub parsed :
+    {F : Type 0} {asks : Shared F (Bor ℕ × Unit {0}) ℕ}
+    (source now : ParsedModule) (function : ℕ) (b : BodyAt) (type id : ℕ) (args : List ℕ) (count : ℕ) (body : FunctionBody) (made : FunctionParts) →
+    Enters source function b now type args count body → id ≡ 0 →
+    AcceptsBody asks (body_input now.module now.spaces.indices id type body (nothing_asked F) locals_below count) made.builder made.instruction_mapping → made.args ≡ args →
+    IsParsed source function b now made
+parsed {F} {asks} source now function b type id args count body made enters is_first accepts args_are =
+    let At : ℕ → Type 0 =
+    λ n. AcceptsBody asks (body_input now.module now.spaces.indices n type body (nothing_asked F) locals_below count) made.builder made.instruction_mapping in
+    let x = subst At is_first accepts in
+    record {
+      type = type;
+      args = args;
+      count = count;
+      body = body;
+      enters = enters;
+      is_parsed = record { body = x.body; accepted = x.accepted; is_function = x.is_function; args_are = args_are };
+    }
+
+-- ---- of a module that the source was before
+
+pub enters_then :
+    (source a now : ParsedModule) (function : ℕ) (b : BodyAt) (type : ℕ) (args : List ℕ) (count : ℕ) (body : FunctionBody) → Extends source a →
+    Enters a function b now type args count body → Enters source function b now type args count body
+enters_then source a now function b type args count body e enters = record {
+  extends = extends_then source a now e enters.extends;
+  is_type = ap (λ ts. slice_get ts.items function) (sym e.func_types) ∙ enters.is_type;
+  bytes = enters.bytes;
+  start = enters.start;
+  locals = enters.locals;
+  args_are = enters.args_are;
+  count_is = enters.count_is;
+  local_ids = enters.local_ids;
+}
+
+pub rewritten_then : (source a : ParsedModule) (function : ℕ) (b : BodyAt) (raw : List ℕ) → Extends source a → IsRewritten a function b raw → IsRewritten source function b raw
+rewritten_then source a function b raw e r = record {
+  now = r.now;
+  type = r.type;
+  args = r.args;
+  count = r.count;
+  body = r.body;
+  enters = enters_then source a r.now function b r.type r.args r.count r.body e r.enters;
+  pairs = r.pairs;
+  is_rewritten = r.is_rewritten;
+}
+
+pub rewritten_ok :
+    {E R : Type 0} (source a : ParsedModule) (function : ℕ) (b : BodyAt) (raw : List ℕ) (r : Result R E) → Extends source a → OnOk r (IsRewritten a function b raw) →
+    OnOk r (IsRewritten source function b raw)
+rewritten_ok source a function b raw (Ok x) e p = rewritten_then source a function b raw e p
+rewritten_ok source a function b raw (Err x) e p = tt
+
+pub parsed_then :
+    (source a now : ParsedModule) (function : ℕ) (b : BodyAt) (made : FunctionParts) → Extends source a → IsParsed a function b now made → IsParsed source function b now made
+parsed_then source a now function b made e p = record {
+  type = p.type;
+  args = p.args;
+  count = p.count;
+  body = p.body;
+  enters = enters_then source a now function b p.type p.args p.count p.body e p.enters;
+  is_parsed = p.is_parsed;
+}
+
+pub parsed_ok :
+    {E : Type 0} (source a now : ParsedModule) (function : ℕ) (b : BodyAt) (r : Result FunctionParts E) → Extends source a → IfOk r (IsParsed a function b now) →
+    IfOk r (IsParsed source function b now)
+parsed_ok source a now function b (Ok made) e p = parsed_then source a now function b made e p
+parsed_ok source a now function b (Err x) e p = tt

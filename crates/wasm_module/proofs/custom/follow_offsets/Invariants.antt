@@ -1,0 +1,5 @@
+use Rattle.std.proofs.Common.{length}
+use Rattle.wasm_module.proofs.custom.follow_offsets.Given as goal
+
+abbrev pub decreases-left : goal.decreases-left
+decreases-left l = length l.left

@@ -1,0 +1,9 @@
+use Rattle.wasm_module.proofs.ModuleLemmas.{extends_same}
+use Rattle.wasm_module.proofs.ModuleLemmas.{extends_then}
+use Rattle.wasm_module.proofs.parsed.ParsedModule.add_missing_types.Goals as goal
+
+pub operators-init : goal.operators-init
+operators-init c = extends_same c.args.self.now
+
+pub operators-preserved : goal.operators-preserved
+operators-preserved c = extends_then c.args.self.now c.operators.self c.add_type_at.new.self c.operators.invariant c.in_ok-add_type_at.ensures

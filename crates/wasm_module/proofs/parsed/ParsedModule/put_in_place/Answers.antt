@@ -1,0 +1,17 @@
+use Rattle.std.proofs.Common.{◌≡◌, ℕ, List, refl, rules}
+use Rattle.wasm_module.specs.Sections.{id_of, section, section_at}
+use Rattle.wasm_module.specs.WrittenModules.IsWrittenFor.{code, replaced, carried_over}
+use Rattle.wasm_module.proofs.ModuleLemmas.{extends_same, then_ok}
+use Rattle.wasm_module.proofs.WritingLemmas.{if_so}
+use Rattle.wasm_module.proofs.parsed.ParsedModule.put_in_place.Goals as goal
+
+pub returns-then-eq-clause-written : goal.returns-then-eq-clause-written
+returns-then-eq-clause-written g c = λ source e.
+    let is_code : id_of c.args.section.now.kind ≡ 10 = search rules in
+    if_so c.put_code_section.result (c.put_code_section.ensures.written source e) (λ end w. (section 10 w.0, code w.0 is_code w.1 refl, w.2))
+
+pub returns-in-Some-clause-extends : goal.returns-in-Some-clause-extends
+returns-in-Some-clause-extends g c = then_ok c.put_section.result (extends_same c.args.self.now)
+
+pub returns-in-None-clause-extends : goal.returns-in-None-clause-extends
+returns-in-None-clause-extends g c = then_ok c.put.result (extends_same c.args.self.now)

@@ -1,0 +1,19 @@
+use Rattle.std.proofs.Common.{refl}
+use Rattle.wasm_module.specs.CodeSections.{body_at}
+use Rattle.wasm_module.proofs.ModuleLemmas.{extends_kept}
+use Rattle.wasm_module.proofs.RewritingLemmas.{rewritten}
+use Rattle.wasm_module.proofs.parsed.ParsedModule.rewrite_once.Goals as goal
+
+pub returns-in-Ok-clause-extends : goal.returns-in-Ok-clause-extends
+returns-in-Ok-clause-extends c =
+    extends_kept c.args.self.now c.enter.new.self _ c.enter.ensures.extends (record { bytes = refl; tags = refl; func_types = refl; imported = refl }) refl refl refl
+
+pub returns-in-Err-clause-extends : goal.returns-in-Err-clause-extends
+returns-in-Err-clause-extends c =
+    extends_kept c.args.self.now c.enter.new.self _ c.enter.ensures.extends (record { bytes = refl; tags = refl; func_types = refl; imported = refl }) refl refl refl
+
+pub returns-in-Ok-clause-rewritten : goal.returns-in-Ok-clause-rewritten
+returns-in-Ok-clause-rewritten c =
+    let made = c.in_ok-ty.field-0 in
+    rewritten c.args.self.now c.enter.new.self c.args.body.func (body_at c.args.body) made.ty c.local_lists-lists.result made.args.items made.locals made.body _
+    c.rewrite_body-rewritten.new.dst.items c.in_ok-ty.ensures.enters c.local_lists-lists.ensures c.clear.ensures.items c.in-Ok.ensures.rewritten

@@ -1,0 +1,68 @@
+-- The declarations of a body's locals (WebAssembly core specification 3.0, binary format, code section): a list of groups,
+-- each a count and a value type.
+use Rattle.std.specs.Prelude.{◌≡◌, ◌<◌, ℕ, suc, zero, List, [], ◌∷◌, ◌++◌, length, replicate, Result, Ok, Option, Some, None}
+use Rattle.walrus_ir.specs.Results.{◌>>=◌, each}
+use Rattle.walrus_ir.specs.declared.val_type.ValType.{ValType}
+use Rattle.walrus_ir.specs.Types.{ModuleType, Signature, signature_of}
+use Rattle.wasm_ops.specs.Reading.{Reader, then_read, many}
+use Rattle.wasm_ops.specs.Numbers.{u32}
+use Rattle.wasm_ops.specs.Types.{value_type}
+use Rattle.wasm_body.specs.declared.error.ParseError.{ParseError}
+use Rattle.wasm_body.specs.Translation.{translate_value}
+use Rattle.walrus_body.specs.declared.indices_to_ids.IndicesToIds.{IndicesToIds}
+use Rattle.walrus_body.specs.Parsing.Placing.{ids_at}
+
+-- ---- as they are spelt
+
+-- so many locals of a type
+abbrev pub group : Reader (ℕ × ValType ℕ)
+group = then_read u32 (λ count. value_type)
+
+-- how many groups there are, and each
+abbrev pub groups : Reader (List (ℕ × ValType ℕ))
+groups bytes = u32 bytes >>= λ n. many group n.0 n.1
+
+-- ---- as the module names them
+
+-- with the id of the type that the index names, if there is one
+abbrev pub named_group : IndicesToIds → ℕ × ValType ℕ → Result (ℕ × ValType ℕ) ParseError
+named_group indices g = translate_value (ids_at indices) g.1 >>= λ type. Ok (g.0, type)
+
+-- each local by itself
+abbrev pub expanded : List (ℕ × ValType ℕ) → List (ValType ℕ)
+expanded [] = []
+expanded (g ∷ gs) = replicate g.0 g.1 ++ expanded gs
+
+-- ---- the locals of a function
+
+abbrev pub parameters_in : Option Signature → List (ValType ℕ)
+parameters_in None = []
+parameters_in (Some s) = s.parameters
+
+-- what a function of this type takes
+abbrev pub parameters_of : List ModuleType → (type : ℕ) → List (ValType ℕ)
+parameters_of types type = parameters_in (signature_of types type)
+
+-- The bytes of a body begin with declarations, behind which these operators stand; and these are the types of the
+-- function's locals: of those that it takes, and of those that are declared.
+pub record HaveLocals (indices : IndicesToIds) (parameters : List (ValType ℕ)) (bytes operators : List ℕ) (locals : List (ValType ℕ)) : Type 0 where
+  pub declared : List (ℕ × ValType ℕ)
+  pub are_read : groups bytes ≡ Ok (declared, operators)
+  pub named : List (ℕ × ValType ℕ)
+  pub are_named : each (named_group indices) declared ≡ Ok named
+  pub locals_are : locals ≡ parameters ++ expanded named
+
+-- the first numbers, from 0 on
+abbrev pub first_numbers : ℕ → List ℕ
+first_numbers zero = []
+first_numbers (suc n) = first_numbers n ++ n ∷ []
+
+-- ---- group by group
+
+-- A group stands in front: so many locals of its type are added.
+pub record DeclaresGroup (indices : IndicesToIds) (bytes behind : List ℕ) (old new : List (ValType ℕ)) : Type 0 where
+  pub declared : ℕ × ValType ℕ
+  pub is_read : group bytes ≡ Ok (declared, behind)
+  pub named : ℕ × ValType ℕ
+  pub is_named : named_group indices declared ≡ Ok named
+  pub new_are : new ≡ old ++ replicate named.0 named.1

@@ -1,0 +1,108 @@
+-- Bodies that are rewritten: each as `walrus_run::rewrite_body` writes the one that stood there (WebAssembly core
+-- specification 3.0, binary format, code section).
+use Rattle.std.specs.Prelude.{◌≡◌, ◌+◌, ◌-◌, ◌<◌, ℕ, List, [], ◌∷◌, ◌++◌, length, slice_get, Some, None, Ok}
+use Rattle.std.specs.Ordering.{nat_cmp}
+use Rattle.std.specs.FinMap.{FinMap}
+use Rattle.walrus_ir.specs.Types.{ModuleType}
+use Rattle.wasm_body.specs.SourceTree.{Body}
+use Rattle.wasm_body.specs.Naming.{Occurrence}
+use Rattle.wasm_body.specs.NormalForm.{body_tree}
+use Rattle.wasm_body.specs.Pairs.{Pair}
+use Rattle.wasm_body.specs.Parsing.Accepted.{Accepted}
+use Rattle.walrus_body.specs.declared.local_function.body.FunctionBody.{FunctionBody}
+use Rattle.walrus_body.specs.Environments.{environment_of}
+use Rattle.walrus_body.specs.IndexMaps.{local_of}
+use Rattle.walrus_body.specs.FunctionParts.{FunctionParts}
+use Rattle.walrus_body.specs.Parsing.Bodies.{IsFunction, body_setting, body_operators}
+use Rattle.walrus_body.specs.TreeWriting.Operators.{numbers_by}
+use Rattle.walrus_run.specs.RawBodies.{given, IsRawBody, IsRawBodyOf}
+use Rattle.walrus_run.specs.RewrittenBodies.{KeepsSource}
+use Rattle.wasm_module.specs.declared.parsed.ParsedModule.{ParsedModule}
+use Rattle.wasm_module.specs.declared.spaces.Spaces.{Spaces}
+use Rattle.wasm_module.specs.CodeSections.{BodyAt}
+use Rattle.wasm_module.specs.Declarations.{parameters_of, HaveLocals, first_numbers}
+use Rattle.wasm_module.specs.LocalsBelow.{locals_below}
+
+-- ---- the module, as bodies are rewritten one after the other
+
+-- nothing but the locals of a function is another
+pub record HasOtherLocals (old new : Spaces) : Type 0 where
+  pub locals : FinMap nat_cmp (List ℕ)
+  pub indices : new.indices ≡ record old.indices { locals = locals }
+  pub numbers : new.numbers ≡ old.numbers
+
+-- Everything that the source says is kept; types may be added behind its own, and locals are those of one body at a time.
+pub record Extends (source now : ParsedModule) : Type 0 where
+  pub bytes : now.bytes.now ≡ source.bytes.now
+  pub types : (more : List ModuleType) × (now.module.types ≡ source.module.types ++ more)
+  pub tags : now.module.tags ≡ source.module.tags
+  pub spaces : HasOtherLocals source.spaces now.spaces
+  pub func_types : now.func_types ≡ source.func_types
+  pub imported : now.imported ≡ source.imported
+
+-- ---- one body
+
+-- The body of this function of the source is parsed so: with the function's type, with its parameters as arguments, with the
+-- locals that its declarations add to them, each under its index as id, and from the operators behind the declarations on.
+pub record Enters (source : ParsedModule) (function : ℕ) (b : BodyAt) (now : ParsedModule) (type : ℕ) (args : List ℕ) (count : ℕ) (body : FunctionBody) : Type 0 where
+  pub extends : Extends source now
+  pub is_type : slice_get source.func_types.items function ≡ Some type
+  pub bytes : body.bytes.now ≡ b.bytes
+  pub start : body.start ≡ b.start
+  pub locals : HaveLocals now.spaces.indices (parameters_of now.module.types type) b.bytes (body_operators body) now.module.locals
+  pub args_are : args ≡ first_numbers (length (parameters_of now.module.types type))
+  pub count_is : count ≡ length now.module.locals
+  pub local_ids : (local : ℕ) → local < count → local_of now.spaces.indices 0 local ≡ Ok local
+
+-- The operators of the body are accepted, in the module and its index maps, by the validator that knows of so many locals;
+-- and these bytes are the raw body of their normal form. It executes the operators of the source and ends alike, and its
+-- pairs hold their locations, which are places in the file.
+pub record IsRewrittenAs (now : ParsedModule) (type : ℕ) (args : List ℕ) (count : ℕ) (source : FunctionBody) (raw : List ℕ) (pairs : List Pair) : Type 0 where
+  pub body : Body Occurrence
+  pub accepted : Accepted (body_setting now.module now.spaces.indices 0 type source locals_below count None) (body_operators source) body
+  pub is_raw_body :
+      IsRawBody (record { to = numbers_by now.spaces.numbers []; types = now.module.locals; args = args })
+      (body_tree (environment_of now.module now.spaces.indices 0 type) body) raw pairs
+  pub keeps :
+      KeepsSource (environment_of now.module now.spaces.indices 0 type) accepted.operators
+      (body_tree (environment_of now.module now.spaces.indices 0 type) body) pairs
+
+-- The body of this function of the source is rewritten as these bytes.
+pub record IsRewritten (source : ParsedModule) (function : ℕ) (b : BodyAt) (raw : List ℕ) : Type 0 where
+  pub now : ParsedModule
+  pub type : ℕ
+  pub args : List ℕ
+  pub count : ℕ
+  pub body : FunctionBody
+  pub enters : Enters source function b now type args count body
+  pub pairs : List Pair
+  pub is_rewritten : IsRewrittenAs now type args count body raw pairs
+
+-- ---- one body whose function is changed before it is written
+
+-- The operators are accepted, as above, and the function has their normal form, and these arguments.
+pub record IsParsedAs (now : ParsedModule) (type : ℕ) (args : List ℕ) (count : ℕ) (source : FunctionBody) (made : FunctionParts) : Type 0 where
+  pub body : Body Occurrence
+  pub accepted : Accepted (body_setting now.module now.spaces.indices 0 type source locals_below count None) (body_operators source) body
+  pub is_function : IsFunction made.builder (body_tree (environment_of now.module now.spaces.indices 0 type) body)
+  pub args_are : made.args ≡ args
+
+-- The function is made of the body of this function of the source.
+pub record IsParsed (source : ParsedModule) (function : ℕ) (b : BodyAt) (now : ParsedModule) (made : FunctionParts) : Type 0 where
+  pub type : ℕ
+  pub args : List ℕ
+  pub count : ℕ
+  pub body : FunctionBody
+  pub enters : Enters source function b now type args count body
+  pub is_parsed : IsParsedAs now type args count body made
+
+-- The body of this function of the source is parsed, its function is changed, and these bytes are the raw body of what it is
+-- then.
+pub record IsChanged (changes : ℕ → (old new : FunctionParts) → Type 0) (source : ParsedModule) (function : ℕ) (b : BodyAt) (raw : List ℕ) : Type 0 where
+  pub now : ParsedModule
+  pub parsed : FunctionParts
+  pub is_parsed : IsParsed source function b now parsed
+  pub changed : FunctionParts
+  pub is_changed : changes function parsed changed
+  pub pairs : List Pair
+  pub is_raw_body : IsRawBodyOf (given now.spaces.numbers now.module changed) changed.builder raw pairs

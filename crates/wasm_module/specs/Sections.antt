@@ -1,0 +1,96 @@
+-- Sections (WebAssembly core specification 3.0, binary format, modules): each is an id, the size of its contents, and its
+-- contents.
+use Rattle.std.specs.Prelude.{◌≡◌, ◌-◌, ℕ, nat_lt, if◌then◌else◌, List, [], ◌∷◌, ◌++◌, length, Option, Some, None, Result, Ok, Err}
+use Rattle.wasm_ops.specs.Numbers.{u32}
+use Rattle.wasm_ops.specs.Shortest.{short_number}
+use Rattle.wasm_module.specs.declared.fault.ModuleError.{ModuleError}
+use Rattle.wasm_module.specs.declared.sections.Section.{Section}
+use Rattle.wasm_module.specs.declared.sections.SectionKind.{SectionKind}
+use Rattle.wasm_module.specs.declared.sections.SectionKind.TheVariants as kind
+use Rattle.wasm_module.specs.declared.sections.Sections.{Sections}
+
+-- what a module begins with: the magic number, and the version
+abbrev pub preamble : List ℕ
+preamble = 0x00 ∷ 0x61 ∷ 0x73 ∷ 0x6d ∷ 0x01 ∷ 0x00 ∷ 0x00 ∷ 0x00 ∷ []
+
+-- ---- as they are written: with the shortest spelling of the size
+
+abbrev pub section : (id : ℕ) → (contents : List ℕ) → List ℕ
+section id contents = id ∷ (short_number (length contents) ++ contents)
+
+-- ---- as they are read: with any spelling of the size
+
+-- a section in a file: its id, its contents and the place behind them, and all of its bytes
+pub record SectionAt : Type 0 where
+  pub id : ℕ
+  pub contents : List ℕ
+  pub end : ℕ
+  pub whole : List ℕ
+
+-- This section stands at the front of a text that ends at this place of the file, and this is behind it.
+pub record Begins (end : ℕ) (text : List ℕ) (s : SectionAt) (behind : List ℕ) : Type 0 where
+  pub sized : List ℕ
+  pub id_is : text ≡ s.id ∷ sized
+  pub size_is : u32 sized ≡ Ok (length s.contents, s.contents ++ behind)
+  pub end_is : s.end ≡ end - length behind
+  pub whole_is : text ≡ s.whole ++ behind
+
+-- The text, which ends at this place of the file, is these sections.
+abbrev pub AreSections : (end : ℕ) → (text : List ℕ) → List SectionAt → Type 0
+AreSections end text [] = text ≡ []
+AreSections end text (s ∷ ss) = (behind : List ℕ) × Begins end text s behind × AreSections end behind ss
+
+-- the file is a module with these sections
+abbrev pub IsModule : List ℕ → List SectionAt → Type 0
+IsModule file ss = (text : List ℕ) × (file ≡ preamble ++ text) × AreSections (length file) text ss
+
+-- ---- their order
+
+-- How many sections, but for custom ones, may stand before one with this id, and itself; custom ones stand anywhere.
+abbrev pub rank : (id : ℕ) → ℕ
+rank 1 = 1
+rank 2 = 2
+rank 3 = 3
+rank 4 = 4
+rank 5 = 5
+rank 13 = 6
+rank 6 = 7
+rank 7 = 8
+rank 8 = 9
+rank 9 = 10
+rank 12 = 11
+rank 10 = 12
+rank 11 = 13
+rank id = 0
+
+-- the first rank of these sections that is greater than this one; 14 where there is none
+abbrev pub next_rank : ℕ → List SectionAt → ℕ
+next_rank r [] = 14
+next_rank r (s ∷ ss) = if nat_lt r (rank s.id) then rank s.id else next_rank r ss
+
+-- ---- as the code holds them
+
+abbrev pub id_of : SectionKind → ℕ
+id_of kind.Custom = 0
+id_of kind.Type = 1
+id_of kind.Import = 2
+id_of kind.Function = 3
+id_of kind.Table = 4
+id_of kind.Memory = 5
+id_of kind.Global = 6
+id_of kind.Export = 7
+id_of kind.Start = 8
+id_of kind.Element = 9
+id_of kind.Code = 10
+id_of kind.Data = 11
+id_of kind.DataCount = 12
+id_of kind.Tag = 13
+
+abbrev pub section_at : Section → SectionAt
+section_at s = record { id = id_of s.kind; contents = s.contents.rest.now; end = s.contents.end; whole = s.whole.now }
+
+-- A section is taken from those that are left; none where nothing is left.
+abbrev pub TakesSection : Sections → Option (Result Section ModuleError) → Sections → Type 0
+TakesSection s None t = s.left.rest.now ≡ []
+TakesSection s (Some (Err e)) t = Unit {0}
+TakesSection s (Some (Ok x)) t = Begins s.left.end s.left.rest.now (section_at x) t.left.rest.now × (t.left.end ≡ s.left.end)

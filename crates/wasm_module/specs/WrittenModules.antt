@@ -1,0 +1,116 @@
+-- Modules that are written (WebAssembly core specification 3.0, binary format, modules): section by section, each as it was,
+-- but for the code, for those that are given new contents, and for custom sections that follow the code.
+use Rattle.std.specs.Prelude.{◌≡◌, ◌≢◌, ◌⊎◌, ◌+◌, ◌-◌, ℕ, zero, suc, List, [], ◌∷◌, ◌++◌, length, Bool, ◌==◌, ◌&&◌, nat_lt, if◌then◌else◌, Option, Some, None, Ok, codes}
+use Rattle.std.specs.Io.KnownBytes.{Appends}
+use Rattle.wasm_ops.specs.Numbers.{u32}
+use Rattle.wasm_module.specs.declared.changes.Given.{Given}
+use Rattle.wasm_module.specs.declared.parsed.ParsedModule.{ParsedModule}
+use Rattle.wasm_module.specs.declared.rewriting.RewrittenModule.{RewrittenModule}
+use Rattle.wasm_module.specs.CodeSections.{BodyAt, IsCode, code_section}
+use Rattle.wasm_module.specs.Sections.{preamble, section, SectionAt, IsModule, rank, next_rank, id_of}
+
+-- Bytes go to a writer, which may be known to hold some, and a place moves behind them.
+pub record Puts (old new : Option (List ℕ)) (at end : ℕ) (bytes : List ℕ) : Type 0 where
+  pub appends : Appends old new bytes
+  pub end_is : end ≡ at + length bytes
+
+-- ---- sections that are given contents
+
+-- what is given for a module
+abbrev pub given_in : {B : Type 0} → RewrittenModule B → List Given
+given_in m = m.changes.given.items
+
+-- the contents that are given for sections with this id, if there are some
+abbrev pub contents_in : List Given → (id : ℕ) → Option (List ℕ)
+contents_in [] id = None
+contents_in (g ∷ gs) id = if id_of g.kind == id then Some g.contents.items else contents_in gs id
+
+-- whether a given section stands behind those of one rank, and before those of the other
+abbrev pub stands_between : ℕ → ℕ → Given → Bool
+stands_between first second g = nat_lt first (rank (id_of g.kind)) && nat_lt (rank (id_of g.kind)) second
+
+-- those of them that do
+abbrev pub between : ℕ → ℕ → List Given → (text : List ℕ)
+between first second [] = []
+between first second (g ∷ gs) =
+    if stands_between first second g then section (id_of g.kind) g.contents.items ++ between first second gs else between first second gs
+
+-- what is put behind a section of this rank in a module of these sections: those given ones that have their place there
+abbrev pub new_behind : List Given → (all : List SectionAt) → (rank : ℕ) → (text : List ℕ)
+new_behind given all r = between r (next_rank r all) given
+
+-- A custom section follows the code where its name says that it holds names, or metadata of code.
+abbrev pub HasFollowedName : (contents : List ℕ) → Type 0
+HasFollowedName contents =
+    (name behind : List ℕ) × (u32 contents ≡ Ok (length name, name ++ behind))
+    × ((name ≡ codes "name") ⊎ ((kind : List ℕ) × (name ≡ codes "metadata.code." ++ kind)))
+
+-- Of a section that holds no code: contents that are written in the place of its own. Of custom ones it isn't said what
+-- they are.
+pub data IsReplacedBy (given : List Given) (s : SectionAt) (contents : List ℕ) : Type 0 where
+  followed : s.id ≡ 0 → HasFollowedName s.contents → IsReplacedBy given s contents
+  given_so : s.id ≢ 0 → contents_in given s.id ≡ Some contents → IsReplacedBy given s contents
+
+-- Or it is written as it is: a custom one, or one for which nothing is given.
+abbrev pub IsCarriedOver : List Given → SectionAt → Type 0
+IsCarriedOver given s = s.id ≢ 0 → contents_in given s.id ≡ None
+
+-- ---- bodies
+
+-- how many functions have a body: those that aren't imported
+abbrev pub count_bodies : ParsedModule → ℕ
+count_bodies source = length source.func_types.items - source.imported
+
+-- of this function of the source this body is written as these bytes
+abbrev pub Writes : Type 1
+Writes = ParsedModule → (function : ℕ) → BodyAt → (raw : List ℕ) → Type 0
+
+module _ (writes : Writes) (source : ParsedModule) where
+  -- the bodies of the functions from this one on, in order
+  abbrev pub AreWritten : (function : ℕ) → List BodyAt → (raws : List (List ℕ)) → Type 0
+  AreWritten function [] [] = Unit {0}
+  AreWritten function (b ∷ bs) (raw ∷ raws) = writes source function b raw × AreWritten (function + 1) bs raws
+  AreWritten function _ _ = ⊥
+
+  -- The contents of the code section: all bodies of the section that stood there, in order, one for each function that isn't
+  -- imported, each as it is written, behind its size.
+  pub record IsWrittenCode (s : SectionAt) (code : List ℕ) : Type 0 where
+    pub bodies : List BodyAt
+    pub are_bodies : IsCode s.end s.contents bodies
+    pub are_all : length bodies ≡ count_bodies source
+    pub raws : List (List ℕ)
+    pub are_written : AreWritten source.imported bodies raws
+    pub code_is : code ≡ code_section raws
+
+  -- ---- sections
+
+  module _ (given : List Given) where
+    -- what is written in the place of a section
+    pub data IsWrittenFor (s : SectionAt) (text : List ℕ) : Type 0 where
+      code : (contents : List ℕ) → s.id ≡ 10 → IsWrittenCode s contents → text ≡ section 10 contents → IsWrittenFor s text
+      replaced : (contents : List ℕ) → s.id ≢ 10 → IsReplacedBy given s contents → text ≡ section s.id contents → IsWrittenFor s text
+      carried_over : s.id ≢ 10 → IsCarriedOver given s → text ≡ s.whole → IsWrittenFor s text
+
+    module _ (all : List SectionAt) where
+      -- what is put behind a section; nothing behind a custom one
+      abbrev pub new_behind_section : (rank : ℕ) → (text : List ℕ)
+      new_behind_section zero = []
+      new_behind_section (suc r) = new_behind given all (suc r)
+
+      -- what is written in the place of a section, and behind it
+      pub record IsWrittenAt (s : SectionAt) (text : List ℕ) : Type 0 where
+        pub own : List ℕ
+        pub is_written : IsWrittenFor s own
+        pub text_is : text ≡ own ++ new_behind_section (rank s.id)
+
+      abbrev pub AreWrittenAt : List SectionAt → (text : List ℕ) → Type 0
+      AreWrittenAt [] text = text ≡ []
+      AreWrittenAt (s ∷ ss) text = (first others : List ℕ) × (text ≡ first ++ others) × IsWrittenAt s first × AreWrittenAt ss others
+
+    -- the module that is written for the source
+    pub record IsWrittenModule (new : List ℕ) : Type 0 where
+      pub sections : List SectionAt
+      pub is_module : IsModule source.bytes.now sections
+      pub text : List ℕ
+      pub are_written : AreWrittenAt sections sections text
+      pub new_is : new ≡ preamble ++ (new_behind given sections 0 ++ text)

@@ -1,0 +1,245 @@
+//! Bodies of a module: parsed, rewritten, and written.
+
+ghost use Rattle.std.specs.Prelude.{OnOk, IfOk};
+ghost use Rattle.walrus_run.specs.RawBodies.{given, IsRawBodyOf};
+ghost use Rattle.wasm_module.specs.CodeSections.{body_at};
+ghost use Rattle.wasm_module.specs.RewrittenCode.{Extends, IsRewritten, IsParsed};
+
+use crate::code::Body;
+use crate::code_fault::CodeFault;
+use crate::entering::Entered;
+use crate::fault::{ModuleError, ModuleFault};
+use crate::locals::LocalsBelow;
+use crate::parsed::ParsedModule;
+use std::alloc::Global;
+use walrus_body::LocalFunction;
+use walrus_ir::{Instr, InstrLocId};
+use walrus_run::{RewriteError, append_raw_body_with_map, rewrite_body};
+
+/// What is lent to one body after the other, and what was made of the last.
+#[derive(Drop)]
+pub struct Scratch {
+    instrs: Vec<(Instr, InstrLocId)>,
+    /// The raw body that was written last.
+    pub raw: Vec<u8>,
+    /// Its location pairs, if they were asked for: the location of each operator that was written,
+    /// which is its old place in the file, and its new place, counted from the first byte of the
+    /// body.
+    pub pairs: Vec<(InstrLocId, usize)>,
+}
+
+impl Scratch {
+    /// Nothing is lent yet. It takes no memory.
+    pub fn new(alloc: Global) -> Scratch {
+        Scratch {
+            instrs: Vec::new(alloc),
+            raw: Vec::new(alloc),
+            pairs: Vec::new(alloc),
+        }
+    }
+}
+
+/// Whether a body wants a type that the module doesn't have.
+fn wants_type(error: &ModuleError) -> bool {
+    error.fault == ModuleFault::TypeMissing
+}
+
+/// Rewrites a body as it is, with a list of location pairs or none.
+macro_rules! rewrite_once {
+    ($parsed:ident, $body:ident, $instrs:expr, $raw:expr, $map:expr) => {{
+        let Entered {
+            ty,
+            args,
+            body: source,
+            locals,
+        } = $parsed.enter($body)?;
+        let lists = $parsed.spaces.local_lists();
+        let rewritten = rewrite_body(
+            &$parsed.module,
+            &$parsed.spaces.indices,
+            lists,
+            ty,
+            args,
+            source,
+            // A location is the operator's place in the file.
+            None::<&fn(&usize) -> InstrLocId>,
+            LocalsBelow(locals),
+            $instrs,
+            &$parsed.spaces.numbers,
+            $raw,
+            $map,
+        );
+        match rewritten {
+            Ok(function) => Ok(function),
+            Err(error) => Err(ModuleError::of_body(error, $body.start())),
+        }
+    }};
+}
+
+impl<'a> ParsedModule<'a> {
+    fn rewrite_once(
+        &mut self,
+        body: Body<'a>,
+        scratch: &mut Scratch,
+    ) -> Result<LocalFunction, ModuleError>
+        ensures extends { Extends self.old self.new }
+        ensures rewritten { OnOk result
+            (IsRewritten self.old body.entry.func (body_at body.entry) scratch.new.raw.items) }
+    {
+        scratch.raw.clear();
+        rewrite_once!(self, body, &mut scratch.instrs, &mut scratch.raw, None)
+    }
+
+    fn rewrite_once_with_pairs(
+        &mut self,
+        body: Body<'a>,
+        scratch: &mut Scratch,
+    ) -> Result<LocalFunction, ModuleError>
+        ensures extends { Extends self.old self.new }
+        ensures rewritten { OnOk result
+            (IsRewritten self.old body.entry.func (body_at body.entry) scratch.new.raw.items) }
+    {
+        let Scratch { instrs, raw, pairs } = scratch;
+        raw.clear();
+        pairs.clear();
+        rewrite_once!(self, body, instrs, raw, Some(pairs))
+    }
+
+    /// Rewrites a body: its declarations of locals and its operators, as `walrus_run::rewrite_body`
+    /// does. Types that only a handler of it needs, and the module lacks, are added behind the
+    /// others; they are in no bytes.
+    ///
+    /// # Errors
+    ///
+    /// The first fault of its declarations or of its operators, or why it can't be written, or
+    /// `Memory`.
+    pub fn rewrite(
+        &mut self,
+        body: Body<'a>,
+        scratch: &mut Scratch,
+    ) -> Result<LocalFunction, ModuleError>
+        ensures extends { OnOk result (Extends self.old self.new) }
+        ensures rewritten { OnOk result
+            (IsRewritten self.old body.entry.func (body_at body.entry) scratch.new.raw.items) }
+    {
+        match self.rewrite_once(body, scratch) {
+            Err(error) if wants_type(&error) => {
+                self.add_missing_types(body)?;
+                self.rewrite_once(body, scratch)
+            }
+            answer => answer,
+        }
+    }
+
+    /// The same, with its location pairs.
+    ///
+    /// # Errors
+    ///
+    /// Those of `rewrite`.
+    pub fn rewrite_with_pairs(
+        &mut self,
+        body: Body<'a>,
+        scratch: &mut Scratch,
+    ) -> Result<LocalFunction, ModuleError>
+        ensures extends { OnOk result (Extends self.old self.new) }
+        ensures rewritten { OnOk result
+            (IsRewritten self.old body.entry.func (body_at body.entry) scratch.new.raw.items) }
+    {
+        match self.rewrite_once_with_pairs(body, scratch) {
+            Err(error) if wants_type(&error) => {
+                self.add_missing_types(body)?;
+                self.rewrite_once_with_pairs(body, scratch)
+            }
+            answer => answer,
+        }
+    }
+
+    fn parse_once(
+        &mut self,
+        body: Body<'a>,
+        scratch: &mut Scratch,
+    ) -> Result<LocalFunction, ModuleError>
+        ensures extends { Extends self.old self.new }
+        ensures parsed { IfOk result
+            (IsParsed self.old body.entry.func (body_at body.entry) self.new) }
+    {
+        let Entered {
+            ty,
+            args,
+            body: source,
+            locals,
+        } = self.enter(body)?;
+        let lists = self.spaces.local_lists();
+        let parsed = LocalFunction::parse(
+            &self.module,
+            &self.spaces.indices,
+            lists,
+            ty,
+            args,
+            source,
+            // A location is the operator's place in the file.
+            None::<&fn(&usize) -> InstrLocId>,
+            LocalsBelow(locals),
+            &mut scratch.instrs,
+        );
+        match parsed {
+            Ok(function) => Ok(function),
+            Err(failure) => Err(ModuleError::of_body(RewriteError::Parse(failure), body.start())),
+        }
+    }
+
+    /// Parses a body. The id of a local is its index in the function, and the location of an
+    /// operator its place in the file.
+    ///
+    /// # Errors
+    ///
+    /// The first fault of its declarations or of its operators, or `Memory`.
+    pub fn parse(
+        &mut self,
+        body: Body<'a>,
+        scratch: &mut Scratch,
+    ) -> Result<LocalFunction, ModuleError>
+        ensures extends { OnOk result (Extends self.old self.new) }
+        ensures parsed { IfOk result
+            (IsParsed self.old body.entry.func (body_at body.entry) self.new) }
+    {
+        match self.parse_once(body, scratch) {
+            Err(error) if wants_type(&error) => {
+                self.add_missing_types(body)?;
+                self.parse_once(body, scratch)
+            }
+            answer => answer,
+        }
+    }
+
+    /// Writes the raw body of a function, which is the one that was parsed last, whatever was
+    /// changed in it since, and its location pairs.
+    ///
+    /// # Errors
+    ///
+    /// Why it can't be written, at the place `start` where its body began; or `Memory`.
+    pub fn write(
+        &self,
+        function: &LocalFunction,
+        start: usize,
+        scratch: &mut Scratch,
+    ) -> Result<(), ModuleError>
+        ensures { OnOk result (IsRawBodyOf (given self.now.spaces.numbers self.now.«module»
+            function.now) function.now.builder scratch.new.raw.items scratch.new.pairs.items) }
+    {
+        let Scratch { raw, pairs, .. } = scratch;
+        raw.clear();
+        pairs.clear();
+        if !function.has_entry() {
+            return Err(ModuleError {
+                fault: ModuleFault::Code(CodeFault::UnknownSequence),
+                at: start,
+            });
+        }
+        let numbers = &self.spaces.numbers;
+        match append_raw_body_with_map(function, &self.module, numbers, raw, pairs) {
+            Ok(()) => Ok(()),
+            Err(error) => Err(ModuleError::of_body(error, start)),
+        }
+    }
+}

@@ -1,0 +1,97 @@
+//! What is written of bodies: what they are rewritten as, or what a caller makes of their functions.
+
+ghost use Rattle.std.specs.Prelude.{ℕ, List, OnOk};
+ghost use Rattle.walrus_body.specs.FunctionParts.{FunctionParts};
+ghost use Rattle.wasm_module.specs.declared.parsed.ParsedModule.{ParsedModule as Parsed};
+ghost use Rattle.wasm_module.specs.CodeSections.{BodyAt, body_at};
+ghost use Rattle.wasm_module.specs.RewrittenCode.{Extends, IsRewritten, IsChanged};
+
+use crate::bodies::Scratch;
+use crate::code::Body;
+use crate::fault::ModuleError;
+use crate::parsed::ParsedModule;
+use walrus_body::LocalFunction;
+
+/// What is written of each body of a module. It is asked twice for a body: before anything is
+/// written, to learn of its faults, its size and what follows it, and when it is written.
+pub trait BodyWriter {
+    // Of this function of the source, this body is written as these bytes.
+    ghost writes: { Self → Parsed → ℕ → BodyAt → List ℕ → Type 0 };
+
+    /// Makes the raw body that is written for one of the module that was read, and its location
+    /// pairs where they are wanted, and leaves both in the scratch. Answers the function that it is.
+    ///
+    /// # Errors
+    ///
+    /// Why the module isn't written.
+    fn write_body<'a>(
+        &self,
+        parsed: &mut ParsedModule<'a>,
+        body: Body<'a>,
+        has_pairs: bool,
+        scratch: &mut Scratch,
+    ) -> Result<LocalFunction, ModuleError>
+        ensures extends { OnOk result (Extends parsed.old parsed.new) }
+        ensures written { (source : Parsed) → Extends source parsed.old
+            → OnOk result (writes self.now source body.entry.func (body_at body.entry)
+            scratch.new.raw.items) };
+}
+
+/// Each body is rewritten as `walrus_run::rewrite_body` does.
+#[derive(Clone, Copy, Debug, Drop)]
+pub struct Rewriting;
+
+impl BodyWriter for Rewriting {
+    ghost writes = { λ _. IsRewritten };
+
+    fn write_body<'a>(
+        &self,
+        parsed: &mut ParsedModule<'a>,
+        body: Body<'a>,
+        has_pairs: bool,
+        scratch: &mut Scratch,
+    ) -> Result<LocalFunction, ModuleError> {
+        match has_pairs {
+            true => parsed.rewrite_with_pairs(body, scratch),
+            false => parsed.rewrite(body, scratch),
+        }
+    }
+}
+
+/// A change of the functions of a module.
+pub trait ChangeFunction {
+    // The function with this index, as it was made of its body, and as it is written.
+    ghost changes: { Self → ℕ → FunctionParts → FunctionParts → Type 0 };
+
+    /// Changes the function with this index, which counts behind imported ones. A location that it
+    /// leaves is the place in the source of the operator that the instruction still stands for. It
+    /// is asked twice for each function, and answers alike.
+    ///
+    /// # Errors
+    ///
+    /// Why the module isn't written.
+    fn change(&self, index: usize, function: &mut LocalFunction) -> Result<(), ModuleError>
+        ensures { OnOk result (changes self.now index function.old function.new) };
+}
+
+/// Each body is that of its function as this changes it.
+#[derive(Clone, Copy, Debug, Drop)]
+pub struct Changing<C>(pub C);
+
+impl<C: ChangeFunction> BodyWriter for Changing<C> {
+    ghost writes = { λ self. IsChanged (C.changes self.0) };
+
+    fn write_body<'a>(
+        &self,
+        parsed: &mut ParsedModule<'a>,
+        body: Body<'a>,
+        has_pairs: bool,
+        scratch: &mut Scratch,
+    ) -> Result<LocalFunction, ModuleError> {
+        let _ = has_pairs;
+        let mut function = parsed.parse(body, scratch)?;
+        self.0.change(body.func, &mut function)?;
+        parsed.write(&function, body.start(), scratch)?;
+        Ok(function)
+    }
+}

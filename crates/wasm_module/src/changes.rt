@@ -1,0 +1,75 @@
+//! New contents of the sections of a module.
+
+ghost use Rattle.std.specs.Prelude.{◌≡◌, [], Some, None, IfSome, IfNone};
+ghost use Rattle.wasm_module.specs.Sections.{id_of};
+ghost use Rattle.wasm_module.specs.WrittenModules.{contents_in};
+
+use crate::fault::{ModuleError, ModuleFault};
+use crate::sections::SectionKind;
+use std::alloc::Global;
+
+/// New contents of the section of a kind, or of a new section of it.
+#[derive(Drop)]
+pub(crate) struct Given {
+    pub kind: SectionKind,
+    pub contents: Vec<u8>,
+}
+
+/// New contents of sections, at most one of each kind, in the order in which the sections stand.
+/// Sections of code and custom ones are not among them.
+#[derive(Drop)]
+pub struct Changes {
+    pub(crate) given: Vec<Given>,
+}
+
+impl Changes {
+    /// No section is changed. It takes no memory.
+    pub fn new(alloc: Global) -> Changes
+        ensures { result.given.items ≡ [] }
+    {
+        Changes {
+            given: Vec::new(alloc),
+        }
+    }
+
+    /// Gives the section of this kind these contents in the place of its own, or of those that were
+    /// given before. Where the module has no such section it gets one.
+    ///
+    /// # Errors
+    ///
+    /// `SectionOutOfOrder` where the kind is `Custom` or `Code`; `TooGreat` where the number of bytes
+    /// doesn't fit 32 bits; or `Memory`.
+    pub fn give(&mut self, kind: SectionKind, contents: Vec<u8>) -> Result<(), ModuleError> {
+        let fault = match kind {
+            SectionKind::Custom | SectionKind::Code => Some(ModuleFault::SectionOutOfOrder),
+            _ if contents.len() > u32::MAX as usize => Some(ModuleFault::TooGreat),
+            _ => None,
+        };
+        if let Some(fault) = fault {
+            return Err(ModuleError { fault, at: 0 });
+        }
+        let found = self
+            .given
+            .binary_search_by_key(&kind.rank(), |given| given.kind.rank());
+        let given = Given { kind, contents };
+        match found {
+            Ok(at) => self.given[at] = given,
+            Err(at) => self.given.insert(at, given)?,
+        }
+        Ok(())
+    }
+
+    /// The new contents of the section of this kind, if it has some.
+    pub fn contents_of(&self, kind: SectionKind) -> Option<&[u8]>
+        ensures some { IfSome result (λ contents. contents_in self.now.given.items (id_of kind)
+            ≡ Some contents.now) }
+        ensures none { IfNone result (contents_in self.now.given.items (id_of kind) ≡ None) }
+    {
+        'given: for given in &self.given {
+            if given.kind.id() == kind.id() {
+                return Some(given.contents.as_slice());
+            }
+        }
+        None
+    }
+}

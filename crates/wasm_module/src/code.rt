@@ -1,0 +1,106 @@
+//! The code section (WebAssembly core specification 3.0, binary format, code section).
+
+ghost use Rattle.std.specs.Prelude.{◌≡◌, ◌<◌, ◌+◌, ◌^◌, [], length, Ok, IfOk, OnOk};
+ghost use Rattle.wasm_ops.specs.Numbers.{u32};
+ghost use Rattle.wasm_module.specs.CodeSections.{place_of, bytes_of};
+
+use crate::fault::ModuleError;
+use crate::input::Input;
+use walrus_ir::FunctionId;
+
+/// The body of a function in the source: its declarations of locals, and its operators.
+#[derive(Clone, Copy)]
+pub struct Body<'a> {
+    /// The index of the function, behind those of imported ones.
+    pub func: usize,
+    pub(crate) input: Input<'a>,
+}
+
+impl<'a> Body<'a> {
+    /// Its bytes, without their number.
+    pub fn bytes(&self) -> &'a [u8]
+        ensures { result.now ≡ bytes_of self.now }
+    {
+        self.input.rest()
+    }
+
+    /// The place of its first byte in the file.
+    pub fn start(&self) -> usize
+        ensures place { result ≡ place_of self.now }
+        ensures fits { result + length (bytes_of self.now) < 2 ^ 64 }
+    {
+        self.input.at()
+    }
+
+    /// The function's id.
+    pub fn id(&self) -> FunctionId {
+        FunctionId::new(self.func)
+    }
+}
+
+/// The bodies of a code section, in order.
+#[derive(Clone, Copy)]
+pub struct Bodies<'a> {
+    pub(crate) left: Input<'a>,
+    pub(crate) next: usize,
+}
+
+impl<'a> Bodies<'a> {
+    /// Those of a section with these contents, whose first is the body of this function; and how
+    /// many are told there.
+    pub(crate) fn of_section(
+        contents: Input<'a>,
+        first: usize,
+    ) -> Result<(u32, Bodies<'a>), ModuleError>
+        ensures told { IfOk result
+            (λ x. u32 contents.entry.rest.now ≡ Ok (x.0, x.1.left.rest.now)) }
+        ensures end { IfOk result (λ x. x.1.left.end ≡ contents.entry.end) }
+        ensures first { IfOk result (λ x. x.1.next ≡ first) }
+    {
+        let mut left = contents;
+        let count = left.number()?;
+        Ok((count, Bodies { left, next: first }))
+    }
+
+    /// `Trailing` where bytes are left.
+    pub(crate) fn finish(&self) -> Result<(), ModuleError>
+        ensures { OnOk result (self.now.left.rest.now ≡ []) }
+    {
+        self.left.finish()
+    }
+
+    /// Those of no section.
+    pub(crate) fn none() -> Bodies<'static> {
+        Bodies {
+            left: Input::new(&[]),
+            next: 0,
+        }
+    }
+}
+
+impl<'a> Iterator for Bodies<'a> {
+    ghost use Rattle.std.specs.Prelude.{length};
+    ghost use Rattle.std.specs.Iterator.{at_most};
+    ghost use Rattle.wasm_module.specs.CodeSections.{TakesBody};
+
+    type Item = Body<'a>;
+
+    ghost next_gives = { TakesBody };
+
+    ghost remaining = { λ b. at_most (length b.left.rest.now) };
+
+    fn next(&mut self) -> Option<Body<'a>> {
+        let func = self.next;
+        let next = func.checked_add(1)?;
+        let mut left = self.left;
+        let Ok(len) = left.number() else {
+            return None;
+        };
+        let Ok(input) = left.part(len as usize) else {
+            return None;
+        };
+        self.left = left;
+        self.next = next;
+        Some(Body { func, input })
+    }
+}

@@ -1,0 +1,394 @@
+//! Custom sections that speak of code: names of locals and of labels, and metadata of code (branch
+//! hints). They follow the code that is written.
+
+ghost use Rattle.std.specs.Prelude.{IsTrue};
+ghost use Rattle.wasm_module.specs.WrittenModules.{HasFollowedName};
+
+use crate::bodies::Scratch;
+use crate::code::Body;
+use crate::fault::{ModuleError, ModuleFault};
+use crate::function_items::{FunctionItems, Item};
+use crate::labels::follow_labels;
+use crate::parsed::ParsedModule;
+use crate::sections::{Section, SectionKind};
+use std::alloc::Global;
+use std::fmt;
+use walrus_body::LocalFunction;
+use walrus_ir::{IdHashMap, InstrLocId, LocalId};
+use walrus_run::RewriteError;
+
+/// How many sections are followed at most. Further ones are carried over as they are.
+const MOST_FOLLOWED: usize = 16;
+
+/// What the items of a part of a section are.
+#[derive(Clone, Copy, PartialEq, Eq)]
+enum Follows {
+    /// What an offset in the body says of its operator.
+    Offsets,
+    /// Names of locals.
+    Locals,
+    /// Names of labels.
+    Labels,
+}
+
+/// A part of a custom section with items of functions.
+#[derive(Drop)]
+struct Part<'a> {
+    follows: Follows,
+    items: FunctionItems<'a>,
+    /// What stands before it in the contents of its section, behind the part before.
+    before: &'a [u8],
+    /// Whether its size is written before it.
+    is_sized: bool,
+}
+
+/// A custom section that follows the code.
+#[derive(Drop)]
+struct Follower<'a> {
+    at: usize,
+    parts: Vec<Part<'a>>,
+    /// What stands behind the last part.
+    behind: &'a [u8],
+}
+
+/// The parts of a name section that are followed.
+fn read_names<'a>(alloc: Global, section: &Section<'a>) -> Result<Follower<'a>, ModuleError> {
+    let (_, mut input) = section.name()?;
+    let mut parts = Vec::new(alloc);
+    let mut from = section.contents;
+    // A subsection takes two bytes at least.
+    for _ in 0..input.rest().len() {
+        if input.is_empty() {
+            break;
+        }
+        let id = input.byte()?;
+        let before = from.until(&input);
+        let len = input.number()?;
+        let part = input.part(len as usize)?;
+        let follows = match id {
+            2 => Follows::Locals,
+            3 => Follows::Labels,
+            _ => continue,
+        };
+        if parts.len() >= 2 {
+            return Err(part.fault(ModuleFault::SectionOutOfOrder));
+        }
+        parts.push(Part {
+            follows,
+            items: FunctionItems::read(alloc, part)?,
+            before,
+            is_sized: true,
+        })?;
+        from = input;
+    }
+    Ok(Follower {
+        at: section.at,
+        parts,
+        behind: from.rest(),
+    })
+}
+
+/// The items of a section with metadata of code.
+fn read_metadata<'a>(alloc: Global, section: &Section<'a>) -> Result<Follower<'a>, ModuleError> {
+    let (_, input) = section.name()?;
+    let mut parts = Vec::new(alloc);
+    parts.push(Part {
+        follows: Follows::Offsets,
+        items: FunctionItems::read(alloc, input)?,
+        before: section.contents.until(&input),
+        is_sized: false,
+    })?;
+    Ok(Follower {
+        at: section.at,
+        parts,
+        behind: &[],
+    })
+}
+
+/// Which of a function's locals have which new index.
+fn local_numbers(
+    parsed: &ParsedModule<'_>,
+    function: &LocalFunction,
+    start: usize,
+) -> Result<IdHashMap<LocalId, u32>, ModuleError> {
+    if !function.has_entry() {
+        return Ok(IdHashMap::new(parsed.alloc));
+    }
+    let facts = match function.emit_facts() {
+        Ok(facts) => facts,
+        Err(error) => return Err(ModuleError::of_body(RewriteError::Walk(error), start)),
+    };
+    match function.emit_locals(&parsed.module, &parsed.spaces.numbers, &facts.used_locals) {
+        Ok((_, numbers)) => Ok(numbers),
+        Err(error) => Err(ModuleError::of_body(RewriteError::Emit(error), start)),
+    }
+}
+
+/// The items whose offsets are those of operators that are written, with their new offsets. The
+/// offset 0, at which no operator stands, is that of the whole function. Both lists ascend.
+fn follow_offsets<'a>(
+    alloc: Global,
+    items: &[Item<'a>],
+    pairs: &[(InstrLocId, usize)],
+    start: usize,
+) -> Result<Vec<Item<'a>>, ModuleError> {
+    let mut kept = Vec::new(alloc);
+    let mut left = pairs;
+    for (offset, bytes) in items {
+        if *offset == 0 {
+            kept.push((0, *bytes))?;
+            continue;
+        }
+        let place = start.saturating_add(*offset as usize);
+        'left: while let Some(((location, new), behind)) = left.split_first() {
+            let old = location.data() as usize;
+            if old > place && !location.is_default() {
+                break 'left;
+            }
+            left = behind;
+            if old == place {
+                if let Ok(new) = u32::try_from(*new) {
+                    kept.push((new, *bytes))?;
+                }
+                break 'left;
+            }
+        }
+    }
+    Ok(kept)
+}
+
+/// The names of locals that are still there, under their new indices.
+fn follow_locals<'a>(
+    alloc: Global,
+    items: &[Item<'a>],
+    numbers: &IdHashMap<LocalId, u32>,
+) -> Result<Vec<Item<'a>>, ModuleError> {
+    let mut kept = Vec::new(alloc);
+    for (local, bytes) in items {
+        if let Some(number) = numbers.get(&LocalId::new(*local as usize)) {
+            kept.push((*number, *bytes))?;
+        }
+    }
+    Ok(kept)
+}
+
+/// A body that was rewritten: where it stood, and what it is now.
+#[derive(Clone, Copy)]
+pub(crate) struct RewrittenBody<'b, 'a> {
+    pub source: Body<'a>,
+    pub function: &'b LocalFunction,
+    pub pairs: &'b [(InstrLocId, usize)],
+    pub raw: &'b [u8],
+}
+
+impl<'a> Part<'a> {
+    /// What is written of a function's items.
+    fn follow(
+        &self,
+        parsed: &ParsedModule<'a>,
+        body: RewrittenBody<'_, 'a>,
+        items: &[Item<'a>],
+    ) -> Result<Vec<Item<'a>>, ModuleError> {
+        let start = body.source.start();
+        match self.follows {
+            Follows::Offsets => follow_offsets(parsed.alloc, items, body.pairs, start),
+            Follows::Locals => {
+                let numbers = local_numbers(parsed, body.function, start)?;
+                follow_locals(parsed.alloc, items, &numbers)
+            }
+            Follows::Labels => follow_labels(parsed.alloc, items, body),
+        }
+    }
+
+    /// Takes the items of a function whose body was rewritten, and writes those that are kept.
+    fn pass(
+        &mut self,
+        parsed: &ParsedModule<'a>,
+        body: RewrittenBody<'_, 'a>,
+    ) -> Result<(), ModuleError> {
+        let func = body.source.func;
+        if !self.items.has(func) {
+            return Ok(());
+        }
+        let items = self.items.take()?;
+        let mut kept = self.follow(parsed, body, &items)?;
+        self.items.put(func, &mut kept)
+    }
+
+    /// Appends it, and what stands before it.
+    fn finish(&mut self, out: &mut Vec<u8>) -> Result<(), ModuleError> {
+        out.extend_from_slice(self.before)?;
+        self.items.finish(self.is_sized, out)
+    }
+}
+
+/// What is to be said of a custom section that isn't kept true.
+#[derive(Clone, Copy, Debug, PartialEq, Eq)]
+pub enum NoteKind {
+    /// It holds offsets into the code of the source.
+    OldOffsets,
+    /// It should follow the code, but isn't as it should be, or there are too many such sections.
+    NotFollowed,
+}
+
+/// A custom section that is carried over as it is, though the code has changed.
+#[derive(Clone, Copy, Debug)]
+pub struct Note<'a> {
+    pub name: &'a str,
+    pub kind: NoteKind,
+}
+
+impl fmt::Display for Note<'_> {
+    fn fmt<W: fmt::Write>(&self, f: &mut fmt::Formatter<W>) -> fmt::Result {
+        let name = self.name;
+        match self.kind {
+            NoteKind::OldOffsets => write!(f, "section {name} speaks of offsets in the source"),
+            NoteKind::NotFollowed => write!(f, "section {name} is carried over as it is"),
+        }
+    }
+}
+
+/// Whether the name of a custom section says that it holds names, or metadata of code, which follow
+/// the code.
+pub(crate) fn follows_code(section: &Section<'_>) -> bool
+    ensures { IsTrue result → HasFollowedName section.now.contents.rest.now }
+{
+    match section.name() {
+        Ok((name, _)) => name == "name" || name.starts_with("metadata.code."),
+        Err(_) => false,
+    }
+}
+
+/// Whether a custom section with this name holds offsets into the code, but none that are followed.
+fn has_old_offsets(name: &str) -> bool {
+    name == "sourceMappingURL"
+        || name == "external_debug_info"
+        || name.starts_with(".debug_")
+        || name.starts_with("reloc.")
+}
+
+/// The custom sections that follow the code, and what is to be said of others.
+#[derive(Drop)]
+pub(crate) struct Followers<'a> {
+    sections: Vec<Follower<'a>>,
+    pub notes: Vec<Note<'a>>,
+}
+
+impl<'a> Followers<'a> {
+    /// Those of a module.
+    pub fn read(parsed: &ParsedModule<'a>) -> Result<Followers<'a>, ModuleError> {
+        let mut followers = Followers {
+            sections: Vec::new(parsed.alloc),
+            notes: Vec::new(parsed.alloc),
+        };
+        for section in parsed.sections()? {
+            match section {
+                Ok(section) if section.kind == SectionKind::Custom => {
+                    followers.add(parsed.alloc, &section)?;
+                }
+                Ok(_) => {}
+                Err(error) => return Err(error),
+            }
+        }
+        Ok(followers)
+    }
+
+    fn add(&mut self, alloc: Global, section: &Section<'a>) -> Result<(), ModuleError> {
+        let (name, _) = section.name()?;
+        let read = if name == "name" {
+            read_names(alloc, section)
+        } else if name.starts_with("metadata.code.") {
+            read_metadata(alloc, section)
+        } else {
+            if has_old_offsets(name) {
+                self.note(name, NoteKind::OldOffsets)?;
+            }
+            return Ok(());
+        };
+        match read {
+            Ok(followed) if self.sections.len() < MOST_FOLLOWED => {
+                self.sections.push(followed)?;
+                Ok(())
+            }
+            Err(error) if error.fault == ModuleFault::Memory => Err(error),
+            _ => self.note(name, NoteKind::NotFollowed),
+        }
+    }
+
+    fn note(&mut self, name: &'a str, kind: NoteKind) -> Result<(), ModuleError> {
+        self.notes.push(Note { name, kind })?;
+        Ok(())
+    }
+
+    /// Whether the location pairs of this function's body are needed. Items of functions before it
+    /// are carried over.
+    pub fn reach(&mut self, func: usize) -> Result<bool, ModuleError> {
+        let mut needs_pairs = false;
+        for section in self.sections.iter_mut() {
+            for part in section.parts.iter_mut() {
+                part.items.carry_before(func)?;
+                needs_pairs |= part.follows != Follows::Locals && part.items.has(func);
+            }
+        }
+        Ok(needs_pairs)
+    }
+
+    /// Follows a body that was rewritten.
+    pub fn pass(
+        &mut self,
+        parsed: &ParsedModule<'a>,
+        source: Body<'a>,
+        function: &LocalFunction,
+        scratch: &Scratch,
+    ) -> Result<(), ModuleError> {
+        let body = RewrittenBody {
+            source,
+            function,
+            pairs: &scratch.pairs,
+            raw: &scratch.raw,
+        };
+        for section in self.sections.iter_mut() {
+            for part in section.parts.iter_mut() {
+                part.pass(parsed, body)?;
+            }
+        }
+        Ok(())
+    }
+
+    /// The new contents of the sections, and what is to be said of others.
+    pub fn finish(self, alloc: Global) -> Result<(Vec<Followed>, Vec<Note<'a>>), ModuleError> {
+        let Followers {
+            mut sections,
+            notes,
+        } = self;
+        let mut followed = Vec::new(alloc);
+        for section in sections.iter_mut() {
+            let mut contents = Vec::new(alloc);
+            for part in section.parts.iter_mut() {
+                part.finish(&mut contents)?;
+            }
+            contents.extend_from_slice(section.behind)?;
+            followed.push(Followed {
+                at: section.at,
+                contents,
+            })?;
+        }
+        Ok((followed, notes))
+    }
+}
+
+/// New contents of a custom section that follows the code.
+#[derive(Drop)]
+pub(crate) struct Followed {
+    /// Where the section stands in the source.
+    at: usize,
+    contents: Vec<u8>,
+}
+
+/// The new contents of a section, if it follows the code.
+pub(crate) fn contents_at(followed: &[Followed], at: usize) -> Option<&[u8]> {
+    followed
+        .iter()
+        .find(|followed| followed.at == at)
+        .map(|followed| followed.contents.as_slice())
+}

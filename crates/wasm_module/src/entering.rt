@@ -1,0 +1,84 @@
+//! What a body is parsed with: its function's type and arguments, and its locals.
+
+ghost use Rattle.std.specs.Prelude.{◌≡◌, length, slice_get, Some, OnOk, IfOk};
+ghost use Rattle.walrus_body.specs.Parsing.Bodies.{body_operators};
+ghost use Rattle.wasm_module.specs.Bodies.{IsWithin};
+ghost use Rattle.wasm_module.specs.CodeSections.{place_of, bytes_of, body_at};
+ghost use Rattle.wasm_module.specs.Declarations.{HaveLocals, parameters_of, first_numbers};
+ghost use Rattle.wasm_module.specs.RewrittenCode.{Extends, Enters};
+
+use crate::code::Body;
+use crate::fault::{ModuleError, ModuleFault};
+use crate::locals::{Locals, MOST_LOCALS, arguments};
+use crate::parsed::ParsedModule;
+use walrus_body::FunctionBody;
+use walrus_ir::{LocalId, ModuleLocals, TypeId};
+
+/// What a function is parsed with.
+#[derive(Drop)]
+pub(crate) struct Entered<'a> {
+    pub ty: TypeId,
+    pub args: Vec<LocalId>,
+    pub body: FunctionBody<'a>,
+    /// How many locals it has, its parameters among them.
+    pub locals: usize,
+}
+
+impl<'a> ParsedModule<'a> {
+    /// Reads the declarations of a body's locals: the types of all locals of the function, and what
+    /// it is parsed with.
+    fn declared(&self, body: Body<'a>) -> Result<(ModuleLocals, Entered<'a>), ModuleError>
+        ensures is_type { IfOk result
+            (λ x. slice_get self.now.func_types.items body.entry.func ≡ Some x.1.ty) }
+        ensures bytes { IfOk result (λ x. x.1.body.bytes.now ≡ bytes_of body.entry) }
+        ensures start { IfOk result (λ x. x.1.body.start ≡ place_of body.entry) }
+        ensures fits { IfOk result (λ x. IsWithin x.1.body) }
+        ensures locals { IfOk result (λ x. HaveLocals self.now.spaces.indices
+            (parameters_of self.now.«module».types x.1.ty) (bytes_of body.entry)
+            (body_operators x.1.body) x.0) }
+        ensures args { IfOk result (λ x. x.1.args.items
+            ≡ first_numbers (length (parameters_of self.now.«module».types x.1.ty))) }
+        ensures count { IfOk result (λ x. x.1.locals ≡ length x.0) }
+    {
+        let Some(ty) = self.func_types.get(body.func).copied() else {
+            return Err(body.input.fault(ModuleFault::BodyCount));
+        };
+        let params = self.params(ty);
+        if params.len() > MOST_LOCALS {
+            return Err(body.input.fault(ModuleFault::TooManyLocals));
+        }
+        let mut input = body.input;
+        let locals = Locals::declared(self.alloc, params, &mut input, &self.spaces.indices)?;
+        let entered = Entered {
+            ty,
+            args: arguments(self.alloc, params.len())?,
+            body: FunctionBody {
+                bytes: body.bytes(),
+                start: body.start(),
+                ops: body.input.until(&input).len(),
+            },
+            locals: locals.count,
+        };
+        Ok((locals.types, entered))
+    }
+
+    /// Reads the declarations of a body's locals, and makes the function's locals those of the
+    /// module.
+    pub(crate) fn enter(&mut self, body: Body<'a>) -> Result<Entered<'a>, ModuleError>
+        ensures extends { Extends self.old self.new }
+        ensures enters { IfOk result (λ e. Enters self.old body.entry.func (body_at body.entry)
+            self.new e.ty e.args.items e.locals e.body) }
+        ensures fits { IfOk result (λ e. IsWithin e.body) }
+        ensures offset { OnOk result (self.new.«module».code_section_offset ≡ 0) }
+    {
+        let (types, entered) = self.declared(body)?;
+        match self.spaces.reach_locals(entered.locals) {
+            Ok(()) => {}
+            Err(error) => return Err(ModuleError::of_index(error, entered.body.start)),
+        }
+        self.module.locals = types;
+        // Places count from the start of the file.
+        self.module.code_section_offset = 0;
+        Ok(entered)
+    }
+}

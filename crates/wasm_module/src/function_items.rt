@@ -1,0 +1,148 @@
+//! Items of functions in custom sections: a vector with, for each of some functions, its index and
+//! a vector of items, each a number and a vector of bytes. Names of locals and of labels are such
+//! items (WebAssembly core specification 3.0, custom sections, name section), and so is the
+//! metadata of code, as branch hints.
+
+use crate::fault::{ModuleError, ModuleFault};
+use crate::input::Input;
+use crate::output::{number_len, write_bytes, write_number};
+use std::alloc::Global;
+
+/// An item: its number, and its bytes.
+pub(crate) type Item<'a> = (u32, &'a [u8]);
+
+/// Items of functions, in ascending order of functions: those that are left in the source, and
+/// those that are written.
+#[derive(Drop)]
+pub(crate) struct FunctionItems<'a> {
+    left: Input<'a>,
+    written: Vec<u8>,
+    functions: u32,
+}
+
+/// Passes the items of one function.
+fn pass_items(input: &mut Input<'_>) -> Result<(), ModuleError> {
+    for _ in 0..input.number()? {
+        input.number()?;
+        input.bytes()?;
+    }
+    Ok(())
+}
+
+/// The items of one function.
+fn read_items<'a>(alloc: Global, input: &mut Input<'a>) -> Result<Vec<Item<'a>>, ModuleError> {
+    let mut items = Vec::new(alloc);
+    for _ in 0..input.number()? {
+        let number = input.number()?;
+        let bytes = input.bytes()?;
+        items.push((number, bytes))?;
+    }
+    Ok(items)
+}
+
+impl<'a> FunctionItems<'a> {
+    /// The items of this part of a section.
+    ///
+    /// # Errors
+    ///
+    /// `Truncated`, `BadNumber` or `Trailing`; `SectionOutOfOrder` where functions don't ascend.
+    pub fn read(alloc: Global, part: Input<'a>) -> Result<FunctionItems<'a>, ModuleError> {
+        let mut input = part;
+        let count = input.number()?;
+        let left = input;
+        let mut next = 0;
+        for _ in 0..count {
+            let begin = input;
+            let func = input.number()?;
+            if (func as usize) < next {
+                return Err(begin.fault(ModuleFault::SectionOutOfOrder));
+            }
+            next = func as usize + 1;
+            pass_items(&mut input)?;
+        }
+        input.finish()?;
+        let mut written = Vec::new(alloc);
+        written.reserve(left.rest().len())?;
+        Ok(FunctionItems {
+            left,
+            written,
+            functions: 0,
+        })
+    }
+
+    /// The function whose items are next.
+    fn next_func(&self) -> Option<usize> {
+        let mut input = self.left;
+        match input.number() {
+            Ok(func) => Some(func as usize),
+            Err(_) => None,
+        }
+    }
+
+    /// Carries over the items of the next function, as they are.
+    fn carry(&mut self) -> Result<(), ModuleError> {
+        let mut input = self.left;
+        input.number()?;
+        pass_items(&mut input)?;
+        self.written.extend_from_slice(self.left.until(&input))?;
+        self.functions = self.functions.saturating_add(1);
+        self.left = input;
+        Ok(())
+    }
+
+    /// Carries over the items of functions before this one.
+    pub fn carry_before(&mut self, func: usize) -> Result<(), ModuleError> {
+        // A function's items take two bytes at least.
+        for _ in 0..self.left.rest().len() {
+            match self.next_func() {
+                Some(next) if next < func => self.carry()?,
+                _ => return Ok(()),
+            }
+        }
+        Ok(())
+    }
+
+    /// Whether the items of this function are next.
+    pub fn has(&self, func: usize) -> bool {
+        self.next_func() == Some(func)
+    }
+
+    /// Takes the items of the next function.
+    pub fn take(&mut self) -> Result<Vec<Item<'a>>, ModuleError> {
+        let mut input = self.left;
+        input.number()?;
+        let items = read_items(*self.written.allocator(), &mut input)?;
+        self.left = input;
+        Ok(items)
+    }
+
+    /// Writes items of a function, in ascending order; nothing where there are none.
+    pub fn put(&mut self, func: usize, items: &mut Vec<Item<'a>>) -> Result<(), ModuleError> {
+        if items.is_empty() {
+            return Ok(());
+        }
+        items.sort_unstable_by_key(|(number, _)| *number);
+        write_number(&mut self.written, func)?;
+        write_number(&mut self.written, items.len())?;
+        for (number, bytes) in items.iter() {
+            write_number(&mut self.written, *number as usize)?;
+            write_bytes(&mut self.written, bytes)?;
+        }
+        self.functions = self.functions.saturating_add(1);
+        Ok(())
+    }
+
+    /// Carries over what is left, and appends all: the number of functions, and their items; behind
+    /// the size of all where one is written.
+    pub fn finish(&mut self, is_sized: bool, out: &mut Vec<u8>) -> Result<(), ModuleError> {
+        self.carry_before(usize::MAX)?;
+        let functions = self.functions as usize;
+        if is_sized {
+            let len = self.written.len();
+            write_number(out, len.saturating_add(number_len(functions)))?;
+        }
+        write_number(out, functions)?;
+        out.extend_from_slice(&self.written)?;
+        Ok(())
+    }
+}

@@ -1,0 +1,45 @@
+//! Whole modules of WebAssembly: their sections are read, the body of each function is rewritten,
+//! and a module is written that has all else as it was.
+#![tactic(auto)]
+
+mod adding;
+mod bodies;
+mod body_writer;
+mod changes;
+mod code;
+mod code_fault;
+mod constant;
+mod custom;
+mod entering;
+mod exports;
+mod fault;
+mod function_items;
+mod imports;
+mod input;
+mod labels;
+mod locals;
+mod missing;
+mod output;
+mod parsed;
+mod program;
+mod rewriting;
+mod sections;
+mod segments;
+mod spaces;
+mod storage;
+mod telling;
+mod types;
+mod writing;
+
+pub use bodies::Scratch;
+pub use body_writer::{BodyWriter, ChangeFunction, Changing, Rewriting};
+pub use changes::Changes;
+pub use code::{Bodies, Body};
+pub use code_fault::CodeFault;
+pub use custom::{Note, NoteKind};
+pub use fault::{ModuleError, ModuleFault};
+pub use parsed::ParsedModule;
+pub use program::{Command, Task, USAGE};
+pub use rewriting::RewrittenModule;
+pub use sections::{Section, SectionKind, Sections};
+pub use writing::WriteError;

@@ -1,0 +1,139 @@
+//! The locals of a function: its parameters, and those that its body declares (WebAssembly core
+//! specification 3.0, binary format, code section).
+
+ghost use Rattle.std.specs.Prelude.{◌≡◌, ◌≤◌, ◌+◌, ◌++◌, length, replicate, OnOk, IfOk};
+ghost use Rattle.wasm_module.specs.Declarations.{HaveLocals, DeclaresGroup, first_numbers};
+
+use crate::fault::{ModuleError, ModuleFault};
+use crate::input::Input;
+use std::alloc::Global;
+use walrus_body::{CheckError, IndicesToIds, OpCheck, value_type};
+use walrus_ir::{LocalId, ModuleLocals, ValType};
+use wasm_ops::{Immediates, Operator};
+
+/// How many locals a function has at most, its parameters among them: engines take no more.
+pub(crate) const MOST_LOCALS: usize = 50_000;
+
+/// The locals of one function, each under its index as id.
+#[derive(Drop)]
+pub(crate) struct Locals {
+    pub types: ModuleLocals,
+    pub count: usize,
+}
+
+impl Locals {
+    /// The parameters of a function.
+    fn of_params(alloc: Global, params: &[ValType]) -> Result<Locals, ModuleError>
+        ensures types { IfOk result (λ locals. locals.types ≡ params.now) }
+        ensures count { IfOk result (λ locals. locals.count ≡ length params.now) }
+    {
+        let mut types = ModuleLocals::new(alloc);
+        'params: for ty in params {
+            types.add(*ty)?;
+        }
+        Ok(Locals {
+            types,
+            count: params.len(),
+        })
+    }
+
+    /// The parameters of a function, and the locals that are declared at the front.
+    ///
+    /// # Errors
+    ///
+    /// `Truncated`, `BadNumber`, `BadType`; `TooManyLocals`; `IndexOutOfRange`; or `Memory`.
+    pub fn declared(
+        alloc: Global,
+        params: &[ValType],
+        input: &mut Input<'_>,
+        indices: &IndicesToIds,
+    ) -> Result<Locals, ModuleError>
+        ensures types { IfOk result (λ locals. HaveLocals indices.now params.now
+            input.old.rest.now input.new.rest.now locals.types) }
+        ensures count { IfOk result (λ locals. locals.count ≡ length locals.types) }
+    {
+        let mut locals = Locals::of_params(alloc, params)?;
+        'groups: for _ in 0..input.number()? {
+            locals.declare(input, indices)?;
+        }
+        Ok(locals)
+    }
+
+    /// Adds so many locals of a type.
+    fn add(&mut self, count: u32, ty: &ValType) -> Result<(), ModuleError>
+        requires { self.old.count + count ≤ 50000 }
+        ensures types { OnOk result (self.new.types ≡ self.old.types ++ replicate count ty.now) }
+        ensures count { OnOk result (self.new.count ≡ self.old.count + count) }
+    {
+        'locals: for _ in 0..count {
+            self.types.add(*ty)?;
+        }
+        self.count += count as usize;
+        Ok(())
+    }
+
+    /// Adds the group of locals that is declared at the front.
+    fn declare(&mut self, input: &mut Input<'_>, indices: &IndicesToIds) -> Result<(), ModuleError>
+        ensures group { OnOk result (DeclaresGroup indices.now input.old.rest.now
+            input.new.rest.now self.old.types self.new.types) }
+        ensures count { OnOk result
+            (self.old.count ≡ length self.old.types → self.new.count ≡ length self.new.types) }
+    {
+        let begin = *input;
+        let count = input.number()?;
+        if self.count.saturating_add(count as usize) > MOST_LOCALS {
+            return Err(begin.fault(ModuleFault::TooManyLocals));
+        }
+        let begin = *input;
+        let ty = input.value_type()?;
+        match value_type(indices, ty) {
+            Ok(ty) => self.add(count, &ty),
+            Err(error) => Err(ModuleError::of_type(error, begin.at())),
+        }
+    }
+}
+
+impl Input<'_> {
+    /// Passes the declarations of a body's locals.
+    pub fn pass_declarations(&mut self) -> Result<(), ModuleError> {
+        for _ in 0..self.number()? {
+            self.number()?;
+            self.value_type()?;
+        }
+        Ok(())
+    }
+}
+
+/// The ids of a function's parameters, which are the first of its locals.
+pub(crate) fn arguments(alloc: Global, count: usize) -> Result<Vec<LocalId>, ModuleError>
+    ensures { IfOk result (λ ids. ids.items ≡ first_numbers count) }
+{
+    let mut ids = Vec::new(alloc);
+    'ids: for index in 0..count {
+        ids.push(LocalId::new(index))?;
+    }
+    Ok(ids)
+}
+
+/// The validator that refuses an operator which names a local with this index or a greater one.
+#[derive(Clone, Copy, Debug, Drop)]
+pub(crate) struct LocalsBelow(pub usize);
+
+impl OpCheck for LocalsBelow {
+    ghost use Rattle.std.specs.Prelude.{ℕ};
+    ghost use Rattle.wasm_module.specs.LocalsBelow.{locals_below};
+
+    ghost State = { ℕ };
+
+    ghost state = { λ v. v.0 };
+
+    ghost check = { locals_below };
+
+    fn op(&mut self, _pos: usize, op: &Operator<'_>) -> Result<(), CheckError> {
+        let (_, immediates) = op.parts();
+        match immediates {
+            Immediates::Local(local) if local as usize >= self.0 => Err(CheckError::Refused(0)),
+            _ => Ok(()),
+        }
+    }
+}

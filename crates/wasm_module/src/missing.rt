@@ -1,0 +1,130 @@
+//! Types that handlers of legacy `try` constructs need, and the module lacks.
+
+ghost use Rattle.std.specs.Prelude.{◌≡◌, OnOk};
+ghost use Rattle.wasm_module.specs.Declarations.{parameters_of};
+ghost use Rattle.wasm_module.specs.RewrittenCode.{Extends};
+
+use crate::code::Body;
+use crate::fault::ModuleError;
+use crate::labels::opened;
+use crate::parsed::ParsedModule;
+use walrus_body::value_type;
+use walrus_ir::{InstrSeqType, TypeId, ValType};
+use wasm_ops::{BlockType, Operator, Reader};
+
+impl<'a> ParsedModule<'a> {
+    /// What functions of this type take; nothing where it is no type of functions.
+    pub(crate) fn params(&self, ty: TypeId) -> &[ValType]
+        ensures { result.now ≡ parameters_of self.now.«module».types ty }
+    {
+        if self.module.types.is_func(ty) {
+            self.module.types.params(ty)
+        } else {
+            &[]
+        }
+    }
+
+    /// What a block of this type gives; nothing where it isn't known.
+    fn results_of(&self, ty: BlockType) -> Result<Vec<ValType>, ModuleError> {
+        let mut results = Vec::new(self.alloc);
+        match ty {
+            BlockType::Empty => {}
+            BlockType::Value(ty) => {
+                if let Ok(ty) = value_type(&self.spaces.indices, ty) {
+                    results.push(ty)?;
+                }
+            }
+            BlockType::FuncType(index) => {
+                if let Ok(id) = self.spaces.indices.get_type(index)
+                    && self.module.types.is_func(id)
+                {
+                    results.extend_from_slice(self.module.types.results(id))?;
+                }
+            }
+        }
+        Ok(results)
+    }
+
+    /// What the handler of a `catch` takes; nothing where the tag isn't known.
+    fn caught(&self, tag: u32) -> Result<Vec<ValType>, ModuleError> {
+        let mut caught = Vec::new(self.alloc);
+        if let Ok(id) = self.spaces.indices.get_tag(tag)
+            && let Some(ty) = self.module.tags.get(id)
+        {
+            caught.extend_from_slice(self.params(ty))?;
+        }
+        Ok(caught)
+    }
+
+    /// Adds a function type, where the module has none with these lists and a sequence needs one.
+    fn add_type_for(&mut self, params: &[ValType], results: &[ValType]) -> Result<(), ModuleError>
+        ensures { OnOk result (Extends self.old self.new) }
+    {
+        if InstrSeqType::existing(&self.module.types, params, results).is_none() {
+            self.module.types.add_func(params, results)?;
+        }
+        Ok(())
+    }
+
+    /// Adds the type of a handler that takes this, in a construct of this type.
+    fn add_handler_type(&mut self, caught: &[ValType], ty: BlockType) -> Result<(), ModuleError>
+        ensures { OnOk result (Extends self.old self.new) }
+    {
+        let results = self.results_of(ty)?;
+        self.add_type_for(caught, &results)
+    }
+
+    /// Adds the type of the handler of a `catch`, in a construct of this type.
+    fn add_catch_type(&mut self, tag: u32, ty: BlockType) -> Result<(), ModuleError>
+        ensures { OnOk result (Extends self.old self.new) }
+    {
+        let caught = self.caught(tag)?;
+        self.add_handler_type(&caught, ty)
+    }
+
+    /// Adds the type that an operator needs, behind operators that have opened constructs of these
+    /// types and left them open.
+    fn add_type_at(
+        &mut self,
+        operator: &Operator<'_>,
+        open: &mut Vec<BlockType>,
+    ) -> Result<(), ModuleError>
+        ensures { OnOk result (Extends self.old self.new) }
+    {
+        if let Some(ty) = opened(operator) {
+            open.push(ty)?;
+            return Ok(());
+        }
+        let Some(ty) = open.last().copied() else {
+            return Ok(());
+        };
+        match operator {
+            Operator::Catch { tag } => self.add_catch_type(*tag, ty),
+            Operator::CatchAll => self.add_handler_type(&[], ty),
+            Operator::End | Operator::Delegate { .. } => {
+                let _ = open.pop();
+                Ok(())
+            }
+            _ => Ok(()),
+        }
+    }
+
+    /// Adds the types that the handlers of a body's `try` constructs need: what the tag carries, to
+    /// the results of the construct. No handler's type is written, so that they have no index.
+    pub(crate) fn add_missing_types(&mut self, body: Body<'a>) -> Result<(), ModuleError>
+        ensures { OnOk result (Extends self.old self.new) }
+    {
+        let mut declarations = body.input;
+        declarations.pass_declarations()?;
+        let mut open = Vec::new(self.alloc);
+        let mut reader = Reader::new(declarations.rest(), declarations.at());
+        // An operator takes a byte at least.
+        'operators: for _ in 0..body.bytes().len() {
+            let Ok(operator) = reader.read() else {
+                break 'operators;
+            };
+            self.add_type_at(&operator, &mut open)?;
+        }
+        Ok(())
+    }
+}

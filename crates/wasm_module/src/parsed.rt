@@ -1,0 +1,337 @@
+//! A module that was read.
+ghost use Rattle.std.specs.Prelude.{◌≡◌, List, IfOk};
+ghost use Rattle.wasm_module.specs.Sections.{SectionAt, IsModule, next_rank};
+ghost use Rattle.wasm_module.specs.WrittenModules.{count_bodies};
+
+use crate::code::Bodies;
+use crate::fault::{ModuleError, ModuleFault};
+use crate::imports::Imported;
+use crate::input::Input;
+use crate::sections::{RANKS, Section, SectionKind, Sections};
+use crate::spaces::Spaces;
+use crate::types::{RawType, read_types};
+use std::alloc::Global;
+use walrus_body::{IndexError, Space, value_type};
+use walrus_ir::{FunctionId, Module, ModuleLocals, ModuleTags, ModuleTypes, TypeId, ValType};
+use wasm_ops::RawValType;
+
+/// A module that was read: what the bodies of its functions need to know of it, and where they
+/// stand. Ids of types are their indices behind those of the entry types, which are in no module;
+/// other ids are the indices. Places are offsets from the start of the file.
+#[derive(Drop)]
+pub struct ParsedModule<'a> {
+    pub(crate) alloc: Global,
+    pub(crate) bytes: &'a [u8],
+    pub(crate) module: Module,
+    pub(crate) spaces: Spaces,
+    /// The types of all functions, by index.
+    pub(crate) func_types: Vec<TypeId>,
+    /// How many of them are imported.
+    imported: usize,
+    /// The contents of the code section.
+    code: Option<Input<'a>>,
+    /// What the data count section tells, and where.
+    data_count: Option<(u32, usize)>,
+}
+
+/// What was added at this place, or why it wasn't.
+fn added_at(answer: Result<(), IndexError>, place: usize) -> Result<(), ModuleError> {
+    match answer {
+        Ok(()) => Ok(()),
+        Err(error) => Err(ModuleError::of_index(error, place)),
+    }
+}
+
+impl<'a> ParsedModule<'a> {
+    /// Reads a module, but not yet the bodies of its functions.
+    ///
+    /// # Errors
+    ///
+    /// The first fault of its sections, with its place, or `Memory`.
+    pub fn read(alloc: Global, bytes: &'a [u8]) -> Result<ParsedModule<'a>, ModuleError> {
+        let mut parsed = ParsedModule {
+            alloc,
+            bytes,
+            module: Module {
+                types: ModuleTypes::new(alloc),
+                tags: ModuleTags::new(alloc),
+                locals: ModuleLocals::new(alloc),
+                code_section_offset: 0,
+            },
+            spaces: Spaces::new(alloc),
+            func_types: Vec::new(alloc),
+            imported: 0,
+            code: None,
+            data_count: None,
+        };
+        for section in Sections::new(bytes)? {
+            match section {
+                Ok(section) => parsed.read_section(section)?,
+                Err(error) => return Err(error),
+            }
+        }
+        parsed.check_counts()?;
+        Ok(parsed)
+    }
+
+    /// The bytes that it was read from.
+    pub fn bytes(&self) -> &'a [u8]
+        ensures { result.now ≡ self.now.bytes.now }
+    {
+        self.bytes
+    }
+
+    /// Its sections, in order.
+    ///
+    /// # Errors
+    ///
+    /// None, since they were read before.
+    pub fn sections(&self) -> Result<Sections<'a>, ModuleError> {
+        Sections::new(self.bytes)
+    }
+
+    /// The rank of the first of its sections that has a greater rank than this, or `RANKS`.
+    pub(crate) fn rank_behind(&self, rank: u8) -> Result<u8, ModuleError>
+        ensures { (all : List SectionAt) → IsModule self.now.bytes.now all
+            → IfOk result (λ next. next ≡ next_rank rank all) }
+    {
+        'sections: for section in Sections::new(self.bytes())? {
+            let next = section?.kind.rank();
+            if rank < next {
+                return Ok(next);
+            }
+        }
+        Ok(RANKS)
+    }
+
+    /// The bodies of its functions that are not imported, in order.
+    pub fn bodies(&self) -> Bodies<'a> {
+        let Some(contents) = self.code else {
+            return Bodies::none();
+        };
+        match Bodies::of_section(contents, self.imported) {
+            Ok((_, bodies)) => bodies,
+            Err(_) => Bodies::none(),
+        }
+    }
+
+    /// How many functions are imported.
+    pub(crate) fn imported(&self) -> usize
+        ensures { result ≡ self.now.imported }
+    {
+        self.imported
+    }
+
+    /// Whether a function with a body has this index, which counts behind imported ones.
+    pub fn has_body(&self, index: usize) -> bool {
+        index >= self.imported && index < self.func_types.len()
+    }
+
+    /// How many functions have a body.
+    pub fn body_count(&self) -> usize
+        ensures { result ≡ count_bodies self.now }
+    {
+        self.func_types.len().saturating_sub(self.imported)
+    }
+
+    fn read_section(&mut self, section: Section<'a>) -> Result<(), ModuleError> {
+        let mut input = section.contents;
+        match section.kind {
+            SectionKind::Custom => {
+                section.name()?;
+                return Ok(());
+            }
+            SectionKind::Type => return self.add_types(&read_types(self.alloc, input)?),
+            SectionKind::Start => input.index_in(&self.spaces.indices, Space::Funcs)?,
+            SectionKind::DataCount => {
+                let place = input.at();
+                self.data_count = Some((input.number()?, place));
+            }
+            SectionKind::Code => {
+                input = self.read_code(input)?;
+            }
+            _ => {
+                for _ in 0..input.number()? {
+                    self.read_item(section.kind, &mut input)?;
+                }
+            }
+        }
+        input.finish()
+    }
+
+    /// One of the items of a section.
+    fn read_item(&mut self, kind: SectionKind, input: &mut Input<'a>) -> Result<(), ModuleError> {
+        let place = input.at();
+        match kind {
+            SectionKind::Import => return self.read_import(input),
+            SectionKind::Function => {
+                let index = input.number()?;
+                return self.add_func(index, place);
+            }
+            SectionKind::Export => return input.export(&self.spaces.indices),
+            SectionKind::Tag => {
+                let index = input.tag()?;
+                return self.add_tag(index, place);
+            }
+            SectionKind::Table => input.table()?,
+            SectionKind::Memory => input.limits()?,
+            SectionKind::Global => input.global()?,
+            SectionKind::Element => input.element_segment()?,
+            _ => input.data_segment()?,
+        }
+        let added = match kind {
+            SectionKind::Table => self.spaces.add_table(),
+            SectionKind::Memory => self.spaces.add_memory(),
+            SectionKind::Global => self.spaces.add_global(),
+            SectionKind::Element => self.spaces.add_element(),
+            _ => self.spaces.add_data(),
+        };
+        added_at(added, place)
+    }
+
+    fn read_import(&mut self, input: &mut Input<'a>) -> Result<(), ModuleError> {
+        let (imported, place) = input.import()?;
+        let added = match imported {
+            Imported::Func(index) => {
+                self.add_func(index, place)?;
+                self.imported = self.func_types.len();
+                return Ok(());
+            }
+            Imported::Tag(index) => return self.add_tag(index, place),
+            Imported::Table => self.spaces.add_table(),
+            Imported::Memory => self.spaces.add_memory(),
+            Imported::Global => self.spaces.add_global(),
+        };
+        added_at(added, place)
+    }
+
+    /// The function type with this index.
+    fn func_type(&self, index: u32, place: usize) -> Result<TypeId, ModuleError> {
+        let id = match self.spaces.indices.get_type(index) {
+            Ok(id) => id,
+            Err(error) => return Err(ModuleError::of_index(error, place)),
+        };
+        if self.module.types.is_func(id) {
+            return Ok(id);
+        }
+        Err(ModuleError {
+            fault: ModuleFault::NotAFunctionType,
+            at: place,
+        })
+    }
+
+    fn add_func(&mut self, index: u32, place: usize) -> Result<(), ModuleError> {
+        let ty = match self.func_type(index, place) {
+            Ok(ty) => ty,
+            Err(error) => return Err(error),
+        };
+        let id = FunctionId::new(self.func_types.len());
+        match self.spaces.add_func(id) {
+            Ok(()) => {}
+            Err(error) => return Err(ModuleError::of_index(error, place)),
+        }
+        self.func_types.push(ty)?;
+        Ok(())
+    }
+
+    fn add_tag(&mut self, index: u32, place: usize) -> Result<(), ModuleError> {
+        let ty = match self.func_type(index, place) {
+            Ok(ty) => ty,
+            Err(error) => return Err(error),
+        };
+        match self.spaces.add_tag() {
+            Ok(()) => {}
+            Err(error) => return Err(ModuleError::of_index(error, place)),
+        }
+        self.module.tags.add(ty)?;
+        Ok(())
+    }
+
+    /// Value types with the ids of the types that they name.
+    fn value_types(&self, types: &[RawValType]) -> Result<Vec<ValType>, ModuleError> {
+        let mut made = Vec::new(self.alloc);
+        for ty in types {
+            match value_type(&self.spaces.indices, *ty) {
+                Ok(ty) => made.push(ty)?,
+                Err(error) => return Err(ModuleError::of_type(error, 0)),
+            }
+        }
+        Ok(made)
+    }
+
+    /// The different lists of results of function types.
+    fn result_lists<'t>(&self, types: &'t [RawType]) -> Result<Vec<&'t [RawValType]>, ModuleError> {
+        let mut lists: Vec<&'t [RawValType]> = Vec::new(self.alloc);
+        for ty in types {
+            if let RawType::Func { results, .. } = ty {
+                lists.push(results.as_slice())?;
+            }
+        }
+        lists.sort_unstable();
+        lists.dedup();
+        Ok(lists)
+    }
+
+    /// Adds the types of the type section, behind the entry types that bodies of functions of these
+    /// types need.
+    fn add_types(&mut self, types: &[RawType]) -> Result<(), ModuleError> {
+        let lists = self.result_lists(types)?;
+        for index in 0..types.len() {
+            let id = TypeId::new(lists.len().saturating_add(index));
+            match self.spaces.add_type(id) {
+                Ok(()) => {}
+                Err(error) => return Err(ModuleError::of_index(error, 0)),
+            }
+        }
+        for results in &lists {
+            let results = self.value_types(results)?;
+            self.module.types.add_entry(&results)?;
+        }
+        for ty in types {
+            match ty {
+                RawType::Func { params, results } => {
+                    let (params, results) = (self.value_types(params)?, self.value_types(results)?);
+                    self.module.types.add_func(&params, &results)?;
+                }
+                RawType::Other => {
+                    self.module.types.add_other()?;
+                }
+            }
+        }
+        Ok(())
+    }
+
+    /// Keeps the bodies of the code section, and answers what follows them.
+    fn read_code(&mut self, mut input: Input<'a>) -> Result<Input<'a>, ModuleError> {
+        let begin = input;
+        let count = input.number()?;
+        if count as usize != self.body_count() {
+            return Err(begin.fault(ModuleFault::BodyCount));
+        }
+        self.code = Some(begin);
+        for _ in 0..count {
+            let len = input.number()?;
+            input.part(len as usize)?;
+        }
+        Ok(input)
+    }
+
+    /// Whether functions have their bodies, and there are as many data segments as were told.
+    fn check_counts(&self) -> Result<(), ModuleError> {
+        if self.body_count() > 0 && self.code.is_none() {
+            return Err(ModuleError {
+                fault: ModuleFault::BodyCount,
+                at: self.bytes.len(),
+            });
+        }
+        match self.data_count {
+            Some((count, place)) if count as usize != self.spaces.data_segments() => {
+                Err(ModuleError {
+                    fault: ModuleFault::DataCount,
+                    at: place,
+                })
+            }
+            _ => Ok(()),
+        }
+    }
+}

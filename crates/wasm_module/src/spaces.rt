@@ -1,0 +1,144 @@
+//! The index spaces of a module: what stands in each keeps its index.
+
+ghost use Rattle.std.specs.Prelude.{◌≡◌, ◌<◌, ℕ, Ok, OnOk};
+ghost use Rattle.walrus_body.specs.IndexMaps.{locals_in, local_of};
+ghost use Rattle.wasm_module.specs.Declarations.{first_numbers};
+
+use std::alloc::Global;
+use walrus_body::{IdsToIndices, IndexError, IndicesToIds};
+use walrus_ir::{
+    DataId, ElementId, FunctionId, GlobalId, LocalId, MemoryId, TableId, TagId, TypeId,
+};
+
+/// How many things stand in each index space but those of types, functions and locals.
+#[derive(Clone, Copy, Default)]
+struct Counts {
+    tables: usize,
+    memories: usize,
+    globals: usize,
+    tags: usize,
+    elements: usize,
+    data: usize,
+}
+
+/// The ids of a module's indices, and the indices of its ids, which are the same in the source and
+/// in what is written.
+#[derive(Drop)]
+pub(crate) struct Spaces {
+    pub indices: IndicesToIds,
+    pub numbers: IdsToIndices,
+    counts: Counts,
+    /// How many indices of locals stand for ids, which are the indices.
+    locals: usize,
+    ghost local_ids: { locals_in indices 0 ≡ first_numbers locals },
+}
+
+/// Gives an id the next index of its space, in the source and in what is written.
+macro_rules! add {
+    ($spaces:ident, $id:expr, $push:ident, $number_of:ident) => {{
+        let id = $id;
+        $spaces.indices.$push(id)?;
+        match $spaces.numbers.$number_of(id) {
+            Ok(_) => Ok(()),
+            Err(_) => $spaces.numbers.$push(id),
+        }
+    }};
+}
+
+/// The same of what has its index as id, which is the count of its space.
+macro_rules! add_next {
+    ($spaces:ident, $kind:ident, $count:ident, $push:ident, $number_of:ident) => {{
+        let index = $spaces.counts.$count;
+        $spaces.counts.$count = index.saturating_add(1);
+        add!($spaces, $kind::new(index), $push, $number_of)
+    }};
+}
+
+impl Spaces {
+    ghost use Rattle.wasm_module.specs.RewrittenCode.{HasOtherLocals};
+
+    /// Nothing has an index. It takes no memory.
+    pub fn new(alloc: Global) -> Spaces {
+        Spaces {
+            indices: IndicesToIds::new(alloc),
+            numbers: IdsToIndices::new(alloc),
+            counts: Counts::default(),
+            locals: 0,
+        }
+    }
+
+    /// Gives a type the next index.
+    pub fn add_type(&mut self, id: TypeId) -> Result<(), IndexError> {
+        add!(self, id, push_type, get_type_index)
+    }
+
+    /// Gives a function the next index.
+    pub fn add_func(&mut self, id: FunctionId) -> Result<(), IndexError> {
+        add!(self, id, push_func, get_func_index)
+    }
+
+    /// Adds a table, whose id is its index.
+    pub fn add_table(&mut self) -> Result<(), IndexError> {
+        add_next!(self, TableId, tables, push_table, get_table_index)
+    }
+
+    /// Adds a memory, whose id is its index.
+    pub fn add_memory(&mut self) -> Result<(), IndexError> {
+        add_next!(self, MemoryId, memories, push_memory, get_memory_index)
+    }
+
+    /// Adds a global, whose id is its index.
+    pub fn add_global(&mut self) -> Result<(), IndexError> {
+        add_next!(self, GlobalId, globals, push_global, get_global_index)
+    }
+
+    /// How many globals there are.
+    pub fn globals(&self) -> usize {
+        self.counts.globals
+    }
+
+    /// Adds a tag, whose id is its index.
+    pub fn add_tag(&mut self) -> Result<(), IndexError> {
+        add_next!(self, TagId, tags, push_tag, get_tag_index)
+    }
+
+    /// Adds an element segment, whose id is its index.
+    pub fn add_element(&mut self) -> Result<(), IndexError> {
+        add_next!(self, ElementId, elements, push_element, get_element_index)
+    }
+
+    /// Adds a data segment, whose id is its index.
+    pub fn add_data(&mut self) -> Result<(), IndexError> {
+        let id = DataId::new(self.counts.data);
+        self.counts.data = self.counts.data.saturating_add(1);
+        let index = self.indices.push_data(id)?;
+        self.numbers.set_data_index(id, index)
+    }
+
+    /// How many data segments there are.
+    pub fn data_segments(&self) -> usize {
+        self.counts.data
+    }
+
+    /// The function under whose id the locals of all functions are found: those of each are
+    /// numbered alike, so that one list serves for all.
+    pub fn local_lists(&self) -> FunctionId
+        ensures { result ≡ 0 }
+    {
+        FunctionId::new(0)
+    }
+
+    /// Lets so many first indices of locals stand for ids, which are the indices.
+    pub fn reach_locals(&mut self, count: usize) -> Result<(), IndexError>
+        ensures others { HasOtherLocals self.old self.new }
+        ensures ids { OnOk result ((local : ℕ) → local < count
+            → local_of self.new.indices 0 local ≡ Ok local) }
+    {
+        let lists = self.local_lists();
+        'locals: for index in self.locals..count {
+            self.indices.push_local(lists, LocalId::new(index))?;
+            self.locals = index + 1;
+        }
+        Ok(())
+    }
+}

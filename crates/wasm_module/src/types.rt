@@ -1,0 +1,146 @@
+//! The type section (WebAssembly core specification 3.0, binary format, types).
+
+use crate::fault::{ModuleError, ModuleFault};
+use crate::input::Input;
+use std::alloc::Global;
+use walrus_ir::{HeapType, RefType, ValType};
+use wasm_ops::RawValType;
+
+/// A composite type, as far as bodies of functions speak of it: with raw type indices.
+#[derive(Drop)]
+pub(crate) enum RawType {
+    Func {
+        params: Vec<RawValType>,
+        results: Vec<RawValType>,
+    },
+    /// A struct or array type.
+    Other,
+}
+
+/// Reads types that may name so many types.
+#[derive(Drop)]
+struct TypeReader<'a> {
+    input: Input<'a>,
+    count: usize,
+}
+
+impl TypeReader<'_> {
+    /// A value type that names one of the types, if it names one.
+    fn value_type(&mut self) -> Result<RawValType, ModuleError> {
+        let begin = self.input;
+        let ty = self.input.value_type()?;
+        match ty {
+            ValType::Ref(
+                RefType {
+                    heap_type: HeapType::Concrete(index),
+                    ..
+                },
+            ) if index as usize >= self.count => { Err(begin.fault(ModuleFault::IndexOutOfRange)) }
+            _ => Ok(ty),
+        }
+    }
+
+    /// A vector of value types.
+    fn value_types(&mut self, alloc: Global) -> Result<Vec<RawValType>, ModuleError> {
+        let mut types = Vec::new(alloc);
+        for _ in 0..self.input.number()? {
+            let ty = self.value_type()?;
+            types.push(ty)?;
+        }
+        Ok(types)
+    }
+
+    /// Passes the type of a field: a value type, or one of 8 or 16 bits, and its mutability.
+    fn field(&mut self) -> Result<(), ModuleError> {
+        match self.input.rest() {
+            [0x77 | 0x78, ..] => {
+                self.input.byte()?;
+            }
+            _ => {
+                self.value_type()?;
+            }
+        }
+        self.input.mutability()
+    }
+
+    /// A composite type.
+    fn composite_type(&mut self, alloc: Global) -> Result<RawType, ModuleError> {
+        let begin = self.input;
+        match self.input.byte()? {
+            0x60 => {
+                let params = self.value_types(alloc)?;
+                let results = self.value_types(alloc)?;
+                Ok(RawType::Func { params, results })
+            }
+            0x5f => {
+                for _ in 0..self.input.number()? {
+                    self.field()?;
+                }
+                Ok(RawType::Other)
+            }
+            0x5e => {
+                self.field()?;
+                Ok(RawType::Other)
+            }
+            _ => Err(begin.fault(ModuleFault::BadType)),
+        }
+    }
+
+    /// A subtype: what it is a subtype of isn't kept.
+    fn subtype(&mut self, alloc: Global) -> Result<RawType, ModuleError> {
+        if let [0x4f | 0x50, ..] = self.input.rest() {
+            self.input.byte()?;
+            for _ in 0..self.input.number()? {
+                let begin = self.input;
+                if self.input.number()? as usize >= self.count {
+                    return Err(begin.fault(ModuleFault::IndexOutOfRange));
+                }
+            }
+        }
+        self.composite_type(alloc)
+    }
+
+    /// A recursive group, or one type.
+    fn group(&mut self, alloc: Global, types: &mut Vec<RawType>) -> Result<(), ModuleError> {
+        let mut members = 1;
+        if let [0x4e, ..] = self.input.rest() {
+            self.input.byte()?;
+            members = self.input.number()?;
+        }
+        for _ in 0..members {
+            let ty = self.subtype(alloc)?;
+            types.push(ty)?;
+        }
+        Ok(())
+    }
+}
+
+/// The types of a section that may name so many types.
+fn read_naming(
+    alloc: Global,
+    section: Input<'_>,
+    count: usize,
+) -> Result<Vec<RawType>, ModuleError> {
+    let mut reader = TypeReader {
+        input: section,
+        count,
+    };
+    let mut types = Vec::new(alloc);
+    for _ in 0..reader.input.number()? {
+        reader.group(alloc, &mut types)?;
+    }
+    reader.input.finish()?;
+    Ok(types)
+}
+
+/// The types of a type section, by index.
+///
+/// # Errors
+///
+/// `Truncated`, `BadNumber`, `BadType`, `BadMutability`, `Trailing`; else `IndexOutOfRange` where a
+/// type names one that the section doesn't have; or `Memory`.
+pub(crate) fn read_types(alloc: Global, section: Input<'_>) -> Result<Vec<RawType>, ModuleError> {
+    // How many there are isn't known before all are read.
+    let count = read_naming(alloc, section, usize::MAX)?.len();
+    read_naming(alloc, section, count)
+}

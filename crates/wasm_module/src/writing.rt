@@ -1,0 +1,339 @@
+//! Writing a module (WebAssembly core specification 3.0, binary format, modules): section by
+//! section, each as it was, but for those that are given new contents, and the code.
+
+ghost use Rattle.std.specs.Prelude.{◌≡◌, ◌+◌, ℕ, List, [], ◌∷◌, IfOk, OnOk};
+ghost use Rattle.std.specs.Io.KnownBytes.{Appends};
+ghost use Rattle.wasm_ops.specs.Shortest.{short_number};
+ghost use Rattle.wasm_module.specs.declared.parsed.ParsedModule.{ParsedModule as Parsed};
+ghost use Rattle.wasm_module.specs.CodeSections.{body_at, entry};
+ghost use Rattle.wasm_module.specs.RewrittenCode.{Extends};
+ghost use Rattle.wasm_module.specs.Sections.{id_of, section as whole_section, section_at, SectionAt, IsModule};
+ghost use Rattle.wasm_module.specs.WrittenModules.{Puts, given_in, between, new_behind, IsWrittenCode, IsWrittenFor, IsWrittenAt, IsWrittenModule};
+
+use crate::bodies::Scratch;
+use crate::body_writer::BodyWriter;
+use crate::changes::Changes;
+use crate::code::{Bodies, Body};
+use crate::fault::{ModuleError, ModuleFault};
+use crate::output::write_number;
+use crate::parsed::ParsedModule;
+use crate::rewriting::RewrittenModule;
+use crate::sections::{PREAMBLE, Section, SectionKind, Sections};
+use crate::telling::{MapLines, Nobody, Tell};
+use std::alloc::Global;
+use std::io;
+use std::io::Write;
+
+/// Why a module isn't written to its end.
+#[derive(Debug, Drop)]
+pub enum WriteError {
+    Module(ModuleError),
+    Io(io::Error),
+}
+
+impl From<ModuleError> for WriteError {
+    fn from(error: ModuleError) -> WriteError {
+        WriteError::Module(error)
+    }
+}
+
+impl From<io::Error> for WriteError {
+    fn from(error: io::Error) -> WriteError {
+        WriteError::Io(error)
+    }
+}
+
+/// The place behind so many bytes.
+fn behind(at: usize, len: usize) -> Result<usize, WriteError>
+    ensures { IfOk result (λ place. place ≡ at + len) }
+{
+    match at.checked_add(len) {
+        Some(place) => Ok(place),
+        None => Err(WriteError::from(ModuleError {
+            fault: ModuleFault::TooGreat,
+            at,
+        })),
+    }
+}
+
+/// Writes bytes at this place, and answers the place behind them.
+fn put<W: Write>(bytes: &[u8], at: usize, out: &mut W) -> Result<usize, WriteError>
+    ensures { IfOk result
+        (λ end. Puts (W.contents out.old) (W.contents out.new) at end bytes.now) }
+{
+    out.write_all(bytes)?;
+    behind(at, bytes.len())
+}
+
+/// Writes a number in LEB128, by as few bytes as can be.
+fn put_number<W: Write>(
+    alloc: Global,
+    number: usize,
+    at: usize,
+    out: &mut W,
+) -> Result<usize, WriteError>
+    ensures { IfOk result
+        (λ end. Puts (W.contents out.old) (W.contents out.new) at end (short_number number)) }
+{
+    let mut bytes = Vec::new(alloc);
+    write_number(&mut bytes, number)?;
+    put(&bytes, at, out)
+}
+
+/// Writes the id of a section, and how many bytes its contents have.
+fn put_header<W: Write>(
+    alloc: Global,
+    kind: SectionKind,
+    len: usize,
+    at: usize,
+    out: &mut W,
+) -> Result<usize, WriteError>
+    ensures { IfOk result (λ end. Puts (W.contents out.old) (W.contents out.new) at end
+        (id_of kind ∷ short_number len)) }
+{
+    let at = put(&[kind.id()], at, out)?;
+    put_number(alloc, len, at, out)
+}
+
+/// Writes a section of these contents.
+fn put_section<W: Write>(
+    alloc: Global,
+    kind: SectionKind,
+    contents: &[u8],
+    at: usize,
+    out: &mut W,
+) -> Result<usize, WriteError>
+    ensures { IfOk result (λ end. Puts (W.contents out.old) (W.contents out.new) at end
+        (whole_section (id_of kind) contents.now)) }
+{
+    let at = put_header(alloc, kind, contents.len(), at, out)?;
+    put(contents, at, out)
+}
+
+/// Writes those of the new sections that stand behind a section of the one rank, and before one of
+/// the other.
+fn put_between<W: Write>(
+    alloc: Global,
+    changes: &Changes,
+    ranks: (u8, u8),
+    at: usize,
+    out: &mut W,
+) -> Result<usize, WriteError>
+    ensures { IfOk result (λ end. Puts (W.contents out.old) (W.contents out.new) at end
+        (between ranks.0 ranks.1 changes.now.given.items)) }
+{
+    let mut end = at;
+    'given: for given in &changes.given {
+        let rank = given.kind.rank();
+        if ranks.0 < rank && rank < ranks.1 {
+            end = put_section(alloc, given.kind, &given.contents, end, out)?;
+        }
+    }
+    Ok(end)
+}
+
+impl<'a> ParsedModule<'a> {
+    /// Writes a body behind its size.
+    fn put_body<B: BodyWriter, T: Tell, W: Write>(
+        &mut self,
+        bodies: &B,
+        body: Body<'a>,
+        scratch: &mut Scratch,
+        tell: &mut T,
+        at: usize,
+        out: &mut W,
+    ) -> Result<usize, WriteError>
+        ensures extends { OnOk result (Extends self.old self.new) }
+        ensures written { (source : Parsed) → Extends source self.old
+            → IfOk result (λ end. (raw : List ℕ)
+            × B.writes bodies.now source body.entry.func (body_at body.entry) raw
+            × Puts (W.contents out.old) (W.contents out.new) at end (entry raw)) }
+    {
+        bodies.write_body(self, body, tell.wants_pairs(), scratch)?;
+        let raw = scratch.raw.as_slice();
+        let start = put_number(self.alloc, raw.len(), at, out)?;
+        tell.tell(&scratch.pairs, start)?;
+        put(raw, start, out)
+    }
+
+    /// Writes the contents of the code section: how many bodies there are, and each behind its size.
+    fn put_code<B: BodyWriter, T: Tell, W: Write>(
+        &mut self,
+        bodies: &B,
+        section: &Section<'a>,
+        tell: &mut T,
+        at: usize,
+        out: &mut W,
+    ) -> Result<usize, WriteError>
+        ensures extends { OnOk result (Extends self.old self.new) }
+        ensures written { (source : Parsed) → Extends source self.old
+            → IfOk result (λ end. (code : List ℕ)
+            × IsWrittenCode (B.writes bodies.now) source (section_at section.now) code
+            × Puts (W.contents out.old) (W.contents out.new) at end code) }
+    {
+        let mut scratch = Scratch::new(self.alloc);
+        let (count, mut source) = Bodies::of_section(section.contents, self.imported())?;
+        if count as usize != self.body_count() {
+            return Err(WriteError::from(section.contents.fault(ModuleFault::BodyCount)));
+        }
+        let mut end = put_number(self.alloc, count as usize, at, out)?;
+        'bodies: for _ in 0..count {
+            let Some(body) = source.next() else {
+                return Err(WriteError::from(section.contents.fault(ModuleFault::BodyCount)));
+            };
+            end = self.put_body(bodies, body, &mut scratch, tell, end, out)?;
+        }
+        source.finish()?;
+        Ok(end)
+    }
+
+    /// Writes the code section.
+    fn put_code_section<B: BodyWriter, T: Tell, W: Write>(
+        &mut self,
+        rewritten: &RewrittenModule<'_, B>,
+        section: &Section<'a>,
+        tell: &mut T,
+        at: usize,
+        out: &mut W,
+    ) -> Result<usize, WriteError>
+        ensures extends { OnOk result (Extends self.old self.new) }
+        ensures written { (source : Parsed) → Extends source self.old
+            → IfOk result (λ end. (code : List ℕ)
+            × IsWrittenCode (B.writes rewritten.now.bodies) source (section_at section.now) code
+            × Puts (W.contents out.old) (W.contents out.new) at end (whole_section 10 code)) }
+    {
+        let at = put_header(self.alloc, SectionKind::Code, rewritten.code_len, at, out)?;
+        let end = self.put_code(&rewritten.bodies, section, tell, at, out)?;
+        match end == behind(at, rewritten.code_len)? {
+            true => Ok(end),
+            false => Err(WriteError::from(section.contents.fault(ModuleFault::UnsteadyChange))),
+        }
+    }
+
+    /// Writes what stands in the place of a section.
+    fn put_in_place<B: BodyWriter, T: Tell, W: Write>(
+        &mut self,
+        rewritten: &RewrittenModule<'_, B>,
+        section: &Section<'a>,
+        tell: &mut T,
+        at: usize,
+        out: &mut W,
+    ) -> Result<usize, WriteError>
+        ensures extends { OnOk result (Extends self.old self.new) }
+        ensures written { (source : Parsed) → Extends source self.old
+            → IfOk result (λ end. (text : List ℕ)
+            × IsWrittenFor (B.writes rewritten.now.bodies) source (given_in rewritten.now)
+            (section_at section.now) text
+            × Puts (W.contents out.old) (W.contents out.new) at end text) }
+    {
+        if section.kind == SectionKind::Code {
+            return self.put_code_section(rewritten, section, tell, at, out);
+        }
+        match rewritten.contents_for(section) {
+            Some(contents) => put_section(self.alloc, section.kind, contents, at, out),
+            None => put(section.whole, at, out),
+        }
+    }
+
+    /// Writes the new sections that the source doesn't have and that stand behind the one of this
+    /// rank, where that isn't custom, or behind the preamble.
+    fn put_behind<B: BodyWriter, W: Write>(
+        &self,
+        rewritten: &RewrittenModule<'_, B>,
+        rank: u8,
+        at: usize,
+        out: &mut W,
+    ) -> Result<usize, WriteError>
+        ensures { (all : List SectionAt) → IsModule self.now.bytes.now all
+            → IfOk result (λ end. Puts (W.contents out.old) (W.contents out.new) at end
+            (new_behind (given_in rewritten.now) all rank)) }
+    {
+        let next = self.rank_behind(rank)?;
+        put_between(self.alloc, &rewritten.changes, (rank, next), at, out)
+    }
+
+    /// Writes what stands in the place of a section, and the new sections behind it.
+    fn put_with_new<B: BodyWriter, T: Tell, W: Write>(
+        &mut self,
+        rewritten: &RewrittenModule<'_, B>,
+        section: &Section<'a>,
+        tell: &mut T,
+        at: usize,
+        out: &mut W,
+    ) -> Result<usize, WriteError>
+        ensures extends { OnOk result (Extends self.old self.new) }
+        ensures written { (source : Parsed) (all : List SectionAt) → Extends source self.old
+            → IsModule self.old.bytes.now all → IfOk result (λ end. (text : List ℕ)
+            × IsWrittenAt (B.writes rewritten.now.bodies) source (given_in rewritten.now) all
+            (section_at section.now) text
+            × Puts (W.contents out.old) (W.contents out.new) at end text) }
+    {
+        let end = self.put_in_place(rewritten, section, tell, at, out)?;
+        match section.kind {
+            SectionKind::Custom => Ok(end),
+            kind => self.put_behind(rewritten, kind.rank(), end, out),
+        }
+    }
+
+    /// Writes the module, and tells of its bodies.
+    fn write_telling<B: BodyWriter, T: Tell, W: Write>(
+        &mut self,
+        rewritten: &RewrittenModule<'_, B>,
+        tell: &mut T,
+        out: &mut W,
+    ) -> Result<(), WriteError>
+        ensures extends { OnOk result (Extends self.old self.new) }
+        ensures written { OnOk result ((new : List ℕ)
+            × IsWrittenModule (B.writes rewritten.now.bodies) self.old (given_in rewritten.now) new
+            × Appends (W.contents out.old) (W.contents out.new) new) }
+    {
+        let begin = put(&PREAMBLE, 0, out)?;
+        let mut end = self.put_behind(rewritten, 0, begin, out)?;
+        'sections: for section in Sections::new(self.bytes())? {
+            let section = section?;
+            end = self.put_with_new(rewritten, &section, tell, end, out)?;
+        }
+        Ok(())
+    }
+
+    /// Writes the module: each section in its place, those that aren't changed byte for byte, and
+    /// new ones in theirs; and each body behind its size, as it is rewritten or changed.
+    ///
+    /// # Errors
+    ///
+    /// Those of the writer; `UnsteadyChange` where a change of functions answers otherwise than
+    /// before; or `Memory`.
+    pub fn write_module<B: BodyWriter, W: Write>(
+        &mut self,
+        rewritten: &RewrittenModule<'_, B>,
+        out: &mut W,
+    ) -> Result<(), WriteError>
+        ensures extends { OnOk result (Extends self.old self.new) }
+        ensures written { OnOk result ((new : List ℕ)
+            × IsWrittenModule (B.writes rewritten.now.bodies) self.old (given_in rewritten.now) new
+            × Appends (W.contents out.old) (W.contents out.new) new) }
+    {
+        self.write_telling(rewritten, &mut Nobody, out)
+    }
+
+    /// The same, with the location map: a line for each operator that stands for one of the source,
+    /// with its old and its new offset from the start of the file, in hexadecimal, sorted by the new
+    /// one.
+    ///
+    /// # Errors
+    ///
+    /// Those of `write_module`, and those of the map's writer.
+    pub fn write_module_with_map<B: BodyWriter, W: Write, M: Write>(
+        &mut self,
+        rewritten: &RewrittenModule<'_, B>,
+        out: &mut W,
+        map: &mut M,
+    ) -> Result<(), WriteError>
+        ensures extends { OnOk result (Extends self.old self.new) }
+        ensures written { OnOk result ((new : List ℕ)
+            × IsWrittenModule (B.writes rewritten.now.bodies) self.old (given_in rewritten.now) new
+            × Appends (W.contents out.old) (W.contents out.new) new) }
+    {
+        self.write_telling(rewritten, &mut MapLines(map), out)
+    }
+}
