@@ -32,7 +32,6 @@ mod instructions;
 mod legacy_try;
 mod local_numbers;
 mod locating;
-mod lookups;
 mod next;
 mod parse;
 mod references;

@@ -17,7 +17,6 @@ ghost use Rattle.walrus_body.specs.Parsing.Placing.{place_at};
 use crate::ParseError;
 use crate::local_function::body_parser::BodyParser;
 use crate::local_function::frame_stack::pushed;
-use crate::local_function::lookups::made;
 use crate::local_function::types::value_type;
 use walrus_ir::{
     AtomicNotify, AtomicRmw, AtomicWait, Binop, Br, BrIf, Cmpxchg, Const, I8x16Shuffle, Instr,
@@ -70,54 +69,35 @@ fn atomic(kind: AtomicKind, memory: MemoryId, arg: MemArg) -> Instr
     }
 }
 
-/// The id of an index in a space, or the fault.
+/// The id of an index in a space.
 macro_rules! id {
     ($indices:ident Types $index:ident) => {
-        $indices.get_type($index)
+        $indices.get_type($index)?
     };
     ($indices:ident Funcs $index:ident) => {
-        $indices.get_func($index)
+        $indices.get_func($index)?
     };
     ($indices:ident Globals $index:ident) => {
-        $indices.get_global($index)
+        $indices.get_global($index)?
     };
     ($indices:ident Tables $index:ident) => {
-        $indices.get_table($index)
+        $indices.get_table($index)?
     };
     ($indices:ident Memories $index:ident) => {
-        $indices.get_memory($index)
+        $indices.get_memory($index)?
     };
     ($indices:ident Elements $index:ident) => {
-        $indices.get_element($index)
+        $indices.get_element($index)?
     };
     ($indices:ident Data $index:ident) => {
-        $indices.get_data($index)
+        $indices.get_data($index)?
     };
     ($indices:ident Tags $index:ident) => {
-        $indices.get_tag($index)
-    };
-}
-
-/// The instruction of these fields, and of the ids of indices that are looked up one by one.
-macro_rules! with_ids {
-    ($indices:ident $name:ident { $($fields:tt)* }) => {
-        Ok(Instr::$name(walrus_ir::$name { $($fields)* }))
-    };
-    (
-        $indices:ident $name:ident { $($fields:tt)* }
-        $field:ident $id:ident $space:ident $(, $($others:tt)*)?
-    ) => {
-        match id!($indices $space $field) {
-            Ok($field) => with_ids!(
-                $indices $name { $($fields)* $id: $field, } $($($others)*)?
-            ),
-            Err(error) => Err(ParseError::Index(error)),
-        }
+        $indices.get_tag($index)?
     };
 }
 
 pub(crate) use id;
-pub(crate) use with_ids;
 
 /// The instruction of an operator: the rows, and those of the other operators.
 macro_rules! instruction_row {
@@ -129,9 +109,9 @@ macro_rules! instruction_row {
     ) => {
         match *$op {
             $($others)*
-            $($(Operator::$name { $($field),* } => {
-                with_ids!($indices $name {} $($field $id $space),*)
-            })*)*
+            $($(Operator::$name { $($field),* } => Ok(Instr::$name(walrus_ir::$name {
+                $($id: id!($indices $space $field)),*
+            })),)*)*
         }
     };
 }
@@ -200,19 +180,19 @@ impl BodyParser<'_> {
             Operator::Unreachable => Ok(Instr::Unreachable),
             Operator::Rethrow { depth } => self.rethrow(depth),
             Operator::ThrowRef => Ok(Instr::ThrowRef),
-            Operator::Br { label } => {
-                made!(self.label(label), block => Instr::Br(Br { block }))
-            }
-            Operator::BrIf { label } => {
-                made!(self.label(label), block => Instr::BrIf(BrIf { block }))
-            }
+            Operator::Br { label } => Ok(Instr::Br(Br {
+                block: self.label(label)?,
+            })),
+            Operator::BrIf { label } => Ok(Instr::BrIf(BrIf {
+                block: self.label(label)?,
+            })),
             Operator::BrTable(ref table) => self.branch_table(table),
             Operator::Return => Ok(Instr::Return),
             Operator::Drop => Ok(Instr::Drop),
             Operator::Select => Ok(Instr::Select(Select { ty: None })),
-            Operator::TypedSelect { ty } => {
-                made!(value_type(indices, ty), ty => Instr::Select(Select { ty: Some(ty) }))
-            }
+            Operator::TypedSelect { ty } => Ok(Instr::Select(Select {
+                ty: Some(value_type(indices, ty)?),
+            })),
             Operator::I32Const { value } => Ok(constant(Value::I32(value))),
             Operator::I64Const { value } => Ok(constant(Value::I64(value))),
             Operator::F32Const { bits } => Ok(constant(Value::F32(bits))),
@@ -220,26 +200,25 @@ impl BodyParser<'_> {
             Operator::Unop(op) => Ok(Instr::Unop(Unop { op })),
             Operator::Binop(op) => Ok(Instr::Binop(Binop { op })),
             Operator::TernOp(op) => Ok(Instr::TernOp(TernOp { op })),
-            Operator::Load { kind, memarg } => made!(
-                indices.get_memory(memarg.memory),
-                memory => Instr::Load(Load { memory, kind, arg: memory_argument(memarg) }),
-                ParseError::Index
-            ),
-            Operator::Store { kind, memarg } => made!(
-                indices.get_memory(memarg.memory),
-                memory => Instr::Store(Store { memory, kind, arg: memory_argument(memarg) }),
-                ParseError::Index
-            ),
-            Operator::LoadSimd { kind, memarg } => made!(
-                indices.get_memory(memarg.memory),
-                memory => Instr::LoadSimd(LoadSimd { memory, kind, arg: memory_argument(memarg) }),
-                ParseError::Index
-            ),
-            Operator::Atomic { kind, memarg } => made!(
-                indices.get_memory(memarg.memory),
-                memory => atomic(kind, memory, memory_argument(memarg)),
-                ParseError::Index
-            ),
+            Operator::Load { kind, memarg } => Ok(Instr::Load(Load {
+                memory: indices.get_memory(memarg.memory)?,
+                kind,
+                arg: memory_argument(memarg),
+            })),
+            Operator::Store { kind, memarg } => Ok(Instr::Store(Store {
+                memory: indices.get_memory(memarg.memory)?,
+                kind,
+                arg: memory_argument(memarg),
+            })),
+            Operator::LoadSimd { kind, memarg } => Ok(Instr::LoadSimd(LoadSimd {
+                memory: indices.get_memory(memarg.memory)?,
+                kind,
+                arg: memory_argument(memarg),
+            })),
+            Operator::Atomic { kind, memarg } => {
+                let memory = indices.get_memory(memarg.memory)?;
+                Ok(atomic(kind, memory, memory_argument(memarg)))
+            }
             Operator::AtomicFence => Ok(Instr::AtomicFence),
             Operator::I64Add128 => Ok(Instr::I64Add128),
             Operator::I64Sub128 => Ok(Instr::I64Sub128),
@@ -248,15 +227,15 @@ impl BodyParser<'_> {
             Operator::V128Const { bits } => Ok(constant(Value::V128(bits))),
             Operator::I8x16Swizzle => Ok(Instr::I8x16Swizzle),
             Operator::V128Bitselect => Ok(Instr::V128Bitselect),
-            Operator::LocalGet { local } => {
-                made!(self.context.local(local), local => Instr::LocalGet(LocalGet { local }))
-            }
-            Operator::LocalSet { local } => {
-                made!(self.context.local(local), local => Instr::LocalSet(LocalSet { local }))
-            }
-            Operator::LocalTee { local } => {
-                made!(self.context.local(local), local => Instr::LocalTee(LocalTee { local }))
-            }
+            Operator::LocalGet { local } => Ok(Instr::LocalGet(LocalGet {
+                local: self.context.local(local)?,
+            })),
+            Operator::LocalSet { local } => Ok(Instr::LocalSet(LocalSet {
+                local: self.context.local(local)?,
+            })),
+            Operator::LocalTee { local } => Ok(Instr::LocalTee(LocalTee {
+                local: self.context.local(local)?,
+            })),
             Operator::I8x16Shuffle { indices: lanes } => {
                 Ok(Instr::I8x16Shuffle(I8x16Shuffle { indices: lanes }))
             }

@@ -9,12 +9,11 @@ ghost use Rattle.walrus_body.specs.Parsing.BodyParsers.{cast_in, placed_in};
 
 use crate::ParseError;
 use crate::local_function::body_parser::BodyParser;
-use crate::local_function::instructions::{id, with_ids};
-use crate::local_function::lookups::made;
+use crate::local_function::instructions::id;
 use crate::local_function::types::heap_type_of;
 use walrus_ir::{
-    BrOnCast, BrOnCastFail, BrOnNonNull, BrOnNull, HeapType, Instr, InstrSeqId, RefCast, RefNull,
-    RefTest, RefType,
+    BrOnCast, BrOnCastFail, BrOnNonNull, BrOnNull, HeapType, Instr, InstrSeqId, RefCast, RefFunc,
+    RefNull, RefTest, RefType,
 };
 use wasm_ops::{RawCast, ReferenceOp, aggregate_rows};
 
@@ -27,12 +26,13 @@ macro_rules! instruction_row {
     ) => {
         match *$op {
             $($others)*
-            $(ReferenceOp::$name { $($field),* } => {
-                with_ids!($indices $name {} $($field $id $space),*)
-            })*
-            $(ReferenceOp::$with { $index, $number } => {
-                with_ids!($indices $with { $number, } $index $key $kind)
-            })*
+            $(ReferenceOp::$name { $($field),* } => Ok(Instr::$name(walrus_ir::$name {
+                $($id: id!($indices $space $field)),*
+            })),)*
+            $(ReferenceOp::$with { $index, $number } => Ok(Instr::$with(walrus_ir::$with {
+                $key: id!($indices $kind $index),
+                $number,
+            })),)*
         }
     };
 }
@@ -72,62 +72,64 @@ impl BodyParser<'_> {
         let indices = self.context.indices();
         aggregate_rows!(
             instruction_row, indices operator,
-            ReferenceOp::RefNull { heap_type } => made!(
-                heap_type_of(indices, heap_type),
-                heap_type => Instr::RefNull(RefNull {
-                    ty: RefType { nullable: true, heap_type },
-                })
-            ),
+            ReferenceOp::RefNull { heap_type } => Ok(Instr::RefNull(RefNull {
+                ty: RefType {
+                    nullable: true,
+                    heap_type: heap_type_of(indices, heap_type)?,
+                },
+            })),
             ReferenceOp::RefIsNull => Ok(Instr::RefIsNull),
-            ReferenceOp::RefFunc { func } => with_ids!(indices RefFunc {} func func Funcs),
+            ReferenceOp::RefFunc { func } => Ok(Instr::RefFunc(RefFunc {
+                func: indices.get_func(func)?,
+            })),
             ReferenceOp::RefEq => Ok(Instr::RefEq),
             ReferenceOp::RefAsNonNull => Ok(Instr::RefAsNonNull),
-            ReferenceOp::BrOnNull { label } => {
-                made!(self.label(label), block => Instr::BrOnNull(BrOnNull { block }))
-            }
-            ReferenceOp::BrOnNonNull { label } => {
-                made!(self.label(label), block => Instr::BrOnNonNull(BrOnNonNull { block }))
-            }
+            ReferenceOp::BrOnNull { label } => Ok(Instr::BrOnNull(BrOnNull {
+                block: self.label(label)?,
+            })),
+            ReferenceOp::BrOnNonNull { label } => Ok(Instr::BrOnNonNull(BrOnNonNull {
+                block: self.label(label)?,
+            })),
             ReferenceOp::ArrayLen => Ok(Instr::ArrayLen),
             ReferenceOp::RefTest {
                 nullable,
                 heap_type,
-            } => made!(
-                heap_type_of(indices, heap_type),
-                heap_type => Instr::RefTest(RefTest { nullable, heap_type })
-            ),
+            } => Ok(Instr::RefTest(RefTest {
+                nullable,
+                heap_type: heap_type_of(indices, heap_type)?,
+            })),
             ReferenceOp::RefCast {
                 nullable,
                 heap_type,
-            } => made!(
-                heap_type_of(indices, heap_type),
-                heap_type => Instr::RefCast(RefCast { nullable, heap_type })
-            ),
+            } => Ok(Instr::RefCast(RefCast {
+                nullable,
+                heap_type: heap_type_of(indices, heap_type)?,
+            })),
             ReferenceOp::AnyConvertExtern => Ok(Instr::AnyConvertExtern),
             ReferenceOp::ExternConvertAny => Ok(Instr::ExternConvertAny),
             ReferenceOp::RefI31 => Ok(Instr::RefI31),
             ReferenceOp::I31GetS => Ok(Instr::I31GetS),
             ReferenceOp::I31GetU => Ok(Instr::I31GetU),
-            ReferenceOp::BrOnCast { cast } => made!(
-                self.cast(cast),
-                (block, from_heap_type, to_heap_type) => Instr::BrOnCast(BrOnCast {
+            ReferenceOp::BrOnCast { cast } => {
+                let (block, from_heap_type, to_heap_type) = self.cast(cast)?;
+                Ok(Instr::BrOnCast(BrOnCast {
                     block,
                     from_nullable: cast.from_nullable,
                     from_heap_type,
                     to_nullable: cast.to_nullable,
                     to_heap_type,
-                })
-            ),
-            ReferenceOp::BrOnCastFail { cast } => made!(
-                self.cast(cast),
-                (block, from_heap_type, to_heap_type) => Instr::BrOnCastFail(BrOnCastFail {
+                }))
+            }
+            ReferenceOp::BrOnCastFail { cast } => {
+                let (block, from_heap_type, to_heap_type) = self.cast(cast)?;
+                Ok(Instr::BrOnCastFail(BrOnCastFail {
                     block,
                     from_nullable: cast.from_nullable,
                     from_heap_type,
                     to_nullable: cast.to_nullable,
                     to_heap_type,
-                })
-            ),
+                }))
+            }
         )
     }
 }

@@ -19,7 +19,6 @@ use crate::local_function::emit::open_scopes::Scopes;
 use crate::local_function::emit::references::reference_operator;
 use crate::local_function::emit::table_clauses::table_clauses;
 use crate::local_function::emit::written_types::{block_type, value_type};
-use crate::local_function::lookups::made;
 use walrus_ir::{Instr, InstrSeqType, LocalId, MemArg, Rethrow, Select, Value};
 use wasm_encode::OutOp;
 use wasm_ops::{AtomicKind, RawMemArg, index_rows};
@@ -64,54 +63,35 @@ fn wait_kind(sixty_four: bool) -> AtomicKind
     }
 }
 
-/// The index of an id in a space, or the fault.
+/// The index of an id in a space.
 macro_rules! index {
     ($numbers:ident Types $id:expr) => {
-        $numbers.ids.get_type_index($id)
+        $numbers.ids.get_type_index($id)?
     };
     ($numbers:ident Funcs $id:expr) => {
-        $numbers.ids.get_func_index($id)
+        $numbers.ids.get_func_index($id)?
     };
     ($numbers:ident Globals $id:expr) => {
-        $numbers.ids.get_global_index($id)
+        $numbers.ids.get_global_index($id)?
     };
     ($numbers:ident Tables $id:expr) => {
-        $numbers.ids.get_table_index($id)
+        $numbers.ids.get_table_index($id)?
     };
     ($numbers:ident Memories $id:expr) => {
-        $numbers.ids.get_memory_index($id)
+        $numbers.ids.get_memory_index($id)?
     };
     ($numbers:ident Elements $id:expr) => {
-        $numbers.ids.get_element_index($id)
+        $numbers.ids.get_element_index($id)?
     };
     ($numbers:ident Data $id:expr) => {
-        $numbers.ids.get_data_index($id)
+        $numbers.ids.get_data_index($id)?
     };
     ($numbers:ident Tags $id:expr) => {
-        $numbers.ids.get_tag_index($id)
-    };
-}
-
-/// The operator of these fields, and of the indices of ids that are looked up one by one.
-macro_rules! with_indices {
-    ($numbers:ident $x:ident $op:ident $name:ident { $($fields:tt)* }) => {
-        Ok($op::$name { $($fields)* })
-    };
-    (
-        $numbers:ident $x:ident $op:ident $name:ident { $($fields:tt)* }
-        $field:ident $id:ident $space:ident $(, $($others:tt)*)?
-    ) => {
-        match index!($numbers $space $x.$id) {
-            Ok($field) => with_indices!(
-                $numbers $x $op $name { $($fields)* $field, } $($($others)*)?
-            ),
-            Err(fault) => Err(EmitError::Index(fault)),
-        }
+        $numbers.ids.get_tag_index($id)?
     };
 }
 
 pub(crate) use index;
-pub(crate) use with_indices;
 
 /// The operator of an instruction: the rows, and those of the other instructions.
 macro_rules! operator_row {
@@ -123,9 +103,9 @@ macro_rules! operator_row {
     ) => {
         match $instr {
             $($others)*
-            $($(Instr::$name(x) => {
-                with_indices!($numbers x OutOp $name {} $($field $id $space),*)
-            })*)*
+            $($(Instr::$name(x) => Ok(OutOp::$name {
+                $($field: index!($numbers $space x.$id)),*
+            }),)*)*
             _ => match reference_operator($instr, $scopes, $numbers) {
                 Ok(op) => Ok(OutOp::Reference(op)),
                 Err(fault) => Err(fault),
@@ -151,6 +131,18 @@ pub(crate) fn operator_of<'t>(
     index_rows!(
         operator_row, numbers instr scopes,
         Instr::Unreachable => Ok(OutOp::Unreachable),
+        Instr::Block(_) => Ok(OutOp::Block {
+            ty: block_type(numbers, ty)?,
+        }),
+        Instr::Loop(_) => Ok(OutOp::Loop {
+            ty: block_type(numbers, ty)?,
+        }),
+        Instr::IfElse(_) => Ok(OutOp::If {
+            ty: block_type(numbers, ty)?,
+        }),
+        Instr::Try(_) => Ok(OutOp::Try {
+            ty: block_type(numbers, ty)?,
+        }),
         Instr::TryTable(construct) => {
             let ty = block_type(numbers, ty)?;
             match table_clauses(construct, scopes, numbers, &mut lists.clauses) {
@@ -158,16 +150,16 @@ pub(crate) fn operator_of<'t>(
                 Err(fault) => Err(fault),
             }
         }
-        Instr::Block(_) => made!(block_type(numbers, ty), ty => OutOp::Block { ty }),
-        Instr::Loop(_) => made!(block_type(numbers, ty), ty => OutOp::Loop { ty }),
-        Instr::IfElse(_) => made!(block_type(numbers, ty), ty => OutOp::If { ty }),
-        Instr::Try(_) => made!(block_type(numbers, ty), ty => OutOp::Try { ty }),
         Instr::Rethrow(Rethrow { relative_depth }) => Ok(OutOp::Rethrow {
             depth: *relative_depth,
         }),
         Instr::ThrowRef => Ok(OutOp::ThrowRef),
-        Instr::Br(branch) => made!(scopes.depth(branch.block), label => OutOp::Br { label }),
-        Instr::BrIf(branch) => made!(scopes.depth(branch.block), label => OutOp::BrIf { label }),
+        Instr::Br(branch) => Ok(OutOp::Br {
+            label: scopes.depth(branch.block)?,
+        }),
+        Instr::BrIf(branch) => Ok(OutOp::BrIf {
+            label: scopes.depth(branch.block)?,
+        }),
         Instr::BrTable(table) => match branch_table(table, scopes, &mut lists.labels) {
             Ok(table) => Ok(OutOp::BrTable(table)),
             Err(fault) => Err(fault),
@@ -176,7 +168,9 @@ pub(crate) fn operator_of<'t>(
         Instr::Drop => Ok(OutOp::Drop),
         Instr::Select(select) => match select.ty {
             None => Ok(OutOp::Select),
-            Some(ty) => made!(value_type(numbers, ty), ty => OutOp::TypedSelect { ty }),
+            Some(ty) => Ok(OutOp::TypedSelect {
+                ty: value_type(numbers, ty)?,
+            }),
         },
         Instr::Const(constant) => match constant.value {
             Value::I32(value) => Ok(OutOp::I32Const { value }),
@@ -188,48 +182,30 @@ pub(crate) fn operator_of<'t>(
         Instr::Unop(unop) => Ok(OutOp::Unop(unop.op)),
         Instr::Binop(binop) => Ok(OutOp::Binop(binop.op)),
         Instr::TernOp(ternop) => Ok(OutOp::TernOp(ternop.op)),
-        Instr::Load(load) => made!(
-            numbers.ids.get_memory_index(load.memory),
-            memory => OutOp::Load { kind: load.kind, memarg: memory_argument(load.arg, memory) },
-            EmitError::Index
-        ),
-        Instr::LoadSimd(load) => made!(
-            numbers.ids.get_memory_index(load.memory),
-            memory => OutOp::LoadSimd { kind: load.kind, memarg: memory_argument(load.arg, memory) },
-            EmitError::Index
-        ),
-        Instr::AtomicRmw(rmw) => made!(
-            numbers.ids.get_memory_index(rmw.memory),
-            memory => OutOp::Atomic {
-                kind: AtomicKind::Rmw(rmw.op, rmw.width),
-                memarg: memory_argument(rmw.arg, memory),
-            },
-            EmitError::Index
-        ),
-        Instr::Cmpxchg(cmpxchg) => made!(
-            numbers.ids.get_memory_index(cmpxchg.memory),
-            memory => OutOp::Atomic {
-                kind: AtomicKind::Cmpxchg(cmpxchg.width),
-                memarg: memory_argument(cmpxchg.arg, memory),
-            },
-            EmitError::Index
-        ),
-        Instr::AtomicNotify(notify) => made!(
-            numbers.ids.get_memory_index(notify.memory),
-            memory => OutOp::Atomic {
-                kind: AtomicKind::Notify,
-                memarg: memory_argument(notify.arg, memory),
-            },
-            EmitError::Index
-        ),
-        Instr::AtomicWait(wait) => made!(
-            numbers.ids.get_memory_index(wait.memory),
-            memory => OutOp::Atomic {
-                kind: wait_kind(wait.sixty_four),
-                memarg: memory_argument(wait.arg, memory),
-            },
-            EmitError::Index
-        ),
+        Instr::Load(load) => Ok(OutOp::Load {
+            kind: load.kind,
+            memarg: memory_argument(load.arg, numbers.ids.get_memory_index(load.memory)?),
+        }),
+        Instr::LoadSimd(load) => Ok(OutOp::LoadSimd {
+            kind: load.kind,
+            memarg: memory_argument(load.arg, numbers.ids.get_memory_index(load.memory)?),
+        }),
+        Instr::AtomicRmw(rmw) => Ok(OutOp::Atomic {
+            kind: AtomicKind::Rmw(rmw.op, rmw.width),
+            memarg: memory_argument(rmw.arg, numbers.ids.get_memory_index(rmw.memory)?),
+        }),
+        Instr::Cmpxchg(cmpxchg) => Ok(OutOp::Atomic {
+            kind: AtomicKind::Cmpxchg(cmpxchg.width),
+            memarg: memory_argument(cmpxchg.arg, numbers.ids.get_memory_index(cmpxchg.memory)?),
+        }),
+        Instr::AtomicNotify(notify) => Ok(OutOp::Atomic {
+            kind: AtomicKind::Notify,
+            memarg: memory_argument(notify.arg, numbers.ids.get_memory_index(notify.memory)?),
+        }),
+        Instr::AtomicWait(wait) => Ok(OutOp::Atomic {
+            kind: wait_kind(wait.sixty_four),
+            memarg: memory_argument(wait.arg, numbers.ids.get_memory_index(wait.memory)?),
+        }),
         Instr::AtomicFence => Ok(OutOp::AtomicFence),
         Instr::I64Add128 => Ok(OutOp::I64Add128),
         Instr::I64Sub128 => Ok(OutOp::I64Sub128),
@@ -239,21 +215,20 @@ pub(crate) fn operator_of<'t>(
         Instr::I8x16Shuffle(shuffle) => Ok(OutOp::I8x16Shuffle {
             indices: shuffle.indices,
         }),
-        Instr::LocalGet(get) => {
-            made!(local_index(numbers, get.local), local => OutOp::LocalGet { local })
-        }
-        Instr::LocalSet(set) => {
-            made!(local_index(numbers, set.local), local => OutOp::LocalSet { local })
-        }
-        Instr::LocalTee(tee) => {
-            made!(local_index(numbers, tee.local), local => OutOp::LocalTee { local })
-        }
+        Instr::LocalGet(get) => Ok(OutOp::LocalGet {
+            local: local_index(numbers, get.local)?,
+        }),
+        Instr::LocalSet(set) => Ok(OutOp::LocalSet {
+            local: local_index(numbers, set.local)?,
+        }),
+        Instr::LocalTee(tee) => Ok(OutOp::LocalTee {
+            local: local_index(numbers, tee.local)?,
+        }),
         Instr::V128Bitselect => Ok(OutOp::V128Bitselect),
-        Instr::Store(store) => made!(
-            numbers.ids.get_memory_index(store.memory),
-            memory => OutOp::Store { kind: store.kind, memarg: memory_argument(store.arg, memory) },
-            EmitError::Index
-        ),
+        Instr::Store(store) => Ok(OutOp::Store {
+            kind: store.kind,
+            memarg: memory_argument(store.arg, numbers.ids.get_memory_index(store.memory)?),
+        }),
     )
 }
 

@@ -12,9 +12,8 @@ ghost use Rattle.walrus_body.specs.TreeWriting.Operators.{numbers_of, numbered_o
 use crate::EmitError;
 use crate::local_function::emit::number_maps::NumberMaps;
 use crate::local_function::emit::open_scopes::Scopes;
-use crate::local_function::emit::operators::{index, with_indices};
+use crate::local_function::emit::operators::index;
 use crate::local_function::emit::written_types::heap_type;
-use crate::local_function::lookups::made;
 use walrus_ir::Instr;
 use wasm_ops::{RawCast, ReferenceOp, aggregate_rows};
 
@@ -26,37 +25,17 @@ macro_rules! operator_row {
         { $($numbered:literal $with:ident { $index:ident $key:ident $kind:ident, $number:ident })* }
     ) => {
         match $instr {
-            $(Instr::$name(x) => {
-                with_indices!($numbers x ReferenceOp $name {} $($field $id $space),*)
+            $(Instr::$name(x) => Ok(ReferenceOp::$name {
+                $($field: index!($numbers $space x.$id)),*
+            }),)*
+            $(Instr::$with(x) => {
+                let $number = x.$number;
+                Ok(ReferenceOp::$with {
+                    $index: index!($numbers $kind x.$key),
+                    $number,
+                })
             })*
-            $(Instr::$with(x) => with_indices!(
-                $numbers x ReferenceOp $with { $number: x.$number, } $index $key $kind
-            ),)*
             $($others)*
-        }
-    };
-}
-
-/// A branch on a cast: its label first, then both types.
-macro_rules! on_cast {
-    ($name:ident $x:ident $scopes:ident $numbers:ident) => {
-        match $scopes.depth($x.block) {
-            Ok(label) => match heap_type($numbers, $x.from_heap_type) {
-                Ok(source) => made!(
-                    heap_type($numbers, $x.to_heap_type),
-                    target => ReferenceOp::$name {
-                        cast: RawCast {
-                            from_nullable: $x.from_nullable,
-                            to_nullable: $x.to_nullable,
-                            label,
-                            source,
-                            target,
-                        },
-                    }
-                ),
-                Err(fault) => Err(fault),
-            },
-            Err(fault) => Err(fault),
         }
     };
 }
@@ -75,32 +54,53 @@ pub(crate) fn reference_operator(
 {
     aggregate_rows!(
         operator_row, numbers instr,
-        Instr::RefNull(x) => made!(
-            heap_type(numbers, x.ty.heap_type),
-            heap_type => ReferenceOp::RefNull { heap_type }
-        ),
+        Instr::RefNull(x) => Ok(ReferenceOp::RefNull {
+            heap_type: heap_type(numbers, x.ty.heap_type)?,
+        }),
         Instr::RefIsNull => Ok(ReferenceOp::RefIsNull),
-        Instr::RefFunc(x) => with_indices!(numbers x ReferenceOp RefFunc {} func func Funcs),
+        Instr::RefFunc(x) => Ok(ReferenceOp::RefFunc {
+            func: numbers.ids.get_func_index(x.func)?,
+        }),
         Instr::RefEq => Ok(ReferenceOp::RefEq),
         Instr::RefAsNonNull => Ok(ReferenceOp::RefAsNonNull),
-        Instr::BrOnNull(x) => made!(scopes.depth(x.block), label => ReferenceOp::BrOnNull { label }),
-        Instr::BrOnNonNull(x) => made!(scopes.depth(x.block), label => ReferenceOp::BrOnNonNull { label }),
+        Instr::BrOnNull(x) => Ok(ReferenceOp::BrOnNull {
+            label: scopes.depth(x.block)?,
+        }),
+        Instr::BrOnNonNull(x) => Ok(ReferenceOp::BrOnNonNull {
+            label: scopes.depth(x.block)?,
+        }),
         Instr::ArrayLen => Ok(ReferenceOp::ArrayLen),
-        Instr::RefTest(x) => made!(
-            heap_type(numbers, x.heap_type),
-            heap_type => ReferenceOp::RefTest { nullable: x.nullable, heap_type }
-        ),
-        Instr::RefCast(x) => made!(
-            heap_type(numbers, x.heap_type),
-            heap_type => ReferenceOp::RefCast { nullable: x.nullable, heap_type }
-        ),
+        Instr::RefTest(x) => Ok(ReferenceOp::RefTest {
+            nullable: x.nullable,
+            heap_type: heap_type(numbers, x.heap_type)?,
+        }),
+        Instr::RefCast(x) => Ok(ReferenceOp::RefCast {
+            nullable: x.nullable,
+            heap_type: heap_type(numbers, x.heap_type)?,
+        }),
         Instr::AnyConvertExtern => Ok(ReferenceOp::AnyConvertExtern),
         Instr::ExternConvertAny => Ok(ReferenceOp::ExternConvertAny),
         Instr::RefI31 => Ok(ReferenceOp::RefI31),
         Instr::I31GetS => Ok(ReferenceOp::I31GetS),
         Instr::I31GetU => Ok(ReferenceOp::I31GetU),
-        Instr::BrOnCast(x) => on_cast!(BrOnCast x scopes numbers),
-        Instr::BrOnCastFail(x) => on_cast!(BrOnCastFail x scopes numbers),
+        Instr::BrOnCast(x) => Ok(ReferenceOp::BrOnCast {
+            cast: RawCast {
+                from_nullable: x.from_nullable,
+                to_nullable: x.to_nullable,
+                label: scopes.depth(x.block)?,
+                source: heap_type(numbers, x.from_heap_type)?,
+                target: heap_type(numbers, x.to_heap_type)?,
+            },
+        }),
+        Instr::BrOnCastFail(x) => Ok(ReferenceOp::BrOnCastFail {
+            cast: RawCast {
+                from_nullable: x.from_nullable,
+                to_nullable: x.to_nullable,
+                label: scopes.depth(x.block)?,
+                source: heap_type(numbers, x.from_heap_type)?,
+                target: heap_type(numbers, x.to_heap_type)?,
+            },
+        }),
         _ => unreachable!(),
     )
 }
