@@ -116,24 +116,51 @@ fn push_bytes(out: &mut Vec<u8>, bytes: &[u8]) -> Result<(), AllocError> {
     out.extend_from_slice(bytes)
 }
 
+/// Appends a section with this id and these contents.
+fn push_section(module: &mut Vec<u8>, id: u8, contents: &[u8]) -> Result<(), AllocError> {
+    module.push(id)?;
+    push_bytes(module, contents)
+}
+
+/// Appends what a text spells.
+fn push_text(module: &mut Vec<u8>, text: &str) -> Result<(), Fail> {
+    let bytes = bytes_of(*module.allocator(), text)?;
+    Ok(module.extend_from_slice(&bytes)?)
+}
+
+/// Appends the section of so many functions.
+fn push_functions(module: &mut Vec<u8>, count: usize) -> Result<(), AllocError> {
+    let mut types = Vec::new(*module.allocator());
+    push_number(&mut types, count)?;
+    for _ in 0..count {
+        types.push(TYPE)?;
+    }
+    push_section(module, 3, &types)
+}
+
+/// Appends a body behind its size.
+fn push_body(code: &mut Vec<u8>, body: &str) -> Result<(), Fail> {
+    let body = hex::decode(*code.allocator(), body)?;
+    Ok(push_bytes(code, &body)?)
+}
+
+/// Appends the section of these bodies, of which the one that holds a `nop` is this.
+fn push_code(module: &mut Vec<u8>, bodies: &str, nop: &str) -> Result<(), Fail> {
+    let mut code = Vec::new(*module.allocator());
+    push_number(&mut code, bodies.split(' ').count())?;
+    for body in bodies.split(' ') {
+        push_body(&mut code, if body == NOP { nop } else { body })?;
+    }
+    Ok(push_section(module, 10, &code)?)
+}
+
 /// The module with these bodies, of which the one that holds a `nop` is this.
 fn module_of(alloc: Global, bodies: &str, nop: &str) -> Result<Vec<u8>, Fail> {
-    let count = bodies.split(' ').count();
-    let (mut types, mut code) = (Vec::new(alloc), Vec::new(alloc));
-    push_number(&mut types, count)?;
-    push_number(&mut code, count)?;
-    for body in bodies.split(' ') {
-        types.push(TYPE)?;
-        let body = if body == NOP { nop } else { body };
-        push_bytes(&mut code, &hex::decode(alloc, body)?)?;
-    }
     let mut module = bytes_of(alloc, TYPES)?;
-    module.push(3)?;
-    push_bytes(&mut module, &types)?;
-    module.extend_from_slice(&bytes_of(alloc, STORAGE)?)?;
-    module.push(10)?;
-    push_bytes(&mut module, &code)?;
-    module.extend_from_slice(&bytes_of(alloc, SEGMENTS)?)?;
+    push_functions(&mut module, bodies.split(' ').count())?;
+    push_text(&mut module, STORAGE)?;
+    push_code(&mut module, bodies, nop)?;
+    push_text(&mut module, SEGMENTS)?;
     Ok(module)
 }
 

@@ -1,10 +1,10 @@
 //! Tools that change whole modules.
-use crate::whole_modules::{FOLLOWED, FOLLOWED_REWRITTEN, bytes_of, fault_text};
+use crate::whole_modules::{FOLLOWED, FOLLOWED_REWRITTEN, bytes_of, fault_text, written_text};
 use module_tools::{count_calls, snip};
 use std::alloc::Global;
 use std::process::Abort;
 use std::test::Fail;
-use wasm_module::{BodyWriter, ModuleError, ParsedModule, RewrittenModule};
+use wasm_module::ParsedModule;
 
 /// What is done with a module.
 #[derive(Clone, Copy)]
@@ -44,43 +44,46 @@ const FOLLOWED_SNIPPED: &str =
     79030100040401010176 \
     001710736f757263654d617070696e6755524c05782e6d6170";
 
-/// The module that is written, in hexadecimal; or the fault of its tool.
-fn text_of<B: BodyWriter + Drop>(
+/// The module where each function counts its calls, in hexadecimal; or its first fault.
+fn counted_text(alloc: Global, parsed: &mut ParsedModule<'_>) -> Result<String, Fail> {
+    match count_calls(alloc, parsed) {
+        Ok(module) => written_text(alloc, parsed, &module),
+        Err(error) => Ok(fault_text(alloc, error)?),
+    }
+}
+
+/// The module without the bodies of these functions, in hexadecimal; or its first fault.
+fn snipped_text(
     alloc: Global,
     parsed: &mut ParsedModule<'_>,
-    changed: Result<RewrittenModule<'_, B>, ModuleError>,
+    indices: &[usize],
 ) -> Result<String, Fail> {
-    let module = match changed {
-        Ok(module) => module,
-        Err(error) => return Ok(fault_text(alloc, error)?),
-    };
-    let mut out = Vec::new(alloc);
-    match parsed.write_module(&module, &mut out) {
-        Ok(()) => Ok(hex::encode(alloc, out)?),
-        Err(error) => Err(Fail::from(error)),
+    match snip(alloc, parsed, indices) {
+        Ok(module) => written_text(alloc, parsed, &module),
+        Err(error) => Ok(fault_text(alloc, error)?),
+    }
+}
+
+/// The module that a tool writes for the one of these bytes, in hexadecimal; or its first fault.
+fn written_of(alloc: Global, tool: Tool<'_>, bytes: &[u8]) -> Result<String, Fail> {
+    let mut parsed = ParsedModule::read(alloc, bytes)?;
+    match tool {
+        Tool::Count => counted_text(alloc, &mut parsed),
+        Tool::Snip(indices) => snipped_text(alloc, &mut parsed, indices),
     }
 }
 
 /// The module that a tool writes, in hexadecimal; or its first fault.
 fn written(alloc: Global, tool: Tool<'_>, module: &str) -> Result<String, Fail> {
     let bytes = bytes_of(alloc, module)?;
-    let mut parsed = ParsedModule::read(alloc, &bytes)?;
-    match tool {
-        Tool::Count => {
-            let counting = count_calls(alloc, &mut parsed);
-            text_of(alloc, &mut parsed, counting)
-        }
-        Tool::Snip(indices) => {
-            let snipped = snip(alloc, &mut parsed, indices);
-            text_of(alloc, &mut parsed, snipped)
-        }
-    }
+    written_of(alloc, tool, &bytes)
 }
 
 /// Modules, each beside what a tool writes of it.
 fn check(rt: &impl Abort, alloc: Global, cases: &[(Tool<'_>, &str, &str)]) -> Result<(), Fail> {
     for (tool, module, want) in cases {
-        let want = hex::encode(alloc, bytes_of(alloc, want)?)?;
+        let bytes = bytes_of(alloc, want)?;
+        let want = hex::encode(alloc, bytes)?;
         let found = written(alloc, *tool, module)?;
         assert_eq!(rt; found.as_str(), want.as_str(), "of {module}");
     }

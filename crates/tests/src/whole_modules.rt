@@ -4,7 +4,10 @@
 use std::alloc::{AllocError, Global};
 use std::process::Abort;
 use std::test::Fail;
-use wasm_module::{Command, ModuleError, ModuleFault, ParsedModule, Sections, Task, WriteError};
+use wasm_module::{
+    BodyWriter, Command, ModuleError, ModuleFault, ParsedModule, RewrittenModule, Sections, Task,
+    WriteError,
+};
 
 /// A section of each kind, in order, with custom sections between them, and bodies that are as they
 /// are written. The types are: from nothing to nothing; from an i32 to an i32; a group of two
@@ -73,21 +76,33 @@ pub(crate) fn fault_text(alloc: Global, error: ModuleError) -> Result<String, Al
     }
 }
 
-/// The module that is written for the one of these bytes, in hexadecimal; or its first fault.
-pub(crate) fn rewritten_bytes(alloc: Global, bytes: &[u8]) -> Result<String, Fail> {
-    let mut parsed = match ParsedModule::read(alloc, bytes) {
-        Ok(parsed) => parsed,
-        Err(error) => return Ok(fault_text(alloc, error)?),
-    };
-    let rewritten = match parsed.rewrite_all() {
-        Ok(rewritten) => rewritten,
-        Err(error) => return Ok(fault_text(alloc, error)?),
-    };
+/// The module that is written, in hexadecimal; or the fault of a change that isn't steady.
+pub(crate) fn written_text<B: BodyWriter>(
+    alloc: Global,
+    parsed: &mut ParsedModule<'_>,
+    rewritten: &RewrittenModule<'_, B>,
+) -> Result<String, Fail> {
     let mut out = Vec::new(alloc);
-    match parsed.write_module(&rewritten, &mut out) {
+    match parsed.write_module(rewritten, &mut out) {
         Ok(()) => Ok(hex::encode(alloc, out)?),
         Err(WriteError::Module(error)) => Ok(fault_text(alloc, error)?),
         Err(WriteError::Io(error)) => Err(Fail::from(error)),
+    }
+}
+
+/// The module that is written for this one, in hexadecimal; or the first fault of its bodies.
+fn rewritten_text(alloc: Global, parsed: &mut ParsedModule<'_>) -> Result<String, Fail> {
+    match parsed.rewrite_all() {
+        Ok(rewritten) => written_text(alloc, parsed, &rewritten),
+        Err(error) => Ok(fault_text(alloc, error)?),
+    }
+}
+
+/// The module that is written for the one of these bytes, in hexadecimal; or its first fault.
+pub(crate) fn rewritten_bytes(alloc: Global, bytes: &[u8]) -> Result<String, Fail> {
+    match ParsedModule::read(alloc, bytes) {
+        Ok(mut parsed) => rewritten_text(alloc, &mut parsed),
+        Err(error) => Ok(fault_text(alloc, error)?),
     }
 }
 
@@ -105,15 +120,23 @@ fn check_rewritten(rt: &impl Abort, alloc: Global, cases: &[(&str, &str)]) -> Re
     Ok(())
 }
 
+/// A module beside the one that is written for it, which is written for itself too.
+fn check_module_twice(
+    rt: &impl Abort,
+    alloc: Global,
+    module: &str,
+    want: &str,
+) -> Result<(), Fail> {
+    let bytes = bytes_of(alloc, want)?;
+    let want = hex::encode(alloc, bytes)?;
+    let want = want.as_str();
+    check_rewritten(rt, alloc, &[(module, want), (want, want)])
+}
+
 /// Modules, each beside the one that is written for it, which is written for itself too.
 fn check_twice(rt: &impl Abort, alloc: Global, cases: &[(&str, &str)]) -> Result<(), Fail> {
     for (module, want) in cases {
-        let want = hex::encode(alloc, bytes_of(alloc, want)?)?;
-        check_rewritten(
-            rt,
-            alloc,
-            &[(module, want.as_str()), (want.as_str(), want.as_str())],
-        )?;
+        check_module_twice(rt, alloc, module, want)?;
     }
     Ok(())
 }
@@ -243,10 +266,8 @@ fn section_ends(alloc: Global, bytes: &[u8]) -> Result<Vec<usize>, Fail> {
     Ok(ends)
 }
 
-/// At which lengths what is left of a module is read, but not where a section ends.
-fn read_lengths(alloc: Global, module: &str) -> Result<Vec<usize>, Fail> {
-    let bytes = bytes_of(alloc, module)?;
-    let ends = section_ends(alloc, &bytes)?;
+/// At which lengths, but for these, what is left of a module is read.
+fn lengths_read(alloc: Global, bytes: &[u8], ends: &[usize]) -> Result<Vec<usize>, Fail> {
     let mut lengths = Vec::new(alloc);
     for (len, _) in bytes.iter().enumerate() {
         let is_read = ParsedModule::read(alloc, &bytes[..len]).is_ok();
@@ -255,6 +276,13 @@ fn read_lengths(alloc: Global, module: &str) -> Result<Vec<usize>, Fail> {
         }
     }
     Ok(lengths)
+}
+
+/// At which lengths what is left of a module is read, but not where a section ends.
+fn read_lengths(alloc: Global, module: &str) -> Result<Vec<usize>, Fail> {
+    let bytes = bytes_of(alloc, module)?;
+    let ends = section_ends(alloc, &bytes)?;
+    lengths_read(alloc, &bytes, &ends)
 }
 
 /// A module that is cut off is refused, unless it is cut behind a section.
@@ -268,9 +296,8 @@ fn refuses_truncated_modules(rt: HostRuntime) -> Result<(), Fail> {
 }
 
 /// What is said of the sections of a module that is rewritten.
-fn notes(alloc: Global, module: &str) -> Result<String, Fail> {
-    let bytes = bytes_of(alloc, module)?;
-    let mut parsed = ParsedModule::read(alloc, &bytes)?;
+fn notes_of(alloc: Global, bytes: &[u8]) -> Result<String, Fail> {
+    let mut parsed = ParsedModule::read(alloc, bytes)?;
     let rewritten = parsed.rewrite_all()?;
     let mut text = String::new(alloc);
     for note in &rewritten.notes {
@@ -279,21 +306,44 @@ fn notes(alloc: Global, module: &str) -> Result<String, Fail> {
     Ok(text)
 }
 
-/// The location map of a module that is rewritten, and which bodies are refused.
+fn notes(alloc: Global, module: &str) -> Result<String, Fail> {
+    let bytes = bytes_of(alloc, module)?;
+    notes_of(alloc, &bytes)
+}
+
+/// Appends the location map of a module that is rewritten.
+fn push_map(alloc: Global, parsed: &mut ParsedModule<'_>, out: &mut Vec<u8>) -> Result<(), Fail> {
+    let rewritten = parsed.rewrite_all()?;
+    let mut module = Vec::new(alloc);
+    match parsed.write_module_with_map(&rewritten, &mut module, out) {
+        Ok(()) => Ok(()),
+        Err(error) => Err(Fail::from(error)),
+    }
+}
+
+/// Appends which bodies are refused; and the location map where none is.
+fn push_map_or_faults(
+    alloc: Global,
+    parsed: &mut ParsedModule<'_>,
+    out: &mut Vec<u8>,
+) -> Result<(), Fail> {
+    match parsed.check_bodies(out)? {
+        0 => push_map(alloc, parsed, out),
+        _ => Ok(()),
+    }
+}
+
+/// The location map of the module of these bytes, or which of its bodies are refused.
+fn map_or_faults(alloc: Global, bytes: &[u8]) -> Result<String, Fail> {
+    let mut parsed = ParsedModule::read(alloc, bytes)?;
+    let mut out = Vec::new(alloc);
+    push_map_or_faults(alloc, &mut parsed, &mut out)?;
+    Ok(String::from_utf8_lossy(alloc, &out)?)
+}
+
 fn map_and_check(alloc: Global, module: &str) -> Result<String, Fail> {
     let bytes = bytes_of(alloc, module)?;
-    let mut parsed = ParsedModule::read(alloc, &bytes)?;
-    let mut out = Vec::new(alloc);
-    let refused = parsed.check_bodies(&mut out)?;
-    if refused == 0 {
-        let rewritten = parsed.rewrite_all()?;
-        let mut module = Vec::new(alloc);
-        match parsed.write_module_with_map(&rewritten, &mut module, &mut out) {
-            Ok(()) => {}
-            Err(error) => return Err(Fail::from(error)),
-        }
-    }
-    Ok(String::from_utf8_lossy(alloc, &out)?)
+    map_or_faults(alloc, &bytes)
 }
 
 /// Sections that speak of old offsets, or that can't be followed: names of locals that are cut off.
@@ -337,15 +387,8 @@ fn maps_and_checks(rt: HostRuntime) -> Result<(), Fail> {
     Ok(())
 }
 
-/// What words ask for, as text.
-fn asked(alloc: Global, words: &str) -> Result<String, Fail> {
-    let mut list = Vec::new(alloc);
-    for word in words.split(' ') {
-        list.push(word.to_string(alloc)?)?;
-    }
-    let Some(command) = Command::of_words(alloc, &list)? else {
-        return Ok(String::from_str(alloc, "wrong use")?);
-    };
+/// What a command is, as text.
+fn command_text(alloc: Global, command: &Command) -> Result<String, Fail> {
     let verbose = command.is_verbose;
     match &command.task {
         Task::Check { input } => Ok(format!(in alloc; "check {input} {verbose}")?),
@@ -353,6 +396,22 @@ fn asked(alloc: Global, words: &str) -> Result<String, Fail> {
             Ok(format!(in alloc; "rewrite {input} {output} {map:?} {verbose}")?)
         }
     }
+}
+
+/// What words ask for, as text.
+fn asked_of(alloc: Global, words: &[String]) -> Result<String, Fail> {
+    match Command::of_words(alloc, words)? {
+        Some(command) => command_text(alloc, &command),
+        None => Ok(String::from_str(alloc, "wrong use")?),
+    }
+}
+
+fn asked(alloc: Global, words: &str) -> Result<String, Fail> {
+    let mut list = Vec::new(alloc);
+    for word in words.split(' ') {
+        list.push(word.to_string(alloc)?)?;
+    }
+    asked_of(alloc, &list)
 }
 
 /// The words of the program.

@@ -9,4 +9,5 @@ pub mod RewritingLemmas
 -- what is written
 pub mod WritingLemmas
 pub mod CodeLemmas
+pub mod NewSectionLemmas
 pub mod SectionLemmas

@@ -1,7 +1,7 @@
 -- Sections that are given contents, and the places of new ones.
-use Rattle.std.proofs.Common.{◌≡◌, ◌≢◌, ◌≤◌, ◌<◌, ℕ, suc, Bool, true, false, List, [], ◌∷◌, ◌++◌, length, drop, get_or, nat_lt, ◌==◌, if◌then◌else◌, Option, Some, None, Result, Ok, Err, refl, sym, ap, subst, ◌∙◌, append_assoc}
+use Rattle.std.proofs.Common.{◌≡◌, ◌≢◌, ◌≤◌, ◌<◌, ◌+◌, ℕ, zero, suc, add-one, Bool, true, false, List, [], ◌∷◌, ◌++◌, length, drop, get_or, nat_lt, ◌&&◌, if◌then◌else◌, Option, Some, None, Result, Ok, Err, refl, sym, ap, subst, ◌∙◌, append_assoc}
 use Rattle.std.proofs.Math.Seq.{drop-cons, drop-append_seam}
-use Rattle.std.proofs.lemmas.Bool.{lt-ltb, le-ltb, eq-eqb, ne_eqb}
+use Rattle.std.proofs.lemmas.Bool.{lt-ltb, le-ltb}
 use Rattle.std.proofs.lemmas.List.{append-nil, drop_all}
 use Rattle.wasm_ops.specs.Numbers.{u32}
 use Rattle.wasm_ops.proofs.Agreement.{ok_is}
@@ -10,7 +10,8 @@ use Rattle.wasm_module.specs.declared.fault.ModuleError.{ModuleError}
 use Rattle.wasm_module.specs.declared.sections.Section.{Section}
 use Rattle.wasm_module.specs.declared.sections.Sections.{Sections}
 use Rattle.wasm_module.specs.Sections.{preamble, rank, next_rank, SectionAt, Begins, AreSections, IsModule, section, section_at, id_of, TakesSection}
-use Rattle.wasm_module.specs.WrittenModules.{Puts, contents_in, stands_between, between}
+use Rattle.wasm_module.specs.declared.parsed.ParsedModule.{ParsedModule}
+use Rattle.wasm_module.specs.WrittenModules.{Puts, Writes, stands_between, between, new_behind, new_behind_section}
 use Rattle.wasm_module.proofs.WritingLemmas.{puts_then, puts_nothing, puts_same}
 
 -- ---- at the front of a module
@@ -30,7 +31,7 @@ one_rank end text s t behind after p q =
 
 first_left :
     (end : ℕ) (text : List ℕ) (left : List SectionAt) (x : SectionAt) (behind : List ℕ) → AreSections end text left → Begins end text x behind →
-    (y : SectionAt) (ys : List SectionAt) × (left ≡ y ∷ ys) × (rank y.id ≡ rank x.id) × AreSections end behind ys
+    (y : SectionAt) × (ys : List SectionAt) × (left ≡ y ∷ ys) × (rank y.id ≡ rank x.id) × AreSections end behind ys
 first_left end text [] x behind a b = let e : [] ≡ x.id ∷ b.sized = sym a ∙ b.id_is in absurd cc
 first_left end text (y ∷ ys) x behind a b =
     let same = one_rank end text y x a.0 behind a.1 b in (y, ys, refl, same.0, subst (λ (l : List ℕ). AreSections end l ys) same.1 a.2)
@@ -59,7 +60,7 @@ rank_found r y ys h = ap (λ (b : Bool). if b then rank y.id else next_rank r ys
 module _ (all : List SectionAt) (r : ℕ) (s t : Sections) (o : Option (Result Section ModuleError)) (x : Section) where
   first_taken :
       (p : RankSoFar all r s) → o ≡ Some (Ok x) → TakesSection s o t →
-      (y : SectionAt) (ys : List SectionAt) × (p.left ≡ y ∷ ys) × (rank y.id ≡ rank (id_of x.kind)) × AreSections t.left.end t.left.rest.now ys
+      (y : SectionAt) × (ys : List SectionAt) × (p.left ≡ y ∷ ys) × (rank y.id ≡ rank (id_of x.kind)) × AreSections t.left.end t.left.rest.now ys
   first_taken p i takes =
       let taken : TakesSection s (Some (Ok x)) t = subst (λ (o : Option (Result Section ModuleError)). TakesSection s o t) i takes in
       let f = first_left s.left.end s.left.rest.now p.left (section_at x) t.left.rest.now p.are_left taken.0 in
@@ -90,22 +91,6 @@ none_found all r s t o p i takes =
 
 -- ---- given contents, one after the other
 
-pub this_given :
-    (gs : List Given) (i : ℕ) (d : Given) (id : ℕ) → i < length gs → id_of (get_or gs i d).kind ≡ id →
-    contents_in (drop i gs) id ≡ Some (get_or gs i d).contents.items
-this_given gs i d id h e =
-    let g = get_or gs i d in
-    ap (λ (l : List Given). contents_in l id) (drop-cons gs i d h)
-    ∙ ap (λ (b : Bool). if b then Some g.contents.items else contents_in (drop (suc i) gs) id) (eq-eqb (id_of g.kind) id e)
-
-pub another_given :
-    (gs : List Given) (i : ℕ) (d : Given) (id : ℕ) → i < length gs → id_of (get_or gs i d).kind ≢ id →
-    contents_in (drop i gs) id ≡ contents_in (drop (suc i) gs) id
-another_given gs i d id h e =
-    let g = get_or gs i d in
-    ap (λ (l : List Given). contents_in l id) (drop-cons gs i d h)
-    ∙ ap (λ (b : Bool). if b then Some g.contents.items else contents_in (drop (suc i) gs) id) (ne_eqb (id_of g.kind) id e)
-
 -- So many of the given sections were looked at, and those that stand between two ranks were written.
 pub record NewSoFar (first second : ℕ) (gs : List Given) (i : ℕ) (old now : Option (List ℕ)) (at end : ℕ) : Type 0 where
   pub text : List ℕ
@@ -115,30 +100,46 @@ pub record NewSoFar (first second : ℕ) (gs : List Given) (i : ℕ) (old now : 
 pub nothing_new : (first second : ℕ) (gs : List Given) (known : Option (List ℕ)) (at : ℕ) → NewSoFar first second gs 0 known known at at
 nothing_new first second gs known at = record { text = []; puts = puts_nothing known at; same = refl }
 
-module _ (first second : ℕ) (gs : List Given) (i : ℕ) (d : Given) (old now : Option (List ℕ)) (at middle : ℕ) where
-  step : i < length gs → (b : Bool) → stands_between first second (get_or gs i d) ≡ b →
-      between first second (drop i gs)
-      ≡ (if b then section (id_of (get_or gs i d).kind) (get_or gs i d).contents.items ++ between first second (drop (suc i) gs) else between first second (drop (suc i) gs))
-  step h b e =
-      let g = get_or gs i d in
-      ap (λ (l : List Given). between first second l) (drop-cons gs i d h)
-      ∙ ap (λ (b : Bool). if b then section (id_of g.kind) g.contents.items ++ between first second (drop (suc i) gs) else between first second (drop (suc i) gs)) e
+pub stands : (first middle second : ℕ) → first < middle → middle < second → (nat_lt first middle && nat_lt middle second) ≡ true
+stands first middle second p q = ap (λ (b : Bool). b && nat_lt middle second) (lt-ltb first middle p) ∙ lt-ltb middle second q
+
+pub stands_before : (first middle second : ℕ) → middle ≤ first → (nat_lt first middle && nat_lt middle second) ≡ false
+stands_before first middle second p = ap (λ (b : Bool). b && nat_lt middle second) (le-ltb first middle p)
+
+pub stands_behind : (first middle second : ℕ) → first < middle → second ≤ middle → (nat_lt first middle && nat_lt middle second) ≡ false
+stands_behind first middle second p q = ap (λ (b : Bool). b && nat_lt middle second) (lt-ltb first middle p) ∙ le-ltb middle second q
+
+module _ (first second : ℕ) (gs : List Given) (i : ℕ) (g : Given) (within : i < length gs) (is : g ≡ get_or gs i g) where
+  -- what is written of this one and of those behind it
+  step :
+      (b : Bool) → stands_between first second g ≡ b →
+      between first second (drop i gs) ≡ (if b then section (id_of g.kind) g.contents.items ++ between first second (drop (i + 1) gs) else between first second (drop (i + 1) gs))
+  step b e =
+      let here : drop i gs ≡ g ∷ drop (i + 1) gs =
+      drop-cons gs i g within ∙ ap (λ (x : Given). x ∷ drop (suc i) gs) (sym is) ∙ ap (λ (n : ℕ). g ∷ drop n gs) (sym (add-one i)) in
+      ap (λ (l : List Given). between first second l) here
+      ∙ ap (λ (b : Bool). if b then section (id_of g.kind) g.contents.items ++ between first second (drop (i + 1) gs) else between first second (drop (i + 1) gs)) e
 
   pub one_new :
-      (later : Option (List ℕ)) (end : ℕ) → NewSoFar first second gs i old now at middle → i < length gs → stands_between first second (get_or gs i d) ≡ true →
-      Puts now later middle end (section (id_of (get_or gs i d).kind) (get_or gs i d).contents.items) → NewSoFar first second gs (suc i) old later at end
-  one_new later end p h b q =
-      let g = get_or gs i d in
+      (old now later new : Option (List ℕ)) (at middle end last : ℕ) → NewSoFar first second gs i old now at middle → stands_between first second g ≡ true →
+      Puts now later middle end (section (id_of g.kind) g.contents.items) → later ≡ new → end ≡ last → NewSoFar first second gs (i + 1) old new at last
+  one_new old now later new at middle end last p b q out end_is =
       let own = section (id_of g.kind) g.contents.items in
+      let here = subst (λ (n : ℕ). Puts now new middle n own) end_is (subst (λ (l : Option (List ℕ)). Puts now l middle end own) out q) in
       record {
         text = p.text ++ own;
-        puts = puts_then old now later at middle end p.text own p.puts q;
-        same = append_assoc p.text own (between first second (drop (suc i) gs)) ∙ ap (λ (l : List ℕ). p.text ++ l) (sym (step h true b)) ∙ p.same;
+        puts = puts_then old now new at middle last p.text own p.puts here;
+        same = append_assoc p.text own (between first second (drop (i + 1) gs)) ∙ ap (λ (l : List ℕ). p.text ++ l) (sym (step true b)) ∙ p.same;
       }
 
   pub one_elsewhere :
-      NewSoFar first second gs i old now at middle → i < length gs → stands_between first second (get_or gs i d) ≡ false → NewSoFar first second gs (suc i) old now at middle
-  one_elsewhere p h b = record { text = p.text; puts = p.puts; same = ap (λ (l : List ℕ). p.text ++ l) (sym (step h false b)) ∙ p.same }
+      (old now new : Option (List ℕ)) (at middle last : ℕ) → NewSoFar first second gs i old now at middle → stands_between first second g ≡ false → now ≡ new → middle ≡ last →
+      NewSoFar first second gs (i + 1) old new at last
+  one_elsewhere old now new at middle last p b out end_is = record {
+    text = p.text;
+    puts = subst (λ (n : ℕ). Puts old new at n p.text) end_is (subst (λ (l : Option (List ℕ)). Puts old l at middle p.text) out p.puts);
+    same = ap (λ (l : List ℕ). p.text ++ l) (sym (step false b)) ∙ p.same;
+  }
 
 pub all_new :
     (first second : ℕ) (gs : List Given) (i : ℕ) (old now : Option (List ℕ)) (at end : ℕ) → NewSoFar first second gs i old now at end → length gs ≤ i →
@@ -146,3 +147,11 @@ pub all_new :
 all_new first second gs i old now at end p h =
     let none = ap (λ (l : List Given). p.text ++ between first second l) (drop_all i gs h) in
     puts_same old now at end p.text (between first second gs) (sym (append-nil p.text) ∙ sym none ∙ p.same) p.puts
+
+-- ---- behind a section
+
+pub behind_other :
+    (writes : Writes) (source : ParsedModule) (given : List Given) (all : List SectionAt) (r : ℕ) → r ≢ 0 →
+    new_behind given all r ≡ new_behind_section writes source given all r
+behind_other writes source given all zero h = absurd (h refl)
+behind_other writes source given all (suc r) h = refl

@@ -3,16 +3,18 @@ use Rattle.std.proofs.Common.{◌≡◌, ℕ, List, [], ◌++◌, slice_get, Opt
 use Rattle.std.specs.Borrow.{Bor}
 use Rattle.std.specs.Fn.{Shared}
 use Rattle.walrus_ir.specs.Function.{Function}
+use Rattle.wasm_body.specs.Pairs.{Pair}
 use Rattle.walrus_body.specs.declared.local_function.body.FunctionBody.{FunctionBody}
 use Rattle.walrus_body.specs.FunctionParts.{FunctionParts}
 use Rattle.walrus_body.specs.Parsing.Bodies.{AcceptsBody, body_input}
 use Rattle.walrus_body.specs.TreeWriting.EmittedInstructions.{LentPairs, Left}
 use Rattle.walrus_body.specs.TreeWriting.Operators.{numbers_by}
+use Rattle.walrus_run.specs.RawBodies.{Given, given, IsRawBodyOf, AppendsBoth}
 use Rattle.walrus_run.specs.RewrittenBodies.{Rewrites}
 use Rattle.wasm_module.specs.declared.parsed.ParsedModule.{ParsedModule}
 use Rattle.wasm_module.specs.CodeSections.{BodyAt}
 use Rattle.wasm_module.specs.LocalsBelow.{locals_below}
-use Rattle.wasm_module.specs.RewrittenCode.{Extends, Enters, IsRewrittenAs, IsRewritten, IsParsed}
+use Rattle.wasm_module.specs.RewrittenCode.{Extends, Enters, IsRewrittenAs, IsRewritten, IsParsed, IsChanged}
 use Rattle.wasm_module.proofs.ModuleLemmas.{extends_then}
 
 -- no location function
@@ -116,3 +118,28 @@ pub parsed_ok :
     IfOk r (IsParsed source function b now)
 parsed_ok source a now function b (Ok made) e p = parsed_then source a now function b made e p
 parsed_ok source a now function b (Err x) e p = tt
+
+-- ---- a function that is changed
+
+-- what is written where nothing stood
+pub written_alone :
+    (by : Given) (f : Function) (old new : List ℕ) (old_pairs new_pairs : List Pair) → old ≡ [] → old_pairs ≡ [] → AppendsBoth by f old new old_pairs new_pairs →
+    IsRawBodyOf by f new new_pairs
+written_alone by f old new old_pairs new_pairs e p a =
+    let bytes : a.raw ≡ new = sym (a.appends ∙ ap (λ (l : List ℕ). l ++ a.raw) e) in
+    let pairs : a.pairs ≡ new_pairs = sym (a.appends_pairs ∙ ap (λ (l : List Pair). l ++ a.pairs) p) in
+    subst (λ (l : List ℕ). IsRawBodyOf by f l new_pairs) bytes (subst (λ (l : List Pair). IsRawBodyOf by f a.raw l) pairs a.is_raw_body)
+
+pub changed :
+    (changes : ℕ → (old new : FunctionParts) → Type 0) (source a now : ParsedModule) (function : ℕ) (b : BodyAt) (made new : FunctionParts) (raw : List ℕ) (pairs : List Pair) →
+    Extends source a → IsParsed a function b now made → changes function made new → IsRawBodyOf (given now.spaces.numbers now.module new) new.builder raw pairs →
+    IsChanged changes source function b raw
+changed changes source a now function b made new raw pairs e p c r = record {
+  now = now;
+  parsed = made;
+  is_parsed = parsed_then source a now function b made e p;
+  changed = new;
+  is_changed = c;
+  pairs = pairs;
+  is_raw_body = r;
+}

@@ -1,6 +1,6 @@
 -- Sections (WebAssembly core specification 3.0, binary format, modules): each is an id, the size of its contents, and its
 -- contents.
-use Rattle.std.specs.Prelude.{◌≡◌, ◌-◌, ℕ, nat_lt, if◌then◌else◌, List, [], ◌∷◌, ◌++◌, length, Option, Some, None, Result, Ok, Err}
+use Rattle.std.specs.Prelude.{◌≡◌, ◌-◌, ℕ, nat_lt, get_or, if◌then◌else◌, List, [], ◌∷◌, ◌++◌, length, Option, Some, None, Result, Ok, Err}
 use Rattle.wasm_ops.specs.Numbers.{u32}
 use Rattle.wasm_ops.specs.Shortest.{short_number}
 use Rattle.wasm_module.specs.declared.fault.ModuleError.{ModuleError}
@@ -46,22 +46,10 @@ IsModule file ss = (text : List ℕ) × (file ≡ preamble ++ text) × AreSectio
 
 -- ---- their order
 
--- How many sections, but for custom ones, may stand before one with this id, and itself; custom ones stand anywhere.
+-- The rank of a section, by its id: one that isn't custom stands before those of a greater rank. Custom ones stand anywhere.
+-- Tags stand behind memories, and the data count behind elements.
 abbrev pub rank : (id : ℕ) → ℕ
-rank 1 = 1
-rank 2 = 2
-rank 3 = 3
-rank 4 = 4
-rank 5 = 5
-rank 13 = 6
-rank 6 = 7
-rank 7 = 8
-rank 8 = 9
-rank 9 = 10
-rank 12 = 11
-rank 10 = 12
-rank 11 = 13
-rank id = 0
+rank id = get_or (0 ∷ 1 ∷ 2 ∷ 3 ∷ 4 ∷ 5 ∷ 7 ∷ 8 ∷ 9 ∷ 10 ∷ 12 ∷ 13 ∷ 11 ∷ 6 ∷ []) id 0
 
 -- the first rank of these sections that is greater than this one; 14 where there is none
 abbrev pub next_rank : ℕ → List SectionAt → ℕ

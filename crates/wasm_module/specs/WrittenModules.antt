@@ -29,14 +29,14 @@ contents_in (g ∷ gs) id = if id_of g.kind == id then Some g.contents.items els
 abbrev pub stands_between : ℕ → ℕ → Given → Bool
 stands_between first second g = nat_lt first (rank (id_of g.kind)) && nat_lt (rank (id_of g.kind)) second
 
--- those of them that do
-abbrev pub between : ℕ → ℕ → List Given → (text : List ℕ)
+-- those that do, as they are written
+abbrev pub between : (first second : ℕ) → List Given → List ℕ
 between first second [] = []
 between first second (g ∷ gs) =
     if stands_between first second g then section (id_of g.kind) g.contents.items ++ between first second gs else between first second gs
 
 -- what is put behind a section of this rank in a module of these sections: those given ones that have their place there
-abbrev pub new_behind : List Given → (all : List SectionAt) → (rank : ℕ) → (text : List ℕ)
+abbrev pub new_behind : List Given → (all : List SectionAt) → (rank : ℕ) → List ℕ
 new_behind given all r = between r (next_rank r all) given
 
 -- A custom section follows the code where its name says that it holds names, or metadata of code.
@@ -93,7 +93,7 @@ module _ (writes : Writes) (source : ParsedModule) where
 
     module _ (all : List SectionAt) where
       -- what is put behind a section; nothing behind a custom one
-      abbrev pub new_behind_section : (rank : ℕ) → (text : List ℕ)
+      abbrev pub new_behind_section : (rank : ℕ) → List ℕ
       new_behind_section zero = []
       new_behind_section (suc r) = new_behind given all (suc r)
 

@@ -91,7 +91,7 @@ impl<'a> ParsedModule<'a> {
     }
 
     /// The rank of the first of its sections that has a greater rank than this, or `RANKS`.
-    pub(crate) fn rank_behind(&self, rank: u8) -> Result<u8, ModuleError>
+    pub(crate) fn next_rank(&self, rank: u8) -> Result<u8, ModuleError>
         ensures { (all : List SectionAt) → IsModule self.now.bytes.now all
             → IfOk result (λ next. next ≡ next_rank rank all) }
     {

@@ -80,8 +80,8 @@ impl SectionKind {
         }
     }
 
-    /// How many sections but custom ones may stand before one of this kind, and itself. Those of tags
-    /// stand behind memories, and the data count stands before the code.
+    /// Its rank: one that isn't custom stands before those of a greater rank. Tags stand behind
+    /// memories, and the data count behind elements.
     pub(crate) fn rank(self) -> u8
         ensures { result ≡ rank (id_of self) }
     {
@@ -198,8 +198,8 @@ impl<'a> Sections<'a> {
     }
 }
 
-/// The rank of the last section that isn't custom, behind one more.
-fn rank_behind(before: u8, section: &Section<'_>) -> Result<u8, ModuleError> {
+/// The rank of the last section that isn't custom, when one more was read.
+fn rank_after(before: u8, section: &Section<'_>) -> Result<u8, ModuleError> {
     let rank = section.kind.rank();
     if section.kind == SectionKind::Custom {
         return Ok(before);
@@ -234,7 +234,7 @@ impl<'a> Iterator for Sections<'a> {
             Ok(read) => read,
             Err(error) => return Some(Err(error)),
         };
-        match rank_behind(self.rank, &section) {
+        match rank_after(self.rank, &section) {
             Ok(rank) => {
                 self.rank = rank;
                 self.left = left;

@@ -248,7 +248,7 @@ impl<'a> ParsedModule<'a> {
             → IfOk result (λ end. Puts (W.contents out.old) (W.contents out.new) at end
             (new_behind (given_in rewritten.now) all rank)) }
     {
-        let next = self.rank_behind(rank)?;
+        let next = self.next_rank(rank)?;
         put_between(self.alloc, &rewritten.changes, (rank, next), at, out)
     }
 
@@ -269,10 +269,12 @@ impl<'a> ParsedModule<'a> {
             × Puts (W.contents out.old) (W.contents out.new) at end text) }
     {
         let end = self.put_in_place(rewritten, section, tell, at, out)?;
-        match section.kind {
-            SectionKind::Custom => Ok(end),
-            kind => self.put_behind(rewritten, kind.rank(), end, out),
+        let rank = section.kind.rank();
+        if rank == 0 {
+            // A custom section.
+            return Ok(end);
         }
+        self.put_behind(rewritten, rank, end, out)
     }
 
     /// Writes the module, and tells of its bodies.

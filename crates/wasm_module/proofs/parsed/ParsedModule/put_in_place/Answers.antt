@@ -1,4 +1,4 @@
-use Rattle.std.proofs.Common.{◌≡◌, ℕ, List, refl, rules}
+use Rattle.std.proofs.Common.{◌≡◌, ◌≢◌, ℕ, List, refl, rules}
 use Rattle.wasm_module.specs.Sections.{id_of, section, section_at}
 use Rattle.wasm_module.specs.WrittenModules.IsWrittenFor.{code, replaced, carried_over}
 use Rattle.wasm_module.proofs.ModuleLemmas.{extends_same, then_ok}
@@ -15,3 +15,10 @@ returns-in-Some-clause-extends g c = then_ok c.put_section.result (extends_same 
 
 pub returns-in-None-clause-extends : goal.returns-in-None-clause-extends
 returns-in-None-clause-extends g c = then_ok c.put.result (extends_same c.args.self.now)
+
+pub returns-in-Some-clause-written : goal.returns-in-Some-clause-written
+returns-in-Some-clause-written g c = λ source e.
+    let kind = c.args.section.now.kind in
+    let contents = c.in-Some.contents.now in
+    let not_code : id_of kind ≢ 10 = search rules in
+    if_so c.put_section.result c.put_section.ensures (λ end p. (section (id_of kind) contents, replaced contents not_code c.in-Some.ensures.some refl, p))

@@ -1,7 +1,7 @@
 use Rattle.std.proofs.Common.{List}
 use Rattle.wasm_module.specs.Sections.{SectionAt, IsModule}
 use Rattle.wasm_module.proofs.NewSectionLemmas.{RankSoFar}
-use Rattle.wasm_module.proofs.parsed.ParsedModule.rank_behind.Given as goal
+use Rattle.wasm_module.proofs.parsed.ParsedModule.next_rank.Given as goal
 
 abbrev pub invariant-sections : goal.invariant-sections
 invariant-sections l = (all : List SectionAt) → IsModule l.self.bytes.now all → RankSoFar all l.rank l.section-iterator
