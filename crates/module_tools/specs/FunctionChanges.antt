@@ -1,6 +1,5 @@
 -- What the tools make of functions.
-use Rattle.std.specs.Prelude.{◌≡◌, ◌==◌, ℕ, if◌then◌else◌, slice_get, Some}
-use Rattle.std.specs.HashSet.{HashSet, contains}
+use Rattle.std.specs.Prelude.{◌≡◌, ℕ, Bool, true, false, slice_get, Some}
 use Rattle.walrus_ir.specs.declared.seq.InstrSeq.{InstrSeq}
 use Rattle.walrus_body.specs.FunctionParts.{FunctionParts}
 use Rattle.walrus_body.specs.LocalFunctions.{HasEntry, first_slot}
@@ -15,7 +14,7 @@ ChangesFirst change old new =
 abbrev pub Counts : (global function : ℕ) → (old new : FunctionParts) → Type 0
 Counts global function old new = HasEntry old.builder → ChangesFirst (counted global) old new
 
--- those of these functions only trap, and the others are as they were
-abbrev pub Snips : (functions : HashSet ℕ) → (function : ℕ) → (old new : FunctionParts) → Type 0
-Snips functions function old new =
-    if contains (λ x y. x == y) functions function then (HasEntry old.builder → ChangesFirst trapping old new) else (new ≡ old)
+-- the functions that are told so only trap, and the others are as they were
+abbrev pub Snips : (is_snipped : ℕ → Bool) → (function : ℕ) → (old new : FunctionParts) → Type 0
+Snips is_snipped function old new =
+    (is_snipped function ≡ true → HasEntry old.builder → ChangesFirst trapping old new) × (is_snipped function ≡ false → new ≡ old)

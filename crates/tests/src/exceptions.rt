@@ -131,9 +131,9 @@ fn written_try(alloc: Global, ty: InstrSeqType, clauses: &[Clause]) -> Result<St
 }
 
 // Checks that no `try` is written whose body has this type; bytes and pairs are as before.
-fn refuses_unlawful(rt: &impl Abort, alloc: Global, ty: InstrSeqType) -> Result<(), Fail> {
+fn refuses_unlawful(rt: &impl Abort, alloc: Global, ty: &InstrSeqType) -> Result<(), Fail> {
     for clauses in &UNLAWFUL {
-        let text = written_try(alloc, ty, clauses)?;
+        let text = written_try(alloc, *ty, clauses)?;
         assert_eq!(rt; text.as_str(), "BadClauses 00 9@9");
     }
     Ok(())
@@ -142,13 +142,13 @@ fn refuses_unlawful(rt: &impl Abort, alloc: Global, ty: InstrSeqType) -> Result<
 /// A `try` whose clauses are in no lawful order isn't written.
 #[test]
 fn refuses_unlawful_clauses(rt: HostRuntime) -> Result<(), Fail> {
-    refuses_unlawful(&rt, rt.alloc(), InstrSeqType::Simple(None))
+    refuses_unlawful(&rt, rt.alloc(), &InstrSeqType::Simple(None))
 }
 
 /// That is said first where its type has no number.
 #[test]
 fn refuses_unlawful_clauses_of_an_unnumbered_type(rt: HostRuntime) -> Result<(), Fail> {
-    refuses_unlawful(&rt, rt.alloc(), InstrSeqType::MultiValue(TypeId::new(77)))
+    refuses_unlawful(&rt, rt.alloc(), &InstrSeqType::MultiValue(TypeId::new(77)))
 }
 
 /// A `catch_all` alone is lawful.
