@@ -1,9 +1,9 @@
 -- What the tools make of functions.
-use Rattle.std.specs.Prelude.{◌≡◌, ℕ, Bool, true, false, slice_get, Some}
+use Rattle.std.specs.Prelude.{◌≡◌, ℕ, slice_get, Some}
 use Rattle.walrus_ir.specs.declared.seq.InstrSeq.{InstrSeq}
 use Rattle.walrus_body.specs.FunctionParts.{FunctionParts}
 use Rattle.walrus_body.specs.LocalFunctions.{HasEntry, first_slot}
-use Rattle.module_tools.specs.Sequences.{counted, trapping, with_first}
+use Rattle.module_tools.specs.Sequences.{counted, with_first}
 
 -- The function's first sequence is another, and all else is as it was.
 abbrev pub ChangesFirst : (change : InstrSeq → InstrSeq) → (old new : FunctionParts) → Type 0
@@ -13,8 +13,3 @@ ChangesFirst change old new =
 -- each function adds 1 to the global before all else
 abbrev pub Counts : (global function : ℕ) → (old new : FunctionParts) → Type 0
 Counts global function old new = HasEntry old.builder → ChangesFirst (counted global) old new
-
--- the functions that are told so only trap, and the others are as they were
-abbrev pub Snips : (is_snipped : ℕ → Bool) → (function : ℕ) → (old new : FunctionParts) → Type 0
-Snips is_snipped function old new =
-    (is_snipped function ≡ true → HasEntry old.builder → ChangesFirst trapping old new) × (is_snipped function ≡ false → new ≡ old)
