@@ -101,8 +101,8 @@ module _ (writes : Writes) (source : ParsedModule) where
         raws = p.raws ++ raw ∷ [];
         are_written = written_more source.imported p.bodies p.raws (body_at b) raw p.are_written b.func (taken.0 ∙ p.next_is) w;
         puts = puts_same old later at end ((short_number count ++ entries p.raws) ++ entry raw) (short_number count ++ entries (p.raws ++ raw ∷ []))
-        (append_assoc (short_number count) (entries p.raws) (entry raw) ∙ ap (λ (l : List ℕ). short_number count ++ l) (sym (entries_more p.raws raw)))
-        (puts_then old now later at middle end (short_number count ++ entries p.raws) (entry raw) p.puts q);
+            (append_assoc (short_number count) (entries p.raws) (entry raw) ∙ ap (λ (l : List ℕ). short_number count ++ l) (sym (entries_more p.raws raw)))
+            (puts_then old now later at middle end (short_number count ++ entries p.raws) (entry raw) p.puts q);
       }
 
   pub all_bodies :
@@ -112,16 +112,15 @@ module _ (writes : Writes) (source : ParsedModule) where
   all_bodies now s text left count old new at end x e n p done =
       let all : length p.bodies ≡ count = p.count_is in
       let code_is : short_number count ++ entries p.raws ≡ code_section p.raws =
-      ap (λ (n : ℕ). short_number n ++ entries p.raws) (sym all ∙ same_count source.imported p.bodies p.raws p.are_written) in
-      (
-      short_number count ++ entries p.raws,
-      record {
-        bodies = p.bodies;
-        are_bodies = (text, e ∙ ap (λ (n : ℕ). Ok (n, text)) (sym all), stand_alone s.end text p.bodies left.left.rest.now p.stand_before done);
-        are_all = all ∙ n ∙ same_bodies source now x;
-        raws = p.raws;
-        are_written = p.are_written;
-        code_is = code_is;
-      },
-      p.puts,
-    )
+      ap (λ (n : ℕ). short_number n ++ entries p.raws) (sym all ∙ same_count source.imported p.bodies p.raws p.are_written) in (
+        short_number count ++ entries p.raws,
+        record {
+          bodies = p.bodies;
+          are_bodies = (text, e ∙ ap (λ (n : ℕ). Ok (n, text)) (sym all), stand_alone s.end text p.bodies left.left.rest.now p.stand_before done);
+          are_all = all ∙ n ∙ same_bodies source now x;
+          raws = p.raws;
+          are_written = p.are_written;
+          code_is = code_is;
+        },
+        p.puts,
+      )

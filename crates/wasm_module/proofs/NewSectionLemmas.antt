@@ -23,11 +23,10 @@ one_rank :
 one_rank end text s t behind after p q =
     let whole : s.id ∷ p.sized ≡ t.id ∷ q.sized = sym p.id_is ∙ q.id_is in
     let sized = sym p.size_is ∙ ap (λ (l : List ℕ). u32 (drop 1 l)) whole ∙ q.size_is in
-    let same = ok_is (length s.contents, s.contents ++ behind) (length t.contents, t.contents ++ after) sized in
-    (
-    ap (λ (l : List ℕ). rank (get_or l 0 0)) whole,
-    sym (drop-append_seam s.contents behind) ∙ ap (λ (x : ℕ × List ℕ). drop x.0 x.1) same ∙ drop-append_seam t.contents after,
-  )
+    let same = ok_is (length s.contents, s.contents ++ behind) (length t.contents, t.contents ++ after) sized in (
+      ap (λ (l : List ℕ). rank (get_or l 0 0)) whole,
+      sym (drop-append_seam s.contents behind) ∙ ap (λ (x : ℕ × List ℕ). drop x.0 x.1) same ∙ drop-append_seam t.contents after,
+    )
 
 first_left :
     (end : ℕ) (text : List ℕ) (left : List SectionAt) (x : SectionAt) (behind : List ℕ) → AreSections end text left → Begins end text x behind →

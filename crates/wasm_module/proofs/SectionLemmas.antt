@@ -83,13 +83,12 @@ module _ (writes : Writes) (source : ParsedModule) (given : List Given) where
             let w = q all m in
             let front = new_behind given all 0 in
             let parts : (preamble ++ (front ++ before.0)) ++ w.0 ≡ preamble ++ (front ++ (before.0 ++ w.0)) =
-            append_assoc preamble (front ++ before.0) w.0 ∙ ap (λ (l : List ℕ). preamble ++ l) (append_assoc front before.0 w.0) in
-            (
-            before.0 ++ w.0,
-            written_more writes source given all p.sections before.0 (section_at x) w.0 before.1 w.1,
-            puts_same old later at end ((preamble ++ (front ++ before.0)) ++ w.0) (preamble ++ (front ++ (before.0 ++ w.0))) parts
-            (puts_then old now later at middle end (preamble ++ (front ++ before.0)) w.0 before.2 w.2),
-          );
+            append_assoc preamble (front ++ before.0) w.0 ∙ ap (λ (l : List ℕ). preamble ++ l) (append_assoc front before.0 w.0) in (
+              before.0 ++ w.0,
+              written_more writes source given all p.sections before.0 (section_at x) w.0 before.1 w.1,
+              puts_same old later at end ((preamble ++ (front ++ before.0)) ++ w.0) (preamble ++ (front ++ (before.0 ++ w.0))) parts
+                  (puts_then old now later at middle end (preamble ++ (front ++ before.0)) w.0 before.2 w.2),
+            );
       }
 
   pub all_sections :
@@ -100,15 +99,14 @@ module _ (writes : Writes) (source : ParsedModule) (given : List Given) where
       let none : TakesSection s None t = subst (λ (o : Option (Result Section ModuleError)). TakesSection s o t) i takes in
       let is_module : IsModule file p.sections = (text, e, stand_alone (length file) text p.sections s.left.rest.now p.are_read.stand_before none) in
       let here = subst (λ (l : List ℕ). IsModule l p.sections) f is_module in
-      let w = p.written p.sections here in
-      (
-      preamble ++ (new_behind given p.sections 0 ++ w.0),
-      record {
-        sections = p.sections;
-        is_module = here;
-        text = w.0;
-        are_written = w.1;
-        new_is = refl;
-      },
-      w.2.appends,
-    )
+      let w = p.written p.sections here in (
+        preamble ++ (new_behind given p.sections 0 ++ w.0),
+        record {
+          sections = p.sections;
+          is_module = here;
+          text = w.0;
+          are_written = w.1;
+          new_is = refl;
+        },
+        w.2.appends,
+      )

@@ -37,7 +37,7 @@ others_pushed a b c function local p e n =
 -- ---- the locals are the first numbers
 
 pub no_locals : (m : IndicesToIds) → m ≡ no_ids → locals_in m 0 ≡ []
-no_locals m e = ap (λ (x : IndicesToIds). locals_in x 0) e ∙ ap (λ (o : Option (List ℕ)). unwrap_or o []) (get-empty nat_cmp 0) 
+no_locals m e = ap (λ (x : IndicesToIds). locals_in x 0) e ∙ ap (λ (o : Option (List ℕ)). unwrap_or o []) (get-empty nat_cmp 0)
 
 pub next_local : (m more : IndicesToIds) (n : ℕ) → locals_in m 0 ≡ first_numbers n → more ≡ with_next_local 0 n m → locals_in more 0 ≡ first_numbers (n + 1)
 next_local m more n h e =

@@ -11,6 +11,6 @@ groups-init c = record {
 pub groups-preserved : goal.groups-preserved
 groups-preserved c = record {
   declare = one_more_declared c.args.indices.now c.groups.counter c.number.new.self.rest.now c.groups.input.rest.now c.declare.new.input.rest.now c.args.params.now
-  c.groups.locals.types c.declare.new.self.types c.groups.invariant.declare c.in_ok-declare.ensures.group;
+      c.groups.locals.types c.declare.new.self.types c.groups.invariant.declare c.in_ok-declare.ensures.group;
   count = c.in_ok-declare.ensures.count c.groups.invariant.count;
 }

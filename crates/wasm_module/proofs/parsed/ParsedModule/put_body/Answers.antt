@@ -15,9 +15,9 @@ returns-clause-written g c = λ source e.
     let given : ℕ = length c.as_slice-raw.result.now in
     let len : short_number given ≡ short_number (length raw) = ap (λ (l : List ℕ). short_number (length l)) is_raw in
     if_so c.put.result c.put.ensures (λ end puts. (
-    raw,
-    c.in_ok-write_body.ensures.written source e,
-    puts_then before sized after c.args.at start end (short_number (length raw)) raw
-    (puts_same before sized c.args.at start (short_number given) (short_number (length raw)) len c.in_ok-start.ensures)
-    (puts_same sized after start end c.as_slice-raw.result.now raw is_raw puts),
-  ))
+      raw,
+      c.in_ok-write_body.ensures.written source e,
+      puts_then before sized after c.args.at start end (short_number (length raw)) raw
+          (puts_same before sized c.args.at start (short_number given) (short_number (length raw)) len c.in_ok-start.ensures)
+          (puts_same sized after start end c.as_slice-raw.result.now raw is_raw puts),
+    ))

@@ -11,16 +11,15 @@ returns-then-rank-eq0-clause-written g c = λ source all e m.
     let writes = g.B.BodyWriter.writes c.args.rewritten.now.bodies in
     let given = given_in c.args.rewritten.now in
     let w = c.in_ok-end.ensures.written source e in
-    let is_custom : 0 ≡ rank (id_of c.args.section.now.kind) = omega (arith, c.rank-rank.ensures) in
-    (
-    w.0,
-    record {
-      own = w.0;
-      is_written = w.1;
-      text_is = sym (append-nil w.0) ∙ ap (λ (n : ℕ). w.0 ++ new_behind_section writes source given all n) is_custom;
-    },
-    w.2,
-  )
+    let is_custom : 0 ≡ rank (id_of c.args.section.now.kind) = omega (arith, c.rank-rank.ensures) in (
+      w.0,
+      record {
+        own = w.0;
+        is_written = w.1;
+        text_is = sym (append-nil w.0) ∙ ap (λ (n : ℕ). w.0 ++ new_behind_section writes source given all n) is_custom;
+      },
+      w.2,
+    )
 
 pub returns-clause-written : goal.returns-clause-written
 returns-clause-written g c = λ source all e m.
@@ -31,14 +30,14 @@ returns-clause-written g c = λ source all e m.
     let w = c.in_ok-end.ensures.written source e in
     let here = subst (λ (l : List ℕ). IsModule l all) (sym c.in_ok-end.ensures.extends.bytes) m in
     if_so c.put_behind.result (c.put_behind.ensures all here) (λ end puts. (
-    w.0 ++ new_behind given all c.rank-rank.result,
-    record {
-      own = w.0;
-      is_written = w.1;
-      text_is =
-          ap (λ (l : List ℕ). w.0 ++ l)
-          (ap (λ (n : ℕ). new_behind given all n) c.rank-rank.ensures ∙ behind_other (g.B.BodyWriter.writes c.args.rewritten.now.bodies) source given all r not_custom);
-    },
-    puts_then (contents c.args.out.now) (contents c.put_in_place.new.out) (contents c.put_behind.new.out) c.args.at c.in_ok-end.end end w.0
-    (new_behind given all c.rank-rank.result) w.2 puts,
-  ))
+      w.0 ++ new_behind given all c.rank-rank.result,
+      record {
+        own = w.0;
+        is_written = w.1;
+        text_is =
+            ap (λ (l : List ℕ). w.0 ++ l)
+            (ap (λ (n : ℕ). new_behind given all n) c.rank-rank.ensures ∙ behind_other (g.B.BodyWriter.writes c.args.rewritten.now.bodies) source given all r not_custom);
+      },
+      puts_then (contents c.args.out.now) (contents c.put_in_place.new.out) (contents c.put_behind.new.out) c.args.at c.in_ok-end.end end w.0
+          (new_behind given all c.rank-rank.result) w.2 puts,
+    ))
