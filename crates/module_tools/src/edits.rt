@@ -2,7 +2,7 @@
 ghost use Rattle.std.specs.Prelude.{OnOk};
 ghost use Rattle.walrus_body.specs.LocalFunctions.{HasEntry};
 ghost use Rattle.module_tools.specs.Sequences.{counted, trapping};
-ghost use Rattle.module_tools.specs.FunctionChanges.{ChangesFirst};
+ghost use Rattle.module_tools.specs.FunctionChanges.{ChangesFirst, TrapsIf};
 
 use std::alloc::AllocError;
 use walrus_body::LocalFunction;
@@ -37,5 +37,15 @@ pub(crate) fn trap(function: &mut LocalFunction) -> Result<(), AllocError>
     block
         .instrs
         .push((Instr::Unreachable, InstrLocId::default()))?;
+    Ok(())
+}
+
+/// Lets a function only trap where its body is taken away.
+pub(crate) fn trap_if(is_taken: bool, function: &mut LocalFunction) -> Result<(), AllocError>
+    ensures { OnOk result (TrapsIf is_taken function.old function.new) }
+{
+    if is_taken && function.has_entry() {
+        trap(function)?;
+    }
     Ok(())
 }

@@ -163,11 +163,12 @@ pub fn write_module<R: Files + Print + Eprint + AllocGlobal + Drop, B: BodyWrite
     }
 }
 
-/// The same, with the location map in a file of its own: both or none.
+/// The same, with the location map in a file of its own.
 ///
 /// # Errors
 ///
-/// Where one of them can't be written. Both files are then as before.
+/// Where one of them can't be written. Both files are then as before; but where the module can't be
+/// put in its place at the very end the map is new.
 pub fn write_module_with_map<R: Files + Print + Eprint + AllocGlobal + Drop, B: BodyWriter>(
     rt: &R,
     parsed: &mut ParsedModule<'_>,

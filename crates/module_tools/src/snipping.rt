@@ -1,9 +1,10 @@
 //! Functions whose bodies are taken away.
 
-ghost use Rattle.std.specs.Prelude.{◌≡◌, [], IfOk};
+ghost use Rattle.std.specs.Prelude.{◌≡◌, ◌==◌, [], IfOk};
+ghost use Rattle.std.specs.HashSet.{contains};
 ghost use Rattle.wasm_module.specs.WrittenModules.{given_in};
 
-use crate::edits::trap;
+use crate::edits::trap_if;
 use std::alloc::Global;
 use walrus_body::LocalFunction;
 use walrus_ir::{FunctionId, IdHashSet};
@@ -13,20 +14,28 @@ use wasm_module::{ChangeFunction, Changes, Changing, ModuleError, ParsedModule, 
 #[derive(Drop)]
 pub struct Snipping(IdHashSet<FunctionId>);
 
+impl Snipping {
+    /// Whether the body of this function is taken away.
+    fn takes(&self, function: FunctionId) -> bool
+        ensures { result ≡ contains (λ x y. x == y) self.now.0 function }
+    {
+        self.0.contains(&function)
+    }
+}
+
 impl ChangeFunction for Snipping {
-    // `trap` says what is made of a function; which ones are taken away is tested.
-    ghost changes = { λ self function old new. Unit {0} };
+    ghost use Rattle.module_tools.specs.FunctionChanges.{Snips};
+
+    ghost changes = { λ self. Snips self.0 };
 
     fn change(&self, index: usize, function: &mut LocalFunction) -> Result<(), ModuleError> {
-        if self.0.contains(&FunctionId::new(index)) && function.has_entry() {
-            trap(function)?;
-        }
+        trap_if(self.takes(FunctionId::new(index)), function)?;
         Ok(())
     }
 }
 
-/// Puts `unreachable` in the place of the bodies of the functions with these indices, which count
-/// behind imported ones. Those that have no body are passed over; all other bodies are rewritten.
+/// Puts `unreachable` in the place of the bodies of these functions. Those that have no body are
+/// passed over; all other bodies are rewritten.
 ///
 /// # Errors
 ///
@@ -34,13 +43,10 @@ impl ChangeFunction for Snipping {
 pub fn snip<'a>(
     alloc: Global,
     parsed: &mut ParsedModule<'a>,
-    indices: &[usize],
+    functions: IdHashSet<FunctionId>,
 ) -> Result<RewrittenModule<'a, Changing<Snipping>>, ModuleError>
-    ensures { IfOk result (λ made. given_in made ≡ []) }
+    ensures snips { IfOk result (λ made. made.bodies.0.0 ≡ functions) }
+    ensures none_given { IfOk result (λ made. given_in made ≡ []) }
 {
-    let mut functions = IdHashSet::new(alloc);
-    for index in indices {
-        functions.insert(FunctionId::new(*index))?;
-    }
     parsed.change_all(Snipping(functions), Changes::new(alloc))
 }

@@ -4,6 +4,7 @@ use module_tools::{count_calls, snip};
 use std::alloc::Global;
 use std::process::Abort;
 use std::test::Fail;
+use walrus_ir::{FunctionId, IdHashSet};
 use wasm_module::ParsedModule;
 
 /// What is done with a module.
@@ -52,13 +53,22 @@ fn counted_text(alloc: Global, parsed: &mut ParsedModule<'_>) -> Result<String, 
     }
 }
 
+/// The functions with these indices.
+fn functions(alloc: Global, indices: &[usize]) -> Result<IdHashSet<FunctionId>, Fail> {
+    let mut functions = IdHashSet::new(alloc);
+    for index in indices {
+        functions.insert(FunctionId::new(*index))?;
+    }
+    Ok(functions)
+}
+
 /// The module without the bodies of these functions, in hexadecimal; or its first fault.
 fn snipped_text(
     alloc: Global,
     parsed: &mut ParsedModule<'_>,
     indices: &[usize],
 ) -> Result<String, Fail> {
-    match snip(alloc, parsed, indices) {
+    match snip(alloc, parsed, functions(alloc, indices)?) {
         Ok(module) => written_text(alloc, parsed, &module),
         Err(error) => Ok(fault_text(alloc, error)?),
     }

@@ -27,7 +27,7 @@ pub enum ModuleFault {
     /// A section stands behind one that it has to stand before, or twice.
     #[error("a section is out of order")]
     SectionOutOfOrder,
-    /// Bytes stand behind the last item of a section, or behind the last section's end.
+    /// Bytes stand behind the last item of a section, or of bytes that are handed in.
     #[error("bytes stand behind the last item of a section")]
     Trailing,
     /// A number in LEB128 is too long or too great for its type.
@@ -82,7 +82,8 @@ pub enum ModuleFault {
     /// An export that is to be added has the name of one that is there.
     #[error("an export has this name already")]
     ExportTaken,
-    /// A function is changed otherwise when it is written than before.
+    /// The code takes another number of bytes when it is written than before, so that a function
+    /// was changed otherwise.
     #[error("a function is changed otherwise than before")]
     UnsteadyChange,
     /// A count or a size doesn't fit 32 bits, or 2^32 items are there.

@@ -48,7 +48,9 @@ impl<'a> ParsedModule<'a> {
     /// # Errors
     ///
     /// The first fault of its sections, with its place, or `Memory`.
-    pub fn read(alloc: Global, bytes: &'a [u8]) -> Result<ParsedModule<'a>, ModuleError> {
+    pub fn read(alloc: Global, bytes: &'a [u8]) -> Result<ParsedModule<'a>, ModuleError>
+        ensures { IfOk result (λ parsed. parsed.bytes.now ≡ bytes.now) }
+    {
         let mut parsed = ParsedModule {
             alloc,
             bytes,
@@ -71,6 +73,8 @@ impl<'a> ParsedModule<'a> {
             }
         }
         parsed.check_counts()?;
+        // They are these already; said here, nothing has to be said of it by what reads sections.
+        parsed.bytes = bytes;
         Ok(parsed)
     }
 

@@ -304,7 +304,7 @@ impl<'a> ParsedModule<'a> {
     /// # Errors
     ///
     /// Those of the writer; `UnsteadyChange` where a change of functions answers otherwise than
-    /// before; or `Memory`.
+    /// before, so that the code takes another number of bytes; or `Memory`.
     pub fn write_module<B: BodyWriter, W: Write>(
         &mut self,
         rewritten: &RewrittenModule<'_, B>,

@@ -4,6 +4,7 @@
 use module_tools::{Stop, exit_code, read_file, snip, words, write_module};
 use std::io;
 use std::process::ExitCode;
+use walrus_ir::{FunctionId, IdHashSet};
 use wasm_module::ParsedModule;
 
 const WRONG_USE: Stop = Stop::WrongUse("usage: wsnip IN.wasm OUT.wasm INDEX...");
@@ -23,6 +24,24 @@ fn indices(rt: &HostRuntime, words: &[String]) -> Result<Vec<usize>, Stop> {
     Ok(indices)
 }
 
+/// The functions with these indices, each of which has a body.
+fn functions(
+    rt: &HostRuntime,
+    parsed: &ParsedModule<'_>,
+    indices: &[usize],
+) -> Result<IdHashSet<FunctionId>, Stop> {
+    let mut functions = IdHashSet::new(rt.alloc());
+    for index in indices {
+        if !parsed.has_body(*index) {
+            return Err(Stop::NoBody(*index));
+        }
+        if functions.insert(FunctionId::new(*index)).is_err() {
+            return Err(Stop::Io(io::Error::from(io::ErrorKind::OutOfMemory)));
+        }
+    }
+    Ok(functions)
+}
+
 fn run(rt: &HostRuntime, words: &[String]) -> Result<(), Stop> {
     let [input, output, numbers @ ..] = words else {
         return Err(WRONG_USE);
@@ -33,10 +52,8 @@ fn run(rt: &HostRuntime, words: &[String]) -> Result<(), Stop> {
     let indices = indices(rt, numbers)?;
     let bytes = read_file(rt, input.as_str())?;
     let mut parsed = ParsedModule::read(rt.alloc(), &bytes)?;
-    if let Some(index) = indices.iter().find(|index| !parsed.has_body(**index)) {
-        return Err(Stop::NoBody(*index));
-    }
-    let snipped = snip(rt.alloc(), &mut parsed, &indices)?;
+    let functions = functions(rt, &parsed, &indices)?;
+    let snipped = snip(rt.alloc(), &mut parsed, functions)?;
     write_module(rt, &mut parsed, &snipped, output.as_str())
 }
 
