@@ -112,10 +112,10 @@ pub(crate) fn put(
     location: u16,
 ) -> Result<(), AllocError> {
     let seq = InstrSeqId::new(slot);
-    if builder.has(seq) {
-        append(builder, seq, instr, InstrLocId::new(u32::from(location)))?;
+    match builder.has(seq) {
+        true => append(builder, seq, instr, InstrLocId::new(u32::from(location))),
+        false => Ok(()),
     }
-    Ok(())
 }
 
 /// An instruction, with the slot of its sequence before it and its location behind it.

@@ -53,26 +53,61 @@ pub(crate) enum About {
     Printed,
 }
 
+fn facts(alloc: Global, text: &str) -> Result<String, Fail> {
+    let function = parse(alloc, Setting::PLAIN, text)?;
+    Ok(answered(alloc, &function)?)
+}
+
+fn gathered_facts(alloc: Global, text: &str) -> Result<String, Fail> {
+    let function = parse_demo(alloc, DEMO, text)?;
+    Ok(both_answered(alloc, &function)?)
+}
+
+fn declared_locals(alloc: Global, text: &str) -> Result<String, Fail> {
+    let function = parse_demo(alloc, DEMO, text)?;
+    declared_as_used(alloc, &function)
+}
+
+fn written_function(alloc: Global, setting: Setting, text: &str) -> Result<String, Fail> {
+    let function = parse(alloc, setting, text)?;
+    written(alloc, &function)
+}
+
+fn code_entry(alloc: Global, setting: Setting, text: &str) -> Result<String, Fail> {
+    let function = parse_demo(alloc, setting, text)?;
+    entry_written(alloc, &function)
+}
+
+fn counted(alloc: Global, text: &str) -> Result<String, AllocError> {
+    parsed_by(alloc, Setting::PLAIN, text, Counting { left: 2 })
+}
+
+fn kept(alloc: Global, text: &str) -> Result<String, AllocError> {
+    let places = Vec::new(alloc);
+    parsed_by(alloc, Setting::PLAIN, text, Keeping { places })
+}
+
+fn or_fail(answer: Result<String, AllocError>) -> Result<String, Fail> {
+    Ok(answer?)
+}
+
 fn answer(alloc: Global, about: About, text: &str) -> Result<String, Fail> {
     match about {
-        About::Function(setting) => Ok(parsed(alloc, setting, text)?),
+        About::Function(setting) => or_fail(parsed(alloc, setting, text)),
         About::Entry => entry_text(alloc, text),
-        About::Facts => Ok(answered(alloc, &parse(alloc, Setting::PLAIN, text)?)?),
-        About::Gathered => Ok(both_answered(alloc, &parse_demo(alloc, DEMO, text)?)?),
-        About::Locals => declared_as_used(alloc, &parse_demo(alloc, DEMO, text)?),
-        About::Written(setting) => written(alloc, &parse(alloc, setting, text)?),
-        About::Counted => Ok(parsed_by(alloc, Setting::PLAIN, text, Counting { left: 2 })?),
-        About::Kept => {
-            let places = Vec::new(alloc);
-            Ok(parsed_by(alloc, Setting::PLAIN, text, Keeping { places })?)
-        }
-        About::Told => Ok(told(alloc, text)?),
-        About::Rewritten => Ok(rewritten(alloc, text)?),
-        About::Named(setting) => Ok(named(alloc, setting, text)?),
+        About::Facts => facts(alloc, text),
+        About::Gathered => gathered_facts(alloc, text),
+        About::Locals => declared_locals(alloc, text),
+        About::Written(setting) => written_function(alloc, setting, text),
+        About::Counted => or_fail(counted(alloc, text)),
+        About::Kept => or_fail(kept(alloc, text)),
+        About::Told => or_fail(told(alloc, text)),
+        About::Rewritten => or_fail(rewritten(alloc, text)),
+        About::Named(setting) => or_fail(named(alloc, setting, text)),
         About::RewrittenWhole(setting) => rewritten_whole(alloc, setting, text),
-        About::CodeEntry(setting) => entry_written(alloc, &parse_demo(alloc, setting, text)?),
+        About::CodeEntry(setting) => code_entry(alloc, setting, text),
         About::Read(start) => read_all(alloc, text, start),
-        About::Printed => Ok(printed(alloc, text)?),
+        About::Printed => or_fail(printed(alloc, text)),
     }
 }
 
@@ -121,16 +156,28 @@ fn gathered_twice(alloc: Global, builder: FunctionBuilder) -> Result<String, All
     format!(in alloc; "{gathered}; {emitted}")
 }
 
-fn answer_made(alloc: Global, about: AboutMade, instrs: &[Item]) -> Result<String, Fail> {
-    let builder = function(alloc, 3, instrs)?;
+fn written_by_hand(alloc: Global, builder: FunctionBuilder) -> Result<String, Fail> {
+    written(alloc, &LocalFunction::new(Vec::new(alloc), builder))
+}
+
+fn entry_by_hand(alloc: Global, builder: FunctionBuilder) -> Result<String, Fail> {
+    entry_written(alloc, &LocalFunction::new(Vec::new(alloc), builder))
+}
+
+fn answer_about(alloc: Global, about: AboutMade, builder: FunctionBuilder) -> Result<String, Fail> {
     match about {
-        AboutMade::Walk => Ok(walked(alloc, &builder, 0, 1000)?),
-        AboutMade::Facts => Ok(both_facts(alloc, builder)?),
-        AboutMade::Gathered => Ok(gathered_twice(alloc, builder)?),
-        AboutMade::Written => written(alloc, &LocalFunction::new(Vec::new(alloc), builder)),
-        AboutMade::CodeEntry => {
-            entry_written(alloc, &LocalFunction::new(Vec::new(alloc), builder))
-        }
+        AboutMade::Walk => or_fail(walked(alloc, &builder, 0, 1000)),
+        AboutMade::Facts => or_fail(both_facts(alloc, builder)),
+        AboutMade::Gathered => or_fail(gathered_twice(alloc, builder)),
+        AboutMade::Written => written_by_hand(alloc, builder),
+        AboutMade::CodeEntry => entry_by_hand(alloc, builder),
+    }
+}
+
+fn answer_made(alloc: Global, about: AboutMade, instrs: &[Item]) -> Result<String, Fail> {
+    match function(alloc, 3, instrs) {
+        Ok(builder) => answer_about(alloc, about, builder),
+        Err(error) => Err(Fail::from(error)),
     }
 }
 

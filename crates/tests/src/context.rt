@@ -216,14 +216,23 @@ fn called(alloc: Global, example: &Example, steps: &[Step]) -> Result<String, Al
     Ok(text)
 }
 
-// Makes calls, each list of which stands before what is wanted.
-fn check_calls(rt: &impl Abort, alloc: Global, cases: &[(&[Step], &str)]) -> Result<(), Fail> {
-    let example = Example::new(alloc, 0)?;
+// Makes calls over a module, each list of which stands before what is wanted.
+fn check_calls_in(
+    rt: &impl Abort,
+    alloc: Global,
+    example: &Example,
+    cases: &[(&[Step], &str)],
+) -> Result<(), Fail> {
     for (steps, want) in cases {
-        let found = called(alloc, &example, steps)?;
+        let found = called(alloc, example, steps)?;
         assert_eq!(rt; found.as_str(), *want);
     }
     Ok(())
+}
+
+fn check_calls(rt: &impl Abort, alloc: Global, cases: &[(&[Step], &str)]) -> Result<(), Fail> {
+    let example = Example::new(alloc, 0)?;
+    check_calls_in(rt, alloc, &example, cases)
 }
 
 const ENTRY: Step = Step::Push(BlockKind::FunctionEntry, 0, 0);

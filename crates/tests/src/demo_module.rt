@@ -105,10 +105,28 @@ pub(crate) fn numbers(alloc: Global) -> Result<IdsToIndices, IndexError> {
 pub(crate) fn demo(alloc: Global, code_section_offset: usize) -> Result<Example, IndexError>
     ensures { IfOk result (λ example. example.module.code_section_offset ≡ code_section_offset) }
 {
-    let (Ok(module), Ok(indices)) = (module(alloc, code_section_offset), indices(alloc)) else {
-        return Err(IndexError::Memory);
-    };
-    Ok(Example { module, indices })
+    let indices = indices(alloc)?;
+    match module(alloc, code_section_offset) {
+        Ok(module) => Ok(Example { module, indices }),
+        Err(_) => Err(IndexError::Memory),
+    }
+}
+
+// Parses the body of the function 0 of this module, whose argument is the local 0.
+fn parse_first(
+    alloc: Global,
+    demo: &Example,
+    setting: Setting,
+    body: &str,
+) -> Result<LocalFunction, ParseFailure>
+    requires { demo.now.module.code_section_offset ≡ setting.offset }
+{
+    let mut instrs = Vec::new(alloc);
+    let id = FunctionId::new(0);
+    match vec![in alloc; LocalId::new(0)] {
+        Ok(args) => parse_in(demo, id, args, setting, body, AcceptAll, &mut instrs),
+        Err(_) => Err(OUT_OF_MEMORY),
+    }
 }
 
 /// Parses the body of the function 0, whose argument is the local 0.
@@ -117,13 +135,8 @@ pub(crate) fn parse_demo(
     setting: Setting,
     body: &str,
 ) -> Result<LocalFunction, ParseFailure> {
-    let Ok(demo) = demo(alloc, setting.offset as usize) else {
-        return Err(OUT_OF_MEMORY);
-    };
-    let Ok(args) = vec![in alloc; LocalId::new(0)] else {
-        return Err(OUT_OF_MEMORY);
-    };
-    let mut instrs = Vec::new(alloc);
-    let id = FunctionId::new(0);
-    parse_in(&demo, id, args, setting, body, AcceptAll, &mut instrs)
+    match demo(alloc, setting.offset as usize) {
+        Ok(demo) => parse_first(alloc, &demo, setting, body),
+        Err(_) => Err(OUT_OF_MEMORY),
+    }
 }

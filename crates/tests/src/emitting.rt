@@ -53,7 +53,20 @@ fn fault_text(alloc: Global, answer: Option<Result<(), EmitError>>) -> Result<St
     }
 }
 
-// Writes a function, and answers the fault as text.
+// Writes a function under these numbers, and answers the fault as text.
+fn write_by(
+    alloc: Global,
+    function: &LocalFunction,
+    numbers: &IdsToIndices,
+    locals: &IdHashMap<LocalId, u32>,
+    encoder: &mut FunctionEncoder,
+    map: Option<&mut Vec<(InstrLocId, usize)>>,
+) -> Result<String, AllocError> {
+    let answer = write(function, numbers, locals, encoder, map);
+    fault_text(alloc, answer)
+}
+
+// The same under the numbers of these tests.
 fn write_into(
     alloc: Global,
     function: &LocalFunction,
@@ -62,8 +75,7 @@ fn write_into(
 ) -> Result<String, Fail> {
     let numbers = numbers(alloc)?;
     let locals = local_numbers(alloc)?;
-    let answer = write(function, &numbers, &locals, encoder, map);
-    Ok(fault_text(alloc, answer)?)
+    Ok(write_by(alloc, function, &numbers, &locals, encoder, map)?)
 }
 
 // Appends bytes and pairs.

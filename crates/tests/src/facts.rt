@@ -3,6 +3,7 @@ use crate::by_hand::{Access, Item, Made, Use, example};
 use crate::cases::{About, AboutMade, check, check_made};
 use std::alloc::{AllocError, Global};
 use std::hash::{BuildHasherDefault, FoldHasher};
+use std::process::Abort;
 use std::test::Fail;
 use walrus_body::{
     DataSegmentsVisitor, EmitFacts, FactsVisitor, LocalFunction, SizeVisitor, law_facts,
@@ -83,6 +84,19 @@ fn facts_text(alloc: Global, facts: &EmitFacts) -> Result<String, AllocError> {
     Ok(text)
 }
 
+// Facts, and the fault.
+fn gathered_text(
+    alloc: Global,
+    facts: &EmitFacts,
+    answer: Result<(), WalkError>,
+) -> Result<String, AllocError> {
+    let mut text = facts_text(alloc, facts)?;
+    if let Err(error) = answer {
+        write!(text, " {error:?}")?;
+    }
+    Ok(text)
+}
+
 // The facts that a visitor gathers from the first sequence on, which begins with this size, and
 // the fault.
 pub(crate) fn gathered(
@@ -93,11 +107,7 @@ pub(crate) fn gathered(
     let mut visitor = FactsVisitor::new(alloc);
     visitor.facts.size = before;
     let answer = dfs_in_order(&mut visitor, builder, InstrSeqId::new(0));
-    let mut text = facts_text(alloc, &visitor.facts)?;
-    if let Err(error) = answer {
-        write!(text, " {error:?}")?;
-    }
-    Ok(text)
+    gathered_text(alloc, &visitor.facts, answer)
 }
 
 // The facts that a function answers, or the fault.
@@ -238,10 +248,8 @@ fn counted_from(
     format!(in alloc; "{answer:?} {}", visitor.size)
 }
 
-/// The size of a tree with every kind of sequence, up to what 64 bits hold.
-#[test]
-fn counts_up_to_64_bits(rt: HostRuntime) -> Result<(), Fail> {
-    let builder = example(rt.alloc())?;
+// Counts on from numbers up to what 64 bits hold.
+fn check_counts(rt: &impl Abort, alloc: Global, builder: &FunctionBuilder) -> Result<(), Fail> {
     for (before, want, want_facts) in [
         (0, "Ok(()) 23", "23"),
         (
@@ -255,12 +263,19 @@ fn counts_up_to_64_bits(rt: HostRuntime) -> Result<(), Fail> {
             "18446744073709551615 TooLarge",
         ),
     ] {
-        let found = counted_from(rt.alloc(), &builder, before)?;
+        let found = counted_from(alloc, builder, before)?;
         assert_eq!(rt; found.as_str(), want);
-        let found = gathered(rt.alloc(), &builder, before)?;
+        let found = gathered(alloc, builder, before)?;
         assert_eq!(rt; found.as_str(), want_facts);
     }
     Ok(())
+}
+
+/// The size of a tree with every kind of sequence, up to what 64 bits hold.
+#[test]
+fn counts_up_to_64_bits(rt: HostRuntime) -> Result<(), Fail> {
+    let builder = example(rt.alloc())?;
+    check_counts(&rt, rt.alloc(), &builder)
 }
 
 /// The facts of that tree, as its function answers them.

@@ -100,79 +100,87 @@ fn found(
     }
 }
 
+// Where an old index is asked, the index, and the id or the text of the fault.
+const FOUND: [(Place, u32, &str); 22] = [
+    (Place::In(Space::Types), 0, "3"),
+    (Place::In(Space::Types), 1, "0"),
+    (Place::In(Space::Types), 2, "11"),
+    (Place::In(Space::Tables), 0, "10"),
+    (Place::In(Space::Funcs), 0, "12"),
+    (Place::In(Space::Globals), 0, "13"),
+    (Place::In(Space::Memories), 0, "14"),
+    (Place::In(Space::Elements), 0, "15"),
+    (Place::In(Space::Data), 0, "16"),
+    (Place::In(Space::Tags), 0, "17"),
+    (Place::LocalOf(3), 0, "7"),
+    (Place::LocalOf(3), 1, "4"),
+    (
+        Place::In(Space::Tables),
+        5,
+        "index `5` is out of bounds for tables",
+    ),
+    (
+        Place::In(Space::Types),
+        5,
+        "index `5` is out of bounds for types",
+    ),
+    (
+        Place::In(Space::Funcs),
+        5,
+        "index `5` is out of bounds for funcs",
+    ),
+    (
+        Place::In(Space::Globals),
+        5,
+        "index `5` is out of bounds for globals",
+    ),
+    (
+        Place::In(Space::Memories),
+        5,
+        "index `5` is out of bounds for memories",
+    ),
+    (
+        Place::In(Space::Elements),
+        5,
+        "index `5` is out of bounds for elements",
+    ),
+    (
+        Place::In(Space::Data),
+        5,
+        "index `5` is out of bounds for data",
+    ),
+    (
+        Place::In(Space::Tags),
+        5,
+        "index `5` is out of bounds for tags",
+    ),
+    (
+        Place::LocalOf(3),
+        5,
+        "index `5` in function `3` is out of bounds for local",
+    ),
+    (
+        Place::LocalOf(2),
+        0,
+        "function index `2` is out of bounds for local",
+    ),
+];
+
+// Checks ids of old indices, row by row.
+fn check_ids(rt: &impl Abort, alloc: Global, ids: &IndicesToIds) -> Result<(), Fail> {
+    for (place, index, want) in &FOUND {
+        let text = found(alloc, ids, *place, *index)?;
+        assert_eq!(rt; text.as_str(), *want);
+    }
+    Ok(())
+}
+
 /// Each space has ids of its own and each function its locals, in the order in which they were
 /// pushed; an index that is remapped is, alone; where an index has no id the space is named.
 #[test]
 fn each_space_has_its_ids(rt: HostRuntime) -> Result<(), Fail> {
     let ids = some_ids(rt.alloc())?;
-    for (place, index, want) in [
-        (Place::In(Space::Types), 0, "3"),
-        (Place::In(Space::Types), 1, "0"),
-        (Place::In(Space::Types), 2, "11"),
-        (Place::In(Space::Tables), 0, "10"),
-        (Place::In(Space::Funcs), 0, "12"),
-        (Place::In(Space::Globals), 0, "13"),
-        (Place::In(Space::Memories), 0, "14"),
-        (Place::In(Space::Elements), 0, "15"),
-        (Place::In(Space::Data), 0, "16"),
-        (Place::In(Space::Tags), 0, "17"),
-        (Place::LocalOf(3), 0, "7"),
-        (Place::LocalOf(3), 1, "4"),
-        (
-            Place::In(Space::Tables),
-            5,
-            "index `5` is out of bounds for tables",
-        ),
-        (
-            Place::In(Space::Types),
-            5,
-            "index `5` is out of bounds for types",
-        ),
-        (
-            Place::In(Space::Funcs),
-            5,
-            "index `5` is out of bounds for funcs",
-        ),
-        (
-            Place::In(Space::Globals),
-            5,
-            "index `5` is out of bounds for globals",
-        ),
-        (
-            Place::In(Space::Memories),
-            5,
-            "index `5` is out of bounds for memories",
-        ),
-        (
-            Place::In(Space::Elements),
-            5,
-            "index `5` is out of bounds for elements",
-        ),
-        (
-            Place::In(Space::Data),
-            5,
-            "index `5` is out of bounds for data",
-        ),
-        (
-            Place::In(Space::Tags),
-            5,
-            "index `5` is out of bounds for tags",
-        ),
-        (
-            Place::LocalOf(3),
-            5,
-            "index `5` in function `3` is out of bounds for local",
-        ),
-        (
-            Place::LocalOf(2),
-            0,
-            "function index `2` is out of bounds for local",
-        ),
-    ] {
-        let text = found(rt.alloc(), &ids, place, index)?;
-        assert_eq!(rt; text.as_str(), want);
-    }
-    Ok(())
+    check_ids(&rt, rt.alloc(), &ids)
 }
 
 // The new index of an id.
@@ -221,18 +229,23 @@ fn number_text(
     }
 }
 
-// An id in each space, two functions more, and a data segment that is given two new indices.
-fn numbers_of_spaces(alloc: Global) -> Result<IdsToIndices, IndexError> {
-    let mut numbers = IdsToIndices::new(alloc);
+// Gives an id in each space, two functions more, and twice a data segment their new indices.
+fn give_all(numbers: &mut IdsToIndices) -> Result<(), IndexError> {
     for (space, id) in SPACES {
-        give(&mut numbers, space, id)?;
+        give(numbers, space, id)?;
     }
     for id in [5, 2] {
-        give(&mut numbers, Space::Funcs, id)?;
+        give(numbers, Space::Funcs, id)?;
     }
     for index in [9, 4] {
         numbers.set_data_index(DataId::new(1), index)?;
     }
+    Ok(())
+}
+
+fn numbers_of_spaces(alloc: Global) -> Result<IdsToIndices, IndexError> {
+    let mut numbers = IdsToIndices::new(alloc);
+    give_all(&mut numbers)?;
     Ok(numbers)
 }
 

@@ -3,8 +3,8 @@ use crate::cases::{About, check};
 use crate::demo_module::{demo, numbers};
 use std::alloc::{AllocError, Global};
 use std::test::Fail;
-use walrus_body::LocalFunction;
-use walrus_ir::{FunctionBuilder, IdHashMap, IdHashSet, LocalId, TypeId};
+use walrus_body::{IdsToIndices, LocalFunction};
+use walrus_ir::{FunctionBuilder, IdHashMap, IdHashSet, LocalId, Module, TypeId};
 use wasm_encode::FunctionEncoder;
 use wasm_ops::RawValType;
 
@@ -26,19 +26,31 @@ fn declarations_text(
     Ok(text)
 }
 
-// What a function that uses these locals declares over the demo module, or the fault.
+// What a function that uses these locals declares, or the fault.
+fn declared_in(
+    alloc: Global,
+    module: &Module,
+    numbers: &IdsToIndices,
+    function: &LocalFunction,
+    used: &IdHashSet<LocalId>,
+) -> Result<String, AllocError> {
+    match function.emit_locals(module, numbers, used) {
+        Ok((declarations, numbers)) => {
+            declarations_text(alloc, declarations.as_slice(), &numbers)
+        }
+        Err(error) => format!(in alloc; "{error:?}"),
+    }
+}
+
+// The same over the demo module.
 fn declared(
     alloc: Global,
     function: &LocalFunction,
     used: &IdHashSet<LocalId>,
 ) -> Result<String, Fail> {
     let demo = demo(alloc, 0)?;
-    match function.emit_locals(&demo.module, &numbers(alloc)?, used) {
-        Ok((declarations, numbers)) => {
-            Ok(declarations_text(alloc, declarations.as_slice(), &numbers)?)
-        }
-        Err(error) => Ok(format!(in alloc; "{error:?}")?),
-    }
+    let numbers = numbers(alloc)?;
+    Ok(declared_in(alloc, &demo.module, &numbers, function, used)?)
 }
 
 // What a function declares that uses the locals that are among its facts.

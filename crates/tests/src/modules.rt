@@ -2,6 +2,7 @@
 use crate::function_text::Type;
 use crate::small_module::types;
 use std::alloc::{AllocError, Global};
+use std::process::Abort;
 use std::test::Fail;
 use walrus_ir::{
     InstrLocId, InstrSeqType, ModuleLocals, ModuleTags, ModuleTypes, TagId, TypeId, ValType,
@@ -28,10 +29,8 @@ fn picked(
     }
 }
 
-/// Of the module's types the first by its number is found; entry types are apart.
-#[test]
-fn finds_types(rt: HostRuntime) -> Result<(), Fail> {
-    let types = types(rt.alloc())?;
+// Which type is picked, and which is found, for so many `i32`.
+fn check_picks(rt: &impl Abort, alloc: Global, types: &ModuleTypes) -> Result<(), Fail> {
     let values = [ValType::I32, ValType::I32];
     for (params, results, pick, found) in [
         (0, 0, "()", 0),
@@ -42,10 +41,16 @@ fn finds_types(rt: HostRuntime) -> Result<(), Fail> {
         (2, 1, "none", 100),
     ] {
         let (params, results) = (&values[..params], &values[..results]);
-        let found_pick = picked(rt.alloc(), &types, params, results)?;
+        let found_pick = picked(alloc, types, params, results)?;
         assert_eq!(rt; found_pick.as_str(), pick);
         assert_eq!(rt; number(types.find(params, results)), found);
     }
+    Ok(())
+}
+
+// Which entry type is found for so many `i32`, and which types are function types.
+fn check_kinds(rt: &impl Abort, types: &ModuleTypes) {
+    let values = [ValType::I32, ValType::I32];
     for (results, want) in [(0, 4), (1, 100), (2, 6)] {
         assert_eq!(rt;
             number(types.find_for_function_entry(&values[..results])),
@@ -62,7 +67,14 @@ fn finds_types(rt: HostRuntime) -> Result<(), Fail> {
     ] {
         assert_eq!(rt; types.is_func(TypeId::new(id)), want, "at {id}");
     }
-    Ok(())
+}
+
+/// Of the module's types the first by its number is found; entry types are apart.
+#[test]
+fn finds_types(rt: HostRuntime) -> Result<(), Fail> {
+    let types = types(rt.alloc())?;
+    check_kinds(&rt, &types);
+    check_picks(&rt, rt.alloc(), &types)
 }
 
 /// Tags and locals have the numbers of their places.

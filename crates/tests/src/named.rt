@@ -46,31 +46,42 @@ impl fmt::Display for Clause {
 #[derive(Clone, Copy)]
 struct Shown<'a>(&'a NamedOp);
 
+fn write_clauses<W: fmt::Write>(f: &mut fmt::Formatter<W>, clauses: &[NamedCatch]) -> fmt::Result {
+    for clause in clauses {
+        write!(f, "{}", Clause(*clause))?;
+    }
+    Ok(())
+}
+
+fn write_immediates<W: fmt::Write>(
+    f: &mut fmt::Formatter<W>,
+    immediates: &NamedImmediates,
+) -> fmt::Result {
+    match immediates {
+        NamedImmediates::Nothing => Ok(()),
+        NamedImmediates::Index(one) => write!(f, " {}", Index(*one)),
+        NamedImmediates::Pair(one, two) => write!(f, " {} {}", Index(*one), Index(*two)),
+        NamedImmediates::Label(depth) => write!(f, " ^{depth}"),
+        NamedImmediates::Access(x) => {
+            write!(f, " memory{} {} {}", x.memory.index(), x.exponent, x.offset)
+        }
+        NamedImmediates::Table(labels, default) => write!(f, " {labels:?} ^{default}"),
+        NamedImmediates::Block(ty) => write!(f, " {:?}->{:?}", ty.params, ty.results),
+        NamedImmediates::Clauses(ty, clauses) => {
+            write!(f, " {:?}->{:?}", ty.params, ty.results)?;
+            write_clauses(f, clauses)
+        }
+        others => write!(f, " {others:?}"),
+    }
+}
+
 impl fmt::Display for Shown<'_> {
     fn fmt<W: fmt::Write>(&self, f: &mut fmt::Formatter<W>) -> fmt::Result {
         match self.0.opcode {
             Opcode::Byte(byte) => write!(f, "{byte:02x}")?,
             Opcode::Prefixed(prefix, number) => write!(f, "{prefix:02x}.{number}")?,
         }
-        match &self.0.immediates {
-            NamedImmediates::Nothing => Ok(()),
-            NamedImmediates::Index(one) => write!(f, " {}", Index(*one)),
-            NamedImmediates::Pair(one, two) => write!(f, " {} {}", Index(*one), Index(*two)),
-            NamedImmediates::Label(depth) => write!(f, " ^{depth}"),
-            NamedImmediates::Access(x) => {
-                write!(f, " memory{} {} {}", x.memory.index(), x.exponent, x.offset)
-            }
-            NamedImmediates::Table(labels, default) => write!(f, " {labels:?} ^{default}"),
-            NamedImmediates::Block(ty) => write!(f, " {:?}->{:?}", ty.params, ty.results),
-            NamedImmediates::Clauses(ty, clauses) => {
-                write!(f, " {:?}->{:?}", ty.params, ty.results)?;
-                for clause in clauses {
-                    write!(f, "{}", Clause(*clause))?;
-                }
-                Ok(())
-            }
-            others => write!(f, " {others:?}"),
-        }
+        write_immediates(f, &self.0.immediates)
     }
 }
 
@@ -82,7 +93,7 @@ const OUT_OF_MEMORY: ParseFailure = ParseFailure {
 // The body that hexadecimal text is, as its module names it.
 fn read(alloc: Global, setting: Setting, body: &str) -> Result<NamedBody, ParseFailure> {
     let offset = setting.offset as usize;
-    let (Ok(bytes), Ok(example)) = (hex::decode(alloc, body), Example::new(alloc, offset)) else {
+    let Ok(bytes) = hex::decode(alloc, body) else {
         return Err(OUT_OF_MEMORY);
     };
     let body = FunctionBody {
@@ -90,14 +101,17 @@ fn read(alloc: Global, setting: Setting, body: &str) -> Result<NamedBody, ParseF
         start: offset + setting.before as usize,
         ops: setting.ops.min(bytes.len()),
     };
-    NamedBody::read(
-        alloc,
-        &example.module,
-        &example.indices,
-        FunctionId::new(12),
-        TypeId::new(setting.ty),
-        body,
-    )
+    match Example::new(alloc, offset) {
+        Ok(example) => NamedBody::read(
+            alloc,
+            &example.module,
+            &example.indices,
+            FunctionId::new(12),
+            TypeId::new(setting.ty),
+            body,
+        ),
+        Err(_) => Err(OUT_OF_MEMORY),
+    }
 }
 
 /// The operators of a body, each behind its place; or the fault and its place.
@@ -216,15 +230,24 @@ fn places_have_no_limit(rt: HostRuntime) -> Result<(), Fail> {
     check(&rt, rt.alloc(), About::Named(late), &cases)
 }
 
+// Whether two bodies have the same operators, and the third of them at the same place.
+fn compared(alloc: Global, one: &str, other: &str) -> Result<(bool, bool), Fail> {
+    let one = read(alloc, Setting::PLAIN, one)?;
+    let other = read(alloc, Setting::PLAIN, other)?;
+    Ok((one.ops() == other.ops(), one.place(2) == other.place(2)))
+}
+
 /// Operators are the same where only spellings and numbers of block types differ.
 #[test]
 fn compares_operators(rt: HostRuntime) -> Result<(), Fail> {
-    let alloc = rt.alloc();
-    let shortest = read(alloc, Setting::PLAIN, "024041011a0b0b")?;
-    let longer = read(alloc, Setting::PLAIN, "02004181001a0b0b")?;
-    assert!(rt; shortest.ops() == longer.ops());
-    assert!(rt; shortest.place(2) != longer.place(2));
-    let other = read(alloc, Setting::PLAIN, "024041021a0b0b")?;
-    assert!(rt; shortest.ops() != other.ops());
+    let shortest = "024041011a0b0b";
+    for (other, same_operators, same_place) in [
+        ("02004181001a0b0b", true, false),
+        ("024041021a0b0b", false, true),
+    ] {
+        let (operators, place) = compared(rt.alloc(), shortest, other)?;
+        assert_eq!(rt; operators, same_operators);
+        assert_eq!(rt; place, same_place);
+    }
     Ok(())
 }

@@ -53,8 +53,7 @@ fn tags(alloc: Global) -> Result<ModuleTags, AllocError> {
 
 // The old types 0 to 3 have the ids 0, 2, 3 and 6; of all else there are
 // one or two, but of tags four, the last of which the module doesn't hold.
-fn indices(alloc: Global) -> Result<IndicesToIds, IndexError> {
-    let mut indices = IndicesToIds::new(alloc);
+fn push_ids(indices: &mut IndicesToIds) -> Result<(), IndexError> {
     for ty in [0, 2, 3, 6] {
         indices.push_type(TypeId::new(ty))?;
     }
@@ -69,7 +68,26 @@ fn indices(alloc: Global) -> Result<IndicesToIds, IndexError> {
     for tag in [0, 1, 2, 71] {
         indices.push_tag(TagId::new(tag))?;
     }
+    Ok(())
+}
+
+fn indices(alloc: Global) -> Result<IndicesToIds, IndexError> {
+    let mut indices = IndicesToIds::new(alloc);
+    push_ids(&mut indices)?;
     Ok(indices)
+}
+
+fn module(alloc: Global, code_section_offset: usize) -> Result<Module, AllocError>
+    ensures { IfOk result (λ m. m.code_section_offset ≡ code_section_offset) }
+{
+    let types = types(alloc)?;
+    let tags = tags(alloc)?;
+    Ok(Module {
+        types,
+        tags,
+        locals: ModuleItems::new(alloc),
+        code_section_offset,
+    })
 }
 
 impl Example {
@@ -78,17 +96,11 @@ impl Example {
         ensures { IfOk result (λ example.
             example.module.code_section_offset ≡ code_section_offset) }
     {
-        let (Ok(types), Ok(tags)) = (types(alloc), tags(alloc)) else {
-            return Err(IndexError::Memory);
-        };
         let indices = indices(alloc)?;
-        let module = Module {
-            types,
-            tags,
-            locals: ModuleItems::new(alloc),
-            code_section_offset,
-        };
-        Ok(Example { module, indices })
+        match module(alloc, code_section_offset) {
+            Ok(module) => Ok(Example { module, indices }),
+            Err(_) => Err(IndexError::Memory),
+        }
     }
 }
 

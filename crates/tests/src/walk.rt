@@ -4,6 +4,7 @@ use crate::cases::{AboutMade, check_made};
 use crate::facts::size;
 use crate::recorder::Recorder;
 use std::alloc::{AllocError, Global};
+use std::process::Abort;
 use std::test::Fail;
 use walrus_ir::{FunctionBuilder, InstrSeqId, dfs_in_order};
 
@@ -23,10 +24,8 @@ pub(crate) fn walked(
     Ok(text)
 }
 
-/// The whole walk, one that the visitor refuses at its third call, and one from nowhere.
-#[test]
-fn walks_in_order(rt: HostRuntime) -> Result<(), Fail> {
-    let builder = example(rt.alloc())?;
+// The whole walk, one that the visitor refuses at its third call, and one from nowhere.
+fn check_walks(rt: &impl Abort, alloc: Global, builder: &FunctionBuilder) -> Result<(), Fail> {
     let whole = " start0 const1 drop0 block0 start1 const2 drop0 if-else0 start2 const3 drop0 end2 \
         start3 const4 drop0 end2 const5 drop0 end5 const6 drop0 try0 start4 const7 drop0 end2 \
         start5 const8 drop0 end2 start6 const9 drop0 end2 const10 drop0 end8";
@@ -35,9 +34,17 @@ fn walks_in_order(rt: HostRuntime) -> Result<(), Fail> {
         (0, 2, " start0 const1 TooLarge"),
         (9, 1000, " UnknownSequence"),
     ] {
-        assert_eq!(rt; walked(rt.alloc(), &builder, start, calls)?.as_str(), want);
+        let found = walked(alloc, builder, start, calls)?;
+        assert_eq!(rt; found.as_str(), want);
     }
     Ok(())
+}
+
+/// Walks over every kind of sequence.
+#[test]
+fn walks_in_order(rt: HostRuntime) -> Result<(), Fail> {
+    let builder = example(rt.alloc())?;
+    check_walks(&rt, rt.alloc(), &builder)
 }
 
 /// The names that are told behind instructions; the first fault of what is no tree, before anything

@@ -101,17 +101,45 @@ fn output_text(
     Ok(text)
 }
 
-// What stands behind bytes and a pair of others when a body is rewritten, and before that the
-// fault.
-fn rewritten(alloc: Global, setting: Setting, body: &str, has_map: bool) -> Result<String, Fail> {
-    let (demo, out) = (demo(alloc, setting.offset as usize)?, numbers(alloc)?);
-    let bytes = hex::decode(alloc, body)?;
-    let mut output = Output::of_others(alloc)?;
-    let args = vec![in alloc; LocalId::new(0)]?;
-    match rewrite(&demo, &out, setting, args, &bytes, &mut output, has_map) {
-        Ok(_) => Ok(output_text(alloc, None, &output)?),
-        Err(error) => Ok(output_text(alloc, Some(refusal_text(alloc, error)?), &output)?),
+// The fault of a body, if there is one.
+fn fault_of(
+    alloc: Global,
+    answer: Result<LocalFunction, RewriteError>,
+) -> Result<Option<String>, AllocError> {
+    match answer {
+        Ok(function) => {
+            drop(function);
+            Ok(None)
+        }
+        Err(error) => Ok(Some(refusal_text(alloc, error)?)),
     }
+}
+
+// What stands behind bytes and a pair of others when a body is rewritten under these numbers, and
+// before that the fault.
+fn rewritten_by(
+    alloc: Global,
+    demo: &Example,
+    out: &IdsToIndices,
+    setting: Setting,
+    bytes: &[u8],
+    has_map: bool,
+) -> Result<String, AllocError>
+    requires { demo.now.module.code_section_offset ≡ setting.offset }
+{
+    let args = vec![in alloc; LocalId::new(0)]?;
+    let mut output = Output::of_others(alloc)?;
+    let answer = rewrite(demo, out, setting, args, bytes, &mut output, has_map);
+    let fault = fault_of(alloc, answer)?;
+    output_text(alloc, fault, &output)
+}
+
+// The same of a text, under the numbers of the demo module.
+fn rewritten(alloc: Global, setting: Setting, body: &str, has_map: bool) -> Result<String, Fail> {
+    let bytes = hex::decode(alloc, body)?;
+    let out = numbers(alloc)?;
+    let demo = demo(alloc, setting.offset as usize)?;
+    Ok(rewritten_by(alloc, &demo, &out, setting, &bytes, has_map)?)
 }
 
 // The same, with a list of pairs.
@@ -248,14 +276,28 @@ fn rewrites_without_pairs(rt: HostRuntime) -> Result<(), Fail> {
     Ok(())
 }
 
-// The function that rewriting answers, as text.
-fn answered(alloc: Global, setting: Setting, body: &str) -> Result<String, Fail> {
-    let (demo, out) = (demo(alloc, setting.offset as usize)?, numbers(alloc)?);
-    let bytes = hex::decode(alloc, body)?;
-    let mut output = Output::of_others(alloc)?;
+// The function that rewriting answers under these numbers, as text.
+fn answered_by(
+    alloc: Global,
+    demo: &Example,
+    out: &IdsToIndices,
+    setting: Setting,
+    bytes: &[u8],
+) -> Result<String, Fail>
+    requires { demo.now.module.code_section_offset ≡ setting.offset }
+{
     let args = vec![in alloc; LocalId::new(0)]?;
-    let function = rewrite(&demo, &out, setting, args, &bytes, &mut output, true)?;
+    let mut output = Output::of_others(alloc)?;
+    let function = rewrite(demo, out, setting, args, bytes, &mut output, true)?;
     Ok(function_text(&function)?)
+}
+
+// The same of a text, under the numbers of the demo module.
+fn answered(alloc: Global, setting: Setting, body: &str) -> Result<String, Fail> {
+    let bytes = hex::decode(alloc, body)?;
+    let out = numbers(alloc)?;
+    let demo = demo(alloc, setting.offset as usize)?;
+    answered_by(alloc, &demo, &out, setting, &bytes)
 }
 
 /// The function that rewriting answers is the one that was parsed: places of operators and of the
@@ -292,16 +334,32 @@ fn write_entry(
     (answer, Output { bytes, pairs })
 }
 
+// The fault of an entry, if there is one.
+fn entry_fault(alloc: Global, answer: Result<(), EmitError>) -> Result<Option<String>, AllocError> {
+    match answer {
+        Ok(()) => Ok(None),
+        Err(error) => Ok(Some(format!(in alloc; "{error:?}")?)),
+    }
+}
+
 // What then stands there, and before that the fault.
+fn entry_text(
+    alloc: Global,
+    demo: &Example,
+    indices: &mut IdsToIndices,
+    function: &LocalFunction,
+) -> Result<String, AllocError> {
+    let others = Output::of_others(alloc)?;
+    let (answer, output) = write_entry(demo, indices, function, others);
+    let fault = entry_fault(alloc, answer)?;
+    output_text(alloc, fault, &output)
+}
+
+// The same under the numbers of the demo module.
 pub(crate) fn entry_written(alloc: Global, function: &LocalFunction) -> Result<String, Fail> {
-    let (demo, mut indices) = (demo(alloc, 0)?, numbers(alloc)?);
-    let output = Output::of_others(alloc)?;
-    let (answer, output) = write_entry(&demo, &mut indices, function, output);
-    let fault = match answer {
-        Ok(()) => None,
-        Err(error) => Some(format!(in alloc; "{error:?}")?),
-    };
-    Ok(output_text(alloc, fault, &output)?)
+    let mut indices = numbers(alloc)?;
+    let demo = demo(alloc, 0)?;
+    Ok(entry_text(alloc, &demo, &mut indices, function)?)
 }
 
 /// Functions that are parsed are written with their declarations, and each place is that in the
@@ -353,19 +411,21 @@ fn writes_entries_that_are_made_by_hand(rt: HostRuntime) -> Result<(), Fail> {
     check_made(&rt, rt.alloc(), AboutMade::CodeEntry, &cases)
 }
 
+// What is written of a function of one sequence whose entry is this one.
+fn written_from(alloc: Global, entry: usize) -> Result<String, Fail> {
+    let mut builder = function(alloc, 1, &[(0, Made::Drop, 1)])?;
+    builder.set_entry(InstrSeqId::new(entry));
+    entry_written(alloc, &LocalFunction::new(Vec::new(alloc), builder))
+}
+
 /// A function without an entry isn't written.
 #[test]
 fn refuses_a_function_without_an_entry(rt: HostRuntime) -> Result<(), Fail> {
-    for entry in [3, 0] {
-        let mut builder = function(rt.alloc(), 1, &[(0, Made::Drop, 1)])?;
-        builder.set_entry(InstrSeqId::new(entry));
-        let function = LocalFunction::new(Vec::new(rt.alloc()), builder);
-        let found = entry_written(rt.alloc(), &function)?;
-        let want = if entry == 0 {
-            "aabb001a0b 9@9 1@3 -@4"
-        } else {
-            "UnknownSequence aabb 9@9"
-        };
+    for (entry, want) in [
+        (3, "UnknownSequence aabb 9@9"),
+        (0, "aabb001a0b 9@9 1@3 -@4"),
+    ] {
+        let found = written_from(rt.alloc(), entry)?;
         assert_eq!(rt; found.as_str(), want);
     }
     Ok(())
