@@ -1,7 +1,7 @@
 //! Tools that change whole modules.
 use crate::whole_modules::{FOLLOWED, FOLLOWED_REWRITTEN, bytes_of, fault_text, written_text};
 use module_tools::{count_calls, snip};
-use std::alloc::Global;
+use std::alloc::{AllocError, Global};
 use std::process::Abort;
 use std::test::Fail;
 use walrus_ir::{FunctionId, IdHashSet};
@@ -74,13 +74,18 @@ fn snipped_text(
     }
 }
 
-/// The module that a tool writes for the one of these bytes, in hexadecimal; or its first fault.
+/// The module that a tool writes, in hexadecimal; or its first fault.
+fn tool_text(alloc: Global, tool: Tool<'_>, parsed: &mut ParsedModule<'_>) -> Result<String, Fail> {
+    match tool {
+        Tool::Count => counted_text(alloc, parsed),
+        Tool::Snip(indices) => snipped_text(alloc, parsed, indices),
+    }
+}
+
+/// The same for the module of these bytes.
 fn written_of(alloc: Global, tool: Tool<'_>, bytes: &[u8]) -> Result<String, Fail> {
     let mut parsed = ParsedModule::read(alloc, bytes)?;
-    match tool {
-        Tool::Count => counted_text(alloc, &mut parsed),
-        Tool::Snip(indices) => snipped_text(alloc, &mut parsed, indices),
-    }
+    tool_text(alloc, tool, &mut parsed)
 }
 
 /// The module that a tool writes, in hexadecimal; or its first fault.
@@ -172,15 +177,19 @@ fn snips_bodies(rt: HostRuntime) -> Result<(), Fail> {
 }
 
 /// Whether each index up to 3 is that of a function with a body.
-fn with_bodies(alloc: Global, module: &str) -> Result<String, Fail> {
-    let bytes = bytes_of(alloc, module)?;
-    let parsed = ParsedModule::read(alloc, &bytes)?;
+fn bodies_text(alloc: Global, parsed: &ParsedModule<'_>) -> Result<String, AllocError> {
     let mut text = String::new(alloc);
     for index in 0..4 {
         let has = parsed.has_body(index);
         write!(text, "{has} ")?;
     }
     Ok(text)
+}
+
+fn with_bodies(alloc: Global, module: &str) -> Result<String, Fail> {
+    let bytes = bytes_of(alloc, module)?;
+    let parsed = ParsedModule::read(alloc, &bytes)?;
+    Ok(bodies_text(alloc, &parsed)?)
 }
 
 /// Imported functions have no body.

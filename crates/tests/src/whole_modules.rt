@@ -5,8 +5,8 @@ use std::alloc::{AllocError, Global};
 use std::process::Abort;
 use std::test::Fail;
 use wasm_module::{
-    BodyWriter, Command, ModuleError, ModuleFault, ParsedModule, RewrittenModule, Sections, Task,
-    WriteError,
+    BodyWriter, Command, ModuleError, ModuleFault, Note, ParsedModule, RewrittenModule, Sections,
+    Task, WriteError,
 };
 
 /// A section of each kind, in order, with custom sections between them, and bodies that are as they
@@ -266,12 +266,15 @@ fn section_ends(alloc: Global, bytes: &[u8]) -> Result<Vec<usize>, Fail> {
     Ok(ends)
 }
 
+fn is_read(alloc: Global, bytes: &[u8]) -> bool {
+    ParsedModule::read(alloc, bytes).is_ok()
+}
+
 /// At which lengths, but for these, what is left of a module is read.
-fn lengths_read(alloc: Global, bytes: &[u8], ends: &[usize]) -> Result<Vec<usize>, Fail> {
+fn lengths_read(alloc: Global, bytes: &[u8], ends: &[usize]) -> Result<Vec<usize>, AllocError> {
     let mut lengths = Vec::new(alloc);
     for (len, _) in bytes.iter().enumerate() {
-        let is_read = ParsedModule::read(alloc, &bytes[..len]).is_ok();
-        if is_read && !ends.contains(&len) {
+        if is_read(alloc, &bytes[..len]) && !ends.contains(&len) {
             lengths.push(len)?;
         }
     }
@@ -282,7 +285,7 @@ fn lengths_read(alloc: Global, bytes: &[u8], ends: &[usize]) -> Result<Vec<usize
 fn read_lengths(alloc: Global, module: &str) -> Result<Vec<usize>, Fail> {
     let bytes = bytes_of(alloc, module)?;
     let ends = section_ends(alloc, &bytes)?;
-    lengths_read(alloc, &bytes, &ends)
+    Ok(lengths_read(alloc, &bytes, &ends)?)
 }
 
 /// A module that is cut off is refused, unless it is cut behind a section.
@@ -295,15 +298,19 @@ fn refuses_truncated_modules(rt: HostRuntime) -> Result<(), Fail> {
     Ok(())
 }
 
+fn notes_text(alloc: Global, notes: &[Note<'_>]) -> Result<String, AllocError> {
+    let mut text = String::new(alloc);
+    for note in notes {
+        write!(text, "{note}, ")?;
+    }
+    Ok(text)
+}
+
 /// What is said of the sections of a module that is rewritten.
 fn notes_of(alloc: Global, bytes: &[u8]) -> Result<String, Fail> {
     let mut parsed = ParsedModule::read(alloc, bytes)?;
     let rewritten = parsed.rewrite_all()?;
-    let mut text = String::new(alloc);
-    for note in &rewritten.notes {
-        write!(text, "{note}, ")?;
-    }
-    Ok(text)
+    Ok(notes_text(alloc, &rewritten.notes)?)
 }
 
 fn notes(alloc: Global, module: &str) -> Result<String, Fail> {
@@ -333,11 +340,16 @@ fn push_map_or_faults(
     }
 }
 
+/// The same of the module of these bytes.
+fn push_map_of(alloc: Global, bytes: &[u8], out: &mut Vec<u8>) -> Result<(), Fail> {
+    let mut parsed = ParsedModule::read(alloc, bytes)?;
+    push_map_or_faults(alloc, &mut parsed, out)
+}
+
 /// The location map of the module of these bytes, or which of its bodies are refused.
 fn map_or_faults(alloc: Global, bytes: &[u8]) -> Result<String, Fail> {
-    let mut parsed = ParsedModule::read(alloc, bytes)?;
     let mut out = Vec::new(alloc);
-    push_map_or_faults(alloc, &mut parsed, &mut out)?;
+    push_map_of(alloc, bytes, &mut out)?;
     Ok(String::from_utf8_lossy(alloc, &out)?)
 }
 

@@ -66,16 +66,15 @@ impl<'a> ParsedModule<'a> {
             code: None,
             data_count: None,
         };
-        for section in Sections::new(bytes)? {
-            match section {
-                Ok(section) => parsed.read_section(section)?,
-                Err(error) => return Err(error),
+        match parsed.read_sections() {
+            Ok(()) => {
+                // They are these already; said here, nothing has to be said of it by what reads
+                // sections.
+                parsed.bytes = bytes;
+                Ok(parsed)
             }
+            Err(error) => Err(error),
         }
-        parsed.check_counts()?;
-        // They are these already; said here, nothing has to be said of it by what reads sections.
-        parsed.bytes = bytes;
-        Ok(parsed)
     }
 
     /// The bytes that it was read from.
@@ -136,6 +135,17 @@ impl<'a> ParsedModule<'a> {
         ensures { result ≡ count_bodies self.now }
     {
         self.func_types.len().saturating_sub(self.imported)
+    }
+
+    /// Reads all sections, and looks at what they tell of one another.
+    fn read_sections(&mut self) -> Result<(), ModuleError> {
+        for section in Sections::new(self.bytes)? {
+            match section {
+                Ok(section) => self.read_section(section)?,
+                Err(error) => return Err(error),
+            }
+        }
+        self.check_counts()
     }
 
     fn read_section(&mut self, section: Section<'a>) -> Result<(), ModuleError> {
