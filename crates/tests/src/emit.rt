@@ -94,7 +94,7 @@ fn written_text(alloc: Global, count: usize, cx: &EmitContext<'_>) -> Result<Str
 }
 
 // The same of the three parts.
-fn emitted(alloc: Global, module: &Module) -> Result<String, AllocError> {
+fn emitted_in(alloc: Global, module: &Module) -> Result<String, Fail> {
     let mut indices = IdsToIndices::new(alloc);
     let mut cx = EmitContext {
         module,
@@ -105,14 +105,18 @@ fn emitted(alloc: Global, module: &Module) -> Result<String, AllocError> {
     };
     let location = InstrLocId::new(7);
     let count = emit_three(&Nop { location }, &mut cx);
-    written_text(alloc, count, &cx)
+    Ok(written_text(alloc, count, &cx)?)
+}
+
+fn emitted(alloc: Global) -> Result<String, Fail> {
+    let example = Example::new(alloc, 0)?;
+    emitted_in(alloc, &example.module)
 }
 
 /// A part that is refused leaves what was written before it.
 #[test]
 fn a_refused_part_leaves_what_was_written(rt: HostRuntime) -> Result<(), Fail> {
-    let example = Example::new(rt.alloc(), 0)?;
-    let found = emitted(rt.alloc(), &example.module)?;
+    let found = emitted(rt.alloc())?;
     assert_eq!(rt; found.as_str(), "2 [1, 1] 7@0 7@1");
     Ok(())
 }

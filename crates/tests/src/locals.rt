@@ -33,12 +33,12 @@ fn declared_in(
     numbers: &IdsToIndices,
     function: &LocalFunction,
     used: &IdHashSet<LocalId>,
-) -> Result<String, AllocError> {
+) -> Result<String, Fail> {
     match function.emit_locals(module, numbers, used) {
         Ok((declarations, numbers)) => {
-            declarations_text(alloc, declarations.as_slice(), &numbers)
+            Ok(declarations_text(alloc, declarations.as_slice(), &numbers)?)
         }
-        Err(error) => format!(in alloc; "{error:?}"),
+        Err(error) => Ok(format!(in alloc; "{error:?}")?),
     }
 }
 
@@ -48,9 +48,9 @@ fn declared(
     function: &LocalFunction,
     used: &IdHashSet<LocalId>,
 ) -> Result<String, Fail> {
-    let demo = demo(alloc, 0)?;
     let numbers = numbers(alloc)?;
-    Ok(declared_in(alloc, &demo.module, &numbers, function, used)?)
+    let demo = demo(alloc, 0)?;
+    declared_in(alloc, &demo.module, &numbers, function, used)
 }
 
 // What a function declares that uses the locals that are among its facts.

@@ -193,19 +193,11 @@ pub(crate) fn parse_lent<V: OpCheck>(
     validator: V,
     instrs: &mut Vec<(Instr, InstrLocId)>,
 ) -> Result<LocalFunction, ParseFailure> {
-    let Ok(example) = Example::new(alloc, setting.offset as usize) else {
-        return Err(OUT_OF_MEMORY);
-    };
-    let id = FunctionId::new(12);
-    parse_in(
-        &example,
-        id,
-        Vec::new(alloc),
-        setting,
-        body,
-        validator,
-        instrs,
-    )
+    let (id, args) = (FunctionId::new(12), Vec::new(alloc));
+    match Example::new(alloc, setting.offset as usize) {
+        Ok(example) => parse_in(&example, id, args, setting, body, validator, instrs),
+        Err(_) => Err(OUT_OF_MEMORY),
+    }
 }
 
 /// Parses a function that no validator refuses.

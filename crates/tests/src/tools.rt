@@ -1,7 +1,7 @@
 //! Tools that change whole modules.
 use crate::whole_modules::{FOLLOWED, FOLLOWED_REWRITTEN, bytes_of, fault_text, written_text};
 use module_tools::{count_calls, snip};
-use std::alloc::{AllocError, Global};
+use std::alloc::Global;
 use std::process::Abort;
 use std::test::Fail;
 use walrus_ir::{FunctionId, IdHashSet};
@@ -177,7 +177,7 @@ fn snips_bodies(rt: HostRuntime) -> Result<(), Fail> {
 }
 
 /// Whether each index up to 3 is that of a function with a body.
-fn bodies_text(alloc: Global, parsed: &ParsedModule<'_>) -> Result<String, AllocError> {
+fn bodies_text(alloc: Global, parsed: &ParsedModule<'_>) -> Result<String, Fail> {
     let mut text = String::new(alloc);
     for index in 0..4 {
         let has = parsed.has_body(index);
@@ -189,7 +189,7 @@ fn bodies_text(alloc: Global, parsed: &ParsedModule<'_>) -> Result<String, Alloc
 fn with_bodies(alloc: Global, module: &str) -> Result<String, Fail> {
     let bytes = bytes_of(alloc, module)?;
     let parsed = ParsedModule::read(alloc, &bytes)?;
-    Ok(bodies_text(alloc, &parsed)?)
+    bodies_text(alloc, &parsed)
 }
 
 /// Imported functions have no body.

@@ -124,14 +124,14 @@ fn rewritten_by(
     setting: Setting,
     bytes: &[u8],
     has_map: bool,
-) -> Result<String, AllocError>
+) -> Result<String, Fail>
     requires { demo.now.module.code_section_offset ≡ setting.offset }
 {
     let args = vec![in alloc; LocalId::new(0)]?;
     let mut output = Output::of_others(alloc)?;
     let answer = rewrite(demo, out, setting, args, bytes, &mut output, has_map);
     let fault = fault_of(alloc, answer)?;
-    output_text(alloc, fault, &output)
+    Ok(output_text(alloc, fault, &output)?)
 }
 
 // The same of a text, under the numbers of the demo module.
@@ -139,7 +139,7 @@ fn rewritten(alloc: Global, setting: Setting, body: &str, has_map: bool) -> Resu
     let bytes = hex::decode(alloc, body)?;
     let out = numbers(alloc)?;
     let demo = demo(alloc, setting.offset as usize)?;
-    Ok(rewritten_by(alloc, &demo, &out, setting, &bytes, has_map)?)
+    rewritten_by(alloc, &demo, &out, setting, &bytes, has_map)
 }
 
 // The same, with a list of pairs.
@@ -348,18 +348,18 @@ fn entry_text(
     demo: &Example,
     indices: &mut IdsToIndices,
     function: &LocalFunction,
-) -> Result<String, AllocError> {
+) -> Result<String, Fail> {
     let others = Output::of_others(alloc)?;
     let (answer, output) = write_entry(demo, indices, function, others);
     let fault = entry_fault(alloc, answer)?;
-    output_text(alloc, fault, &output)
+    Ok(output_text(alloc, fault, &output)?)
 }
 
 // The same under the numbers of the demo module.
 pub(crate) fn entry_written(alloc: Global, function: &LocalFunction) -> Result<String, Fail> {
     let mut indices = numbers(alloc)?;
     let demo = demo(alloc, 0)?;
-    Ok(entry_text(alloc, &demo, &mut indices, function)?)
+    entry_text(alloc, &demo, &mut indices, function)
 }
 
 /// Functions that are parsed are written with their declarations, and each place is that in the

@@ -298,7 +298,7 @@ fn refuses_truncated_modules(rt: HostRuntime) -> Result<(), Fail> {
     Ok(())
 }
 
-fn notes_text(alloc: Global, notes: &[Note<'_>]) -> Result<String, AllocError> {
+fn notes_text(alloc: Global, notes: &[Note<'_>]) -> Result<String, Fail> {
     let mut text = String::new(alloc);
     for note in notes {
         write!(text, "{note}, ")?;
@@ -310,7 +310,7 @@ fn notes_text(alloc: Global, notes: &[Note<'_>]) -> Result<String, AllocError> {
 fn notes_of(alloc: Global, bytes: &[u8]) -> Result<String, Fail> {
     let mut parsed = ParsedModule::read(alloc, bytes)?;
     let rewritten = parsed.rewrite_all()?;
-    Ok(notes_text(alloc, &rewritten.notes)?)
+    notes_text(alloc, &rewritten.notes)
 }
 
 fn notes(alloc: Global, module: &str) -> Result<String, Fail> {
