@@ -8,13 +8,20 @@ use std::rt::Files;
 use std::{fs, io};
 use wasm_module::{BodyWriter, ParsedModule, RewrittenModule, WriteError};
 
-/// The bytes of a file.
-pub fn read_file<R: Files + Input + AllocGlobal>(rt: &R, path: &str) -> io::Result<Vec<u8>> {
+/// The bytes of a file, in a list that may have reserved more than they take.
+fn read_whole<R: Files + Input + AllocGlobal>(rt: &R, path: &str) -> io::Result<Vec<u8>> {
     if path != "-" {
         return fs::read(rt, path);
     }
     let mut bytes = Vec::new(rt.alloc());
     rt.reader().read_to_end(&mut bytes)?;
+    Ok(bytes)
+}
+
+/// The bytes of a file, which take no more memory than they need.
+pub fn read_file<R: Files + Input + AllocGlobal>(rt: &R, path: &str) -> io::Result<Vec<u8>> {
+    let mut bytes = read_whole(rt, path)?;
+    bytes.shrink_to_fit();
     Ok(bytes)
 }
 

@@ -252,6 +252,15 @@ fn names_faults_of_bodies(rt: HostRuntime) -> Result<(), Fail> {
             "0061736d01000000 010401600000 03020100 0a060104000c010b",
             "NoSuchLabel at 23",
         ),
+        // A data segment has an index where the data count section tells of it.
+        (
+            "0061736d01000000 010401600000 03020100 0503010000 0a07010500fc09000b 0b03010100",
+            "OutOfRange at 28",
+        ),
+        (
+            "0061736d01000000 010401600000 03020100 0503010000 0c0101 0a07010500fc09010b 0b03010100",
+            "OutOfRange at 31",
+        ),
     ];
     check_rewritten(&rt, rt.alloc(), &cases)
 }

@@ -6,6 +6,7 @@ pub mod SpaceLemmas
 -- what is kept of a module
 pub mod ModuleLemmas
 pub mod RewritingLemmas
+pub mod RefusalLemmas
 -- what is written
 pub mod WritingLemmas
 pub mod CodeLemmas

@@ -1,8 +1,9 @@
 -- Declarations of locals, group by group.
-use Rattle.std.proofs.Common.{◌≡◌, ℕ, zero, suc, ◌+◌, add-one, List, [], ◌∷◌, ◌++◌, length, replicate, Result, Ok, Err, OnOk, take, drop, ◌-◌, subst, refl, sym, ap, ◌∙◌, append_assoc}
-use Rattle.std.proofs.lemmas.List.{append-nil}
+use Rattle.std.proofs.Common.{◌≡◌, ◌<◌, ◌≤◌, ℕ, zero, suc, ◌+◌, add-one, List, [], ◌∷◌, ◌++◌, length, length-append, Option, Some, unwrap_or, replicate, Result, Ok, Err, OnOk, take, drop, ◌-◌, subst, refl, sym, ap, ◌∙◌, append_assoc, arith}
+use Rattle.std.proofs.lemmas.List.{append-nil, length-replicate}
 use Rattle.walrus_ir.specs.Results.{◌>>=◌, each}
 use Rattle.walrus_ir.specs.declared.val_type.ValType.{ValType}
+use Rattle.walrus_ir.specs.Types.{ModuleType}
 use Rattle.walrus_ir.proofs.ResultLemmas.{bind_ok, ok_same}
 use Rattle.wasm_ops.specs.Numbers.{u32}
 use Rattle.wasm_ops.specs.Types.{value_type}
@@ -12,7 +13,7 @@ use Rattle.wasm_ops.specs.Reading.{Reader, many}
 use Rattle.wasm_ops.proofs.Agreement.{ok_is}
 use Rattle.walrus_body.specs.declared.indices_to_ids.IndicesToIds.{IndicesToIds}
 use Rattle.wasm_module.proofs.Leaving.{groups_leave, dropped}
-use Rattle.wasm_module.specs.Declarations.{group, groups, named_group, expanded, HaveLocals, DeclaresGroup}
+use Rattle.wasm_module.specs.Declarations.{group, groups, named_group, expanded, HaveLocals, HasNoLocals, most_locals, parameters_of, DeclaresGroup, HasNoGroup}
 
 -- ---- one more behind others
 
@@ -118,3 +119,118 @@ operators_left indices parameters given all rest before bytes locals e have b s 
     let front = groups_leave all have.declared rest have.are_read in
     let operators : rest ≡ drop (length before) bytes = sym (rw (b, s) (dropped all front.0 rest front.1)) in
     subst (λ (left : List ℕ). HaveLocals indices parameters all left locals) operators (subst (λ (ps : List (ValType ℕ)). HaveLocals indices ps all rest locals) e have)
+
+-- ---- where no more groups are declared
+
+-- what stands behind some of those that are read
+pub record NextRead {A : Type 0} (one : Reader A) (xs ys : List A) (behind : List ℕ) : Type 0 where
+  pub item : A
+  pub others : List A
+  pub rest : List ℕ
+  pub is_read : one behind ≡ Ok (item, rest)
+  pub are : ys ≡ xs ++ item ∷ others
+
+many_at :
+    {A : Type 0} (one : Reader A) (k n : ℕ) (bytes : List ℕ) (xs : List A) (behind : List ℕ) (ys : List A) (end : List ℕ) → k < n → many one k bytes ≡ Ok (xs, behind) →
+    many one n bytes ≡ Ok (ys, end) → NextRead one xs ys behind
+unfolding many
+many_at {A} one k zero bytes xs behind ys end less h e = absurd (omega arith)
+many_at {A} one zero (suc n) bytes xs behind ys end less h e =
+    let before = ok_is ([], bytes) (xs, behind) h in
+    let a = bind_ok (one bytes) (λ first. many one n first.1 >>= λ others. Ok (first.0 ∷ others.0, others.1)) (ys, end) e in
+    let b = bind_ok (many one n a.0.1) (λ others. Ok (a.0.0 ∷ others.0, others.1)) (ys, end) a.2 in
+    let both = ok_is (a.0.0 ∷ b.0.0, b.0.1) (ys, end) b.2 in
+    let none : xs ≡ [] = sym (ap (λ (p : List A × List ℕ). p.0) before) in
+    record {
+      item = a.0.0;
+      others = b.0.0;
+      rest = a.0.1;
+      is_read = ap (λ (p : List A × List ℕ). one p.1) (sym before) ∙ a.1;
+      are = sym (ap (λ (p : List A × List ℕ). p.0) both) ∙ ap (λ (l : List A). l ++ a.0.0 ∷ b.0.0) (sym none);
+    }
+many_at {A} one (suc k) (suc n) bytes xs behind ys end less h e =
+    let a = bind_ok (one bytes) (λ first. many one k first.1 >>= λ others. Ok (first.0 ∷ others.0, others.1)) (xs, behind) h in
+    let b = bind_ok (many one k a.0.1) (λ others. Ok (a.0.0 ∷ others.0, others.1)) (xs, behind) a.2 in
+    let before = ok_is (a.0.0 ∷ b.0.0, b.0.1) (xs, behind) b.2 in
+    let c = bind_ok (one bytes) (λ first. many one n first.1 >>= λ others. Ok (first.0 ∷ others.0, others.1)) (ys, end) e in
+    let d = bind_ok (many one n c.0.1) (λ others. Ok (c.0.0 ∷ others.0, others.1)) (ys, end) c.2 in
+    let all = ok_is (c.0.0 ∷ d.0.0, d.0.1) (ys, end) d.2 in
+    let same = ok_is a.0 c.0 (sym a.1 ∙ c.1) in
+    let here : many one n a.0.1 ≡ Ok d.0 = ap (λ (p : A × List ℕ). many one n p.1) same ∙ d.1 in
+    let r = many_at one k n a.0.1 b.0.0 b.0.1 d.0.0 d.0.1 (omega arith) b.1 here in
+    record {
+      item = r.item;
+      others = r.others;
+      rest = r.rest;
+      is_read = ap (λ (p : List A × List ℕ). one p.1) (sym before) ∙ r.is_read;
+      are =
+          sym (ap (λ (p : List A × List ℕ). p.0) all) ∙ ap (λ (p : A × List ℕ). p.0 ∷ d.0.0) (sym same) ∙ ap (λ (l : List A). a.0.0 ∷ l) r.are
+          ∙ ap (λ (p : List A × List ℕ). p.0 ++ r.item ∷ r.others) before;
+    }
+
+-- what one of those that are mapped becomes
+pub record NextMapped {A B E : Type 0} (f : A → Result B E) (x : A) (ys zs : List B) : Type 0 where
+  pub item : B
+  pub others : List B
+  pub is_mapped : f x ≡ Ok item
+  pub are : zs ≡ ys ++ item ∷ others
+
+each_at :
+    {A B E : Type 0} (f : A → Result B E) (xs : List A) (x : A) (more : List A) (ys zs : List B) → each f xs ≡ Ok ys → each f (xs ++ x ∷ more) ≡ Ok zs → NextMapped f x ys zs
+each_at {A} {B} f [] x more ys zs h e =
+    let a = bind_ok (f x) (λ w. each f more >>= λ ws. Ok (w ∷ ws)) zs e in
+    let b = bind_ok (each f more) (λ ws. Ok (a.0 ∷ ws)) zs a.2 in
+    let none = ok_same [] ys h in
+    record { item = a.0; others = b.0; is_mapped = a.1; are = sym (ok_same (a.0 ∷ b.0) zs b.2) ∙ ap (λ (l : List B). l ++ a.0 ∷ b.0) none }
+each_at {A} {B} f (z ∷ xs) x more ys zs h e =
+    let a = bind_ok (f z) (λ w. each f xs >>= λ ws. Ok (w ∷ ws)) ys h in
+    let b = bind_ok (each f xs) (λ ws. Ok (a.0 ∷ ws)) ys a.2 in
+    let c = bind_ok (f z) (λ w. each f (xs ++ x ∷ more) >>= λ ws. Ok (w ∷ ws)) zs e in
+    let d = bind_ok (each f (xs ++ x ∷ more)) (λ ws. Ok (c.0 ∷ ws)) zs c.2 in
+    let r = each_at f xs x more b.0 d.0 b.1 d.1 in
+    let same : c.0 ≡ a.0 = ok_same c.0 a.0 (sym c.1 ∙ a.1) in
+    record {
+      item = r.item;
+      others = r.others;
+      is_mapped = r.is_mapped;
+      are =
+          sym (ok_same (c.0 ∷ d.0) zs d.2) ∙ ap (λ (w : B). w ∷ d.0) same ∙ ap (λ (l : List B). a.0 ∷ l) r.are
+          ∙ ap (λ (l : List B). l ++ r.item ∷ r.others) (ok_same (a.0 ∷ b.0) ys b.2);
+    }
+
+expanded_at : (gs : List (ℕ × ValType ℕ)) (g : ℕ × ValType ℕ) (more : List (ℕ × ValType ℕ)) → length (expanded gs) + g.0 ≤ length (expanded (gs ++ g ∷ more))
+expanded_at [] g more =
+    let both = length-append (replicate g.0 g.1) (expanded more) in
+    let front = length-replicate g.0 g.1 in
+    omega arith
+expanded_at (h ∷ gs) g more =
+    let rest = expanded_at gs g more in
+    let some = length-append (replicate h.0 h.1) (expanded gs) in
+    let all = length-append (replicate h.0 h.1) (expanded (gs ++ g ∷ more)) in
+    omega arith
+
+pub none_behind :
+    (indices : IndicesToIds) (k n : ℕ) (bytes text now : List ℕ) (before types : List (ValType ℕ)) (count : ℕ) → u32 bytes ≡ Ok (n, text) → k < n →
+    DeclareSoFar indices k text now before types → count ≡ length types → HasNoGroup indices now count → HasNoLocals indices before bytes
+none_behind indices k n bytes text now before types count e less p is_count none = λ operators locals have.
+    let are_read : many group n text ≡ Ok (have.declared, operators) =
+    sym (bind_is (u32 bytes) (λ x. many group x.0 x.1) (n, text) (many group n text) e refl) ∙ have.are_read in
+    let r = many_at group k n text p.declared now have.declared operators less p.are_read are_read in
+    let named : each (named_group indices) (p.declared ++ r.item ∷ r.others) ≡ Ok have.named = ap (λ (l : List (ℕ × ValType ℕ)). each (named_group indices) l) (sym r.are) ∙ have.are_named in
+    let m = each_at (named_group indices) p.declared r.item r.others p.named have.named p.are_named named in
+    let too_many = none r.rest r.item m.item r.is_read m.is_mapped in
+    let all = ap length have.locals_are ∙ length-append before (expanded have.named) in
+    let so_far = ap length p.types_are ∙ length-append before (expanded p.named) in
+    let longer = expanded_at p.named m.item m.others in
+    let are = ap (λ (l : List (ℕ × ValType ℕ)). length (expanded l)) m.are in
+    omega (arith, too_many, all, so_far, longer, are, is_count)
+
+-- the same of a function that has this type
+pub none_of_type :
+    (indices : IndicesToIds) (types : List ModuleType) (found : Option ℕ) (type : ℕ) (given : List (ValType ℕ)) (bytes : List ℕ) → found ≡ Some type →
+    given ≡ parameters_of types type → HasNoLocals indices given bytes →
+    (other : ℕ) (operators : List ℕ) (locals : List (ValType ℕ)) → found ≡ Some other → HaveLocals indices (parameters_of types other) bytes operators locals →
+    most_locals < length locals
+none_of_type indices types found type given bytes e g none other operators locals is have =
+    let same : type ≡ other = ap (λ (o : Option ℕ). unwrap_or o 0) (sym e ∙ is) in
+    none operators locals (subst (λ (ps : List (ValType ℕ)). HaveLocals indices ps bytes operators locals) (sym (g ∙ ap (λ (t : ℕ). parameters_of types t) same)) have)

@@ -1,17 +1,18 @@
 -- The locals that indices stand for, one more at a time.
-use Rattle.std.proofs.Common.{◌≡◌, ℕ, zero, suc, ◌+◌, ◌<◌, ◌≤◌, List, [], ◌∷◌, ◌++◌, length, slice_get, unwrap_or, get_or, inl, inr, Option, Some, None, Result, Ok, Err, cond, nat_eq, refl, sym, ap, subst, ◌∙◌, length-append, arith, add-one}
+use Rattle.std.proofs.Common.{◌≡◌, ℕ, zero, suc, ◌+◌, ◌<◌, ◌≤◌, List, [], ◌∷◌, ◌++◌, length, slice_get, unwrap_or, get_or, inl, inr, Option, Some, None, Ok, nat_lt, Bool, true, if◌then◌else◌, ◌^◌, refl, sym, ap, ◌∙◌, length-append, arith, add-one}
 use Rattle.std.proofs.Math.Nat.{eq-or-lt_of_le}
 use Rattle.std.proofs.Math.ListN.{get_or-append}
 use Rattle.std.proofs.Math.Seq.{get_or-append_seam}
 use Rattle.std.proofs.lemmas.Option.{slice_get-get_or}
 use Rattle.std.specs.Ordering.{nat_cmp}
 use Rattle.std.specs.Cmp.{nat_cmp_total}
-use Rattle.std.specs.FinMap.{FinMap, empty, get, insert, get-insert, get-empty}
+use Rattle.std.specs.FinMap.{get, insert, get-insert, get-empty}
 use Rattle.walrus_ir.specs.Results.{some_or, ◌>>=◌}
 use Rattle.walrus_body.specs.declared.indices_to_ids.IndicesToIds.{IndicesToIds}
 use Rattle.walrus_body.specs.IndexMaps.{no_ids, locals_in, local_of, with_next_local}
-use Rattle.walrus_body.specs.Locals.{with_local, list_of, local_in}
-use Rattle.wasm_body.specs.declared.error.IndexError.TheVariants.{NoLocals, LocalOutOfRange}
+use Rattle.walrus_body.specs.Locals.{with_local, list_of}
+use Rattle.wasm_body.specs.declared.error.IndexError.{IndexError}
+use Rattle.wasm_body.specs.declared.error.IndexError.TheVariants.{NoLocals, LocalOutOfRange, TooMany, Memory}
 use Rattle.wasm_module.specs.declared.spaces.Spaces.{Spaces}
 use Rattle.wasm_module.specs.Declarations.{first_numbers}
 use Rattle.wasm_module.specs.RewrittenCode.{HasOtherLocals}
@@ -71,3 +72,14 @@ local_of_list (Some l) n i e h = ap (λ (o : Option ℕ). some_or o (LocalOutOfR
 
 pub stands_for_itself : (m : IndicesToIds) (n i : ℕ) → locals_in m 0 ≡ first_numbers n → i < n → local_of m 0 i ≡ Ok i
 stands_for_itself m n i e h = local_of_list (get m.locals 0) n i e h
+
+-- ---- where no more local is taken
+
+-- with fewer locals than indices there are, only memory can be wanted
+pub wants_memory :
+    (m : IndicesToIds) (list n count : ℕ) (e : IndexError) → list ≡ 0 → locals_in m 0 ≡ first_numbers n → n < count → count ≤ 2 ^ 32 →
+    e ≡ (if nat_lt (length (locals_in m list)) (2 ^ 32) then Memory else TooMany) → e ≡ Memory
+wants_memory m list n count e is_first h less few g =
+    let len = ap (λ (k : ℕ). length (locals_in m k)) is_first ∙ ap length h ∙ first_numbers_length n in
+    let fits : nat_lt (length (locals_in m list)) (2 ^ 32) ≡ true = grind arith in
+    g ∙ ap (λ (b : Bool). if b then Memory else TooMany) fits

@@ -1,6 +1,6 @@
 -- The declarations of a body's locals (WebAssembly core specification 3.0, binary format, code section): a list of groups,
 -- each a count and a value type.
-use Rattle.std.specs.Prelude.{◌≡◌, ◌<◌, ℕ, suc, zero, List, [], ◌∷◌, ◌++◌, length, replicate, Result, Ok, Option, Some, None}
+use Rattle.std.specs.Prelude.{◌≡◌, ◌<◌, ◌+◌, ℕ, suc, zero, List, [], ◌∷◌, ◌++◌, length, replicate, Result, Ok, Option, Some, None}
 use Rattle.walrus_ir.specs.Results.{◌>>=◌, each}
 use Rattle.walrus_ir.specs.declared.val_type.ValType.{ValType}
 use Rattle.walrus_ir.specs.Types.{ModuleType, Signature, signature_of}
@@ -52,6 +52,14 @@ pub record HaveLocals (indices : IndicesToIds) (parameters : List (ValType ℕ))
   pub are_named : each (named_group indices) declared ≡ Ok named
   pub locals_are : locals ≡ parameters ++ expanded named
 
+-- how many locals a function has at most, what it takes among them, as engines have it
+abbrev pub most_locals : ℕ
+most_locals = 50000
+
+-- No declarations stand in front; or with them the function has too many locals.
+abbrev pub HasNoLocals : IndicesToIds → (parameters : List (ValType ℕ)) → (bytes : List ℕ) → Type 0
+HasNoLocals indices parameters bytes = (operators : List ℕ) (locals : List (ValType ℕ)) → HaveLocals indices parameters bytes operators locals → most_locals < length locals
+
 -- the first numbers, from 0 on
 abbrev pub first_numbers : ℕ → List ℕ
 first_numbers zero = []
@@ -66,3 +74,8 @@ pub record DeclaresGroup (indices : IndicesToIds) (bytes behind : List ℕ) (old
   pub named : ℕ × ValType ℕ
   pub is_named : named_group indices declared ≡ Ok named
   pub new_are : new ≡ old ++ replicate named.0 named.1
+
+-- No group stands in front; or with it there are too many locals behind so many.
+abbrev pub HasNoGroup : IndicesToIds → (bytes : List ℕ) → (count : ℕ) → Type 0
+HasNoGroup indices bytes count =
+    (behind : List ℕ) (declared named : ℕ × ValType ℕ) → group bytes ≡ Ok (declared, behind) → named_group indices declared ≡ Ok named → most_locals < count + named.0

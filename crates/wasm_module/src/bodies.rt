@@ -1,9 +1,10 @@
 //! Bodies of a module: parsed, rewritten, and written.
 
-ghost use Rattle.std.specs.Prelude.{OnOk, IfOk};
+ghost use Rattle.std.specs.Prelude.{OnOk, IfOk, IfErr};
 ghost use Rattle.walrus_run.specs.RawBodies.{given, IsRawBodyOf};
 ghost use Rattle.wasm_module.specs.CodeSections.{body_at};
 ghost use Rattle.wasm_module.specs.RewrittenCode.{Extends, IsRewritten, IsParsed};
+ghost use Rattle.wasm_module.specs.Refusals.{IsRefused, IsNotRewritten};
 
 use crate::code::Body;
 use crate::code_fault::CodeFault;
@@ -85,6 +86,8 @@ impl<'a> ParsedModule<'a> {
         ensures extends { Extends self.old self.new }
         ensures rewritten { OnOk result
             (IsRewritten self.old body.entry.func (body_at body.entry) scratch.new.raw.items) }
+        ensures refused { IfErr result
+            (IsNotRewritten self.old body.entry.func (body_at body.entry) self.new) }
     {
         scratch.raw.clear();
         rewrite_once!(self, body, &mut scratch.instrs, &mut scratch.raw, None)
@@ -98,6 +101,8 @@ impl<'a> ParsedModule<'a> {
         ensures extends { Extends self.old self.new }
         ensures rewritten { OnOk result
             (IsRewritten self.old body.entry.func (body_at body.entry) scratch.new.raw.items) }
+        ensures refused { IfErr result
+            (IsNotRewritten self.old body.entry.func (body_at body.entry) self.new) }
     {
         let Scratch { instrs, raw, pairs } = scratch;
         raw.clear();
@@ -121,6 +126,8 @@ impl<'a> ParsedModule<'a> {
         ensures extends { OnOk result (Extends self.old self.new) }
         ensures rewritten { OnOk result
             (IsRewritten self.old body.entry.func (body_at body.entry) scratch.new.raw.items) }
+        ensures refused { IfErr result
+            (IsNotRewritten self.old body.entry.func (body_at body.entry) self.new) }
     {
         match self.rewrite_once(body, scratch) {
             Err(error) if wants_type(&error) => {
@@ -144,6 +151,8 @@ impl<'a> ParsedModule<'a> {
         ensures extends { OnOk result (Extends self.old self.new) }
         ensures rewritten { OnOk result
             (IsRewritten self.old body.entry.func (body_at body.entry) scratch.new.raw.items) }
+        ensures refused { IfErr result
+            (IsNotRewritten self.old body.entry.func (body_at body.entry) self.new) }
     {
         match self.rewrite_once_with_pairs(body, scratch) {
             Err(error) if wants_type(&error) => {
@@ -162,6 +171,8 @@ impl<'a> ParsedModule<'a> {
         ensures extends { Extends self.old self.new }
         ensures parsed { IfOk result
             (IsParsed self.old body.entry.func (body_at body.entry) self.new) }
+        ensures refused { IfErr result
+            (IsRefused self.old body.entry.func (body_at body.entry) self.new) }
     {
         let Entered {
             ty,
@@ -202,6 +213,8 @@ impl<'a> ParsedModule<'a> {
         ensures extends { OnOk result (Extends self.old self.new) }
         ensures parsed { IfOk result
             (IsParsed self.old body.entry.func (body_at body.entry) self.new) }
+        ensures refused { IfErr result
+            (IsRefused self.old body.entry.func (body_at body.entry) self.new) }
     {
         match self.parse_once(body, scratch) {
             Err(error) if wants_type(&error) => {

@@ -1,5 +1,10 @@
 //! Why a body or a constant expression isn't accepted, or a body can't be written: the innermost
 //! fault of its parse or of its writing.
+ghost use Rattle.std.specs.Prelude.{◌≡◌};
+ghost use Rattle.walrus_ir.specs.declared.error.WalkError.TheVariants as walk;
+ghost use Rattle.wasm_body.specs.declared.error.EmitError.TheVariants as emit;
+ghost use Rattle.wasm_body.specs.declared.error.ParseError.TheVariants as parse;
+ghost use Rattle.wasm_module.specs.declared.code_fault.CodeFault.TheVariants.{Memory};
 
 use std::fmt;
 use walrus_body::{EmitError, IndexError, ParseError};
@@ -88,7 +93,9 @@ impl CodeFault {
     }
 
     /// Why a body isn't accepted.
-    pub(crate) fn of_parse(error: ParseError) -> CodeFault {
+    pub(crate) fn of_parse(error: ParseError) -> CodeFault
+        ensures { error ≡ parse.Memory → result ≡ Memory }
+    {
         match error {
             ParseError::Read(error) => CodeFault::of_read(error.fault),
             ParseError::PlaceTooGreat => CodeFault::PlaceTooGreat,
@@ -112,7 +119,9 @@ impl CodeFault {
     }
 
     /// Why a function isn't walked over.
-    pub(crate) fn of_walk(error: WalkError) -> CodeFault {
+    pub(crate) fn of_walk(error: WalkError) -> CodeFault
+        ensures { error ≡ walk.Memory → result ≡ Memory }
+    {
         match error {
             WalkError::UnknownSequence => CodeFault::UnknownSequence,
             WalkError::SharedSequence => CodeFault::SharedSequence,
@@ -122,7 +131,9 @@ impl CodeFault {
     }
 
     /// Why a function can't be written.
-    pub(crate) fn of_emit(error: EmitError) -> CodeFault {
+    pub(crate) fn of_emit(error: EmitError) -> CodeFault
+        ensures { error ≡ emit.Memory → result ≡ Memory }
+    {
         match error {
             EmitError::Index(error) => CodeFault::of_index(error),
             EmitError::UnnumberedLocal => CodeFault::UnnumberedLocal,

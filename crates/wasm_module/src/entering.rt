@@ -1,10 +1,12 @@
 //! What a body is parsed with: its function's type and arguments, and its locals.
 
-ghost use Rattle.std.specs.Prelude.{◌≡◌, length, slice_get, Some, OnOk, IfOk};
+ghost use Rattle.std.specs.Prelude.{◌≡◌, ◌≤◌, ◌⊎◌, length, slice_get, Some, OnOk, IfOk, IfErr};
 ghost use Rattle.walrus_body.specs.Parsing.Bodies.{body_operators};
 ghost use Rattle.wasm_module.specs.Bodies.{IsWithin};
 ghost use Rattle.wasm_module.specs.CodeSections.{place_of, bytes_of, body_at};
-ghost use Rattle.wasm_module.specs.Declarations.{HaveLocals, parameters_of, first_numbers};
+ghost use Rattle.wasm_module.specs.declared.fault.ModuleFault.TheVariants.{Memory};
+ghost use Rattle.wasm_module.specs.Declarations.{HaveLocals, parameters_of, first_numbers, most_locals};
+ghost use Rattle.wasm_module.specs.Refusals.{HasNoFront};
 ghost use Rattle.wasm_module.specs.RewrittenCode.{Extends, Enters};
 
 use crate::code::Body;
@@ -25,6 +27,13 @@ pub(crate) struct Entered<'a> {
 }
 
 impl<'a> ParsedModule<'a> {
+    /// The type of the function with this index, if there is one.
+    fn type_of(&self, func: usize) -> Option<TypeId>
+        ensures { result ≡ slice_get self.now.func_types.items func }
+    {
+        self.func_types.get(func).copied()
+    }
+
     /// Reads the declarations of a body's locals: the types of all locals of the function, and what
     /// it is parsed with.
     fn declared(&self, body: Body<'a>) -> Result<(ModuleLocals, Entered<'a>), ModuleError>
@@ -39,8 +48,11 @@ impl<'a> ParsedModule<'a> {
         ensures args { IfOk result (λ x. x.1.args.items
             ≡ first_numbers (length (parameters_of self.now.«module».types x.1.ty))) }
         ensures count { IfOk result (λ x. x.1.locals ≡ length x.0) }
+        ensures few { IfOk result (λ x. x.1.locals ≤ most_locals) }
+        ensures refused { IfErr result (λ e. (e.fault ≡ Memory)
+            ⊎ HasNoFront self.now body.entry.func (bytes_of body.entry)) }
     {
-        let Some(ty) = self.func_types.get(body.func).copied() else {
+        let Some(ty) = self.type_of(body.func) else {
             return Err(body.input.fault(ModuleFault::BodyCount));
         };
         let params = self.params(ty);
@@ -70,6 +82,8 @@ impl<'a> ParsedModule<'a> {
             self.new e.ty e.args.items e.locals e.body) }
         ensures fits { IfOk result (λ e. IsWithin e.body) }
         ensures offset { OnOk result (self.new.«module».code_section_offset ≡ 0) }
+        ensures refused { IfErr result (λ e. (e.fault ≡ Memory)
+            ⊎ HasNoFront self.new body.entry.func (bytes_of body.entry)) }
     {
         let (types, entered) = self.declared(body)?;
         match self.spaces.reach_locals(entered.locals) {

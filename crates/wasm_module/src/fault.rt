@@ -1,4 +1,11 @@
 //! Why a module isn't read or rewritten.
+ghost use Rattle.std.specs.Prelude.{◌≡◌};
+ghost use Rattle.wasm_body.specs.declared.error.IndexError.TheVariants as index;
+ghost use Rattle.wasm_body.specs.declared.error.ParseError.TheVariants as parse;
+ghost use Rattle.wasm_module.specs.declared.fault.ModuleFault.TheVariants.{Memory};
+ghost use Rattle.wasm_module.specs.declared.code_fault.CodeFault.TheVariants as code;
+ghost use Rattle.walrus_run.specs.Rewriting.{WantsMemory};
+ghost use Rattle.wasm_module.specs.Refusals.{place_in_file};
 
 use crate::code_fault::CodeFault;
 use std::alloc::{AllocError, AllocFailed};
@@ -95,7 +102,9 @@ pub enum ModuleFault {
 
 impl ModuleFault {
     /// What is wrong with code.
-    fn of_code(fault: CodeFault) -> ModuleFault {
+    fn of_code(fault: CodeFault) -> ModuleFault
+        ensures { fault ≡ code.Memory → result ≡ Memory }
+    {
         match fault {
             CodeFault::Checked => ModuleFault::LocalOutOfRange,
             CodeFault::TypeMissing => ModuleFault::TypeMissing,
@@ -133,7 +142,9 @@ impl ModuleError {
     };
 
     /// Why an index map has no answer, or can't grow, at this place.
-    pub(crate) fn of_index(error: IndexError, at: usize) -> ModuleError {
+    pub(crate) fn of_index(error: IndexError, at: usize) -> ModuleError
+        ensures { error ≡ index.Memory → result.fault ≡ Memory }
+    {
         let fault = match error {
             IndexError::OutOfRange { .. } => ModuleFault::IndexOutOfRange,
             IndexError::Memory => ModuleFault::Memory,
@@ -157,7 +168,10 @@ impl ModuleError {
     }
 
     /// Why a body isn't parsed.
-    pub(crate) fn of_parse(failure: ParseFailure) -> ModuleError {
+    pub(crate) fn of_parse(failure: ParseFailure) -> ModuleError
+        ensures memory { failure.error ≡ parse.Memory → result.fault ≡ Memory }
+        ensures place { result.at ≡ failure.at }
+    {
         ModuleError {
             fault: ModuleFault::of_code(CodeFault::of_parse(failure.error)),
             at: failure.at,
@@ -173,7 +187,10 @@ impl ModuleError {
     }
 
     /// Why the body that begins at this place isn't rewritten.
-    pub(crate) fn of_body(error: RewriteError, start: usize) -> ModuleError {
+    pub(crate) fn of_body(error: RewriteError, start: usize) -> ModuleError
+        ensures memory { WantsMemory error → result.fault ≡ Memory }
+        ensures place { result.at ≡ place_in_file start error }
+    {
         let fault = match error {
             RewriteError::Parse(failure) => return ModuleError::of_parse(failure),
             RewriteError::Walk(error) => CodeFault::of_walk(error),
@@ -187,12 +204,16 @@ impl ModuleError {
 }
 
 impl From<AllocError> for ModuleError {
+    ghost from_gives = { λ _ error. error.fault ≡ Memory };
+
     fn from(_failed: AllocError) -> ModuleError {
         ModuleError::MEMORY
     }
 }
 
 impl<T: Drop> From<AllocFailed<T>> for ModuleError {
+    ghost from_gives = { λ _ error. error.fault ≡ Memory };
+
     fn from(_failed: AllocFailed<T>) -> ModuleError {
         ModuleError::MEMORY
     }

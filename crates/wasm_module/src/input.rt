@@ -1,6 +1,6 @@
 //! Bytes of a module, read from the front (WebAssembly core specification 3.0, binary format,
 //! values and types).
-ghost use Rattle.std.specs.Prelude.{◌≡◌, ◌==◌, ◌<◌, ◌≤◌, ◌+◌, ◌-◌, ◌++◌, ◌∷◌, ◌^◌, [], length, take, OnOk, IfOk, Ok};
+ghost use Rattle.std.specs.Prelude.{◌≡◌, ◌==◌, ◌<◌, ◌≤◌, ◌+◌, ◌-◌, ◌++◌, ◌∷◌, ◌^◌, [], length, take, OnOk, OnErr, IsErr, IfOk, Ok};
 ghost use Rattle.wasm_ops.specs.Numbers.{u32 as a_u32};
 ghost use Rattle.wasm_ops.specs.Types.{value_type as a_value_type};
 
@@ -146,6 +146,7 @@ impl<'a> Input<'a> {
         ensures value { IfOk result (λ n. a_u32 self.old.rest.now ≡ Ok (n, self.new.rest.now)) }
         ensures same_end { self.new.end ≡ self.old.end }
         ensures shorter { OnOk result (length self.new.rest.now < length self.old.rest.now) }
+        ensures refused { OnErr result (IsErr (a_u32 self.old.rest.now)) }
     {
         match read_u32(self.rest) {
             Ok((number, rest)) => {
@@ -194,6 +195,7 @@ impl<'a> Input<'a> {
         ensures value { IfOk result
             (λ ty. a_value_type self.old.rest.now ≡ Ok (ty, self.new.rest.now)) }
         ensures same_end { self.new.end ≡ self.old.end }
+        ensures refused { OnErr result (IsErr (a_value_type self.old.rest.now)) }
     {
         match read_value_type(self.rest) {
             Ok((ty, rest)) => {

@@ -1,8 +1,9 @@
 //! The locals of a function: its parameters, and those that its body declares (WebAssembly core
 //! specification 3.0, binary format, code section).
 
-ghost use Rattle.std.specs.Prelude.{◌≡◌, ◌≤◌, ◌+◌, ◌++◌, length, replicate, OnOk, IfOk};
-ghost use Rattle.wasm_module.specs.Declarations.{HaveLocals, DeclaresGroup, first_numbers};
+ghost use Rattle.std.specs.Prelude.{◌≡◌, ◌⊎◌, ◌≤◌, ◌+◌, ◌++◌, length, replicate, OnOk, IfOk, IfErr};
+ghost use Rattle.wasm_module.specs.declared.fault.ModuleFault.TheVariants.{Memory};
+ghost use Rattle.wasm_module.specs.Declarations.{HaveLocals, DeclaresGroup, first_numbers, HasNoGroup, HasNoLocals, most_locals};
 
 use crate::fault::{ModuleError, ModuleFault};
 use crate::input::Input;
@@ -26,6 +27,7 @@ impl Locals {
     fn of_params(alloc: Global, params: &[ValType]) -> Result<Locals, ModuleError>
         ensures types { IfOk result (λ locals. locals.types ≡ params.now) }
         ensures count { IfOk result (λ locals. locals.count ≡ length params.now) }
+        ensures refused { IfErr result (λ e. e.fault ≡ Memory) }
     {
         let mut types = ModuleLocals::new(alloc);
         'params: for ty in params {
@@ -51,6 +53,10 @@ impl Locals {
         ensures types { IfOk result (λ locals. HaveLocals indices.now params.now
             input.old.rest.now input.new.rest.now locals.types) }
         ensures count { IfOk result (λ locals. locals.count ≡ length locals.types) }
+        ensures few { length params.now ≤ most_locals
+            → IfOk result (λ locals. locals.count ≤ most_locals) }
+        ensures refused { IfErr result (λ e. (e.fault ≡ Memory)
+            ⊎ HasNoLocals indices.now params.now input.old.rest.now) }
     {
         let mut locals = Locals::of_params(alloc, params)?;
         'groups: for _ in 0..input.number()? {
@@ -61,9 +67,10 @@ impl Locals {
 
     /// Adds so many locals of a type.
     fn add(&mut self, count: u32, ty: &ValType) -> Result<(), ModuleError>
-        requires { self.old.count + count ≤ 50000 }
+        requires { self.old.count + count ≤ most_locals }
         ensures types { OnOk result (self.new.types ≡ self.old.types ++ replicate count ty.now) }
         ensures count { OnOk result (self.new.count ≡ self.old.count + count) }
+        ensures refused { IfErr result (λ e. e.fault ≡ Memory) }
     {
         'locals: for _ in 0..count {
             self.types.add(*ty)?;
@@ -78,6 +85,9 @@ impl Locals {
             input.new.rest.now self.old.types self.new.types) }
         ensures count { OnOk result
             (self.old.count ≡ length self.old.types → self.new.count ≡ length self.new.types) }
+        ensures few { OnOk result (self.new.count ≤ most_locals) }
+        ensures refused { IfErr result (λ e. (e.fault ≡ Memory)
+            ⊎ HasNoGroup indices.now input.old.rest.now self.old.count) }
     {
         let begin = *input;
         let count = input.number()?;
@@ -106,7 +116,8 @@ impl Input<'_> {
 
 /// The ids of a function's parameters, which are the first of its locals.
 pub(crate) fn arguments(alloc: Global, count: usize) -> Result<Vec<LocalId>, ModuleError>
-    ensures { IfOk result (λ ids. ids.items ≡ first_numbers count) }
+    ensures ok { IfOk result (λ ids. ids.items ≡ first_numbers count) }
+    ensures refused { IfErr result (λ e. e.fault ≡ Memory) }
 {
     let mut ids = Vec::new(alloc);
     'ids: for index in 0..count {

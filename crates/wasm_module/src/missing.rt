@@ -1,6 +1,7 @@
 //! Types that handlers of legacy `try` constructs need, and the module lacks.
 
-ghost use Rattle.std.specs.Prelude.{◌≡◌, OnOk};
+ghost use Rattle.std.specs.Prelude.{◌≡◌, OnOk, IfErr};
+ghost use Rattle.wasm_module.specs.declared.fault.ModuleFault.TheVariants.{Memory};
 ghost use Rattle.wasm_module.specs.Declarations.{parameters_of};
 ghost use Rattle.wasm_module.specs.RewrittenCode.{Extends};
 
@@ -25,7 +26,9 @@ impl<'a> ParsedModule<'a> {
     }
 
     /// What a block of this type gives; nothing where it isn't known.
-    fn results_of(&self, ty: BlockType) -> Result<Vec<ValType>, ModuleError> {
+    fn results_of(&self, ty: BlockType) -> Result<Vec<ValType>, ModuleError>
+        ensures { IfErr result (λ e. e.fault ≡ Memory) }
+    {
         let mut results = Vec::new(self.alloc);
         match ty {
             BlockType::Empty => {}
@@ -46,7 +49,9 @@ impl<'a> ParsedModule<'a> {
     }
 
     /// What the handler of a `catch` takes; nothing where the tag isn't known.
-    fn caught(&self, tag: u32) -> Result<Vec<ValType>, ModuleError> {
+    fn caught(&self, tag: u32) -> Result<Vec<ValType>, ModuleError>
+        ensures { IfErr result (λ e. e.fault ≡ Memory) }
+    {
         let mut caught = Vec::new(self.alloc);
         if let Ok(id) = self.spaces.indices.get_tag(tag)
             && let Some(ty) = self.module.tags.get(id)
@@ -58,7 +63,8 @@ impl<'a> ParsedModule<'a> {
 
     /// Adds a function type, where the module has none with these lists and a sequence needs one.
     fn add_type_for(&mut self, params: &[ValType], results: &[ValType]) -> Result<(), ModuleError>
-        ensures { OnOk result (Extends self.old self.new) }
+        ensures extends { OnOk result (Extends self.old self.new) }
+        ensures refused { IfErr result (λ e. e.fault ≡ Memory) }
     {
         if InstrSeqType::existing(&self.module.types, params, results).is_none() {
             self.module.types.add_func(params, results)?;
@@ -68,7 +74,8 @@ impl<'a> ParsedModule<'a> {
 
     /// Adds the type of a handler that takes this, in a construct of this type.
     fn add_handler_type(&mut self, caught: &[ValType], ty: BlockType) -> Result<(), ModuleError>
-        ensures { OnOk result (Extends self.old self.new) }
+        ensures extends { OnOk result (Extends self.old self.new) }
+        ensures refused { IfErr result (λ e. e.fault ≡ Memory) }
     {
         let results = self.results_of(ty)?;
         self.add_type_for(caught, &results)
@@ -76,7 +83,8 @@ impl<'a> ParsedModule<'a> {
 
     /// Adds the type of the handler of a `catch`, in a construct of this type.
     fn add_catch_type(&mut self, tag: u32, ty: BlockType) -> Result<(), ModuleError>
-        ensures { OnOk result (Extends self.old self.new) }
+        ensures extends { OnOk result (Extends self.old self.new) }
+        ensures refused { IfErr result (λ e. e.fault ≡ Memory) }
     {
         let caught = self.caught(tag)?;
         self.add_handler_type(&caught, ty)
@@ -89,7 +97,8 @@ impl<'a> ParsedModule<'a> {
         operator: &Operator<'_>,
         open: &mut Vec<BlockType>,
     ) -> Result<(), ModuleError>
-        ensures { OnOk result (Extends self.old self.new) }
+        ensures extends { OnOk result (Extends self.old self.new) }
+        ensures refused { IfErr result (λ e. e.fault ≡ Memory) }
     {
         if let Some(ty) = opened(operator) {
             open.push(ty)?;
@@ -112,10 +121,13 @@ impl<'a> ParsedModule<'a> {
     /// Adds the types that the handlers of a body's `try` constructs need: what the tag carries, to
     /// the results of the construct. No handler's type is written, so that they have no index.
     pub(crate) fn add_missing_types(&mut self, body: Body<'a>) -> Result<(), ModuleError>
-        ensures { OnOk result (Extends self.old self.new) }
+        ensures extends { OnOk result (Extends self.old self.new) }
+        ensures refused { IfErr result (λ e. e.fault ≡ Memory) }
     {
         let mut declarations = body.input;
-        declarations.pass_declarations()?;
+        if declarations.pass_declarations().is_err() {
+            return Ok(());
+        }
         let mut open = Vec::new(self.alloc);
         let mut reader = Reader::new(declarations.rest(), declarations.at());
         // An operator takes a byte at least.

@@ -198,7 +198,9 @@ impl<'a> ParsedModule<'a> {
             SectionKind::Memory => self.spaces.add_memory(),
             SectionKind::Global => self.spaces.add_global(),
             SectionKind::Element => self.spaces.add_element(),
-            _ => self.spaces.add_data(),
+            _ if self.data_count.is_some() => self.spaces.add_data(),
+            // No operator may name a data segment.
+            _ => Ok(()),
         };
         added_at(added, place)
     }

@@ -1,6 +1,7 @@
 //! The index spaces of a module: what stands in each keeps its index.
 
-ghost use Rattle.std.specs.Prelude.{◌≡◌, ◌<◌, ℕ, Ok, OnOk};
+ghost use Rattle.std.specs.Prelude.{◌≡◌, ◌<◌, ◌≤◌, ◌^◌, ℕ, Ok, OnOk, IfErr};
+ghost use Rattle.wasm_body.specs.declared.error.IndexError.TheVariants as index;
 ghost use Rattle.walrus_body.specs.IndexMaps.{locals_in, local_of};
 ghost use Rattle.wasm_module.specs.Declarations.{first_numbers};
 
@@ -115,7 +116,7 @@ impl Spaces {
         self.numbers.set_data_index(id, index)
     }
 
-    /// How many data segments there are.
+    /// How many data segments have an index.
     pub fn data_segments(&self) -> usize {
         self.counts.data
     }
@@ -133,6 +134,7 @@ impl Spaces {
         ensures others { HasOtherLocals self.old self.new }
         ensures ids { OnOk result ((local : ℕ) → local < count
             → local_of self.new.indices 0 local ≡ Ok local) }
+        ensures refused { count ≤ 2 ^ 32 → IfErr result (λ e. e ≡ index.Memory) }
     {
         let lists = self.local_lists();
         'locals: for index in self.locals..count {

@@ -5,5 +5,8 @@ use Rattle.wasm_module.proofs.parsed.ParsedModule.add_missing_types.Goals as goa
 pub operators-init : goal.operators-init
 operators-init c = extends_same c.args.self.now
 
+pub returns-then-is_err-clause-extends : goal.returns-then-is_err-clause-extends
+returns-then-is_err-clause-extends c = extends_same c.args.self.now
+
 pub operators-preserved : goal.operators-preserved
-operators-preserved c = extends_then c.args.self.now c.operators.self c.add_type_at.new.self c.operators.invariant c.in_ok-add_type_at.ensures
+operators-preserved c = extends_then c.args.self.now c.operators.self c.add_type_at.new.self c.operators.invariant c.in_ok-add_type_at.ensures.extends

@@ -1,14 +1,14 @@
 use Rattle.wasm_module.proofs.ModuleLemmas.{extends_same}
 use Rattle.wasm_module.proofs.parsed.ParsedModule.add_type_at.Goals as goal
 
-pub returns-in-Some : goal.returns-in-Some
-returns-in-Some c = extends_same c.args.self.now
+pub returns-in-Some-clause-extends : goal.returns-in-Some-clause-extends
+returns-in-Some-clause-extends c = extends_same c.args.self.now
 
-pub returns-in_default-copied : goal.returns-in_default-copied
-returns-in_default-copied c = extends_same c.args.self.now
+pub returns-in_default-copied-clause-extends : goal.returns-in_default-copied-clause-extends
+returns-in_default-copied-clause-extends c = extends_same c.args.self.now
 
-pub returns-in_default-operator : goal.returns-in_default-operator
-returns-in_default-operator c = extends_same c.args.self.now
+pub returns-in_default-operator-clause-extends : goal.returns-in_default-operator-clause-extends
+returns-in_default-operator-clause-extends c = extends_same c.args.self.now
 
-pub returns-in-End : goal.returns-in-End
-returns-in-End c = extends_same c.args.self.now
+pub returns-in-End-clause-extends : goal.returns-in-End-clause-extends
+returns-in-End-clause-extends c = extends_same c.args.self.now

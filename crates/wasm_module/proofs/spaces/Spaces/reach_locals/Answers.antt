@@ -1,7 +1,8 @@
 use Rattle.std.proofs.Common.{ℕ, refl, ap, ◌∙◌, arith}
+use Rattle.std.proofs.lemmas.Result.{err_from_is_err_and}
 use Rattle.walrus_body.specs.IndexMaps.{with_next_local}
 use Rattle.wasm_module.specs.Declarations.{first_numbers}
-use Rattle.wasm_module.proofs.SpaceLemmas.{others_same, others_kept, others_pushed, next_local, stands_for_itself}
+use Rattle.wasm_module.proofs.SpaceLemmas.{others_same, others_kept, others_pushed, next_local, stands_for_itself, wants_memory}
 use Rattle.wasm_module.proofs.spaces.Spaces.reach_locals.Goals as goal
 
 pub locals-init : goal.locals-init
@@ -26,3 +27,11 @@ locals-preserved c = record {
 
 pub returns-clause-ids : goal.returns-clause-ids
 returns-clause-ids c = λ local h. stands_for_itself c.locals.self.indices c.locals.self.locals local c.locals.self.local_ids (omega arith)
+
+pub returns-in_err-push_local-clause-refused : goal.returns-in_err-push_local-clause-refused
+returns-in_err-push_local-clause-refused c = λ few.
+    let passed = err_from_is_err_and c.from_residual.result c.from_residual.ensures.1 in
+    let at = c.locals.self in
+    rw (passed.1, passed.2)
+    (wants_memory at.indices c.local_lists-lists.result at.locals c.args.count _ c.local_lists-lists.ensures at.local_ids (omega (arith, c.locals-test.true, c.locals.invariant.reached)) few
+    c.in_err-push_local.ensures.growth)

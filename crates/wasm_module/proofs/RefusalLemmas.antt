@@ -1,0 +1,155 @@
+-- A body that is refused: what parsing and rewriting promise of it.
+use Rattle.std.proofs.Common.{◌≡◌, ◌⊎◌, ℕ, List, [], Option, Some, None, Result, Ok, Err, IfErr, inl, inr, subst, ◌∙◌}
+use Rattle.std.specs.Borrow.{Bor}
+use Rattle.std.specs.Fn.{Shared}
+use Rattle.wasm_body.specs.SourceTree.{Body}
+use Rattle.wasm_body.specs.Naming.{Occurrence}
+use Rattle.wasm_body.specs.declared.error.ParseError.TheVariants as parse
+use Rattle.wasm_body.specs.declared.error.ParseFailure.{ParseFailure}
+use Rattle.wasm_body.specs.Parsing.Accepted.{Setting, Accepted, FirstFault}
+use Rattle.walrus_body.specs.declared.local_function.body.FunctionBody.{FunctionBody}
+use Rattle.walrus_body.specs.Parsing.Bodies.{body_input, body_setting, body_operators}
+use Rattle.walrus_body.specs.Parsing.Settings.{BothOrNone}
+use Rattle.walrus_body.specs.TreeWriting.Operators.{numbers_by}
+use Rattle.walrus_run.specs.declared.error.RewriteError.{RewriteError}
+use Rattle.walrus_run.specs.declared.error.RewriteError.TheVariants.{Parse, Walk, Emit}
+use Rattle.walrus_run.specs.Rewriting.{WantsMemory}
+use Rattle.walrus_run.specs.RewrittenBodies.{RefusesRewriting}
+use Rattle.wasm_module.specs.declared.fault.ModuleError.{ModuleError}
+use Rattle.wasm_module.specs.declared.fault.ModuleFault.TheVariants.{Memory}
+use Rattle.wasm_module.specs.declared.parsed.ParsedModule.{ParsedModule}
+use Rattle.wasm_module.specs.CodeSections.{BodyAt}
+use Rattle.wasm_module.specs.LocalsBelow.{locals_below}
+use Rattle.wasm_module.specs.RewrittenCode.{Extends, Enters}
+use Rattle.wasm_module.specs.Refusals.{place_in_file, HasFaultAt, IsRefused, IsNotRewritten}
+use Rattle.wasm_module.proofs.RewritingLemmas.{enters_then}
+
+-- ---- a parse
+
+pub refused :
+    (source now : ParsedModule) (function : ℕ) (b : BodyAt) (type id : ℕ) (args : List ℕ) (count : ℕ) (body : FunctionBody) (f : ParseFailure) (e : ModuleError) →
+    Enters source function b now type args count body → id ≡ 0 →
+    (f.error ≡ parse.Memory) ⊎ FirstFault (body_setting now.module now.spaces.indices id type body locals_below count None) (body_operators body) f →
+    (f.error ≡ parse.Memory → e.fault ≡ Memory) → e.at ≡ f.at → IsRefused source function b now e
+refused source now function b type id args count body f e enters is_first r wants place =
+    elim r [
+      | inl memory ↦ inl (wants memory)
+      | inr fault ↦ inr (inr (record {
+        type = type;
+        args = args;
+        count = count;
+        body = body;
+        enters = enters;
+        failure = f;
+        is_first =
+            subst (λ (n : ℕ). FirstFault (body_setting now.module now.spaces.indices n type body locals_below count None) (body_operators body) f) is_first fault;
+        place = place;
+      }))
+    ]
+
+-- ---- a rewriting
+
+-- no location function
+abbrev nothing_asked : (F : Type 0) → Option (Bor F)
+nothing_asked F = None
+
+-- where no location function is handed in there is none
+accepted_without :
+    (F : Type 0) (given : Option (ℕ → ℕ) → Setting ℕ) (bytes : List ℕ) (tree : Body Occurrence) (locations : Option (ℕ → ℕ)) → BothOrNone (nothing_asked F) locations →
+    Accepted (given locations) bytes tree → Accepted (given None) bytes tree
+accepted_without F given bytes tree None none a = a
+accepted_without F given bytes tree (Some l) none a = absurd none
+
+pub first_alone :
+    (F : Type 0) (given : Option (ℕ → ℕ) → Setting ℕ) (bytes : List ℕ) (f : ParseFailure) →
+    (f.error ≡ parse.Memory) ⊎ ((locations : Option (ℕ → ℕ)) → BothOrNone (nothing_asked F) locations → FirstFault (given locations) bytes f) →
+    (f.error ≡ parse.Memory) ⊎ FirstFault (given None) bytes f
+first_alone F given bytes f (inl memory) = inl memory
+first_alone F given bytes f (inr fault) = inr (fault None tt)
+
+pub not_rewritten :
+    (F : Type 0) (asks : Shared F (Bor ℕ × Unit {0}) ℕ)
+    (source now : ParsedModule) (function : ℕ) (b : BodyAt) (type id : ℕ) (args : List ℕ) (count : ℕ) (body : FunctionBody) (start : ℕ) (x : RewriteError) (e : ModuleError) →
+    Enters source function b now type args count body → id ≡ 0 → start ≡ b.start →
+    RefusesRewriting asks (body_input now.module now.spaces.indices id type body (nothing_asked F) locals_below count)
+    (record { to = numbers_by now.spaces.numbers []; types = now.module.locals; args = args }) x → (WantsMemory x → e.fault ≡ Memory) → e.at ≡ place_in_file start x →
+    IsNotRewritten source function b now e
+not_rewritten F asks source now function b type id args count body start (Parse f) e enters is_first same r wants place =
+    inl (refused source now function b type id args count body f e enters is_first (first_alone F (λ locations. body_setting now.module now.spaces.indices id type body locals_below count locations) (body_operators body) f r) wants place)
+not_rewritten F asks source now function b type id args count body start (Walk w) e enters is_first same r wants place = inl (inl (wants r))
+not_rewritten F asks source now function b type id args count body start (Emit x) e enters is_first same r wants place =
+    let At : ℕ → Type 0 =
+    λ n. RefusesRewriting asks (body_input now.module now.spaces.indices n type body (nothing_asked F) locals_below count)
+    (record { to = numbers_by now.spaces.numbers []; types = now.module.locals; args = args }) (Emit x) in
+    elim (subst At is_first r) [
+      | inl memory ↦ inl (inl (wants memory))
+      | inr none ↦ inr (
+        place ∙ same,
+        record {
+          type = type;
+          args = args;
+          count = count;
+          body = body;
+          enters = enters;
+          tree = none.0;
+          accepted =
+              accepted_without F (λ locations. body_setting now.module now.spaces.indices 0 type body locals_below count locations) (body_operators body) none.0
+              none.1.locations none.1.are_given none.1.accepted;
+          error = x;
+          has_none = none.2;
+        },
+      )
+    ]
+
+-- ---- of a module that the source was before
+
+fault_then : (source a now : ParsedModule) (function : ℕ) (b : BodyAt) (at : ℕ) → Extends source a → HasFaultAt a function b now at → HasFaultAt source function b now at
+fault_then source a now function b at e p = record {
+  type = p.type;
+  args = p.args;
+  count = p.count;
+  body = p.body;
+  enters = enters_then source a now function b p.type p.args p.count p.body e p.enters;
+  failure = p.failure;
+  is_first = p.is_first;
+  place = p.place;
+}
+
+refused_then : (source a now : ParsedModule) (function : ℕ) (b : BodyAt) (e : ModuleError) → Extends source a → IsRefused a function b now e → IsRefused source function b now e
+refused_then source a now function b e extends r =
+    elim r [
+      | inl memory ↦ inl memory
+      | inr other ↦ elim other [
+        | inl none ↦ inr (inl none)
+        | inr fault ↦ inr (inr (fault_then source a now function b e.at extends fault))
+      ]
+    ]
+
+pub if_refused_then :
+    {A : Type 0} (source a now : ParsedModule) (function : ℕ) (b : BodyAt) (r : Result A ModuleError) → Extends source a → IfErr r (IsRefused a function b now) →
+    IfErr r (IsRefused source function b now)
+if_refused_then source a now function b (Ok x) extends p = tt
+if_refused_then source a now function b (Err e) extends p = refused_then source a now function b e extends p
+
+pub if_not_rewritten_then :
+    {A : Type 0} (source a now : ParsedModule) (function : ℕ) (b : BodyAt) (r : Result A ModuleError) → Extends source a → IfErr r (IsNotRewritten a function b now) →
+    IfErr r (IsNotRewritten source function b now)
+if_not_rewritten_then source a now function b (Ok x) extends p = tt
+if_not_rewritten_then source a now function b (Err e) extends p =
+    elim p [
+      | inl refused ↦ inl (refused_then source a now function b e extends refused)
+      | inr none ↦ inr (
+        none.0,
+        record {
+          type = none.1.type;
+          args = none.1.args;
+          count = none.1.count;
+          body = none.1.body;
+          enters = enters_then source a now function b none.1.type none.1.args none.1.count none.1.body extends none.1.enters;
+          tree = none.1.tree;
+          accepted = none.1.accepted;
+          error = none.1.error;
+          has_none = none.1.has_none;
+        },
+      )
+    ]

@@ -1,0 +1,69 @@
+-- Bodies that are refused: for want of memory, or for the first fault of the body (WebAssembly core specification 3.0, binary
+-- format, code section).
+use Rattle.std.specs.Prelude.{◌≡◌, ◌⊎◌, ◌<◌, ℕ, List, [], length, slice_get, Some, None}
+use Rattle.walrus_ir.specs.declared.val_type.ValType.{ValType}
+use Rattle.wasm_body.specs.SourceTree.{Body}
+use Rattle.wasm_body.specs.Naming.{Occurrence}
+use Rattle.wasm_body.specs.NormalForm.{body_tree}
+use Rattle.wasm_body.specs.declared.error.EmitError.{EmitError}
+use Rattle.wasm_body.specs.declared.error.ParseFailure.{ParseFailure}
+use Rattle.wasm_body.specs.Parsing.Accepted.{Accepted, FirstFault}
+use Rattle.walrus_body.specs.declared.local_function.body.FunctionBody.{FunctionBody}
+use Rattle.walrus_body.specs.Environments.{environment_of}
+use Rattle.walrus_body.specs.Parsing.Bodies.{body_setting, body_operators}
+use Rattle.walrus_body.specs.TreeWriting.Operators.{numbers_by}
+use Rattle.walrus_run.specs.declared.error.RewriteError.{RewriteError}
+use Rattle.walrus_run.specs.declared.error.RewriteError.TheVariants.{Parse, Walk, Emit}
+use Rattle.walrus_run.specs.RawBodies.{HasNoRawBody}
+use Rattle.wasm_module.specs.declared.fault.ModuleError.{ModuleError}
+use Rattle.wasm_module.specs.declared.fault.ModuleFault.TheVariants.{Memory}
+use Rattle.wasm_module.specs.declared.parsed.ParsedModule.{ParsedModule}
+use Rattle.wasm_module.specs.CodeSections.{BodyAt}
+use Rattle.wasm_module.specs.Declarations.{parameters_of, HaveLocals, most_locals}
+use Rattle.wasm_module.specs.LocalsBelow.{locals_below}
+use Rattle.wasm_module.specs.RewrittenCode.{Enters}
+
+-- where a fault stands in the file, of a body that begins at this place
+abbrev pub place_in_file : ℕ → RewriteError → ℕ
+place_in_file start (Parse f) = f.at
+place_in_file start (Walk w) = start
+place_in_file start (Emit e) = start
+
+-- The function has no type, or no declarations stand in front, or with them it has too many locals.
+abbrev pub HasNoFront : ParsedModule → (function : ℕ) → (bytes : List ℕ) → Type 0
+HasNoFront now function bytes =
+    (type : ℕ) (operators : List ℕ) (locals : List (ValType ℕ)) → slice_get now.func_types.items function ≡ Some type →
+    HaveLocals now.spaces.indices (parameters_of now.module.types type) bytes operators locals → most_locals < length locals
+
+-- The operators of this function's body, parsed with these declarations, have a first fault, at this place of the file.
+pub record HasFaultAt (source : ParsedModule) (function : ℕ) (b : BodyAt) (now : ParsedModule) (at : ℕ) : Type 0 where
+  pub type : ℕ
+  pub args : List ℕ
+  pub count : ℕ
+  pub body : FunctionBody
+  pub enters : Enters source function b now type args count body
+  pub failure : ParseFailure
+  pub is_first : FirstFault (body_setting now.module now.spaces.indices 0 type body locals_below count None) (body_operators body) failure
+  pub place : at ≡ failure.at
+
+-- The body of this function of the source isn't parsed, in the module as it is then.
+abbrev pub IsRefused : ParsedModule → ℕ → BodyAt → ParsedModule → ModuleError → Type 0
+IsRefused source function b now e = (e.fault ≡ Memory) ⊎ (HasNoFront now function b.bytes ⊎ HasFaultAt source function b now e.at)
+
+-- The operators are accepted, and what is written of them has no bytes.
+pub record HasNoBytes (source : ParsedModule) (function : ℕ) (b : BodyAt) (now : ParsedModule) : Type 0 where
+  pub type : ℕ
+  pub args : List ℕ
+  pub count : ℕ
+  pub body : FunctionBody
+  pub enters : Enters source function b now type args count body
+  pub tree : Body Occurrence
+  pub accepted : Accepted (body_setting now.module now.spaces.indices 0 type body locals_below count None) (body_operators body) tree
+  pub error : EmitError
+  pub has_none :
+      HasNoRawBody (record { to = numbers_by now.spaces.numbers []; types = now.module.locals; args = args })
+      (body_tree (environment_of now.module now.spaces.indices 0 type) tree) error
+
+-- The body of this function of the source isn't rewritten.
+abbrev pub IsNotRewritten : ParsedModule → ℕ → BodyAt → ParsedModule → ModuleError → Type 0
+IsNotRewritten source function b now e = IsRefused source function b now e ⊎ ((e.at ≡ b.start) × HasNoBytes source function b now)
