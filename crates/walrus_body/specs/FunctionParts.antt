@@ -1,5 +1,5 @@
 -- The value of a function of a module that has a body.
-use Rattle.std.specs.Prelude.{ℕ, List, Option, ◌-◌, ◌+◌, length}
+use Rattle.std.specs.Prelude.{ℕ, List, Option}
 use Rattle.std.specs.declared.ops.Range.{Range}
 use Rattle.walrus_ir.specs.Function.{Function}
 
@@ -10,7 +10,3 @@ pub record FunctionParts : Type 0 where
   pub args : List ℕ
   pub instruction_mapping : List (ℕ × ℕ)
   pub original_range : Option (Range ℕ)
-
--- the places of so many bytes, less an offset
-abbrev pub range_at : (start length offset : ℕ) → Range ℕ
-range_at start length offset = record { start = start - offset; end = start + length - offset }

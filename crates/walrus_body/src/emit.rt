@@ -1,20 +1,9 @@
 //! Writing of parts of a module.
 
-use crate::{EmitError, IdsToIndices};
-use walrus_ir::{FunctionId, IdHashMap, IdHashSet, InstrLocId, LocalId, Module};
-
-/// What the body of a function is found to hold before it is written.
-#[derive(Drop)]
-pub struct EmitFacts {
-    /// How many instructions there are.
-    pub size: u64,
-    /// Whether an instruction names a data segment.
-    pub uses_data_segments: bool,
-    /// The functions that `ref.func` refers to, in the order of the instructions, repeats kept.
-    pub ref_funcs: Vec<FunctionId>,
-    /// The locals that are read or written.
-    pub used_locals: IdHashSet<LocalId>,
-}
+use walrus_facts::EmitFacts;
+use walrus_ir::{FunctionId, IdHashMap, InstrLocId, Module};
+use walrus_maps::IdsToIndices;
+use wasm_body::EmitError;
 
 /// What the parts of a module are written into.
 #[derive(Drop)]

@@ -1,28 +1,18 @@
-//! Function bodies: parsing, facts and writing.
+//! Functions with a body: parsing, facts and writing. The parts that it is made of stand in the crates
+//! below, whose public names this one gives too.
 #![tactic(auto)]
 
 mod emit;
-mod facts;
-mod function_locals;
-mod growth;
-mod id_list;
-mod id_numbers;
-mod ids_to_indices;
-mod indices_to_ids;
 mod local_function;
-mod segments;
-mod sizes;
 
-pub use emit::{Emit, EmitContext, EmitFacts};
-pub use facts::{FactsVisitor, law_facts};
-pub use ids_to_indices::{IdsToIndices, law_numbers_of_pushes};
-pub use indices_to_ids::IndicesToIds;
-pub use local_function::{
-    AcceptAll, CheckError, ControlFrame, ControlStack, FunctionBody, IfElseState, LocalFunction,
-    OpCheck, ValidationContext, heap_type_of, value_type,
+pub use emit::{Emit, EmitContext};
+pub use local_function::LocalFunction;
+pub use walrus_context::{
+    ControlFrame, ControlStack, IfElseState, ValidationContext, heap_type_of, value_type,
 };
-pub use segments::DataSegmentsVisitor;
-pub use sizes::SizeVisitor;
+pub use walrus_facts::{DataSegmentsVisitor, EmitFacts, FactsVisitor, SizeVisitor, law_facts};
+pub use walrus_maps::{IdsToIndices, IndicesToIds, law_numbers_of_pushes};
+pub use walrus_parser::{AcceptAll, CheckError, FunctionBody, OpCheck};
 pub use wasm_body::{
     EmitError, IndexError, ParseError, ParseFailure, Space, law_accepted_again, law_executions,
     law_inverse_undoes, law_locations, law_normal_again, law_normal_form_texts, law_one_answer,

@@ -10,53 +10,28 @@ ghost use Rattle.wasm_body.specs.declared.error.ParseFailure.{ParseFailure as Fa
 ghost use Rattle.wasm_body.specs.SourceTree.{Body};
 ghost use Rattle.wasm_body.specs.Naming.{Occurrence};
 ghost use Rattle.wasm_body.specs.Parsing.Accepted.{Accepted, FirstFault};
-ghost use Rattle.walrus_body.specs.FunctionParts.{range_at};
+ghost use Rattle.walrus_parser.specs.Ranges.{range_at};
 ghost use Rattle.walrus_body.specs.LocalFunctions.{HasEntry, first_slot, first_instrs, is_const, LendsBuilder, LendsBlock};
-ghost use Rattle.walrus_body.specs.Parsing.Bodies.{body_input, body_setting, body_operators, AcceptsBody, RefusesBody};
-ghost use Rattle.walrus_body.specs.Parsing.Locating.{MayAsk};
-ghost use Rattle.walrus_body.specs.Parsing.Settings.{BothOrNone};
-ghost use Rattle.walrus_body.specs.Facts.{count, segments, AreFacts, TreeHas};
-ghost use Rattle.walrus_body.specs.Sizes.{IsTooLarge};
-ghost use Rattle.walrus_body.specs.EmittedLocals.{Declares, IsUndeclared};
-ghost use Rattle.walrus_body.specs.TreeWriting.EmittedInstructions.{Emits, IsUnemitted, KeepsPairs};
-ghost use Rattle.walrus_body.specs.TreeWriting.Operators.{numbers_by};
+ghost use Rattle.walrus_parser.specs.Bodies.{body_input, body_setting, body_operators, AcceptsBody, RefusesBody};
+ghost use Rattle.walrus_parser.specs.Locating.{MayAsk};
+ghost use Rattle.walrus_parser.specs.Settings.{BothOrNone};
+ghost use Rattle.walrus_facts.specs.Facts.{count, segments, AreFacts, TreeHas};
+ghost use Rattle.walrus_facts.specs.Sizes.{IsTooLarge};
+ghost use Rattle.walrus_emitter.specs.EmittedLocals.{Declares, IsUndeclared};
+ghost use Rattle.walrus_body.specs.EmittedInstructions.{Emits, IsUnemitted, KeepsPairs};
+ghost use Rattle.walrus_emitter.specs.TreeWriting.Operators.{numbers_by};
 
-mod body;
-mod body_parser;
-mod check;
-mod context;
-mod emit;
-mod frame;
-mod frame_stack;
-mod instructions;
-mod legacy_try;
-mod local_numbers;
-mod locating;
-mod next;
-mod parse;
-mod references;
-mod try_tables;
-mod types;
-
-use crate::facts::emit_facts;
-use crate::local_function::emit::number_maps::NumberMaps;
-use crate::local_function::emit::{emit_with_map, emit_without_map};
-use crate::local_function::local_numbers::emit_locals;
-use crate::local_function::parse::parse_function;
-use crate::segments::used_data_segments;
-use crate::sizes::size;
-use crate::{EmitError, EmitFacts, IdsToIndices, IndicesToIds, ParseFailure};
-pub use body::FunctionBody;
-pub use check::{AcceptAll, CheckError, OpCheck};
-pub use context::ValidationContext;
-pub use frame::{ControlFrame, ControlStack, IfElseState};
 use std::marker::Model;
 use std::ops::Range;
-pub use types::{heap_type_of, value_type};
+use walrus_emitter::{NumberMaps, emit_locals, emit_with_map, emit_without_map};
+use walrus_facts::{EmitFacts, emit_facts, size, used_data_segments};
 use walrus_ir::{
     DataId, FunctionBuilder, FunctionId, IdHashMap, IdHashSet, Instr, InstrLocId, InstrSeq,
     InstrSeqId, LocalId, Module, TypeId, WalkError,
 };
+use walrus_maps::{IdsToIndices, IndicesToIds};
+use walrus_parser::{FunctionBody, OpCheck, parse_function};
+use wasm_body::{EmitError, ParseFailure};
 use wasm_encode::FunctionEncoder;
 use wasm_ops::RawValType;
 

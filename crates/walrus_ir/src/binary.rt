@@ -4,7 +4,7 @@
 /// The names are those of the WebAssembly core specification in camel case (`i32.div_s` is
 /// `I32DivS`); `PMin`, `PMax`, `AndNot`, `ExtMul` and `Q15Mulr` have capitals inside. `idx` is the
 /// number of a lane.
-#[derive(Clone, Copy, Debug, PartialEq, Eq)]
+#[derive(Clone, Copy)]
 pub enum BinaryOp {
     I32Eq,
     I32Ne,

@@ -90,7 +90,8 @@ impl FunctionBuilder {
         requires { id < length self.now.sequences }
         ensures { slice_get self.now.sequences id ≡ Some result.now }
     {
-        &self.seqs[id.index()]
+        let index = id.index();
+        &self.seqs[index]
     }
 
     /// The sequence at this slot, to be changed. Every other sequence stays.

@@ -5,7 +5,7 @@
 /// `I32Clz`), but that the sign of a conversion stands before its source type (`I32TruncSF32`,
 /// `I32TruncSSatF32`), and that an extension of vectors to `i16x8` or `i32x4` is called `Widen`.
 /// `idx` is the number of a lane.
-#[derive(Clone, Copy, Debug, PartialEq, Eq)]
+#[derive(Clone, Copy)]
 pub enum UnaryOp {
     I32Eqz,
     I64Eqz,

@@ -6,18 +6,18 @@ use Rattle.std.proofs.lemmas.Bool.Decides.{nat_tests}
 use Rattle.std.specs.Ordering.{nat_cmp}
 use Rattle.std.specs.Cmp.{nat_cmp_total}
 use Rattle.std.specs.FinMap.{FinMap, from_entries, empty, insert, get, len, get-empty, len-insert, len-empty, same_map, nat_cmp-IsAntisymmetric, gets}
-use Rattle.wasm_ops.specs.declared.types.Space.{Space}
-use Rattle.wasm_ops.specs.declared.types.Space.TheVariants.{Tables, Types, Funcs, Globals, Memories, Elements, Data, Tags}
+use Rattle.wasm_operators.specs.declared.types.Space.{Space}
+use Rattle.wasm_operators.specs.declared.types.Space.TheVariants.{Tables, Types, Funcs, Globals, Memories, Elements, Data, Tags}
 use Rattle.wasm_body.specs.declared.error.EmitError.{EmitError}
 use Rattle.wasm_body.specs.declared.error.EmitError.TheVariants.{Index, UnnumberedLocal}
 use Rattle.wasm_body.specs.declared.error.IndexError.TheVariants.{Unnumbered}
-use Rattle.walrus_body.specs.declared.indices_to_ids.IndicesToIds.{IndicesToIds}
-use Rattle.walrus_body.specs.declared.ids_to_indices.IdsToIndices.{IdsToIndices}
+use Rattle.walrus_maps.specs.declared.indices_to_ids.IndicesToIds.{IndicesToIds}
+use Rattle.walrus_maps.specs.declared.ids_to_indices.IdsToIndices.{IdsToIndices}
 use Rattle.walrus_ir.specs.Results.{with_fault, some_or}
-use Rattle.walrus_body.specs.IndexMaps.{ids_in, locals_in, with_locals, numbers_in, with_numbers, numbered, number_of}
-use Rattle.walrus_body.specs.Numbering.{pushed}
-use Rattle.walrus_body.proofs.NumberingLemmas.{get-numbered}
-use Rattle.walrus_body.specs.TreeWriting.Operators.{numbers_by}
+use Rattle.walrus_maps.specs.IndexMaps.{ids_in, locals_in, with_locals, numbers_in, with_numbers, numbered, number_of}
+use Rattle.walrus_maps.specs.Numbering.{pushed}
+use Rattle.walrus_maps.proofs.NumberingLemmas.{get-numbered}
+use Rattle.walrus_emitter.specs.TreeWriting.Operators.{numbers_by}
 use Rattle.walrus_run.specs.Demo.{demo_indices, demo_numbers}
 
 -- what was put into a map is in it

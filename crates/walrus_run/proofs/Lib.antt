@@ -2,14 +2,8 @@
 mod DemoMaps
 mod DemoNumbers
 mod DemoLocals
--- a function has one tree, and a result one answer
-pub mod OneTree
-pub mod SameAnswers
 -- what is parsed, and what is written of it
 mod RewritingLemmas
-mod Counts
-mod RawBodyLemmas
-mod RewrittenLemmas
 -- the operators of an accepted body are read and named
 mod NamesAnywhere
 mod Reading

@@ -5,8 +5,8 @@ use Rattle.std.specs.List.{AllByRecursion}
 use Rattle.walrus_ir.specs.Results.{◌>>=◌, unless, each}
 use Rattle.walrus_ir.specs.Types.{Signature}
 use Rattle.walrus_ir.proofs.ResultLemmas.{bind_ok}
-use Rattle.wasm_ops.specs.Operations.{Immediate, branch_table, RawOperation, operation}
-use Rattle.wasm_ops.specs.declared.types.BlockType.{BlockType}
+use Rattle.wasm_operators.specs.Operations.{Immediate, branch_table, RawOperation, operation}
+use Rattle.wasm_operators.specs.declared.types.BlockType.{BlockType}
 use Rattle.wasm_body.specs.declared.error.ParseError.{ParseError}
 use Rattle.wasm_body.specs.declared.error.ParseError.TheVariants.{NoSuchLabel, RethrowOutsideHandler}
 use Rattle.wasm_body.specs.Control.{Marked}
@@ -19,7 +19,7 @@ use Rattle.wasm_body.proofs.Translation.Steps.{all_of, each-ok}
 use Rattle.wasm_body.proofs.Translation.Translations.{LeadAll, lead_all, translate_leads, same, translate_same}
 use Rattle.wasm_body.proofs.Parsing.NamingLemmas.{named_parts}
 use Rattle.wasm_body.proofs.Bytes.LawfulTyped.{named_somewhere}
-use Rattle.walrus_body.specs.Parsing.Settings.{operators_of}
+use Rattle.walrus_parser.specs.Settings.{operators_of}
 use Rattle.walrus_run.specs.Namers.{anywhere, HasName}
 
 -- ---- a label that is open stays as it is

@@ -1,15 +1,15 @@
 -- What is read of a body: what is answered is what is accepted, and what is refused is so for the first fault.
 use Rattle.std.proofs.Common.{◌≡◌, ◌⊎◌, inl, inr, ℕ, List, Result, Ok, Err, refl, sym, subst}
 use Rattle.std.specs.Prelude.{IfOk, IfErr, IsErr}
-use Rattle.wasm_ops.specs.Laws.{AreBytes}
-use Rattle.wasm_ops.proofs.ReadingBytes.{reading_agrees}
+use Rattle.wasm_operators.specs.Laws.{AreBytes}
+use Rattle.wasm_operators.proofs.ReadingBytes.{reading_agrees}
 use Rattle.wasm_body.specs.declared.error.ParseError.TheVariants.{Memory}
 use Rattle.wasm_body.specs.declared.error.ParseFailure.{ParseFailure}
 use Rattle.wasm_body.specs.SourceTree.{Body}
 use Rattle.wasm_body.specs.Naming.{Occurrence}
 use Rattle.wasm_body.specs.Parsing.Accepted.{Setting, Accepted, FirstFault}
 use Rattle.wasm_body.proofs.Parsing.Answers.{accepted_has_no_fault, one_first_fault, accepted_or_fault}
-use Rattle.walrus_body.specs.Parsing.Settings.{operators_of}
+use Rattle.walrus_parser.specs.Settings.{operators_of}
 use Rattle.walrus_run.specs.NamedBodies.{BodyNames, names_of}
 use Rattle.walrus_run.specs.Namers.{AreLeft}
 use Rattle.walrus_run.proofs.NamesAnywhere.{lawful_names, operators_are}

@@ -2,16 +2,16 @@
 use Rattle.std.proofs.Common.{◌≡◌, ◌<◌, inl, inr, List, [], ◌∷◌, ◌++◌, length, map, Result, Ok, Err, refl, sym, ap, subst, ◌∙◌, arith}
 use Rattle.std.proofs.lemmas.List.{append_cancel_left, append_assoc, append-nil, length-append}
 use Rattle.std.specs.Prelude.{IfOk, IfErr, OnOk}
-use Rattle.wasm_ops.specs.Operations.{RawOperation}
-use Rattle.wasm_ops.specs.OperatorList.{Lists}
+use Rattle.wasm_operators.specs.Operations.{RawOperation}
+use Rattle.wasm_operators.specs.OperatorList.{Lists}
 use Rattle.wasm_ops.specs.Position.{Position, Moves}
-use Rattle.wasm_ops.proofs.ListLaws.{spelt_length}
+use Rattle.wasm_operators.proofs.ListLaws.{spelt_length}
 use Rattle.wasm_body.specs.declared.error.ParseError.{ParseError}
 use Rattle.wasm_body.specs.declared.error.ParseError.TheVariants.{Memory}
 use Rattle.wasm_body.specs.Translation.{translate}
 use Rattle.wasm_body.specs.Naming.{Environment, NamedOperation, Occurrence}
 use Rattle.wasm_body.specs.Parsing.Accepted.{placed}
-use Rattle.walrus_body.specs.Parsing.BodyParsers.{GivesOrMemory}
+use Rattle.walrus_parser.specs.BodyParsers.{GivesOrMemory}
 use Rattle.walrus_run.specs.declared.named_op.NamedOp.{NamedOp}
 use Rattle.walrus_run.specs.NamedOperators.{named_operation}
 use Rattle.walrus_run.specs.NamedBodies.{BodyNames}

@@ -11,8 +11,8 @@ use Rattle.walrus_ir.specs.declared.error.WalkError.TheVariants as walk
 use Rattle.walrus_ir.specs.Function.{Function}
 use Rattle.walrus_ir.specs.Walk.{HasNoWalk}
 use Rattle.walrus_ir.proofs.WalkLaws.{tree_has_no_fault}
-use Rattle.wasm_ops.specs.OperatorList.{Lists}
-use Rattle.wasm_ops.proofs.ReadingBytes.{reading_agrees}
+use Rattle.wasm_operators.specs.OperatorList.{Lists}
+use Rattle.wasm_operators.proofs.ReadingBytes.{reading_agrees}
 use Rattle.wasm_encode.specs.Declarations as encoded
 use Rattle.wasm_body.specs.declared.error.EmitError.{EmitError}
 use Rattle.wasm_body.specs.declared.error.EmitError.TheVariants.{Memory}
@@ -30,25 +30,26 @@ use Rattle.wasm_body.specs.Parsing.Lists.{parsed}
 use Rattle.wasm_body.specs.Bytes.{tree_bytes}
 use Rattle.wasm_body.proofs.Parsing.Answers.{accepted_parsed, fault_parsed}
 use Rattle.wasm_body.proofs.Bytes.NumberedBodies.{HasText}
-use Rattle.walrus_body.specs.declared.indices_to_ids.IndicesToIds.{IndicesToIds}
-use Rattle.walrus_body.specs.declared.ids_to_indices.IdsToIndices.{IdsToIndices}
-use Rattle.walrus_body.specs.Facts.{count}
+use Rattle.walrus_maps.specs.declared.indices_to_ids.IndicesToIds.{IndicesToIds}
+use Rattle.walrus_maps.specs.declared.ids_to_indices.IdsToIndices.{IdsToIndices}
+use Rattle.walrus_facts.specs.Facts.{count}
 use Rattle.walrus_body.specs.FunctionParts.{FunctionParts}
 use Rattle.walrus_body.specs.LocalFunctions.{first_slot, HasEntry}
-use Rattle.walrus_body.specs.Parsing.Bodies.{ParseInput, input_of, setting_with, IsFunction, AcceptsBody}
-use Rattle.walrus_body.specs.Parsing.Settings.{BothOrNone}
-use Rattle.walrus_body.specs.Sizes.{IsTooLarge}
-use Rattle.walrus_body.specs.TreeWriting.Operators.{numbers_by}
-use Rattle.walrus_body.proofs.LocalsOfTrees.{count_of_tree}
-use Rattle.walrus_run.specs.declared.error.RewriteError.{RewriteError}
-use Rattle.walrus_run.specs.declared.error.RewriteError.TheVariants.{Parse}
+use Rattle.walrus_parser.specs.Bodies.{ParseInput, input_of, setting_with, IsFunction, AcceptsBody}
+use Rattle.walrus_parser.specs.Settings.{BothOrNone}
+use Rattle.walrus_facts.specs.Sizes.{IsTooLarge}
+use Rattle.walrus_emitter.specs.TreeWriting.Operators.{numbers_by}
+use Rattle.walrus_facts.proofs.LocalsOfTrees.{count_of_tree}
+use Rattle.walrus_rewrite.specs.declared.error.RewriteError.{RewriteError}
+use Rattle.walrus_rewrite.specs.declared.error.RewriteError.TheVariants.{Parse}
 use Rattle.walrus_run.specs.Demo.{demo_module, demo_indices, demo_locals, demo_args, demo_environment, demo, demo_numbers}
-use Rattle.walrus_run.specs.RawBodies.{Given, given, IsRawBodyOf, HasNoRawBody}
-use Rattle.walrus_run.specs.Rewriting.{IsNormalBytes, IsRewritten, IsParsed, WantsMemory, IsFaulty}
-use Rattle.walrus_run.proofs.Counts.{few_instructions}
+use Rattle.walrus_rewrite.specs.RawBodies.{Given, given, IsRawBodyOf, HasNoRawBody}
+use Rattle.walrus_run.specs.Rewriting.{IsNormalBytes, IsRewritten, IsParsed, IsFaulty}
+use Rattle.walrus_rewrite.specs.Errors.{WantsMemory}
+use Rattle.walrus_rewrite.proofs.Counts.{few_instructions}
 use Rattle.walrus_run.proofs.DemoLocals.{has_raw_body}
-use Rattle.walrus_run.proofs.OneTree.{from_slot, only_tree, begins}
-use Rattle.walrus_run.proofs.SameAnswers.{same_answer, same_refusal, not_both}
+use Rattle.walrus_rewrite.proofs.OneTree.{from_slot, only_tree, begins}
+use Rattle.walrus_rewrite.proofs.SameAnswers.{same_answer, same_refusal, not_both}
 
 abbrev pub demo_tree : Body Occurrence → FunctionTree
 demo_tree b = body_tree demo_environment b

@@ -7,9 +7,9 @@ use Rattle.walrus_ir.specs.declared.module.Module.{Module}
 use Rattle.walrus_ir.specs.Types.{ModuleType, Func, Entry}
 use Rattle.wasm_body.specs.declared.error.EmitError.TheVariants.{Index, UnnumberedLocal}
 use Rattle.wasm_body.specs.declared.error.IndexError.TheVariants.{Unnumbered}
-use Rattle.walrus_body.specs.declared.indices_to_ids.IndicesToIds.{IndicesToIds}
-use Rattle.walrus_body.specs.IndexMaps.{ids_in}
-use Rattle.walrus_body.specs.Environments.{environment_of}
+use Rattle.walrus_maps.specs.declared.indices_to_ids.IndicesToIds.{IndicesToIds}
+use Rattle.walrus_maps.specs.IndexMaps.{ids_in}
+use Rattle.walrus_maps.specs.Environments.{environment_of}
 use Rattle.wasm_body.specs.Naming.{Environment}
 use Rattle.wasm_body.specs.Parsing.Accepted.{Setting, accepting}
 use Rattle.wasm_body.specs.Bytes.{Numbers}

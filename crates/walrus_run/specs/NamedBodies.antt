@@ -3,9 +3,9 @@ use Rattle.std.specs.Prelude.{ℕ, List, map, Some, Ok}
 use Rattle.walrus_ir.specs.declared.module.Module.{Module}
 use Rattle.wasm_body.specs.Naming.{NamedOperation, Occurrence}
 use Rattle.wasm_body.specs.Parsing.Accepted.{Setting}
-use Rattle.walrus_body.specs.declared.indices_to_ids.IndicesToIds.{IndicesToIds}
-use Rattle.walrus_body.specs.declared.local_function.body.FunctionBody.{FunctionBody}
-use Rattle.walrus_body.specs.Parsing.Bodies.{body_setting}
+use Rattle.walrus_maps.specs.declared.indices_to_ids.IndicesToIds.{IndicesToIds}
+use Rattle.walrus_parser.specs.declared.body.FunctionBody.{FunctionBody}
+use Rattle.walrus_parser.specs.Bodies.{body_setting}
 
 -- The operators of a body as they are named, in order, and the place of each.
 pub record BodyNames : Type 0 where

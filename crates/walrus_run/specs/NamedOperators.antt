@@ -1,8 +1,8 @@
 -- What a named operator of the code means: its opcode and its immediates, with ids, as the definition of naming has them.
 use Rattle.std.specs.Prelude.{ℕ, List, [], ◌∷◌, map}
 use Rattle.walrus_ir.specs.Types.{Signature, signature}
-use Rattle.wasm_ops.specs.declared.types.Space.TheVariants.{Tables, Types, Funcs, Globals, Memories, Elements, Data, Tags}
-use Rattle.wasm_ops.specs.Operations.{Access, CatchClause, Cast, Immediate, index, local, label, handler, outer, number, access, branch_table, clauses, block, heap, value, cast, i32, i64, f32, f64, v128, lane, lanes, zero_byte, operation}
+use Rattle.wasm_operators.specs.declared.types.Space.TheVariants.{Tables, Types, Funcs, Globals, Memories, Elements, Data, Tags}
+use Rattle.wasm_operators.specs.Operations.{Access, CatchClause, Cast, Immediate, index, local, label, handler, outer, number, access, branch_table, clauses, block, heap, value, cast, i32, i64, f32, f64, v128, lane, lanes, zero_byte, operation}
 use Rattle.wasm_body.specs.Naming.{NamedOperation}
 use Rattle.walrus_run.specs.declared.named_op.NamedOp.{NamedOp}
 use Rattle.walrus_run.specs.declared.named_op.NamedIndex.{NamedIndex}

@@ -3,15 +3,15 @@ use Rattle.std.specs.Prelude.{◌≡◌, ℕ, List, [], ◌∷◌, ◌++◌, map
 use Rattle.std.specs.List.{AllByRecursion}
 use Rattle.walrus_ir.specs.Results.{with_fault}
 use Rattle.walrus_ir.specs.Types.{Signature}
-use Rattle.wasm_ops.specs.declared.types.BlockType.{BlockType}
-use Rattle.wasm_ops.specs.OperatorList.{Lists}
+use Rattle.wasm_operators.specs.declared.types.BlockType.{BlockType}
+use Rattle.wasm_operators.specs.OperatorList.{Lists}
 use Rattle.wasm_ops.specs.Position.{Position}
 use Rattle.wasm_body.specs.declared.error.ParseError.{ParseError}
 use Rattle.wasm_body.specs.declared.error.ParseError.TheVariants.{Index}
 use Rattle.wasm_body.specs.Translation.{Translation, translate}
 use Rattle.wasm_body.specs.Naming.{Environment, NamedOperation, Occurrence, id_at, name_block}
 use Rattle.wasm_body.specs.Parsing.Accepted.{placed}
-use Rattle.walrus_body.specs.Environments.{environment_of}
+use Rattle.walrus_maps.specs.Environments.{environment_of}
 use Rattle.walrus_run.specs.NamedBodies.{BodyNames}
 use Rattle.walrus_run.specs.declared.naming.Namer.{Namer}
 

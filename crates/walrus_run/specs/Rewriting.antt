@@ -1,9 +1,6 @@
 -- Rewriting a body over the demo module.
 use Rattle.std.specs.Prelude.{◌≡◌, ◌<◌, ◌^◌, ℕ, List, length, Ok}
 use Rattle.walrus_ir.specs.Function.{Function}
-use Rattle.walrus_ir.specs.declared.error.WalkError.TheVariants as walk
-use Rattle.wasm_body.specs.declared.error.ParseError.TheVariants as parse
-use Rattle.wasm_body.specs.declared.error.EmitError.TheVariants as emit
 use Rattle.wasm_body.specs.declared.error.ParseFailure.{ParseFailure}
 use Rattle.wasm_body.specs.SourceTree.{Body}
 use Rattle.wasm_body.specs.Naming.{Occurrence}
@@ -11,9 +8,9 @@ use Rattle.wasm_body.specs.Parsing.Accepted.{Accepted, FirstFault}
 use Rattle.wasm_body.specs.NormalForm.{body_tree}
 use Rattle.wasm_body.specs.LocalNumbers.{Local, ids_of, uses_local, AreDeclared, with_locals}
 use Rattle.wasm_body.specs.Bytes.{tree_bytes}
-use Rattle.walrus_body.specs.Parsing.Bodies.{IsFunction}
-use Rattle.walrus_run.specs.declared.error.RewriteError.{RewriteError}
-use Rattle.walrus_run.specs.declared.error.RewriteError.TheVariants.{Parse, Walk, Emit}
+use Rattle.walrus_parser.specs.Bodies.{IsFunction}
+use Rattle.walrus_rewrite.specs.declared.error.RewriteError.{RewriteError}
+use Rattle.walrus_rewrite.specs.declared.error.RewriteError.TheVariants.{Parse}
 use Rattle.walrus_run.specs.Demo.{demo_locals, demo_args, demo_environment, demo, demo_numbers}
 
 -- The bytes are those of the body's normal form, with its locals numbered by their use.
@@ -33,12 +30,6 @@ pub record IsParsed (f : Function) : Type 0 where
   pub body : Body Occurrence
   pub accepted : Accepted demo ops body
   pub is_function : IsFunction f (body_tree demo_environment body)
-
--- memory ran out
-abbrev pub WantsMemory : RewriteError → Type 0
-WantsMemory (Parse f) = f.error ≡ parse.Memory
-WantsMemory (Walk w) = w ≡ walk.Memory
-WantsMemory (Emit e) = e ≡ emit.Memory
 
 -- The operators have this first fault.
 abbrev pub IsFaulty : List ℕ → RewriteError → Type 0

@@ -1,23 +1,17 @@
 //! Rewriting function bodies: the program over bytes, and the trace machine.
 #![tactic(auto)]
 
-mod code_entry;
 pub mod demo;
-mod error;
 mod machine;
 mod named_body;
 mod named_op;
 mod names;
 mod naming;
 mod program;
-mod raw_body;
 mod rewriting;
 mod trace_text;
 mod trace_words;
-mod whole_body;
 
-pub use code_entry::CodeEntry;
-pub use error::RewriteError;
 pub use machine::{Ending, Event, Outcome, Run, execute};
 pub use named_body::NamedBody;
 pub use named_op::{
@@ -28,4 +22,6 @@ pub use rewriting::rewrite_demo;
 pub use walrus_body::{
     law_accepted_again, law_executions, law_inverse_undoes, law_locations, law_read_back,
 };
-pub use whole_body::{append_raw_body, append_raw_body_with_map, rewrite_body};
+pub use walrus_rewrite::{
+    CodeEntry, RewriteError, append_raw_body, append_raw_body_with_map, rewrite_body,
+};

@@ -1,13 +1,13 @@
 //! Bodies as their modules name them.
 ghost use Rattle.std.specs.Prelude.{◌≡◌, ◌⊎◌, ◌≤◌, ◌<◌, ◌+◌, ◌∷◌, ◌^◌, ℕ, List, length, map, slice_get, IsSome, ◌↔◌, IfOk, IfErr, IsErr, OnOk};
-ghost use Rattle.wasm_ops.specs.Laws.{AreBytes};
+ghost use Rattle.wasm_operators.specs.Laws.{AreBytes};
 ghost use Rattle.wasm_body.specs.declared.error.ParseError.{ParseError as ParseFault};
 ghost use Rattle.wasm_body.specs.declared.error.ParseFailure.{ParseFailure as Failure};
 ghost use Rattle.wasm_body.specs.SourceTree.{Body};
 ghost use Rattle.wasm_body.specs.Naming.{Occurrence};
 ghost use Rattle.wasm_body.specs.Parsing.Accepted.{Accepted, FirstFault};
-ghost use Rattle.walrus_body.specs.Parsing.Bodies.{body_operators};
-ghost use Rattle.walrus_body.specs.Parsing.Settings.{operators_of};
+ghost use Rattle.walrus_parser.specs.Bodies.{body_operators};
+ghost use Rattle.walrus_parser.specs.Settings.{operators_of};
 ghost use Rattle.walrus_run.specs.NamedOperators.{named_operation};
 ghost use Rattle.walrus_run.specs.NamedBodies.{names_of, reading};
 ghost use Rattle.walrus_run.specs.Namers.{env_of, AreLeft, with_next};

@@ -1,8 +1,8 @@
 //! The names of faults: of each the name of its innermost variant.
 
-use crate::error::RewriteError;
 use walrus_body::{EmitError, IndexError, ParseError};
 use walrus_ir::WalkError;
+use walrus_rewrite::RewriteError;
 use wasm_ops::ReadFault;
 
 /// The name of a fault.

@@ -2,15 +2,15 @@
 ghost use Rattle.std.specs.Prelude.{◌≡◌, ◌⊎◌, [], ◌∷◌, ◌++◌, map, IfOk, IfErr, OnOk, Ok, Err};
 ghost use Rattle.walrus_ir.specs.Results.{Gives, each};
 ghost use Rattle.walrus_ir.specs.Types.{signature};
-ghost use Rattle.wasm_ops.specs.AccessOperations.{access_of};
-ghost use Rattle.wasm_ops.specs.Meaning.{meaning};
-ghost use Rattle.wasm_ops.specs.Operations.{index as an_index};
-ghost use Rattle.wasm_ops.specs.Parts.{immediates_of};
-ghost use Rattle.wasm_ops.specs.ReferenceOperations.{cast_of};
+ghost use Rattle.wasm_operators.specs.AccessOperations.{access_of};
+ghost use Rattle.wasm_operators.specs.Meaning.{meaning};
+ghost use Rattle.wasm_operators.specs.Operations.{index as an_index};
+ghost use Rattle.wasm_operators.specs.Parts.{immediates_of};
+ghost use Rattle.wasm_operators.specs.ReferenceOperations.{cast_of};
 ghost use Rattle.wasm_body.specs.declared.error.ParseError.{ParseError as ParseFault};
 ghost use Rattle.wasm_body.specs.Naming.{name_block};
 ghost use Rattle.wasm_body.specs.Translation.{translate, translate_access, translate_cast, translate_clause, translate_immediate, translate_immediates, translate_tag};
-ghost use Rattle.walrus_body.specs.Parsing.BodyParsers.{GivesOrMemory};
+ghost use Rattle.walrus_parser.specs.BodyParsers.{GivesOrMemory};
 ghost use Rattle.walrus_run.specs.NamedOperators.{named_index, named_access, named_block, named_clause, named_cast, named_immediates, named_operation};
 ghost use Rattle.walrus_run.specs.Namers.{env_of, anywhere};
 

@@ -1,7 +1,6 @@
 //! The program `wbody`, over its words and two writers.
 
 use crate::demo;
-use crate::error::RewriteError;
 use crate::machine::execute;
 use crate::named_body::NamedBody;
 use crate::names::rewrite_name;
@@ -13,6 +12,7 @@ use std::io::Write;
 use thiserror::Error;
 use walrus_body::{FunctionBody, ParseError, ParseFailure};
 use walrus_ir::{FunctionId, TypeId};
+use walrus_rewrite::RewriteError;
 
 /// Why nothing is printed to standard output; its text is the line that is printed to standard
 /// error instead.

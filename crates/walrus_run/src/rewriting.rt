@@ -5,18 +5,18 @@ ghost use Rattle.wasm_body.specs.SourceTree.{Body};
 ghost use Rattle.wasm_body.specs.Naming.{Occurrence};
 ghost use Rattle.wasm_body.specs.NormalForm.{body_tree};
 ghost use Rattle.wasm_body.specs.Parsing.Accepted.{Accepted, FirstFault};
-ghost use Rattle.walrus_body.specs.Parsing.Bodies.{IsFunction};
-ghost use Rattle.walrus_body.specs.TreeWriting.Operators.{numbers_by};
-ghost use Rattle.walrus_run.specs.declared.error.RewriteError.TheVariants.{Parse};
+ghost use Rattle.walrus_parser.specs.Bodies.{IsFunction};
+ghost use Rattle.walrus_emitter.specs.TreeWriting.Operators.{numbers_by};
+ghost use Rattle.walrus_rewrite.specs.declared.error.RewriteError.TheVariants.{Parse};
 ghost use Rattle.walrus_run.specs.Demo.{demo, demo_module, demo_indices, demo_args, demo_environment, demo_numbers};
-ghost use Rattle.walrus_run.specs.Rewriting.{IsNormalBytes, IsRewritten, IsParsed, WantsMemory, IsFaulty};
+ghost use Rattle.walrus_run.specs.Rewriting.{IsNormalBytes, IsRewritten, IsParsed, IsFaulty};
+ghost use Rattle.walrus_rewrite.specs.Errors.{WantsMemory};
 
 use crate::demo;
-use crate::error::RewriteError;
-use crate::raw_body::begin_body;
 use std::alloc::{AllocError, Global};
 use walrus_body::{AcceptAll, EmitError, FunctionBody, IdsToIndices, IndicesToIds, LocalFunction};
 use walrus_ir::{FunctionId, InstrLocId, LocalId, Module, TypeId};
+use walrus_rewrite::{RewriteError, begin_body};
 use wasm_encode::FunctionEncoder;
 
 /// What stands behind the first bytes of an encoder.

@@ -1,10 +1,10 @@
 -- What an operator does to the control (WebAssembly core specification 3.0, control instructions; legacy exception
 -- handling). Trees, label rules and the trace machine know an operator by this alone.
 use Rattle.std.specs.Prelude.{ℕ, List, [], ◌∷◌, map, Option, unwrap_or, ◌==◌, if◌then◌else◌}
-use Rattle.wasm_ops.specs.declared.types.Opcode.{Opcode}
-use Rattle.wasm_ops.specs.declared.types.Opcode.TheVariants.{Byte, Prefixed}
-use Rattle.wasm_ops.specs.Types.{row_at}
-use Rattle.wasm_ops.specs.Operations.{Immediate, index, label, handler, outer, branch_table, clauses, cast, CatchClause, Operation, operation}
+use Rattle.wasm_operators.specs.declared.types.Opcode.{Opcode}
+use Rattle.wasm_operators.specs.declared.types.Opcode.TheVariants.{Byte, Prefixed}
+use Rattle.wasm_operators.specs.Types.{row_at}
+use Rattle.wasm_operators.specs.Operations.{Immediate, index, label, handler, outer, branch_table, clauses, cast, CatchClause, Operation, operation}
 
 -- ---- the roles of operators, by their opcodes
 

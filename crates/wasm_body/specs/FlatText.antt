@@ -5,8 +5,8 @@ use Rattle.walrus_ir.specs.declared.val_type.InstrSeqType.{InstrSeqType}
 use Rattle.walrus_ir.specs.declared.val_type.InstrSeqType.TheVariants.{Simple}
 use Rattle.walrus_ir.specs.Types.{Signature}
 use Rattle.walrus_ir.specs.Tree.{Items, no_items, item, Sequences, no_sequences, sequence, alone}
-use Rattle.wasm_ops.specs.declared.types.Space.TheVariants.{Types, Tags}
-use Rattle.wasm_ops.specs.Operations.{index, Operation, operation}
+use Rattle.wasm_operators.specs.declared.types.Space.TheVariants.{Types, Tags}
+use Rattle.wasm_operators.specs.Operations.{index, Operation, operation}
 use Rattle.wasm_body.specs.declared.error.EmitError.{EmitError}
 use Rattle.wasm_body.specs.declared.error.EmitError.TheVariants.{Index, BranchOutside, BadClauses}
 use Rattle.wasm_body.specs.declared.error.IndexError.TheVariants.{Unnumbered}

@@ -3,7 +3,7 @@
 use Rattle.std.specs.Prelude.{◌≡◌, ℕ, List}
 use Rattle.walrus_ir.specs.declared.val_type.InstrSeqType.{InstrSeqType}
 use Rattle.walrus_ir.specs.Tree.{Items, Sequences, Tree, alone, map_items, map_sequences}
-use Rattle.wasm_ops.specs.Operations.{Operation}
+use Rattle.wasm_operators.specs.Operations.{Operation}
 
 -- what a branch goes to: a sequence around it, by the number of sequences between, or none of them
 pub data Target : Type 0 where

@@ -11,18 +11,18 @@ use Rattle.walrus_ir.specs.declared.memory.MemArg.{MemArg}
 use Rattle.walrus_ir.specs.declared.value.Value.{Value}
 use Rattle.walrus_ir.specs.declared.value.Value.TheVariants.{I32, I64, F32, F64, V128}
 use Rattle.walrus_ir.specs.declared.val_type.ValType.{ValType}
-use Rattle.wasm_ops.specs.declared.types.AtomicKind.{AtomicKind}
-use Rattle.wasm_ops.specs.declared.types.AtomicKind.TheVariants.{Notify, Wait32, Wait64, Rmw, Cmpxchg}
-use Rattle.wasm_ops.specs.declared.types.Opcode.TheVariants.{Byte, Prefixed}
-use Rattle.wasm_ops.specs.declared.types.Space.TheVariants.{Types, Funcs, Tables, Globals, Memories, Elements, Data, Tags}
-use Rattle.wasm_ops.specs.Operations.{Access, CatchClause, Immediate, index, local, label, handler, number, branch_table, clauses, block, heap, value, cast, i32, i64, f32, f64, v128, lanes, zero_byte, Operation, operation}
-use Rattle.wasm_ops.specs.UnaryOperations.{unary_operation}
-use Rattle.wasm_ops.specs.BinaryOperations.{binary_operation}
-use Rattle.wasm_ops.specs.TernaryOperations.{ternary_operation}
-use Rattle.wasm_ops.specs.AccessOperations.{load_operation, store_operation}
-use Rattle.wasm_ops.specs.VectorAccessOpcodes.{vector_access_operation}
-use Rattle.wasm_ops.specs.AtomicOpcodes.{atomic_operation}
-use Rattle.wasm_ops.specs.ReferenceOperations.{by_null}
+use Rattle.wasm_operators.specs.declared.types.AtomicKind.{AtomicKind}
+use Rattle.wasm_operators.specs.declared.types.AtomicKind.TheVariants.{Notify, Wait32, Wait64, Rmw, Cmpxchg}
+use Rattle.wasm_operators.specs.declared.types.Opcode.TheVariants.{Byte, Prefixed}
+use Rattle.wasm_operators.specs.declared.types.Space.TheVariants.{Types, Funcs, Tables, Globals, Memories, Elements, Data, Tags}
+use Rattle.wasm_operators.specs.Operations.{Access, CatchClause, Immediate, index, local, label, handler, number, branch_table, clauses, block, heap, value, cast, i32, i64, f32, f64, v128, lanes, zero_byte, Operation, operation}
+use Rattle.wasm_operators.specs.UnaryOperations.{unary_operation}
+use Rattle.wasm_operators.specs.BinaryOperations.{binary_operation}
+use Rattle.wasm_operators.specs.TernaryOperations.{ternary_operation}
+use Rattle.wasm_operators.specs.AccessOperations.{load_operation, store_operation}
+use Rattle.wasm_operators.specs.VectorAccessOpcodes.{vector_access_operation}
+use Rattle.wasm_operators.specs.AtomicOpcodes.{atomic_operation}
+use Rattle.wasm_operators.specs.ReferenceOperations.{by_null}
 use Rattle.wasm_body.specs.FunctionTree.{LegacyClause, handles, handles_all, delegates}
 
 abbrev pub PlacedImmediate : Type 0

@@ -14,7 +14,7 @@ use Rattle.walrus_ir.specs.Tree.{Items, no_items, item, Sequences, no_sequences,
 use Rattle.walrus_ir.specs.Unfolding.{among, Apart}
 use Rattle.wasm_body.specs.declared.error.EmitError.{EmitError}
 use Rattle.wasm_body.specs.declared.error.EmitError.TheVariants.{TooLarge, UnnumberedLocal}
-use Rattle.wasm_ops.specs.Operations.{Immediate, local}
+use Rattle.wasm_operators.specs.Operations.{Immediate, local}
 use Rattle.wasm_body.specs.FunctionTree.{Head, Instruction, FunctionTree}
 use Rattle.wasm_body.specs.Translation.{translate_value}
 use Rattle.wasm_body.specs.Bytes.{Numbers, numbers_in_32_bits}

@@ -5,9 +5,9 @@ use Rattle.walrus_ir.specs.declared.val_type.HeapType.{HeapType}
 use Rattle.walrus_ir.specs.declared.val_type.HeapType.TheVariants.{Abstract, Concrete}
 use Rattle.walrus_ir.specs.declared.val_type.ValType.{ValType}
 use Rattle.walrus_ir.specs.declared.val_type.ValType.TheVariants.{I32, I64, F32, F64, V128, Ref}
-use Rattle.wasm_ops.specs.declared.types.Space.{Space}
-use Rattle.wasm_ops.specs.declared.types.Space.TheVariants.{Types, Memories, Tags}
-use Rattle.wasm_ops.specs.Operations.{Access, CatchClause, Cast, Immediate, index, local, label, handler, outer, number, access, branch_table, clauses, block, heap, value, cast, i32, i64, f32, f64, v128, lane, lanes, zero_byte, Operation}
+use Rattle.wasm_operators.specs.declared.types.Space.{Space}
+use Rattle.wasm_operators.specs.declared.types.Space.TheVariants.{Types, Memories, Tags}
+use Rattle.wasm_operators.specs.Operations.{Access, CatchClause, Cast, Immediate, index, local, label, handler, outer, number, access, branch_table, clauses, block, heap, value, cast, i32, i64, f32, f64, v128, lane, lanes, zero_byte, Operation}
 use Rattle.walrus_ir.specs.Results.{◌>>=◌, each}
 
 -- What becomes of each part; labels go from L to M, block types from B to C.

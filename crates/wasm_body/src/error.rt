@@ -3,7 +3,8 @@
 use std::alloc::{AllocError, AllocFailed};
 use thiserror::Error;
 use walrus_ir::{FunctionId, WalkError};
-use wasm_ops::{ReadError, Space};
+use wasm_numbers::ReadError;
+use wasm_operators::Space;
 
 /// Why an index map has no answer, or can't grow.
 #[derive(Clone, Copy, Debug, PartialEq, Eq, Error)]

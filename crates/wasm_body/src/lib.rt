@@ -12,4 +12,4 @@ pub use laws::{
     law_normal_again, law_normal_form_texts, law_one_answer, law_read_back, law_same_texts,
     law_unique_reading,
 };
-pub use wasm_ops::Space;
+pub use wasm_operators::Space;

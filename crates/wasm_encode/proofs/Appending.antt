@@ -3,7 +3,7 @@ use Rattle.std.proofs.Common.{◌≡◌, ℕ, zero, suc, ◌+◌, ◌-◌, ◌*�
 use Rattle.std.proofs.lemmas.List.{take-take, length-take, append-nil}
 use Rattle.std.proofs.lemmas.Bool.{lt-ltb, le-ltb}
 use Rattle.std.proofs.lemmas.Int.{ints}
-use Rattle.wasm_ops.specs.Shortest.{short_unsigned, low_bits, high_bits, fits_seven, short_signed, short_bits}
+use Rattle.wasm_operators.specs.Shortest.{short_unsigned, low_bits, high_bits, fits_seven, short_signed, short_bits}
 
 pub kept_then : (a b c : List ℕ) → take (length a) b ≡ a → take (length b) c ≡ b → take (length a) c ≡ a
 kept_then a b c p q =

@@ -2,7 +2,7 @@
 use Rattle.std.specs.Prelude.{ℕ, List, ◌++◌, length}
 use Rattle.std.specs.List.{flat_map}
 use Rattle.walrus_ir.specs.declared.val_type.ValType.{ValType}
-use Rattle.wasm_ops.specs.Shortest.{short_number, short_value}
+use Rattle.wasm_operators.specs.Shortest.{short_number, short_value}
 
 -- so many locals of a type
 abbrev pub short_declaration : ℕ × ValType ℕ → List ℕ

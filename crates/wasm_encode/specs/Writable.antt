@@ -1,7 +1,7 @@
 -- Which operators may be written.
 use Rattle.std.specs.Prelude.{◌<◌}
 use Rattle.std.specs.List.{AllByRecursion}
-use Rattle.wasm_ops.specs.Operations.{RawImmediate, access, RawOperation}
+use Rattle.wasm_operators.specs.Operations.{RawImmediate, access, RawOperation}
 
 -- The flags of an access to memory hold an exponent below 32.
 abbrev pub FitsFlags : RawImmediate → Type 0

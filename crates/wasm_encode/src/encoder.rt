@@ -10,7 +10,7 @@ use crate::out_operator::OutOp;
 use crate::type_writer::write_value_type;
 use std::alloc::{AllocError, Global};
 use std::marker::Model;
-use wasm_ops::RawValType;
+use wasm_operators::RawValType;
 
 /// Appends the declaration of so many locals of a type.
 #[tactic(auto, using(crate::proofs::Appending::appending))]
@@ -52,8 +52,8 @@ impl Model for FunctionEncoder {
 
 impl FunctionEncoder {
     ghost use Rattle.std.specs.Prelude.{◌≡◌, ◌++◌, ◌<◌, ◌^◌, OnOk, OnErr, IfOk, length};
-    ghost use Rattle.wasm_ops.specs.Meaning.{meaning};
-    ghost use Rattle.wasm_ops.specs.Shortest.{short};
+    ghost use Rattle.wasm_operators.specs.Meaning.{meaning};
+    ghost use Rattle.wasm_operators.specs.Shortest.{short};
     ghost use Rattle.wasm_encode.specs.Declarations.{declarations};
     ghost use Rattle.wasm_encode.specs.Writable.{IsWritable};
 

@@ -1,16 +1,16 @@
 //! What follows an opcode, and how it is written.
 
 ghost use Rattle.std.specs.Prelude.{◌≡◌, ◌++◌, ◌∷◌, OnOk, take, length};
-ghost use Rattle.wasm_ops.specs.AccessOperations.{access_of};
-ghost use Rattle.wasm_ops.specs.ReferenceOperations.{cast_of};
-ghost use Rattle.wasm_ops.specs.Shortest.{short_number, short_vector, short_heap, short_value, short_flags, short_cast, short_access, short_table, short_clause, short_clauses, short_immediates};
-ghost use Rattle.wasm_ops.specs.Parts.{immediates_of};
+ghost use Rattle.wasm_operators.specs.AccessOperations.{access_of};
+ghost use Rattle.wasm_operators.specs.ReferenceOperations.{cast_of};
+ghost use Rattle.wasm_operators.specs.Shortest.{short_number, short_vector, short_heap, short_value, short_flags, short_cast, short_access, short_table, short_clause, short_clauses, short_immediates};
+ghost use Rattle.wasm_operators.specs.Parts.{immediates_of};
 
 use crate::number::{write_bits, write_byte, write_integer, write_number};
 use crate::out_operator::{OutClauses, OutImmediates, OutTable};
 use crate::type_writer::{write_block_type, write_heap_type, write_value_type};
 use std::alloc::AllocError;
-use wasm_ops::{Immediates, RawCast, RawCatch, RawMemArg, RawValType};
+use wasm_operators::{Immediates, RawCast, RawCatch, RawMemArg, RawValType};
 
 /// Appends two indices.
 #[tactic(auto, using(crate::proofs::Appending::appending))]
@@ -24,7 +24,7 @@ fn write_pair(out: &mut Vec<u8>, first: u32, second: u32) -> Result<(), AllocErr
 }
 
 /// Appends a memory argument: memory 0 has the short form of the flags.
-#[tactic(auto, using(crate::proofs::Appending::appending), unfolding(wasm_ops::specs::Shortest::short_access))]
+#[tactic(auto, using(crate::proofs::Appending::appending), unfolding(wasm_operators::specs::Shortest::short_access))]
 fn write_memarg(out: &mut Vec<u8>, memarg: RawMemArg) -> Result<(), AllocError>
     ensures ok { OnOk result (out.new.items ≡ out.old.items ++ short_access (access_of memarg)) }
     ensures kept { take (length out.old.items) out.new.items ≡ out.old.items }
@@ -61,7 +61,7 @@ fn cast_flags(from_nullable: bool, to_nullable: bool) -> u8
 }
 
 /// Appends what follows the opcode of a branch on a cast.
-#[tactic(auto, using(crate::proofs::Appending::appending), unfolding(wasm_ops::specs::Shortest::short_cast))]
+#[tactic(auto, using(crate::proofs::Appending::appending), unfolding(wasm_operators::specs::Shortest::short_cast))]
 fn write_cast(out: &mut Vec<u8>, cast: RawCast) -> Result<(), AllocError>
     ensures ok { OnOk result (out.new.items ≡ out.old.items ++ short_cast (cast_of cast)) }
     ensures kept { take (length out.old.items) out.new.items ≡ out.old.items }
@@ -82,7 +82,7 @@ fn write_lanes(out: &mut Vec<u8>, lanes: &[u8]) -> Result<(), AllocError>
 }
 
 /// Appends the bits of a vector.
-#[tactic(auto, using(crate::proofs::Appending::appending), unfolding(wasm_ops::specs::Shortest::short_vector))]
+#[tactic(auto, using(crate::proofs::Appending::appending), unfolding(wasm_operators::specs::Shortest::short_vector))]
 fn write_vector(out: &mut Vec<u8>, bits: u128) -> Result<(), AllocError>
     ensures ok { OnOk result (out.new.items ≡ out.old.items ++ short_vector bits) }
     ensures kept { take (length out.old.items) out.new.items ≡ out.old.items }
@@ -91,7 +91,7 @@ fn write_vector(out: &mut Vec<u8>, bits: u128) -> Result<(), AllocError>
 }
 
 /// Appends the labels of a `br_table`.
-#[tactic(auto, using(crate::proofs::Appending::appending), unfolding(wasm_ops::specs::Shortest::short_table))]
+#[tactic(auto, using(crate::proofs::Appending::appending), unfolding(wasm_operators::specs::Shortest::short_table))]
 fn write_table(out: &mut Vec<u8>, targets: &[u32], default: u32) -> Result<(), AllocError>
     ensures ok { OnOk result (out.new.items ≡ out.old.items ++ short_table targets.now default) }
     ensures kept { take (length out.old.items) out.new.items ≡ out.old.items }
@@ -120,7 +120,7 @@ fn write_clause(out: &mut Vec<u8>, clause: RawCatch) -> Result<(), AllocError>
 }
 
 /// Appends the clauses of a `try_table`.
-#[tactic(auto, using(crate::proofs::Appending::appending), unfolding(wasm_ops::specs::Shortest::short_clauses))]
+#[tactic(auto, using(crate::proofs::Appending::appending), unfolding(wasm_operators::specs::Shortest::short_clauses))]
 fn write_clauses(out: &mut Vec<u8>, clauses: &[RawCatch]) -> Result<(), AllocError>
     ensures ok { OnOk result (out.new.items ≡ out.old.items ++ short_clauses clauses.now) }
     ensures kept { take (length out.old.items) out.new.items ≡ out.old.items }

@@ -2,16 +2,16 @@
 
 ghost use Rattle.std.specs.Prelude.{◌≡◌};
 ghost use Rattle.std.specs.List.{AllByRecursion};
-ghost use Rattle.wasm_ops.specs.Fitting.{FitsLabel, FitsClause, FitsLane, FitsHeap, FitsValue, FitsBlock};
-ghost use Rattle.wasm_ops.specs.Fitting.{AllFit, AreSpeakable};
-ghost use Rattle.wasm_ops.specs.Meaning.{meaning};
-ghost use Rattle.wasm_ops.specs.Parts.{immediates_of};
-ghost use Rattle.wasm_ops.specs.Shortest.{short};
-ghost use Rattle.wasm_ops.specs.Spelling.{Spells};
+ghost use Rattle.wasm_operators.specs.Fitting.{FitsLabel, FitsClause, FitsLane, FitsHeap, FitsValue, FitsBlock};
+ghost use Rattle.wasm_operators.specs.Fitting.{AllFit, AreSpeakable};
+ghost use Rattle.wasm_operators.specs.Meaning.{meaning};
+ghost use Rattle.wasm_operators.specs.Parts.{immediates_of};
+ghost use Rattle.wasm_operators.specs.Shortest.{short};
+ghost use Rattle.wasm_operators.specs.Spelling.{Spells};
 
 use crate::out_operator::{OutClauses, OutImmediates, OutOp, OutTable};
 use walrus_ir::{RefType, ValType};
-use wasm_ops::{
+use wasm_operators::{
     BlockType, Immediates, Op, RawCast, RawCatch, RawHeapType, RawValType, index_rows, parts_of,
 };
 

@@ -2,7 +2,7 @@
 //! by as few bytes as can be.
 
 ghost use Rattle.std.specs.Prelude.{◌≡◌, ◌<◌, ◌^◌, ◌++◌, ◌∷◌, [], OnOk, take, length, ◌<ℤ◌, pos, negsuc};
-ghost use Rattle.wasm_ops.specs.Shortest.{short_unsigned, short_number, low_bits, high_bits, short_signed, short_integer, short_bits};
+ghost use Rattle.wasm_operators.specs.Shortest.{short_unsigned, short_number, low_bits, high_bits, short_signed, short_integer, short_bits};
 
 use std::alloc::AllocError;
 
@@ -17,7 +17,7 @@ pub(crate) fn write_byte(out: &mut Vec<u8>, byte: u8) -> Result<(), AllocError>
 }
 
 /// Appends the shortest spelling of a number, with at most `more` bytes before the last.
-#[tactic(auto, using(crate::proofs::Appending::appending), unfolding(wasm_ops::specs::Shortest::short_unsigned))]
+#[tactic(auto, using(crate::proofs::Appending::appending), unfolding(wasm_operators::specs::Shortest::short_unsigned))]
 fn write_unsigned(out: &mut Vec<u8>, more: u32, n: u64) -> Result<(), AllocError>
     ensures ok { OnOk result (out.new.items ≡ out.old.items ++ short_unsigned more n) }
     ensures kept { take (length out.old.items) out.new.items ≡ out.old.items }
@@ -38,7 +38,7 @@ fn write_unsigned(out: &mut Vec<u8>, more: u32, n: u64) -> Result<(), AllocError
 ///
 /// `AllocError` for want of memory. What was there before stays in front.
 #[inline(always)]
-#[tactic(auto, unfolding(wasm_ops::specs::Shortest::short_unsigned))]
+#[tactic(auto, unfolding(wasm_operators::specs::Shortest::short_unsigned))]
 pub fn write_number(out: &mut Vec<u8>, n: u64) -> Result<(), AllocError>
     ensures ok { OnOk result (out.new.items ≡ out.old.items ++ short_number n) }
     ensures kept { take (length out.old.items) out.new.items ≡ out.old.items }
@@ -81,7 +81,7 @@ fn parted(z: i64) -> (u8, i64)
 }
 
 /// Appends the shortest spelling of a signed number, with at most `more` bytes before the last.
-#[tactic(auto, using(crate::proofs::Appending::appending), unfolding(wasm_ops::specs::Shortest::short_signed))]
+#[tactic(auto, using(crate::proofs::Appending::appending), unfolding(wasm_operators::specs::Shortest::short_signed))]
 fn write_signed(out: &mut Vec<u8>, more: u32, z: i64) -> Result<(), AllocError>
     ensures ok { OnOk result (out.new.items ≡ out.old.items ++ short_signed more z) }
     ensures kept { take (length out.old.items) out.new.items ≡ out.old.items }

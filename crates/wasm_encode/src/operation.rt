@@ -1,18 +1,18 @@
 //! Writing operators.
 
 ghost use Rattle.std.specs.Prelude.{◌≡◌, ◌++◌, OnOk, OnErr, take, length};
-ghost use Rattle.wasm_ops.specs.Operations.{operation};
-ghost use Rattle.wasm_ops.specs.Meaning.{meaning};
-ghost use Rattle.wasm_ops.specs.Parts.{immediates_of};
-ghost use Rattle.wasm_ops.specs.Shortest.{short_opcode, short};
+ghost use Rattle.wasm_operators.specs.Operations.{operation};
+ghost use Rattle.wasm_operators.specs.Meaning.{meaning};
+ghost use Rattle.wasm_operators.specs.Parts.{immediates_of};
+ghost use Rattle.wasm_operators.specs.Shortest.{short_opcode, short};
 ghost use Rattle.wasm_encode.specs.Writable.{IsWritable};
 
 use crate::immediates::write_immediates;
 use crate::number::{write_byte, write_number};
 use crate::out_operator::{OutClauses, OutImmediates, OutOp, OutTable};
 use std::alloc::AllocError;
-use wasm_ops::Opcode::{Byte, Prefixed};
-use wasm_ops::{Immediates, Op, Opcode, index_rows, parts_of};
+use wasm_operators::Opcode::{Byte, Prefixed};
+use wasm_operators::{Immediates, Op, Opcode, index_rows, parts_of};
 
 /// Appends an opcode.
 #[inline(always)]

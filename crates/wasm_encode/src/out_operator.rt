@@ -1,7 +1,7 @@
 //! Operators as they are written.
 
 use std::marker::Model;
-use wasm_ops::{Immediates, Op, RawCatch};
+use wasm_operators::{Immediates, Op, RawCatch};
 
 /// The labels of a `br_table` as they are written. A contract sees the labels and the default.
 #[derive(Clone, Debug, Drop)]
@@ -13,7 +13,7 @@ pub struct OutTable<'a> {
 }
 
 impl<'a> Model for OutTable<'a> {
-    ghost use Rattle.wasm_ops.specs.Immediates.{Table};
+    ghost use Rattle.wasm_operators.specs.Immediates.{Table};
 
     ghost Value = { Table };
 
@@ -29,7 +29,7 @@ pub struct OutClauses<'a> {
 
 impl<'a> Model for OutClauses<'a> {
     ghost use Rattle.std.specs.Prelude.{ℕ, List};
-    ghost use Rattle.wasm_ops.specs.Operations.{CatchClause};
+    ghost use Rattle.wasm_operators.specs.Operations.{CatchClause};
 
     ghost Value = { List (CatchClause ℕ) };
 

@@ -1,12 +1,12 @@
 //! Writing types (WebAssembly core specification 3.0, binary format, types).
 
 ghost use Rattle.std.specs.Prelude.{◌≡◌, ◌++◌, OnOk, take, length};
-ghost use Rattle.wasm_ops.specs.Shortest.{heap_byte as byte_of_heap, short_heap, short_reference, short_value, short_block};
+ghost use Rattle.wasm_operators.specs.Shortest.{heap_byte as byte_of_heap, short_heap, short_reference, short_value, short_block};
 
 use crate::number::{write_byte, write_integer};
 use std::alloc::AllocError;
 use walrus_ir::AbstractHeapType;
-use wasm_ops::{BlockType, RawHeapType, RawValType};
+use wasm_operators::{BlockType, RawHeapType, RawValType};
 
 /// The byte of an abstract heap type.
 fn heap_byte(heap: AbstractHeapType) -> u8

@@ -1,8 +1,8 @@
 -- The code section that is written, one body after the other.
 use Rattle.std.proofs.Common.{◌≡◌, ℕ, ◌+◌, ◌-◌, List, [], ◌∷◌, ◌++◌, length, Option, Some, None, Ok, refl, sym, ap, subst, ◌∙◌, append_assoc, length-append, suc, arith}
 use Rattle.std.proofs.lemmas.List.{append-nil}
-use Rattle.wasm_ops.specs.Numbers.{u32}
-use Rattle.wasm_ops.specs.Shortest.{short_number}
+use Rattle.wasm_numbers.specs.Numbers.{u32}
+use Rattle.wasm_operators.specs.Shortest.{short_number}
 use Rattle.wasm_module.specs.declared.code.Bodies.{Bodies}
 use Rattle.wasm_module.specs.declared.code.Body.{Body}
 use Rattle.wasm_module.specs.declared.parsed.ParsedModule.{ParsedModule}

@@ -4,12 +4,12 @@ use Rattle.std.proofs.Math.Seq.{take-append_seam}
 use Rattle.walrus_ir.specs.Results.{◌>>=◌}
 use Rattle.walrus_ir.specs.declared.val_type.ValType.{ValType}
 use Rattle.walrus_ir.proofs.ResultLemmas.{bind_ok}
-use Rattle.wasm_ops.specs.declared.fault.ReadFault.{ReadFault}
-use Rattle.wasm_ops.specs.Reading.{Reader, then_read, made, many, starts, switch}
-use Rattle.wasm_ops.specs.Numbers.{Encoding, integer, byte, u32, unsigned, signed}
-use Rattle.wasm_ops.specs.Rows.{first_some}
-use Rattle.wasm_ops.specs.Types.{heap_at, value_at, nullable_at, is_listed, listed, abstract_heap, concrete_heap, heap_type, reference, value_type}
-use Rattle.wasm_ops.proofs.Agreement.{ok_is, chosen}
+use Rattle.wasm_numbers.specs.declared.fault.ReadFault.{ReadFault}
+use Rattle.wasm_numbers.specs.Reading.{Reader, then_read, made, many, starts, switch}
+use Rattle.wasm_numbers.specs.Numbers.{Encoding, integer, byte, u32, unsigned, signed}
+use Rattle.wasm_operators.specs.Rows.{first_some}
+use Rattle.wasm_operators.specs.Types.{heap_at, value_at, nullable_at, is_listed, listed, abstract_heap, concrete_heap, heap_type, reference, value_type}
+use Rattle.wasm_numbers.proofs.Agreement.{ok_is, chosen}
 use Rattle.wasm_module.specs.Declarations.{group, groups}
 use Rattle.wasm_module.proofs.NumberLemmas.{number_takes}
 

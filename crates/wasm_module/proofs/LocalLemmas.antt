@@ -5,13 +5,13 @@ use Rattle.walrus_ir.specs.Results.{◌>>=◌, each}
 use Rattle.walrus_ir.specs.declared.val_type.ValType.{ValType}
 use Rattle.walrus_ir.specs.Types.{ModuleType}
 use Rattle.walrus_ir.proofs.ResultLemmas.{bind_ok, ok_same}
-use Rattle.wasm_ops.specs.Numbers.{u32}
-use Rattle.wasm_ops.specs.Types.{value_type}
+use Rattle.wasm_numbers.specs.Numbers.{u32}
+use Rattle.wasm_operators.specs.Types.{value_type}
 use Rattle.wasm_body.specs.Translation.{translate_value}
-use Rattle.walrus_body.specs.Parsing.Placing.{ids_at}
-use Rattle.wasm_ops.specs.Reading.{Reader, many}
-use Rattle.wasm_ops.proofs.Agreement.{ok_is}
-use Rattle.walrus_body.specs.declared.indices_to_ids.IndicesToIds.{IndicesToIds}
+use Rattle.walrus_context.specs.Placing.{ids_at}
+use Rattle.wasm_numbers.specs.Reading.{Reader, many}
+use Rattle.wasm_numbers.proofs.Agreement.{ok_is}
+use Rattle.walrus_maps.specs.declared.indices_to_ids.IndicesToIds.{IndicesToIds}
 use Rattle.wasm_module.proofs.Leaving.{groups_leave, dropped}
 use Rattle.wasm_module.specs.Declarations.{group, groups, named_group, expanded, HaveLocals, HasNoLocals, most_locals, parameters_of, DeclaresGroup, HasNoGroup}
 

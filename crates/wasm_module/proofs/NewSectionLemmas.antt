@@ -3,8 +3,8 @@ use Rattle.std.proofs.Common.{◌≡◌, ◌≢◌, ◌≤◌, ◌<◌, ◌+◌,
 use Rattle.std.proofs.Math.Seq.{drop-cons, drop-append_seam}
 use Rattle.std.proofs.lemmas.Bool.{lt-ltb, le-ltb}
 use Rattle.std.proofs.lemmas.List.{append-nil, drop_all}
-use Rattle.wasm_ops.specs.Numbers.{u32}
-use Rattle.wasm_ops.proofs.Agreement.{ok_is}
+use Rattle.wasm_numbers.specs.Numbers.{u32}
+use Rattle.wasm_numbers.proofs.Agreement.{ok_is}
 use Rattle.wasm_module.specs.declared.changes.Given.{Given}
 use Rattle.wasm_module.specs.declared.fault.ModuleError.{ModuleError}
 use Rattle.wasm_module.specs.declared.sections.Section.{Section}

@@ -3,10 +3,10 @@ use Rattle.std.proofs.Common.{◌≡◌, ℕ, ◌+◌, ◌-◌, ◌<◌, cond, l
 use Rattle.std.proofs.Math.Seq.{take-append_seam}
 use Rattle.walrus_ir.specs.Results.{◌>>=◌}
 use Rattle.walrus_ir.proofs.ResultLemmas.{bind_ok}
-use Rattle.wasm_ops.specs.declared.fault.ReadFault.{ReadFault}
-use Rattle.wasm_ops.specs.declared.fault.ReadFault.TheVariants.{BadNumber}
-use Rattle.wasm_ops.specs.Numbers.{Encoding, last_byte, integer}
-use Rattle.wasm_ops.proofs.Agreement.{ok_is, chosen}
+use Rattle.wasm_numbers.specs.declared.fault.ReadFault.{ReadFault}
+use Rattle.wasm_numbers.specs.declared.fault.ReadFault.TheVariants.{BadNumber}
+use Rattle.wasm_numbers.specs.Numbers.{Encoding, last_byte, integer}
+use Rattle.wasm_numbers.proofs.Agreement.{ok_is, chosen}
 
 last_rest : {V : Type 0} (o : Option V) (bs : List ℕ) (v : V) (rest : List ℕ) → last_byte o bs ≡ Ok (v, rest) → bs ≡ rest
 last_rest None bs v rest e = absurd cc

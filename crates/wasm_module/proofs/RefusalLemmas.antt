@@ -7,14 +7,14 @@ use Rattle.wasm_body.specs.Naming.{Occurrence}
 use Rattle.wasm_body.specs.declared.error.ParseError.TheVariants as parse
 use Rattle.wasm_body.specs.declared.error.ParseFailure.{ParseFailure}
 use Rattle.wasm_body.specs.Parsing.Accepted.{Setting, Accepted, FirstFault}
-use Rattle.walrus_body.specs.declared.local_function.body.FunctionBody.{FunctionBody}
-use Rattle.walrus_body.specs.Parsing.Bodies.{body_input, body_setting, body_operators}
-use Rattle.walrus_body.specs.Parsing.Settings.{BothOrNone}
-use Rattle.walrus_body.specs.TreeWriting.Operators.{numbers_by}
-use Rattle.walrus_run.specs.declared.error.RewriteError.{RewriteError}
-use Rattle.walrus_run.specs.declared.error.RewriteError.TheVariants.{Parse, Walk, Emit}
-use Rattle.walrus_run.specs.Rewriting.{WantsMemory}
-use Rattle.walrus_run.specs.RewrittenBodies.{RefusesRewriting}
+use Rattle.walrus_parser.specs.declared.body.FunctionBody.{FunctionBody}
+use Rattle.walrus_parser.specs.Bodies.{body_input, body_setting, body_operators}
+use Rattle.walrus_parser.specs.Settings.{BothOrNone}
+use Rattle.walrus_emitter.specs.TreeWriting.Operators.{numbers_by}
+use Rattle.walrus_rewrite.specs.declared.error.RewriteError.{RewriteError}
+use Rattle.walrus_rewrite.specs.declared.error.RewriteError.TheVariants.{Parse, Walk, Emit}
+use Rattle.walrus_rewrite.specs.Errors.{WantsMemory}
+use Rattle.walrus_rewrite.specs.RewrittenBodies.{RefusesRewriting}
 use Rattle.wasm_module.specs.declared.fault.ModuleError.{ModuleError}
 use Rattle.wasm_module.specs.declared.fault.ModuleFault.TheVariants.{Memory}
 use Rattle.wasm_module.specs.declared.parsed.ParsedModule.{ParsedModule}

@@ -4,13 +4,13 @@ use Rattle.std.specs.Borrow.{Bor}
 use Rattle.std.specs.Fn.{Shared}
 use Rattle.walrus_ir.specs.Function.{Function}
 use Rattle.wasm_body.specs.Pairs.{Pair}
-use Rattle.walrus_body.specs.declared.local_function.body.FunctionBody.{FunctionBody}
+use Rattle.walrus_parser.specs.declared.body.FunctionBody.{FunctionBody}
 use Rattle.walrus_body.specs.FunctionParts.{FunctionParts}
-use Rattle.walrus_body.specs.Parsing.Bodies.{AcceptsBody, body_input}
-use Rattle.walrus_body.specs.TreeWriting.EmittedInstructions.{LentPairs, Left}
-use Rattle.walrus_body.specs.TreeWriting.Operators.{numbers_by}
-use Rattle.walrus_run.specs.RawBodies.{Given, given, IsRawBodyOf, AppendsBoth}
-use Rattle.walrus_run.specs.RewrittenBodies.{Rewrites}
+use Rattle.walrus_parser.specs.Bodies.{AcceptsBody, body_input}
+use Rattle.walrus_body.specs.EmittedInstructions.{LentPairs, Left}
+use Rattle.walrus_emitter.specs.TreeWriting.Operators.{numbers_by}
+use Rattle.walrus_rewrite.specs.RawBodies.{Given, given, IsRawBodyOf, AppendsBoth}
+use Rattle.walrus_rewrite.specs.RewrittenBodies.{Rewrites}
 use Rattle.wasm_module.specs.declared.parsed.ParsedModule.{ParsedModule}
 use Rattle.wasm_module.specs.CodeSections.{BodyAt}
 use Rattle.wasm_module.specs.LocalsBelow.{locals_below}

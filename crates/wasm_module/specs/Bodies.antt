@@ -1,6 +1,6 @@
 -- Bodies of functions in a module.
 use Rattle.std.specs.Prelude.{◌≤◌, ◌<◌, ◌+◌, ◌^◌, length}
-use Rattle.walrus_body.specs.declared.local_function.body.FunctionBody.{FunctionBody}
+use Rattle.walrus_parser.specs.declared.body.FunctionBody.{FunctionBody}
 
 -- The operators begin within the body's bytes, whose places fit 64 bits.
 pub record IsWithin (body : FunctionBody) : Type 0 where

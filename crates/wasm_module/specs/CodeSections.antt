@@ -1,8 +1,8 @@
 -- The code section (WebAssembly core specification 3.0, binary format, code section): the number of bodies, and each body
 -- behind its size.
 use Rattle.std.specs.Prelude.{◌≡◌, ◌+◌, ◌-◌, ℕ, List, [], ◌∷◌, ◌++◌, length, Option, Some, None, Ok}
-use Rattle.wasm_ops.specs.Numbers.{u32}
-use Rattle.wasm_ops.specs.Shortest.{short_number}
+use Rattle.wasm_numbers.specs.Numbers.{u32}
+use Rattle.wasm_operators.specs.Shortest.{short_number}
 use Rattle.wasm_module.specs.declared.code.Bodies.{Bodies}
 use Rattle.wasm_module.specs.declared.code.Body.{Body}
 

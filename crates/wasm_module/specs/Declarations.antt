@@ -4,13 +4,13 @@ use Rattle.std.specs.Prelude.{◌≡◌, ◌<◌, ◌+◌, ℕ, suc, zero, List,
 use Rattle.walrus_ir.specs.Results.{◌>>=◌, each}
 use Rattle.walrus_ir.specs.declared.val_type.ValType.{ValType}
 use Rattle.walrus_ir.specs.Types.{ModuleType, Signature, signature_of}
-use Rattle.wasm_ops.specs.Reading.{Reader, then_read, many}
-use Rattle.wasm_ops.specs.Numbers.{u32}
-use Rattle.wasm_ops.specs.Types.{value_type}
+use Rattle.wasm_numbers.specs.Reading.{Reader, then_read, many}
+use Rattle.wasm_numbers.specs.Numbers.{u32}
+use Rattle.wasm_operators.specs.Types.{value_type}
 use Rattle.wasm_body.specs.declared.error.ParseError.{ParseError}
 use Rattle.wasm_body.specs.Translation.{translate_value}
-use Rattle.walrus_body.specs.declared.indices_to_ids.IndicesToIds.{IndicesToIds}
-use Rattle.walrus_body.specs.Parsing.Placing.{ids_at}
+use Rattle.walrus_maps.specs.declared.indices_to_ids.IndicesToIds.{IndicesToIds}
+use Rattle.walrus_context.specs.Placing.{ids_at}
 
 -- ---- as they are spelt
 

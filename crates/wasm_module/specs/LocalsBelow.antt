@@ -1,7 +1,7 @@
 -- What the validator of locals means: an operator that names a local which isn't below the count is refused with 0.
 use Rattle.std.specs.Prelude.{ℕ, List, [], ◌∷◌, nat_lt, cond, Result, Ok, Err}
-use Rattle.wasm_ops.specs.OperatorList.{Placed}
-use Rattle.wasm_ops.specs.Operations.{RawImmediate, local}
+use Rattle.wasm_operators.specs.OperatorList.{Placed}
+use Rattle.wasm_operators.specs.Operations.{RawImmediate, local}
 
 abbrev pub locals_within : ℕ → List RawImmediate → Result ℕ ℕ
 locals_within count (local n ∷ []) = cond (nat_lt n count) (Ok count) (Err 0)

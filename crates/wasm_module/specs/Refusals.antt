@@ -8,13 +8,13 @@ use Rattle.wasm_body.specs.NormalForm.{body_tree}
 use Rattle.wasm_body.specs.declared.error.EmitError.{EmitError}
 use Rattle.wasm_body.specs.declared.error.ParseFailure.{ParseFailure}
 use Rattle.wasm_body.specs.Parsing.Accepted.{Accepted, FirstFault}
-use Rattle.walrus_body.specs.declared.local_function.body.FunctionBody.{FunctionBody}
-use Rattle.walrus_body.specs.Environments.{environment_of}
-use Rattle.walrus_body.specs.Parsing.Bodies.{body_setting, body_operators}
-use Rattle.walrus_body.specs.TreeWriting.Operators.{numbers_by}
-use Rattle.walrus_run.specs.declared.error.RewriteError.{RewriteError}
-use Rattle.walrus_run.specs.declared.error.RewriteError.TheVariants.{Parse, Walk, Emit}
-use Rattle.walrus_run.specs.RawBodies.{HasNoRawBody}
+use Rattle.walrus_parser.specs.declared.body.FunctionBody.{FunctionBody}
+use Rattle.walrus_maps.specs.Environments.{environment_of}
+use Rattle.walrus_parser.specs.Bodies.{body_setting, body_operators}
+use Rattle.walrus_emitter.specs.TreeWriting.Operators.{numbers_by}
+use Rattle.walrus_rewrite.specs.declared.error.RewriteError.{RewriteError}
+use Rattle.walrus_rewrite.specs.declared.error.RewriteError.TheVariants.{Parse, Walk, Emit}
+use Rattle.walrus_rewrite.specs.RawBodies.{HasNoRawBody}
 use Rattle.wasm_module.specs.declared.fault.ModuleError.{ModuleError}
 use Rattle.wasm_module.specs.declared.fault.ModuleFault.TheVariants.{Memory}
 use Rattle.wasm_module.specs.declared.parsed.ParsedModule.{ParsedModule}

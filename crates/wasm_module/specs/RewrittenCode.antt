@@ -9,14 +9,14 @@ use Rattle.wasm_body.specs.Naming.{Occurrence}
 use Rattle.wasm_body.specs.NormalForm.{body_tree}
 use Rattle.wasm_body.specs.Pairs.{Pair}
 use Rattle.wasm_body.specs.Parsing.Accepted.{Accepted}
-use Rattle.walrus_body.specs.declared.local_function.body.FunctionBody.{FunctionBody}
-use Rattle.walrus_body.specs.Environments.{environment_of}
-use Rattle.walrus_body.specs.IndexMaps.{local_of}
+use Rattle.walrus_parser.specs.declared.body.FunctionBody.{FunctionBody}
+use Rattle.walrus_maps.specs.Environments.{environment_of}
+use Rattle.walrus_maps.specs.IndexMaps.{local_of}
 use Rattle.walrus_body.specs.FunctionParts.{FunctionParts}
-use Rattle.walrus_body.specs.Parsing.Bodies.{IsFunction, body_setting, body_operators}
-use Rattle.walrus_body.specs.TreeWriting.Operators.{numbers_by}
-use Rattle.walrus_run.specs.RawBodies.{given, IsRawBody, IsRawBodyOf}
-use Rattle.walrus_run.specs.RewrittenBodies.{KeepsSource}
+use Rattle.walrus_parser.specs.Bodies.{IsFunction, body_setting, body_operators}
+use Rattle.walrus_emitter.specs.TreeWriting.Operators.{numbers_by}
+use Rattle.walrus_rewrite.specs.RawBodies.{given, IsRawBody, IsRawBodyOf}
+use Rattle.walrus_rewrite.specs.RewrittenBodies.{KeepsSource}
 use Rattle.wasm_module.specs.declared.parsed.ParsedModule.{ParsedModule}
 use Rattle.wasm_module.specs.declared.spaces.Spaces.{Spaces}
 use Rattle.wasm_module.specs.CodeSections.{BodyAt}

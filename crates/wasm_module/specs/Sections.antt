@@ -1,8 +1,8 @@
 -- Sections (WebAssembly core specification 3.0, binary format, modules): each is an id, the size of its contents, and its
 -- contents.
 use Rattle.std.specs.Prelude.{◌≡◌, ◌-◌, ℕ, nat_lt, get_or, if◌then◌else◌, List, [], ◌∷◌, ◌++◌, length, Option, Some, None, Result, Ok, Err}
-use Rattle.wasm_ops.specs.Numbers.{u32}
-use Rattle.wasm_ops.specs.Shortest.{short_number}
+use Rattle.wasm_numbers.specs.Numbers.{u32}
+use Rattle.wasm_operators.specs.Shortest.{short_number}
 use Rattle.wasm_module.specs.declared.fault.ModuleError.{ModuleError}
 use Rattle.wasm_module.specs.declared.sections.Section.{Section}
 use Rattle.wasm_module.specs.declared.sections.SectionKind.{SectionKind}

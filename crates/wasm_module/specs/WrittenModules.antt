@@ -2,7 +2,7 @@
 -- but for the code, for those that are given new contents, and for custom sections that follow the code.
 use Rattle.std.specs.Prelude.{◌≡◌, ◌≢◌, ◌⊎◌, ◌+◌, ◌-◌, ℕ, zero, suc, List, [], ◌∷◌, ◌++◌, length, Bool, ◌==◌, ◌&&◌, nat_lt, if◌then◌else◌, Option, Some, None, Ok, codes}
 use Rattle.std.specs.Io.KnownBytes.{Appends}
-use Rattle.wasm_ops.specs.Numbers.{u32}
+use Rattle.wasm_numbers.specs.Numbers.{u32}
 use Rattle.wasm_module.specs.declared.changes.Given.{Given}
 use Rattle.wasm_module.specs.declared.parsed.ParsedModule.{ParsedModule}
 use Rattle.wasm_module.specs.declared.rewriting.RewrittenModule.{RewrittenModule}

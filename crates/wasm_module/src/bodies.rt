@@ -1,7 +1,7 @@
 //! Bodies of a module: parsed, rewritten, and written.
 
 ghost use Rattle.std.specs.Prelude.{OnOk, IfOk, IfErr};
-ghost use Rattle.walrus_run.specs.RawBodies.{given, IsRawBodyOf};
+ghost use Rattle.walrus_rewrite.specs.RawBodies.{given, IsRawBodyOf};
 ghost use Rattle.wasm_module.specs.CodeSections.{body_at};
 ghost use Rattle.wasm_module.specs.RewrittenCode.{Extends, IsRewritten, IsParsed};
 ghost use Rattle.wasm_module.specs.Refusals.{IsRefused, IsNotRewritten};
@@ -15,7 +15,7 @@ use crate::parsed::ParsedModule;
 use std::alloc::Global;
 use walrus_body::LocalFunction;
 use walrus_ir::{Instr, InstrLocId};
-use walrus_run::{RewriteError, append_raw_body_with_map, rewrite_body};
+use walrus_rewrite::{RewriteError, append_raw_body_with_map, rewrite_body};
 
 /// What is lent to one body after the other, and what was made of the last.
 #[derive(Drop)]

@@ -1,7 +1,7 @@
 //! The code section (WebAssembly core specification 3.0, binary format, code section).
 
 ghost use Rattle.std.specs.Prelude.{◌≡◌, ◌<◌, ◌+◌, ◌^◌, [], length, Ok, IfOk, OnOk};
-ghost use Rattle.wasm_ops.specs.Numbers.{u32};
+ghost use Rattle.wasm_numbers.specs.Numbers.{u32};
 ghost use Rattle.wasm_module.specs.CodeSections.{place_of, bytes_of};
 
 use crate::fault::ModuleError;

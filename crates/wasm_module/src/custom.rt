@@ -15,7 +15,7 @@ use std::alloc::Global;
 use std::fmt;
 use walrus_body::LocalFunction;
 use walrus_ir::{IdHashMap, InstrLocId, LocalId};
-use walrus_run::RewriteError;
+use walrus_rewrite::RewriteError;
 
 /// How many sections are followed at most. Further ones are carried over as they are.
 const MOST_FOLLOWED: usize = 16;

@@ -1,7 +1,7 @@
 //! What a body is parsed with: its function's type and arguments, and its locals.
 
 ghost use Rattle.std.specs.Prelude.{◌≡◌, ◌≤◌, ◌⊎◌, length, slice_get, Some, OnOk, IfOk, IfErr};
-ghost use Rattle.walrus_body.specs.Parsing.Bodies.{body_operators};
+ghost use Rattle.walrus_parser.specs.Bodies.{body_operators};
 ghost use Rattle.wasm_module.specs.Bodies.{IsWithin};
 ghost use Rattle.wasm_module.specs.CodeSections.{place_of, bytes_of, body_at};
 ghost use Rattle.wasm_module.specs.declared.fault.ModuleFault.TheVariants.{Memory};

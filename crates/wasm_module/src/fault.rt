@@ -4,7 +4,7 @@ ghost use Rattle.wasm_body.specs.declared.error.IndexError.TheVariants as index;
 ghost use Rattle.wasm_body.specs.declared.error.ParseError.TheVariants as parse;
 ghost use Rattle.wasm_module.specs.declared.fault.ModuleFault.TheVariants.{Memory};
 ghost use Rattle.wasm_module.specs.declared.code_fault.CodeFault.TheVariants as code;
-ghost use Rattle.walrus_run.specs.Rewriting.{WantsMemory};
+ghost use Rattle.walrus_rewrite.specs.Errors.{WantsMemory};
 ghost use Rattle.wasm_module.specs.Refusals.{place_in_file};
 
 use crate::code_fault::CodeFault;
@@ -13,7 +13,7 @@ use std::error::Error;
 use std::fmt;
 use thiserror::Error as ErrorText;
 use walrus_body::{IndexError, ParseError, ParseFailure};
-use walrus_run::RewriteError;
+use walrus_rewrite::RewriteError;
 use wasm_ops::ReadError;
 
 /// What is wrong with a module.

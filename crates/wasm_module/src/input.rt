@@ -1,8 +1,8 @@
 //! Bytes of a module, read from the front (WebAssembly core specification 3.0, binary format,
 //! values and types).
 ghost use Rattle.std.specs.Prelude.{◌≡◌, ◌==◌, ◌<◌, ◌≤◌, ◌+◌, ◌-◌, ◌++◌, ◌∷◌, ◌^◌, [], length, take, OnOk, OnErr, IsErr, IfOk, Ok};
-ghost use Rattle.wasm_ops.specs.Numbers.{u32 as a_u32};
-ghost use Rattle.wasm_ops.specs.Types.{value_type as a_value_type};
+ghost use Rattle.wasm_numbers.specs.Numbers.{u32 as a_u32};
+ghost use Rattle.wasm_operators.specs.Types.{value_type as a_value_type};
 
 use crate::fault::{ModuleError, ModuleFault};
 use walrus_ir::ValType;

@@ -1,7 +1,7 @@
 //! Numbers and vectors of bytes, as they are written (WebAssembly core specification 3.0, binary
 //! format, values).
 ghost use Rattle.std.specs.Prelude.{◌≡◌, ◌++◌, ◌≤◌, OnOk};
-ghost use Rattle.wasm_ops.specs.Shortest.{short_number};
+ghost use Rattle.wasm_operators.specs.Shortest.{short_number};
 ghost use Rattle.wasm_module.specs.CodeSections.{entry};
 
 use crate::fault::{ModuleError, ModuleFault};

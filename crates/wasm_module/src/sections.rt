@@ -1,6 +1,6 @@
 //! Sections (WebAssembly core specification 3.0, binary format, modules).
 ghost use Rattle.std.specs.Prelude.{◌≡◌, ◌<◌, ◌++◌, length, Ok, IfOk, IfSome};
-ghost use Rattle.wasm_ops.specs.Numbers.{u32};
+ghost use Rattle.wasm_numbers.specs.Numbers.{u32};
 ghost use Rattle.wasm_module.specs.Sections.{preamble, section_at, Begins};
 
 use crate::fault::{ModuleError, ModuleFault};

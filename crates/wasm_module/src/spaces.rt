@@ -2,7 +2,7 @@
 
 ghost use Rattle.std.specs.Prelude.{◌≡◌, ◌<◌, ◌≤◌, ◌^◌, ℕ, Ok, OnOk, IfErr};
 ghost use Rattle.wasm_body.specs.declared.error.IndexError.TheVariants as index;
-ghost use Rattle.walrus_body.specs.IndexMaps.{locals_in, local_of};
+ghost use Rattle.walrus_maps.specs.IndexMaps.{locals_in, local_of};
 ghost use Rattle.wasm_module.specs.Declarations.{first_numbers};
 
 use std::alloc::Global;

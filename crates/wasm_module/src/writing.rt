@@ -3,7 +3,7 @@
 
 ghost use Rattle.std.specs.Prelude.{◌≡◌, ◌+◌, ℕ, List, [], ◌∷◌, IfOk, OnOk};
 ghost use Rattle.std.specs.Io.KnownBytes.{Appends};
-ghost use Rattle.wasm_ops.specs.Shortest.{short_number};
+ghost use Rattle.wasm_operators.specs.Shortest.{short_number};
 ghost use Rattle.wasm_module.specs.declared.parsed.ParsedModule.{ParsedModule as Parsed};
 ghost use Rattle.wasm_module.specs.CodeSections.{body_at, entry};
 ghost use Rattle.wasm_module.specs.RewrittenCode.{Extends};

@@ -2,13 +2,13 @@
 use Rattle.std.proofs.Common.{◌≡◌, ℕ, ◌+◌, ◌-◌, List, ◌++◌, length, Result, Ok, Err, ap, sym, ◌∙◌, arith}
 use Rattle.std.proofs.lemmas.List.{length-append}
 use Rattle.std.specs.Prelude.{IfOk, IsOkAnd}
-use Rattle.wasm_ops.specs.declared.fault.ReadFault.{ReadFault}
-use Rattle.wasm_ops.specs.Operations.{RawOperation}
+use Rattle.wasm_numbers.specs.declared.fault.ReadFault.{ReadFault}
+use Rattle.wasm_operators.specs.Operations.{RawOperation}
 use Rattle.wasm_ops.specs.Position.{Position, Moves}
 use Rattle.walrus_ir.specs.Results.{Gives}
-use Rattle.wasm_ops.specs.Spelling.{Spells, read_operation}
-use Rattle.wasm_ops.proofs.Agreement.{IsBytes, ok_is}
-use Rattle.wasm_ops.proofs.OperationLaws.{operations_agree}
+use Rattle.wasm_operators.specs.Spelling.{Spells, read_operation}
+use Rattle.wasm_numbers.proofs.Agreement.{IsBytes, ok_is}
+use Rattle.wasm_operators.proofs.OperationLaws.{operations_agree}
 
 pub front_found : {X : Type 0} (view : X → RawOperation × List ℕ) (r : Result X ReadFault) (bytes : List ℕ) → IsBytes bytes → Gives view r (read_operation bytes)
     → IfOk r (λ x. (text : List ℕ) × (bytes ≡ text ++ (view x).1) × Spells (view x).0 text)

@@ -2,15 +2,15 @@
 use Rattle.std.proofs.Common.{◌≡◌, ℕ, ◌+◌, ◌<◌, ◌≤◌, List, [], ◌∷◌, ◌++◌, take, drop, Bool, true, false, Option, Some, None, Ok, Err, refl, sym, ap, ◌∙◌, arith}
 use Rattle.std.proofs.lemmas.Bool.{le-leb, lt-leb, ltb-true}
 use Rattle.std.specs.Prelude.{◌&&◌, nat_le, nat_lt, if◌then◌else◌}
-use Rattle.wasm_ops.specs.declared.types.Opcode.{Opcode}
-use Rattle.wasm_ops.specs.declared.types.Opcode.TheVariants.{Prefixed}
-use Rattle.wasm_ops.specs.declared.fault.ReadFault.{ReadFault}
-use Rattle.wasm_ops.specs.Immediates.{Kind, a_lane}
-use Rattle.wasm_ops.specs.Numbers.{byte}
-use Rattle.wasm_ops.specs.Opcodes.{range_at, vector_ranges, kinds_behind}
-use Rattle.wasm_ops.specs.Operations.{RawOperation, operation, lane}
-use Rattle.wasm_ops.specs.Spelling.{operands}
-use Rattle.wasm_ops.proofs.SameLists.{both}
+use Rattle.wasm_operators.specs.declared.types.Opcode.{Opcode}
+use Rattle.wasm_operators.specs.declared.types.Opcode.TheVariants.{Prefixed}
+use Rattle.wasm_numbers.specs.declared.fault.ReadFault.{ReadFault}
+use Rattle.wasm_operators.specs.Immediates.{Kind, a_lane}
+use Rattle.wasm_numbers.specs.Numbers.{byte}
+use Rattle.wasm_operators.specs.Opcodes.{range_at, vector_ranges, kinds_behind}
+use Rattle.wasm_operators.specs.Operations.{RawOperation, operation, lane}
+use Rattle.wasm_operators.specs.Spelling.{operands}
+use Rattle.wasm_operators.proofs.SameLists.{both}
 
 -- whether all ranges end below a number
 abbrev pub all_below : {V : Type 0} → ℕ → List (ℕ × V) → Bool

@@ -2,14 +2,13 @@
 
 ghost use Rattle.std.specs.Prelude.{◌≡◌, ◌≤◌, IfSome, Ok};
 ghost use Rattle.walrus_ir.specs.Results.{Gives};
-ghost use Rattle.wasm_ops.specs.Immediates.{memory_flags, memory as memory_behind, memory_access};
-ghost use Rattle.wasm_ops.specs.AccessOperations.{load_opcode, store_opcode, access_of};
+ghost use Rattle.wasm_operators.specs.Immediates.{memory_flags, memory as memory_behind, memory_access};
+ghost use Rattle.wasm_operators.specs.AccessOperations.{load_opcode, store_opcode, access_of};
 
-use crate::fault::ReadFault;
-use crate::number::{read_short_unsigned, read_u32, read_u64};
-use crate::types::{Opcode, RawMemArg};
 use walrus_ir::ExtendedLoad::{SignExtend, ZeroExtend};
 use walrus_ir::{LoadKind, StoreKind};
+use wasm_numbers::{ReadFault, read_short_unsigned, read_u32, read_u64};
+use wasm_operators::{Opcode, RawMemArg};
 
 /// The exponent that flags mean, and whether the index of a memory follows.
 fn exponent(flags: u32) -> Result<(u32, bool), ReadFault>
@@ -39,7 +38,7 @@ fn read_memory(flags: (u32, bool), bytes: &[u8]) -> Result<(u32, &[u8]), ReadFau
 
 /// A memory argument of memory 0 and of a byte for each number at the front, and what follows it.
 #[inline(always)]
-#[tactic(auto, using(crate::proofs::Powers::powers), unfolding(crate::specs::Immediates::memory_access, crate::specs::Numbers::integer))]
+#[tactic(auto, using(wasm_numbers::proofs::Powers::powers), unfolding(wasm_operators::specs::Immediates::memory_access, wasm_numbers::specs::Numbers::integer))]
 pub(crate) fn read_short_memarg(bytes: &[u8]) -> Option<(RawMemArg, &[u8])>
     ensures stands { IfSome result (λ x. memory_access bytes.now ≡ Ok (access_of x.0, x.1.now)) }
 {
@@ -59,7 +58,7 @@ pub(crate) fn read_short_memarg(bytes: &[u8]) -> Option<(RawMemArg, &[u8])>
 }
 
 /// A memory argument at the front, and what follows it.
-#[tactic(auto, unfolding(crate::specs::Immediates::memory_access))]
+#[tactic(auto, unfolding(wasm_operators::specs::Immediates::memory_access))]
 pub(crate) fn read_memarg(bytes: &[u8]) -> Result<(RawMemArg, &[u8]), ReadFault>
     ensures { Gives (λ x. (access_of x.0, x.1.now)) result (memory_access bytes.now) }
 {

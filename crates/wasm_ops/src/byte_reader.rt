@@ -2,24 +2,19 @@
 
 ghost use Rattle.std.specs.Prelude.{◌≡◌, ◌≤◌};
 ghost use Rattle.walrus_ir.specs.Results.{Gives};
-ghost use Rattle.wasm_ops.specs.Spelling.{operands};
-ghost use Rattle.wasm_ops.specs.Meaning.{meaning};
+ghost use Rattle.wasm_operators.specs.Spelling.{operands};
+ghost use Rattle.wasm_operators.specs.Meaning.{meaning};
 
 use crate::access_reader::{load_kind, read_memarg, store_kind};
-use crate::branch_table::read_table;
-use crate::catch_list::read_clauses;
-use crate::fault::ReadFault;
-use crate::index_rows;
-use crate::number::{read_f32, read_f64, read_s32, read_s64, read_u32};
 use crate::numeric_reader::numeric;
-use crate::operator::Operator;
 use crate::reference_reader::read_reference;
 use crate::row::{made, read_indices, read_pair};
 use crate::type_reader::{read_block_type, read_selected};
-use crate::types::Opcode;
+use wasm_numbers::{ReadFault, read_f32, read_f64, read_s32, read_s64, read_u32};
+use wasm_operators::{Opcode, Operator, index_rows, read_clauses, read_table};
 
 /// What follows the opcode of a `try_table`: its block type, and its clauses.
-#[tactic(auto, unfolding(crate::specs::Opcodes::kinds_of_byte))]
+#[tactic(auto, unfolding(wasm_operators::specs::Opcodes::kinds_of_byte))]
 fn read_try_table(bytes: &[u8]) -> Result<(Operator<'_>, &[u8]), ReadFault>
     ensures { Gives (λ x. (meaning x.0, x.1.now)) result (operands (Opcode.Byte 0x1f) bytes.now) }
 {
@@ -66,7 +61,7 @@ macro_rules! read_control_byte {
 }
 
 /// What follows an opcode from 0x00 to 0x1f.
-#[tactic(auto, unfolding(crate::specs::Opcodes::kinds_of_byte))]
+#[tactic(auto, unfolding(wasm_operators::specs::Opcodes::kinds_of_byte))]
 fn read_control(byte: u8, bytes: &[u8]) -> Result<(Operator<'_>, &[u8]), ReadFault>
     requires { byte ≤ 0x1f }
     ensures { Gives (λ x. (meaning x.0, x.1.now)) result (operands (Opcode.Byte byte) bytes.now) }
@@ -93,7 +88,7 @@ macro_rules! read_variable_byte {
 }
 
 /// What follows an opcode from 0x20 to 0x27.
-#[tactic(auto, unfolding(crate::specs::Opcodes::kinds_of_byte))]
+#[tactic(auto, unfolding(wasm_operators::specs::Opcodes::kinds_of_byte))]
 fn read_variable(byte: u8, bytes: &[u8]) -> Result<(Operator<'_>, &[u8]), ReadFault>
     requires low { 0x20 ≤ byte }
     requires high { byte ≤ 0x27 }
@@ -103,7 +98,7 @@ fn read_variable(byte: u8, bytes: &[u8]) -> Result<(Operator<'_>, &[u8]), ReadFa
 }
 
 /// What follows the opcode of a load, from 0x28 to 0x35.
-#[tactic(auto, unfolding(crate::specs::Opcodes::kinds_of_byte))]
+#[tactic(auto, unfolding(wasm_operators::specs::Opcodes::kinds_of_byte))]
 fn read_load(byte: u8, bytes: &[u8]) -> Result<(Operator<'_>, &[u8]), ReadFault>
     requires low { 0x28 ≤ byte }
     requires high { byte ≤ 0x35 }
@@ -115,7 +110,7 @@ fn read_load(byte: u8, bytes: &[u8]) -> Result<(Operator<'_>, &[u8]), ReadFault>
 }
 
 /// What follows the opcode of a store, from 0x36 to 0x3e.
-#[tactic(auto, unfolding(crate::specs::Opcodes::kinds_of_byte))]
+#[tactic(auto, unfolding(wasm_operators::specs::Opcodes::kinds_of_byte))]
 fn read_store(byte: u8, bytes: &[u8]) -> Result<(Operator<'_>, &[u8]), ReadFault>
     requires low { 0x36 ≤ byte }
     requires high { byte ≤ 0x3e }
@@ -146,7 +141,7 @@ macro_rules! read_constant_byte {
 }
 
 /// What follows an opcode from 0x3f to 0x44.
-#[tactic(auto, unfolding(crate::specs::Opcodes::kinds_of_byte))]
+#[tactic(auto, unfolding(wasm_operators::specs::Opcodes::kinds_of_byte))]
 fn read_constant(byte: u8, bytes: &[u8]) -> Result<(Operator<'_>, &[u8]), ReadFault>
     requires low { 0x3f ≤ byte }
     requires high { byte ≤ 0x44 }
@@ -156,7 +151,7 @@ fn read_constant(byte: u8, bytes: &[u8]) -> Result<(Operator<'_>, &[u8]), ReadFa
 }
 
 /// What follows an opcode of one byte.
-#[tactic(auto, unfolding(crate::specs::Opcodes::kinds_of_byte))]
+#[tactic(auto, unfolding(wasm_operators::specs::Opcodes::kinds_of_byte))]
 pub(crate) fn read_behind_byte(byte: u8, bytes: &[u8]) -> Result<(Operator<'_>, &[u8]), ReadFault>
     ensures { Gives (λ x. (meaning x.0, x.1.now)) result (operands (Opcode.Byte byte) bytes.now) }
 {

@@ -1,12 +1,11 @@
 //! The numeric operators, which have no immediates: a row an operator.
 
 ghost use Rattle.std.specs.Prelude.{◌≡◌, ◌≤◌, []};
-ghost use Rattle.wasm_ops.specs.Operations.{operation};
-ghost use Rattle.wasm_ops.specs.Meaning.{meaning};
+ghost use Rattle.wasm_operators.specs.Operations.{operation};
+ghost use Rattle.wasm_operators.specs.Meaning.{meaning};
 
-use crate::operator::Operator;
-use crate::types::Opcode;
 use walrus_ir::{BinaryOp, UnaryOp};
+use wasm_operators::{Opcode, Operator};
 
 /// The operator of a byte from 0x45 to 0x66: a test or a comparison.
 #[inline(always)]

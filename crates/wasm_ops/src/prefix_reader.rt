@@ -1,23 +1,20 @@
 //! Reading an operator whose opcode is a prefix byte and a number: a row an operator.
 
 ghost use Rattle.walrus_ir.specs.Results.{Gives};
-ghost use Rattle.wasm_ops.specs.Spelling.{operands};
-ghost use Rattle.wasm_ops.specs.Meaning.{meaning};
+ghost use Rattle.wasm_operators.specs.Spelling.{operands};
+ghost use Rattle.wasm_operators.specs.Meaning.{meaning};
 
 use crate::access_reader::read_memarg;
-use crate::fault::ReadFault;
-use crate::index_rows;
-use crate::number::{read_lanes, read_u32, read_v128};
 use crate::numeric_reader::saturating_conversion;
-use crate::operator::Operator;
 use crate::row::{made, read_indices, read_pair};
-use crate::types::Opcode;
-use crate::vector_access_rows::{read_lane_access, read_wide_load};
+use crate::vector_access_reader::{read_lane_access, read_wide_load};
 use crate::vector_reader::{
     read_bitwise, read_f32x4, read_f64x2_or_relaxed, read_i16x8_product, read_i32x4, read_i64x2,
     read_lane, read_narrow_vector, read_splat, read_vector_comparison,
 };
 use walrus_ir::{LoadKind, LoadSimdKind, StoreKind};
+use wasm_numbers::{ReadFault, read_lanes, read_u32, read_v128};
+use wasm_operators::{Opcode, Operator, index_rows};
 
 /// Reads the operator that has the number: those of the rows behind 0xfc, and the others.
 macro_rules! read_number {
@@ -43,7 +40,7 @@ macro_rules! read_number {
 }
 
 /// What follows 0xfc and a number.
-#[tactic(auto, unfolding(crate::specs::Opcodes::kinds_behind))]
+#[tactic(auto, unfolding(wasm_operators::specs::Opcodes::kinds_behind))]
 pub(crate) fn read_behind_fc(number: u32, bytes: &[u8]) -> Result<(Operator<'_>, &[u8]), ReadFault>
     ensures { Gives (λ x. (meaning x.0, x.1.now)) result
         (operands (Opcode.Prefixed 0xfc number) bytes.now) }
@@ -52,7 +49,7 @@ pub(crate) fn read_behind_fc(number: u32, bytes: &[u8]) -> Result<(Operator<'_>,
 }
 
 /// What follows 0xfd and a number.
-#[tactic(auto, unfolding(crate::specs::Opcodes::kinds_behind))]
+#[tactic(auto, unfolding(wasm_operators::specs::Opcodes::kinds_behind))]
 pub(crate) fn read_behind_fd(number: u32, bytes: &[u8]) -> Result<(Operator<'_>, &[u8]), ReadFault>
     ensures { Gives (λ x. (meaning x.0, x.1.now)) result
         (operands (Opcode.Prefixed 0xfd number) bytes.now) }

@@ -1,26 +1,26 @@
 //! Reading operators one after the other.
 
 ghost use Rattle.std.specs.Prelude.{◌≡◌, List, ℕ, ◌++◌, IfOk, IfErr, IsOkAnd, Ok, Err};
-ghost use Rattle.wasm_ops.specs.Operations.{RawOperation};
+ghost use Rattle.wasm_operators.specs.Operations.{RawOperation};
 ghost use Rattle.walrus_ir.specs.Results.{Gives};
-ghost use Rattle.wasm_ops.specs.Spelling.{Spells, read_operation};
-ghost use Rattle.wasm_ops.specs.Meaning.{meaning};
+ghost use Rattle.wasm_operators.specs.Spelling.{Spells, read_operation};
+ghost use Rattle.wasm_operators.specs.Meaning.{meaning};
 
 use crate::access_reader::{load_kind, read_short_memarg, store_kind};
-use crate::atomic_rows::read_behind_fe;
+use crate::atomic_reader::read_behind_fe;
 use crate::byte_reader::read_behind_byte;
-use crate::fault::{ReadError, ReadFault};
-use crate::index_rows;
-use crate::number::{read_short_s32, read_short_s64, read_short_unsigned, read_u32};
 use crate::numeric_reader::numeric;
-use crate::operator::Operator;
 use crate::prefix_reader::{read_behind_fc, read_behind_fd};
 use crate::reference_reader::read_behind_fb;
 use crate::type_reader::read_empty_block_type;
 use std::marker::Model;
+use wasm_numbers::{
+    ReadError, ReadFault, read_short_s32, read_short_s64, read_short_unsigned, read_u32,
+};
+use wasm_operators::{Operator, index_rows};
 
 /// The operator at the front, and what follows it.
-#[tactic(auto, unfolding(crate::specs::Spelling::read_operation, crate::specs::Opcodes::opcode))]
+#[tactic(auto, unfolding(wasm_operators::specs::Spelling::read_operation, wasm_operators::specs::Opcodes::opcode))]
 fn read_operator(bytes: &[u8]) -> Result<(Operator<'_>, &[u8]), ReadFault>
     ensures { Gives (λ x. (meaning x.0, x.1.now)) result (read_operation bytes.now) }
 {
@@ -135,10 +135,10 @@ impl<'a> Model for Reader<'a> {
 
 impl<'a> Reader<'a> {
     ghost use Rattle.std.specs.Prelude.{◌≡◌, List, ℕ, ◌+◌, ◌++◌, ◌<◌, ◌≤◌, ◌^◌, ◌==◌, length, IfOk, IfErr, IsOkAnd, OnErr, Ok, Err};
-    ghost use Rattle.wasm_ops.specs.Operations.{RawOperation};
-    ghost use Rattle.wasm_ops.specs.Spelling.{Spells, read_operation};
+    ghost use Rattle.wasm_operators.specs.Operations.{RawOperation};
+    ghost use Rattle.wasm_operators.specs.Spelling.{Spells, read_operation};
     ghost use Rattle.wasm_ops.specs.Position.{Position, Moves};
-    ghost use Rattle.wasm_ops.specs.Meaning.{meaning};
+    ghost use Rattle.wasm_operators.specs.Meaning.{meaning};
 
     /// A reader of these bytes, the first of which stands at the place `start`.
     pub fn new(bytes: &'a [u8], start: usize) -> Self
@@ -212,7 +212,7 @@ impl<'a> Reader<'a> {
 
     /// The next operator. Its parts are read from left to right, and the first that can't be read
     /// decides the fault. It takes no memory.
-    #[tactic(auto, unfolding(crate::specs::Spelling::read_operation, crate::specs::Opcodes::opcode, crate::specs::Opcodes::kinds_of_byte))]
+    #[tactic(auto, unfolding(wasm_operators::specs::Spelling::read_operation, wasm_operators::specs::Opcodes::opcode, wasm_operators::specs::Opcodes::kinds_of_byte))]
     pub fn read(&mut self) -> Result<Operator<'a>, ReadError>
         // What is read is spelt by what was taken.
         ensures found { IfOk result (λ x. (text : List ℕ) × Moves self.old text self.new × Spells (meaning x) text) }

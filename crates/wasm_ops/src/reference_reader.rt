@@ -2,19 +2,15 @@
 
 ghost use Rattle.std.specs.Prelude.{◌≤◌};
 ghost use Rattle.walrus_ir.specs.Results.{Gives};
-ghost use Rattle.wasm_ops.specs.Immediates.{cast_flags as the_cast_flags, cast_parts};
-ghost use Rattle.wasm_ops.specs.Meaning.{meaning};
-ghost use Rattle.wasm_ops.specs.ReferenceOperations.{cast_of};
-ghost use Rattle.wasm_ops.specs.Spelling.{operands};
+ghost use Rattle.wasm_operators.specs.Immediates.{cast_flags as the_cast_flags, cast_parts};
+ghost use Rattle.wasm_operators.specs.Meaning.{meaning};
+ghost use Rattle.wasm_operators.specs.ReferenceOperations.{cast_of};
+ghost use Rattle.wasm_operators.specs.Spelling.{operands};
 
-use crate::aggregate_rows;
-use crate::fault::ReadFault;
-use crate::number::{read_byte, read_u32};
-use crate::operator::Operator;
-use crate::reference_operator::ReferenceOp;
 use crate::row::{made, read_pair};
 use crate::type_reader::read_heap_type;
-use crate::types::{Opcode, RawCast};
+use wasm_numbers::{ReadFault, read_byte, read_u32};
+use wasm_operators::{Opcode, Operator, RawCast, ReferenceOp, aggregate_rows};
 
 /// Whether the source and the target of a cast are nullable, by the flags.
 fn cast_flags(flags: u8) -> Result<(bool, bool), ReadFault>
@@ -30,7 +26,7 @@ fn cast_flags(flags: u8) -> Result<(bool, bool), ReadFault>
 }
 
 /// What follows the opcode of a branch on a cast, and what follows it.
-#[tactic(auto, unfolding(crate::specs::Immediates::cast_parts))]
+#[tactic(auto, unfolding(wasm_operators::specs::Immediates::cast_parts))]
 fn read_cast(bytes: &[u8]) -> Result<(RawCast, &[u8]), ReadFault>
     ensures { Gives (λ x. (cast_of x.0, x.1.now)) result (cast_parts bytes.now) }
 {
@@ -50,7 +46,7 @@ fn read_cast(bytes: &[u8]) -> Result<(RawCast, &[u8]), ReadFault>
 }
 
 /// What follows an opcode from 0xd0 to 0xd6.
-#[tactic(auto, unfolding(crate::specs::Opcodes::kinds_of_byte))]
+#[tactic(auto, unfolding(wasm_operators::specs::Opcodes::kinds_of_byte))]
 pub(crate) fn read_reference(byte: u8, bytes: &[u8]) -> Result<(Operator<'_>, &[u8]), ReadFault>
     requires low { 0xd0 ≤ byte }
     requires high { byte ≤ 0xd6 }
@@ -75,7 +71,7 @@ pub(crate) fn read_reference(byte: u8, bytes: &[u8]) -> Result<(Operator<'_>, &[
 }
 
 /// What follows 0xfb and a number from 20 to 30: tests, casts and conversions.
-#[tactic(auto, unfolding(crate::specs::Opcodes::kinds_behind))]
+#[tactic(auto, unfolding(wasm_operators::specs::Opcodes::kinds_behind))]
 fn read_conversion(number: u32, bytes: &[u8]) -> Result<(Operator<'_>, &[u8]), ReadFault>
     requires low { 20 ≤ number }
     requires high { number ≤ 30 }
@@ -143,7 +139,7 @@ macro_rules! read_number {
 }
 
 /// What follows 0xfb and a number.
-#[tactic(auto, unfolding(crate::specs::Opcodes::kinds_behind))]
+#[tactic(auto, unfolding(wasm_operators::specs::Opcodes::kinds_behind))]
 pub(crate) fn read_behind_fb(number: u32, bytes: &[u8]) -> Result<(Operator<'_>, &[u8]), ReadFault>
     ensures { Gives (λ x. (meaning x.0, x.1.now)) result
         (operands (Opcode.Prefixed 0xfb number) bytes.now) }

@@ -1,11 +1,10 @@
 //! The form of a row of the readers.
 
 ghost use Rattle.walrus_ir.specs.Results.{Gives};
-ghost use Rattle.wasm_ops.specs.Reading.{Then, then_read};
-ghost use Rattle.wasm_ops.specs.Numbers.{u32 as a_u32};
+ghost use Rattle.wasm_numbers.specs.Reading.{Then, then_read};
+ghost use Rattle.wasm_numbers.specs.Numbers.{u32 as a_u32};
 
-use crate::fault::ReadFault;
-use crate::number::read_u32;
+use wasm_numbers::{ReadFault, read_u32};
 
 /// Two indices at the front, and what follows them.
 pub(crate) fn read_pair(bytes: &[u8]) -> Result<((u32, u32), &[u8]), ReadFault>

@@ -3,19 +3,18 @@
 ghost use Rattle.std.specs.Prelude.{◌≡◌, ◌||◌, ◌^◌, ◌<ℤ◌, pos, IfSome, Ok};
 ghost use Rattle.walrus_ir.specs.Results.{Gives};
 ghost use Rattle.walrus_ir.specs.declared.val_type.ValType.TheVariants.{Ref};
-ghost use Rattle.wasm_ops.specs.Immediates.{selected};
-ghost use Rattle.wasm_ops.specs.Types.{heap_at, value_at, nullable_at};
-ghost use Rattle.wasm_ops.specs.Types.{heap_type, value_type, block_type};
-ghost use Rattle.wasm_ops.specs.Types.{type_index as type_index_of, starts_value_type as is_value_byte};
+ghost use Rattle.wasm_operators.specs.Immediates.{selected};
+ghost use Rattle.wasm_operators.specs.Types.{heap_at, value_at, nullable_at};
+ghost use Rattle.wasm_operators.specs.Types.{heap_type, value_type, block_type};
+ghost use Rattle.wasm_operators.specs.Types.{type_index as type_index_of, starts_value_type as is_value_byte};
 
-use crate::fault::ReadFault;
-use crate::number::{read_signed, read_u32};
 use crate::row::made;
-use crate::types::{BlockType, RawHeapType, RawValType};
 use walrus_ir::{AbstractHeapType, RefType};
+use wasm_numbers::{ReadFault, read_signed, read_u32};
+use wasm_operators::{BlockType, RawHeapType, RawValType};
 
 /// The abstract heap type of a byte.
-#[tactic(auto, unfolding(crate::specs::Types::heap_at))]
+#[tactic(auto, unfolding(wasm_operators::specs::Types::heap_at))]
 fn heap_of(byte: u8) -> Option<AbstractHeapType>
     ensures { result ≡ heap_at byte }
 {
@@ -47,7 +46,7 @@ fn reference(nullable: bool, heap_type: RawHeapType) -> RawValType
 }
 
 /// The value type that is one byte.
-#[tactic(auto, unfolding(crate::specs::Types::value_at))]
+#[tactic(auto, unfolding(wasm_operators::specs::Types::value_at))]
 fn value_of(byte: u8) -> Option<RawValType>
     ensures { result ≡ value_at byte }
 {
@@ -65,7 +64,7 @@ fn value_of(byte: u8) -> Option<RawValType>
 }
 
 /// Whether a reference to the heap type behind the byte is nullable.
-#[tactic(auto, unfolding(crate::specs::Types::nullable_at))]
+#[tactic(auto, unfolding(wasm_operators::specs::Types::nullable_at))]
 fn nullable_of(byte: u8) -> Option<bool>
     ensures { result ≡ nullable_at byte }
 {
@@ -84,7 +83,7 @@ fn starts_value_type(byte: u8) -> bool
 }
 
 /// A heap type at the front, and what follows it.
-#[tactic(auto, unfolding(crate::specs::Numbers::integer))]
+#[tactic(auto, unfolding(wasm_numbers::specs::Numbers::integer))]
 pub(crate) fn read_heap_type(bytes: &[u8]) -> Result<(RawHeapType, &[u8]), ReadFault>
     ensures { Gives (λ x. (x.0, x.1.now)) result (heap_type bytes.now) }
 {
@@ -134,7 +133,7 @@ fn type_index(value: i64) -> Result<u32, ReadFault>
 }
 
 /// A block type at the front, and what follows it.
-#[tactic(auto, unfolding(crate::specs::Numbers::integer))]
+#[tactic(auto, unfolding(wasm_numbers::specs::Numbers::integer))]
 pub(crate) fn read_block_type(bytes: &[u8]) -> Result<(BlockType, &[u8]), ReadFault>
     ensures { Gives (λ x. (x.0, x.1.now)) result (block_type bytes.now) }
 {
@@ -165,7 +164,7 @@ pub(crate) fn read_empty_block_type(bytes: &[u8]) -> Option<(BlockType, &[u8])>
 }
 
 /// The one type of a `select` at the front, behind a count that is one, and what follows it.
-#[tactic(auto, unfolding(crate::specs::Immediates::selected))]
+#[tactic(auto, unfolding(wasm_operators::specs::Immediates::selected))]
 pub(crate) fn read_selected(bytes: &[u8]) -> Result<(RawValType, &[u8]), ReadFault>
     ensures { Gives (λ x. (x.0, x.1.now)) result (selected bytes.now) }
 {

@@ -2,19 +2,17 @@
 
 ghost use Rattle.std.specs.Prelude.{◌≡◌, ◌≤◌, [], ◌∷◌};
 ghost use Rattle.walrus_ir.specs.Results.{Gives};
-ghost use Rattle.wasm_ops.specs.Operations.{lane as a_lane, operation};
-ghost use Rattle.wasm_ops.specs.Spelling.{operands};
-ghost use Rattle.wasm_ops.specs.Meaning.{meaning};
+ghost use Rattle.wasm_operators.specs.Operations.{lane as a_lane, operation};
+ghost use Rattle.wasm_operators.specs.Spelling.{operands};
+ghost use Rattle.wasm_operators.specs.Meaning.{meaning};
 
-use crate::fault::ReadFault;
-use crate::number::read_byte;
-use crate::operator::Operator;
 use crate::row::made;
-use crate::types::Opcode;
 use walrus_ir::{BinaryOp, TernaryOp, UnaryOp};
+use wasm_numbers::{ReadFault, read_byte};
+use wasm_operators::{Opcode, Operator};
 
 /// What follows 0xfd and a number from 14 to 20: `i8x16.swizzle`, and splats.
-#[tactic(auto, unfolding(crate::specs::Opcodes::kinds_behind))]
+#[tactic(auto, unfolding(wasm_operators::specs::Opcodes::kinds_behind))]
 pub(crate) fn read_splat(number: u32, bytes: &[u8]) -> Result<(Operator<'_>, &[u8]), ReadFault>
     requires low { 14 ≤ number }
     requires high { number ≤ 20 }
@@ -57,7 +55,7 @@ fn lane(number: u32, idx: u8) -> Operator<'static>
 }
 
 /// What follows 0xfd and a number from 21 to 34: lanes that are read or replaced.
-#[tactic(auto, unfolding(crate::specs::Opcodes::kinds_behind))]
+#[tactic(auto, unfolding(wasm_operators::specs::Opcodes::kinds_behind))]
 pub(crate) fn read_lane(number: u32, bytes: &[u8]) -> Result<(Operator<'_>, &[u8]), ReadFault>
     requires low { 21 ≤ number }
     requires high { number ≤ 34 }
@@ -164,7 +162,7 @@ fn vector_comparison(number: u32) -> Operator<'static>
 }
 
 /// What follows 0xfd and a number from 35 to 76: comparisons.
-#[tactic(auto, unfolding(crate::specs::Opcodes::kinds_behind))]
+#[tactic(auto, unfolding(wasm_operators::specs::Opcodes::kinds_behind))]
 pub(crate) fn read_vector_comparison(
     number: u32,
     bytes: &[u8],
@@ -178,7 +176,7 @@ pub(crate) fn read_vector_comparison(
 }
 
 /// What follows 0xfd and a number from 77 to 83: operators on all bits.
-#[tactic(auto, unfolding(crate::specs::Opcodes::kinds_behind))]
+#[tactic(auto, unfolding(wasm_operators::specs::Opcodes::kinds_behind))]
 pub(crate) fn read_bitwise(number: u32, bytes: &[u8]) -> Result<(Operator<'_>, &[u8]), ReadFault>
     requires low { 77 ≤ number }
     requires high { number ≤ 83 }
@@ -328,7 +326,7 @@ fn narrow_vector(number: u32) -> Operator<'static>
 
 /// What follows 0xfd and a number from 94 to 153: conversions of floats, operators on lanes of a
 /// byte or two, and others.
-#[tactic(auto, unfolding(crate::specs::Opcodes::kinds_behind))]
+#[tactic(auto, unfolding(wasm_operators::specs::Opcodes::kinds_behind))]
 pub(crate) fn read_narrow_vector(
     number: u32,
     bytes: &[u8],
@@ -342,7 +340,7 @@ pub(crate) fn read_narrow_vector(
 }
 
 /// What follows 0xfd and a number from 155 to 159: means and long products of lanes of two bytes.
-#[tactic(auto, unfolding(crate::specs::Opcodes::kinds_behind))]
+#[tactic(auto, unfolding(wasm_operators::specs::Opcodes::kinds_behind))]
 pub(crate) fn read_i16x8_product(
     number: u32,
     bytes: &[u8],
@@ -362,7 +360,7 @@ pub(crate) fn read_i16x8_product(
 }
 
 /// What follows 0xfd and a number from 160 to 191: operators on lanes of four bytes.
-#[tactic(auto, unfolding(crate::specs::Opcodes::kinds_behind))]
+#[tactic(auto, unfolding(wasm_operators::specs::Opcodes::kinds_behind))]
 pub(crate) fn read_i32x4(number: u32, bytes: &[u8]) -> Result<(Operator<'_>, &[u8]), ReadFault>
     requires low { 160 ≤ number }
     requires high { number ≤ 191 }
@@ -398,7 +396,7 @@ pub(crate) fn read_i32x4(number: u32, bytes: &[u8]) -> Result<(Operator<'_>, &[u
 }
 
 /// What follows 0xfd and a number from 192 to 223: operators on lanes of eight bytes.
-#[tactic(auto, unfolding(crate::specs::Opcodes::kinds_behind))]
+#[tactic(auto, unfolding(wasm_operators::specs::Opcodes::kinds_behind))]
 pub(crate) fn read_i64x2(number: u32, bytes: &[u8]) -> Result<(Operator<'_>, &[u8]), ReadFault>
     requires low { 192 ≤ number }
     requires high { number ≤ 223 }
@@ -436,7 +434,7 @@ pub(crate) fn read_i64x2(number: u32, bytes: &[u8]) -> Result<(Operator<'_>, &[u
 
 /// What follows 0xfd and a number from 224 to 237: operators on lanes of four bytes that are floats, and
 /// signs of those of eight bytes.
-#[tactic(auto, unfolding(crate::specs::Opcodes::kinds_behind))]
+#[tactic(auto, unfolding(wasm_operators::specs::Opcodes::kinds_behind))]
 pub(crate) fn read_f32x4(number: u32, bytes: &[u8]) -> Result<(Operator<'_>, &[u8]), ReadFault>
     requires low { 224 ≤ number }
     requires high { number ≤ 237 }
@@ -558,7 +556,7 @@ fn f64x2_or_relaxed(number: u32) -> Operator<'static>
 
 /// What follows 0xfd and a number from 239 to 275: operators on lanes of eight bytes that are floats,
 /// conversions, and relaxed operators.
-#[tactic(auto, unfolding(crate::specs::Opcodes::kinds_behind))]
+#[tactic(auto, unfolding(wasm_operators::specs::Opcodes::kinds_behind))]
 pub(crate) fn read_f64x2_or_relaxed(
     number: u32,
     bytes: &[u8],

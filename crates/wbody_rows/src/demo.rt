@@ -66,17 +66,26 @@ impl<'a> Body<'a> {
     }
 }
 
+/// The ids of the module's old indices, and its new indices.
+fn maps(alloc: Global) -> Result<(IndicesToIds, IdsToIndices), IndexError> {
+    let indices = demo::indices(alloc)?;
+    match demo::numbers(alloc) {
+        Ok(numbers) => Ok((indices, numbers)),
+        Err(error) => Err(error),
+    }
+}
+
 impl Demo {
     pub(crate) fn new(alloc: Global) -> Result<Demo, AllocError> {
         let module = demo::module(alloc)?;
-        let (Ok(indices), Ok(numbers)) = (demo::indices(alloc), demo::numbers(alloc)) else {
-            return Err(AllocError);
-        };
-        Ok(Demo {
-            module,
-            indices,
-            numbers,
-        })
+        match maps(alloc) {
+            Ok((indices, numbers)) => Ok(Demo {
+                module,
+                indices,
+                numbers,
+            }),
+            Err(_) => Err(AllocError),
+        }
     }
 
     /// The body whose operators are these bytes, without declarations, under the old indices.

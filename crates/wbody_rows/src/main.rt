@@ -7,43 +7,63 @@ mod fault;
 mod read_back;
 mod traces;
 
-use crate::demo::Demo;
+use crate::demo::{Body, Demo};
 use crate::fault::Fault;
 use crate::read_back::read_back;
 use crate::traces::compare_runs;
 use std::alloc::{AllocError, Global};
 use std::io;
 use std::io::{BufRead, BufReader};
-use walrus_run::run_words;
+use walrus_run::{NamedBody, run_words};
 
-/// What a run gives: its status, the lines of standard output with `;` between them, and those of
-/// standard error.
-#[derive(Drop, PartialEq, Eq)]
-struct Answer {
-    status: String,
-    out: String,
-    err: String,
-}
-
-/// A case: words with one space between them, and the answer that is wanted of them.
+/// What a run gives: its status, and what it prints to standard output and to standard error.
 #[derive(Drop)]
-struct Row {
-    words: String,
-    wanted: Answer,
+struct Answer {
+    status: u8,
+    out: Vec<u8>,
+    err: Vec<u8>,
 }
 
-impl Row {
+/// A case: words with one space between them, the status that is wanted, and what is to be printed
+/// to standard output and to standard error. Either is nothing, or lines with `;` between them.
+#[derive(Clone, Copy)]
+struct Row<'a> {
+    words: &'a str,
+    status: &'a str,
+    out: &'a str,
+    err: &'a str,
+}
+
+/// Whether a field of a row spells this text, which ends each of its lines.
+fn is_spelt(alloc: Global, field: &str, text: &[u8]) -> Result<bool, AllocError> {
+    let mut spelt: Vec<u8> = Vec::new(alloc);
+    for line in field.split_terminator(';') {
+        spelt.extend_from_slice(line.as_bytes())?;
+        spelt.push(b'\n')?;
+    }
+    Ok(spelt.as_slice() == text)
+}
+
+impl<'a> Row<'a> {
     /// The case that a line spells, four fields with a tab between them.
-    fn read(alloc: Global, line: &str) -> Result<Row, AllocError> {
+    fn of_line(line: &'a str) -> Row<'a> {
         let mut fields = line.split('\t');
-        Ok(Row {
-            words: fields.next().unwrap_or("").to_string(alloc)?,
-            wanted: Answer {
-                status: fields.next().unwrap_or("").to_string(alloc)?,
-                out: fields.next().unwrap_or("").to_string(alloc)?,
-                err: fields.next().unwrap_or("").to_string(alloc)?,
-            },
-        })
+        Row {
+            words: fields.next().unwrap_or(""),
+            status: fields.next().unwrap_or(""),
+            out: fields.next().unwrap_or(""),
+            err: fields.next().unwrap_or(""),
+        }
+    }
+
+    /// Whether this answer is wanted.
+    fn wants(&self, alloc: Global, answer: &Answer) -> Result<bool, AllocError> {
+        let status = format!(in alloc; "{}", answer.status)?;
+        Ok(
+            status.as_str() == self.status
+                && is_spelt(alloc, self.out, &answer.out)?
+                && is_spelt(alloc, self.err, &answer.err)?,
+        )
     }
 }
 
@@ -56,45 +76,62 @@ struct Counts {
     bodies_differ: u64,
 }
 
-/// The lines of a text, with `;` between them.
-fn joined_lines(alloc: Global, text: &[u8]) -> Result<String, AllocError> {
-    let text = String::from_utf8_lossy(alloc, text)?;
-    let mut joined = String::new(alloc);
-    for (number, line) in text.lines().enumerate() {
-        if number > 0 {
-            joined.push(';')?;
-        }
-        joined.push_str(line)?;
-    }
-    Ok(joined)
-}
-
-/// What the program answers to these words, which have one space between them.
-fn found(alloc: Global, words: &str) -> Result<Answer, AllocError> {
+/// Words that have one space between them.
+fn list(alloc: Global, words: &str) -> Result<Vec<String>, AllocError> {
     let mut list = Vec::new(alloc);
     for word in words.split(' ') {
         list.push(word.to_string(alloc)?)?;
     }
+    Ok(list)
+}
+
+/// What the program answers to these words, which have one space between them.
+fn answer_to(alloc: Global, words: &str) -> Result<Answer, AllocError> {
+    let words = list(alloc, words)?;
     let mut out: Vec<u8> = Vec::new(alloc);
     let mut err: Vec<u8> = Vec::new(alloc);
-    let status = run_words(alloc, &list, &mut out, &mut err);
-    Ok(Answer {
-        status: format!(in alloc; "{status}")?,
-        out: joined_lines(alloc, &out)?,
-        err: joined_lines(alloc, &err)?,
-    })
+    let status = run_words(alloc, &words, &mut out, &mut err);
+    Ok(Answer { status, out, err })
+}
+
+/// Runs a body and what is written of it.
+fn compare_with(
+    alloc: Global,
+    demo: &Demo,
+    source: Body<'_>,
+    text: &NamedBody,
+) -> Result<(), Fault> {
+    match demo.named(alloc, source) {
+        Ok(named) => compare_runs(alloc, &named, text),
+        Err(fault) => Err(fault),
+    }
+}
+
+/// Runs a body and what is written of it, which is read.
+fn compare_written(
+    alloc: Global,
+    demo: &Demo,
+    source: Body<'_>,
+    written: Body<'_>,
+) -> Result<(), Fault> {
+    match demo.named(alloc, written) {
+        Ok(text) => compare_with(alloc, demo, source, &text),
+        Err(fault) => Err(Fault::NotReadBack.unless(fault == Fault::Memory)),
+    }
+}
+
+/// Reads back what is written of a body, and runs both.
+fn check_source(alloc: Global, demo: &Demo, source: Body<'_>) -> Result<(), Fault> {
+    match read_back(alloc, demo, source) {
+        Ok(written) => compare_written(alloc, demo, source, written.body()),
+        Err(fault) => Err(fault),
+    }
 }
 
 /// Reads back what is written of the body that the last of these words spells, and runs both.
 fn check_body(alloc: Global, demo: &Demo, words: &str) -> Result<(), Fault> {
     let bytes = hex::decode(alloc, words.rsplit(' ').next().unwrap_or(""))?;
-    let source = demo.source(&bytes);
-    let written = read_back(alloc, demo, source)?;
-    let text = match demo.named(alloc, written.body()) {
-        Ok(text) => text,
-        Err(fault) => return Err(Fault::NotReadBack.unless(fault == Fault::Memory)),
-    };
-    compare_runs(alloc, &demo.named(alloc, source)?, &text)
+    check_source(alloc, demo, demo.source(&bytes))
 }
 
 /// What is wrong with the body of these words, if anything is.
@@ -106,47 +143,85 @@ fn body_fault(alloc: Global, demo: &Demo, words: &str) -> Result<Option<Fault>, 
     }
 }
 
+/// Prints what was found for these words.
+fn print(rt: &HostRuntime, words: &str, answer: &Answer) -> io::Result<()> {
+    let out = String::from_utf8_lossy(rt.alloc(), &answer.out)?;
+    let err = String::from_utf8_lossy(rt.alloc(), &answer.err)?;
+    println!(rt; "{words}: {} {out:?} {err:?}", answer.status)
+}
+
 impl Counts {
-    /// Counts a case, and the body of one that is accepted; prints its words where it is not as it
-    /// should be, and what was found instead.
-    fn take(&mut self, rt: &HostRuntime, demo: &Demo, row: &Row) -> io::Result<()> {
-        let words = row.words.as_str();
-        let found = found(rt.alloc(), words)?;
+    /// Counts a case, and prints what was found where that is not as it should be.
+    fn compare(&mut self, rt: &HostRuntime, row: Row<'_>, answer: &Answer) -> io::Result<()> {
         self.rows = self.rows.saturating_add(1);
-        if found != row.wanted {
+        if !row.wants(rt.alloc(), answer)? {
             self.rows_differ = self.rows_differ.saturating_add(1);
-            let Answer { status, out, err } = &found;
-            println!(rt; "{words}: {status} {out} {err}")?;
-        }
-        if found.status.as_str() == "0" {
-            self.bodies = self.bodies.saturating_add(1);
-            if let Some(fault) = body_fault(rt.alloc(), demo, words)? {
-                self.bodies_differ = self.bodies_differ.saturating_add(1);
-                println!(rt; "{words}: {fault}")?;
-            }
+            print(rt, row.words, answer)?;
         }
         Ok(())
     }
+
+    /// Counts a case. Returns the status that was found.
+    fn take_row(&mut self, rt: &HostRuntime, row: Row<'_>) -> io::Result<u8> {
+        let answer = answer_to(rt.alloc(), row.words)?;
+        self.compare(rt, row, &answer)?;
+        Ok(answer.status)
+    }
+
+    /// Counts a body that is accepted, and prints its words and what is wrong with it, if anything
+    /// is.
+    fn take_body(&mut self, rt: &HostRuntime, demo: &Demo, words: &str) -> io::Result<()> {
+        self.bodies = self.bodies.saturating_add(1);
+        if let Some(fault) = body_fault(rt.alloc(), demo, words)? {
+            self.bodies_differ = self.bodies_differ.saturating_add(1);
+            println!(rt; "{words}: {fault}")?;
+        }
+        Ok(())
+    }
+
+    /// Counts the case that a line spells, and its body where that is accepted.
+    fn take_line(&mut self, rt: &HostRuntime, demo: &Demo, line: &str) -> io::Result<()> {
+        let row = Row::of_line(line);
+        if self.take_row(rt, row)? == 0 {
+            self.take_body(rt, demo, row.words)?;
+        }
+        Ok(())
+    }
+
+    /// Counts the cases of standard input.
+    fn take_all(&mut self, rt: &HostRuntime, demo: &Demo) -> io::Result<()> {
+        let alloc = rt.alloc();
+        for line in BufReader::new(alloc, rt.reader())?.lines(alloc) {
+            self.take_line(rt, demo, line?.as_str())?;
+        }
+        Ok(())
+    }
+
+    fn print(&self, rt: &HostRuntime) -> io::Result<()> {
+        let Counts {
+            rows,
+            rows_differ,
+            bodies,
+            bodies_differ,
+        } = self;
+        println!(rt; "{rows} rows, {rows_differ} differ")?;
+        println!(rt; "{bodies} bodies read back and traced, {bodies_differ} differ")
+    }
 }
 
-fn main(rt: HostRuntime) -> io::Result<()> {
-    let alloc = rt.alloc();
-    let demo = Demo::new(alloc)?;
+/// Counts the cases of standard input, and prints how many there were.
+fn run(rt: &HostRuntime, demo: &Demo) -> io::Result<()> {
     let mut counts = Counts {
         rows: 0,
         rows_differ: 0,
         bodies: 0,
         bodies_differ: 0,
     };
-    for line in BufReader::new(alloc, rt.reader())?.lines(alloc) {
-        counts.take(&rt, &demo, &Row::read(alloc, line?.as_str())?)?;
-    }
-    let Counts {
-        rows,
-        rows_differ,
-        bodies,
-        bodies_differ,
-    } = counts;
-    println!(rt; "{rows} rows, {rows_differ} differ")?;
-    println!(rt; "{bodies} bodies read back and traced, {bodies_differ} differ")
+    counts.take_all(rt, demo)?;
+    counts.print(rt)
+}
+
+fn main(rt: HostRuntime) -> io::Result<()> {
+    let demo = Demo::new(rt.alloc())?;
+    run(&rt, &demo)
 }

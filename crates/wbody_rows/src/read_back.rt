@@ -100,19 +100,60 @@ fn append(alloc: Global, demo: &Demo, body: Body<'_>) -> Result<Vec<u8>, Fault> 
     }
 }
 
+/// What is written of a body.
+fn written_of(alloc: Global, demo: &Demo, source: Body<'_>) -> Result<Written, Fault> {
+    match demo.parse(alloc, source) {
+        Ok(function) => write(alloc, demo, &function),
+        Err(fault) => Err(fault),
+    }
+}
+
+/// The fault, unless both are the same.
+fn compare(found: &[u8], written: &[u8], fault: Fault) -> Result<(), Fault> {
+    if found == written { Ok(()) } else { Err(fault) }
+}
+
+/// Checks that these bytes are written of a function.
+fn is_written(
+    alloc: Global,
+    demo: &Demo,
+    function: &LocalFunction,
+    written: &[u8],
+) -> Result<(), Fault> {
+    match write(alloc, demo, function) {
+        Ok(again) => compare(&again.bytes, written, Fault::WrittenOtherwise),
+        Err(fault) => Err(fault),
+    }
+}
+
+/// Checks that what is written is read back, and written again.
+fn is_written_again(alloc: Global, demo: &Demo, written: &Written) -> Result<(), Fault> {
+    match demo.parse(alloc, written.body()) {
+        Ok(function) => is_written(alloc, demo, &function, &written.bytes),
+        Err(fault) => Err(Fault::NotReadBack.unless(fault == Fault::Memory)),
+    }
+}
+
+/// Checks that `rewrite_body` appends these bytes of a body.
+fn is_appended(alloc: Global, demo: &Demo, source: Body<'_>, written: &[u8]) -> Result<(), Fault> {
+    match append(alloc, demo, source) {
+        Ok(found) => compare(&found, written, Fault::AppendsOthers),
+        Err(fault) => Err(fault),
+    }
+}
+
+/// Checks that what is written of a body is written again, and appended.
+fn holds(alloc: Global, demo: &Demo, source: Body<'_>, written: &Written) -> Result<(), Fault> {
+    is_written_again(alloc, demo, written)?;
+    is_appended(alloc, demo, source, &written.bytes)
+}
+
 /// What is written of a body, where the same is written again of what is read back, and where
 /// `rewrite_body` appends the same.
 pub(crate) fn read_back(alloc: Global, demo: &Demo, source: Body<'_>) -> Result<Written, Fault> {
-    let written = write(alloc, demo, &demo.parse(alloc, source)?)?;
-    let function = match demo.parse(alloc, written.body()) {
-        Ok(function) => function,
-        Err(fault) => return Err(Fault::NotReadBack.unless(fault == Fault::Memory)),
-    };
-    if write(alloc, demo, &function)?.bytes != written.bytes {
-        return Err(Fault::WrittenOtherwise);
+    let written = written_of(alloc, demo, source)?;
+    match holds(alloc, demo, source, &written) {
+        Ok(()) => Ok(written),
+        Err(fault) => Err(fault),
     }
-    if append(alloc, demo, source)? != written.bytes {
-        return Err(Fault::AppendsOthers);
-    }
-    Ok(written)
 }

@@ -1,6 +1,6 @@
 //! What a named operator does to the control.
 ghost use Rattle.std.specs.Prelude.{◌≡◌, ◌∷◌, List, unwrap_or, map, IfOk};
-ghost use Rattle.wasm_ops.specs.Types.{row_at};
+ghost use Rattle.wasm_operators.specs.Types.{row_at};
 ghost use Rattle.wasm_body.specs.Control as C;
 ghost use Rattle.walrus_run.specs.Controls.{role_meaning, clause_meaning, action_meaning};
 ghost use Rattle.walrus_run.specs.Controls.{control_meaning};

@@ -2,11 +2,11 @@
 use Rattle.std.specs.Prelude.{◌≡◌, ℕ, List, [], ◌∷◌, Bool, true, false, ◌==◌, Some}
 use Rattle.std.proofs.lemmas.Bool.{eqb-true}
 use Rattle.std.proofs.Common.{refl, ap, sym, ◌∙◌}
-use Rattle.wasm_ops.specs.declared.types.Opcode.{Opcode}
-use Rattle.wasm_ops.specs.declared.types.Opcode.TheVariants.{Byte, Prefixed}
-use Rattle.wasm_ops.specs.declared.types.Space.TheVariants.{Tags}
-use Rattle.wasm_ops.specs.Immediates.{Kind, an_index, an_outer}
-use Rattle.wasm_ops.specs.Opcodes.{kinds_of_byte, kinds_of}
+use Rattle.wasm_operators.specs.declared.types.Opcode.{Opcode}
+use Rattle.wasm_operators.specs.declared.types.Opcode.TheVariants.{Byte, Prefixed}
+use Rattle.wasm_operators.specs.declared.types.Space.TheVariants.{Tags}
+use Rattle.wasm_operators.specs.Immediates.{Kind, an_index, an_outer}
+use Rattle.wasm_operators.specs.Opcodes.{kinds_of_byte, kinds_of}
 use Rattle.wasm_body.specs.Control.{Role, a_catch, a_delegate, a_plain, byte_roles, aggregate_roles, role_of}
 use Rattle.wasm_body.proofs.Bytes.Openers.{roles_pass, none_marked, prefixed_marked}
 

@@ -6,12 +6,12 @@ use Rattle.walrus_ir.specs.declared.instr.Instr.TheVariants as instr
 use Rattle.walrus_ir.specs.declared.value.Value.{Value}
 use Rattle.walrus_ir.specs.declared.value.Value.TheVariants.{I32}
 use Rattle.walrus_ir.specs.declared.val_type.ValType.{ValType}
-use Rattle.wasm_ops.specs.declared.types.AtomicKind.TheVariants.{Notify, Rmw, Cmpxchg}
-use Rattle.wasm_ops.specs.declared.types.Opcode.{Opcode}
-use Rattle.wasm_ops.specs.Immediates.{Kind}
-use Rattle.wasm_ops.specs.Opcodes.{kinds_of_byte, kinds_behind, kinds_of}
-use Rattle.wasm_ops.specs.ReferenceOperations.{by_null}
-use Rattle.wasm_ops.proofs.Written.{kinds_of_unary, kinds_of_binary, kinds_of_ternary, kinds_of_load, kinds_of_store, kinds_of_vector_access, kinds_of_atomic}
+use Rattle.wasm_operators.specs.declared.types.AtomicKind.TheVariants.{Notify, Rmw, Cmpxchg}
+use Rattle.wasm_operators.specs.declared.types.Opcode.{Opcode}
+use Rattle.wasm_operators.specs.Immediates.{Kind}
+use Rattle.wasm_operators.specs.Opcodes.{kinds_of_byte, kinds_behind, kinds_of}
+use Rattle.wasm_operators.specs.ReferenceOperations.{by_null}
+use Rattle.wasm_operators.proofs.Written.{kinds_of_unary, kinds_of_binary, kinds_of_ternary, kinds_of_load, kinds_of_store, kinds_of_vector_access, kinds_of_atomic}
 use Rattle.wasm_body.specs.InstructionTable.{access_at, const_operation, select_operation, wait_kind, operation_of}
 
 abbrev pub IsCarriedOpcode : Opcode → Type 0

@@ -5,9 +5,9 @@ use Rattle.std.specs.Prelude.{is_some}
 use Rattle.std.specs.List.{AllByRecursion}
 use Rattle.walrus_ir.specs.declared.val_type.InstrSeqType.TheVariants.{Simple}
 use Rattle.walrus_ir.specs.Types.{Signature, pick}
-use Rattle.wasm_ops.specs.Operations.{Immediate, operation, RawOperation}
-use Rattle.wasm_ops.specs.Immediates.{kind_of}
-use Rattle.wasm_ops.specs.Opcodes.{kinds_of}
+use Rattle.wasm_operators.specs.Operations.{Immediate, operation, RawOperation}
+use Rattle.wasm_operators.specs.Immediates.{kind_of}
+use Rattle.wasm_operators.specs.Opcodes.{kinds_of}
 use Rattle.wasm_body.specs.declared.error.ParseError.{ParseError}
 use Rattle.wasm_body.specs.declared.error.ParseError.TheVariants.{TypeMissing}
 use Rattle.walrus_ir.specs.Results.{◌>>=◌, unless}

@@ -3,17 +3,17 @@
 use Rattle.std.specs.Prelude.{◌≡◌, ℕ, suc, zero, List, [], ◌∷◌, length, map, Option, Some, None, unwrap_or, IsOk, is_ok, Result, Ok, Err}
 use Rattle.std.specs.List.{AllByRecursion}
 use Rattle.std.proofs.Common.{refl, ap, sym, subst, ◌∙◌}
-use Rattle.wasm_ops.specs.Reading.{Many}
-use Rattle.wasm_ops.specs.Numbers.{IsU32}
-use Rattle.wasm_ops.specs.Immediates.{an_index, an_outer, kind_of, SpellsImmediate, SpellsImmediates, IsClause}
-use Rattle.wasm_ops.specs.Operations.{CatchClause, Cast, Immediate, RawImmediate, index, label, handler, outer, number, branch_table, clauses, cast, operation, RawOperation}
-use Rattle.wasm_ops.specs.declared.types.BlockType.{BlockType}
-use Rattle.wasm_ops.specs.declared.types.Space.{Space}
-use Rattle.wasm_ops.specs.declared.types.Space.TheVariants.{Tags}
-use Rattle.wasm_ops.specs.Opcodes.{kinds_of}
-use Rattle.wasm_ops.specs.Spelling.{Spells}
-use Rattle.wasm_ops.proofs.ShortestNumbers.{unsigned_below}
-use Rattle.wasm_ops.proofs.Shortness.{many_length}
+use Rattle.wasm_numbers.specs.Reading.{Many}
+use Rattle.wasm_numbers.specs.Numbers.{IsU32}
+use Rattle.wasm_operators.specs.Immediates.{an_index, an_outer, kind_of, SpellsImmediate, SpellsImmediates, IsClause}
+use Rattle.wasm_operators.specs.Operations.{CatchClause, Cast, Immediate, RawImmediate, index, label, handler, outer, number, branch_table, clauses, cast, operation, RawOperation}
+use Rattle.wasm_operators.specs.declared.types.BlockType.{BlockType}
+use Rattle.wasm_operators.specs.declared.types.Space.{Space}
+use Rattle.wasm_operators.specs.declared.types.Space.TheVariants.{Tags}
+use Rattle.wasm_operators.specs.Opcodes.{kinds_of}
+use Rattle.wasm_operators.specs.Spelling.{Spells}
+use Rattle.wasm_operators.proofs.ShortestNumbers.{unsigned_below}
+use Rattle.wasm_operators.proofs.Shortness.{many_length}
 use Rattle.wasm_body.proofs.Bytes.BlockTypes.{FromBlock, blocks_from}
 use Rattle.wasm_body.proofs.Bytes.Fitting.{fits}
 use Rattle.wasm_body.proofs.Bytes.WritableTexts.{Writes, CanWrite, normal_text}

@@ -2,12 +2,12 @@
 use Rattle.std.proofs.Common.{◌≡◌, ℕ, suc, List, [], ◌∷◌, Bool, true, false, cond, ◌&&◌, ◌||◌, not, Option, Some, None, refl, sym, ap, ◌∙◌, subst}
 use Rattle.std.specs.Prelude.{nat_le, ◌==◌, unwrap_or, if◌then◌else◌}
 use Rattle.std.proofs.lemmas.Bool.{eqb-true, and_parts}
-use Rattle.wasm_ops.specs.declared.types.Opcode.{Opcode}
-use Rattle.wasm_ops.specs.declared.types.Opcode.TheVariants.{Byte, Prefixed}
-use Rattle.wasm_ops.specs.Types.{row_at}
-use Rattle.wasm_ops.specs.Immediates.{Kind, an_access}
-use Rattle.wasm_ops.specs.Immediates.{Kind as kinds}
-use Rattle.wasm_ops.specs.Opcodes.{control_rows, variable_rows, constant_rows, reference_ranges, bulk_rows, range_at, aggregate_ranges, vector_ranges, atomic_ranges, kinds_of_byte, kinds_behind, kinds_of}
+use Rattle.wasm_operators.specs.declared.types.Opcode.{Opcode}
+use Rattle.wasm_operators.specs.declared.types.Opcode.TheVariants.{Byte, Prefixed}
+use Rattle.wasm_operators.specs.Types.{row_at}
+use Rattle.wasm_operators.specs.Immediates.{Kind, an_access}
+use Rattle.wasm_operators.specs.Immediates.{Kind as kinds}
+use Rattle.wasm_operators.specs.Opcodes.{control_rows, variable_rows, constant_rows, reference_ranges, bulk_rows, range_at, aggregate_ranges, vector_ranges, atomic_ranges, kinds_of_byte, kinds_behind, kinds_of}
 use Rattle.wasm_body.specs.Control.{Role, a_block, a_loop, an_if, a_try, a_try_table, a_plain, byte_roles, aggregate_roles, role_of}
 
 -- whether an operator of the role opens a construct

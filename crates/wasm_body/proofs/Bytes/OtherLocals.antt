@@ -7,8 +7,8 @@ use Rattle.walrus_ir.specs.declared.val_type.InstrSeqType.{InstrSeqType}
 use Rattle.walrus_ir.specs.declared.val_type.InstrSeqType.TheVariants.{Simple, MultiValue}
 use Rattle.walrus_ir.specs.Results.{◌>>=◌, each, gather, with_fault}
 use Rattle.walrus_ir.specs.Tree.{Items, no_items, item, Sequences, no_sequences, sequence, alone}
-use Rattle.wasm_ops.specs.declared.types.BlockType.{BlockType}
-use Rattle.wasm_ops.specs.Operations.{Immediate, local, Operation, operation, RawOperation}
+use Rattle.wasm_operators.specs.declared.types.BlockType.{BlockType}
+use Rattle.wasm_operators.specs.Operations.{Immediate, local, Operation, operation, RawOperation}
 use Rattle.wasm_body.specs.declared.error.EmitError.{EmitError}
 use Rattle.wasm_body.specs.declared.error.EmitError.TheVariants.{BadClauses}
 use Rattle.wasm_body.specs.declared.error.IndexError.{IndexError}

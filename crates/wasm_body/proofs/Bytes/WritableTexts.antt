@@ -5,9 +5,9 @@ use Rattle.std.proofs.Common.{refl, sym, subst}
 use Rattle.walrus_ir.specs.declared.val_type.InstrSeqType.{InstrSeqType}
 use Rattle.walrus_ir.specs.declared.val_type.InstrSeqType.TheVariants.{Simple}
 use Rattle.std.specs.Prelude.{None}
-use Rattle.wasm_ops.specs.declared.types.Space.TheVariants.{Tags}
-use Rattle.wasm_ops.specs.declared.types.Opcode.TheVariants.{Byte}
-use Rattle.wasm_ops.specs.Operations.{index, outer, operation}
+use Rattle.wasm_operators.specs.declared.types.Space.TheVariants.{Tags}
+use Rattle.wasm_operators.specs.declared.types.Opcode.TheVariants.{Byte}
+use Rattle.wasm_operators.specs.Operations.{index, outer, operation}
 use Rattle.wasm_body.specs.declared.error.EmitError.{EmitError}
 use Rattle.walrus_ir.specs.Results.{◌>>=◌, gather}
 use Rattle.wasm_body.specs.Control.{Control, Does, Opens, Catch, End, Delegate, Marked, with_control, catch_opcode}

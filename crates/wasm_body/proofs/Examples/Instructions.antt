@@ -5,9 +5,9 @@ use Rattle.walrus_ir.specs.declared.control.LegacyCatch.TheVariants as legacy_ca
 use Rattle.walrus_ir.specs.declared.instr.Instr.TheVariants as instr
 use Rattle.walrus_ir.specs.declared.val_type.AbstractHeapType.TheVariants.{Any, Eq}
 use Rattle.walrus_ir.specs.declared.val_type.HeapType.TheVariants.{Abstract}
-use Rattle.wasm_ops.specs.declared.types.Opcode.TheVariants.{Byte, Prefixed}
-use Rattle.wasm_ops.specs.declared.types.Space.TheVariants.{Types, Memories, Tables, Data}
-use Rattle.wasm_ops.specs.Operations.{index, heap, operation}
+use Rattle.wasm_operators.specs.declared.types.Opcode.TheVariants.{Byte, Prefixed}
+use Rattle.wasm_operators.specs.declared.types.Space.TheVariants.{Types, Memories, Tables, Data}
+use Rattle.wasm_operators.specs.Operations.{index, heap, operation}
 use Rattle.wasm_body.specs.FunctionTree.{Depth, Outside, handles, handles_all, delegates}
 use Rattle.wasm_body.specs.InstructionTable.{table_clause, legacy_clause, operation_of}
 use Rattle.wasm_body.specs.TreeOfFunction.{target_in}

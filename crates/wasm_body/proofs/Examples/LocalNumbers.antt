@@ -7,7 +7,7 @@ use Rattle.walrus_ir.specs.declared.val_type.ValType.TheVariants.{I32, I64, F32,
 use Rattle.std.specs.declared.cmp.Ordering.TheVariants.{Less, Equal, Greater}
 use Rattle.wasm_body.specs.declared.error.EmitError.TheVariants.{Index, UnnumberedLocal, TooLarge}
 use Rattle.wasm_body.specs.declared.error.IndexError.TheVariants.{Unnumbered}
-use Rattle.wasm_ops.specs.declared.types.Space.TheVariants.{Types}
+use Rattle.wasm_operators.specs.declared.types.Space.TheVariants.{Types}
 use Rattle.wasm_body.specs.Bytes.{Numbers}
 use Rattle.wasm_body.specs.LocalNumbers.{local_order, last_place, number_of_local, runs, declared}
 

@@ -3,9 +3,9 @@ use Rattle.std.specs.Prelude.{◌≡◌, ℕ, List, [], ◌∷◌, Some, None, r
 use Rattle.walrus_ir.specs.declared.val_type.InstrSeqType.TheVariants.{Simple, MultiValue}
 use Rattle.walrus_ir.specs.declared.val_type.ValType.TheVariants.{I32}
 use Rattle.walrus_ir.specs.Tree.{Items, no_items, item, Sequences, no_sequences, sequence, alone as all_of}
-use Rattle.wasm_ops.specs.declared.types.BlockType.TheVariants.{Empty, Value, FuncType}
-use Rattle.wasm_ops.specs.declared.types.Opcode.TheVariants.{Byte}
-use Rattle.wasm_ops.specs.Operations.{access, Operation, operation, RawOperation}
+use Rattle.wasm_operators.specs.declared.types.BlockType.TheVariants.{Empty, Value, FuncType}
+use Rattle.wasm_operators.specs.declared.types.Opcode.TheVariants.{Byte}
+use Rattle.wasm_operators.specs.Operations.{access, Operation, operation, RawOperation}
 use Rattle.wasm_body.specs.Translation.{at_location}
 use Rattle.wasm_body.specs.FunctionTree.{Depth, TreeOperation, Head, LegacyClause, handles, handles_all, delegates, Instruction, FunctionTree, bare_sequences, IsSameTree, default_location}
 use Rattle.wasm_body.specs.NormalForm.{head}

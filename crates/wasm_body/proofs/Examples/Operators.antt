@@ -1,9 +1,9 @@
 -- Operators, written shortly: of what is written L is a label and B a block type.
 use Rattle.std.specs.Prelude.{ℕ, List, [], ◌∷◌, Bool, true, false, Option, Some, None, pos}
 use Rattle.walrus_ir.specs.declared.val_type.HeapType.{HeapType}
-use Rattle.wasm_ops.specs.declared.types.Opcode.TheVariants.{Byte, Prefixed}
-use Rattle.wasm_ops.specs.declared.types.Space.TheVariants.{Types, Funcs, Tables, Tags}
-use Rattle.wasm_ops.specs.Operations.{CatchClause, Immediate, index, local, label, handler, number, branch_table, clauses, cast, block as block_type, i32, Operation, operation}
+use Rattle.wasm_operators.specs.declared.types.Opcode.TheVariants.{Byte, Prefixed}
+use Rattle.wasm_operators.specs.declared.types.Space.TheVariants.{Types, Funcs, Tables, Tags}
+use Rattle.wasm_operators.specs.Operations.{CatchClause, Immediate, index, local, label, handler, number, branch_table, clauses, cast, block as block_type, i32, Operation, operation}
 use Rattle.wasm_body.specs.Control.{end_operation, else_operation, catch_opcode, catch_all_operation, delegate_operation}
 
 -- ---- operators

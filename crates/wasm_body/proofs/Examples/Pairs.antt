@@ -1,11 +1,11 @@
 -- Location pairs.
 use Rattle.std.specs.Prelude.{◌≡◌, ◌+◌, List, [], ◌∷◌, Option, Some, None, Result, Ok, Err, refl}
-use Rattle.wasm_ops.specs.declared.types.BlockType.TheVariants.{Empty}
-use Rattle.wasm_ops.specs.Numbers.{integer}
-use Rattle.wasm_ops.specs.Opcodes.{kinds_of_byte, opcode}
-use Rattle.wasm_ops.specs.Operations.{RawOperation}
-use Rattle.wasm_ops.specs.Shortest.{short_unsigned, short_signed}
-use Rattle.wasm_ops.specs.Spelling.{read_operation}
+use Rattle.wasm_operators.specs.declared.types.BlockType.TheVariants.{Empty}
+use Rattle.wasm_numbers.specs.Numbers.{integer}
+use Rattle.wasm_operators.specs.Opcodes.{kinds_of_byte, opcode}
+use Rattle.wasm_operators.specs.Operations.{RawOperation}
+use Rattle.wasm_operators.specs.Shortest.{short_unsigned, short_signed}
+use Rattle.wasm_operators.specs.Spelling.{read_operation}
 use Rattle.wasm_body.specs.declared.error.EmitError.{EmitError}
 use Rattle.wasm_body.specs.declared.error.ParseFailure.{ParseFailure}
 use Rattle.wasm_body.specs.SourceTree.{Body}

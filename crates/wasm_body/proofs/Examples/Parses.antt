@@ -1,9 +1,9 @@
 -- Bodies as bytes: which are accepted, the first faults, and the locations of operators.
 use Rattle.std.specs.Prelude.{◌≡◌, ℕ, suc, ◌+◌, ◌==◌, if◌then◌else◌, List, [], ◌∷◌, map, Option, Some, None, Result, Ok, Err, refl}
-use Rattle.wasm_ops.specs.declared.fault.ReadFault.TheVariants.{Truncated, UnknownOperator}
-use Rattle.wasm_ops.specs.Numbers.{integer}
-use Rattle.wasm_ops.specs.Opcodes.{kinds_of_byte, opcode}
-use Rattle.wasm_ops.specs.Spelling.{read_operation}
+use Rattle.wasm_numbers.specs.declared.fault.ReadFault.TheVariants.{Truncated, UnknownOperator}
+use Rattle.wasm_numbers.specs.Numbers.{integer}
+use Rattle.wasm_operators.specs.Opcodes.{kinds_of_byte, opcode}
+use Rattle.wasm_operators.specs.Spelling.{read_operation}
 use Rattle.wasm_body.specs.declared.error.ParseError.TheVariants.{Read, PlaceTooGreat, Checked, NoSuchLabel, EntryTypeMissing, Trailing, MissingEnd}
 use Rattle.wasm_body.specs.declared.error.ParseFailure.{ParseFailure}
 use Rattle.walrus_ir.specs.Results.{◌>>=◌}

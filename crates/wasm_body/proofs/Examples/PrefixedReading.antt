@@ -1,14 +1,14 @@
 -- Operators behind a prefix byte, as they are read from bytes and written.
 use Rattle.std.specs.Prelude.{◌≡◌, ℕ, List, [], ◌∷◌, Ok, Err, refl}
-use Rattle.wasm_ops.specs.declared.fault.ReadFault.TheVariants.{Truncated, UnknownOperator, BadMemArg, BadFence}
-use Rattle.wasm_ops.specs.declared.types.Opcode.TheVariants.{Prefixed}
-use Rattle.wasm_ops.specs.Numbers.{integer}
-use Rattle.wasm_ops.specs.Reading.{many}
-use Rattle.wasm_ops.specs.Immediates.{memory_access}
-use Rattle.wasm_ops.specs.Opcodes.{kinds_behind, opcode}
-use Rattle.wasm_ops.specs.Operations.{access, lane, v128, zero_byte, RawOperation, operation}
-use Rattle.wasm_ops.specs.Shortest.{short_unsigned, short_access, short_vector, short}
-use Rattle.wasm_ops.specs.Spelling.{read_operation}
+use Rattle.wasm_numbers.specs.declared.fault.ReadFault.TheVariants.{Truncated, UnknownOperator, BadMemArg, BadFence}
+use Rattle.wasm_operators.specs.declared.types.Opcode.TheVariants.{Prefixed}
+use Rattle.wasm_numbers.specs.Numbers.{integer}
+use Rattle.wasm_numbers.specs.Reading.{many}
+use Rattle.wasm_operators.specs.Immediates.{memory_access}
+use Rattle.wasm_operators.specs.Opcodes.{kinds_behind, opcode}
+use Rattle.wasm_operators.specs.Operations.{access, lane, v128, zero_byte, RawOperation, operation}
+use Rattle.wasm_operators.specs.Shortest.{short_unsigned, short_access, short_vector, short}
+use Rattle.wasm_operators.specs.Spelling.{read_operation}
 
 abbrev behind : ℕ → ℕ → RawOperation
 behind prefix n = operation (Prefixed prefix n) []

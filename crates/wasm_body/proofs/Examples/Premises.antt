@@ -2,13 +2,13 @@
 use Rattle.std.specs.Prelude.{◌≡◌, ℕ, ◌<◌, List, [], ◌∷◌, map, false, Some, pos, refl}
 use Rattle.std.proofs.Common.{lit<, inl, inr}
 use Rattle.std.specs.List.{AllByRecursion}
-use Rattle.wasm_ops.specs.declared.types.BlockType.TheVariants.{Empty, FuncType}
-use Rattle.wasm_ops.specs.declared.types.Opcode.TheVariants.{Byte}
-use Rattle.wasm_ops.specs.Operations.{label, block as block_type, i32, operation, RawImmediate, RawOperation}
-use Rattle.wasm_ops.specs.Immediates.{kind_of, SpellsImmediates}
-use Rattle.wasm_ops.specs.Types.{value_at, nullable_at, heap_at}
-use Rattle.wasm_ops.specs.Opcodes.{kinds_of_byte, is_prefix}
-use Rattle.wasm_ops.specs.Spelling.{Spells}
+use Rattle.wasm_operators.specs.declared.types.BlockType.TheVariants.{Empty, FuncType}
+use Rattle.wasm_operators.specs.declared.types.Opcode.TheVariants.{Byte}
+use Rattle.wasm_operators.specs.Operations.{label, block as block_type, i32, operation, RawImmediate, RawOperation}
+use Rattle.wasm_operators.specs.Immediates.{kind_of, SpellsImmediates}
+use Rattle.wasm_operators.specs.Types.{value_at, nullable_at, heap_at}
+use Rattle.wasm_operators.specs.Opcodes.{kinds_of_byte, is_prefix}
+use Rattle.wasm_operators.specs.Spelling.{Spells}
 use Rattle.wasm_body.specs.Control.{Nop, Plain, Branch}
 use Rattle.wasm_body.specs.SourceTree.{Single, Wrapped, OfBlock, Body}
 use Rattle.wasm_body.specs.SourceTree.{Sequence as source}

@@ -1,16 +1,16 @@
 -- Operators for exceptions, as they are read from bytes and written.
 use Rattle.std.specs.Prelude.{◌≡◌, [], ◌∷◌, Ok, Err, refl}
 use Rattle.walrus_ir.specs.declared.val_type.ValType.TheVariants.{I32}
-use Rattle.wasm_ops.specs.declared.fault.ReadFault.TheVariants.{Truncated, BadNumber, BadType, BadCatchKind}
-use Rattle.wasm_ops.specs.declared.types.BlockType.TheVariants.{Empty, Value, FuncType}
-use Rattle.wasm_ops.specs.Numbers.{integer}
-use Rattle.wasm_ops.specs.Reading.{many}
-use Rattle.wasm_ops.specs.Types.{value_at, nullable_at, heap_at}
-use Rattle.wasm_ops.specs.Immediates.{catch_clauses}
-use Rattle.wasm_ops.specs.Opcodes.{kinds_of_byte, opcode}
-use Rattle.wasm_ops.specs.Operations.{RawOperation}
-use Rattle.wasm_ops.specs.Shortest.{short_unsigned, short_signed, short_clauses, short}
-use Rattle.wasm_ops.specs.Spelling.{read_operation}
+use Rattle.wasm_numbers.specs.declared.fault.ReadFault.TheVariants.{Truncated, BadNumber, BadType, BadCatchKind}
+use Rattle.wasm_operators.specs.declared.types.BlockType.TheVariants.{Empty, Value, FuncType}
+use Rattle.wasm_numbers.specs.Numbers.{integer}
+use Rattle.wasm_numbers.specs.Reading.{many}
+use Rattle.wasm_operators.specs.Types.{value_at, nullable_at, heap_at}
+use Rattle.wasm_operators.specs.Immediates.{catch_clauses}
+use Rattle.wasm_operators.specs.Opcodes.{kinds_of_byte, opcode}
+use Rattle.wasm_operators.specs.Operations.{RawOperation}
+use Rattle.wasm_operators.specs.Shortest.{short_unsigned, short_signed, short_clauses, short}
+use Rattle.wasm_operators.specs.Spelling.{read_operation}
 use Rattle.wasm_body.proofs.Examples.Operators.{try, catch, throw, rethrow, throw_ref, delegate, catch_all, try_table, catches, catches_ref, catches_all, catches_all_ref}
 
 -- ---- 06 to 0a, 18 and 19

@@ -4,18 +4,18 @@ use Rattle.std.specs.Prelude.{◌≡◌, ℕ, List, [], ◌∷◌, true, false, 
 use Rattle.walrus_ir.specs.declared.val_type.AbstractHeapType.TheVariants as abstract
 use Rattle.walrus_ir.specs.declared.val_type.HeapType.TheVariants.{Abstract, Concrete}
 use Rattle.walrus_ir.specs.declared.val_type.ValType.TheVariants.{Ref}
-use Rattle.wasm_ops.specs.declared.fault.ReadFault.TheVariants.{Truncated, UnknownOperator, BadType, BadCastFlags}
-use Rattle.wasm_ops.specs.declared.types.BlockType.TheVariants.{Value}
-use Rattle.wasm_ops.specs.declared.types.Opcode.TheVariants.{Byte, Prefixed}
-use Rattle.wasm_ops.specs.declared.types.Space.TheVariants.{Types, Funcs, Tables, Elements, Data}
-use Rattle.wasm_ops.specs.Numbers.{integer}
-use Rattle.wasm_ops.specs.Reading.{many}
-use Rattle.wasm_ops.specs.Types.{value_at, nullable_at, heap_at}
-use Rattle.wasm_ops.specs.Immediates.{cast_parts}
-use Rattle.wasm_ops.specs.Opcodes.{kinds_of_byte, kinds_behind, opcode}
-use Rattle.wasm_ops.specs.Operations.{RawImmediate, index, local, label, number, block, heap, cast, lanes, RawOperation, operation}
-use Rattle.wasm_ops.specs.Shortest.{short_unsigned, short_signed, short_cast, short}
-use Rattle.wasm_ops.specs.Spelling.{read_operation}
+use Rattle.wasm_numbers.specs.declared.fault.ReadFault.TheVariants.{Truncated, UnknownOperator, BadType, BadCastFlags}
+use Rattle.wasm_operators.specs.declared.types.BlockType.TheVariants.{Value}
+use Rattle.wasm_operators.specs.declared.types.Opcode.TheVariants.{Byte, Prefixed}
+use Rattle.wasm_operators.specs.declared.types.Space.TheVariants.{Types, Funcs, Tables, Elements, Data}
+use Rattle.wasm_numbers.specs.Numbers.{integer}
+use Rattle.wasm_numbers.specs.Reading.{many}
+use Rattle.wasm_operators.specs.Types.{value_at, nullable_at, heap_at}
+use Rattle.wasm_operators.specs.Immediates.{cast_parts}
+use Rattle.wasm_operators.specs.Opcodes.{kinds_of_byte, kinds_behind, opcode}
+use Rattle.wasm_operators.specs.Operations.{RawImmediate, index, local, label, number, block, heap, cast, lanes, RawOperation, operation}
+use Rattle.wasm_operators.specs.Shortest.{short_unsigned, short_signed, short_cast, short}
+use Rattle.wasm_operators.specs.Spelling.{read_operation}
 
 abbrev aggregate : ℕ → List RawImmediate → RawOperation
 aggregate n is = operation (Prefixed 0xfb n) is

@@ -2,15 +2,15 @@
 use Rattle.std.specs.Prelude.{◌≡◌, ℕ, zero, suc, List, [], ◌∷◌, Option, Some, None, Result, Ok, Err, slice_get, refl}
 use Rattle.std.proofs.Common.{subst}
 use Rattle.walrus_ir.specs.Types.{Func, Entry}
-use Rattle.wasm_ops.specs.declared.types.Space.{Space}
-use Rattle.wasm_ops.specs.declared.types.Space.TheVariants.{Globals}
-use Rattle.wasm_ops.specs.Numbers.{integer}
-use Rattle.wasm_ops.specs.Opcodes.{kinds_of_byte, opcode}
-use Rattle.wasm_ops.specs.Immediates.{label_table}
-use Rattle.wasm_ops.specs.Reading.{many}
-use Rattle.wasm_ops.specs.Shortest.{short_unsigned, short_signed, short_table}
-use Rattle.wasm_ops.specs.Spelling.{read_operation}
-use Rattle.wasm_ops.specs.Types.{value_at, nullable_at, heap_at}
+use Rattle.wasm_operators.specs.declared.types.Space.{Space}
+use Rattle.wasm_operators.specs.declared.types.Space.TheVariants.{Globals}
+use Rattle.wasm_numbers.specs.Numbers.{integer}
+use Rattle.wasm_operators.specs.Opcodes.{kinds_of_byte, opcode}
+use Rattle.wasm_operators.specs.Immediates.{label_table}
+use Rattle.wasm_numbers.specs.Reading.{many}
+use Rattle.wasm_operators.specs.Shortest.{short_unsigned, short_signed, short_table}
+use Rattle.wasm_operators.specs.Spelling.{read_operation}
+use Rattle.wasm_operators.specs.Types.{value_at, nullable_at, heap_at}
 use Rattle.wasm_body.specs.declared.error.EmitError.{EmitError}
 use Rattle.wasm_body.specs.declared.error.EmitError.TheVariants.{Index, UnnumberedLocal}
 use Rattle.wasm_body.specs.declared.error.IndexError.TheVariants.{Unnumbered}

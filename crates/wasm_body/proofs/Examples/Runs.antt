@@ -2,8 +2,8 @@
 use Rattle.std.specs.Prelude.{◌≡◌, ℕ, List, [], ◌∷◌, true, false, Some, None, refl}
 use Rattle.walrus_ir.specs.declared.val_type.AbstractHeapType.TheVariants.{Any, Eq}
 use Rattle.walrus_ir.specs.declared.val_type.HeapType.TheVariants.{Abstract}
-use Rattle.wasm_ops.specs.declared.types.BlockType.TheVariants.{Empty}
-use Rattle.wasm_ops.specs.Operations.{RawOperation}
+use Rattle.wasm_operators.specs.declared.types.BlockType.TheVariants.{Empty}
+use Rattle.wasm_operators.specs.Operations.{RawOperation}
 use Rattle.wasm_body.specs.Machine.{Outcome, Go, Trap, Raise, Way, Entry, Event, Executed, Taken, Returned, TailCalled, Trapped, Escaped, OutcomesOut, TurnsOut, Mismatch, Run}
 use Rattle.wasm_body.proofs.Examples.Operators.{unreachable, nop, block, loop, if, else, try, catch, throw, rethrow, throw_ref, end, br, br_if, br_table, return, call, call_indirect, call_ref, return_call, return_call_indirect, return_call_ref, delegate, catch_all, drop, try_table, const, br_on_null, br_on_non_null, br_on_cast, br_on_cast_fail, catches, catches_ref, catches_all}
 use Rattle.wasm_body.proofs.Examples.Modules.{demo}

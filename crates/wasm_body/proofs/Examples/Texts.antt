@@ -3,9 +3,9 @@ use Rattle.std.specs.Prelude.{◌≡◌, ℕ, ◌^◌, List, [], ◌∷◌, true
 use Rattle.walrus_ir.specs.declared.val_type.InstrSeqType.{InstrSeqType}
 use Rattle.walrus_ir.specs.declared.val_type.InstrSeqType.TheVariants.{Simple, MultiValue}
 use Rattle.walrus_ir.specs.Tree.{no_items, item, Sequences, no_sequences, sequence}
-use Rattle.wasm_ops.specs.declared.types.BlockType.TheVariants.{Empty, FuncType}
-use Rattle.wasm_ops.specs.declared.types.Space.TheVariants.{Types, Funcs, Tags}
-use Rattle.wasm_ops.specs.Operations.{RawOperation}
+use Rattle.wasm_operators.specs.declared.types.BlockType.TheVariants.{Empty, FuncType}
+use Rattle.wasm_operators.specs.declared.types.Space.TheVariants.{Types, Funcs, Tags}
+use Rattle.wasm_operators.specs.Operations.{RawOperation}
 use Rattle.wasm_body.specs.declared.error.EmitError.{EmitError}
 use Rattle.wasm_body.specs.declared.error.EmitError.TheVariants.{Index, UnnumberedLocal, BranchOutside, BadClauses, TooLarge}
 use Rattle.wasm_body.specs.declared.error.IndexError.TheVariants.{Unnumbered}

@@ -7,7 +7,7 @@ use Rattle.std.proofs.lemmas.Nat.{pow_pos, shl-shr}
 use Rattle.std.specs.List.{AllByRecursion}
 use Rattle.walrus_ir.specs.declared.val_type.InstrSeqType.{InstrSeqType}
 use Rattle.walrus_ir.specs.Types.{Signature}
-use Rattle.wasm_ops.specs.declared.types.Space.TheVariants.{Types}
+use Rattle.wasm_operators.specs.declared.types.Space.TheVariants.{Types}
 use Rattle.wasm_body.specs.declared.error.EmitError.{EmitError}
 use Rattle.wasm_body.specs.declared.error.EmitError.TheVariants.{Index}
 use Rattle.wasm_body.specs.declared.error.IndexError.TheVariants.{Unnumbered}

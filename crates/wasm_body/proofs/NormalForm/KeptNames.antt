@@ -1,8 +1,8 @@
 -- What the tree keeps of a named operator, made of it as it was read.
 use Rattle.std.specs.Prelude.{◌≡◌, ℕ, ◌^◌, nat_lt, List, length, Result, Ok, Err}
 use Rattle.std.proofs.Common.{refl, ap, sym, ◌∙◌}
-use Rattle.wasm_ops.specs.declared.types.BlockType.{BlockType}
-use Rattle.wasm_ops.specs.Operations.{RawOperation}
+use Rattle.wasm_operators.specs.declared.types.BlockType.{BlockType}
+use Rattle.wasm_operators.specs.Operations.{RawOperation}
 use Rattle.wasm_body.specs.declared.error.ParseError.{ParseError}
 use Rattle.wasm_body.specs.declared.error.ParseError.TheVariants.{Index, NoSuchLabel, RethrowOutsideHandler}
 use Rattle.walrus_ir.specs.Results.{◌>>=◌, with_fault, unless}

@@ -1,8 +1,8 @@
 -- The rewritten tree, of which the text is that of the normal form.
 use Rattle.std.proofs.Common.{◌≡◌, ℕ, List, [], ◌∷◌, map, true, refl, ap, ◌∙◌, subst}
 use Rattle.walrus_ir.specs.Tree.{Items, Sequences, no_sequences, sequence}
-use Rattle.wasm_ops.specs.declared.types.Space.TheVariants.{Tags}
-use Rattle.wasm_ops.specs.Operations.{Immediate, index, operation}
+use Rattle.wasm_operators.specs.declared.types.Space.TheVariants.{Tags}
+use Rattle.wasm_operators.specs.Operations.{Immediate, index, operation}
 use Rattle.wasm_body.specs.Control.{Role, a_block, role_of, Action, Construct, Block, Loop, If, Try, TryTable, Control, Does, Opens, Else, Catch, CatchAll, End, Delegate, control_by, end_operation, else_operation, catch_opcode, catch_all_operation, delegate_operation}
 use Rattle.wasm_body.specs.SourceTree.{Sequence, Empty, Single, Wrapped, IfThen, IfElse, TryCatch, TryDelegate, Clauses, Ended, Catches, CatchesAll, Wrapper, OfBlock, OfLoop, OfTryTable, construct_of, Body, body_text}
 use Rattle.wasm_body.specs.Translation.{Located, at_location}

@@ -5,9 +5,9 @@ use Rattle.std.specs.List.{flat_map}
 use Rattle.walrus_ir.specs.declared.val_type.InstrSeqType.{InstrSeqType}
 use Rattle.walrus_ir.specs.declared.val_type.InstrSeqType.TheVariants.{Simple}
 use Rattle.walrus_ir.specs.Tree.{Items, no_items, item, Sequences, no_sequences, sequence, alone}
-use Rattle.wasm_ops.specs.declared.types.BlockType.{BlockType}
-use Rattle.wasm_ops.specs.Operations.{Operation, RawOperation}
-use Rattle.wasm_ops.specs.Shortest.{short}
+use Rattle.wasm_operators.specs.declared.types.BlockType.{BlockType}
+use Rattle.wasm_operators.specs.Operations.{Operation, RawOperation}
+use Rattle.wasm_operators.specs.Shortest.{short}
 use Rattle.wasm_body.specs.declared.error.EmitError.{EmitError}
 use Rattle.wasm_body.specs.declared.error.EmitError.TheVariants.{BadClauses}
 use Rattle.walrus_ir.specs.Results.{◌>>=◌, gather}

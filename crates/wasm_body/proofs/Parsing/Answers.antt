@@ -17,7 +17,7 @@ use Rattle.wasm_body.proofs.Structure.ReadTexts.{read_text, text_read, IsRead}
 use Rattle.wasm_body.proofs.Structure.ReadFrames.{progress_frames, behind_frames, frames_length, Goes, body_goes, goes_body, goes_front, goes_on}
 use Rattle.walrus_ir.proofs.ResultLemmas.{ok_same}
 use Rattle.wasm_body.proofs.Parsing.Parses.{Over, over}
-use Rattle.wasm_ops.specs.Laws.{AreBytes, ReadingAgrees}
+use Rattle.wasm_operators.specs.Laws.{AreBytes, ReadingAgrees}
 use Rattle.wasm_body.proofs.Parsing.Stops.{StopsAt, Stopped, stopped}
 
 map-append : {A B : Type 0} (f : A → B) (xs ys : List A) → map f (xs ++ ys) ≡ map f xs ++ map f ys

@@ -1,7 +1,7 @@
 -- Every front that stands is a front of the one before the first fault.
 use Rattle.std.proofs.Common.{◌≡◌, ℕ, ◌+◌, ◌-◌, ◌<◌, ◌≤◌, List, [], ◌∷◌, ◌++◌, length, map, Some, Result, Ok, Err, refl, sym, ap, subst, ◌∙◌, arith, length-append}
-use Rattle.wasm_ops.specs.OperatorList.{Placed, Lists}
-use Rattle.wasm_ops.specs.Laws.{ReadingAgrees}
+use Rattle.wasm_operators.specs.OperatorList.{Placed, Lists}
+use Rattle.wasm_operators.specs.Laws.{ReadingAgrees}
 use Rattle.wasm_body.specs.declared.error.ParseError.{ParseError}
 use Rattle.wasm_body.specs.Frames.{Frame}
 use Rattle.wasm_body.specs.Naming.{Occurrence}

@@ -1,6 +1,6 @@
 -- An operator that has its name may stand where it does.
 use Rattle.std.proofs.Common.{◌≡◌, ℕ, List, [], ◌∷◌, true, Some, Ok, refl, sym, ap, subst, ◌∙◌}
-use Rattle.wasm_ops.specs.Operations.{Immediate, Operation, RawOperation}
+use Rattle.wasm_operators.specs.Operations.{Immediate, Operation, RawOperation}
 use Rattle.wasm_body.specs.declared.error.ParseError.{ParseError}
 use Rattle.walrus_ir.specs.Results.{◌>>=◌}
 use Rattle.wasm_body.specs.Control.{Role, a_plain, control_by, control_of, role_of}

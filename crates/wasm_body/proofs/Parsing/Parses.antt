@@ -1,12 +1,12 @@
 -- Parsing on lists goes over a front of operators, and where it stops the rest is at fault or the body is whole.
 use Rattle.std.proofs.Common.{◌≡◌, ℕ, zero, suc, ◌+◌, ◌-◌, ◌<◌, ◌≤◌, List, [], ◌∷◌, ◌++◌, length, map, true, Ok, refl, sym, ap, subst, ◌∙◌, arith, length-append}
 use Rattle.std.specs.List.{AllByRecursion}
-use Rattle.wasm_ops.specs.declared.types.Opcode.TheVariants.{Byte, Prefixed}
-use Rattle.wasm_ops.specs.Operations.{RawOperation}
-use Rattle.wasm_ops.specs.Opcodes.{IsOpcode}
-use Rattle.wasm_ops.specs.Spelling.{Spells, read_operation}
-use Rattle.wasm_ops.specs.OperatorList.{Lists}
-use Rattle.wasm_ops.specs.Laws.{ReadingAgrees}
+use Rattle.wasm_operators.specs.declared.types.Opcode.TheVariants.{Byte, Prefixed}
+use Rattle.wasm_operators.specs.Operations.{RawOperation}
+use Rattle.wasm_operators.specs.Opcodes.{IsOpcode}
+use Rattle.wasm_operators.specs.Spelling.{Spells, read_operation}
+use Rattle.wasm_operators.specs.OperatorList.{Lists}
+use Rattle.wasm_operators.specs.Laws.{ReadingAgrees}
 use Rattle.wasm_body.specs.SourceTree.{Sequence}
 use Rattle.wasm_body.specs.Frames.{Frame}
 use Rattle.wasm_body.specs.Naming.{Occurrence, named_in}

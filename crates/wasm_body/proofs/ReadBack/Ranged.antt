@@ -9,15 +9,15 @@ use Rattle.walrus_ir.specs.declared.val_type.ValType.TheVariants.{I32, I64, F32,
 use Rattle.walrus_ir.specs.declared.val_type.InstrSeqType.{InstrSeqType}
 use Rattle.walrus_ir.specs.declared.val_type.InstrSeqType.TheVariants.{Simple, MultiValue}
 use Rattle.walrus_ir.specs.Types.{Signature}
-use Rattle.wasm_ops.specs.declared.types.BlockType.{BlockType}
-use Rattle.wasm_ops.specs.declared.types.BlockType.TheVariants.{Empty, Value, FuncType}
-use Rattle.wasm_ops.specs.declared.types.Space.TheVariants.{Types, Memories, Tags}
-use Rattle.wasm_ops.specs.Reading.{Many}
-use Rattle.wasm_ops.specs.Numbers.{IsU32, IsU64, IsS32, IsS64, IsByte, AreBits}
-use Rattle.wasm_ops.specs.Types.{IsBlockType}
-use Rattle.wasm_ops.specs.Operations.{Access, CatchClause, Cast, Immediate, index, local, label, handler, outer, number, access, branch_table, clauses, block, heap, value, cast, i32, i64, f32, f64, v128, lane, lanes, zero_byte, RawImmediate}
-use Rattle.wasm_ops.specs.Immediates.{IsAccess, IsClause, SpellsImmediate, SpellsImmediates}
-use Rattle.wasm_ops.proofs.ShortestImmediates.{flags_are}
+use Rattle.wasm_operators.specs.declared.types.BlockType.{BlockType}
+use Rattle.wasm_operators.specs.declared.types.BlockType.TheVariants.{Empty, Value, FuncType}
+use Rattle.wasm_operators.specs.declared.types.Space.TheVariants.{Types, Memories, Tags}
+use Rattle.wasm_numbers.specs.Reading.{Many}
+use Rattle.wasm_numbers.specs.Numbers.{IsU32, IsU64, IsS32, IsS64, IsByte, AreBits}
+use Rattle.wasm_operators.specs.Types.{IsBlockType}
+use Rattle.wasm_operators.specs.Operations.{Access, CatchClause, Cast, Immediate, index, local, label, handler, outer, number, access, branch_table, clauses, block, heap, value, cast, i32, i64, f32, f64, v128, lane, lanes, zero_byte, RawImmediate}
+use Rattle.wasm_operators.specs.Immediates.{IsAccess, IsClause, SpellsImmediate, SpellsImmediates}
+use Rattle.wasm_operators.proofs.ShortestImmediates.{flags_are}
 use Rattle.wasm_body.specs.declared.error.EmitError.{EmitError}
 use Rattle.walrus_ir.specs.Results.{◌>>=◌, each}
 use Rattle.wasm_body.specs.Frames.{Frame}
@@ -27,7 +27,7 @@ use Rattle.wasm_body.specs.FlatText.{then_by, exponent_of}
 use Rattle.wasm_body.proofs.NormalForm.Kept.{exponent_of-pow}
 use Rattle.wasm_body.specs.Bytes.{Numbers, in_32_bits, numbers_in_32_bits, numbered_block, numbering}
 use Rattle.wasm_body.specs.ReadBack.{EachInHeap, EachInValue, EachInTag, EachIn, IsUndone, IsUndoneLocal, IsUndoneType}
-use Rattle.wasm_ops.specs.Fitting.{FitsHeap, FitsValue, FitsTag}
+use Rattle.wasm_operators.specs.Fitting.{FitsHeap, FitsValue, FitsTag}
 use Rattle.wasm_body.proofs.Bytes.Fitting.{fitting_is, fitting_answer}
 use Rattle.wasm_body.proofs.Translation.Steps.{bound, length-each}
 use Rattle.wasm_body.proofs.Translation.Kinds.{through, at_once}

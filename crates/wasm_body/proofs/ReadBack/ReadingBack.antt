@@ -4,12 +4,12 @@ use Rattle.std.specs.List.{AllByRecursion}
 use Rattle.walrus_ir.specs.declared.val_type.InstrSeqType.{InstrSeqType}
 use Rattle.walrus_ir.specs.Types.{Signature, ModuleType}
 use Rattle.walrus_ir.specs.Tree.{sequence, no_sequences}
-use Rattle.wasm_ops.specs.declared.types.Space.{Space}
-use Rattle.wasm_ops.specs.Operations.{Immediate, block, RawOperation}
-use Rattle.wasm_ops.specs.OperatorList.{Lists}
-use Rattle.wasm_ops.specs.Spelling.{Spells}
-use Rattle.wasm_ops.specs.Shortest.{short}
-use Rattle.wasm_ops.proofs.ShortestOperations.{shortest_operation}
+use Rattle.wasm_operators.specs.declared.types.Space.{Space}
+use Rattle.wasm_operators.specs.Operations.{Immediate, block, RawOperation}
+use Rattle.wasm_operators.specs.OperatorList.{Lists}
+use Rattle.wasm_operators.specs.Spelling.{Spells}
+use Rattle.wasm_operators.specs.Shortest.{short}
+use Rattle.wasm_operators.proofs.ShortestOperations.{shortest_operation}
 use Rattle.wasm_body.specs.Control.{Control, End, Marked, with_control}
 use Rattle.wasm_body.specs.SourceTree.{Sequence, text, Body, body_text}
 use Rattle.wasm_body.specs.Frames.{Frame, OfFunction, function_frames, Follows, BodyFollows}
@@ -24,7 +24,7 @@ use Rattle.wasm_body.specs.ReadBack.{EachIn, IsUndone, IsUndoneLocal, IsUndoneTy
 use Rattle.wasm_body.proofs.Structure.Along.{Each, AllMarked, Tells, all_of_each}
 use Rattle.wasm_body.proofs.Translation.Steps.{bound}
 use Rattle.wasm_body.proofs.Bytes.LawfulTyped.{each_of_follows, lawful_named}
-use Rattle.wasm_ops.proofs.ReadingBytes.{reading_agrees}
+use Rattle.wasm_operators.proofs.ReadingBytes.{reading_agrees}
 use Rattle.wasm_body.proofs.Parsing.Answers.{one_body_accepted}
 use Rattle.wasm_body.proofs.Structure.ReadFrames.{Goes, body_goes, goes_body}
 use Rattle.wasm_body.proofs.Structure.Reshown.{remarked, text_reshown, is_named_body}

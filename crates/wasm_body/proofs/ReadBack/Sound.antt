@@ -3,10 +3,10 @@
 use Rattle.std.proofs.Common.{◌≡◌, ℕ, List, [], ◌∷◌, map, true, Some, Ok, refl, sym, ap, ◌∙◌, subst, arith}
 use Rattle.std.specs.List.{AllByRecursion}
 use Rattle.walrus_ir.specs.Types.{Signature}
-use Rattle.wasm_ops.specs.declared.types.Opcode.TheVariants.{Byte}
-use Rattle.wasm_ops.specs.Operations.{Immediate, outer, RawOperation}
-use Rattle.wasm_ops.specs.Opcodes.{IsOpcode, kinds_of, kinds_of_byte}
-use Rattle.wasm_ops.specs.Spelling.{Spells}
+use Rattle.wasm_operators.specs.declared.types.Opcode.TheVariants.{Byte}
+use Rattle.wasm_operators.specs.Operations.{Immediate, outer, RawOperation}
+use Rattle.wasm_operators.specs.Opcodes.{IsOpcode, kinds_of, kinds_of_byte}
+use Rattle.wasm_operators.specs.Spelling.{Spells}
 use Rattle.wasm_body.specs.Control.{Role, a_delegate, role_of, Control, Does, Else, Catch, CatchAll, End, Delegate, control_of, control_by, Action, Marked, with_control}
 use Rattle.wasm_body.specs.SourceTree.{Sequence, Empty, Single, Wrapped, IfThen, IfElse, TryCatch, TryDelegate, Clauses, Ended, Catches, CatchesAll}
 use Rattle.wasm_body.specs.Frames.{Frame, OfWrapper, Consequent, Alternative, TryBody, Handler, HandlerOfAll, Follows, FollowsIn, may_stand}

@@ -4,18 +4,18 @@ use Rattle.std.specs.Prelude.{◌^◌}
 use Rattle.std.specs.List.{AllByRecursion}
 use Rattle.walrus_ir.specs.declared.val_type.HeapType.{HeapType}
 use Rattle.walrus_ir.specs.declared.val_type.ValType.{ValType}
-use Rattle.wasm_ops.specs.declared.types.BlockType.TheVariants.{Empty, Value, FuncType}
-use Rattle.wasm_ops.specs.Reading.{Spelling, Many}
-use Rattle.wasm_ops.specs.Numbers.{IsU32, IsU64, IsS33}
-use Rattle.wasm_ops.specs.Types.{IsHeapType, IsValueType, starts_value_type, IsBlockType}
-use Rattle.wasm_ops.specs.Immediates.{cast_flags, IsAccess, IsTable, IsClause, AreClauses, IsCast, IsSelected}
-use Rattle.wasm_ops.specs.Operations.{Access, CatchClause}
-use Rattle.wasm_ops.specs.Shortest.{short_unsigned, short_number, short_integer, short_heap, short_value}
-use Rattle.wasm_ops.proofs.ShortestNumbers.{unsigned_spelt, signed_spelt}
-use Rattle.wasm_ops.proofs.ShortestTypes.{index_starts, value_between, empty_between, as_block_value}
-use Rattle.wasm_ops.proofs.ShortestImmediates.{indexed_access}
-use Rattle.wasm_ops.specs.Fitting.{FitsHeap, FitsValue, FitsTag}
-use Rattle.wasm_ops.proofs.Written.{heap_spelt as short_heap_spelt, value_spelt as short_value_spelt}
+use Rattle.wasm_operators.specs.declared.types.BlockType.TheVariants.{Empty, Value, FuncType}
+use Rattle.wasm_numbers.specs.Reading.{Spelling, Many}
+use Rattle.wasm_numbers.specs.Numbers.{IsU32, IsU64, IsS33}
+use Rattle.wasm_operators.specs.Types.{IsHeapType, IsValueType, starts_value_type, IsBlockType}
+use Rattle.wasm_operators.specs.Immediates.{cast_flags, IsAccess, IsTable, IsClause, AreClauses, IsCast, IsSelected}
+use Rattle.wasm_operators.specs.Operations.{Access, CatchClause}
+use Rattle.wasm_operators.specs.Shortest.{short_unsigned, short_number, short_integer, short_heap, short_value}
+use Rattle.wasm_operators.proofs.ShortestNumbers.{unsigned_spelt, signed_spelt}
+use Rattle.wasm_operators.proofs.ShortestTypes.{index_starts, value_between, empty_between, as_block_value}
+use Rattle.wasm_operators.proofs.ShortestImmediates.{indexed_access}
+use Rattle.wasm_operators.specs.Fitting.{FitsHeap, FitsValue, FitsTag}
+use Rattle.wasm_operators.proofs.Written.{heap_spelt as short_heap_spelt, value_spelt as short_value_spelt}
 
 -- it has a spelling
 abbrev pub IsSpellable : {V : Type 0} → Spelling V → V → Type 0

@@ -1,7 +1,7 @@
 -- A translation that keeps locals keeps those that an operator names.
 use Rattle.std.proofs.Common.{◌≡◌, ℕ, List, [], ◌∷◌, Ok, refl, sym, ap, ◌∙◌, subst}
-use Rattle.wasm_ops.specs.Operations.{Immediate, local}
-use Rattle.wasm_ops.specs.Immediates.{Kind, a_local}
+use Rattle.wasm_operators.specs.Operations.{Immediate, local}
+use Rattle.wasm_operators.specs.Immediates.{Kind, a_local}
 use Rattle.walrus_ir.specs.Results.{◌>>=◌, each}
 use Rattle.wasm_body.specs.Translation.{Translation, translate_immediate, translate_immediates}
 use Rattle.wasm_body.specs.LocalNumbers.{locals_among}

@@ -1,8 +1,8 @@
 -- Which bytes are accepted as a body, and which fault is the first otherwise.
 use Rattle.std.specs.Prelude.{◌≡◌, ℕ, ◌+◌, List, [], ◌∷◌, ◌++◌, length, map, replicate, nat_lt, Bool, true, Option, None, Some, IsOk, Result, Ok, Err}
 use Rattle.std.specs.List.{AllByRecursion}
-use Rattle.wasm_ops.specs.OperatorList.{Placed, Lists}
-use Rattle.wasm_ops.specs.Spelling.{Spells, read_operation}
+use Rattle.wasm_operators.specs.OperatorList.{Placed, Lists}
+use Rattle.wasm_operators.specs.Spelling.{Spells, read_operation}
 use Rattle.wasm_body.specs.declared.error.ParseError.{ParseError}
 use Rattle.wasm_body.specs.declared.error.ParseError.TheVariants.{Read, PlaceTooGreat, Checked, Trailing, MissingEnd}
 use Rattle.wasm_body.specs.declared.error.ParseFailure.{ParseFailure}

@@ -1,6 +1,6 @@
 use Rattle.std.proofs.Common.{ap, ◌∙◌}
-use Rattle.wasm_ops.specs.declared.types.Space.TheVariants.{Tables, Types, Funcs, Globals, Memories, Elements, Tags}
-use Rattle.walrus_body.specs.IndexMaps.{numbers_in}
+use Rattle.wasm_operators.specs.declared.types.Space.TheVariants.{Tables, Types, Funcs, Globals, Memories, Elements, Tags}
+use Rattle.walrus_maps.specs.IndexMaps.{numbers_in}
 use Rattle.walrus_run.proofs.DemoMaps.{demo_numbers_are}
 use Rattle.walrus_run.proofs.demo.numbers.Goals as goal
 

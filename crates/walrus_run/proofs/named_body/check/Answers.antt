@@ -1,6 +1,6 @@
 use Rattle.std.proofs.Common.{Some, subst}
-use Rattle.wasm_ops.specs.Laws.{AreBytes}
-use Rattle.walrus_body.specs.Parsing.Bodies.{body_operators}
+use Rattle.wasm_operators.specs.Laws.{AreBytes}
+use Rattle.walrus_parser.specs.Bodies.{body_operators}
 use Rattle.walrus_run.specs.NamedBodies.{reading}
 use Rattle.walrus_run.proofs.ReadBodies.{accepted_without_fault}
 use Rattle.walrus_run.proofs.named_body.check.Goals as goal

@@ -1,5 +1,5 @@
 use Rattle.std.proofs.Common.{arith}
-use Rattle.wasm_ops.proofs.ReadingBytes.{each_byte}
+use Rattle.wasm_operators.proofs.ReadingBytes.{each_byte}
 use Rattle.walrus_run.proofs.named_body.law_bytes.Goals as goal
 
 pub returns : goal.returns

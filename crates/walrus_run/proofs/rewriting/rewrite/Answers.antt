@@ -1,10 +1,11 @@
 use Rattle.std.proofs.Common.{rules, inl, ◌⊎◌, ◌<◌, ◌^◌, length}
-use Rattle.walrus_run.specs.Rewriting.{IsNormalBytes, IsRewritten, WantsMemory, IsFaulty}
+use Rattle.walrus_run.specs.Rewriting.{IsNormalBytes, IsRewritten, IsFaulty}
+use Rattle.walrus_rewrite.specs.Errors.{WantsMemory}
 use Rattle.walrus_run.proofs.RewritingLemmas.{demo_tree, demo_accepts, demo_refuses}
-use Rattle.walrus_run.proofs.SameAnswers.{if_ok, if_err}
+use Rattle.walrus_rewrite.proofs.SameAnswers.{if_ok, if_err}
 use Rattle.wasm_body.specs.SourceTree.{Body}
 use Rattle.wasm_body.specs.Naming.{Occurrence}
-use Rattle.walrus_body.specs.Parsing.Bodies.{IsFunction}
+use Rattle.walrus_parser.specs.Bodies.{IsFunction}
 use Rattle.walrus_run.proofs.rewriting.rewrite.Goals as goal
 
 pub written_operators-requires-clause-is_parsed : goal.written_operators-requires-clause-is_parsed

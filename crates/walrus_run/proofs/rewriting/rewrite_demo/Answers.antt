@@ -1,8 +1,9 @@
 use Rattle.std.proofs.Common.{◌≡◌, ◌⊎◌}
-use Rattle.walrus_run.specs.declared.error.RewriteError.TheVariants.{Parse}
-use Rattle.walrus_run.specs.Rewriting.{IsNormalBytes, IsRewritten, WantsMemory, IsFaulty}
+use Rattle.walrus_rewrite.specs.declared.error.RewriteError.TheVariants.{Parse}
+use Rattle.walrus_run.specs.Rewriting.{IsNormalBytes, IsRewritten, IsFaulty}
+use Rattle.walrus_rewrite.specs.Errors.{WantsMemory}
 use Rattle.walrus_run.proofs.RewritingLemmas.{body_answered, body_not_refused, fault_not_written, fault_answered}
-use Rattle.walrus_run.proofs.SameAnswers.{if_ok, if_err, no_answer}
+use Rattle.walrus_rewrite.proofs.SameAnswers.{if_ok, if_err, no_answer}
 use Rattle.walrus_run.proofs.rewriting.rewrite_demo.Goals as goal
 
 pub returns-clause-each_body : goal.returns-clause-each_body

@@ -4,9 +4,9 @@ use Rattle.wasm_body.specs.declared.error.EmitError.TheVariants.{Memory}
 use Rattle.wasm_body.specs.FunctionTree.{FunctionTree}
 use Rattle.wasm_body.specs.TreeOfFunction.{HasTree}
 use Rattle.walrus_body.specs.LocalFunctions.{first_slot}
-use Rattle.walrus_body.specs.TreeWriting.Trees.{AppendsBytes}
-use Rattle.walrus_run.specs.RawBodies.{Given, given, HasNoRawBody, not_begun}
-use Rattle.walrus_run.proofs.RawBodyLemmas.{writes, declines, of_bytes, why_not}
+use Rattle.walrus_emitter.specs.TreeWriting.Trees.{AppendsBytes}
+use Rattle.walrus_rewrite.specs.RawBodies.{Given, given, HasNoRawBody, not_begun}
+use Rattle.walrus_rewrite.proofs.RawBodyLemmas.{writes, declines, of_bytes, why_not}
 use Rattle.walrus_run.proofs.RewritingLemmas.{parsed_begins, no_walk, no_fault, same_given, normal_bytes}
 use Rattle.walrus_run.proofs.rewriting.written_operators.Goals as goal
 

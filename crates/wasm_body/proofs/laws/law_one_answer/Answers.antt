@@ -1,4 +1,4 @@
-use Rattle.wasm_ops.proofs.ReadingBytes.{reading_agrees}
+use Rattle.wasm_operators.proofs.ReadingBytes.{reading_agrees}
 use Rattle.wasm_body.proofs.Parsing.Answers.{one_body_accepted, accepted_has_no_fault, one_first_fault, accepted_or_fault}
 use Rattle.wasm_body.proofs.Parsing.Longest.{longest_front}
 use Rattle.wasm_body.proofs.laws.law_one_answer.Goals as goal

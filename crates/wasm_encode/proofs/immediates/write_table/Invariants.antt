@@ -1,6 +1,6 @@
 use Rattle.std.proofs.Common.{◌≡◌, ◌++◌, length, take}
 use Rattle.std.specs.List.{flat_map}
-use Rattle.wasm_ops.specs.Shortest.{short_number}
+use Rattle.wasm_operators.specs.Shortest.{short_number}
 use Rattle.wasm_encode.proofs.immediates.write_table.Given as goal
 
 abbrev pub invariant-loop-label : goal.invariant-loop-label

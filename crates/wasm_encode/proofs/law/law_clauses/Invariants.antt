@@ -1,7 +1,7 @@
 -- Where the numbers of those that are left fit, those of all do.
 use Rattle.std.proofs.Common.{length}
 use Rattle.std.specs.List.{AllByRecursion}
-use Rattle.wasm_ops.specs.Fitting.{FitsClause}
+use Rattle.wasm_operators.specs.Fitting.{FitsClause}
 use Rattle.wasm_encode.proofs.law.law_clauses.Given as goal
 
 abbrev pub invariant-clauses : goal.invariant-clauses

@@ -1,7 +1,7 @@
 -- Where those that are left are bytes, all are.
 use Rattle.std.proofs.Common.{length}
 use Rattle.std.specs.List.{AllByRecursion}
-use Rattle.wasm_ops.specs.Fitting.{FitsLane}
+use Rattle.wasm_operators.specs.Fitting.{FitsLane}
 use Rattle.wasm_encode.proofs.law.law_lanes.Given as goal
 
 abbrev pub invariant-lanes : goal.invariant-lanes

@@ -1,4 +1,4 @@
-use Rattle.wasm_ops.proofs.Written.{written}
+use Rattle.wasm_operators.proofs.Written.{written}
 use Rattle.wasm_encode.proofs.law.law_written.Goals as goal
 
 pub returns : goal.returns

@@ -1,6 +1,6 @@
 -- Behind the id stands a number, and behind it as many bytes.
 use Rattle.std.proofs.Common.{◌≡◌, ℕ, ◌-◌, List, ◌∷◌, ◌++◌, length, take, Ok, sym, ap, subst, ◌∙◌, append_assoc, arith}
-use Rattle.wasm_ops.specs.Numbers.{unsigned, u32}
+use Rattle.wasm_numbers.specs.Numbers.{unsigned, u32}
 use Rattle.wasm_module.proofs.NumberLemmas.{number_takes, before_last}
 use Rattle.wasm_module.proofs.sections.read_section.Goals as goal
 

@@ -1,5 +1,5 @@
 use Rattle.std.proofs.Common.{arith}
-use Rattle.wasm_ops.proofs.OperationLaws.{operations_agree}
+use Rattle.wasm_operators.proofs.OperationLaws.{operations_agree}
 use Rattle.wasm_ops.proofs.reader.law_front.Goals as goal
 
 pub returns : goal.returns

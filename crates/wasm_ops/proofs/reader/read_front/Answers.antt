@@ -1,5 +1,5 @@
 use Rattle.std.proofs.Common.{arith}
-use Rattle.wasm_ops.specs.Meaning.{meaning}
+use Rattle.wasm_operators.specs.Meaning.{meaning}
 use Rattle.wasm_ops.proofs.Fronts.{front_found, front_only}
 use Rattle.wasm_ops.proofs.reader.read_front.Goals as goal
 

@@ -1,4 +1,4 @@
-use Rattle.wasm_ops.specs.Meaning.{meaning}
+use Rattle.wasm_operators.specs.Meaning.{meaning}
 use Rattle.wasm_ops.proofs.VectorRanges.{lane_read, lane_missing}
 use Rattle.wasm_ops.proofs.vector_reader.read_lane.Goals as goal
 

@@ -1,5 +1,5 @@
 use Rattle.std.proofs.Common.{arith, refl}
-use Rattle.wasm_ops.specs.Meaning.{meaning}
+use Rattle.wasm_operators.specs.Meaning.{meaning}
 use Rattle.wasm_ops.proofs.VectorRanges.{plain_vector}
 use Rattle.wasm_ops.proofs.vector_reader.read_vector_comparison.Goals as goal
 

@@ -1,7 +1,7 @@
 use Rattle.std.proofs.Common.{◌+◌, subst, Ok, Err}
-use Rattle.walrus_body.specs.declared.local_function.parse.ParsedOperators.{ParsedOperators}
-use Rattle.walrus_body.specs.Parsing.Bodies.{body_input, input_of, AcceptsBody, RefusesBody}
-use Rattle.walrus_body.proofs.Parsing.BodyAnswers.{body_answered, fault_answered}
+use Rattle.walrus_parser.specs.declared.parse.ParsedOperators.{ParsedOperators}
+use Rattle.walrus_parser.specs.Bodies.{body_input, input_of, AcceptsBody, RefusesBody}
+use Rattle.walrus_parser.proofs.BodyAnswers.{body_answered, fault_answered}
 use Rattle.walrus_body.proofs.local_function.LocalFunction.parse.Goals as goal
 
 pub returns-in-Ok-clause-each_fault : goal.returns-in-Ok-clause-each_fault

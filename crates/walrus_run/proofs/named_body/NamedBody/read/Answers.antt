@@ -1,7 +1,7 @@
 use Rattle.std.proofs.Common.{◌≡◌, ◌+◌, sym, ap, subst, ◌∙◌}
 use Rattle.wasm_ops.specs.Position.{Position}
-use Rattle.walrus_body.specs.Parsing.Bodies.{body_operators}
-use Rattle.walrus_body.specs.Parsing.Settings.{operators_of}
+use Rattle.walrus_parser.specs.Bodies.{body_operators}
+use Rattle.walrus_parser.specs.Settings.{operators_of}
 use Rattle.walrus_run.specs.NamedBodies.{reading}
 use Rattle.walrus_run.specs.Namers.{AreLeft}
 use Rattle.walrus_run.proofs.ReadBodies.{left_of, is_named, is_refused, has_no_fault, refused_body, refused_fault}

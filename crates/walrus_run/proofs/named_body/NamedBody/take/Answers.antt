@@ -1,7 +1,7 @@
 use Rattle.std.proofs.Common.{◌<◌, length, sym, ap, ◌∙◌, Ok, Err, arith}
 use Rattle.std.proofs.lemmas.List.{length-append}
-use Rattle.wasm_ops.specs.Meaning.{meaning}
-use Rattle.wasm_ops.proofs.ListLaws.{spelt_length}
+use Rattle.wasm_operators.specs.Meaning.{meaning}
+use Rattle.wasm_operators.proofs.ListLaws.{spelt_length}
 use Rattle.walrus_run.specs.Namers.{env_of, with_next}
 use Rattle.walrus_run.proofs.Reading.{others_left, name_answered, on_ok}
 use Rattle.walrus_run.proofs.named_body.NamedBody.take.Goals as goal

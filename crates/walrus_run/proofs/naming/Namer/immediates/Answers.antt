@@ -1,6 +1,6 @@
 use Rattle.std.proofs.Common.{◌∷◌, [], Ok, sym, ap, ◌∙◌}
-use Rattle.wasm_ops.specs.Operations.{branch_table}
-use Rattle.wasm_ops.specs.Parts.{immediates_of}
+use Rattle.wasm_operators.specs.Operations.{branch_table}
+use Rattle.wasm_operators.specs.Parts.{immediates_of}
 use Rattle.wasm_body.specs.Translation.{translate_immediates}
 use Rattle.walrus_run.specs.Namers.{env_of, anywhere}
 use Rattle.walrus_run.proofs.NamesAnywhere.{labels_stay}

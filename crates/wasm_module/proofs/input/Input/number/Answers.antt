@@ -1,5 +1,5 @@
 -- What is read is a number, and a number takes a byte at least.
-use Rattle.wasm_ops.specs.Numbers.{unsigned}
+use Rattle.wasm_numbers.specs.Numbers.{unsigned}
 use Rattle.wasm_module.proofs.NumberLemmas.{number_takes, is_shorter}
 use Rattle.wasm_module.proofs.input.Input.number.Goals as goal
 

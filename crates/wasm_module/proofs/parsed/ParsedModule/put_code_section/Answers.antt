@@ -1,5 +1,5 @@
 use Rattle.std.proofs.Common.{◌≡◌, ℕ, ◌+◌, List, ◌∷◌, ◌++◌, length, ap, ◌∙◌, sym, arith}
-use Rattle.wasm_ops.specs.Shortest.{short_number}
+use Rattle.wasm_operators.specs.Shortest.{short_number}
 use Rattle.wasm_module.proofs.WritingLemmas.{puts_then, puts_same}
 use Rattle.wasm_module.proofs.parsed.ParsedModule.put_code_section.Goals as goal
 

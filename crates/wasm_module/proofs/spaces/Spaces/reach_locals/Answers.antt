@@ -1,6 +1,6 @@
 use Rattle.std.proofs.Common.{ℕ, refl, ap, ◌∙◌, arith}
 use Rattle.std.proofs.lemmas.Result.{err_from_is_err_and}
-use Rattle.walrus_body.specs.IndexMaps.{with_next_local}
+use Rattle.walrus_maps.specs.IndexMaps.{with_next_local}
 use Rattle.wasm_module.specs.Declarations.{first_numbers}
 use Rattle.wasm_module.proofs.SpaceLemmas.{others_same, others_kept, others_pushed, next_local, stands_for_itself, wants_memory}
 use Rattle.wasm_module.proofs.spaces.Spaces.reach_locals.Goals as goal

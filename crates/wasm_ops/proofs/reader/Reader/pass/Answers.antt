@@ -1,11 +1,11 @@
 use Rattle.std.proofs.Common.{◌≡◌, ℕ, List, ◌∙◌, refl, sym, ap}
-use Rattle.wasm_ops.specs.Meaning.{meaning}
-use Rattle.wasm_ops.specs.Operations.{RawOperation}
+use Rattle.wasm_operators.specs.Meaning.{meaning}
+use Rattle.wasm_operators.specs.Operations.{RawOperation}
 use Rattle.wasm_ops.specs.Position.{Position}
-use Rattle.wasm_ops.specs.Spelling.{read_operation}
-use Rattle.wasm_ops.proofs.Agreement.{ok_is}
+use Rattle.wasm_operators.specs.Spelling.{read_operation}
+use Rattle.wasm_numbers.proofs.Agreement.{ok_is}
 use Rattle.wasm_ops.proofs.Fronts.{moved}
-use Rattle.wasm_ops.proofs.OperationLaws.{operations_agree}
+use Rattle.wasm_operators.proofs.OperationLaws.{operations_agree}
 use Rattle.wasm_ops.proofs.reader.Reader.pass.Goals as goal
 
 pub returns-clause-found : goal.returns-clause-found

@@ -1,6 +1,6 @@
 use Rattle.std.proofs.Common.{ap, sym, ◌∙◌}
 use Rattle.wasm_ops.specs.Position.{Position}
-use Rattle.wasm_ops.specs.Spelling.{read_operation}
+use Rattle.wasm_operators.specs.Spelling.{read_operation}
 use Rattle.wasm_ops.proofs.Fronts.{moved}
 use Rattle.wasm_ops.proofs.reader.Reader.read_at_length.Goals as goal
 

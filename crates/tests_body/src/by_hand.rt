@@ -1,0 +1,219 @@
+//! Functions that are made by hand.
+use crate::lent::append;
+use std::alloc::{AllocError, Global};
+use walrus_ir::{
+    ArrayInitData, ArrayNewData, Block, Br, Call, Const, DataDrop, DataId, FunctionBuilder,
+    FunctionId, IfElse, Instr, InstrLocId, InstrSeqId, InstrSeqType, LegacyCatch, Load, LoadKind,
+    LocalGet, LocalId, LocalSet, LocalTee, MemArg, MemoryId, MemoryInit, RefFunc, TagId, Try,
+    TypeId, Value,
+};
+
+/// An instruction, with the numbers of its ids.
+#[derive(Clone, Copy)]
+pub(crate) enum Made {
+    Drop,
+    Const(u16),
+    Block(usize),
+    IfElse(usize, usize),
+    Br(usize),
+    Call(usize),
+    Local(Access, usize),
+    RefFunc(usize),
+    Data(Use, usize),
+    /// An `i32.load` with this alignment, in bytes.
+    Load(u32),
+}
+
+/// What is done with a local.
+#[derive(Clone, Copy)]
+pub(crate) enum Access {
+    Get,
+    Set,
+    Tee,
+}
+
+/// What is done with a data segment.
+#[derive(Clone, Copy)]
+pub(crate) enum Use {
+    Init,
+    Drop,
+    NewArray,
+    InitArray,
+}
+
+fn on_local(access: Access, local: LocalId) -> Instr {
+    match access {
+        Access::Get => Instr::LocalGet(LocalGet { local }),
+        Access::Set => Instr::LocalSet(LocalSet { local }),
+        Access::Tee => Instr::LocalTee(LocalTee { local }),
+    }
+}
+
+fn on_data(usage: Use, data_id: DataId) -> Instr {
+    let ty = TypeId::new(0);
+    let memory = MemoryId::new(0);
+    match usage {
+        Use::Init => Instr::MemoryInit(MemoryInit { memory, data_id }),
+        Use::Drop => Instr::DataDrop(DataDrop { data_id }),
+        Use::NewArray => Instr::ArrayNewData(ArrayNewData { ty, data_id }),
+        Use::InitArray => Instr::ArrayInitData(ArrayInitData { ty, data_id }),
+    }
+}
+
+fn load(align: u32) -> Instr {
+    Instr::Load(Load {
+        memory: MemoryId::new(0),
+        kind: LoadKind::I32 { atomic: false },
+        arg: MemArg { align, offset: 0 },
+    })
+}
+
+fn if_else(consequent: usize, alternative: usize) -> Instr {
+    let (consequent, alternative) = (InstrSeqId::new(consequent), InstrSeqId::new(alternative));
+    Instr::IfElse(IfElse {
+        consequent,
+        alternative,
+    })
+}
+
+fn constant(value: u16) -> Instr {
+    let value = Value::I32(i32::from(value));
+    Instr::Const(Const { value })
+}
+
+pub(crate) fn instr(made: Made) -> Instr {
+    match made {
+        Made::Drop => Instr::Drop,
+        Made::Const(value) => constant(value),
+        Made::Block(n) => Instr::Block(Block {
+            seq: InstrSeqId::new(n),
+        }),
+        Made::IfElse(consequent, alternative) => if_else(consequent, alternative),
+        Made::Br(n) => Instr::Br(Br {
+            block: InstrSeqId::new(n),
+        }),
+        Made::Call(n) => Instr::Call(Call {
+            func: FunctionId::new(n),
+        }),
+        Made::Local(access, n) => on_local(access, LocalId::new(n)),
+        Made::RefFunc(n) => Instr::RefFunc(RefFunc {
+            func: FunctionId::new(n),
+        }),
+        Made::Data(usage, n) => on_data(usage, DataId::new(n)),
+        Made::Load(align) => load(align),
+    }
+}
+
+/// Appends an instruction to the sequence at a slot, where there is one.
+pub(crate) fn put(
+    builder: &mut FunctionBuilder,
+    slot: usize,
+    instr: Instr,
+    location: u16,
+) -> Result<(), AllocError> {
+    let seq = InstrSeqId::new(slot);
+    match builder.has(seq) {
+        true => append(builder, seq, instr, InstrLocId::new(u32::from(location))),
+        false => Ok(()),
+    }
+}
+
+/// An instruction, with the slot of its sequence before it and its location after it.
+pub(crate) type Item = (usize, Made, u16);
+
+/// Appends instructions.
+pub(crate) fn put_all(builder: &mut FunctionBuilder, instrs: &[Item]) -> Result<(), AllocError> {
+    for (slot, made, location) in instrs {
+        put(builder, *slot, instr(*made), *location)?;
+    }
+    Ok(())
+}
+
+/// A builder with so many sequences from nothing to nothing, of which the first is the entry.
+pub(crate) fn sequences(alloc: Global, count: usize) -> Result<FunctionBuilder, AllocError> {
+    let mut builder = FunctionBuilder::without_entry(alloc, TypeId::new(0));
+    for _ in 0..count {
+        builder.alloc(InstrSeqType::Simple(None))?;
+    }
+    builder.set_entry(InstrSeqId::new(0));
+    Ok(builder)
+}
+
+/// So many sequences, with these instructions.
+pub(crate) fn function(
+    alloc: Global,
+    count: usize,
+    instrs: &[Item],
+) -> Result<FunctionBuilder, AllocError> {
+    let mut builder = sequences(alloc, count)?;
+    put_all(&mut builder, instrs)?;
+    Ok(builder)
+}
+
+// A `try` of the sequence 4, with a `catch` that has 5 and a `catch_all` that has 6.
+fn legacy_try(alloc: Global) -> Result<Instr, AllocError> {
+    let clauses = [
+        LegacyCatch::Catch {
+            tag: TagId::new(0),
+            handler: InstrSeqId::new(5),
+        },
+        LegacyCatch::CatchAll {
+            handler: InstrSeqId::new(6),
+        },
+    ];
+    let seq = InstrSeqId::new(4);
+    let catches = Vec::from_slice(alloc, &clauses)?;
+    Ok(Instr::Try(Try { seq, catches }))
+}
+
+/// The instructions of `example` before its `try`.
+const BEFORE_TRY: [Item; 22] = [
+    (0, Made::Const(1), 1),
+    (0, Made::Drop, 0),
+    (0, Made::Block(1), 0),
+    (0, Made::Const(6), 6),
+    (0, Made::Drop, 0),
+    (1, Made::Const(2), 2),
+    (1, Made::Drop, 0),
+    (1, Made::IfElse(2, 3), 0),
+    (1, Made::Const(5), 5),
+    (1, Made::Drop, 0),
+    (2, Made::Const(3), 3),
+    (2, Made::Drop, 0),
+    (3, Made::Const(4), 4),
+    (3, Made::Drop, 0),
+    (4, Made::Const(7), 7),
+    (4, Made::Drop, 0),
+    (5, Made::Const(8), 8),
+    (5, Made::Drop, 0),
+    (6, Made::Const(9), 9),
+    (6, Made::Drop, 0),
+    (7, Made::Const(11), 11),
+    (7, Made::Drop, 0),
+];
+
+// Appends the instructions of `example`.
+fn put_example(builder: &mut FunctionBuilder) -> Result<(), AllocError> {
+    put_all(builder, &BEFORE_TRY)?;
+    put(builder, 0, legacy_try(builder.allocator())?, 0)?;
+    put_all(builder, &[(0, Made::Const(10), 10), (0, Made::Drop, 0)])
+}
+
+/// An entry of 8 instructions; in it a block of 5, in which an if-else has 2 and 2, and a `try`
+/// with a body and two handlers of 2 each. One sequence more has 2 and is in no other. Each
+/// constant has the location that is its value.
+pub(crate) fn example(alloc: Global) -> Result<FunctionBuilder, AllocError> {
+    let mut builder = sequences(alloc, 8)?;
+    put_example(&mut builder)?;
+    Ok(builder)
+}
+
+/// Sequences in one another, so many.
+pub(crate) fn deep(alloc: Global, depth: usize) -> Result<FunctionBuilder, AllocError> {
+    let mut builder = sequences(alloc, depth.saturating_add(1))?;
+    for slot in 0..depth {
+        let next = Made::Block(slot.saturating_add(1));
+        put(&mut builder, slot, instr(next), 0)?;
+    }
+    Ok(builder)
+}

@@ -1,0 +1,160 @@
+//! Tables of cases: what is found about each text or function, as text, beside what is wanted.
+use crate::by_hand::{Item, function};
+use crate::emitting::push_written;
+use crate::facts::{push_answered, push_both_answered, push_gathered_twice, push_visited_twice};
+use crate::locals::push_declared_as_used;
+use crate::plain_module::parse_plain;
+use crate::reading::push_read;
+use crate::small_module::{Setting, parse, push_entry, push_parsed, push_parsed_by, push_told};
+use crate::validators::{Counting, Keeping};
+use crate::walk::push_walk;
+use std::alloc::{AllocError, Global};
+use std::process::Abort;
+use std::test::Fail;
+use walrus_body::LocalFunction;
+
+/// What is asked about a text.
+#[derive(Clone, Copy)]
+pub(crate) enum About {
+    /// The function that a body gives, or its first fault.
+    Function(Setting),
+    /// The first sequence of that function.
+    Entry,
+    /// The function's size and data segments, and whether it is constant.
+    Facts,
+    /// What is gathered of a function of the plain module, then its size and data segments.
+    Gathered,
+    /// What a function of the plain module declares.
+    Locals,
+    /// The function's bytes and pairs when it is written.
+    Written(Setting),
+    /// The function where a validator refuses the third operator with 7.
+    Counted,
+    /// The function where a validator keeps places, and refuses the fourth operator with 9.
+    Kept,
+    /// The places of the operators that a validator is asked about.
+    Told,
+    /// The operators that are read from a place on.
+    Read(u32),
+}
+
+fn push_facts(found: &mut String, text: &str) -> Result<(), Fail> {
+    let function = parse(*found.allocator(), Setting::PLAIN, text)?;
+    Ok(push_answered(found, &function)?)
+}
+
+fn push_gathered(found: &mut String, text: &str) -> Result<(), Fail> {
+    let function = parse_plain(*found.allocator(), text)?;
+    Ok(push_both_answered(found, &function)?)
+}
+
+fn push_locals(found: &mut String, text: &str) -> Result<(), Fail> {
+    let function = parse_plain(*found.allocator(), text)?;
+    push_declared_as_used(found, &function)
+}
+
+fn push_function(found: &mut String, setting: Setting, text: &str) -> Result<(), Fail> {
+    let function = parse(*found.allocator(), setting, text)?;
+    push_written(found, &function)
+}
+
+fn push_kept(found: &mut String, text: &str) -> Result<(), AllocError> {
+    let places = Vec::new(*found.allocator());
+    push_parsed_by(found, Setting::PLAIN, text, Keeping { places })
+}
+
+fn or_fail(answer: Result<(), AllocError>) -> Result<(), Fail> {
+    Ok(answer?)
+}
+
+// Appends what is asked about a text.
+fn push_answer(found: &mut String, about: About, text: &str) -> Result<(), Fail> {
+    match about {
+        About::Function(setting) => or_fail(push_parsed(found, setting, text)),
+        About::Entry => push_entry(found, text),
+        About::Facts => push_facts(found, text),
+        About::Gathered => push_gathered(found, text),
+        About::Locals => push_locals(found, text),
+        About::Written(setting) => push_function(found, setting, text),
+        About::Counted => or_fail(push_parsed_by(
+            found,
+            Setting::PLAIN,
+            text,
+            Counting { left: 2 },
+        )),
+        About::Kept => or_fail(push_kept(found, text)),
+        About::Told => or_fail(push_told(found, text)),
+        About::Read(start) => push_read(found, text, start),
+    }
+}
+
+fn answer(alloc: Global, about: About, text: &str) -> Result<String, Fail> {
+    let mut found = String::new(alloc);
+    push_answer(&mut found, about, text)?;
+    Ok(found)
+}
+
+/// Asks about texts, each of which comes before what is wanted.
+pub(crate) fn check(
+    rt: &impl Abort,
+    alloc: Global,
+    about: About,
+    cases: &[(&str, &str)],
+) -> Result<(), Fail> {
+    for (text, want) in cases {
+        let found = answer(alloc, about, text)?;
+        assert_eq!(rt; found.as_str(), *want, "of {text}");
+    }
+    Ok(())
+}
+
+/// What is asked about a function that is made by hand.
+#[derive(Clone, Copy)]
+pub(crate) enum AboutMade {
+    /// What a walk tells.
+    Walk,
+    /// Its size and data segments, as visitors find them and as it says itself.
+    Facts,
+    /// What a visitor gathers, and what it says itself.
+    Gathered,
+    /// Its bytes and pairs when it is written.
+    Written,
+}
+
+// Appends what is asked about a function.
+fn push_about(found: &mut String, about: AboutMade, function: &LocalFunction) -> Result<(), Fail> {
+    match about {
+        AboutMade::Walk => or_fail(push_walk(found, function.builder(), 0, 1000)),
+        AboutMade::Facts => or_fail(push_visited_twice(found, function)),
+        AboutMade::Gathered => or_fail(push_gathered_twice(found, function)),
+        AboutMade::Written => push_written(found, function),
+    }
+}
+
+fn push_made(found: &mut String, about: AboutMade, instrs: &[Item]) -> Result<(), Fail> {
+    let alloc = *found.allocator();
+    match function(alloc, 3, instrs) {
+        Ok(builder) => push_about(found, about, &LocalFunction::new(Vec::new(alloc), builder)),
+        Err(error) => Err(Fail::from(error)),
+    }
+}
+
+fn answer_made(alloc: Global, about: AboutMade, instrs: &[Item]) -> Result<String, Fail> {
+    let mut found = String::new(alloc);
+    push_made(&mut found, about, instrs)?;
+    Ok(found)
+}
+
+/// Asks about functions of three sequences that are made by hand.
+pub(crate) fn check_made(
+    rt: &impl Abort,
+    alloc: Global,
+    about: AboutMade,
+    cases: &[(&[Item], &str)],
+) -> Result<(), Fail> {
+    for (instrs, want) in cases {
+        let found = answer_made(alloc, about, instrs)?;
+        assert_eq!(rt; found.as_str(), *want);
+    }
+    Ok(())
+}

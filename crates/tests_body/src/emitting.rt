@@ -1,0 +1,350 @@
+//! Functions that are written: those that are made by hand, and those that are parsed.
+use crate::by_hand::{Access, Made, function};
+use crate::cases::{About, AboutMade, check, check_made};
+use crate::function_text::{At, push_sequences};
+use crate::index_maps::give;
+use crate::small_module::Setting;
+use std::alloc::{AllocError, Global};
+use std::test::Fail;
+use walrus_body::{EmitError, IdsToIndices, IndexError, LocalFunction, Space};
+use walrus_ir::{IdHashMap, InstrLocId, InstrSeqId, InstrSeqType, LocalId, TypeId};
+use wasm_encode::FunctionEncoder;
+
+// The types 8, 2, 6 and 5 have the new indices 0 to 3; the function 7 and the memory 0 have 0.
+fn give_all(numbers: &mut IdsToIndices) -> Result<(), IndexError> {
+    for ty in [8, 2, 6, 5] {
+        give(numbers, Space::Types, ty)?;
+    }
+    give(numbers, Space::Funcs, 7)?;
+    give(numbers, Space::Memories, 0)
+}
+
+fn numbers(alloc: Global) -> Result<IdsToIndices, IndexError> {
+    let mut numbers = IdsToIndices::new(alloc);
+    give_all(&mut numbers)?;
+    Ok(numbers)
+}
+
+// The local 5 has the number 300, and 6 has 0.
+fn local_numbers(alloc: Global) -> Result<IdHashMap<LocalId, u32>, AllocError> {
+    let mut locals = IdHashMap::new(alloc);
+    for (local, number) in [(5, 300), (6, 0)] {
+        locals.insert(LocalId::new(local), number)?;
+    }
+    Ok(locals)
+}
+
+// Writes a function, if it begins with a sequence of its builder.
+fn write(
+    function: &LocalFunction,
+    indices: &IdsToIndices,
+    locals: &IdHashMap<LocalId, u32>,
+    encoder: &mut FunctionEncoder,
+    map: Option<&mut Vec<(InstrLocId, usize)>>,
+) -> Option<Result<(), EmitError>> {
+    let builder = function.builder();
+    if !builder.has(builder.entry()?) {
+        return None;
+    }
+    Some(function.emit_instructions(indices, locals, encoder, map))
+}
+
+// Appends the fault, where there is one.
+fn push_fault(text: &mut String, answer: Option<Result<(), EmitError>>) -> Result<(), Fail> {
+    match answer {
+        Some(Ok(())) => {}
+        Some(Err(error)) => write!(text, "{error:?} ")?,
+        None => text.push_str("no entry ")?,
+    }
+    Ok(())
+}
+
+// Writes a function under these numbers and those that the tests give locals, and appends the
+// fault.
+fn write_under(
+    text: &mut String,
+    function: &LocalFunction,
+    numbers: &IdsToIndices,
+    encoder: &mut FunctionEncoder,
+    map: Option<&mut Vec<(InstrLocId, usize)>>,
+) -> Result<(), Fail> {
+    let locals = local_numbers(*text.allocator())?;
+    let answer = write(function, numbers, &locals, encoder, map);
+    push_fault(text, answer)
+}
+
+// The same under the numbers of these tests.
+fn write_into(
+    text: &mut String,
+    function: &LocalFunction,
+    encoder: &mut FunctionEncoder,
+    map: Option<&mut Vec<(InstrLocId, usize)>>,
+) -> Result<(), Fail> {
+    let numbers = numbers(*text.allocator())?;
+    write_under(text, function, &numbers, encoder, map)
+}
+
+// Appends bytes and pairs.
+fn push_output(
+    text: &mut String,
+    bytes: &[u8],
+    map: &[(InstrLocId, usize)],
+) -> Result<(), AllocError> {
+    for byte in bytes {
+        write!(text, "{byte:02x}")?;
+    }
+    for (location, place) in map {
+        write!(text, " {}@{place}", At(*location))?;
+    }
+    Ok(())
+}
+
+// Writes a function, and appends what the encoder and a list of one pair then hold, and before that
+// the fault.
+fn push_encoded(
+    text: &mut String,
+    function: &LocalFunction,
+    encoder: &mut FunctionEncoder,
+) -> Result<(), Fail> {
+    let mut map = vec![in *text.allocator(); (InstrLocId::new(9), 9)]?;
+    write_into(text, function, encoder, Some(&mut map))?;
+    Ok(push_output(text, encoder.bytes(), map.as_slice())?)
+}
+
+/// Writes a function, and appends what an encoder of no declarations and a list of one pair then
+/// hold, and before that the fault.
+pub(crate) fn push_written(text: &mut String, function: &LocalFunction) -> Result<(), Fail> {
+    let mut encoder = FunctionEncoder::new(*text.allocator(), &[])?;
+    push_encoded(text, function, &mut encoder)
+}
+
+/// Bytes and pairs of functions that are made by hand; tree faults first, then the first fault in
+/// order of writing, which leaves bytes and pairs as they were.
+#[test]
+fn writes_what_is_made_by_hand(rt: HostRuntime) -> Result<(), Fail> {
+    let nested = [
+        (0, Made::Drop, 1),
+        (0, Made::Block(1), 2),
+        (1, Made::Br(0), 3),
+        (1, Made::Call(7), 4),
+    ];
+    let choice = [(0, Made::Const(300), 1), (0, Made::IfElse(1, 2), 2)];
+    let unknown = [(0, Made::Call(0), 1), (0, Made::Block(7), 1)];
+    let own = [(0, Made::Block(0), 1)];
+    let shared = [(0, Made::Block(1), 1), (0, Made::Block(1), 2)];
+    let outside = [
+        (0, Made::Block(1), 1),
+        (0, Made::Br(1), 2),
+        (0, Made::Call(0), 3),
+    ];
+    let unnumbered = [
+        (0, Made::Drop, 1),
+        (0, Made::Call(0), 2),
+        (0, Made::Br(1), 3),
+    ];
+    let cases = [
+        (
+            nested.as_slice(),
+            "001a02400c0110000b0b 9@9 1@1 2@2 3@4 4@6 -@8 -@9",
+        ),
+        (
+            choice.as_slice(),
+            "0041ac020440050b0b 9@9 1@1 2@4 -@6 -@7 -@8",
+        ),
+        (unknown.as_slice(), "UnknownSequence 00 9@9"),
+        (own.as_slice(), "SharedSequence 00 9@9"),
+        (shared.as_slice(), "SharedSequence 00 9@9"),
+        (outside.as_slice(), "BranchOutside 00 9@9"),
+        (
+            unnumbered.as_slice(),
+            "Index(Unnumbered { space: Funcs }) 00 9@9",
+        ),
+    ];
+    check_made(&rt, rt.alloc(), AboutMade::Written, &cases)
+}
+
+/// Locals are written by the numbers that are handed in; one without is refused in its turn.
+#[test]
+fn writes_numbers_of_locals(rt: HostRuntime) -> Result<(), Fail> {
+    let numbered = [
+        (0, Made::Local(Access::Get, 5), 1),
+        (0, Made::Local(Access::Set, 6), 2),
+        (0, Made::Local(Access::Tee, 5), 3),
+    ];
+    let first = [
+        (0, Made::Drop, 1),
+        (0, Made::Local(Access::Set, 7), 2),
+        (0, Made::Call(0), 3),
+    ];
+    let second = [(0, Made::Call(0), 1), (0, Made::Local(Access::Tee, 7), 2)];
+    let cases = [
+        (
+            numbered.as_slice(),
+            "0020ac02210022ac020b 9@9 1@1 2@4 3@6 -@9",
+        ),
+        (first.as_slice(), "UnnumberedLocal 00 9@9"),
+        (
+            second.as_slice(),
+            "Index(Unnumbered { space: Funcs }) 00 9@9",
+        ),
+    ];
+    check_made(&rt, rt.alloc(), AboutMade::Written, &cases)
+}
+
+/// An alignment in bytes is written as the exponent of the greatest power of two that is at most
+/// it, and 0 as that of 1.
+#[test]
+fn writes_exponents_of_alignments(rt: HostRuntime) -> Result<(), Fail> {
+    for (align, want) in [
+        (0, "002800000b 9@9 1@1 -@4"),
+        (1, "002800000b 9@9 1@1 -@4"),
+        (2, "002801000b 9@9 1@1 -@4"),
+        (3, "002801000b 9@9 1@1 -@4"),
+        (4, "002802000b 9@9 1@1 -@4"),
+        (6, "002802000b 9@9 1@1 -@4"),
+        (12, "002803000b 9@9 1@1 -@4"),
+        (u32::MAX, "00281f000b 9@9 1@1 -@4"),
+    ] {
+        let load = [(0, Made::Load(align), 1)];
+        check_made(
+            &rt,
+            rt.alloc(),
+            AboutMade::Written,
+            &[(load.as_slice(), want)],
+        )?;
+    }
+    Ok(())
+}
+
+/// Bodies whose places are known: of code that begins at 90, and at 0.
+#[test]
+fn writes_what_is_parsed(rt: HostRuntime) -> Result<(), Fail> {
+    for (offset, before, body, want) in [
+        (90, 10, "00010b", "000b 9@9 102@1"),
+        (
+            0,
+            0,
+            "00410104400b0b",
+            "0041010440050b0b 9@9 1@1 3@3 5@5 -@6 6@7",
+        ),
+    ] {
+        let setting = Setting {
+            ty: 0,
+            offset,
+            before,
+            ops: 1,
+            located: false,
+        };
+        check(&rt, rt.alloc(), About::Written(setting), &[(body, want)])?;
+    }
+    Ok(())
+}
+
+// Appends the bytes of a function that is written without a list of pairs, and before them the
+// fault.
+fn push_unlisted(text: &mut String, function: &LocalFunction) -> Result<(), Fail> {
+    let mut encoder = FunctionEncoder::new(*text.allocator(), &[])?;
+    write_into(text, function, &mut encoder, None)?;
+    Ok(push_output(text, encoder.bytes(), &[])?)
+}
+
+/// A function that is written without a list of pairs has the same bytes.
+#[test]
+fn writes_without_pairs(rt: HostRuntime) -> Result<(), Fail> {
+    let function = changed(rt.alloc())?;
+    let mut text = String::new(rt.alloc());
+    push_unlisted(&mut text, &function)?;
+    assert_eq!(rt; text.as_str(), "0002030b1a0b");
+    Ok(())
+}
+
+// Changes the type and the end of the second sequence.
+fn change_second(function: &mut LocalFunction) {
+    let second = InstrSeqId::new(1);
+    if function.has_block(second) {
+        let sequence = function.block_mut(second);
+        sequence.ty = InstrSeqType::MultiValue(TypeId::new(5));
+        sequence.end = InstrLocId::new(77);
+    }
+}
+
+// A function whose second sequence was changed.
+fn changed(alloc: Global) -> Result<LocalFunction, AllocError> {
+    let builder = function(alloc, 2, &[(0, Made::Block(1), 1), (0, Made::Drop, 2)])?;
+    let mut function = LocalFunction::new(Vec::new(alloc), builder);
+    change_second(&mut function);
+    Ok(function)
+}
+
+// Appends what is written of a function, and its sequences.
+fn push_written_and_read(text: &mut String, function: &LocalFunction) -> Result<(), Fail> {
+    push_written(text, function)?;
+    Ok(push_sequences(text, function.builder())?)
+}
+
+/// A sequence that is changed through `block_mut` is changed alone, and its type is written as it
+/// is named, not as an equal one.
+#[test]
+fn changes_one_sequence(rt: HostRuntime) -> Result<(), Fail> {
+    let function = changed(rt.alloc())?;
+    let mut text = String::new(rt.alloc());
+    push_written_and_read(&mut text, &function)?;
+    assert_eq!(rt;
+        text.as_str(),
+        "0002030b1a0b 9@9 1@1 77@3 2@4 -@5 ()[ block 1@1 drop@2 ]- type5[ ]77"
+    );
+    Ok(())
+}
+
+// Appends what a function says about itself.
+fn push_shape(text: &mut String, function: &LocalFunction) -> Result<(), AllocError> {
+    let pairs = function.instruction_mapping.len();
+    write!(
+        text,
+        " type{} {pairs} {:?}",
+        function.ty().index(),
+        function.original_range
+    )?;
+    for local in &function.args {
+        write!(text, " local{}", local.index())?;
+    }
+    if function.has_entry() {
+        let entry = function.entry_block();
+        write!(
+            text,
+            " entry{} {}",
+            entry.index(),
+            function.block(entry).len()
+        )?;
+    }
+    Ok(())
+}
+
+// A function of two sequences, the second of which has one instruction, and two arguments.
+fn with_arguments(alloc: Global) -> Result<LocalFunction, AllocError> {
+    let args = vec![in alloc; LocalId::new(3), LocalId::new(1)]?;
+    let builder = function(alloc, 2, &[(1, Made::Drop, 5)])?;
+    Ok(LocalFunction::new(args, builder))
+}
+
+// Appends what a function says about itself that begins with no sequence, and with the second.
+fn push_shapes(text: &mut String, function: &mut LocalFunction) -> Result<(), AllocError> {
+    for entry in [2, 1] {
+        function.builder_mut().set_entry(InstrSeqId::new(entry));
+        push_shape(text, function)?;
+    }
+    Ok(())
+}
+
+/// A function holds what it is made of, and nothing that was read; its entry can be set.
+#[test]
+fn has_what_it_was_made_of(rt: HostRuntime) -> Result<(), Fail> {
+    let mut function = with_arguments(rt.alloc())?;
+    let mut text = String::new(rt.alloc());
+    push_shapes(&mut text, &mut function)?;
+    assert_eq!(rt;
+        text.as_str(),
+        " type0 0 None local3 local1 type0 0 None local3 local1 entry1 1"
+    );
+    Ok(())
+}

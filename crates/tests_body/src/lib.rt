@@ -1,0 +1,46 @@
+//! Tests of reading, parsing, walking and writing, of what no contract says: worked rows and cases
+//! from outside, printed texts, the laws' calls, and that each call that takes memory succeeds
+//! where memory is left. A test is a table of texts or of functions that are made by hand, each
+//! beside the text that is wanted (`cases`). A function here owns one large value and lends it to
+//! the next: one that holds several over calls that may fail takes minutes to prove.
+#![tactic(auto)]
+
+#[cfg(test)]
+mod by_hand;
+#[cfg(test)]
+mod cases;
+#[cfg(test)]
+mod context;
+#[cfg(test)]
+mod emit;
+#[cfg(test)]
+mod emitting;
+#[cfg(test)]
+mod exceptions;
+#[cfg(test)]
+mod facts;
+#[cfg(test)]
+mod function_text;
+#[cfg(test)]
+mod index_maps;
+mod lent;
+#[cfg(test)]
+mod locals;
+#[cfg(test)]
+mod modules;
+#[cfg(test)]
+mod parse_refusals;
+#[cfg(test)]
+mod parsing;
+#[cfg(test)]
+mod plain_module;
+#[cfg(test)]
+mod reading;
+mod recorder;
+#[cfg(test)]
+mod small_module;
+mod validators;
+#[cfg(test)]
+mod walk;
+#[cfg(test)]
+mod writing;

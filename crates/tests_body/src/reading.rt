@@ -1,0 +1,122 @@
+//! Operators that are read one after the other, and compared.
+use crate::cases::{About, check};
+use crate::function_text::Code;
+use std::alloc::{AllocError, Global};
+use std::test::Fail;
+use wasm_ops::{
+    BrTable, Operator, ReadError, Reader, law_one_list, law_one_spelling, law_operator_equality,
+    law_reading, law_shortest, law_shortest_number,
+};
+
+// Appends the next operator, as its opcode and what follows that, and the place after it; or the
+// fault. Returns whether there was one.
+fn push_next(text: &mut String, reader: &mut Reader<'_>) -> Result<bool, AllocError> {
+    match reader.read() {
+        Ok(operator) => {
+            let (opcode, immediates) = operator.parts();
+            let place = reader.original_position();
+            write!(text, " {} {immediates:?} {place}", Code(opcode))?;
+            Ok(true)
+        }
+        Err(error) => {
+            write!(text, " {error:?}")?;
+            Ok(false)
+        }
+    }
+}
+
+fn push_operators(text: &mut String, bytes: &[u8], start: u32) -> Result<(), AllocError> {
+    let mut reader = Reader::new(bytes, start as usize);
+    for _ in bytes {
+        if reader.eof() || !push_next(text, &mut reader)? {
+            break;
+        }
+    }
+    Ok(())
+}
+
+/// Appends the operators in hexadecimal text that begins at a place, each with the place after it,
+/// and last the fault where there is one.
+pub(crate) fn push_read(text: &mut String, bytes: &str, start: u32) -> Result<(), Fail> {
+    let bytes = hex::decode(*text.allocator(), bytes)?;
+    Ok(push_operators(text, &bytes, start)?)
+}
+
+/// Operators with the places after them; a fault has its operator's place.
+#[test]
+fn reads_one_after_the_other(rt: HostRuntime) -> Result<(), Fail> {
+    let cases = [
+        (
+            "427ffc870028028080808010",
+            " 42 I64(-1) 102 fc.7 Nothing 105 \
+            28 Access(RawMemArg { exponent: 2, memory: 0, offset: 4294967296 }) 112",
+        ),
+        (
+            "010141",
+            " 01 Nothing 101 01 Nothing 102 ReadError { fault: Truncated, at: 102 }",
+        ),
+        (
+            "02400340047f050d01",
+            " 02 Block(Empty) 102 03 Block(Empty) 104 04 Block(Value(I32)) 106 05 Nothing 107 \
+            0d Label(1) 109",
+        ),
+        (
+            "0c83011085001180010045",
+            " 0c Label(131) 103 10 Index(Funcs, 5) 106 11 Pair(Types, 128, Tables, 0) 110 \
+            45 Nothing 111",
+        ),
+        ("0e0100", " ReadError { fault: Truncated, at: 100 }"),
+    ];
+    check(&rt, rt.alloc(), About::Read(100), &cases)
+}
+
+// The number of labels, the default, and the labels.
+fn labels_text(alloc: Global, table: &BrTable<'_>) -> Result<String, AllocError> {
+    let mut text = format!(in alloc; "{} {}:", table.len(), table.default())?;
+    for label in table.targets() {
+        write!(text, " {label}")?;
+    }
+    Ok(text)
+}
+
+fn table_text(alloc: Global, operator: &Operator<'_>) -> Result<String, AllocError> {
+    match operator {
+        Operator::BrTable(table) => labels_text(alloc, table),
+        _ => Ok(String::new(alloc)),
+    }
+}
+
+/// The labels of a branch table, which are in the input.
+#[test]
+fn reads_labels(rt: HostRuntime) -> Result<(), Fail> {
+    let mut reader = Reader::new(&[0x0e, 2, 0, 1, 2], 7);
+    let operator = reader.read()?;
+    let text = table_text(rt.alloc(), &operator)?;
+    assert_eq!(rt; text.as_str(), "2 2: 0 1");
+    assert_eq!(rt; reader.original_position(), 12);
+    Ok(())
+}
+
+// Whether the operator of these bytes is a branch to the label 131: by the law, and compared.
+fn is_branch(bytes: &[u8]) -> Result<(bool, bool), ReadError> {
+    let branch = Operator::Br { label: 131 };
+    let operator = Reader::new(bytes, 0).read()?;
+    Ok((
+        law_operator_equality(&operator, &branch),
+        operator == branch,
+    ))
+}
+
+/// The laws of reading can be called, and operators are compared by their meanings.
+#[test]
+fn calls_the_laws_of_reading(rt: HostRuntime) -> Result<(), Fail> {
+    for (bytes, same) in [([0x0c, 0x83, 0x01], true), ([0x0c, 0x83, 0x02], false)] {
+        assert_eq!(rt; is_branch(&bytes)?, (same, same));
+    }
+    law_reading();
+    law_one_spelling();
+    law_one_list();
+    law_shortest_number();
+    law_shortest();
+    Ok(())
+}

@@ -1,0 +1,256 @@
+//! A module whose ids aren't its old indices, and what its functions' bodies give.
+ghost use Rattle.std.specs.Prelude.{◌≡◌, IfOk};
+
+use crate::function_text::{Fault, push_parsed_function, push_sequence};
+use crate::validators::Telling;
+use std::alloc::{AllocError, Global};
+use std::test::Fail;
+use walrus_body::{
+    AcceptAll, FunctionBody, IndexError, IndicesToIds, LocalFunction, OpCheck, ParseError,
+    ParseFailure,
+};
+use walrus_ir::{
+    DataId, ElementId, FunctionId, GlobalId, Instr, InstrLocId, LocalId, MemoryId, Module,
+    ModuleItems, ModuleTags, ModuleTypes, TableId, TagId, TypeId, ValType,
+};
+
+/// A module and the ids of its old indices.
+#[derive(Drop)]
+pub(crate) struct Example {
+    pub module: Module,
+    pub indices: IndicesToIds,
+}
+
+/// 0 is from nothing to nothing, 1 and 2 are from an `i32` to an `i32`, 3 is no function type, 4 is
+/// the entry type for nothing, 5 is from an `i64` to an `f32`, and 6 the entry type for two `i32`.
+pub(crate) fn types(alloc: Global) -> Result<ModuleTypes, AllocError> {
+    let mut types = ModuleTypes::new(alloc);
+    for id in 0..7 {
+        add_type(&mut types, id)?;
+    }
+    Ok(types)
+}
+
+fn add_type(types: &mut ModuleTypes, id: usize) -> Result<TypeId, AllocError> {
+    match id {
+        0 => types.add_func(&[], &[]),
+        1 | 2 => types.add_func(&[ValType::I32], &[ValType::I32]),
+        3 => types.add_other(),
+        4 => types.add_entry(&[]),
+        5 => types.add_func(&[ValType::I64], &[ValType::F32]),
+        _ => types.add_entry(&[ValType::I32, ValType::I32]),
+    }
+}
+
+// Of the types 0, 3 and 1.
+fn tags(alloc: Global) -> Result<ModuleTags, AllocError> {
+    let mut tags = ModuleTags::new(alloc);
+    for ty in [0, 3, 1] {
+        tags.add(TypeId::new(ty))?;
+    }
+    Ok(tags)
+}
+
+// The old types 0 to 3 have the ids 0, 2, 3 and 6; of all else there are
+// one or two, but of tags four, the last of which the module doesn't hold.
+fn push_ids(indices: &mut IndicesToIds) -> Result<(), IndexError> {
+    for ty in [0, 2, 3, 6] {
+        indices.push_type(TypeId::new(ty))?;
+    }
+    for number in [2, 1] {
+        indices.push_func(FunctionId::new(number + 10))?;
+        indices.push_table(TableId::new(number + 20))?;
+        indices.push_data(DataId::new(number + 60))?;
+    }
+    indices.push_global(GlobalId::new(31))?;
+    indices.push_memory(MemoryId::new(41))?;
+    indices.push_element(ElementId::new(51))?;
+    for tag in [0, 1, 2, 71] {
+        indices.push_tag(TagId::new(tag))?;
+    }
+    Ok(())
+}
+
+fn indices(alloc: Global) -> Result<IndicesToIds, IndexError> {
+    let mut indices = IndicesToIds::new(alloc);
+    push_ids(&mut indices)?;
+    Ok(indices)
+}
+
+fn module(alloc: Global, code_section_offset: usize) -> Result<Module, AllocError>
+    ensures { IfOk result (λ m. m.code_section_offset ≡ code_section_offset) }
+{
+    let types = types(alloc)?;
+    let tags = tags(alloc)?;
+    Ok(Module {
+        types,
+        tags,
+        locals: ModuleItems::new(alloc),
+        code_section_offset,
+    })
+}
+
+impl Example {
+    /// The module, whose code begins at this place.
+    pub(crate) fn new(alloc: Global, code_section_offset: usize) -> Result<Example, IndexError>
+        ensures { IfOk result (λ example.
+            example.module.code_section_offset ≡ code_section_offset) }
+    {
+        let indices = indices(alloc)?;
+        match module(alloc, code_section_offset) {
+            Ok(module) => Ok(Example { module, indices }),
+            Err(_) => Err(IndexError::Memory),
+        }
+    }
+}
+
+/// Where a body stands, and how it is parsed.
+#[derive(Clone, Copy)]
+pub(crate) struct Setting {
+    /// The function's type.
+    pub ty: usize,
+    /// Where the module's code begins.
+    pub offset: u32,
+    /// The number of bytes between that and the body.
+    pub before: u32,
+    /// The position of the first operator.
+    pub ops: usize,
+    /// Whether locations are asked for, which are then twice the places.
+    pub located: bool,
+}
+
+impl Setting {
+    /// Operators that stand at the place 0, of a function without arguments and results.
+    pub(crate) const PLAIN: Setting = Setting {
+        ty: 0,
+        offset: 0,
+        before: 0,
+        ops: 0,
+        located: false,
+    };
+}
+
+// Twice the place, where that fits.
+pub(crate) fn doubled(place: usize) -> InstrLocId {
+    InstrLocId::new((place % 1_000_000_000) as u32 * 2)
+}
+
+/// Want of memory, at no place.
+pub(crate) const OUT_OF_MEMORY: ParseFailure = ParseFailure {
+    error: ParseError::Memory,
+    at: 0,
+};
+
+/// Parses a function with this id and these arguments, whose body is hexadecimal text, with the
+/// list that is lent.
+pub(crate) fn parse_in<V: OpCheck>(
+    example: &Example,
+    id: FunctionId,
+    args: Vec<LocalId>,
+    setting: Setting,
+    body: &str,
+    validator: V,
+    instrs: &mut Vec<(Instr, InstrLocId)>,
+) -> Result<LocalFunction, ParseFailure>
+    requires { example.now.module.code_section_offset ≡ setting.offset }
+{
+    let Ok(bytes) = hex::decode(*instrs.allocator(), body) else {
+        return Err(OUT_OF_MEMORY);
+    };
+    let body = FunctionBody {
+        bytes: &bytes,
+        start: setting.offset as usize + setting.before as usize,
+        ops: setting.ops.min(bytes.len()),
+    };
+    let locate = |place: &usize| doubled(*place);
+    LocalFunction::parse(
+        &example.module,
+        &example.indices,
+        id,
+        TypeId::new(setting.ty),
+        args,
+        body,
+        if setting.located { Some(&locate) } else { None },
+        validator,
+        instrs,
+    )
+}
+
+/// Parses a function without arguments, whose body is hexadecimal text, with the list that is lent.
+pub(crate) fn parse_lent<V: OpCheck>(
+    alloc: Global,
+    setting: Setting,
+    body: &str,
+    validator: V,
+    instrs: &mut Vec<(Instr, InstrLocId)>,
+) -> Result<LocalFunction, ParseFailure> {
+    let (id, args) = (FunctionId::new(12), Vec::new(alloc));
+    match Example::new(alloc, setting.offset as usize) {
+        Ok(example) => parse_in(&example, id, args, setting, body, validator, instrs),
+        Err(_) => Err(OUT_OF_MEMORY),
+    }
+}
+
+/// Parses a function that no validator refuses.
+pub(crate) fn parse(
+    alloc: Global,
+    setting: Setting,
+    body: &str,
+) -> Result<LocalFunction, ParseFailure> {
+    let mut instrs = Vec::new(alloc);
+    parse_lent(alloc, setting, body, AcceptAll, &mut instrs)
+}
+
+/// Appends what a parse gives: the function, or the fault and its place.
+pub(crate) fn push_parsed_by<V: OpCheck>(
+    text: &mut String,
+    setting: Setting,
+    body: &str,
+    validator: V,
+) -> Result<(), AllocError> {
+    let alloc = *text.allocator();
+    let mut instrs = Vec::new(alloc);
+    match parse_lent(alloc, setting, body, validator, &mut instrs) {
+        Ok(function) => push_parsed_function(text, &function),
+        Err(failure) => write!(text, "{} at {}", Fault(failure.error), failure.at),
+    }
+}
+
+/// Appends what a parse gives where no validator refuses anything.
+pub(crate) fn push_parsed(
+    text: &mut String,
+    setting: Setting,
+    body: &str,
+) -> Result<(), AllocError> {
+    push_parsed_by(text, setting, body, AcceptAll)
+}
+
+// The places of the operators that a validator is asked about.
+fn told(alloc: Global, body: &str) -> Vec<usize> {
+    let mut told = Vec::new(alloc);
+    let mut instrs = Vec::new(alloc);
+    let telling = Telling { told: &mut told };
+    let _ = parse_lent(alloc, Setting::PLAIN, body, telling, &mut instrs).is_ok();
+    told
+}
+
+/// Appends the places of the operators that a validator is asked about.
+pub(crate) fn push_told(text: &mut String, body: &str) -> Result<(), AllocError> {
+    let told = told(*text.allocator(), body);
+    write!(text, "{told:?}")
+}
+
+// Appends the first sequence of a function.
+fn push_first(text: &mut String, function: &LocalFunction) -> Result<(), AllocError> {
+    if function.has_entry() {
+        push_sequence(text, function.block(function.entry_block()))
+    } else {
+        Ok(())
+    }
+}
+
+/// Appends the first sequence of the function that these operators give.
+pub(crate) fn push_entry(text: &mut String, body: &str) -> Result<(), Fail> {
+    let function = parse(*text.allocator(), Setting::PLAIN, body)?;
+    Ok(push_first(text, &function)?)
+}

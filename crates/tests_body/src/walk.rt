@@ -1,0 +1,105 @@
+//! Walks over functions that are made by hand.
+use crate::by_hand::{Access, Made, Use, deep, example};
+use crate::cases::{AboutMade, check_made};
+use crate::facts::size;
+use crate::recorder::Recorder;
+use std::alloc::{AllocError, Global};
+use std::process::Abort;
+use std::test::Fail;
+use walrus_ir::{FunctionBuilder, InstrSeqId, dfs_in_order};
+
+/// Appends what a recorder that takes so many calls is told of the walk from a sequence on, and the
+/// fault.
+pub(crate) fn push_walk(
+    text: &mut String,
+    builder: &FunctionBuilder,
+    start: usize,
+    calls: u32,
+) -> Result<(), AllocError> {
+    let mut recorder = Recorder::new(*text.allocator(), calls);
+    let answer = dfs_in_order(&mut recorder, builder, InstrSeqId::new(start));
+    recorder.push_text(text)?;
+    match answer {
+        Ok(()) => Ok(()),
+        Err(error) => write!(text, " {error:?}"),
+    }
+}
+
+fn walked(
+    alloc: Global,
+    builder: &FunctionBuilder,
+    start: usize,
+    calls: u32,
+) -> Result<String, AllocError> {
+    let mut text = String::new(alloc);
+    push_walk(&mut text, builder, start, calls)?;
+    Ok(text)
+}
+
+// The whole walk, one that the visitor refuses at its third call, and one from nowhere.
+fn check_walks(rt: &impl Abort, alloc: Global, builder: &FunctionBuilder) -> Result<(), Fail> {
+    let whole = " start0 const1 drop0 block0 start1 const2 drop0 if-else0 start2 const3 drop0 end2 \
+        start3 const4 drop0 end2 const5 drop0 end5 const6 drop0 try0 start4 const7 drop0 end2 \
+        start5 const8 drop0 end2 start6 const9 drop0 end2 const10 drop0 end8";
+    for (start, calls, want) in [
+        (0, 1000, whole),
+        (0, 2, " start0 const1 TooLarge"),
+        (9, 1000, " UnknownSequence"),
+    ] {
+        let found = walked(alloc, builder, start, calls)?;
+        assert_eq!(rt; found.as_str(), want);
+    }
+    Ok(())
+}
+
+/// Walks over every kind of sequence.
+#[test]
+fn walks_in_order(rt: HostRuntime) -> Result<(), Fail> {
+    let builder = example(rt.alloc())?;
+    check_walks(&rt, rt.alloc(), &builder)
+}
+
+/// The names that are told after instructions; the first fault of what is no tree, before anything
+/// is told.
+#[test]
+fn tells_names_and_faults(rt: HostRuntime) -> Result<(), Fail> {
+    let names = [
+        (0, Made::Local(Access::Get, 1), 0),
+        (0, Made::Local(Access::Set, 2), 0),
+        (0, Made::Local(Access::Tee, 3), 0),
+        (0, Made::Data(Use::Init, 4), 0),
+        (0, Made::Data(Use::Drop, 5), 0),
+        (0, Made::Data(Use::NewArray, 6), 0),
+        (0, Made::Data(Use::InitArray, 7), 0),
+        (0, Made::RefFunc(9), 0),
+        (0, Made::Call(9), 0),
+    ];
+    let told = " start0 other0 local1 other0 local2 other0 local3 other0 data4 other0 data5 \
+        other0 data6 other0 data7 other0 func9 other0 end9";
+    let own = [(0, Made::Block(0), 0)];
+    let unknown = [(0, Made::Block(7), 0), (0, Made::Block(0), 0)];
+    let twice = [
+        (0, Made::Block(1), 0),
+        (0, Made::Block(1), 0),
+        (0, Made::Block(7), 0),
+    ];
+    let cases = [
+        (names.as_slice(), told),
+        (own.as_slice(), " SharedSequence"),
+        (unknown.as_slice(), " UnknownSequence"),
+        (twice.as_slice(), " SharedSequence"),
+    ];
+    check_made(&rt, rt.alloc(), AboutMade::Walk, &cases)
+}
+
+/// Neither a walk nor counting takes stack for each level.
+#[test]
+fn walks_a_deep_tree(rt: HostRuntime) -> Result<(), Fail> {
+    let builder = deep(rt.alloc(), 100_000)?;
+    let mut recorder = Recorder::new(rt.alloc(), 300_002);
+    let answer = dfs_in_order(&mut recorder, &builder, InstrSeqId::new(0));
+    assert_eq!(rt; answer, Ok(()));
+    assert_eq!(rt; recorder.calls_left, 0);
+    assert_eq!(rt; size(&builder, InstrSeqId::new(0)), Ok(100_000));
+    Ok(())
+}

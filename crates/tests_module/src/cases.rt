@@ -1,0 +1,115 @@
+//! Tables of modules: what is found about each, as text, beside what is wanted. A module is given
+//! as its preamble and its sections in hexadecimal, with spaces between them.
+use crate::tools::{bodies_text, counted_text, snipped_text};
+use crate::whole_modules::{map_or_faults, notes_of, rewritten_text};
+use std::alloc::Global;
+use std::process::Abort;
+use std::test::Fail;
+use wasm_module::{ModuleError, ModuleFault, ParsedModule};
+
+/// What is asked about a module.
+#[derive(Clone, Copy)]
+pub(crate) enum Asked<'i> {
+    /// Whether it is read.
+    Read,
+    /// Which of its first four functions have a body.
+    Bodies,
+    /// The module that is written for it, in hexadecimal.
+    Rewritten,
+    /// What is said of its sections when it is rewritten.
+    Notes,
+    /// Which of its bodies are refused; and its location map where none is.
+    MapOrFaults,
+    /// The module where each function counts its calls, in hexadecimal.
+    Counted,
+    /// The module without the bodies of these functions, in hexadecimal.
+    Snipped(&'i [usize]),
+}
+
+/// The bytes of a module.
+pub(crate) fn bytes_of(alloc: Global, module: &str) -> Result<Vec<u8>, Fail> {
+    let mut bytes = Vec::new(alloc);
+    for part in module.split(' ') {
+        bytes.extend_from_slice(&hex::decode(alloc, part)?)?;
+    }
+    Ok(bytes)
+}
+
+/// The module without the spaces between its sections.
+pub(crate) fn without_spaces(alloc: Global, module: &str) -> Result<String, Fail> {
+    let bytes = bytes_of(alloc, module)?;
+    Ok(hex::encode(alloc, bytes)?)
+}
+
+/// A fault's name, and its place.
+pub(crate) fn fault_text(alloc: Global, error: ModuleError) -> Result<String, Fail> {
+    let text = match error.fault {
+        ModuleFault::Code(fault) => format!(in alloc; "{fault:?} at {}", error.at)?,
+        fault => format!(in alloc; "{fault:?} at {}", error.at)?,
+    };
+    Ok(text)
+}
+
+// What is found about a module that is read.
+fn answer(alloc: Global, asked: Asked<'_>, parsed: &mut ParsedModule<'_>) -> Result<String, Fail> {
+    match asked {
+        Asked::Read => Ok("read".to_string(alloc)?),
+        Asked::Bodies => bodies_text(alloc, parsed),
+        Asked::Rewritten => rewritten_text(alloc, parsed),
+        Asked::Notes => notes_of(alloc, parsed),
+        Asked::MapOrFaults => map_or_faults(alloc, parsed),
+        Asked::Counted => counted_text(alloc, parsed),
+        Asked::Snipped(functions) => snipped_text(alloc, parsed, functions),
+    }
+}
+
+/// What is found about the module of these bytes, or its first fault.
+pub(crate) fn found(alloc: Global, asked: Asked<'_>, bytes: &[u8]) -> Result<String, Fail> {
+    match ParsedModule::read(alloc, bytes) {
+        Ok(mut parsed) => answer(alloc, asked, &mut parsed),
+        Err(error) => fault_text(alloc, error),
+    }
+}
+
+fn found_of(alloc: Global, asked: Asked<'_>, module: &str) -> Result<String, Fail> {
+    let bytes = bytes_of(alloc, module)?;
+    found(alloc, asked, &bytes)
+}
+
+/// Asks about modules, each of which comes before what is wanted.
+pub(crate) fn check(
+    rt: &impl Abort,
+    alloc: Global,
+    asked: Asked<'_>,
+    cases: &[(&str, &str)],
+) -> Result<(), Fail> {
+    for (module, want) in cases {
+        let found = found_of(alloc, asked, module)?;
+        assert_eq!(rt; found.as_str(), *want, "of {module}");
+    }
+    Ok(())
+}
+
+fn check_module(
+    rt: &impl Abort,
+    alloc: Global,
+    asked: Asked<'_>,
+    module: &str,
+    want: &str,
+) -> Result<(), Fail> {
+    let want = without_spaces(alloc, want)?;
+    check(rt, alloc, asked, &[(module, want.as_str())])
+}
+
+/// The same where what is wanted is a module.
+pub(crate) fn check_modules(
+    rt: &impl Abort,
+    alloc: Global,
+    asked: Asked<'_>,
+    cases: &[(&str, &str)],
+) -> Result<(), Fail> {
+    for (module, want) in cases {
+        check_module(rt, alloc, asked, module, want)?;
+    }
+    Ok(())
+}

@@ -1,0 +1,13 @@
+//! Tests of whole modules: what is written of them, their faults, and the tools that change them. A
+//! function here owns one large value and lends it to the next: one that holds several over calls
+//! that may fail takes minutes to prove.
+#![tactic(auto)]
+
+#[cfg(test)]
+mod cases;
+#[cfg(test)]
+mod every_operator;
+#[cfg(test)]
+mod tools;
+#[cfg(test)]
+mod whole_modules;

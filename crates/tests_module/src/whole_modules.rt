@@ -1,0 +1,405 @@
+//! Whole modules: their sections, and what follows their code.
+use crate::cases::{Asked, bytes_of, check, check_modules, fault_text, found};
+use std::alloc::{AllocError, Global};
+use std::test::Fail;
+use wasm_module::{
+    BodyWriter, Command, Note, ParsedModule, RewrittenModule, Sections, Task, WriteError,
+};
+
+/// A section of each kind, in order, with custom sections between them, and bodies that are as they
+/// are written. The types are: from nothing to nothing; from an i32 to an i32; a group of two
+/// structs, of which the second is a subtype of the first; an array of i16; from an i32 to nothing.
+/// A function, a table, a memory, a global and a tag are imported. There are tables with a maximum,
+/// with an expression, and with numbers of 64 bits, and element segments of all eight kinds.
+const EVERY_SECTION: &str = "0061736d01000000 0007056669727374ff \
+    01260560000060017f017f4e0250005f027f0178004f01025f037f0178006402005e770160017f00 00020161 \
+    022505016d01660000016d01740170010105016d016e020001016d0167037f00016d0178040005 0303020100 \
+    0410037000014000700001d2000b6f050102 0509030101020401030101 0d03010000 00020161 \
+    0611037f00412a0b630201d0020b7e0142000b 0717050372756e000101740101016e02000167030101780401 \
+    080100 \
+    092e080041000b010001000101020141000b0001000300000441000b01d2000b057001d0700b060241000b6f00\
+    077000 0c0103 0a1902040020000b1200410041004100fc080000fc0900fc0d030b 0003016200 \
+    0b13030041000b0268690103010203020142000b00 0007046c6173740102";
+
+/// Two functions after an imported one, with names and branch hints. Of functions f, g, h; of
+/// locals imp in f, p, a, unused and b in g, y in h; of g's labels outer, cond, dead and last. The
+/// hints stand at 12, 17 and 28, counted from the first byte of g's body. That declares an i64, an
+/// f32 and an i32, and is: nop, block [ local.get 0, br_if 0, nop, local.get 0, if [ unreachable,
+/// block [ nop ] ] ], local.get 0, if [ i64.const 1, local.set 1 ], local.get 3.
+pub(crate) const FOLLOWED: &str =
+    "0061736d01000000 01090260017f017f600000 020701016d01660001 0303020001 07050101670001 \
+    0026196d657461646174612e636f64652e6272616e63685f68696e740101030c01011101001c0101 \
+    0a31022603017e017d017f01024020000d000120000440000240010b0b0b20000440420121010b20030b080101\
+    7f0120001a0b \
+    005d046e616d650004036d6f64010a0300016601016702016802200300010003696d7001040001700101610206\
+    756e757365640301620201000179031c01010400056f757465720104636f6e6402046465616403046c61737404\
+    0401010176 001710736f757263654d617070696e6755524c05782e6d6170";
+
+/// The same, rewritten: the i32 stands before the i64, the f32 isn't declared, each `if` has an
+/// `else`, and the block after `unreachable` is dropped. So b is the local 1, and a is 2; last is
+/// the label 2; and the hints stand at 9, 13 and 21.
+pub(crate) const FOLLOWED_REWRITTEN: &str =
+    "0061736d01000000 01090260017f017f600000 020701016d01660001 0303020001 07050101670001 \
+    0026196d657461646174612e636f64652e6272616e63685f68696e740101030901010d0100150101 \
+    0a2a022002017f017e024020000d002000044000050b0b2000044042012102050b20010b0701017f20001a0b \
+    004f046e616d650004036d6f64010a0300016601016702016802180300010003696d7001030001700101620201\
+    610201000179031601010300056f757465720104636f6e6402046c617374040401010176 \
+    001710736f757263654d617070696e6755524c05782e6d6170";
+
+/// Handlers of a legacy `try` with a result: that of the `catch` takes an i32 and gives one, and no
+/// type of the module does.
+const HANDLERS: &str =
+    "0061736d01000000 010c0360000060017f006000017f 0303020202 0d03010001 0709020167000001680001 \
+    0a20021100067f4107080041050700010b41016a0b0c00067f410308001941090b0b";
+
+/// The same without what can't be reached.
+const HANDLERS_REWRITTEN: &str =
+    "0061736d01000000 010c0360000060017f006000017f 0303020202 0d03010001 0709020167000001680001 \
+    0a1d020e00067f4107080007000b41016a0b0c00067f410308001941090b0b";
+
+/// The module that is written, in hexadecimal; or the fault of a change that isn't steady.
+pub(crate) fn written_text<B: BodyWriter>(
+    alloc: Global,
+    parsed: &mut ParsedModule<'_>,
+    rewritten: &RewrittenModule<'_, B>,
+) -> Result<String, Fail> {
+    let mut out = Vec::new(alloc);
+    match parsed.write_module(rewritten, &mut out) {
+        Ok(()) => Ok(hex::encode(alloc, out)?),
+        Err(WriteError::Module(error)) => fault_text(alloc, error),
+        Err(WriteError::Io(error)) => Err(Fail::from(error)),
+    }
+}
+
+/// The module that is written for this one, in hexadecimal; or the first fault of its bodies.
+pub(crate) fn rewritten_text(alloc: Global, parsed: &mut ParsedModule<'_>) -> Result<String, Fail> {
+    match parsed.rewrite_all() {
+        Ok(rewritten) => written_text(alloc, parsed, &rewritten),
+        Err(error) => fault_text(alloc, error),
+    }
+}
+
+/// What holds no code is carried over byte for byte; names of locals and labels, and branch hints,
+/// follow the code; a type that only a handler needs is in no bytes. What is written is written
+/// again as it is.
+#[test]
+fn rewrites_modules(rt: HostRuntime) -> Result<(), Fail> {
+    let cases = [
+        ("0061736d01000000", "0061736d01000000"),
+        (EVERY_SECTION, EVERY_SECTION),
+        (FOLLOWED, FOLLOWED_REWRITTEN),
+        (HANDLERS, HANDLERS_REWRITTEN),
+        // Numbers that are longer than need be, in sections that are carried over and in code.
+        (
+            "0061736d01000000 0184800001600000 03020100 0a8b008100870080004181001a0b",
+            "0061736d01000000 0184800001600000 03020100 0a0701050041011a0b",
+        ),
+    ];
+    check_modules(&rt, rt.alloc(), Asked::Rewritten, &cases)?;
+    for (_, want) in cases {
+        check_modules(&rt, rt.alloc(), Asked::Rewritten, &[(want, want)])?;
+    }
+    Ok(())
+}
+
+// Modules, and the faults of their sections.
+const FAULTS_OF_SECTIONS: [(&str, &str); 38] = [
+    ("", "Truncated at 0"),
+    ("0061736e01000000", "BadMagic at 0"),
+    ("0061736d0d000100", "BadVersion at 4"),
+    ("0061736d01000000 0e00", "UnknownSection at 8"),
+    ("0061736d01000000 010100 010100", "SectionOutOfOrder at 11"),
+    ("0061736d01000000 030100 020100", "SectionOutOfOrder at 11"),
+    ("0061736d01000000 0a0100 0c0100", "SectionOutOfOrder at 11"),
+    ("0061736d01000000 0101", "Truncated at 10"),
+    ("0061736d01000000 01ff", "Truncated at 10"),
+    ("0061736d01000000 01808080808000", "BadNumber at 9"),
+    ("0061736d01000000 01808080801000", "BadNumber at 9"),
+    ("0061736d01000000 01020000", "Trailing at 11"),
+    ("0061736d01000000 01020161", "BadType at 11"),
+    ("0061736d01000000 01050160016600", "BadType at 13"),
+    ("0061736d01000000 0106015001055f00", "IndexOutOfRange at 13"),
+    ("0061736d01000000 0106015f01630500", "IndexOutOfRange at 13"),
+    ("0061736d01000000 0104015e7f02", "BadMutability at 13"),
+    ("0061736d01000000 0106015f01634000", "BadType at 13"),
+    ("0061736d01000000 0107015f0163ff7f00", "BadType at 13"),
+    ("0061736d01000000 02050100000500", "BadImportKind at 13"),
+    ("0061736d01000000 02030101ff", "BadName at 11"),
+    ("0061736d01000000 02050100000000", "IndexOutOfRange at 13"),
+    (
+        "0061736d01000000 0103015f00 03020100",
+        "NotAFunctionType at 16",
+    ),
+    ("0061736d01000000 0503010200", "BadLimits at 11"),
+    ("0061736d01000000 0503010800", "BadLimits at 11"),
+    (
+        "0061736d01000000 010401600000 0d03010100",
+        "BadTagAttribute at 17",
+    ),
+    ("0061736d01000000 0607017f0002400b0b", "BadConstant at 13"),
+    ("0061736d01000000 0605017f00ff0b", "UnknownOperator at 13"),
+    ("0061736d01000000 0605017f004100", "Truncated at 15"),
+    ("0061736d01000000 070401000500", "BadExportKind at 12"),
+    ("0061736d01000000 070401000000", "IndexOutOfRange at 13"),
+    ("0061736d01000000 080100", "IndexOutOfRange at 10"),
+    ("0061736d01000000 09020108", "BadSegmentFlags at 11"),
+    ("0061736d01000000 090401010100", "BadElementKind at 12"),
+    ("0061736d01000000 0b020103", "BadSegmentFlags at 11"),
+    ("0061736d01000000 0a020100", "BodyCount at 10"),
+    ("0061736d01000000 010401600000 03020100", "BodyCount at 18"),
+    ("0061736d01000000 0c0101", "DataCount at 10"),
+];
+
+/// The faults of sections, and their places.
+#[test]
+fn names_faults_of_sections(rt: HostRuntime) -> Result<(), Fail> {
+    check(&rt, rt.alloc(), Asked::Rewritten, &FAULTS_OF_SECTIONS)
+}
+
+// Modules, and the faults of their bodies.
+const FAULTS_OF_BODIES: [(&str, &str); 11] = [
+    (
+        "0061736d01000000 010401600000 03020100 0a0401020001",
+        "MissingEnd at 24",
+    ),
+    (
+        "0061736d01000000 010401600000 03020100 0a050103000b0b",
+        "Trailing at 24",
+    ),
+    (
+        "0061736d01000000 010401600000 03020100 0a040105000b",
+        "Truncated at 22",
+    ),
+    (
+        "0061736d01000000 010401600000 03020100 0a05010300ff0b",
+        "UnknownOperator at 23",
+    ),
+    (
+        "0061736d01000000 010401600000 03020100 0a08010601d186037f0b",
+        "TooManyLocals at 23",
+    ),
+    (
+        "0061736d01000000 010401600000 03020100 0a070105010163050b",
+        "IndexOutOfRange at 24",
+    ),
+    (
+        "0061736d01000000 010401600000 03020100 0a0701050020001a0b",
+        "LocalOutOfRange at 23",
+    ),
+    (
+        "0061736d01000000 010401600000 03020100 0a080106000020001a0b",
+        "LocalOutOfRange at 24",
+    ),
+    (
+        "0061736d01000000 010401600000 03020100 0a060104000c010b",
+        "NoSuchLabel at 23",
+    ),
+    // A data segment has an index where the data count section tells of it.
+    (
+        "0061736d01000000 010401600000 03020100 0503010000 0a07010500fc09000b 0b03010100",
+        "OutOfRange at 28",
+    ),
+    (
+        "0061736d01000000 010401600000 03020100 0503010000 0c0101 0a07010500fc09010b 0b03010100",
+        "OutOfRange at 31",
+    ),
+];
+
+/// The faults of bodies, and their places in the file.
+#[test]
+fn names_faults_of_bodies(rt: HostRuntime) -> Result<(), Fail> {
+    check(&rt, rt.alloc(), Asked::Rewritten, &FAULTS_OF_BODIES)
+}
+
+/// Appends where the sections of a module end.
+fn push_ends(ends: &mut Vec<usize>, bytes: &[u8]) -> Result<(), Fail> {
+    for section in Sections::new(bytes)? {
+        let section = section?;
+        ends.push(section.at.saturating_add(section.whole.len()))?;
+    }
+    Ok(())
+}
+
+/// Where the sections of a module end, and its preamble.
+fn section_ends(alloc: Global, bytes: &[u8]) -> Result<Vec<usize>, Fail> {
+    let mut ends = vec![in alloc; 8]?;
+    push_ends(&mut ends, bytes)?;
+    Ok(ends)
+}
+
+fn is_read(alloc: Global, bytes: &[u8]) -> Result<bool, Fail> {
+    let found = found(alloc, Asked::Read, bytes)?;
+    Ok(found.as_str() == "read")
+}
+
+/// At which lengths, but for these, what is left of a module is read.
+fn lengths_read(alloc: Global, bytes: &[u8], ends: &[usize]) -> Result<Vec<usize>, Fail> {
+    let mut lengths = Vec::new(alloc);
+    for (len, _) in bytes.iter().enumerate() {
+        if !ends.contains(&len) && is_read(alloc, &bytes[..len])? {
+            lengths.push(len)?;
+        }
+    }
+    Ok(lengths)
+}
+
+/// At which lengths what is left of a module is read, but not where a section ends.
+fn read_lengths(alloc: Global, module: &str) -> Result<Vec<usize>, Fail> {
+    let bytes = bytes_of(alloc, module)?;
+    let ends = section_ends(alloc, &bytes)?;
+    lengths_read(alloc, &bytes, &ends)
+}
+
+/// A module that is cut off is refused, unless it is cut after a section.
+#[test]
+fn refuses_truncated_modules(rt: HostRuntime) -> Result<(), Fail> {
+    for module in [EVERY_SECTION, FOLLOWED, HANDLERS] {
+        let lengths = read_lengths(rt.alloc(), module)?;
+        assert_eq!(rt; lengths.len(), 0, "of {module}");
+    }
+    Ok(())
+}
+
+fn notes_text(alloc: Global, notes: &[Note<'_>]) -> Result<String, Fail> {
+    let mut text = String::new(alloc);
+    for note in notes {
+        write!(text, "{note}, ")?;
+    }
+    Ok(text)
+}
+
+/// What is said of the sections of a module that is rewritten.
+pub(crate) fn notes_of(alloc: Global, parsed: &mut ParsedModule<'_>) -> Result<String, Fail> {
+    let rewritten = parsed.rewrite_all()?;
+    notes_text(alloc, &rewritten.notes)
+}
+
+/// Appends the location map of what is written for a module.
+fn push_map_with<B: BodyWriter>(
+    alloc: Global,
+    parsed: &mut ParsedModule<'_>,
+    rewritten: &RewrittenModule<'_, B>,
+    out: &mut Vec<u8>,
+) -> Result<(), Fail> {
+    let mut module = Vec::new(alloc);
+    match parsed.write_module_with_map(rewritten, &mut module, out) {
+        Ok(()) => Ok(()),
+        Err(error) => Err(Fail::from(error)),
+    }
+}
+
+/// Appends the location map of a module that is rewritten.
+fn push_map(alloc: Global, parsed: &mut ParsedModule<'_>, out: &mut Vec<u8>) -> Result<(), Fail> {
+    let rewritten = parsed.rewrite_all()?;
+    push_map_with(alloc, parsed, &rewritten, out)
+}
+
+/// Appends which bodies are refused; and the location map where none is.
+fn push_map_or_faults(
+    alloc: Global,
+    parsed: &mut ParsedModule<'_>,
+    out: &mut Vec<u8>,
+) -> Result<(), Fail> {
+    match parsed.check_bodies(out)? {
+        0 => push_map(alloc, parsed, out),
+        _ => Ok(()),
+    }
+}
+
+/// Which bodies are refused; and the location map where none is.
+pub(crate) fn map_or_faults(alloc: Global, parsed: &mut ParsedModule<'_>) -> Result<String, Fail> {
+    let mut out = Vec::new(alloc);
+    push_map_or_faults(alloc, parsed, &mut out)?;
+    Ok(String::from_utf8_lossy(alloc, &out)?)
+}
+
+/// Sections that speak of old offsets, or that can't be followed: names of locals that are cut off.
+#[test]
+fn notes_sections(rt: HostRuntime) -> Result<(), Fail> {
+    let cases = [
+        (
+            FOLLOWED,
+            "section sourceMappingURL speaks of offsets in the source, ",
+        ),
+        (
+            "0061736d01000000 000c0b2e64656275675f6c696e65 0008046e616d65020101",
+            "section .debug_line speaks of offsets in the source, \
+            section name is carried over as it is, ",
+        ),
+    ];
+    check(&rt, rt.alloc(), Asked::Notes, &cases)
+}
+
+/// Old and new offsets from the start of the file; and the faults of bodies, by function.
+#[test]
+fn maps_and_checks(rt: HostRuntime) -> Result<(), Fail> {
+    let cases = [
+        (
+            FOLLOWED,
+            "5c 59\n5e 5b\n60 5d\n63 5f\n65 61\n67 63\n6c 64\n6d 66\n6e 67\n70 69\n72 6b\n74 6d\n\
+            76 6f\n77 71\n79 73\n7f 78\n81 7a\n82 7b\n",
+        ),
+        (
+            "0061736d01000000 010401600000 020701016d01660000 030403000000 \
+            0a0f0304000c010b02000b050020001a0b",
+            "function 1: NoSuchLabel at 0x22\nfunction 3: LocalOutOfRange at 0x2a\n",
+        ),
+    ];
+    check(&rt, rt.alloc(), Asked::MapOrFaults, &cases)
+}
+
+/// What a command is, as text.
+fn command_text(alloc: Global, command: &Command) -> Result<String, Fail> {
+    let verbose = command.is_verbose;
+    match &command.task {
+        Task::Check { input } => Ok(format!(in alloc; "check {input} {verbose}")?),
+        Task::Rewrite { input, output, map } => {
+            Ok(format!(in alloc; "rewrite {input} {output} {map:?} {verbose}")?)
+        }
+    }
+}
+
+/// What words ask for, as text.
+fn asked_of(alloc: Global, words: &[String]) -> Result<String, Fail> {
+    match Command::of_words(alloc, words)? {
+        Some(command) => command_text(alloc, &command),
+        None => Ok(String::from_str(alloc, "wrong use")?),
+    }
+}
+
+fn list(alloc: Global, words: &str) -> Result<Vec<String>, AllocError> {
+    let mut list = Vec::new(alloc);
+    for word in words.split(' ') {
+        list.push(word.to_string(alloc)?)?;
+    }
+    Ok(list)
+}
+
+fn asked(alloc: Global, words: &str) -> Result<String, Fail> {
+    let list = list(alloc, words)?;
+    asked_of(alloc, &list)
+}
+
+// Words of the program, and what they ask for.
+const COMMANDS: [(&str, &str); 10] = [
+    ("a b", "rewrite a b None false"),
+    ("- - --verbose", "rewrite - - None true"),
+    ("a --map m b", "rewrite a b Some(\"m\") false"),
+    ("--check a", "check a false"),
+    ("--check --map m a", "wrong use"),
+    ("--check a b", "wrong use"),
+    ("a b --map", "wrong use"),
+    ("a", "wrong use"),
+    ("a b c", "wrong use"),
+    ("--all a b", "wrong use"),
+];
+
+/// The words of the program.
+#[test]
+fn takes_words(rt: HostRuntime) -> Result<(), Fail> {
+    for (words, want) in &COMMANDS {
+        let found = asked(rt.alloc(), words)?;
+        assert_eq!(rt; found.as_str(), *want, "of {words}");
+    }
+    Ok(())
+}

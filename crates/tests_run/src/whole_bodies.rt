@@ -1,0 +1,311 @@
+//! Whole bodies: declarations and operators, after bytes and a pair of others.
+ghost use Rattle.std.specs.Prelude.{◌≡◌};
+
+use crate::demo_module::{AT_A_HUNDRED, AT_ZERO, Demo, Setting, arguments};
+use crate::function_text::{push_function, push_output, push_refusal};
+use std::alloc::{AllocError, Global};
+use std::process::Abort;
+use std::test::Fail;
+use walrus_body::{AcceptAll, FunctionBody, IdsToIndices, LocalFunction};
+use walrus_ir::{FunctionId, InstrLocId, TypeId};
+use walrus_run::{RewriteError, demo, rewrite_body};
+
+/// Bytes that are written, and the location and the place of each operator.
+#[derive(Drop)]
+pub(crate) struct Output {
+    pub bytes: Vec<u8>,
+    pub pairs: Vec<(InstrLocId, usize)>,
+}
+
+impl Output {
+    /// Two bytes and a pair of others.
+    pub(crate) fn of_others(alloc: Global) -> Result<Output, AllocError> {
+        Ok(Output {
+            bytes: vec![in alloc; 0xaa, 0xbb]?,
+            pairs: vec![in alloc; (InstrLocId::new(9), 9)]?,
+        })
+    }
+}
+
+// Twice the place, where that fits.
+fn doubled(place: usize) -> InstrLocId {
+    InstrLocId::new((place % 1_000_000_000) as u32 * 2)
+}
+
+// Rewrites the body of the function 0, with a list of pairs where one is given.
+fn rewrite_into(
+    demo: &Demo,
+    out: &IdsToIndices,
+    setting: Setting,
+    bytes: &[u8],
+    dst: &mut Vec<u8>,
+    map: Option<&mut Vec<(InstrLocId, usize)>>,
+) -> Result<LocalFunction, RewriteError>
+    requires { demo.now.module.code_section_offset ≡ setting.offset }
+{
+    let body = FunctionBody {
+        bytes,
+        start: setting.offset as usize + setting.before as usize,
+        ops: setting.ops.min(bytes.len()),
+    };
+    let locate = |place: &usize| doubled(*place);
+    let args = arguments(*dst.allocator())?;
+    let mut instrs = Vec::new(*dst.allocator());
+    rewrite_body(
+        &demo.module,
+        &demo.indices,
+        FunctionId::new(0),
+        TypeId::new(1),
+        args,
+        body,
+        if setting.located { Some(&locate) } else { None },
+        AcceptAll,
+        &mut instrs,
+        out,
+        dst,
+        map,
+    )
+}
+
+/// What is asked about a body that is rewritten.
+#[derive(Clone, Copy, PartialEq, Eq)]
+enum Asked {
+    /// The fault, if there is one, and the bytes and pairs.
+    Output,
+    /// The same without a list of pairs.
+    Bytes,
+    /// The function that is the answer.
+    Function,
+}
+
+// Rewrites after what is in the output, with its list of pairs but where the bytes are asked for.
+fn rewrite(
+    demo: &Demo,
+    out: &IdsToIndices,
+    setting: Setting,
+    asked: Asked,
+    bytes: &[u8],
+    output: &mut Output,
+) -> Result<LocalFunction, RewriteError>
+    requires { demo.now.module.code_section_offset ≡ setting.offset }
+{
+    let Output { bytes: dst, pairs } = output;
+    match asked {
+        Asked::Bytes => rewrite_into(demo, out, setting, bytes, dst, None),
+        _ => rewrite_into(demo, out, setting, bytes, dst, Some(pairs)),
+    }
+}
+
+// Appends the function where it is asked for, or the fault.
+fn push_answer(
+    text: &mut String,
+    asked: Asked,
+    answer: Result<LocalFunction, RewriteError>,
+) -> Result<(), AllocError> {
+    match answer {
+        Ok(function) => {
+            if asked == Asked::Function {
+                push_function(text, &function)
+            } else {
+                Ok(())
+            }
+        }
+        Err(error) => {
+            push_refusal(text, error)?;
+            text.push(' ')
+        }
+    }
+}
+
+// Appends what is asked about a body that is rewritten under these numbers, after bytes and a pair
+// of others.
+fn push_rewritten(
+    text: &mut String,
+    demo: &Demo,
+    out: &IdsToIndices,
+    setting: Setting,
+    asked: Asked,
+    bytes: &[u8],
+) -> Result<(), Fail>
+    requires { demo.now.module.code_section_offset ≡ setting.offset }
+{
+    let mut output = Output::of_others(*text.allocator())?;
+    let answer = rewrite(demo, out, setting, asked, bytes, &mut output);
+    push_answer(text, asked, answer)?;
+    match asked {
+        Asked::Function => Ok(()),
+        _ => Ok(push_output(text, &output.bytes, &output.pairs)?),
+    }
+}
+
+// The same under the numbers of the demo module.
+fn push_numbered(
+    text: &mut String,
+    demo: &Demo,
+    setting: Setting,
+    asked: Asked,
+    bytes: &[u8],
+) -> Result<(), Fail>
+    requires { demo.now.module.code_section_offset ≡ setting.offset }
+{
+    let out = demo::numbers(*text.allocator())?;
+    push_rewritten(text, demo, &out, setting, asked, bytes)
+}
+
+// The same over that module.
+fn push_over_demo(
+    text: &mut String,
+    setting: Setting,
+    asked: Asked,
+    bytes: &[u8],
+) -> Result<(), Fail> {
+    let demo = Demo::new(*text.allocator(), setting.offset as usize)?;
+    push_numbered(text, &demo, setting, asked, bytes)
+}
+
+fn answer(alloc: Global, setting: Setting, asked: Asked, body: &str) -> Result<String, Fail> {
+    let bytes = hex::decode(alloc, body)?;
+    let mut text = String::new(alloc);
+    push_over_demo(&mut text, setting, asked, &bytes)?;
+    Ok(text)
+}
+
+// Asks about bodies, each of which comes before what is wanted.
+fn check(
+    rt: &impl Abort,
+    alloc: Global,
+    setting: Setting,
+    asked: Asked,
+    cases: &[(&str, &str)],
+) -> Result<(), Fail> {
+    for (body, want) in cases {
+        let found = answer(alloc, setting, asked, body)?;
+        assert_eq!(rt; found.as_str(), *want, "of {body}");
+    }
+    Ok(())
+}
+
+// Where a body stands whose operators begin at this position, of code that begins at 0.
+fn at(before: u32, ops: usize, located: bool) -> Setting {
+    Setting {
+        offset: 0,
+        before,
+        ops,
+        located,
+    }
+}
+
+/// Worked bodies with their pairs, which count from the first byte that is appended.
+#[test]
+fn rewrites_whole_bodies(rt: HostRuntime) -> Result<(), Fail> {
+    for (setting, body, want) in [
+        (AT_A_HUNDRED, "00010b", "aabb000b 9@9 102@1"),
+        (
+            at(0, 1, false),
+            "00410104400b0b",
+            "aabb0041010440050b0b 9@9 1@1 3@3 5@5 -@6 6@7",
+        ),
+        (
+            at(0, 1, false),
+            "00064018000b",
+            "aabb00064018000b 9@9 1@1 -@3 5@5",
+        ),
+        (
+            AT_ZERO,
+            "20011a20031a0b",
+            "aabb01027e20011a20021a0b 9@9 0@3 2@5 3@6 5@8 6@9",
+        ),
+        // A location function is asked, also where the place would be too great.
+        (
+            at(20, 1, true),
+            "00410104400b0b",
+            "aabb0041010440050b0b 9@9 42@1 46@3 50@5 -@6 52@7",
+        ),
+        (
+            at(4294967293, 1, true),
+            "00010b",
+            "aabb000b 9@9 589934590@1",
+        ),
+    ] {
+        check(&rt, rt.alloc(), setting, Asked::Output, &[(body, want)])?;
+    }
+    Ok(())
+}
+
+// Locals of several types are used.
+const SEVERAL: &str = "20061a20011a20041a20051a20071a20031a200e1a0b";
+
+/// Bodies that use locals, of one type and of several: declarations, operators and pairs.
+#[test]
+fn declares_the_locals_of_bodies(rt: HostRuntime) -> Result<(), Fail> {
+    let cases = [
+        (
+            "41010440d2011a05d2011ad2001a0bfc090020011a20001a0b",
+            "aabb01017e41010440d2011a05d2011ad2001a0bfc090020011a20001a0b \
+            9@9 0@3 2@5 4@7 6@9 7@10 8@11 10@13 11@14 13@16 14@17 15@18 18@21 20@23 21@24 23@26 \
+            24@27",
+        ),
+        (
+            SEVERAL,
+            "aabb05017f027e017c016470027020051a20021a20041a20061a20011a20031a20071a0b \
+            9@9 0@12 2@14 3@15 5@17 6@18 8@20 9@21 11@23 12@24 14@26 15@27 17@29 18@30 20@32 \
+            21@33",
+        ),
+        // What is dropped is neither declared nor written.
+        (
+            "20031a0f20011a0b",
+            "aabb01017e20011a0f0b 9@9 0@3 2@5 3@6 7@7",
+        ),
+    ];
+    check(&rt, rt.alloc(), AT_ZERO, Asked::Output, &cases)
+}
+
+/// A refusal of the parse, of the numbering and of the writing, in this order, leaves bytes and
+/// pairs as they were.
+#[test]
+fn refuses_whole_bodies(rt: HostRuntime) -> Result<(), Fail> {
+    let cases = [
+        ("", "MissingEnd at 0 aabb 9@9"),
+        ("0b0b", "Trailing at 1 aabb 9@9"),
+        ("1002200b1a0c050b", "NoSuchLabel at 5 aabb 9@9"),
+        ("1002200b1a20101a0b", "Emit(UnknownLocal) aabb 9@9"),
+        (
+            "1002200b1a0b",
+            "Emit(Index(Unnumbered { space: Types })) aabb 9@9",
+        ),
+        (
+            "411020011a10020b",
+            "Emit(Index(Unnumbered { space: Funcs })) aabb 9@9",
+        ),
+    ];
+    check(&rt, rt.alloc(), AT_ZERO, Asked::Output, &cases)?;
+    let cases = [("00010b", "PlaceTooGreat at 4294967295 aabb 9@9")];
+    check(
+        &rt,
+        rt.alloc(),
+        at(4294967293, 1, false),
+        Asked::Output,
+        &cases,
+    )
+}
+
+/// A body that is rewritten without a list of pairs has the same bytes.
+#[test]
+fn rewrites_without_pairs(rt: HostRuntime) -> Result<(), Fail> {
+    let cases = [
+        ("20011a20031a0b", "aabb01027e20011a20021a0b 9@9"),
+        (
+            "10020b",
+            "Emit(Index(Unnumbered { space: Funcs })) aabb 9@9",
+        ),
+    ];
+    check(&rt, rt.alloc(), AT_ZERO, Asked::Bytes, &cases)
+}
+
+/// The function that rewriting returns is the one that was parsed: places of operators and of the
+/// body, less where the code begins, and its tree.
+#[test]
+fn answers_the_function(rt: HostRuntime) -> Result<(), Fail> {
+    let cases = [("00010b", "10..13 11:101 12:102 type4[ ]102")];
+    check(&rt, rt.alloc(), AT_A_HUNDRED, Asked::Function, &cases)
+}

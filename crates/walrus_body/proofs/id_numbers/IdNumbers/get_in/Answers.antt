@@ -1,8 +1,0 @@
-use Rattle.std.proofs.Common.{rules}
-use Rattle.walrus_body.proofs.EntryMaps.{get-entries}
-use Rattle.walrus_body.proofs.id_numbers.IdNumbers.get_in.Goals as goal
-
-pub returns : goal.returns
-returns g c =
-    let found = get-entries c.self.inside.numbers.entries c.args.id in
-    grind (c.self.view_is, found, rules)

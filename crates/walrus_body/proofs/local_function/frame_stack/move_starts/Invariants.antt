@@ -1,9 +1,0 @@
-use Rattle.std.proofs.Common.{◌≡◌, ◌≤◌, length}
-use Rattle.walrus_body.specs.Parsing.FrameStacks.{moved_from}
-use Rattle.walrus_body.proofs.local_function.frame_stack.move_starts.Given as goal
-
-abbrev pub invariant-loop-index : goal.invariant-loop-index
-invariant-loop-index l = (l.controls.items ≡ moved_from l.index l.fn.controls.items) × (l.fn.from ≤ l.index) × (l.index ≤ length l.fn.controls.items)
-
-abbrev pub decreases-loop-index : goal.decreases-loop-index
-decreases-loop-index l = l.index

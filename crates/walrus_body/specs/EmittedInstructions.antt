@@ -1,0 +1,40 @@
+-- What a call promises that writes a function's tree, and its location pairs into a list if it is
+-- lent one.
+use Rattle.std.specs.Prelude.{◌≡◌, ◌⊎◌, ℕ, List, Option, Some, None}
+use Rattle.std.specs.Borrow.{MutBor}
+use Rattle.std.specs.declared.vec.Vec.{Vec}
+use Rattle.std.proofs.Common.{inl, inr}
+use Rattle.walrus_ir.specs.Function.{Function}
+use Rattle.wasm_body.specs.declared.error.EmitError.{EmitError}
+use Rattle.wasm_body.specs.Bytes.{Numbers}
+use Rattle.wasm_body.specs.Pairs.{Pair}
+use Rattle.walrus_body.specs.LocalFunctions.{first_slot}
+use Rattle.walrus_emitter.specs.TreeWriting.Trees.{Appends, AppendsBytes, IsUnwritten}
+
+-- a list of pairs that is lent
+abbrev pub LentPairs : Type 0 → Type 0
+LentPairs Z = MutBor (Vec Pair Z)
+
+-- how an `Option` is left: without a value, or with one
+abbrev pub Left : Type 0 → Type 0
+Left A = Unit {0} ⊎ ((A × Unit {0}) ⊎ ⊥)
+
+-- The bytes of the function's tree stand behind what stood in the encoder, and its pairs behind what
+-- stood in the list, if there is one.
+abbrev pub Emits : {Z : Type 0} → Function → Numbers → (old new : List ℕ)
+    → (entry : Option (LentPairs Z)) → (exit : Left (LentPairs Z)) → Type 0
+Emits f to old new None (inl none) = AppendsBytes f.sequences (first_slot f) to old new
+Emits f to old new (Some list) (inr (inl left)) = Appends f.sequences (first_slot f) to old new
+    list.now.items left.0.now.items
+Emits f to old new _ _ = ⊥
+
+-- the list is as it was, if there is one
+abbrev pub KeepsPairs : {Z : Type 0} → (entry : Option (LentPairs Z))
+    → (exit : Left (LentPairs Z)) → Type 0
+KeepsPairs None (inl none) = Unit {0}
+KeepsPairs (Some list) (inr (inl left)) = left.0.now.items ≡ list.now.items
+KeepsPairs _ _ = ⊥
+
+-- Memory ran out, the builder has no tree, or the fault is the first of the tree in order of writing.
+abbrev pub IsUnemitted : Function → Numbers → EmitError → Type 0
+IsUnemitted f to e = IsUnwritten f.sequences (first_slot f) to e

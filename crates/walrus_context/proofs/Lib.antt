@@ -1,0 +1,3 @@
+pub mod FrameStacks
+pub mod TreeChanges
+pub mod LastClauses

@@ -1,0 +1,76 @@
+use Rattle.std.proofs.Common.{◌≡◌, ◌<◌, ◌+◌, ◌++◌, ◌∷◌, [], length, Some, slice_get, suc, refl, ap, sym, subst, ◌∙◌, arith, inr, cond}
+use Rattle.std.proofs.lemmas.Option.{slice_get-get_or}
+use Rattle.std.proofs.lemmas.List.{length-append}
+use Rattle.walrus_ir.specs.Unfolding.{LocatedInstr}
+use Rattle.walrus_context.specs.FrameStacks.{frames_in, moved_from, StartFrom}
+use Rattle.walrus_context.specs.OpenFrames.{frame_with, with_instr, changed_at, InnerAreEmpty}
+use Rattle.walrus_context.proofs.FrameStacks.{count, get, unchanged_at, behind_at_end, starts_moved, appended}
+use Rattle.walrus_context.proofs.frame_stack.FrameStack.append.Goals as goal
+
+pub returns-in_default-clause-err : goal.returns-in_default-clause-err
+returns-in_default-clause-err c =
+    let inside = c.self.inside in
+    let long = ap length (sym c.self.view_is) ∙ count inside.instrs.items [] inside.controls.items in
+    let none = c.in_default.ensures in
+    inr (refl, omega arith)
+
+pub returns-then-index-clause-ok : goal.returns-then-index-clause-ok
+returns-then-index-clause-ok c =
+    let inside = c.self.inside in
+    let long = ap length (sym c.self.view_is) ∙ count inside.instrs.items [] inside.controls.items in
+    let i = c.in-Some.index in
+    let f = c.index.result.now in
+    let is = c.in-Some.ensures in
+    let within : i < length inside.controls.items = omega arith in
+    let at = slice_get-get_or inside.controls.items i f within ∙ ap Some (sym c.index.ensures) in
+    let found = get inside.instrs.items [] inside.controls.items i c.args.n f is at in
+    let frame = frame_with f found.0 in
+    let here : slice_get c.args.self.now c.args.n ≡ Some frame = ap (λ fs. slice_get fs c.args.n) (sym c.self.view_is) ∙ found.1 in (
+      omega arith,
+      sym (unchanged_at (with_instr (c.args.instr, c.args.location)) c.args.self.now c.args.n frame here
+          (ap (λ d. record frame { instrs = cond d found.0 (found.0 ++ (c.args.instr, c.args.location) ∷ []) }) c.if-index.true)),
+    )
+
+pub move_starts-requires-clause-fit : goal.move_starts-requires-clause-fit
+move_starts-requires-clause-fit c =
+    let instrs = c.self.inside.instrs in
+    let long = instrs.ok.0 in
+    let within = instrs.ok.1 in
+    let small = instrs.small in
+    (length instrs.items, omega arith, c.self.invariant)
+
+pub invariant_of-self : goal.invariant_of-self
+invariant_of-self c =
+    let inside = c.self.inside in
+    let all = inside.instrs.items in
+    let cs = inside.controls.items in
+    let i = c.in-Some.index in
+    let is = c.in-Some.ensures in
+    let x : LocatedInstr = (c.args.instr, c.args.location) in
+    let inner = subst (InnerAreEmpty c.args.n) (sym c.self.view_is) c.requires in
+    let behind = behind_at_end all [] 0 cs i c.args.n is c.self.invariant inner in
+    let controls : c.move_starts.new.controls.items ≡ moved_from (suc i) cs = c.move_starts.ensures ∙ ap (λ k. moved_from k cs) (let e : i + 1 ≡ suc i = omega arith in e) in
+    let long : length c.pushed.new.list.items ≡ length all + 1 = ap length c.in-Ok.ensures.ok ∙ length-append all (x ∷ []) in
+    subst (λ k. StartFrom 0 k (length c.pushed.new.list.items)) (sym controls) (subst (StartFrom 0 (moved_from (suc i) cs)) (sym long) (starts_moved 0 (length all) cs i c.self.invariant behind))
+
+pub returns-in-Ok-clause-ok : goal.returns-in-Ok-clause-ok
+returns-in-Ok-clause-ok c =
+    let inside = c.self.inside in
+    let all = inside.instrs.items in
+    let cs = inside.controls.items in
+    let longest = ap length (sym c.self.view_is) ∙ count all [] cs in
+    let i = c.in-Some.index in
+    let f = c.index.result.now in
+    let is = c.in-Some.ensures in
+    let within : i < length cs = omega arith in
+    let at = slice_get-get_or cs i f within ∙ ap Some (sym c.index.ensures) in
+    let x : LocatedInstr = (c.args.instr, c.args.location) in
+    let inner = subst (InnerAreEmpty c.args.n) (sym c.self.view_is) c.requires in
+    let behind = behind_at_end all [] 0 cs i c.args.n is c.self.invariant inner in
+    let controls : c.move_starts.new.controls.items ≡ moved_from (suc i) cs = c.move_starts.ensures ∙ ap (λ k. moved_from k cs) (let e : i + 1 ≡ suc i = omega arith in e) in (
+      omega arith,
+      ap (frames_in c.pushed.new.list.items []) controls
+          ∙ ap (λ l. frames_in l [] (moved_from (suc i) cs)) c.in-Ok.ensures.ok
+          ∙ appended all x [] 0 cs i c.args.n f is at c.if-index.false c.self.invariant behind
+          ∙ ap (changed_at c.args.n (with_instr x)) c.self.view_is,
+    )

@@ -1,0 +1,95 @@
+-- What contracts see of the open frames, and what single calls do to them.
+use Rattle.std.specs.Prelude.{◌≡◌, ◌<◌, ◌≤◌, ℕ, zero, suc, List, [], ◌∷◌, ◌++◌, length, slice_get, Option, Some, None, option_map, Bool, true, false, cond, take, Result, Ok, Err}
+use Rattle.std.specs.List.{AllByRecursion}
+use Rattle.walrus_ir.specs.declared.control.BlockKind.{BlockKind}
+use Rattle.walrus_ir.specs.declared.control.LegacyCatch.{LegacyCatch}
+use Rattle.walrus_ir.specs.declared.instr.Instr.TheVariants as instr
+use Rattle.walrus_ir.specs.Results.{◌>>=◌, some_or}
+use Rattle.walrus_ir.specs.declared.val_type.ValType.{ValType}
+use Rattle.walrus_ir.specs.Unfolding.{LocatedInstr}
+use Rattle.wasm_body.specs.declared.error.ParseError.{ParseError}
+use Rattle.wasm_body.specs.declared.error.ParseError.TheVariants.{NoFrame, NoSuchLabel, NoTry}
+use Rattle.walrus_context.specs.declared.frame.ControlFrame.{ControlFrame}
+
+-- An open frame: its kind, what it takes and gives, its sequence, whether what follows is dropped, and its instructions.
+pub record OpenFrame : Type 0 where
+  pub kind : BlockKind
+  pub start_types : List (ValType ℕ)
+  pub end_types : List (ValType ℕ)
+  pub sequence : ℕ
+  pub dead : Bool
+  pub instrs : List LocatedInstr
+
+-- what a frame of the code shows, with these instructions
+abbrev pub frame_with : ControlFrame → List LocatedInstr → OpenFrame
+frame_with f instrs = record { kind = f.kind; start_types = f.start_types.items; end_types = f.end_types.items; sequence = f.block; dead = f.unreachable; instrs = instrs }
+
+-- the frame as the code shows it, whatever its instructions
+pub record Shows (f : ControlFrame) (frame : OpenFrame) : Type 0 where
+  pub is : frame ≡ frame_with f frame.instrs
+
+-- the n-th frame is shown so
+abbrev pub ShowsAt : List OpenFrame → (n : ℕ) → ControlFrame → Type 0
+ShowsAt fs n f = (frame : OpenFrame) × (slice_get fs n ≡ Some frame) × Shows f frame
+
+abbrev pub AreShown : List ControlFrame → List OpenFrame → Type 0
+AreShown [] [] = Unit {0}
+AreShown [] (f ∷ fs) = ⊥
+AreShown (c ∷ cs) [] = ⊥
+AreShown (c ∷ cs) (f ∷ fs) = Shows c f × AreShown cs fs
+
+abbrev pub new_frame : BlockKind → (takes gives : List (ValType ℕ)) → (sequence : ℕ) → OpenFrame
+new_frame kind takes gives sequence = record { kind = kind; start_types = takes; end_types = gives; sequence = sequence; dead = false; instrs = [] }
+
+-- the n-th frame changed, every other as it was
+abbrev pub changed_at : ℕ → (OpenFrame → OpenFrame) → List OpenFrame → List OpenFrame
+changed_at n change [] = []
+changed_at zero change (f ∷ fs) = change f ∷ fs
+changed_at (suc n) change (f ∷ fs) = f ∷ changed_at n change fs
+
+abbrev pub killed : OpenFrame → OpenFrame
+killed f = record f { dead = true }
+
+-- one more instruction, or where the frame is dead none
+abbrev pub with_instr : LocatedInstr → OpenFrame → OpenFrame
+with_instr x f = record f { instrs = cond f.dead f.instrs (f.instrs ++ x ∷ []) }
+
+-- the n-th frame is changed so, and every other is as it was
+abbrev pub ChangesAt : ℕ → (OpenFrame → OpenFrame) → (old new : List OpenFrame) → Type 0
+ChangesAt n change old new = (n < length old) × (new ≡ changed_at n change old)
+
+-- ---- why there is no frame
+
+-- no frame is open
+abbrev pub HasNoFrame : List OpenFrame → ParseError → Type 0
+HasNoFrame fs e = (e ≡ NoFrame) × (fs ≡ [])
+
+-- fewer frames are open than the label counts
+abbrev pub HasNoFrameAt : List OpenFrame → (n : ℕ) → ParseError → Type 0
+HasNoFrameAt fs n e = (e ≡ NoSuchLabel) × (length fs ≤ n)
+
+-- the frames inside the n-th have no instructions
+abbrev pub InnerAreEmpty : ℕ → List OpenFrame → Type 0
+InnerAreEmpty n fs = AllByRecursion (λ f. f.instrs ≡ []) (take n fs)
+
+-- ---- a clause of a legacy `try`
+
+-- one more clause for an instruction that is a `try`
+abbrev pub with_clause_in : LegacyCatch → LocatedInstr → Option LocatedInstr
+with_clause_in c (instr.Try t, location) = Some (instr.Try (record t { catches = t.catches ++ c ∷ [] }), location)
+with_clause_in c _ = None
+
+-- the same for the last of these instructions
+abbrev pub with_last_clause : LegacyCatch → List LocatedInstr → Option (List LocatedInstr)
+with_last_clause c [] = None
+with_last_clause c (x ∷ []) = option_map (λ y. y ∷ []) (with_clause_in c x)
+with_last_clause c (x ∷ y ∷ xs) = option_map (λ ys. x ∷ ys) (with_last_clause c (y ∷ xs))
+
+-- the same in a frame, or where that is dead no change
+abbrev pub with_clause : LegacyCatch → OpenFrame → Option OpenFrame
+with_clause c f = cond f.dead (Some f) (option_map (λ xs. record f { instrs = xs }) (with_last_clause c f.instrs))
+
+-- the same in the frame around the innermost
+abbrev pub with_clause_around : LegacyCatch → List OpenFrame → Result (List OpenFrame) ParseError
+with_clause_around c (g ∷ f ∷ fs) = some_or (with_clause c f) NoTry >>= λ h. Ok (g ∷ h ∷ fs)
+with_clause_around c _ = Err NoSuchLabel

@@ -1,0 +1,365 @@
+//! The sequences of a function that is parsed, some of which are open.
+ghost use Rattle.std.specs.Prelude.{reverse, ◌≡◌, ◌⊎◌, ◌≤◌, ◌<◌, [], length, IsSomeAnd, None, IfOk, IfErr, OnOk, OnErr, MatchResult};
+ghost use Rattle.walrus_ir.specs.Types.{existing, signature_of};
+ghost use Rattle.walrus_ir.specs.declared.val_type.InstrSeqType.TheVariants.{MultiValue};
+ghost use Rattle.wasm_body.specs.declared.error.ParseError.{ParseError as Fault};
+ghost use Rattle.walrus_context.specs.OpenFrames.{AreShown, ShowsAt, killed, with_instr, HasNoFrame, HasNoFrameAt, InnerAreEmpty, with_clause_around};
+ghost use Rattle.wasm_operators.specs.declared.types.BlockType.TheVariants.{Value, FuncType};
+ghost use Rattle.walrus_ir.specs.Results.{with_fault};
+ghost use Rattle.wasm_body.specs.declared.error.ParseError.TheVariants.{Index};
+ghost use Rattle.walrus_maps.specs.IndexMaps.{local_of};
+ghost use Rattle.walrus_context.specs.Placing.{block_found, kind_at};
+ghost use Rattle.walrus_context.specs.OpenTrees.{env_of, Opens, OpensBlock, HasNoType, Pops, ChangesFrame, AddsClauseAround, EndsAt};
+
+use crate::frame::{ControlFrame, ControlStack};
+use crate::frame_stack::FrameStack;
+use crate::types::value_type;
+use std::alloc::Global;
+use std::marker::Model;
+use walrus_ir::{
+    BlockKind, FunctionBuilder, FunctionId, Instr, InstrLocId, InstrSeqId, InstrSeqType,
+    LegacyCatch, LocalId, Module, TypeId, ValType,
+};
+use walrus_maps::IndicesToIds;
+use wasm_body::ParseError;
+use wasm_operators::{BlockType, RawValType};
+
+/// The sequences of a function that is parsed, some of which are open. A contract sees the
+/// sequences and the open frames, innermost first, each with its instructions.
+#[derive(Drop)]
+pub struct ValidationContext<'a> {
+    module: &'a Module,
+    indices: &'a IndicesToIds,
+    func_id: FunctionId,
+    func: FunctionBuilder,
+    stack: FrameStack,
+}
+
+impl<'a> Model for ValidationContext<'a> {
+    ghost use Rattle.walrus_context.specs.OpenTrees.{OpenTrees, StandIn};
+    ghost use Rattle.std.specs.Coded.{codes};
+    ghost use Rattle.walrus_maps.specs.contracts.indices_to_ids.IndicesToIds as indices_to_ids;
+
+    ghost Value = { OpenTrees };
+
+    ghost coded = { Prim.hlevel (codes, indices_to_ids.the_row.coded) };
+
+    ghost view = { λ c. record {
+      «module» = c.module.now;
+      indices = c.indices.now;
+      function = c.func_id;
+      builder = c.func;
+      frames = c.stack;
+    } };
+
+    ghost invariant = { λ c. StandIn c.func.sequences c.stack };
+}
+
+fn copied(alloc: Global, types: &[ValType]) -> Result<Vec<ValType>, ParseError>
+    ensures ok { IfOk result (λ v. v.items ≡ types.now) }
+    ensures err { IfErr result (λ e. e ≡ Fault.Memory) }
+{
+    match Vec::from_slice(alloc, types) {
+        Ok(types) => Ok(types),
+        Err(_) => Err(ParseError::Memory),
+    }
+}
+
+impl<'a> ValidationContext<'a> {
+    /// No frame is open.
+    pub fn new(
+        module: &'a Module,
+        indices: &'a IndicesToIds,
+        func_id: FunctionId,
+        func: FunctionBuilder,
+        controls: ControlStack,
+        instrs: Vec<(Instr, InstrLocId)>,
+    ) -> ValidationContext<'a>
+        requires none { controls.items ≡ [] }
+        requires empty { instrs.items ≡ [] }
+        ensures { result ≡ record {
+          «module» = «module».now;
+          indices = indices.now;
+          function = func_id;
+          builder = func;
+          frames = [];
+        } }
+    {
+        ValidationContext {
+            module,
+            indices,
+            func_id,
+            func,
+            stack: FrameStack::new(controls, instrs),
+        }
+    }
+
+    /// The ids of old indices.
+    pub fn indices(&self) -> &'a IndicesToIds
+        ensures { result.now ≡ self.now.indices }
+    {
+        self.indices
+    }
+
+    /// The local of the function with this old index.
+    pub fn local(&self, index: u32) -> Result<LocalId, ParseError>
+        ensures { result
+            ≡ with_fault Index (local_of self.now.indices self.now.function index) }
+    {
+        match self.indices.get_local(self.func_id, index) {
+            Ok(local) => Ok(local),
+            Err(error) => Err(ParseError::Index(error)),
+        }
+    }
+
+    /// The module of the function.
+    pub fn module(&self) -> &'a Module
+        ensures { result.now ≡ self.now.«module» }
+    {
+        self.module
+    }
+
+    /// Whether a block type names types that are there: where it names a type by an old index, a
+    /// function type.
+    pub fn has_block_type(&self, ty: BlockType) -> Result<(), ParseError>
+        ensures { result ≡ block_found (env_of self.now) ty }
+    {
+        match ty {
+            BlockType::Empty => Ok(()),
+            BlockType::Value(ty) => match value_type(self.indices, ty) {
+                Ok(_) => Ok(()),
+                Err(error) => Err(error),
+            },
+            BlockType::FuncType(index) => {
+                let id = self.indices.get_type(index)?;
+                if self.module.types.is_func(id) {
+                    Ok(())
+                } else {
+                    Err(ParseError::NotAFunctionType)
+                }
+            }
+        }
+    }
+
+    /// What the sequence of the n-th frame from the innermost is.
+    pub fn kind_at(&self, n: usize) -> Result<BlockKind, ParseError>
+        ensures { result ≡ kind_at self.now.frames n }
+    {
+        match self.control(n) {
+            Ok(frame) => Ok(frame.kind),
+            Err(error) => Err(error),
+        }
+    }
+
+    /// Sets where a sequence ends.
+    pub fn end_sequence(&mut self, sequence: InstrSeqId, location: InstrLocId)
+        requires { sequence < length self.old.builder.sequences }
+        ensures { EndsAt self.old self.new sequence location }
+    {
+        let seq = self.func.seq_mut(sequence);
+        seq.end = location;
+    }
+
+    // Opens a frame whose sequence has this type.
+    fn enter(
+        &mut self,
+        kind: BlockKind,
+        ty: InstrSeqType,
+        start_types: &[ValType],
+        end_types: &[ValType],
+    ) -> Result<InstrSeqId, ParseError>
+        ensures ok { IfOk result
+            (λ id. Opens self.old self.new kind ty start_types.now end_types.now id) }
+        ensures err { IfErr result (λ e. e ≡ Fault.Memory) }
+        ensures same { OnErr result (self.new ≡ self.old) }
+    {
+        let alloc = self.func.allocator();
+        let start_types = copied(alloc, start_types)?;
+        let end_types = copied(alloc, end_types)?;
+        let block = InstrSeqId::new(self.func.count());
+        self.stack.push(kind, start_types, end_types, block)?;
+        match self.func.alloc(ty) {
+            Ok(_) => Ok(block),
+            Err(_) => {
+                self.stack.discard();
+                Err(ParseError::Memory)
+            }
+        }
+    }
+
+    /// Opens a frame that takes and gives these, whose sequence has the type that is picked for
+    /// them.
+    pub fn push_control(
+        &mut self,
+        kind: BlockKind,
+        start_types: &[ValType],
+        end_types: &[ValType],
+    ) -> Result<InstrSeqId, ParseError>
+        ensures ok { IfOk result (λ id. IsSomeAnd
+            (existing self.old.module.types start_types.now end_types.now)
+            (λ ty. Opens self.old self.new kind ty start_types.now end_types.now id)) }
+        ensures err { IfErr result (λ e. (e ≡ Fault.Memory) ⊎ ((e ≡ Fault.TypeMissing)
+            × (existing self.old.module.types start_types.now end_types.now ≡ None))) }
+        ensures same { OnErr result (self.new ≡ self.old) }
+    {
+        match InstrSeqType::existing(&self.module.types, start_types, end_types) {
+            Some(ty) => self.enter(kind, ty, start_types, end_types),
+            None => Err(ParseError::TypeMissing),
+        }
+    }
+
+    /// Opens a frame that takes and gives what a function type does, which is the type of its
+    /// sequence.
+    pub fn push_control_with_ty(
+        &mut self,
+        kind: BlockKind,
+        ty: TypeId,
+    ) -> Result<InstrSeqId, ParseError>
+        ensures ok { IfOk result (λ id. IsSomeAnd (signature_of self.old.module.types ty)
+            (λ s. Opens self.old self.new kind (MultiValue ty) s.parameters s.results id)) }
+        ensures err { IfErr result (λ e. (e ≡ Fault.Memory) ⊎ ((e ≡ Fault.NotAFunctionType)
+            × (signature_of self.old.module.types ty ≡ None))) }
+        ensures same { OnErr result (self.new ≡ self.old) }
+    {
+        let module = self.module;
+        if !module.types.is_func(ty) {
+            return Err(ParseError::NotAFunctionType);
+        }
+        let (start_types, end_types) = module.types.params_results(ty);
+        self.enter(kind, InstrSeqType::MultiValue(ty), start_types, end_types)
+    }
+
+    // Opens a frame that takes and gives what the function type of this old index does.
+    fn push_function_type(&mut self, kind: BlockKind, index: u32) -> Result<InstrSeqId, ParseError>
+        ensures ok { IfOk result (λ id. OpensBlock self.old self.new kind (FuncType index) id) }
+        ensures err { IfErr result (λ e. (e ≡ Fault.Memory)
+            ⊎ HasNoType self.old (FuncType index) e) }
+    {
+        let module = self.module;
+        let id = self.indices.get_type(index)?;
+        if !module.types.is_func(id) {
+            return Err(ParseError::NotAFunctionType);
+        }
+        let (start_types, end_types) = module.types.params_results(id);
+        self.push_control(kind, start_types, end_types)
+    }
+
+    // Opens a frame that takes nothing and gives a value of this type.
+    fn push_value_type(&mut self, kind: BlockKind, ty: RawValType) -> Result<InstrSeqId, ParseError>
+        ensures ok { IfOk result (λ id. OpensBlock self.old self.new kind (Value ty) id) }
+        ensures err { IfErr result (λ e. (e ≡ Fault.Memory) ⊎ HasNoType self.old (Value ty) e) }
+    {
+        match value_type(self.indices, ty) {
+            Ok(ty) => self.push_control(kind, &[], &[ty]),
+            Err(error) => Err(error),
+        }
+    }
+
+    /// Opens a frame that takes and gives what a block type says, with its old indices looked up.
+    pub fn push_block(&mut self, kind: BlockKind, ty: BlockType) -> Result<InstrSeqId, ParseError>
+        ensures ok { IfOk result (λ id. OpensBlock self.old self.new kind ty id) }
+        ensures err { IfErr result (λ e. (e ≡ Fault.Memory) ⊎ HasNoType self.old ty e) }
+    {
+        match ty {
+            BlockType::Empty => self.push_control(kind, &[], &[]),
+            BlockType::Value(ty) => self.push_value_type(kind, ty),
+            BlockType::FuncType(index) => self.push_function_type(kind, index),
+        }
+    }
+
+    /// Closes the innermost frame. Its sequence then owns its instructions.
+    pub fn pop_control(&mut self) -> Result<(ControlFrame, InstrSeqId), ParseError>
+        ensures ok { IfOk result (λ x. Pops self.old self.new x.0 x.1) }
+        ensures err { IfErr result (λ e. (e ≡ Fault.Memory) ⊎ HasNoFrame self.old.frames e) }
+        ensures same { OnErr result (self.new ≡ self.old) }
+    {
+        match self.stack.pop() {
+            Ok((frame, instrs)) => {
+                let block = frame.block;
+                let seq = self.func.seq_mut(block);
+                seq.instrs = instrs;
+                Ok((frame, block))
+            }
+            Err(error) => Err(error),
+        }
+    }
+
+    /// What follows in the innermost frame is dropped.
+    pub fn unreachable(&mut self) -> Result<(), ParseError>
+        ensures ok { OnOk result (ChangesFrame 0 killed self.old self.new) }
+        ensures err { IfErr result (HasNoFrame self.old.frames) }
+        ensures same { OnErr result (self.new ≡ self.old) }
+    {
+        self.stack.kill()
+    }
+
+    /// The n-th frame from the innermost.
+    pub fn control(&self, n: usize) -> Result<&ControlFrame, ParseError>
+        ensures { MatchResult result (λ f. ShowsAt self.now.frames n f.now)
+            (HasNoFrameAt self.now.frames n) }
+    {
+        match self.stack.get(n) {
+            Some(frame) => Ok(frame),
+            None => Err(ParseError::NoSuchLabel),
+        }
+    }
+
+    /// Appends an instruction to the n-th frame from the innermost, or drops it where that is dead.
+    pub fn alloc_instr_in_control(
+        &mut self,
+        n: usize,
+        instr: Instr,
+        loc: InstrLocId,
+    ) -> Result<(), ParseError>
+        requires { InnerAreEmpty n self.old.frames }
+        ensures ok { OnOk result (ChangesFrame n (with_instr (instr, loc)) self.old self.new) }
+        ensures err { IfErr result (λ e. (e ≡ Fault.Memory) ⊎ HasNoFrameAt self.old.frames n e) }
+        ensures same { OnErr result (self.new ≡ self.old) }
+    {
+        self.stack.append(n, instr, loc)
+    }
+
+    /// The same for the innermost frame.
+    #[inline(always)]
+    pub fn alloc_instr(&mut self, instr: Instr, loc: InstrLocId) -> Result<(), ParseError>
+        ensures ok { OnOk result (ChangesFrame 0 (with_instr (instr, loc)) self.old self.new) }
+        ensures err { IfErr result (λ e. (e ≡ Fault.Memory)
+            ⊎ ((e ≡ Fault.NoFrame) × (length self.old.frames ≤ 0))) }
+        ensures same { OnErr result (self.new ≡ self.old) }
+    {
+        match self.stack.append(0, instr, loc) {
+            Ok(()) => Ok(()),
+            Err(ParseError::NoSuchLabel) => Err(ParseError::NoFrame),
+            Err(error) => Err(error),
+        }
+    }
+
+    /// Adds a clause to the legacy `try` that ends the frame around the innermost, or drops it
+    /// where that frame is dead. So the innermost frame is the body of the `try`, for `delegate`,
+    /// or the clause's own handler.
+    ///
+    /// # Errors
+    ///
+    /// `NoSuchLabel` where no frame is around the innermost, `NoTry` where no `try` ends it,
+    /// `Memory`.
+    pub fn add_legacy_catch(&mut self, catch: LegacyCatch) -> Result<(), ParseError>
+        ensures ok { OnOk result (AddsClauseAround catch self.old self.new) }
+        ensures err { IfErr result (λ e. (e ≡ Fault.Memory)
+            ⊎ (with_clause_around catch self.old.frames ≡ Err e)) }
+        ensures same { OnErr result (self.new ≡ self.old) }
+    {
+        self.stack.add_clause(catch)
+    }
+
+    /// The function, the open frames as they are shown, the innermost last, and the list of
+    /// instructions, which is empty where no frame is open.
+    pub fn into_parts(self) -> (FunctionBuilder, ControlStack, Vec<(Instr, InstrLocId)>)
+        ensures function { result.0 ≡ self.entry.builder }
+        ensures frames { AreShown (reverse result.1.items) self.entry.frames }
+        ensures empty { self.entry.frames ≡ [] → result.2.items ≡ [] }
+    {
+        let ValidationContext { func, stack, .. } = self;
+        let (controls, instrs) = stack.into_parts();
+        (func, controls, instrs)
+    }
+}

@@ -1,0 +1,231 @@
+//! The open frames, with the instructions of all of them in one list.
+ghost use Rattle.std.specs.Prelude.{reverse, ◌≡◌, ◌⊎◌, ◌≤◌, ◌<◌, ◌+◌, ◌^◌, ℕ, ◌∷◌, ◌++◌, [], List, length, MatchOption, IfOk, IfErr, OnOk, OnErr, IsSome, None, Some, Ok, Err};
+ghost use Rattle.wasm_body.specs.declared.error.ParseError.{ParseError as Fault};
+ghost use Rattle.walrus_context.specs.OpenFrames.{OpenFrame, AreShown, ShowsAt, frame_with, new_frame, killed, with_instr, ChangesAt, HasNoFrame, HasNoFrameAt, InnerAreEmpty, with_clause_in, with_clause_around};
+ghost use Rattle.walrus_context.specs.FrameStacks.{moved_from, StartFrom};
+
+use crate::frame::{ControlFrame, ControlStack};
+use std::marker::Model;
+use walrus_ir::{BlockKind, Instr, InstrLocId, InstrSeqId, LegacyCatch, ValType};
+use wasm_body::ParseError;
+
+/// Pushes an item, or leaves the list as it was.
+#[inline(always)]
+pub fn pushed<T: Drop>(list: &mut Vec<T>, item: T) -> Result<(), ParseError>
+    ensures ok { OnOk result (list.new.items ≡ list.old.items ++ item ∷ []) }
+    ensures err { IfErr result (λ e. e ≡ Fault.Memory) }
+    ensures same { OnErr result (list.new.items ≡ list.old.items) }
+{
+    match list.push(item) {
+        Ok(()) => Ok(()),
+        Err(_) => Err(ParseError::Memory),
+    }
+}
+
+/// Where the n-th frame from the innermost stands, if so many are open.
+#[inline(always)]
+fn index_of(controls: &ControlStack, n: usize) -> Option<usize>
+    ensures { MatchOption result (length controls.now.items ≤ n)
+        (λ index. n + index + 1 ≡ length controls.now.items) }
+{
+    if n >= controls.len() {
+        return None;
+    }
+    Some(controls.len() - n - 1)
+}
+
+/// Adds a clause to an instruction that is a `try`.
+fn add_clause_in(item: &mut (Instr, InstrLocId), catch: LegacyCatch) -> Result<(), ParseError>
+    ensures ok { OnOk result (with_clause_in catch item.old ≡ Some item.new) }
+    ensures err { IfErr result (λ e. (e ≡ Fault.Memory)
+        ⊎ ((e ≡ Fault.NoTry) × (with_clause_in catch item.old ≡ None))) }
+    ensures same { OnErr result (item.new ≡ item.old) }
+{
+    match &mut item.0 {
+        Instr::Try(x) => pushed(&mut x.catches, catch),
+        _ => Err(ParseError::NoTry),
+    }
+}
+
+/// Has every frame from one on begin one instruction later.
+fn move_starts(controls: &mut ControlStack, from: usize)
+    requires within { from ≤ length controls.old.items }
+    requires fit { (end : ℕ) × (end + 1 < 2 ^ 64) × StartFrom 0 controls.old.items end }
+    ensures { controls.new.items ≡ moved_from from controls.old.items }
+{
+    let mut index = controls.len();
+    while index > from {
+        index -= 1;
+        controls[index].start += 1;
+    }
+}
+
+/// The open frames. A contract sees them innermost first.
+#[derive(Drop)]
+pub struct FrameStack {
+    controls: ControlStack,
+    instrs: Vec<(Instr, InstrLocId)>,
+}
+
+impl Model for FrameStack {
+    ghost use Rattle.std.specs.Prelude.{List, [], length};
+    ghost use Rattle.walrus_context.specs.OpenFrames.{OpenFrame};
+
+    ghost Value = { List OpenFrame };
+
+    ghost use Rattle.walrus_context.specs.FrameStacks.{frames_in, StartFrom};
+
+    ghost view = { λ s. frames_in s.instrs.items [] s.controls.items };
+
+    ghost invariant = { λ s. StartFrom 0 s.controls.items (length s.instrs.items) };
+}
+
+impl FrameStack {
+    /// No frame is open.
+    pub fn new(controls: ControlStack, lent: Vec<(Instr, InstrLocId)>) -> FrameStack
+        requires none { controls.items ≡ [] }
+        requires empty { lent.items ≡ [] }
+        ensures { result ≡ [] }
+    {
+        FrameStack {
+            controls,
+            instrs: lent,
+        }
+    }
+
+    /// The n-th frame from the innermost.
+    pub fn get(&self, n: usize) -> Option<&ControlFrame>
+        ensures { MatchOption result (length self.now ≤ n) (λ f. ShowsAt self.now n f.now) }
+    {
+        match index_of(&self.controls, n) {
+            Some(index) => Some(&self.controls[index]),
+            None => None,
+        }
+    }
+
+    /// Opens a frame without instructions.
+    pub fn push(
+        &mut self,
+        kind: BlockKind,
+        start_types: Vec<ValType>,
+        end_types: Vec<ValType>,
+        block: InstrSeqId,
+    ) -> Result<(), ParseError>
+        ensures ok { OnOk result
+            (self.new ≡ new_frame kind start_types.items end_types.items block ∷ self.old) }
+        ensures err { IfErr result (λ e. e ≡ Fault.Memory) }
+        ensures same { OnErr result (self.new ≡ self.old) }
+    {
+        let start = self.instrs.len();
+        let frame = ControlFrame {
+            start_types,
+            end_types,
+            unreachable: false,
+            block,
+            kind,
+            start,
+        };
+        pushed(&mut self.controls, frame)
+    }
+
+    /// Closes the innermost frame.
+    pub fn pop(&mut self) -> Result<(ControlFrame, Vec<(Instr, InstrLocId)>), ParseError>
+        ensures ok { IfOk result (λ x. self.old ≡ frame_with x.0 x.1.items ∷ self.new) }
+        ensures err { IfErr result (λ e. (e ≡ Fault.Memory) ⊎ HasNoFrame self.old e) }
+        ensures same { OnErr result (self.new ≡ self.old) }
+    {
+        let Some(frame) = self.controls.pop() else {
+            return Err(ParseError::NoFrame);
+        };
+        match self.instrs.split_off(frame.start) {
+            Ok(tail) => Ok((frame, tail)),
+            Err(_) => {
+                self.controls.push(frame).unwrap();
+                Err(ParseError::Memory)
+            }
+        }
+    }
+
+    /// Closes the innermost frame and drops its instructions. It takes no memory.
+    pub fn discard(&mut self)
+        requires { 0 < length self.old }
+        ensures { (frame : OpenFrame) × (self.old ≡ frame ∷ self.new) }
+    {
+        let frame = self.controls.pop().unwrap();
+        self.instrs.truncate(frame.start);
+    }
+
+    /// What follows in the innermost frame is dropped.
+    pub fn kill(&mut self) -> Result<(), ParseError>
+        ensures ok { OnOk result (ChangesAt 0 killed self.old self.new) }
+        ensures err { IfErr result (HasNoFrame self.old) }
+        ensures same { OnErr result (self.new ≡ self.old) }
+    {
+        match index_of(&self.controls, 0) {
+            Some(index) => {
+                self.controls[index].unreachable = true;
+                Ok(())
+            }
+            None => Err(ParseError::NoFrame),
+        }
+    }
+
+    /// Appends an instruction to the n-th frame from the innermost, or drops it where that is dead.
+    #[inline(always)]
+    pub fn append(&mut self, n: usize, instr: Instr, location: InstrLocId) -> Result<(), ParseError>
+        requires { InnerAreEmpty n self.old }
+        ensures ok { OnOk result
+            (ChangesAt n (with_instr (instr, location)) self.old self.new) }
+        ensures err { IfErr result (λ e. (e ≡ Fault.Memory) ⊎ HasNoFrameAt self.old n e) }
+        ensures same { OnErr result (self.new ≡ self.old) }
+    {
+        let Some(index) = index_of(&self.controls, n) else {
+            return Err(ParseError::NoSuchLabel);
+        };
+        if self.controls[index].unreachable {
+            return Ok(());
+        }
+        match pushed(&mut self.instrs, (instr, location)) {
+            Ok(()) => {
+                move_starts(&mut self.controls, index + 1);
+                Ok(())
+            }
+            Err(error) => Err(error),
+        }
+    }
+
+    /// Adds a clause to the `try` that ends the frame around the innermost, or drops it where that
+    /// is dead.
+    pub fn add_clause(&mut self, catch: LegacyCatch) -> Result<(), ParseError>
+        ensures ok { OnOk result (with_clause_around catch self.old ≡ Ok self.new) }
+        ensures err { IfErr result (λ e. (e ≡ Fault.Memory)
+            ⊎ (with_clause_around catch self.old ≡ Err e)) }
+        ensures same { OnErr result (self.new ≡ self.old) }
+    {
+        let Some(index) = index_of(&self.controls, 1) else {
+            return Err(ParseError::NoSuchLabel);
+        };
+        if self.controls[index].unreachable {
+            return Ok(());
+        }
+        let start = self.controls[index].start;
+        let end = self.controls[index + 1].start;
+        if start >= end {
+            return Err(ParseError::NoTry);
+        }
+        add_clause_in(&mut self.instrs[end - 1], catch)
+    }
+
+    /// The frames as they are shown, the innermost last, and a list without instructions.
+    pub fn into_parts(self) -> (ControlStack, Vec<(Instr, InstrLocId)>)
+        ensures frames { AreShown (reverse result.0.items) self }
+        ensures empty { result.1.items ≡ [] }
+    {
+        let FrameStack {
+            controls,
+            mut instrs,
+        } = self;
+        instrs.clear();
+        (controls, instrs)
+    }
+}

@@ -1,0 +1,5 @@
+-- how locals are numbered
+pub mod LocalNumbering
+-- writing a function's tree
+pub mod Emission
+pub mod TreeWriting

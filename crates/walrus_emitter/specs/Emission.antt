@@ -1,0 +1,133 @@
+-- Writing a function's tree as a visitor of its walk: what an emitter makes of each event.
+use Rattle.std.specs.Prelude.{ℕ, ◌+◌, List, [], ◌∷◌, ◌++◌, length, map, slice_get, Bool, if◌then◌else◌, Option, Some, None, Result, Ok, Err}
+use Rattle.walrus_ir.specs.declared.seq.InstrSeq.{InstrSeq}
+use Rattle.walrus_ir.specs.declared.val_type.InstrSeqType.{InstrSeqType}
+use Rattle.walrus_ir.specs.declared.val_type.InstrSeqType.TheVariants.{Simple}
+use Rattle.walrus_ir.specs.declared.instr.Instr.{Instr}
+use Rattle.walrus_ir.specs.declared.instr.Instr.TheVariants.{Block, Loop, IfElse, TryTable, Try}
+use Rattle.walrus_ir.specs.Unfolding.{LocatedInstr, slots_in}
+use Rattle.walrus_ir.specs.Events.{WalkEvent, StartSequence, EndSequence, VisitInstruction}
+use Rattle.wasm_operators.specs.Operations.{RawOperation}
+use Rattle.wasm_operators.specs.Shortest.{short}
+use Rattle.wasm_body.specs.declared.error.EmitError.{EmitError}
+use Rattle.wasm_body.specs.declared.error.EmitError.TheVariants.{UnknownSequence}
+use Rattle.walrus_ir.specs.Results.{◌>>=◌, some_or}
+use Rattle.wasm_body.specs.Control.{end_operation, else_operation}
+use Rattle.wasm_body.specs.Translation.{Located, at_location}
+use Rattle.wasm_body.specs.InstructionTable.{legacy_clause}
+use Rattle.wasm_body.specs.TreeOfFunction.{instruction_in}
+use Rattle.wasm_body.specs.FlatText.{TextOperation, then_by, try_closers, opened, written}
+use Rattle.wasm_body.specs.Bytes.{Numbers, numbering, bytes_of}
+use Rattle.wasm_body.specs.Pairs.{pairs_from}
+
+-- ---- the sequences in an instruction, and what closes them
+
+-- a sequence that is to begin or is open: its slot, and the operator that closes it at a location, if one does
+pub record Scope : Type 0 where
+  pub slot : ℕ
+  pub closer : Option (Located TextOperation)
+
+abbrev pub closers_in : Instr → List TextOperation
+closers_in (Block x) = end_operation ∷ []
+closers_in (Loop x) = end_operation ∷ []
+closers_in (IfElse x) = else_operation ∷ end_operation ∷ []
+closers_in (TryTable x) = end_operation ∷ []
+closers_in (Try x) = try_closers (map legacy_clause x.catches)
+closers_in _ = []
+
+-- each of these sequences ends with its closer, at the location of its end
+abbrev pub scope_at : List InstrSeq → ℕ → TextOperation → Result Scope EmitError
+scope_at b slot closer =
+    some_or (slice_get b slot) UnknownSequence >>= λ seq. Ok (record { slot = slot; closer = Some (at_location closer seq.end) })
+
+abbrev pub scopes_at : List InstrSeq → List ℕ → List TextOperation → Result (List Scope) EmitError
+scopes_at b [] cs = Ok []
+scopes_at b (p ∷ ps) [] = Ok []
+scopes_at b (p ∷ ps) (c ∷ cs) = scope_at b p c >>= λ s. scopes_at b ps cs >>= λ ss. Ok (s ∷ ss)
+
+-- the type of the first of the sequences in these slots
+abbrev pub first_type_at : List InstrSeq → List ℕ → Result InstrSeqType EmitError
+first_type_at b [] = Ok (Simple None)
+first_type_at b (p ∷ ps) = some_or (slice_get b p) UnknownSequence >>= λ seq. Ok seq.ty
+
+-- ---- the emitter
+
+-- what is written: bytes, and for each operator its location and its place
+pub record Output : Type 0 where
+  pub bytes : List ℕ
+  pub pairs : List (ℕ × ℕ)
+
+-- Of these sequences, under these numbers: the scopes that are to begin, the next first, those that are open, the innermost
+-- first, and the output so far, behind so many bytes of others; pairs are kept where they are asked for.
+pub record Emitter : Type 0 where
+  pub sequences : List InstrSeq
+  pub numbers : Numbers
+  pub coming : List Scope
+  pub open_scopes : List Scope
+  pub base : ℕ
+  pub has_map : Bool
+  pub output : Output
+
+abbrev pub slots_of : List Scope → List ℕ
+slots_of ss = map (λ (s : Scope). s.slot) ss
+
+-- an operator behind what is written
+abbrev pub pairs_behind : Bool → ℕ → Output → ℕ → List (ℕ × ℕ)
+pairs_behind has_map base o location = if has_map then o.pairs ++ (location, base + length o.bytes) ∷ [] else o.pairs
+
+abbrev pub output_behind : Bool → ℕ → Output → Located RawOperation → Output
+output_behind has_map base o x = record { bytes = o.bytes ++ short x.op; pairs = pairs_behind has_map base o x.location }
+
+abbrev pub with_operator : Emitter → Located RawOperation → Emitter
+with_operator s x = record s { output = output_behind s.has_map s.base s.output x }
+
+abbrev pub with_closer : Emitter → Option (Located TextOperation) → Result Emitter EmitError
+with_closer s None = Ok s
+with_closer s (Some c) = written (then_by (numbering s.numbers)) c.op c.location >>= λ x. Ok (with_operator s x)
+
+-- An instruction's own operator is written, and the sequences in it are to begin.
+abbrev pub with_instruction : Emitter → LocatedInstr → Result Emitter EmitError
+with_instruction s x =
+    first_type_at s.sequences (slots_in x.0) >>= λ type.
+    opened (then_by (numbering s.numbers)) (instruction_in (slots_of s.open_scopes) x) type >>= λ op.
+    scopes_at s.sequences (slots_in x.0) (closers_in x.0) >>= λ scopes.
+    Ok (with_operator (record s { coming = scopes ++ s.coming }) op)
+
+-- The next scope is open; the innermost is closed. (A walk starts no sequence that isn't to begin, and ends none that isn't
+-- open.)
+abbrev pub with_start : Emitter → List Scope → Result Emitter EmitError
+with_start s [] = Err UnknownSequence
+with_start s (c ∷ cs) = Ok (record s { coming = cs; open_scopes = c ∷ s.open_scopes })
+
+abbrev pub with_end : Emitter → List Scope → Result Emitter EmitError
+with_end s [] = Err UnknownSequence
+with_end s (c ∷ cs) = with_closer s c.closer >>= λ t. Ok (record t { open_scopes = cs })
+
+abbrev pub emitter_behind : Emitter → WalkEvent → Result Emitter EmitError
+emitter_behind s (VisitInstruction i location) = with_instruction s (i, location)
+emitter_behind s (StartSequence seq) = with_start s s.coming
+emitter_behind s (EndSequence seq) = with_end s s.open_scopes
+emitter_behind s _ = Ok s
+
+-- behind so many events
+abbrev pub emitter_behind_all : Emitter → List WalkEvent → Result Emitter EmitError
+emitter_behind_all s [] = Ok s
+emitter_behind_all s (e ∷ es) = emitter_behind s e >>= λ t. emitter_behind_all t es
+
+-- ---- a whole tree
+
+-- nothing is written, and the sequence in this slot is to begin, which `end` closes
+abbrev pub first_emitter : List InstrSeq → Numbers → ℕ → Bool → Scope → Emitter
+first_emitter b to base has_map scope = record {
+  sequences = b;
+  numbers = to;
+  coming = scope ∷ [];
+  open_scopes = [];
+  base = base;
+  has_map = has_map;
+  output = record { bytes = []; pairs = [] };
+}
+
+-- what a text is written as, behind so many bytes of others
+abbrev pub output_of : Bool → ℕ → List (Located RawOperation) → Output
+output_of has_map base xs = record { bytes = bytes_of xs; pairs = if has_map then pairs_from base xs else [] }

@@ -1,0 +1,3 @@
+pub mod Emission
+pub mod TreeWriting
+pub mod EmittedLocals

@@ -1,0 +1,26 @@
+-- The sequences in an instruction are to begin.
+use Rattle.std.specs.Prelude.{◌≡◌, ◌⊎◌, ℕ, List, Ok, Err}
+use Rattle.walrus_ir.specs.declared.seq.InstrSeq.{InstrSeq}
+use Rattle.wasm_body.specs.declared.error.EmitError.{EmitError}
+use Rattle.wasm_body.specs.declared.error.EmitError.TheVariants.{Memory}
+use Rattle.wasm_body.specs.FlatText.{TextOperation}
+use Rattle.walrus_emitter.specs.declared.closing.SequenceScope.{SequenceScope}
+use Rattle.walrus_emitter.specs.Emission.{scopes_at}
+use Rattle.walrus_emitter.specs.TreeWriting.Closers.{scopes_of}
+use Rattle.walrus_emitter.specs.TreeWriting.ScopeLists.{ScopeLists, with_more}
+
+-- those in these slots, which these close, before the others
+pub record Announces (b : List InstrSeq) (slots : List ℕ) (closers : List TextOperation)
+    (old new : ScopeLists) : Type 0 where
+  pub more : List SequenceScope
+  pub are_these : scopes_at b slots closers ≡ Ok (scopes_of more)
+  pub are_first : new ≡ with_more old more
+
+-- memory ran out, or one of them isn't known
+abbrev pub IsUnannounced : List InstrSeq → List ℕ → List TextOperation → EmitError → Type 0
+IsUnannounced b slots closers e = (e ≡ Memory) ⊎ (scopes_at b slots closers ≡ Err e)
+
+-- some may have been announced
+pub record HasMore (old new : ScopeLists) : Type 0 where
+  pub more : List SequenceScope
+  pub are_first : new ≡ with_more old more

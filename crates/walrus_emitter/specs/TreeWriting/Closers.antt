@@ -1,0 +1,40 @@
+-- The sequences that the code keeps while a tree is written, as scopes of the emitter.
+use Rattle.std.specs.Prelude.{ℕ, List, [], ◌∷◌, map, Option, option_map}
+use Rattle.wasm_operators.specs.declared.types.Space.TheVariants.{Tags}
+use Rattle.wasm_operators.specs.Operations.{index, operation}
+use Rattle.wasm_body.specs.Control.{end_operation, else_operation, catch_opcode, catch_all_operation, delegate_operation}
+use Rattle.wasm_body.specs.Translation.{Located, at_location}
+use Rattle.wasm_body.specs.FunctionTree.{LegacyClause, handles, handles_all, delegates}
+use Rattle.wasm_body.specs.FlatText.{TextOperation}
+use Rattle.walrus_emitter.specs.declared.closing.Closer.{Closer}
+use Rattle.walrus_emitter.specs.declared.closing.Closer.TheVariants as closer
+use Rattle.walrus_emitter.specs.declared.closing.SequenceScope.{SequenceScope}
+use Rattle.walrus_emitter.specs.Emission.{Scope, slots_of}
+
+-- which operator it is
+abbrev pub closing : Closer → TextOperation
+closing closer.End = end_operation
+closing closer.Else = else_operation
+closing (closer.Catch tag) = operation catch_opcode (index Tags tag ∷ [])
+closing closer.CatchAll = catch_all_operation
+closing (closer.Delegate depth) = delegate_operation depth
+
+-- which operator a clause of a legacy `try` begins with
+abbrev pub opening_clause : LegacyClause → TextOperation
+opening_clause (handles tag) = operation catch_opcode (index Tags tag ∷ [])
+opening_clause handles_all = catch_all_operation
+opening_clause (delegates depth) = delegate_operation depth
+
+-- what closes a sequence, at its location
+abbrev pub closer_at : Option (Closer × ℕ) → Option (Located TextOperation)
+closer_at c = option_map (λ (x : Closer × ℕ). at_location (closing x.0) x.1) c
+
+abbrev pub scope_of : SequenceScope → Scope
+scope_of s = record { slot = s.place; closer = closer_at s.closer }
+
+abbrev pub scopes_of : List SequenceScope → List Scope
+scopes_of ss = map scope_of ss
+
+-- the places of open sequences
+abbrev pub places_of : List SequenceScope → List ℕ
+places_of ss = slots_of (scopes_of ss)

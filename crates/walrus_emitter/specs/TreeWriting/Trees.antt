@@ -1,0 +1,64 @@
+-- Writing a function's tree: what is written of it, and why it isn't.
+use Rattle.std.specs.Prelude.{◌≡◌, ◌⊎◌, ◌++◌, ℕ, List, [], ◌∷◌, length, Bool, Some, slice_get, Ok, Err}
+use Rattle.walrus_ir.specs.declared.seq.InstrSeq.{InstrSeq}
+use Rattle.walrus_ir.specs.declared.error.WalkError.{WalkError}
+use Rattle.walrus_ir.specs.Faults.{FirstWalkFault}
+use Rattle.wasm_operators.specs.Operations.{RawOperation}
+use Rattle.wasm_body.specs.declared.error.EmitError.{EmitError}
+use Rattle.wasm_body.specs.declared.error.EmitError.TheVariants.{Memory}
+use Rattle.wasm_body.specs.Translation.{Located}
+use Rattle.wasm_body.specs.FunctionTree.{FunctionTree}
+use Rattle.wasm_body.specs.TreeOfFunction.{HasTree, fault_of_walk}
+use Rattle.wasm_body.specs.Bytes.{Numbers, numbered_text, tree_bytes}
+use Rattle.wasm_body.specs.Pairs.{Pair, tree_pairs}
+use Rattle.walrus_emitter.specs.Emission.{output_of}
+use Rattle.walrus_emitter.specs.TreeWriting.Drafts.{Drafted}
+use Rattle.walrus_emitter.specs.declared.closing.Closer.TheVariants.{End}
+use Rattle.walrus_emitter.specs.TreeWriting.ScopeLists.{ScopeLists, ending}
+
+-- what is written of the tree from a sequence on, behind so many bytes of others
+pub record IsDraftOf (b : List InstrSeq) (entry : ℕ) (to : Numbers) (base : ℕ) (has_map : Bool)
+    (draft : Drafted) : Type 0 where
+  pub tree : FunctionTree
+  pub has_tree : HasTree b entry tree
+  pub operators : List (Located RawOperation)
+  pub text : numbered_text to tree ≡ Ok operators
+  pub is : draft
+      ≡ record { base = base; has_map = has_map; output = output_of has_map base operators }
+
+-- Behind what stood in an encoder and in a list stand the bytes of the tree from a sequence on, and
+-- its location pairs.
+pub record Appends (b : List InstrSeq) (entry : ℕ) (to : Numbers) (old_bytes new_bytes : List ℕ)
+    (old_pairs new_pairs : List Pair) : Type 0 where
+  pub tree : FunctionTree
+  pub has_tree : HasTree b entry tree
+  pub bytes : List ℕ
+  pub bytes_are : tree_bytes to tree ≡ Ok bytes
+  pub appends_bytes : new_bytes ≡ old_bytes ++ bytes
+  pub pairs : List Pair
+  pub pairs_are : tree_pairs to tree (length old_bytes) ≡ Ok pairs
+  pub appends_pairs : new_pairs ≡ old_pairs ++ pairs
+
+-- the bytes alone
+pub record AppendsBytes (b : List InstrSeq) (entry : ℕ) (to : Numbers) (old new : List ℕ)
+    : Type 0 where
+  pub tree : FunctionTree
+  pub has_tree : HasTree b entry tree
+  pub bytes : List ℕ
+  pub bytes_are : tree_bytes to tree ≡ Ok bytes
+  pub appends : new ≡ old ++ bytes
+
+-- none of the sequences is open, and the one at the entry is to begin, which an `end` closes
+pub record IsFirstScope (b : List InstrSeq) (entry : ℕ) (scopes : ScopeLists) : Type 0 where
+  pub seq : InstrSeq
+  pub stands : slice_get b entry ≡ Some seq
+  pub is : scopes
+      ≡ record { count = length b; coming = ending entry End seq.end ∷ []; open_scopes = [] }
+
+-- ---- why it isn't written
+
+-- Memory ran out, there is no tree, or the fault is the first of the tree in order of writing.
+abbrev pub IsUnwritten : List InstrSeq → (entry : ℕ) → Numbers → EmitError → Type 0
+IsUnwritten b entry to e =
+    (e ≡ Memory) ⊎ (((walk : WalkError) × FirstWalkFault b entry walk × (e ≡ fault_of_walk walk))
+    ⊎ ((t : FunctionTree) × HasTree b entry t × (tree_bytes to t ≡ Err e)))

@@ -1,0 +1,5 @@
+pub mod Facts
+pub mod Sizes
+pub mod Segments
+pub mod Gathering
+pub mod FactLaws

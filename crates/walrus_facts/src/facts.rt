@@ -1,0 +1,140 @@
+//! What the body of a function is found to hold before it is written.
+ghost use Rattle.std.specs.Prelude.{◌≡◌, ◌⊎◌, ◌==◌, ℕ, [], false, IfOk, IfErr};
+ghost use Rattle.std.specs.HashSet.{contains};
+ghost use Rattle.walrus_ir.specs.Walk.{HasNoWalk};
+ghost use Rattle.walrus_facts.specs.FactLaws.{FactsHaveSize, FactsUseFound};
+ghost use Rattle.walrus_facts.specs.Facts.{AreFacts, TreeHas};
+ghost use Rattle.walrus_facts.specs.Sizes.{IsTooLarge};
+
+use std::alloc::Global;
+use walrus_ir::{
+    DataId, FunctionBuilder, FunctionId, IdHashSet, Instr, InstrLocId, InstrSeq, InstrSeqId,
+    LocalId, RefFunc, Visitor, WalkError, dfs_in_order,
+};
+
+/// What the body of a function is found to hold before it is written.
+#[derive(Drop)]
+pub struct EmitFacts {
+    /// How many instructions there are.
+    pub size: u64,
+    /// Whether an instruction names a data segment.
+    pub uses_data_segments: bool,
+    /// The functions that `ref.func` refers to, in the order of the instructions, repeats kept.
+    pub ref_funcs: Vec<FunctionId>,
+    /// The locals that are read or written.
+    pub used_locals: IdHashSet<LocalId>,
+}
+
+/// Gathers the facts of the instructions that it is told of.
+#[derive(Drop)]
+pub struct FactsVisitor {
+    /// The facts so far.
+    pub facts: EmitFacts,
+}
+
+impl FactsVisitor {
+    /// A visitor that has been told of no instruction. It takes no memory.
+    pub fn new(alloc: Global) -> FactsVisitor
+        ensures size { result.facts.size ≡ 0 }
+        ensures uses_data_segments { result.facts.uses_data_segments ≡ false }
+        ensures ref_funcs { result.facts.ref_funcs.items ≡ [] }
+        ensures used_locals { (l : ℕ)
+            → contains (λ x y. x == y) result.facts.used_locals l ≡ false }
+    {
+        FactsVisitor {
+            facts: EmitFacts {
+                size: 0,
+                uses_data_segments: false,
+                ref_funcs: Vec::new(alloc),
+                used_locals: IdHashSet::new(alloc),
+            },
+        }
+    }
+}
+
+/// It refuses an instruction with `WalkError::TooLarge`, where the count would pass `u64::MAX`, a
+/// function or a local with `WalkError::Memory`, where no memory was left for it, and nothing else.
+impl Visitor for FactsVisitor {
+    type Fault = WalkError;
+
+    ghost use Rattle.walrus_facts.specs.Gathering.{Gathers, Declines, HoldsSameFacts};
+
+    ghost steps = { Gathers };
+
+    ghost refuses = { Declines };
+
+    ghost same = { HoldsSameFacts };
+
+    ghost use Rattle.walrus_facts.specs.Gathering.{same_facts, turned, chained};
+    ghost use Rattle.walrus_facts.specs.Gathering.{gather_alike, decline_alike};
+
+    ghost reflexive = { same_facts };
+
+    ghost symmetric = { turned };
+
+    ghost transitive = { chained };
+
+    ghost steps_alike = { gather_alike };
+
+    ghost refuses_alike = { decline_alike };
+
+    fn start_instr_seq(&mut self, _seq: &InstrSeq) -> Result<(), WalkError> {
+        Ok(())
+    }
+
+    fn end_instr_seq(&mut self, _seq: &InstrSeq) -> Result<(), WalkError> {
+        Ok(())
+    }
+
+    fn visit_instr(&mut self, _instr: &Instr, _loc: &InstrLocId) -> Result<(), WalkError> {
+        match self.facts.size.checked_add(1) {
+            Some(size) => {
+                self.facts.size = size;
+                Ok(())
+            }
+            None => Err(WalkError::TooLarge),
+        }
+    }
+
+    fn visit_data_id(&mut self, _data_id: &DataId) -> Result<(), WalkError> {
+        self.facts.uses_data_segments = true;
+        Ok(())
+    }
+
+    fn visit_local_id(&mut self, local: &LocalId) -> Result<(), WalkError> {
+        self.facts.used_locals.insert(*local)?;
+        Ok(())
+    }
+
+    fn visit_ref_func(&mut self, instr: &RefFunc) -> Result<(), WalkError> {
+        self.facts.ref_funcs.push(instr.func)?;
+        Ok(())
+    }
+}
+
+/// The facts of the instructions in the sequence `start` and in those inside of it.
+///
+/// # Errors
+///
+/// `WalkError::UnknownSequence` or `WalkError::SharedSequence` where the sequences are no tree, the
+/// first in walk order; `WalkError::TooLarge` where the number of instructions doesn't fit 64 bits;
+/// `WalkError::Memory` where none was left for the walk or for the facts.
+pub fn emit_facts(builder: &FunctionBuilder, start: InstrSeqId) -> Result<EmitFacts, WalkError>
+    ensures ok { IfOk result (λ f. TreeHas builder.now.sequences start
+        (λ t. AreFacts t.items f)) }
+    ensures err { IfErr result (λ e. HasNoWalk builder.now.sequences start e
+        ⊎ IsTooLarge builder.now.sequences start e) }
+{
+    let mut visitor = FactsVisitor::new(builder.allocator());
+    dfs_in_order(&mut visitor, builder, start)?;
+    let FactsVisitor { facts } = visitor;
+    Ok(facts)
+}
+
+/// The facts of a function agree with its other calls, where each answers: the size among them is
+/// its size, and they say that data segments are used exactly where one is among its used data
+/// segments. `S` is the hasher of the set of these.
+pub fn law_facts<S>()
+    ensures size { FactsHaveSize }
+    ensures uses_data_segments { FactsUseFound S }
+{}

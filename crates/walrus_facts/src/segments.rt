@@ -1,0 +1,103 @@
+//! The data segments that a function uses.
+ghost use Rattle.std.specs.Prelude.{◌≡◌, ◌==◌, ℕ, false, IfOk, IfErr};
+ghost use Rattle.std.specs.HashSet.{contains};
+ghost use Rattle.walrus_ir.specs.Unfolding.{among};
+ghost use Rattle.walrus_ir.specs.Walk.{HasNoWalk};
+ghost use Rattle.walrus_facts.specs.Facts.{segments, TreeHas};
+
+use std::alloc::Global;
+use walrus_ir::{
+    DataId, FunctionBuilder, IdHashSet, Instr, InstrLocId, InstrSeq, InstrSeqId, LocalId, RefFunc,
+    Visitor, WalkError, dfs_in_order,
+};
+
+/// Collects the data segments that instructions name.
+#[derive(Drop)]
+pub struct DataSegmentsVisitor {
+    /// The data segments that were named.
+    pub segments: IdHashSet<DataId>,
+}
+
+impl DataSegmentsVisitor {
+    /// A visitor that has been told of no data segment. It takes no memory.
+    pub fn new(alloc: Global) -> DataSegmentsVisitor
+        ensures { (d : ℕ) → contains (λ x y. x == y) result.segments d ≡ false }
+    {
+        DataSegmentsVisitor {
+            segments: IdHashSet::new(alloc),
+        }
+    }
+}
+
+/// It refuses a data segment with `WalkError::Memory`, where no memory was left for it, and nothing
+/// else.
+impl Visitor for DataSegmentsVisitor {
+    type Fault = WalkError;
+
+    ghost use Rattle.walrus_facts.specs.Segments.{Collects, WantsMemory, HoldsSame};
+
+    ghost steps = { Collects };
+
+    ghost refuses = { WantsMemory };
+
+    ghost same = { HoldsSame };
+
+    ghost use Rattle.std.proofs.Common.{refl, sym, ◌∙◌};
+    ghost use Rattle.walrus_facts.specs.Segments.{collect_alike, want_alike};
+
+    ghost reflexive = { λ s d. refl };
+
+    ghost symmetric = { λ s t h d. sym (h d) };
+
+    ghost transitive = { λ s t u h k d. k d ∙ h d };
+
+    ghost steps_alike = { collect_alike };
+
+    ghost refuses_alike = { want_alike };
+
+    fn start_instr_seq(&mut self, _seq: &InstrSeq) -> Result<(), WalkError> {
+        Ok(())
+    }
+
+    fn end_instr_seq(&mut self, _seq: &InstrSeq) -> Result<(), WalkError> {
+        Ok(())
+    }
+
+    fn visit_instr(&mut self, _instr: &Instr, _loc: &InstrLocId) -> Result<(), WalkError> {
+        Ok(())
+    }
+
+    fn visit_data_id(&mut self, data_id: &DataId) -> Result<(), WalkError> {
+        self.segments.insert(*data_id)?;
+        Ok(())
+    }
+
+    fn visit_local_id(&mut self, _local: &LocalId) -> Result<(), WalkError> {
+        Ok(())
+    }
+
+    fn visit_ref_func(&mut self, _instr: &RefFunc) -> Result<(), WalkError> {
+        Ok(())
+    }
+}
+
+/// The data segments that instructions name in the sequence `start` and in those inside of it: of
+/// `memory.init`, `data.drop`, `array.new_data` and `array.init_data`.
+///
+/// # Errors
+///
+/// `WalkError::UnknownSequence` or `WalkError::SharedSequence` where the sequences are no tree, the
+/// first in walk order; `WalkError::Memory` where none was left for the walk or for the set.
+pub fn used_data_segments(
+    builder: &FunctionBuilder,
+    start: InstrSeqId,
+) -> Result<IdHashSet<DataId>, WalkError>
+    ensures ok { IfOk result (λ found. TreeHas builder.now.sequences start
+        (λ t. (d : ℕ) → contains (λ x y. x == y) found d ≡ among d (segments t.items))) }
+    ensures err { IfErr result (HasNoWalk builder.now.sequences start) }
+{
+    let mut visitor = DataSegmentsVisitor::new(builder.allocator());
+    dfs_in_order(&mut visitor, builder, start)?;
+    let DataSegmentsVisitor { segments } = visitor;
+    Ok(segments)
+}

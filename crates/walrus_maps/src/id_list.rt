@@ -1,0 +1,69 @@
+//! The ids of one kind, by old index.
+ghost use Rattle.std.specs.Prelude.{◌≡◌, ◌<◌, ℕ, List, [], ◌∷◌, ◌++◌, length, slice_get, slice_set, IfOk, OnOk, OnErr};
+ghost use Rattle.walrus_maps.specs.Growth.{GrowsFrom};
+ghost use Rattle.walrus_ir.specs.Results.{some_or};
+
+use crate::growth::index_behind;
+use std::alloc::Global;
+use std::marker::Model;
+use walrus_ir::Id;
+use wasm_body::IndexError;
+use wasm_operators::Space;
+
+/// The ids of one kind, by old index. A contract sees their list.
+#[derive(Drop)]
+pub(crate) struct IdList<K> {
+    ids: Vec<Id<K>>,
+}
+
+impl<K> Model for IdList<K> {
+    ghost Value = { List ℕ };
+
+    ghost view = { λ list. list.ids.items };
+}
+
+impl<K> IdList<K> {
+    /// No ids. It takes no memory.
+    pub fn new(alloc: Global) -> Self
+        ensures { result ≡ [] }
+    {
+        IdList {
+            ids: Vec::new(alloc),
+        }
+    }
+
+    /// Adds an id behind the others, and answers its index.
+    pub fn push(&mut self, id: Id<K>) -> Result<u32, IndexError>
+        ensures index { IfOk result (λ n. n ≡ length self.old) }
+        ensures ok { OnOk result (self.new ≡ self.old ++ id ∷ []) }
+        ensures err { OnErr result (self.new ≡ self.old) }
+        ensures growth { GrowsFrom (length self.old) result }
+    {
+        let index = index_behind(self.ids.len())?;
+        self.ids.push(id)?;
+        Ok(index)
+    }
+
+    /// The id with this index, if there is one. It takes no memory.
+    pub fn get(&self, index: u32) -> Option<Id<K>>
+        ensures { result ≡ slice_get self.now index }
+    {
+        self.ids.get(index as usize).copied()
+    }
+
+    /// The id with this index, or `OutOfRange` in this space. It takes no memory.
+    pub fn get_in(&self, space: Space, index: u32) -> Result<Id<K>, IndexError>
+        ensures { result ≡ some_or (slice_get self.now index) (IndexError.OutOfRange space index) }
+    {
+        self.get(index)
+            .ok_or(IndexError::OutOfRange { space, index })
+    }
+
+    /// Puts an id at an index in the place of the one that is there. It takes no memory.
+    pub fn set(&mut self, index: u32, id: Id<K>)
+        requires { index < length self.old }
+        ensures { self.new ≡ slice_set self.old index id }
+    {
+        self.ids[index as usize] = id;
+    }
+}

@@ -1,0 +1,77 @@
+//! The numbers of the ids of one kind.
+ghost use Rattle.std.specs.Prelude.{◌≡◌, ℕ, OnOk, OnErr, IsOkUnless, None};
+ghost use Rattle.std.specs.Ordering.{nat_cmp};
+ghost use Rattle.std.specs.FinMap as map;
+ghost use Rattle.std.specs.Coded.{coded_ℕ};
+ghost use Rattle.walrus_ir.specs.Results.{some_or};
+ghost use Rattle.walrus_maps.specs.Growth.{GrowsFrom};
+
+use crate::growth::index_behind;
+use std::alloc::Global;
+use std::marker::Model;
+use walrus_ir::{Id, IdHashMap};
+use wasm_body::IndexError;
+use wasm_operators::Space;
+
+/// The numbers of the ids of one kind. A contract sees a finite map from id to number.
+#[derive(Drop)]
+pub(crate) struct IdNumbers<K> {
+    numbers: IdHashMap<Id<K>, u32>,
+}
+
+impl<K> Model for IdNumbers<K> {
+    ghost Value = { map.FinMap nat_cmp ℕ };
+
+    ghost coded = { map.code coded_ℕ coded_ℕ };
+
+    ghost view = { λ m. map.from_entries m.numbers.entries };
+}
+
+impl<K> IdNumbers<K> {
+    /// No numbers. It takes no memory.
+    pub fn new(alloc: Global) -> Self
+        ensures { result ≡ map.empty }
+    {
+        IdNumbers {
+            numbers: IdHashMap::new(alloc),
+        }
+    }
+
+    // How many ids have a number.
+    fn len(&self) -> usize
+        ensures { result ≡ map.len self.now }
+    {
+        self.numbers.len()
+    }
+
+    /// Gives an id that has no number the next one: how many have one.
+    pub fn push(&mut self, id: Id<K>) -> Result<(), IndexError>
+        requires { map.get self.old id ≡ None }
+        ensures ok { OnOk result (self.new ≡ map.insert self.old id (map.len self.old)) }
+        ensures err { OnErr result (self.new ≡ self.old) }
+        ensures growth { GrowsFrom (map.len self.old) result }
+    {
+        let number = index_behind(self.len())?;
+        self.set(id, number)
+    }
+
+    /// Gives an id this number, in the place of the one that it has.
+    pub fn set(&mut self, id: Id<K>, number: u32) -> Result<(), IndexError>
+        ensures ok { OnOk result (self.new ≡ map.insert self.old id number) }
+        ensures err { OnErr result (self.new ≡ self.old) }
+        ensures memory { IsOkUnless result IndexError.Memory }
+    {
+        self.numbers.insert(id, number)?;
+        Ok(())
+    }
+
+    /// The number of an id, or `Unnumbered` in this space. It takes no memory.
+    pub fn get_in(&self, space: Space, id: Id<K>) -> Result<u32, IndexError>
+        ensures { result ≡ some_or (map.get self.now id) (IndexError.Unnumbered space) }
+    {
+        self.numbers
+            .get(&id)
+            .copied()
+            .ok_or(IndexError::Unnumbered { space })
+    }
+}

@@ -1,0 +1,219 @@
+//! From the old indices of a module to ids.
+ghost use Rattle.std.specs.Prelude.{◌≡◌, ◌<◌, length, IfOk, OnOk, OnErr};
+ghost use Rattle.wasm_operators.specs.declared.types.Space.TheVariants.{Tables, Types, Funcs, Globals, Memories, Elements, Data, Tags};
+ghost use Rattle.walrus_maps.specs.Growth.{GrowsFrom};
+ghost use Rattle.walrus_maps.specs.IndexMaps.{no_ids, ids_in, with_next_id, with_id_at, id_of, locals_in, with_next_local, local_of};
+
+use crate::function_locals::FunctionLocals;
+use crate::id_list::IdList;
+use std::alloc::Global;
+use walrus_ir::{
+    DataId, ElementId, FunctionId, GlobalId, LocalId, MemoryId, TableId, TagId, TypeId, kind,
+};
+use wasm_body::IndexError;
+use wasm_operators::Space;
+
+/// The ids that the old indices of a module stand for, those of the bytes that it was read from.
+/// Each space counts its indices from 0 on, and so does each function those of its locals.
+#[derive(Drop)]
+pub struct IndicesToIds {
+    tables: IdList<kind::Table>,
+    types: IdList<kind::Type>,
+    funcs: IdList<kind::Function>,
+    globals: IdList<kind::Global>,
+    memories: IdList<kind::Memory>,
+    elements: IdList<kind::Element>,
+    data: IdList<kind::Data>,
+    tags: IdList<kind::Tag>,
+    locals: FunctionLocals,
+}
+
+impl IndicesToIds {
+    /// No index stands for an id. It takes no memory.
+    pub fn new(alloc: Global) -> IndicesToIds
+        ensures { result ≡ no_ids }
+    {
+        IndicesToIds {
+            tables: IdList::new(alloc),
+            types: IdList::new(alloc),
+            funcs: IdList::new(alloc),
+            globals: IdList::new(alloc),
+            memories: IdList::new(alloc),
+            elements: IdList::new(alloc),
+            data: IdList::new(alloc),
+            tags: IdList::new(alloc),
+            locals: FunctionLocals::new(alloc),
+        }
+    }
+
+    /// Adds a table, and answers its index, the next one. Errors: `TooMany` where there are 2^32,
+    /// and `Memory`.
+    pub fn push_table(&mut self, id: TableId) -> Result<u32, IndexError>
+        ensures index { IfOk result (λ n. n ≡ length (ids_in self.old Tables)) }
+        ensures ok { OnOk result (self.new ≡ with_next_id Tables id self.old) }
+        ensures err { OnErr result (self.new ≡ self.old) }
+        ensures growth { GrowsFrom (length (ids_in self.old Tables)) result }
+    {
+        self.tables.push(id)
+    }
+
+    /// Adds a type, and answers its index, the next one. Errors: `TooMany` where there are 2^32,
+    /// and `Memory`.
+    pub fn push_type(&mut self, id: TypeId) -> Result<u32, IndexError>
+        ensures index { IfOk result (λ n. n ≡ length (ids_in self.old Types)) }
+        ensures ok { OnOk result (self.new ≡ with_next_id Types id self.old) }
+        ensures err { OnErr result (self.new ≡ self.old) }
+        ensures growth { GrowsFrom (length (ids_in self.old Types)) result }
+    {
+        self.types.push(id)
+    }
+
+    /// Adds a function, and answers its index, the next one. Errors: `TooMany` where there are
+    /// 2^32, and `Memory`.
+    pub fn push_func(&mut self, id: FunctionId) -> Result<u32, IndexError>
+        ensures index { IfOk result (λ n. n ≡ length (ids_in self.old Funcs)) }
+        ensures ok { OnOk result (self.new ≡ with_next_id Funcs id self.old) }
+        ensures err { OnErr result (self.new ≡ self.old) }
+        ensures growth { GrowsFrom (length (ids_in self.old Funcs)) result }
+    {
+        self.funcs.push(id)
+    }
+
+    /// Adds a global, and answers its index, the next one. Errors: `TooMany` where there are 2^32,
+    /// and `Memory`.
+    pub fn push_global(&mut self, id: GlobalId) -> Result<u32, IndexError>
+        ensures index { IfOk result (λ n. n ≡ length (ids_in self.old Globals)) }
+        ensures ok { OnOk result (self.new ≡ with_next_id Globals id self.old) }
+        ensures err { OnErr result (self.new ≡ self.old) }
+        ensures growth { GrowsFrom (length (ids_in self.old Globals)) result }
+    {
+        self.globals.push(id)
+    }
+
+    /// Adds a memory, and answers its index, the next one. Errors: `TooMany` where there are 2^32,
+    /// and `Memory`.
+    pub fn push_memory(&mut self, id: MemoryId) -> Result<u32, IndexError>
+        ensures index { IfOk result (λ n. n ≡ length (ids_in self.old Memories)) }
+        ensures ok { OnOk result (self.new ≡ with_next_id Memories id self.old) }
+        ensures err { OnErr result (self.new ≡ self.old) }
+        ensures growth { GrowsFrom (length (ids_in self.old Memories)) result }
+    {
+        self.memories.push(id)
+    }
+
+    /// Adds an element segment, and answers its index, the next one. Errors: `TooMany` where there
+    /// are 2^32, and `Memory`.
+    pub fn push_element(&mut self, id: ElementId) -> Result<u32, IndexError>
+        ensures index { IfOk result (λ n. n ≡ length (ids_in self.old Elements)) }
+        ensures ok { OnOk result (self.new ≡ with_next_id Elements id self.old) }
+        ensures err { OnErr result (self.new ≡ self.old) }
+        ensures growth { GrowsFrom (length (ids_in self.old Elements)) result }
+    {
+        self.elements.push(id)
+    }
+
+    /// Adds a data segment, and answers its index, the next one. Errors: `TooMany` where there are
+    /// 2^32, and `Memory`.
+    pub fn push_data(&mut self, id: DataId) -> Result<u32, IndexError>
+        ensures index { IfOk result (λ n. n ≡ length (ids_in self.old Data)) }
+        ensures ok { OnOk result (self.new ≡ with_next_id Data id self.old) }
+        ensures err { OnErr result (self.new ≡ self.old) }
+        ensures growth { GrowsFrom (length (ids_in self.old Data)) result }
+    {
+        self.data.push(id)
+    }
+
+    /// Adds a tag, and answers its index, the next one. Errors: `TooMany` where there are 2^32, and
+    /// `Memory`.
+    pub fn push_tag(&mut self, id: TagId) -> Result<u32, IndexError>
+        ensures index { IfOk result (λ n. n ≡ length (ids_in self.old Tags)) }
+        ensures ok { OnOk result (self.new ≡ with_next_id Tags id self.old) }
+        ensures err { OnErr result (self.new ≡ self.old) }
+        ensures growth { GrowsFrom (length (ids_in self.old Tags)) result }
+    {
+        self.tags.push(id)
+    }
+
+    /// Adds a local of a function, and answers its index, the next one of the function. Errors:
+    /// `TooMany` where the function has 2^32, and `Memory`.
+    pub fn push_local(&mut self, function: FunctionId, local: LocalId) -> Result<u32, IndexError>
+        ensures index { IfOk result (λ n. n ≡ length (locals_in self.old function)) }
+        ensures ok { OnOk result (self.new ≡ with_next_local function local self.old) }
+        ensures err { OnErr result (self.new ≡ self.old) }
+        ensures growth { GrowsFrom (length (locals_in self.old function)) result }
+    {
+        self.locals.push(function, local)
+    }
+
+    /// The table with this index, or `OutOfRange`. It takes no memory.
+    pub fn get_table(&self, index: u32) -> Result<TableId, IndexError>
+        ensures { result ≡ id_of self.now Tables index }
+    {
+        self.tables.get_in(Space::Tables, index)
+    }
+
+    /// The type with this index, or `OutOfRange`. It takes no memory.
+    pub fn get_type(&self, index: u32) -> Result<TypeId, IndexError>
+        ensures { result ≡ id_of self.now Types index }
+    {
+        self.types.get_in(Space::Types, index)
+    }
+
+    /// The function with this index, or `OutOfRange`. It takes no memory.
+    pub fn get_func(&self, index: u32) -> Result<FunctionId, IndexError>
+        ensures { result ≡ id_of self.now Funcs index }
+    {
+        self.funcs.get_in(Space::Funcs, index)
+    }
+
+    /// The global with this index, or `OutOfRange`. It takes no memory.
+    pub fn get_global(&self, index: u32) -> Result<GlobalId, IndexError>
+        ensures { result ≡ id_of self.now Globals index }
+    {
+        self.globals.get_in(Space::Globals, index)
+    }
+
+    /// The memory with this index, or `OutOfRange`. It takes no memory.
+    pub fn get_memory(&self, index: u32) -> Result<MemoryId, IndexError>
+        ensures { result ≡ id_of self.now Memories index }
+    {
+        self.memories.get_in(Space::Memories, index)
+    }
+
+    /// The element segment with this index, or `OutOfRange`. It takes no memory.
+    pub fn get_element(&self, index: u32) -> Result<ElementId, IndexError>
+        ensures { result ≡ id_of self.now Elements index }
+    {
+        self.elements.get_in(Space::Elements, index)
+    }
+
+    /// The data segment with this index, or `OutOfRange`. It takes no memory.
+    pub fn get_data(&self, index: u32) -> Result<DataId, IndexError>
+        ensures { result ≡ id_of self.now Data index }
+    {
+        self.data.get_in(Space::Data, index)
+    }
+
+    /// The tag with this index, or `OutOfRange`. It takes no memory.
+    pub fn get_tag(&self, index: u32) -> Result<TagId, IndexError>
+        ensures { result ≡ id_of self.now Tags index }
+    {
+        self.tags.get_in(Space::Tags, index)
+    }
+
+    /// The local of a function with this index, `NoLocals` where the function has no locals, or
+    /// `LocalOutOfRange`. It takes no memory.
+    pub fn get_local(&self, function: FunctionId, index: u32) -> Result<LocalId, IndexError>
+        ensures { result ≡ local_of self.now function index }
+    {
+        self.locals.get(function, index)
+    }
+
+    /// Lets an index that stands for a type stand for another one. It takes no memory.
+    pub fn remap_type(&mut self, index: u32, id: TypeId)
+        requires { index < length (ids_in self.old Types) }
+        ensures { self.new ≡ with_id_at Types index id self.old }
+    {
+        self.types.set(index, id);
+    }
+}

@@ -1,0 +1,162 @@
+-- Which fault is the first doesn't depend on what the location function answers.
+use Rattle.std.specs.Prelude.{◌≡◌, ℕ, zero, suc, ◌+◌, ◌-◌, List, [], ◌∷◌, length, Bool, true, false, Option, Some, None, Result, Ok, Err}
+use Rattle.std.proofs.Common.{refl, ap, sym, ◌∙◌}
+use Rattle.wasm_numbers.specs.declared.fault.ReadFault.{ReadFault}
+use Rattle.wasm_operators.specs.Operations.{RawOperation}
+use Rattle.wasm_operators.specs.OperatorList.{Placed}
+use Rattle.wasm_operators.specs.Spelling.{read_operation}
+use Rattle.wasm_body.specs.declared.error.ParseError.{ParseError}
+use Rattle.wasm_body.specs.declared.error.ParseError.TheVariants.{Read, PlaceTooGreat, Checked}
+use Rattle.wasm_body.specs.declared.error.ParseFailure.{ParseFailure}
+use Rattle.walrus_ir.specs.Results.{◌>>=◌, unless, with_fault}
+use Rattle.wasm_body.specs.Control.{control_of}
+use Rattle.wasm_body.specs.SourceTree.{Sequence, Body}
+use Rattle.wasm_body.specs.Frames.{Frame, moves, may_stand}
+use Rattle.wasm_body.specs.Translation.{translate}
+use Rattle.wasm_body.specs.Naming.{Environment, NamedOperation, Occurrence, position_fault, naming, named_in}
+use Rattle.wasm_body.specs.Parsing.Accepted.{mark, has_location, location_at, Setting, Handled, handled}
+use Rattle.wasm_body.specs.Parsing.Lists.{behind, parsed_from}
+use Rattle.wasm_body.specs.Parsing.Progress.{Layer, Progress, Within, Whole, NoBody, nothing_read, frames_of, further}
+use Rattle.wasm_body.proofs.Structure.ReadFrames.{progress_frames, further_frames}
+use Rattle.wasm_body.proofs.ReadBack.FrameNames.{map_frames, behind_frames, moves_frames, stand_frames, open_frames, handler_label_frames, outer_frames, named_of, results_at, types_in, types_named}
+use Rattle.walrus_parser.specs.Checking.{placed_at}
+use Rattle.walrus_parser.specs.Settings.{Taken, taken, given_with, BothOrNone}
+use Rattle.walrus_parser.proofs.SoFars.{occurrence}
+
+-- ---- what naming asks of frames
+
+abbrev shapes : List (Frame Occurrence) → List (Frame NamedOperation)
+shapes = map_frames named_of
+
+module _ (env : Environment) where
+  abbrev named_by : List (Frame NamedOperation) → RawOperation → Result NamedOperation ParseError
+  named_by gs o =
+      unless (may_stand gs (control_of o)) (position_fault (control_of o)) >>= λ _.
+      translate (naming env gs) o >>= λ named.
+      types_in env (results_at gs) (control_of named) named >>= λ _.
+      Ok named
+
+  naming_is : (fs : List (Frame Occurrence)) → naming env fs ≡ naming env (shapes fs)
+  naming_is fs = λ i. record (naming env fs) {
+    label = λ n. (sym (open_frames named_of fs n)) i;
+    handler = λ n. (sym (handler_label_frames named_of fs n)) i;
+    outer = λ n. (sym (outer_frames named_of fs n)) i;
+  }
+
+  named_is : (fs : List (Frame Occurrence)) (o : RawOperation) → named_in env fs o ≡ named_by (shapes fs) o
+  named_is fs o =
+      (λ i. unless ((sym (stand_frames named_of fs (control_of o))) i) (position_fault (control_of o)) >>= λ _. translate (naming_is fs i) o >>= λ named. types_named env fs (control_of named) named i >>= λ _. Ok named)
+
+  -- frames that were opened by operators of the same names name an operator alike
+  pub named_same : (fs gs : List (Frame Occurrence)) (o : RawOperation) → shapes fs ≡ shapes gs → named_in env fs o ≡ named_in env gs o
+  named_same fs gs o e = named_is fs o ∙ ap (λ hs. named_by hs o) e ∙ sym (named_is gs o)
+
+-- ---- one fault
+
+abbrev progress_shapes : Progress Occurrence → Option (List (Frame NamedOperation))
+progress_shapes p = behind_frames named_of (progress_frames p)
+
+within_shapes : (ls ks : List (Layer Occurrence)) (s t : Sequence Occurrence) → progress_shapes (Within ls s) ≡ progress_shapes (Within ks t) → shapes (frames_of ls) ≡ shapes (frames_of ks)
+within_shapes ls ks s t e = cc
+
+further_shapes : (ls ks : List (Layer Occurrence)) (s t : Sequence Occurrence) (op : RawOperation) (place l m : ℕ) (named : NamedOperation) → shapes (frames_of ls) ≡ shapes (frames_of ks) →
+    progress_shapes (further (Within ls s) (mark (occurrence op place l named))) ≡ progress_shapes (further (Within ks t) (mark (occurrence op place m named)))
+further_shapes ls ks s t op place l m named e =
+    ap (behind_frames named_of) (further_frames (Within ls s) (mark (occurrence op place l named)))
+    ∙ moves_frames named_of (control_of named) (occurrence op place l named) (frames_of ls)
+    ∙ ap (moves (control_of named) named) e
+    ∙ sym (moves_frames named_of (control_of named) (occurrence op place m named) (frames_of ks))
+    ∙ sym (ap (behind_frames named_of) (further_frames (Within ks t) (mark (occurrence op place m named))))
+
+module _ {S : Type 0} (env : Environment) (start : ℕ) (check : S → Placed → Result S ℕ) (first : S) where
+  abbrev given : Option (ℕ → ℕ) → Setting S
+  given = given_with env start check first
+
+  -- an operator that was taken, with its name
+  abbrev stepped : (ℕ → Bool) → S → List (Frame Occurrence) → ℕ → List ℕ → Result (NamedOperation × Taken S) ParseError
+  stepped fits v fs place bytes = taken fits check v place bytes >>= λ t. named_in env fs t.spelt >>= λ named. Ok (named, t)
+
+  abbrev put : Option (ℕ → ℕ) → ℕ → NamedOperation × Taken S → Handled S
+  put locations place k = record { operator = occurrence k.1.spelt place (location_at locations place) k.0; rest = k.1.rest; state = k.1.state }
+
+  handled_as : (locations : Option (ℕ → ℕ)) (v : S) (fs : List (Frame Occurrence)) (place : ℕ) (bytes : List ℕ) →
+      handled (given locations) v fs place bytes ≡ (stepped (has_location locations) v fs place bytes >>= λ k. Ok (put locations place k))
+  handled_as locations v fs place bytes = by_read (read_operation bytes)
+    where
+      by_name : (x : RawOperation × List ℕ) (w : S) (r : Result NamedOperation ParseError) → ◌≡◌ {A = Result (Handled S) ParseError}
+          (r >>= λ named. Ok (record { operator = occurrence x.0 place (location_at locations place) named; rest = x.1; state = w }))
+          ((r >>= λ named. Ok (named, record { spelt = x.0; rest = x.1; state = w })) >>= λ k. Ok (put locations place k))
+      by_name x w (Ok named) = refl
+      by_name x w (Err e) = refl
+
+      by_check : (x : RawOperation × List ℕ) (c : Result S ℕ) → ◌≡◌ {A = Result (Handled S) ParseError}
+          (with_fault Checked c >>= λ w. named_in env fs x.0 >>= λ named. Ok (record { operator = occurrence x.0 place (location_at locations place) named; rest = x.1; state = w }))
+          (((with_fault Checked c >>= λ t. Ok (record { spelt = x.0; rest = x.1; state = t })) >>= λ t. named_in env fs t.spelt >>= λ named. Ok (named, t)) >>= λ k. Ok (put locations place k))
+      by_check x (Ok w) = by_name x w (named_in env fs x.0)
+      by_check x (Err n) = refl
+
+      by_place : (x : RawOperation × List ℕ) (b : Bool) → ◌≡◌ {A = Result (Handled S) ParseError}
+          (unless b PlaceTooGreat >>= λ _. with_fault Checked (check v (placed_at x.0 place)) >>= λ w. named_in env fs x.0 >>= λ named. Ok (record { operator = occurrence x.0 place (location_at locations place) named; rest = x.1; state = w }))
+          (((unless b PlaceTooGreat >>= λ _. with_fault Checked (check v (placed_at x.0 place)) >>= λ t. Ok (record { spelt = x.0; rest = x.1; state = t })) >>= λ t. named_in env fs t.spelt >>= λ named. Ok (named, t)) >>= λ k. Ok (put locations place k))
+      by_place x true = by_check x (check v (placed_at x.0 place))
+      by_place x false = refl
+
+      by_read : (r : Result (RawOperation × List ℕ) ReadFault) → ◌≡◌ {A = Result (Handled S) ParseError}
+          (with_fault (λ fault. Read (record { fault = fault; at = place })) r >>= λ x.
+          unless (has_location locations place) PlaceTooGreat >>= λ _. with_fault Checked (check v (placed_at x.0 place)) >>= λ w. named_in env fs x.0 >>= λ named. Ok (record { operator = occurrence x.0 place (location_at locations place) named; rest = x.1; state = w }))
+          (((with_fault (λ fault. Read (record { fault = fault; at = place })) r >>= λ x.
+          unless (has_location locations place) PlaceTooGreat >>= λ _. with_fault Checked (check v (placed_at x.0 place)) >>= λ t. Ok (record { spelt = x.0; rest = x.1; state = t })) >>= λ t. named_in env fs t.spelt >>= λ named. Ok (named, t)) >>= λ k. Ok (put locations place k))
+      by_read (Ok x) = by_place x (has_location locations place)
+      by_read (Err e) = refl
+
+  same_names : (fits : ℕ → Bool) (v : S) (fs gs : List (Frame Occurrence)) (place : ℕ) (bytes : List ℕ) → shapes fs ≡ shapes gs → stepped fits v fs place bytes ≡ stepped fits v gs place bytes
+  same_names fits v fs gs place bytes e = λ i. taken fits check v place bytes >>= λ t. named_same env fs gs t.spelt e i >>= λ named. Ok (named, t)
+
+  same_limit : (l m : Option (ℕ → ℕ)) → BothOrNone l m → has_location l ≡ has_location m
+  same_limit None None h = refl
+  same_limit (Some l) (Some m) h = refl
+  same_limit None (Some m) h = absurd h
+  same_limit (Some l) None h = absurd h
+
+  module _ (l m : Option (ℕ → ℕ)) (both : BothOrNone l m) where
+    abbrev SameFault : ℕ → Type 0
+    SameFault turns = (p q : Progress Occurrence) (v : S) (place : ℕ) (bytes : List ℕ) (f : ParseFailure) → progress_shapes p ≡ progress_shapes q →
+        parsed_from (given l) turns p v place bytes ≡ Err f → parsed_from (given m) turns q v place bytes ≡ Err f
+
+    abbrev after : Option (ℕ → ℕ) → ℕ → (ls : List (Layer Occurrence)) (s : Sequence Occurrence) (place size : ℕ) → Result (Handled S) ParseError → Result (Body Occurrence) ParseFailure
+    after locations turns ls s place size r = behind place r (λ h. parsed_from (given locations) turns (further (Within ls s) (mark h.operator)) h.state (place + (size - length h.rest)) h.rest)
+
+    turn_same : (turns : ℕ) → SameFault turns → (ls ks : List (Layer Occurrence)) (s t : Sequence Occurrence) (place size : ℕ) (f : ParseFailure) → shapes (frames_of ls) ≡ shapes (frames_of ks) →
+        (r : Result (NamedOperation × Taken S) ParseError) → after l turns ls s place size (r >>= λ k. Ok (put l place k)) ≡ Err f → after m turns ks t place size (r >>= λ k. Ok (put m place k)) ≡ Err f
+    turn_same turns ih ls ks s t place size f same (Err e) is = is
+    turn_same turns ih ls ks s t place size f same (Ok k) is =
+        ih (further (Within ls s) (mark (occurrence k.1.spelt place (location_at l place) k.0))) (further (Within ks t) (mark (occurrence k.1.spelt place (location_at m place) k.0)))
+        k.1.state (place + (size - length k.1.rest)) k.1.rest f (further_shapes ls ks s t k.1.spelt place (location_at l place) (location_at m place) k.0 same) is
+
+    not_whole : (ls : List (Layer Occurrence)) (s : Sequence Occurrence) (b : Body Occurrence) → progress_shapes (Within ls s) ≡ progress_shapes (Whole b) → ⊥
+    not_whole [] s b e = cc
+    not_whole (k ∷ ls) s b e = cc
+
+    same_fault : (turns : ℕ) → SameFault turns
+    same_fault turns (Whole b) (Whole c) v place [] f same is = absurd (cc)
+    same_fault turns (Whole b) (Whole c) v place (x ∷ bytes) f same is = is
+    same_fault turns (Whole b) (Within ks t) v place bytes f same is = absurd (not_whole ks t b (sym same))
+    same_fault turns (Whole b) NoBody v place bytes f same is = absurd (cc)
+    same_fault turns NoBody NoBody v place bytes f same is = is
+    same_fault turns NoBody (Whole c) v place bytes f same is = absurd (cc)
+    same_fault turns NoBody (Within ks t) v place bytes f same is = absurd (cc)
+    same_fault turns (Within ls s) (Whole c) v place bytes f same is = absurd (not_whole ls s c same)
+    same_fault turns (Within ls s) NoBody v place bytes f same is = absurd (cc)
+    same_fault turns (Within ls s) (Within ks t) v place [] f same is = is
+    same_fault zero (Within ls s) (Within ks t) v place (x ∷ bytes) f same is = is
+    same_fault (suc turns) (Within ls s) (Within ks t) v place (x ∷ bytes) f same is =
+        let alike = within_shapes ls ks s t same in
+        let size = length (x ∷ bytes) in
+        let step : stepped (has_location m) v (frames_of ks) place (x ∷ bytes) ≡ stepped (has_location l) v (frames_of ls) place (x ∷ bytes) =
+        ap (λ fits. stepped fits v (frames_of ks) place (x ∷ bytes)) (sym (same_limit l m both)) ∙ sym (same_names (has_location l) v (frames_of ls) (frames_of ks) place (x ∷ bytes) alike) in
+        ap (after m turns ks t place size) (handled_as m v (frames_of ks) place (x ∷ bytes) ∙ ap (λ r. r >>= λ k. Ok (put m place k)) step)
+        ∙ turn_same turns (same_fault turns) ls ks s t place size f alike (stepped (has_location l) v (frames_of ls) place (x ∷ bytes))
+        (sym (ap (after l turns ls s place size) (handled_as l v (frames_of ls) place (x ∷ bytes))) ∙ is)
+
+    pub any_locations : (bytes : List ℕ) (f : ParseFailure) → parsed_from (given l) (length bytes) nothing_read first start bytes ≡ Err f → parsed_from (given m) (length bytes) nothing_read first start bytes ≡ Err f
+    any_locations bytes f is = same_fault (length bytes) nothing_read nothing_read first start bytes f refl is

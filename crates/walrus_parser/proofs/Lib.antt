@@ -1,0 +1,26 @@
+-- What is kept while a body is parsed.
+pub mod Closing
+pub mod Frames
+pub mod Constructs
+pub mod Labels
+pub mod Rules
+pub mod Clauses
+pub mod ConstructKinds
+pub mod Steps
+pub mod Openings
+pub mod Partings
+pub mod Endings
+pub mod Placements
+pub mod Roles
+pub mod Alone
+pub mod Handlers
+pub mod Delegates
+pub mod TryTables
+pub mod Sealing
+pub mod AnyLocations
+pub mod Mappings
+pub mod SoFars
+pub mod Taking
+pub mod Beginnings
+pub mod Bodies
+pub mod BodyAnswers

@@ -1,0 +1,231 @@
+use Rattle.std.proofs.Common.{◌≡◌, ◌<◌, ◌≤◌, ◌+◌, ◌++◌, ◌-◌, length, [], ◌∷◌, refl, rules, inl, inr, sym, ap, subst, ◌∙◌, Ok, Err}
+use Rattle.std.proofs.lemmas.Result.{IfOk-at_ok, IfErr-at_err}
+use Rattle.wasm_numbers.specs.declared.fault.ReadError.{ReadError}
+use Rattle.wasm_operators.specs.Spelling.{read_operation}
+use Rattle.wasm_encode.specs.Writable.{IsWritable}
+use Rattle.wasm_operators.specs.declared.operator.Op.TheVariants.{End}
+use Rattle.wasm_operators.specs.Meaning.{meaning}
+use Rattle.wasm_body.specs.declared.error.ParseError.TheVariants.{Read, Trailing, MissingEnd}
+use Rattle.wasm_body.specs.declared.error.ParseFailure.{ParseFailure}
+use Rattle.wasm_body.specs.Control.{end_operation}
+use Rattle.wasm_body.specs.NormalForm.{typing_of, normal_form, named_body}
+use Rattle.wasm_body.specs.Parsing.Lists.{failure}
+use Rattle.wasm_body.specs.TreeOfFunction.{HasTree}
+use Rattle.wasm_body.specs.Parsing.Accepted.{mark}
+use Rattle.wasm_body.specs.Parsing.Progress.{Within, further}
+use Rattle.walrus_parser.specs.Advancing.{Keeps, KeepsProgress, occurrence}
+use Rattle.walrus_parser.specs.BodyParsers.{state_of}
+use Rattle.walrus_parser.specs.Bodies.{operators_input}
+use Rattle.walrus_context.specs.OpenTrees.{env_of}
+use Rattle.walrus_parser.specs.Settings.{has_place, taken}
+use Rattle.walrus_parser.specs.Locating.{MayAsk, Locates}
+use Rattle.walrus_parser.proofs.Taking.{is_not_read}
+use Rattle.wasm_body.specs.Naming.{Environment}
+use Rattle.walrus_parser.proofs.Alone.{no_layers}
+use Rattle.walrus_parser.proofs.Bodies.{begins_parse, goes_on, unread, breaks, ends_early, over_next, over_end, body_at, goes_past, is_whole, whole_mapping, asks_next}
+use Rattle.walrus_parser.proofs.Partings.{some_open}
+use Rattle.walrus_parser.proofs.parse.parse_operators.Goals as goal
+
+pub loop-reader-init : goal.loop-reader-init
+loop-reader-init g c =
+    let a = c.args in
+    let i = operators_input (env_of a.parser.context) a.reader.now a.code_offset a.on_instr_pos g.V.OpCheck.check (g.V.OpCheck.state a.validator) in
+    begins_parse g.F.Fn i a.parser c.new-instruction_mapping.result.items refl c.requires.fresh c.new-instruction_mapping.ensures.items
+
+pub accepted_at-requires : goal.accepted_at-requires
+accepted_at-requires g c =
+    let a = c.args in
+    let i = operators_input (env_of a.parser.context) a.reader.now a.code_offset a.on_instr_pos g.V.OpCheck.check (g.V.OpCheck.state a.validator) in
+    let now = c.loop-reader.reader in
+    let some : 0 < length now.rest = search rules in
+    subst (λ p. MayAsk (λ f x. g.F.Fn.pre f (x, tt)) a.on_instr_pos p (p + 1)) (sym c.original_position-at.ensures)
+    (asks_next g.F.Fn i (λ f x. g.F.Fn.pre f (x, tt)) c.loop-reader.parser (g.V.OpCheck.state c.loop-reader.validator) now.place now.rest c.loop-reader.instruction_mapping.items c.loop-reader.invariant some c.requires.may_ask)
+
+pub returns-in-Err : goal.returns-in-Err
+returns-in-Err g c =
+    let a = c.args in
+    let i = operators_input (env_of a.parser.context) a.reader.now a.code_offset a.on_instr_pos g.V.OpCheck.check (g.V.OpCheck.state a.validator) in
+    let now = c.loop-reader.reader in
+    let some : 0 < length now.rest = search rules in
+    let state = g.V.OpCheck.state c.loop-reader.validator in
+    let e = c.in-Err.error in
+    let told : (read_operation now.rest ≡ Err e.fault) × (e.at ≡ now.place) = IfErr-at_err (λ (e : ReadError). (read_operation now.rest ≡ Err e.fault) × (e.at ≡ now.place)) c.in-Err.is c.read_next-read.ensures.err in
+    inr (unread g.F.Fn i c.requires.offset c.loop-reader.parser state now.place now.rest c.loop-reader.instruction_mapping.items (Read e) c.failure.result c.loop-reader.invariant some
+    (is_not_read (has_place a.on_instr_pos) g.V.OpCheck.check state now.place now.rest e.fault told.0 ∙ ap (λ p. Err (Read (record { fault = e.fault; at = p }))) (sym told.1))
+    (c.failure.ensures ∙ ap (failure (Read e)) c.original_position-at.ensures))
+
+pub returns-in-Err-accepted_at : goal.returns-in-Err-accepted_at
+returns-in-Err-accepted_at g c =
+    let a = c.args in
+    let i = operators_input (env_of a.parser.context) a.reader.now a.code_offset a.on_instr_pos g.V.OpCheck.check (g.V.OpCheck.state a.validator) in
+    let now = c.loop-reader.reader in
+    let next = c.read_next-read.new.reader in
+    let some : 0 < length now.rest = search rules in
+    let state = g.V.OpCheck.state c.loop-reader.validator in
+    let f = c.in-Err-accepted_at.failure in
+    let told = c.in-Err-accepted_at.ensures.err in
+    let op = c.in-Ok.operator in
+    let at_is = c.original_position-at.ensures in
+    let answer : read_operation now.rest ≡ Ok (meaning op, next.rest) = IfOk-at_ok (λ x. read_operation now.rest ≡ Ok (meaning x, next.rest)) c.in-Ok.is c.read_next-read.ensures.answer in
+    elim told.1 [
+      | inl is ↦ inl is
+      | inr is ↦ inr (unread g.F.Fn i c.requires.offset c.loop-reader.parser state now.place now.rest c.loop-reader.instruction_mapping.items f.error f c.loop-reader.invariant some
+          (subst (λ p. taken (has_place a.on_instr_pos) g.V.OpCheck.check state p now.rest ≡ Err f.error) at_is (is now.rest next.rest answer))
+          (ap (λ at. failure f.error at) (told.0 ∙ at_is)))
+    ]
+
+pub returns : goal.returns
+returns g c =
+    let a = c.args in
+    let i = operators_input (env_of a.parser.context) a.reader.now a.code_offset a.on_instr_pos g.V.OpCheck.check (g.V.OpCheck.state a.validator) in
+    let now = c.loop-reader.reader in
+    let none : length now.rest ≡ 0 = search rules in
+    inr (ends_early g.F.Fn i c.requires.offset c.loop-reader.parser (g.V.OpCheck.state c.loop-reader.validator) now.place now.rest c.loop-reader.instruction_mapping.items c.failure-2.result c.loop-reader.invariant none
+    (c.failure-2.ensures ∙ ap (failure MissingEnd) c.original_position-2.ensures))
+
+pub returns-then-not-eof : goal.returns-then-not-eof
+returns-then-not-eof g c =
+    let a = c.args in
+    let i = operators_input (env_of a.parser.context) a.reader.now a.code_offset a.on_instr_pos g.V.OpCheck.check (g.V.OpCheck.state a.validator) in
+    let now = c.loop-reader.reader in
+    let next = c.read_next-read.new.reader in
+    let p = c.loop-reader.parser in
+    let f = c.loop-reader.invariant in
+    let state = g.V.OpCheck.state c.loop-reader.validator in
+    let then = g.V.OpCheck.state c.accepted_at.new.validator in
+    let m = c.loop-reader.instruction_mapping.items in
+    let op = c.in-Ok.operator in
+    let at_is = c.original_position-at.ensures in
+    let answer : read_operation now.rest ≡ Ok (meaning op, next.rest) = IfOk-at_ok (λ x. read_operation now.rest ≡ Ok (meaning x, next.rest)) c.in-Ok.is c.read_next-read.ensures.answer in
+    let Moves : Type 0 = (next.place + length next.rest ≡ now.place + length now.rest) × (length next.rest < length now.rest) in
+    let moves : Moves = IfOk-at_ok (λ _. Moves) c.in-Ok.is c.read_next-read.ensures.moves in
+    let reads : taken (has_place a.on_instr_pos) g.V.OpCheck.check state now.place now.rest ≡ Ok (record { spelt = meaning op; rest = next.rest; state = then }) =
+    subst (λ p. taken (has_place a.on_instr_pos) g.V.OpCheck.check state p now.rest ≡ Ok (record { spelt = meaning op; rest = next.rest; state = then })) at_is (c.in-Ok-accepted_at.ensures.ok now.rest next.rest answer) in
+    let located : Locates g.F.Fn a.on_instr_pos now.place c.in-Ok-accepted_at.location = subst (λ p. Locates g.F.Fn a.on_instr_pos p c.in-Ok-accepted_at.location) at_is c.in-Ok-accepted_at.ensures.located in
+    let is : c.in-Ok.operator ≡ End = search rules in
+    let alone : length p.context.frames ≤ 1 = search rules in
+    let more : 0 < length next.rest = search rules in
+    let top = no_layers p f.layers f.sequence f.keeps alone in
+    let take : taken (has_place a.on_instr_pos) g.V.OpCheck.check state now.place now.rest ≡ Ok (record { spelt = end_operation; rest = next.rest; state = then }) =
+    reads ∙ ap (λ o. Ok (record { spelt = meaning o; rest = next.rest; state = then })) is in
+    let pushed : c.push.new.self.items ≡ m ++ (now.place - a.code_offset, c.in-Ok-accepted_at.location) ∷ [] =
+    c.in-Ok-push.ensures.items ∙ ap (λ at. m ++ (at - a.code_offset, c.in-Ok-accepted_at.location) ∷ []) c.original_position-at.ensures in
+    let whole = over_end g.F.Fn i c.requires.offset p state then now.place next.place now.rest next.rest m c.push.new.self.items c.in-Ok-accepted_at.location f top take located moves.0 moves.1 pushed in
+    inr (goes_past g.F.Fn i c.requires.offset _ then next.place next.rest c.push.new.self.items c.failure-then-not-eof.result whole more (c.failure-then-not-eof.ensures ∙ ap (failure Trailing) c.original_position.ensures))
+
+pub loop-reader-smaller : goal.loop-reader-smaller
+loop-reader-smaller g c =
+    let now = c.loop-reader.reader in
+    let next = c.read_next-read.new.reader in
+    let Moves : Type 0 = (next.place + length next.rest ≡ now.place + length now.rest) × (length next.rest < length now.rest) in
+    let moves : Moves = IfOk-at_ok (λ _. Moves) c.in-Ok.is c.read_next-read.ensures.moves in
+    moves.1
+
+pub step-requires-clause-writable : goal.step-requires-clause-writable
+step-requires-clause-writable g c = IfOk-at_ok (λ x. IsWritable (meaning x)) c.in-Ok.is c.read_next-read.ensures.writable
+
+pub loop-reader-preserved : goal.loop-reader-preserved
+loop-reader-preserved g c =
+    let a = c.args in
+    let i = operators_input (env_of a.parser.context) a.reader.now a.code_offset a.on_instr_pos g.V.OpCheck.check (g.V.OpCheck.state a.validator) in
+    let now = c.loop-reader.reader in
+    let next = c.read_next-read.new.reader in
+    let p = c.loop-reader.parser in
+    let q = c.step.new.self in
+    let f = c.loop-reader.invariant in
+    let state = g.V.OpCheck.state c.loop-reader.validator in
+    let then = g.V.OpCheck.state c.accepted_at.new.validator in
+    let m = c.loop-reader.instruction_mapping.items in
+    let op = c.in-Ok.operator in
+    let at_is = c.original_position-at.ensures in
+    let answer : read_operation now.rest ≡ Ok (meaning op, next.rest) = IfOk-at_ok (λ x. read_operation now.rest ≡ Ok (meaning x, next.rest)) c.in-Ok.is c.read_next-read.ensures.answer in
+    let Moves : Type 0 = (next.place + length next.rest ≡ now.place + length now.rest) × (length next.rest < length now.rest) in
+    let moves : Moves = IfOk-at_ok (λ _. Moves) c.in-Ok.is c.read_next-read.ensures.moves in
+    let taking : taken (has_place a.on_instr_pos) g.V.OpCheck.check state now.place now.rest ≡ Ok (record { spelt = meaning op; rest = next.rest; state = then }) =
+    subst (λ p. taken (has_place a.on_instr_pos) g.V.OpCheck.check state p now.rest ≡ Ok (record { spelt = meaning op; rest = next.rest; state = then })) at_is (c.in-Ok-accepted_at.ensures.ok now.rest next.rest answer) in
+    let located : Locates g.F.Fn a.on_instr_pos now.place c.in-Ok-accepted_at.location = subst (λ p. Locates g.F.Fn a.on_instr_pos p c.in-Ok-accepted_at.location) at_is c.in-Ok-accepted_at.ensures.located in
+    let o = meaning op in
+    let pushed : c.push.new.self.items ≡ m ++ (now.place - a.code_offset, c.in-Ok-accepted_at.location) ∷ [] =
+    c.in-Ok-push.ensures.items ∙ ap (λ at. m ++ (at - a.code_offset, c.in-Ok-accepted_at.location) ∷ []) c.original_position-at.ensures in
+    let advances = c.in-Ok-step.ensures.step f.layers f.sequence now.place f.keeps in
+    let same = c.in-Ok-step.ensures.rest in
+    let reads = over_next g.F.Fn i c.requires.offset p state then now.place next.place now.rest next.rest m c.push.new.self.items o c.in-Ok-accepted_at.location advances.named f taking located advances.is_named
+    moves.0 moves.1 pushed in
+    let more = further (Within f.layers f.sequence) (mark (occurrence o now.place c.in-Ok-accepted_at.location advances.named)) in
+    goes_on g.F.Fn i q more then next.place next.rest c.push.new.self.items (same.env ∙ f.env_is) (same.entry ∙ f.entry) (subst (λ e. KeepsProgress e (state_of q) more) (sym same.env) advances.keeps) reads
+
+pub returns-in-Err-step : goal.returns-in-Err-step
+returns-in-Err-step g c =
+    let a = c.args in
+    let i = operators_input (env_of a.parser.context) a.reader.now a.code_offset a.on_instr_pos g.V.OpCheck.check (g.V.OpCheck.state a.validator) in
+    let now = c.loop-reader.reader in
+    let next = c.read_next-read.new.reader in
+    let p = c.loop-reader.parser in
+    let state = g.V.OpCheck.state c.loop-reader.validator in
+    let then = g.V.OpCheck.state c.accepted_at.new.validator in
+    let op = c.in-Ok.operator in
+    let at_is = c.original_position-at.ensures in
+    let answer : read_operation now.rest ≡ Ok (meaning op, next.rest) = IfOk-at_ok (λ x. read_operation now.rest ≡ Ok (meaning x, next.rest)) c.in-Ok.is c.read_next-read.ensures.answer in
+    let reads : taken (has_place a.on_instr_pos) g.V.OpCheck.check state now.place now.rest ≡ Ok (record { spelt = meaning op; rest = next.rest; state = then }) =
+    subst (λ p. taken (has_place a.on_instr_pos) g.V.OpCheck.check state p now.rest ≡ Ok (record { spelt = meaning op; rest = next.rest; state = then })) at_is (c.in-Ok-accepted_at.ensures.ok now.rest next.rest answer) in
+    let f = c.loop-reader.invariant in
+    let some : 0 < length now.rest = search rules in
+    let o = meaning op in
+    let e = c.in-Err-step.error in
+    let is = c.failure-in-Err-step.ensures in
+    elim (c.in-Err-step.ensures.step f.layers f.sequence now.place f.keeps) [
+      | inl wants ↦ inl (ap (λ (h : ParseFailure). h.error) is ∙ wants)
+      | inr refused ↦ inr (breaks g.F.Fn i c.requires.offset p (g.V.OpCheck.state c.loop-reader.validator) (g.V.OpCheck.state c.accepted_at.new.validator) now.place now.rest next.rest c.loop-reader.instruction_mapping.items o e
+          c.failure-in-Err-step.result f some reads refused (is ∙ ap (failure e) c.original_position-at.ensures))
+    ]
+
+pub returns-in-Ok-finish : goal.returns-in-Ok-finish
+returns-in-Ok-finish g c =
+    let a = c.args in
+    let i = operators_input (env_of a.parser.context) a.reader.now a.code_offset a.on_instr_pos g.V.OpCheck.check (g.V.OpCheck.state a.validator) in
+    let now = c.loop-reader.reader in
+    let next = c.read_next-read.new.reader in
+    let p = c.loop-reader.parser in
+    let f = c.loop-reader.invariant in
+    let state = g.V.OpCheck.state c.loop-reader.validator in
+    let then = g.V.OpCheck.state c.accepted_at.new.validator in
+    let m = c.loop-reader.instruction_mapping.items in
+    let op = c.in-Ok.operator in
+    let at_is = c.original_position-at.ensures in
+    let answer : read_operation now.rest ≡ Ok (meaning op, next.rest) = IfOk-at_ok (λ x. read_operation now.rest ≡ Ok (meaning x, next.rest)) c.in-Ok.is c.read_next-read.ensures.answer in
+    let Moves : Type 0 = (next.place + length next.rest ≡ now.place + length now.rest) × (length next.rest < length now.rest) in
+    let moves : Moves = IfOk-at_ok (λ _. Moves) c.in-Ok.is c.read_next-read.ensures.moves in
+    let reads : taken (has_place a.on_instr_pos) g.V.OpCheck.check state now.place now.rest ≡ Ok (record { spelt = meaning op; rest = next.rest; state = then }) =
+    subst (λ p. taken (has_place a.on_instr_pos) g.V.OpCheck.check state p now.rest ≡ Ok (record { spelt = meaning op; rest = next.rest; state = then })) at_is (c.in-Ok-accepted_at.ensures.ok now.rest next.rest answer) in
+    let located : Locates g.F.Fn a.on_instr_pos now.place c.in-Ok-accepted_at.location = subst (λ p. Locates g.F.Fn a.on_instr_pos p c.in-Ok-accepted_at.location) at_is c.in-Ok-accepted_at.ensures.located in
+    let is : c.in-Ok.operator ≡ End = search rules in
+    let alone : length p.context.frames ≤ 1 = search rules in
+    let last : length next.rest ≡ 0 = search rules in
+    let top = no_layers p f.layers f.sequence f.keeps alone in
+    let take : taken (has_place a.on_instr_pos) g.V.OpCheck.check state now.place now.rest ≡ Ok (record { spelt = end_operation; rest = next.rest; state = then }) =
+    reads ∙ ap (λ o. Ok (record { spelt = meaning o; rest = next.rest; state = then })) is in
+    let pushed : c.push.new.self.items ≡ m ++ (now.place - a.code_offset, c.in-Ok-accepted_at.location) ∷ [] =
+    c.in-Ok-push.ensures.items ∙ ap (λ at. m ++ (at - a.code_offset, c.in-Ok-accepted_at.location) ∷ []) c.original_position-at.ensures in
+    let whole = over_end g.F.Fn i c.requires.offset p state then now.place next.place now.rest next.rest m c.push.new.self.items c.in-Ok-accepted_at.location f top take located moves.0 moves.1 pushed in
+    let b = body_at f.sequence now.place c.in-Ok-accepted_at.location in
+    let done = c.in-Ok-finish.ensures.ok in
+    record {
+      body = b;
+      is_parsed = is_whole g.F.Fn i c.requires.offset b then next.place next.rest c.push.new.self.items whole last;
+      type = done.type ∙ ap (λ (e : Environment). e.type) f.env_is;
+      is_function = record {
+        entry = done.entry ∙ f.entry;
+        holds = subst (λ e. HasTree c.in-Ok-finish.builder.sequences 0 (normal_form (typing_of e) (named_body b))) f.env_is
+            (done.holds f.sequence b.close refl (subst (λ ls. Keeps (env_of p.context) (state_of p) ls f.sequence) top f.keeps));
+      };
+      is_mapping = whole_mapping g.F.Fn i c.requires.offset b then next.place next.rest c.push.new.self.items whole;
+    }
+
+pub returns-in-Err-finish : goal.returns-in-Err-finish
+returns-in-Err-finish g c =
+    let f = c.loop-reader.invariant in
+    let p = c.loop-reader.parser in
+    elim c.in-Err-finish.ensures.err [
+      | inl is ↦ inl (ap (λ (h : ParseFailure). h.error) c.failure-in-Err-finish.ensures ∙ is)
+      | inr is ↦ absurd (some_open (env_of p.context) (state_of p) f.layers f.sequence f.keeps is.1)
+    ]

@@ -1,0 +1,53 @@
+-- How a parse goes on: what is kept of the operators so far, and one operator further.
+use Rattle.std.specs.Prelude.{◌≡◌, ◌⊎◌, ℕ, List, length, Bool, true, false, Result, Ok, Err}
+use Rattle.walrus_ir.specs.declared.seq.InstrSeq.{InstrSeq}
+use Rattle.wasm_operators.specs.Operations.{RawOperation}
+use Rattle.wasm_body.specs.declared.error.ParseError.{ParseError}
+use Rattle.wasm_body.specs.declared.error.ParseError.TheVariants.{Memory}
+use Rattle.wasm_body.specs.Control.{Action}
+use Rattle.wasm_body.specs.SourceTree.{Sequence}
+use Rattle.wasm_body.specs.Naming.{Environment, NamedOperation, Occurrence, named_in}
+use Rattle.wasm_body.specs.NormalForm.{Fate, Drops, Stays, Cuts, fate}
+use Rattle.wasm_body.specs.Parsing.Accepted.{mark}
+use Rattle.wasm_body.specs.Parsing.Progress.{Layer, Progress, Within, frames_of, further}
+use Rattle.walrus_context.specs.declared.frame.IfElseState.{IfElseState}
+use Rattle.walrus_context.specs.OpenFrames.{OpenFrame}
+use Rattle.walrus_context.specs.Keeping.{Holds}
+
+-- the function's sequences, the open frames, innermost first, and the `if`s whose `end` is to come
+pub record ParseState : Type 0 where
+  pub arena : List InstrSeq
+  pub frames : List OpenFrame
+  pub ifs : List IfElseState
+
+-- The operators that were read are kept: the open constructs around the sequence so far.
+abbrev pub Keeps : Environment → ParseState → List (Layer Occurrence) → Sequence Occurrence → Type 0
+Keeps env p ls s = Holds env p.arena ls s (length p.arena) p.frames p.ifs
+
+abbrev pub KeepsProgress : Environment → ParseState → Progress Occurrence → Type 0
+KeepsProgress env p (Within ls s) = Keeps env p ls s
+KeepsProgress env p _ = ⊥
+
+-- the operator as it occurs at this place
+abbrev pub occurrence : RawOperation → (place location : ℕ) → NamedOperation → Occurrence
+occurrence o place location named = record { spelt = o; place = place; location = location; named = named }
+
+-- The operator has a name, and with it what is read is kept.
+pub record Advances (env : Environment) (new : ParseState) (ls : List (Layer Occurrence)) (s : Sequence Occurrence) (o : RawOperation) (place location : ℕ) : Type 0 where
+  pub named : NamedOperation
+  pub is_named : named_in env (frames_of ls) o ≡ Ok named
+  pub keeps : KeepsProgress env new (further (Within ls s) (mark (occurrence o place location named)))
+
+-- It advances the parse, or memory ran out, or it breaks a rule, of which this is the first.
+abbrev pub IsStep : Environment → ParseState → List (Layer Occurrence) → Sequence Occurrence → RawOperation → (place location : ℕ) → Result (Unit {0}) ParseError → Type 0
+IsStep env new ls s o place location (Ok u) = Advances env new ls s o place location
+IsStep env new ls s o place location (Err e) = (e ≡ Memory) ⊎ (named_in env (frames_of ls) o ≡ Err e)
+
+-- an operator by itself is kept, and what follows it is dropped or not
+abbrev pub IsFate : Fate → Bool → Type 0
+IsFate Drops cut = ⊥
+IsFate Stays cut = cut ≡ false
+IsFate Cuts cut = cut ≡ true
+
+abbrev pub IsCut : Action → Bool → Type 0
+IsCut action cut = IsFate (fate action) cut

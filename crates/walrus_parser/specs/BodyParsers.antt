@@ -1,0 +1,112 @@
+-- What contracts see of a parser of bodies, and what its steps do.
+use Rattle.std.specs.Prelude.{◌≡◌, ◌⊎◌, ℕ, List, [], ◌∷◌, ◌++◌, length, Bool, cond, reverse, Option, Some, None, Result, Ok, Err}
+use Rattle.walrus_ir.specs.declared.instr.Instr.TheVariants as instr
+use Rattle.walrus_ir.specs.declared.val_type.InstrSeqType.{InstrSeqType}
+use Rattle.walrus_ir.specs.Function.{Function, with_new_sequence}
+use Rattle.walrus_ir.specs.Unfolding.{LocatedInstr}
+use Rattle.wasm_operators.specs.declared.types.RawCast.{RawCast}
+use Rattle.wasm_operators.specs.Operations.{Cast, CatchClause, RawOperation}
+use Rattle.wasm_operators.specs.ReferenceOperations.{cast_of}
+use Rattle.wasm_body.specs.declared.error.ParseError.{ParseError}
+use Rattle.wasm_body.specs.declared.error.ParseError.TheVariants.{Memory}
+use Rattle.wasm_body.specs.Translation.{translate, translate_cast, translate_clause}
+use Rattle.wasm_body.specs.InstructionTable.{PlacedOperation}
+use Rattle.wasm_body.specs.SourceTree.{Sequence, Empty}
+use Rattle.wasm_body.specs.Naming.{Occurrence}
+use Rattle.wasm_body.specs.NormalForm.{typing_of, normal_form, named_body}
+use Rattle.wasm_body.specs.TreeOfFunction.{HasTree}
+use Rattle.wasm_body.specs.Parsing.Progress.{Layer}
+use Rattle.walrus_parser.specs.declared.body_parser.BodyParser.{BodyParser}
+use Rattle.walrus_context.specs.declared.frame.IfElseState.{IfElseState}
+use Rattle.walrus_context.specs.OpenFrames.{OpenFrame, changed_at, killed, with_instr}
+use Rattle.walrus_context.specs.OpenTrees.{OpenTrees, env_of}
+use Rattle.walrus_context.specs.Placing.{placing}
+use Rattle.walrus_parser.specs.Advancing.{ParseState, Keeps, IsStep}
+
+abbrev pub state_with : OpenTrees → List IfElseState → ParseState
+state_with c ifs = record { arena = c.builder.sequences; frames = c.frames; ifs = ifs }
+
+abbrev pub state_of : BodyParser → ParseState
+state_of p = state_with p.context (reverse p.if_else.items)
+
+-- Nothing is read yet.
+pub record Begins (p : BodyParser) : Type 0 where
+  pub keeps : Keeps (env_of p.context) (state_of p) [] Empty
+  pub entry : p.context.builder.entry ≡ Some 0
+
+-- an operator with its ids and with the sequences that its labels name
+abbrev pub placed_in : BodyParser → RawOperation → Result PlacedOperation ParseError
+placed_in p o = translate (placing (env_of p.context) p.context.frames) o
+
+-- a clause of a `try_table` with the id of its tag and the sequence that its label names
+abbrev pub clause_in : BodyParser → CatchClause ℕ → Result (CatchClause ℕ) ParseError
+clause_in p c = translate_clause (placing (env_of p.context) p.context.frames) c
+
+-- what a branch on a cast names, in the same way
+abbrev pub cast_in : BodyParser → RawCast → Result (Cast ℕ) ParseError
+cast_in p c = translate_cast (placing (env_of p.context) p.context.frames) (cast_of c)
+
+-- What was answered, seen by `view`, is what is given; or memory ran out.
+abbrev pub GivesOrMemory : {A B : Type 0} → (A → B) → Result A ParseError → Result B ParseError → Type 0
+GivesOrMemory view (Ok x) given = given ≡ Ok (view x)
+GivesOrMemory view (Err e) given = (e ≡ Memory) ⊎ (given ≡ Err e)
+
+-- the innermost `if` has this alternative
+abbrev pub with_alternative : (alternative : ℕ) → List IfElseState → List IfElseState
+with_alternative alternative [] = []
+with_alternative alternative (top ∷ others) = record top { alternative = Some alternative } ∷ others
+
+-- the `if` of these sequences, at this location
+abbrev pub if_else : (consequent alternative location : ℕ) → LocatedInstr
+if_else consequent alternative location = (instr.IfElse (record { consequent = consequent; alternative = alternative }), location)
+
+-- the first of both that is there
+abbrev pub either : Option ℕ → Option ℕ → Option ℕ
+either (Some n) other = Some n
+either None other = other
+
+-- The innermost `if` is no longer open, and its instruction stands in the frame around.
+pub record AppendsIf (old new : BodyParser) (alternative : Option ℕ) : Type 0 where
+  pub top : IfElseState
+  pub popped : old.if_else.items ≡ new.if_else.items ++ top ∷ []
+  pub id : ℕ
+  pub chosen : either alternative top.alternative ≡ Some id
+  pub is : new.context ≡ record old.context { frames = changed_at 0 (with_instr (if_else top.consequent id top.start)) old.context.frames }
+
+-- The innermost `if` has no alternative, and none is given.
+pub record HasNoAlternative (p : BodyParser) (given : Option ℕ) : Type 0 where
+  pub front : List IfElseState
+  pub top : IfElseState
+  pub ifs : p.if_else.items ≡ front ++ top ∷ []
+  pub none : either given top.alternative ≡ None
+
+-- No `if` is open, or it has no alternative, or there is no frame around.
+abbrev pub HasNoIf : BodyParser → Option ℕ → Type 0
+HasNoIf old alternative = (old.if_else.items ≡ []) ⊎ (HasNoAlternative old alternative ⊎ (old.context.frames ≡ []))
+
+-- There is one more sequence of this type, which is empty; nothing else changed.
+pub record AddsEmpty (old new : OpenTrees) (type : InstrSeqType) (id : ℕ) : Type 0 where
+  pub is_next : id ≡ length old.builder.sequences
+  pub is : new ≡ record old { builder = with_new_sequence old.builder type }
+
+-- It is still the parse of the same body.
+pub record IsSameBody (old new : OpenTrees) : Type 0 where
+  pub env : env_of new ≡ env_of old
+  pub entry : new.builder.entry ≡ old.builder.entry
+
+-- one more instruction, and what follows it is dropped where it cuts
+abbrev pub taking : LocatedInstr → (cuts : Bool) → OpenFrame → OpenFrame
+taking x cuts f = cond cuts (killed (with_instr x f)) (with_instr x f)
+
+-- The builder holds the normal form of the body that the operators and the function's own `end` are.
+pub record Finishes (old : BodyParser) (location : ℕ) (new : Function) : Type 0 where
+  pub type : new.type ≡ old.context.builder.type
+  pub entry : new.entry ≡ old.context.builder.entry
+  pub holds : (s : Sequence Occurrence) (e : Occurrence) → e.location ≡ location → Keeps (env_of old.context) (state_of old) [] s →
+      HasTree new.sequences 0 (normal_form (typing_of (env_of old.context)) (named_body (record { sequence = s; close = e })))
+
+-- What was kept of the operators so far is kept of this one more, or memory ran out, or it has this first fault.
+abbrev pub Steps : BodyParser → BodyParser → RawOperation → (location : ℕ) → Result (Unit {0}) ParseError → Type 0
+Steps old new o location r =
+    (ls : List (Layer Occurrence)) (s : Sequence Occurrence) (place : ℕ) →
+    Keeps (env_of old.context) (state_of old) ls s → IsStep (env_of old.context) (state_of new) ls s o place location r

@@ -1,0 +1,11 @@
+-- What is kept while a body is parsed.
+pub mod Checking
+pub mod Locating
+pub mod Settings
+pub mod Advancing
+pub mod OperatorKinds
+pub mod Handlers
+pub mod BodyParsers
+pub mod Bodies
+-- the places of a body
+pub mod Ranges

@@ -1,0 +1,36 @@
+//! The bytes of a body.
+ghost use Rattle.std.specs.Prelude.{◌≡◌, ◌≤◌, ◌<◌, ◌+◌, ◌^◌, length, drop};
+ghost use Rattle.walrus_parser.specs.Ranges.{range_at};
+
+use std::ops::Range;
+
+/// The bytes of a function's body: its operators begin at `bytes[ops]`, and `bytes[i]` stands at
+/// the place `start + i`.
+#[derive(Clone, Copy, Debug)]
+pub struct FunctionBody<'a> {
+    pub bytes: &'a [u8],
+    pub start: usize,
+    pub ops: usize,
+}
+
+impl<'a> FunctionBody<'a> {
+    /// The bytes from the first operator on.
+    pub fn operators(self) -> &'a [u8]
+        requires { self.ops ≤ length self.bytes.now }
+        ensures { result.now ≡ drop self.entry.ops self.entry.bytes.now }
+    {
+        &self.bytes[self.ops..]
+    }
+
+    /// The places of all bytes, less an offset.
+    pub fn range(self, offset: usize) -> Range<usize>
+        requires fits { self.start + length self.bytes.now < 2 ^ 64 }
+        requires offset { offset ≤ self.start }
+        ensures { result ≡ range_at self.entry.start (length self.entry.bytes.now) offset }
+    {
+        Range {
+            start: self.start - offset,
+            end: self.start + self.bytes.len() - offset,
+        }
+    }
+}

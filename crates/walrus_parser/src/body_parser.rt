@@ -1,0 +1,530 @@
+//! How a body is parsed: each operator carries on what is kept of the sequences that are open.
+ghost use Rattle.std.specs.Prelude.{IsTrue, ◌↔◌, reverse, ◌≡◌, ◌≢◌, ◌⊎◌, ◌<◌, ◌≤◌, length, IfOk, IfErr, OnOk, Some, [], ◌∷◌, Ok, Err, slice_get, IsSome, IsSomeAnd, None, true, false};
+ghost use Rattle.walrus_ir.specs.Types.{existing};
+ghost use Rattle.wasm_operators.specs.declared.types.Opcode.TheVariants.{Byte};
+ghost use Rattle.wasm_operators.specs.Operations.{operation, block};
+ghost use Rattle.wasm_operators.specs.declared.operator.Op.TheVariants as op;
+ghost use Rattle.wasm_operators.specs.Meaning.{meaning};
+ghost use Rattle.wasm_encode.specs.Writable.{IsWritable};
+ghost use Rattle.walrus_parser.specs.OperatorKinds.{is_instruction, is_cut};
+ghost use Rattle.wasm_body.specs.declared.error.ParseError.{ParseError as ParseFault};
+ghost use Rattle.wasm_body.specs.Control.{end_operation, else_operation};
+ghost use Rattle.walrus_ir.specs.Unfolding.{slots_in};
+ghost use Rattle.wasm_body.specs.InstructionTable.{operation_of, clauses_of_try};
+ghost use Rattle.wasm_body.specs.Naming.{entry_type_id as entry_type_of};
+ghost use Rattle.walrus_maps.specs.Environments.{environment_of};
+ghost use Rattle.walrus_context.specs.OpenFrames.{changed_at};
+ghost use Rattle.walrus_context.specs.OpenTrees.{env_of};
+ghost use Rattle.walrus_parser.specs.BodyParsers.{Begins, IsSameBody, Steps, with_alternative, AppendsIf, HasNoIf, AddsEmpty, Finishes, taking, placed_in};
+
+use crate::instructions::{constant, memory_argument};
+use std::alloc::Global;
+use std::mem;
+use walrus_context::{IfElseState, ValidationContext, pushed, value_type};
+use walrus_ir::{
+    Binop, Block, BlockKind, BrIf, Call, FunctionBuilder, FunctionId, GlobalGet, GlobalSet, IfElse,
+    Instr, InstrLocId, InstrSeqId, InstrSeqType, Load, LoadKind, Loop, Module, Store, StoreKind,
+    TypeId, Unop, ValType, Value,
+};
+use walrus_maps::IndicesToIds;
+use wasm_body::ParseError;
+use wasm_ops::{BlockType, Operator, RawMemArg};
+
+/// What is kept while a body is parsed.
+#[derive(Drop)]
+pub(crate) struct BodyParser<'a> {
+    /// The function's sequences, and which of them are open.
+    pub context: ValidationContext<'a>,
+    /// The `if`s whose `end` is still to come, the innermost last.
+    pub if_else: Vec<IfElseState>,
+}
+
+/// The list that is lent, cleared. A new one stands in its place.
+fn cleared(alloc: Global, lent: &mut Vec<(Instr, InstrLocId)>) -> Vec<(Instr, InstrLocId)>
+    ensures { result.items ≡ [] }
+{
+    let mut instrs = mem::replace(lent, Vec::new(alloc));
+    instrs.clear();
+    instrs
+}
+
+impl<'a> BodyParser<'a> {
+    /// Nothing is read yet of the body of this function, whose entry has the type `entry`. The
+    /// list that is lent is that of the open sequences until `finish`.
+    pub fn new(
+        alloc: Global,
+        module: &'a Module,
+        indices: &'a IndicesToIds,
+        function: FunctionId,
+        ty: TypeId,
+        entry: TypeId,
+        lent: &mut Vec<(Instr, InstrLocId)>,
+    ) -> Result<BodyParser<'a>, ParseError>
+        requires { entry_type_of (environment_of «module».now indices.now function ty) ≡ Ok entry }
+        ensures env { IfOk result (λ p.
+            env_of p.context ≡ environment_of «module».now indices.now function ty) }
+        ensures ok { IfOk result Begins }
+        ensures err { IfErr result (λ e. e ≡ ParseFault.Memory) }
+    {
+        let mut builder = FunctionBuilder::without_entry(alloc, ty);
+        builder.set_entry(InstrSeqId::new(0));
+        let controls = Vec::new(alloc);
+        let instrs = cleared(alloc, lent);
+        let mut context = ValidationContext::new(
+            module, indices, function, builder, controls, instrs,
+        );
+        match context.push_control_with_ty(BlockKind::FunctionEntry, entry) {
+            Ok(_entry) => Ok(BodyParser {
+                context,
+                if_else: Vec::new(alloc),
+            }),
+            Err(error) => Err(error),
+        }
+    }
+}
+
+impl BodyParser<'_> {
+    /// Whether only the function's own sequence is open.
+    pub fn is_outermost(&self) -> bool
+        ensures { IsTrue result ↔ (length self.now.context.frames ≤ 1) }
+    {
+        self.context.control(1).is_err()
+    }
+
+    /// Takes a `block`.
+    fn open_block(&mut self, ty: BlockType, location: InstrLocId) -> Result<(), ParseError>
+        ensures step { Steps self.old self.new (operation (Byte 0x02) (block ty ∷ []))
+            location result }
+        ensures rest { OnOk result (IsSameBody self.old.context self.new.context) }
+    {
+        match self.context.push_block(BlockKind::Block, ty) {
+            Ok(seq) => {
+                self.context
+                    .alloc_instr_in_control(1, Instr::Block(Block { seq }), location)
+            }
+            Err(error) => Err(error),
+        }
+    }
+
+    /// Takes a `loop`.
+    fn open_loop(&mut self, ty: BlockType, location: InstrLocId) -> Result<(), ParseError>
+        ensures step { Steps self.old self.new (operation (Byte 0x03) (block ty ∷ []))
+            location result }
+        ensures rest { OnOk result (IsSameBody self.old.context self.new.context) }
+    {
+        match self.context.push_block(BlockKind::Loop, ty) {
+            Ok(seq) => {
+                self.context
+                    .alloc_instr_in_control(1, Instr::Loop(Loop { seq }), location)
+            }
+            Err(error) => Err(error),
+        }
+    }
+
+    /// Takes an `if`, whose instruction is appended at its `end`.
+    fn open_if(&mut self, ty: BlockType, start: InstrLocId) -> Result<(), ParseError>
+        ensures step { Steps self.old self.new (operation (Byte 0x04) (block ty ∷ []))
+            start result }
+        ensures rest { OnOk result (IsSameBody self.old.context self.new.context) }
+    {
+        match self.context.push_block(BlockKind::If, ty) {
+            Ok(consequent) => pushed(
+                &mut self.if_else,
+                IfElseState {
+                    start,
+                    consequent,
+                    alternative: None,
+                },
+            ),
+            Err(error) => Err(error),
+        }
+    }
+
+    /// The innermost `if` goes on with this alternative.
+    fn begin_alternative(&mut self, alternative: InstrSeqId)
+        ensures context { self.new.context ≡ self.old.context }
+        ensures ifs { reverse self.new.if_else.items
+            ≡ with_alternative alternative (reverse self.old.if_else.items) }
+    {
+        if let Some(index) = self.if_else.len().checked_sub(1) {
+            self.if_else[index].alternative = Some(alternative);
+        }
+    }
+
+    /// Takes an `else`.
+    fn part_else(&mut self, location: InstrLocId) -> Result<(), ParseError>
+        ensures step { Steps self.old self.new else_operation location result }
+        ensures rest { OnOk result (IsSameBody self.old.context self.new.context) }
+    {
+        let (frame, consequent) = match self.context.pop_control() {
+            Ok(popped) => popped,
+            Err(error) => return Err(error),
+        };
+        let BlockKind::If = frame.kind else {
+            return Err(ParseError::ElseOutsideIf);
+        };
+        self.context.end_sequence(consequent, location);
+        let pushed = self
+            .context
+            .push_control(BlockKind::Else, &frame.start_types, &frame.end_types);
+        match pushed {
+            Ok(alternative) => {
+                self.begin_alternative(alternative);
+                Ok(())
+            }
+            Err(error) => Err(error),
+        }
+    }
+
+    /// Appends the instruction of the innermost `if`, whose sequences are closed.
+    fn append_if(&mut self, alternative: Option<InstrSeqId>) -> Result<(), ParseError>
+        ensures ok { OnOk result (AppendsIf self.old self.new alternative) }
+        ensures err { IfErr result (λ e. (e ≡ ParseFault.Memory) ⊎ HasNoIf self.old alternative) }
+    {
+        let Some(top) = self.if_else.pop() else {
+            return Err(ParseError::NoFrame);
+        };
+        let Some(alternative) = alternative.or(top.alternative) else {
+            return Err(ParseError::NoFrame);
+        };
+        let consequent = top.consequent;
+        let instr = Instr::IfElse(IfElse {
+            consequent,
+            alternative,
+        });
+        self.context.alloc_instr(instr, top.start)
+    }
+
+    /// Makes an empty alternative for an `if` that has none.
+    fn empty_alternative(
+        &mut self,
+        start_types: &[ValType],
+        end_types: &[ValType],
+    ) -> Result<InstrSeqId, ParseError>
+        ensures ok { IfOk result (λ id. IsSomeAnd
+            (existing self.old.context.module.types start_types.now end_types.now)
+            (λ ty. AddsEmpty self.old.context self.new.context ty id)) }
+        ensures err { IfErr result (λ e. (e ≡ ParseFault.Memory)
+            ⊎ ((e ≡ ParseFault.TypeMissing)
+            × (existing self.old.context.module.types start_types.now end_types.now ≡ None))) }
+        ensures ifs { self.new.if_else ≡ self.old.if_else }
+    {
+        let alternative = match self
+            .context
+            .push_control(BlockKind::Else, start_types, end_types)
+        {
+            Ok(alternative) => alternative,
+            Err(error) => return Err(error),
+        };
+        let (_frame, _block) = match self.context.pop_control() {
+            Ok(popped) => popped,
+            Err(error) => return Err(error),
+        };
+        Ok(alternative)
+    }
+
+    /// Takes an `end` that closes a construct.
+    fn end_construct(&mut self, location: InstrLocId) -> Result<(), ParseError>
+        requires inside { 1 < length self.old.context.frames }
+        ensures step { Steps self.old self.new end_operation location result }
+        ensures rest { OnOk result (IsSameBody self.old.context self.new.context) }
+    {
+        let (frame, block) = match self.context.pop_control() {
+            Ok(popped) => popped,
+            Err(error) => return Err(error),
+        };
+        self.context.end_sequence(block, location);
+        match frame.kind {
+            BlockKind::If => {
+                match self.empty_alternative(&frame.start_types, &frame.end_types) {
+                    Ok(alternative) => self.append_if(Some(alternative)),
+                    Err(error) => Err(error),
+                }
+            }
+            BlockKind::Else => self.append_if(None),
+            _ => Ok(()),
+        }
+    }
+
+    /// Appends an instruction to the innermost frame, behind which nothing of it is executed where
+    /// it cuts.
+    #[inline(always)]
+    fn take(&mut self, instr: Instr, location: InstrLocId, cuts: bool) -> Result<(), ParseError>
+        ensures ok { OnOk result ((0 < length self.old.context.frames)
+            × (self.new.context ≡ record self.old.context {
+              frames = changed_at 0 (taking (instr, location) cuts) self.old.context.frames;
+            })) }
+        ensures err { IfErr result (λ e. (e ≡ ParseFault.Memory)
+            ⊎ ((e ≡ ParseFault.NoFrame) × (length self.old.context.frames ≤ 0))) }
+        ensures ifs { self.new.if_else ≡ self.old.if_else }
+    {
+        match self.context.alloc_instr(instr, location) {
+            Ok(()) if cuts => self.context.unreachable(),
+            result => result,
+        }
+    }
+
+    /// Takes an operator by itself, of which this instruction is made.
+    #[inline(always)]
+    fn take_made(
+        &mut self,
+        operator: &Operator<'_>,
+        instr: Instr,
+        location: InstrLocId,
+        cuts: bool,
+    ) -> Result<(), ParseError>
+        requires kind { is_instruction operator.now ≡ true }
+        requires cuts { cuts ≡ is_cut operator.now }
+        requires placed { placed_in self.old (meaning operator.now) ≡ Ok (operation_of instr) }
+        requires plain { (slots_in instr ≡ []) × (clauses_of_try instr ≡ []) }
+        ensures step { Steps self.old self.new (meaning operator.now) location result }
+        ensures rest { OnOk result (IsSameBody self.old.context self.new.context) }
+    {
+        self.take(instr, location, cuts)
+    }
+
+    /// Takes an operator by itself, that isn't `nop`.
+    #[inline(never)]
+    fn take_alone(
+        &mut self,
+        operator: &Operator<'_>,
+        location: InstrLocId,
+    ) -> Result<(), ParseError>
+        requires kind { is_instruction operator.now ≡ true }
+        requires writable { IsWritable (meaning operator.now) }
+        ensures step { Steps self.old self.new (meaning operator.now) location result }
+        ensures rest { OnOk result (IsSameBody self.old.context self.new.context) }
+    {
+        match self.instruction(operator) {
+            Ok(instr) => self.take_made(operator, instr, location, is_cut(operator)),
+            Err(error) => Err(error),
+        }
+    }
+
+    /// Refuses an operator by itself, of which no instruction is made for this error.
+    fn refuse(
+        &mut self,
+        operator: &Operator<'_>,
+        location: InstrLocId,
+        error: ParseError,
+    ) -> Result<(), ParseError>
+        requires kind { is_instruction operator.now ≡ true }
+        requires placed { placed_in self.old (meaning operator.now) ≡ Err error }
+        ensures step { Steps self.old self.new (meaning operator.now) location result }
+        ensures rest { OnOk result (IsSameBody self.old.context self.new.context) }
+    {
+        Err(error)
+    }
+
+    /// Takes a load.
+    #[inline(never)]
+    fn take_load(
+        &mut self,
+        operator: &Operator<'_>,
+        kind: LoadKind,
+        memarg: RawMemArg,
+        location: InstrLocId,
+    ) -> Result<(), ParseError>
+        requires is { operator.now ≡ op.Load kind memarg }
+        requires exponent { memarg.exponent < 32 }
+        ensures step { Steps self.old self.new (meaning operator.now) location result }
+        ensures rest { OnOk result (IsSameBody self.old.context self.new.context) }
+    {
+        match self.context.indices().get_memory(memarg.memory) {
+            Ok(memory) => {
+                let arg = memory_argument(memarg);
+                let load = Load { memory, kind, arg };
+                self.take_made(operator, Instr::Load(load), location, false)
+            }
+            Err(error) => self.refuse(operator, location, ParseError::Index(error)),
+        }
+    }
+
+    /// Takes a store.
+    #[inline(never)]
+    fn take_store(
+        &mut self,
+        operator: &Operator<'_>,
+        kind: StoreKind,
+        memarg: RawMemArg,
+        location: InstrLocId,
+    ) -> Result<(), ParseError>
+        requires is { operator.now ≡ op.Store kind memarg }
+        requires exponent { memarg.exponent < 32 }
+        ensures step { Steps self.old self.new (meaning operator.now) location result }
+        ensures rest { OnOk result (IsSameBody self.old.context self.new.context) }
+    {
+        match self.context.indices().get_memory(memarg.memory) {
+            Ok(memory) => {
+                let arg = memory_argument(memarg);
+                let store = Store { memory, kind, arg };
+                self.take_made(operator, Instr::Store(store), location, false)
+            }
+            Err(error) => self.refuse(operator, location, ParseError::Index(error)),
+        }
+    }
+
+    /// Takes a `call`.
+    #[inline(never)]
+    fn take_call(
+        &mut self,
+        operator: &Operator<'_>,
+        index: u32,
+        location: InstrLocId,
+    ) -> Result<(), ParseError>
+        requires { operator.now ≡ op.Call index }
+        ensures step { Steps self.old self.new (meaning operator.now) location result }
+        ensures rest { OnOk result (IsSameBody self.old.context self.new.context) }
+    {
+        match self.context.indices().get_func(index) {
+            Ok(func) => {
+                let instr = Instr::Call(Call { func });
+                self.take_made(operator, instr, location, false)
+            }
+            Err(error) => self.refuse(operator, location, ParseError::Index(error)),
+        }
+    }
+
+    /// Takes a `global.get`.
+    #[inline(never)]
+    fn take_global_get(
+        &mut self,
+        operator: &Operator<'_>,
+        index: u32,
+        location: InstrLocId,
+    ) -> Result<(), ParseError>
+        requires { operator.now ≡ op.GlobalGet index }
+        ensures step { Steps self.old self.new (meaning operator.now) location result }
+        ensures rest { OnOk result (IsSameBody self.old.context self.new.context) }
+    {
+        match self.context.indices().get_global(index) {
+            Ok(global) => {
+                let instr = Instr::GlobalGet(GlobalGet { global });
+                self.take_made(operator, instr, location, false)
+            }
+            Err(error) => self.refuse(operator, location, ParseError::Index(error)),
+        }
+    }
+
+    /// Takes a `global.set`.
+    #[inline(never)]
+    fn take_global_set(
+        &mut self,
+        operator: &Operator<'_>,
+        index: u32,
+        location: InstrLocId,
+    ) -> Result<(), ParseError>
+        requires { operator.now ≡ op.GlobalSet index }
+        ensures step { Steps self.old self.new (meaning operator.now) location result }
+        ensures rest { OnOk result (IsSameBody self.old.context self.new.context) }
+    {
+        match self.context.indices().get_global(index) {
+            Ok(global) => {
+                let instr = Instr::GlobalSet(GlobalSet { global });
+                self.take_made(operator, instr, location, false)
+            }
+            Err(error) => self.refuse(operator, location, ParseError::Index(error)),
+        }
+    }
+
+    /// Takes a `br_if`.
+    #[inline(never)]
+    fn take_br_if(
+        &mut self,
+        operator: &Operator<'_>,
+        label: u32,
+        location: InstrLocId,
+    ) -> Result<(), ParseError>
+        requires { operator.now ≡ op.BrIf label }
+        ensures step { Steps self.old self.new (meaning operator.now) location result }
+        ensures rest { OnOk result (IsSameBody self.old.context self.new.context) }
+    {
+        match self.label(label) {
+            Ok(block) => self.take_made(operator, Instr::BrIf(BrIf { block }), location, false),
+            Err(error) => self.refuse(operator, location, error),
+        }
+    }
+
+    /// Takes the next operator, which isn't the function's own `end`.
+    pub fn step(&mut self, operator: &Operator<'_>, location: InstrLocId) -> Result<(), ParseError>
+        requires inside { operator.now ≡ op.End → 1 < length self.old.context.frames }
+        requires writable { IsWritable (meaning operator.now) }
+        ensures step { Steps self.old self.new (meaning operator.now) location result }
+        ensures rest { OnOk result (IsSameBody self.old.context self.new.context) }
+    {
+        match operator {
+            Operator::Nop => Ok(()),
+            Operator::Block { ty } => self.open_block(*ty, location),
+            Operator::Loop { ty } => self.open_loop(*ty, location),
+            Operator::If { ty } => self.open_if(*ty, location),
+            Operator::Else => self.part_else(location),
+            Operator::Try { ty } => self.open_try(*ty, location),
+            Operator::Catch { tag } => self.part_try(Some(*tag), location),
+            Operator::CatchAll => self.part_try(None, location),
+            Operator::Delegate { depth } => self.close_delegate(*depth),
+            Operator::TryTable { ty, catches } => self.open_try_table(*ty, catches, location),
+            Operator::End => self.end_construct(location),
+            Operator::Drop => self.take_made(operator, Instr::Drop, location, false),
+            Operator::I32Const { value } => {
+                self.take_made(operator, constant(Value::I32(*value)), location, false)
+            }
+            Operator::I64Const { value } => {
+                self.take_made(operator, constant(Value::I64(*value)), location, false)
+            }
+            Operator::Unop(op) => {
+                self.take_made(operator, Instr::Unop(Unop { op: *op }), location, false)
+            }
+            Operator::Binop(op) => {
+                self.take_made(operator, Instr::Binop(Binop { op: *op }), location, false)
+            }
+            Operator::Load { kind, memarg } => {
+                self.take_load(operator, *kind, *memarg, location)
+            }
+            Operator::Store { kind, memarg } => {
+                self.take_store(operator, *kind, *memarg, location)
+            }
+            Operator::Call { func } => self.take_call(operator, *func, location),
+            Operator::GlobalGet { global } => self.take_global_get(operator, *global, location),
+            Operator::GlobalSet { global } => self.take_global_set(operator, *global, location),
+            Operator::BrIf { label } => self.take_br_if(operator, *label, location),
+            _ => self.take_alone(operator, location),
+        }
+    }
+
+    /// Takes the function's own `end`: its sequences. The list of the open sequences is put back
+    /// where it was lent.
+    pub fn finish(
+        mut self,
+        location: InstrLocId,
+        lent: &mut Vec<(Instr, InstrLocId)>,
+    ) -> Result<FunctionBuilder, ParseError>
+        ensures ok { IfOk result (Finishes self.entry location) }
+        ensures err { IfErr result (λ e. (e ≡ ParseFault.Memory)
+            ⊎ ((e ≡ ParseFault.NoFrame) × (self.entry.context.frames ≡ []))) }
+    {
+        let (_frame, block) = match self.context.pop_control() {
+            Ok(popped) => popped,
+            Err(error) => return Err(error),
+        };
+        self.context.end_sequence(block, location);
+        let (builder, _controls, instrs) = self.context.into_parts();
+        *lent = instrs;
+        Ok(builder)
+    }
+}
+
+/// Whether what follows in the sequence is dropped.
+fn is_cut(operator: &Operator<'_>) -> bool
+    ensures { result ≡ is_cut operator.now }
+{
+    matches!(
+        operator,
+        Operator::Unreachable
+            | Operator::Br { .. }
+            | Operator::BrTable(_)
+            | Operator::Return
+            | Operator::Throw { .. }
+            | Operator::Rethrow { .. }
+            | Operator::ThrowRef
+    )
+}

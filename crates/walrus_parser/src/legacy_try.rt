@@ -1,0 +1,176 @@
+//! Legacy exception handling: a `try`, its clauses, and `rethrow`.
+ghost use Rattle.std.specs.Prelude.{◌≡◌, ℕ, [], ◌∷◌, IfOk, OnOk};
+ghost use Rattle.walrus_ir.specs.declared.instr.Instr.TheVariants as instr;
+ghost use Rattle.wasm_operators.specs.declared.types.Opcode.TheVariants.{Byte};
+ghost use Rattle.wasm_operators.specs.Operations.{operation, block, handler};
+ghost use Rattle.wasm_body.specs.Control.{delegate_operation};
+ghost use Rattle.wasm_body.specs.InstructionTable.{operation_of};
+ghost use Rattle.walrus_parser.specs.BodyParsers.{IsSameBody, Steps, placed_in, GivesOrMemory};
+ghost use Rattle.walrus_parser.specs.Handlers.{clause_operation, handled, handler_kind, clause_of, has_clauses};
+ghost use Rattle.walrus_context.specs.OpenTrees.{env_of};
+ghost use Rattle.walrus_ir.specs.Results.{Gives};
+
+use crate::body_parser::BodyParser;
+use walrus_ir::{
+    BlockKind, Instr, InstrLocId, InstrSeqId, LegacyCatch, Rethrow, TagId, Try, ValType,
+};
+use wasm_body::ParseError;
+use wasm_ops::BlockType;
+
+/// What the handler of a clause takes: the tag that it is for, none where it is for all, and the
+/// parameters of the tag.
+#[derive(Clone, Copy)]
+struct Handled<'a> {
+    tag: Option<TagId>,
+    parameters: &'a [ValType],
+}
+
+/// What a sequence is that a clause opens.
+fn handler_kind(tag: Option<TagId>) -> BlockKind
+    ensures { result ≡ handler_kind tag }
+{
+    match tag {
+        Some(_) => BlockKind::Catch,
+        None => BlockKind::CatchAll,
+    }
+}
+
+/// The clause whose handler is this sequence.
+fn clause_of(tag: Option<TagId>, handler: InstrSeqId) -> LegacyCatch
+    ensures { result ≡ clause_of tag handler }
+{
+    match tag {
+        Some(tag) => LegacyCatch::Catch { tag, handler },
+        None => LegacyCatch::CatchAll { handler },
+    }
+}
+
+/// Whether a clause may stand behind a sequence.
+fn has_clauses(kind: BlockKind) -> bool
+    ensures { result ≡ has_clauses kind }
+{
+    matches!(kind, BlockKind::Try | BlockKind::Catch)
+}
+
+impl<'a> BodyParser<'a> {
+    /// What the handler of a clause takes, of the tag with this old index, or of all tags.
+    fn handled(&self, tag: Option<u32>) -> Result<Handled<'a>, ParseError>
+        ensures { Gives (λ h. (h.tag, h.parameters.now)) result
+            (handled (env_of self.now.context) tag) }
+    {
+        let Some(index) = tag else {
+            return Ok(Handled {
+                tag: None,
+                parameters: &[],
+            });
+        };
+        let module = self.context.module();
+        let id = self.context.indices().get_tag(index)?;
+        let Some(ty) = module.tags.get(id) else {
+            return Err(ParseError::UnknownId);
+        };
+        if !module.types.is_func(ty) {
+            return Err(ParseError::NotAFunctionType);
+        }
+        Ok(Handled {
+            tag: Some(id),
+            parameters: module.types.params(ty),
+        })
+    }
+}
+
+impl BodyParser<'_> {
+    /// Takes a `try`, which has no clauses yet.
+    pub fn open_try(&mut self, ty: BlockType, location: InstrLocId) -> Result<(), ParseError>
+        ensures step { Steps self.old self.new (operation (Byte 0x06) (block ty ∷ []))
+            location result }
+        ensures rest { OnOk result (IsSameBody self.old.context self.new.context) }
+    {
+        match self.context.push_block(BlockKind::Try, ty) {
+            Ok(seq) => {
+                let catches = Vec::new(*self.if_else.allocator());
+                self.context
+                    .alloc_instr_in_control(1, Instr::Try(Try { seq, catches }), location)
+            }
+            Err(error) => Err(error),
+        }
+    }
+
+    /// Takes a clause of a legacy `try`: the `catch` of the tag with this old index, or
+    /// `catch_all`.
+    pub fn part_try(&mut self, tag: Option<u32>, location: InstrLocId) -> Result<(), ParseError>
+        ensures step { Steps self.old self.new (clause_operation tag) location result }
+        ensures rest { OnOk result (IsSameBody self.old.context self.new.context) }
+    {
+        let (frame, ended) = match self.context.pop_control() {
+            Ok(popped) => popped,
+            Err(error) => return Err(error),
+        };
+        if !has_clauses(frame.kind) {
+            return Err(ParseError::CatchOutsideTry);
+        }
+        let handled = match self.handled(tag) {
+            Ok(handled) => handled,
+            Err(error) => return Err(error),
+        };
+        self.context.end_sequence(ended, location);
+        let kind = handler_kind(handled.tag);
+        let pushed = self
+            .context
+            .push_control(kind, handled.parameters, &frame.end_types);
+        match pushed {
+            Ok(handler) => self
+                .context
+                .add_legacy_catch(clause_of(handled.tag, handler)),
+            Err(error) => Err(error),
+        }
+    }
+
+    /// Takes a `delegate`, which closes the body of a legacy `try` that has no clauses. Its depth
+    /// counts from outside the `try`; the sequence gets no end location.
+    pub fn close_delegate(&mut self, relative_depth: u32) -> Result<(), ParseError>
+        ensures step { (location : ℕ)
+            → Steps self.old self.new (delegate_operation relative_depth) location result }
+        ensures rest { OnOk result (IsSameBody self.old.context self.new.context) }
+    {
+        let kind = match self.context.kind_at(0) {
+            Ok(kind) => kind,
+            Err(error) => return Err(error),
+        };
+        let BlockKind::Try = kind else {
+            return Err(ParseError::DelegateOutsideTry);
+        };
+        match self.context.kind_at(relative_depth as usize + 1) {
+            Ok(_) => {}
+            Err(error) => return Err(error),
+        }
+        match self
+            .context
+            .add_legacy_catch(LegacyCatch::Delegate { relative_depth })
+        {
+            Ok(()) => {}
+            Err(error) => return Err(error),
+        }
+        match self.context.pop_control() {
+            Ok((_frame, _block)) => Ok(()),
+            Err(error) => Err(error),
+        }
+    }
+
+    /// The instruction of a `rethrow`, which names a handler around it.
+    pub fn rethrow(&self, relative_depth: u32) -> Result<Instr, ParseError>
+        ensures placed { GivesOrMemory operation_of result
+            (placed_in self.now (operation (Byte 0x09) (handler relative_depth ∷ []))) }
+        ensures plain { IfOk result (λ i. i ≡ instr.Rethrow (record {
+          relative_depth = relative_depth;
+        })) }
+    {
+        match self.context.kind_at(relative_depth as usize) {
+            Ok(BlockKind::Catch | BlockKind::CatchAll) => {
+                Ok(Instr::Rethrow(Rethrow { relative_depth }))
+            }
+            Ok(_) => Err(ParseError::RethrowOutsideHandler),
+            Err(error) => Err(error),
+        }
+    }
+}

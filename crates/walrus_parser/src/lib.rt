@@ -1,0 +1,17 @@
+//! Parsing a body: its operators become the sequences of a function.
+#![tactic(auto)]
+
+mod body;
+mod body_parser;
+mod check;
+mod instructions;
+mod legacy_try;
+mod locating;
+mod next;
+mod parse;
+mod references;
+mod try_tables;
+
+pub use body::FunctionBody;
+pub use check::{AcceptAll, CheckError, OpCheck};
+pub use parse::{ParsedOperators, parse_function};

@@ -1,0 +1,133 @@
+//! Parsing the operators of a body.
+ghost use Rattle.std.specs.Prelude.{◌≡◌, ◌⊎◌, ◌≤◌, ◌<◌, ◌+◌, ◌^◌, [], length, Some, IfOk, IfErr, Ok};
+ghost use Rattle.wasm_body.specs.declared.error.ParseError.{ParseError as ParseFault};
+ghost use Rattle.wasm_body.specs.Parsing.Lists.{failure};
+ghost use Rattle.wasm_body.specs.SourceTree.{Empty};
+ghost use Rattle.wasm_body.specs.Naming.{entry_type_id as entry_type_of};
+ghost use Rattle.walrus_maps.specs.Environments.{environment_of};
+ghost use Rattle.walrus_parser.specs.Locating.{MayAsk};
+ghost use Rattle.walrus_context.specs.OpenTrees.{env_of};
+ghost use Rattle.walrus_parser.specs.BodyParsers.{Begins};
+ghost use Rattle.walrus_parser.specs.Bodies.{input_of, operators_input, ParsesOperators, AcceptsBody, RefusesBody};
+
+use crate::body_parser::BodyParser;
+use crate::check::OpCheck;
+use crate::next::{accepted_at, read_next};
+use std::alloc::Global;
+use walrus_ir::{FunctionBuilder, FunctionId, Instr, InstrLocId, Module, TypeId};
+use walrus_maps::IndicesToIds;
+use wasm_body::{ParseError, ParseFailure};
+use wasm_ops::{Operator, Reader};
+
+/// A function's sequences, and the place and location of each operator that was read.
+#[derive(Drop)]
+pub struct ParsedOperators {
+    pub builder: FunctionBuilder,
+    pub instruction_mapping: Vec<(usize, InstrLocId)>,
+}
+
+fn failure(error: ParseError, at: usize) -> ParseFailure
+    ensures { result ≡ failure error at }
+{
+    ParseFailure { error, at }
+}
+
+/// Parses the operators of a body, of which nothing is read yet. Places in the mapping are less the
+/// code offset. The parser's list is put back where it was lent, if the body is accepted.
+fn parse_operators<V: OpCheck, F: Fn(&usize) -> InstrLocId>(
+    alloc: Global,
+    mut parser: BodyParser<'_>,
+    reader: &mut Reader<'_>,
+    on_instr_pos: Option<&F>,
+    mut validator: V,
+    code_offset: usize,
+    lent: &mut Vec<(Instr, InstrLocId)>,
+) -> Result<ParsedOperators, ParseFailure>
+    requires fresh { Begins parser }
+    requires offset { code_offset ≤ reader.old.place }
+    requires may_ask { MayAsk F.pre on_instr_pos reader.old.place
+        (reader.old.place + length reader.old.rest) }
+    ensures { ParsesOperators F.Fn (operators_input (env_of parser.entry.context) reader.old
+        code_offset on_instr_pos.entry V.check (V.state validator)) result }
+{
+    let mut instruction_mapping = Vec::new(alloc);
+    while !reader.eof() {
+        let at = reader.original_position();
+        let read = read_next(reader);
+        let operator = match &read {
+            Ok(operator) => operator,
+            Err(error) => return Err(failure(ParseError::Read(*error), at)),
+        };
+        let location = match accepted_at(at, operator, on_instr_pos, &mut validator) {
+            Ok(location) => location,
+            Err(failure) => return Err(failure),
+        };
+        match instruction_mapping.push((at - code_offset, location)) {
+            Ok(()) => {}
+            Err(_) => return Err(failure(ParseError::Memory, at)),
+        }
+        if matches!(operator, Operator::End) && parser.is_outermost() {
+            if !reader.eof() {
+                return Err(failure(ParseError::Trailing, reader.original_position()));
+            }
+            match parser.finish(location, lent) {
+                Ok(builder) => {
+                    return Ok(ParsedOperators {
+                        builder,
+                        instruction_mapping,
+                    });
+                }
+                Err(error) => return Err(failure(error, at)),
+            }
+        }
+        match parser.step(operator, location) {
+            Ok(()) => {}
+            Err(error) => return Err(failure(error, at)),
+        }
+    }
+    Err(failure(ParseError::MissingEnd, reader.original_position()))
+}
+
+/// Parses the operators of the body of this function, the first of which stands at the place
+/// `start`, with the list that is lent.
+pub fn parse_function<V: OpCheck, F: Fn(&usize) -> InstrLocId>(
+    alloc: Global,
+    module: &Module,
+    indices: &IndicesToIds,
+    function: FunctionId,
+    ty: TypeId,
+    ops: &[u8],
+    start: usize,
+    on_instr_pos: Option<&F>,
+    validator: V,
+    lent: &mut Vec<(Instr, InstrLocId)>,
+) -> Result<ParsedOperators, ParseFailure>
+    requires offset { «module».now.code_section_offset ≤ start }
+    requires fits { start + length ops.now < 2 ^ 64 }
+    requires may_ask { MayAsk F.pre on_instr_pos start (start + length ops.now) }
+    ensures ok { IfOk result (λ made. AcceptsBody F.Fn (input_of «module».now indices.now function
+        ty start ops.now on_instr_pos.entry V.check (V.state validator))
+        made.builder made.instruction_mapping.items) }
+    ensures err { IfErr result (RefusesBody F.Fn (input_of «module».now indices.now function ty
+        start ops.now on_instr_pos.entry V.check (V.state validator))) }
+{
+    let types = &module.types;
+    if !types.is_func(ty) {
+        return Err(failure(ParseError::NotAFunctionType, start));
+    }
+    let Some(entry) = types.find_for_function_entry(types.results(ty)) else {
+        return Err(failure(ParseError::EntryTypeMissing, start));
+    };
+    match BodyParser::new(alloc, module, indices, function, ty, entry, lent) {
+        Ok(parser) => parse_operators(
+            alloc,
+            parser,
+            &mut Reader::new(ops, start),
+            on_instr_pos,
+            validator,
+            module.code_section_offset,
+            lent,
+        ),
+        Err(error) => Err(failure(error, start)),
+    }
+}

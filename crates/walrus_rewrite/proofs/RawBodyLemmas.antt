@@ -1,0 +1,196 @@
+-- The raw body of a function: what its parts write, and why they don't.
+use Rattle.std.proofs.Common.{◌≡◌, ◌⊎◌, ◌++◌, ◌+◌, ◌<◌, ◌≤◌, ◌^◌, ℕ, List, [], ◌∷◌, Bool, Result, Ok, Err, length, refl, sym, ap, subst, ◌∙◌, inl, inr, arith}
+use Rattle.std.specs.Prelude.{nat_lt, ◌&&◌, true, false}
+use Rattle.std.specs.List.{list_all, AllByRecursion}
+use Rattle.std.proofs.lemmas.List.{length-append}
+use Rattle.walrus_ir.specs.declared.val_type.ValType.{ValType}
+use Rattle.walrus_ir.specs.Function.{Function}
+use Rattle.walrus_ir.specs.Results.{◌>>=◌, some_or, unless, each}
+use Rattle.walrus_ir.specs.Tree.{Tree}
+use Rattle.walrus_ir.specs.Unfolding.{SequenceAt, LocatedInstr, IsTree, among}
+use Rattle.walrus_ir.proofs.WalkLaws.{tree_has_no_fault}
+use Rattle.wasm_operators.specs.Operations.{RawOperation}
+use Rattle.wasm_operators.specs.Shortest.{short}
+use Rattle.wasm_encode.specs.Declarations as encoded
+use Rattle.wasm_body.specs.declared.error.EmitError.{EmitError}
+use Rattle.wasm_body.specs.declared.error.EmitError.TheVariants.{Memory, TooLarge, UnnumberedLocal}
+use Rattle.wasm_body.specs.Bytes.{Numbers, numbered_text, bytes_of, tree_bytes}
+use Rattle.wasm_body.specs.Translation.{Located}
+use Rattle.wasm_body.specs.FunctionTree.{FunctionTree}
+use Rattle.wasm_body.specs.LocalNumbers.{Local, ids_of, AreDeclared, number_of_local, declaration, declarations, declared, runs, types_of, uses_local, with_locals}
+use Rattle.wasm_body.specs.Pairs.{Pair, pairs_from, tree_pairs}
+use Rattle.wasm_body.specs.TreeOfFunction.{tree_of, HasTree}
+use Rattle.wasm_body.proofs.Translation.Steps.{bound, length-each}
+use Rattle.walrus_maps.specs.declared.ids_to_indices.IdsToIndices.{IdsToIndices}
+use Rattle.walrus_emitter.specs.EmittedLocals.{number_in, HasUnknown}
+use Rattle.walrus_facts.specs.Facts.{locals_used}
+use Rattle.walrus_body.specs.LocalFunctions.{first_slot}
+use Rattle.walrus_body.specs.EmittedInstructions.{IsUnemitted}
+use Rattle.walrus_emitter.specs.TreeWriting.Operators.{numbers_by}
+use Rattle.walrus_facts.proofs.LocalsOfTrees.{locals_of_tree}
+use Rattle.walrus_rewrite.proofs.OneTree.{one_function}
+use Rattle.walrus_rewrite.specs.RawBodies.{Given, HasNoRawBody, unknown, undeclared, unwritten, IsRawBodyOf, Begins, IsNotBegun, Writes, WritesBytes, WritesBoth, Declines, not_begun, not_written}
+
+-- ---- declarations
+
+passed : {A E : Type 0} (b : Bool) (e : E) (r : Result A E) (x : A) → (unless b e >>= λ u. r) ≡ Ok x → (b ≡ true) × (r ≡ Ok x)
+passed true e r x h = (refl, h)
+passed false e r x h = absurd cc
+
+first_true : (a b : Bool) → (a && b) ≡ true → a ≡ true
+first_true true b h = refl
+first_true false b h = absurd cc
+
+below : (m n : ℕ) → nat_lt m n ≡ true → m < n
+below m n h = grind arith
+
+-- declarations that a function has are as many as fit 32 bits
+pub few_declarations : (to : Numbers) (arguments : ℕ) (others : List Local) (ds : List (ℕ × ValType ℕ)) → declared to arguments others ≡ Ok ds → length ds < 2 ^ 32
+few_declarations to arguments others ds h =
+    let rs = runs (types_of others) in
+    let numbered = passed _ TooLarge (declarations to rs) ds h in
+    let fit = passed (nat_lt (length rs) (2 ^ 32) && list_all (λ run. nat_lt run.0 (2 ^ 32)) rs) TooLarge (each (declaration to) rs) ds numbered.1 in
+    subst (λ n. n < 2 ^ 32) (sym (length-each (declaration to) rs ds fit.1)) (below (length rs) (2 ^ 32) (first_true (nat_lt (length rs) (2 ^ 32)) _ fit.0))
+
+-- a map that has the numbers of locals
+pub same_numbers : (out : IdsToIndices) (entries : List (ℕ × ℕ)) (args others : List ℕ) → ((id : ℕ) → number_in entries id ≡ number_of_local args others id)
+    → numbers_by out entries ≡ with_locals (numbers_by out []) args others
+same_numbers out entries args others h =
+    λ k. record { number_of = (numbers_by out []).number_of; local_number = λ id. some_or (h id k) UnnumberedLocal }
+
+-- ---- what the calls in it answer
+
+module _ (out : IdsToIndices) (types : List (ValType ℕ)) (args : List ℕ) (used : ℕ → Bool) (f : Function) where
+  abbrev by : Given
+  by = record { to = numbers_by out []; types = types; args = args }
+
+  module _ (encoder : List ℕ) (entries : List (ℕ × ℕ)) (b : Begins by used encoder entries) where
+    abbrev numbered : numbers_by out entries ≡ with_locals (numbers_by out []) args (ids_of b.declares.others)
+    numbered = same_numbers out entries args (ids_of b.declares.others) b.declares.numbers_are
+
+    abbrev pub writes : (IsWritten : Numbers → List ℕ → Type 0) → IsWritten (numbers_by out entries) encoder → Writes by used IsWritten
+    writes IsWritten h = record {
+      others = b.declares.others;
+      are_declared = b.declares.are_declared;
+      declarations = b.declarations;
+      declarations_are = b.declares.declarations_are;
+      is_written =
+          subst (λ o. IsWritten (with_locals (numbers_by out []) args (ids_of b.declares.others)) o) b.encoder_is
+          (subst (λ to. IsWritten to encoder) numbered h);
+    }
+
+    pub declines : (e : EmitError) → IsUnemitted f (numbers_by out entries) e → Declines by used f e
+    declines e u =
+        not_written b.declares.others b.declarations b.declares.are_declared b.declares.declarations_are (subst (λ to. IsUnemitted f to e) numbered u)
+
+-- ---- of a function that has a tree, with the locals that are found in it
+
+pub with_pairs : (to : Numbers) (t : FunctionTree) (bytes : List ℕ) (before : ℕ) → tree_bytes to t ≡ Ok bytes → (ps : List Pair) × (tree_pairs to t before ≡ Ok ps)
+with_pairs to t bytes before e =
+    let xs = bound (numbered_text to t) (λ xs. Ok (bytes_of xs)) bytes e in
+    (pairs_from before xs.0, ap (λ r. r >>= λ xs. Ok (pairs_from before xs)) xs.1)
+
+module _ (f : Function) (u : Tree SequenceAt LocatedInstr) (is_tree : IsTree f.sequences (first_slot f) u) (used : ℕ → Bool)
+    (used_are : (l : ℕ) → used l ≡ among l (locals_used u.items)) where
+  pub has_tree : HasTree f.sequences (first_slot f) (tree_of u)
+  has_tree = record { unfolded = u; is_tree = is_tree; is = refl }
+
+  pub only_tree : (t : FunctionTree) → HasTree f.sequences (first_slot f) t → t ≡ tree_of u
+  only_tree t h = one_function f.sequences (first_slot f) t (tree_of u) h has_tree
+
+  used_is : used ≡ uses_local (tree_of u)
+  used_is = λ k. λ l. (used_are l ∙ ap (λ ls. among l ls) (sym (locals_of_tree u))) k
+
+  module _ (by : Given) where
+    pub declared_so : (others : List Local) → AreDeclared by.types by.args used others → AreDeclared by.types by.args (uses_local (tree_of u)) others
+    declared_so others h = subst (λ (g : ℕ → Bool). AreDeclared by.types by.args g others) used_is h
+
+    abbrev its_raw_body : (others : List Local) (ds : List (ℕ × ValType ℕ)) → AreDeclared by.types by.args (uses_local (tree_of u)) others → declared by.to (length by.args) others ≡ Ok ds
+        → (operators bytes : List ℕ) (pairs : List Pair) → tree_bytes (with_locals by.to by.args (ids_of others)) (tree_of u) ≡ Ok operators
+        → bytes ≡ encoded.declarations ds ++ operators → tree_pairs (with_locals by.to by.args (ids_of others)) (tree_of u) (length (encoded.declarations ds)) ≡ Ok pairs
+        → IsRawBodyOf by f bytes pairs
+    its_raw_body others ds a d operators bytes pairs o b p = record {
+      tree = tree_of u;
+      has_tree = has_tree;
+      is_raw_body = record {
+        others = others;
+        are_declared = a;
+        declarations = ds;
+        declarations_are = d;
+        operators = operators;
+        operators_are = o;
+        bytes_are = b;
+        pairs_are = p;
+      };
+    }
+
+    -- without a list of pairs
+    abbrev pub of_bytes : (bytes : List ℕ) → WritesBytes by used f bytes → (ps : List Pair) × IsRawBodyOf by f bytes ps
+    of_bytes bytes w =
+        let to = with_locals by.to by.args (ids_of w.others) in
+        let made = w.is_written in
+        let written = subst (λ t. tree_bytes to t ≡ Ok made.bytes) (only_tree made.tree made.has_tree) made.bytes_are in
+        let ps = with_pairs to (tree_of u) made.bytes (length (encoded.declarations w.declarations)) written in
+        (ps.0, its_raw_body w.others w.declarations (declared_so w.others w.are_declared) w.declarations_are made.bytes bytes ps.0 written made.appends ps.1)
+
+    -- with an empty one
+    pub of_both : (bytes : List ℕ) (new_pairs : List Pair) → WritesBoth by used f bytes [] new_pairs → IsRawBodyOf by f bytes new_pairs
+    of_both bytes new_pairs w =
+        let to = with_locals by.to by.args (ids_of w.others) in
+        let made = w.is_written in
+        let same = only_tree made.tree made.has_tree in
+        let before = length (encoded.declarations w.declarations) in
+        its_raw_body w.others w.declarations (declared_so w.others w.are_declared) w.declarations_are made.bytes bytes new_pairs
+        (subst (λ t. tree_bytes to t ≡ Ok made.bytes) same made.bytes_are) made.appends_bytes
+        (subst (λ t. tree_pairs to t before ≡ Ok new_pairs) same (subst (λ l. tree_pairs to made.tree before ≡ Ok l) (sym made.appends_pairs) made.pairs_are))
+
+    abbrev Why : EmitError → Type 0
+    Why e = (e ≡ Memory) ⊎ ((t : FunctionTree) × HasTree f.sequences (first_slot f) t × HasNoRawBody by t e)
+
+    -- why there is none
+    why_not_begun : (e : EmitError) → IsNotBegun by used e → Why e
+    why_not_begun e (inl memory) = inl memory
+    why_not_begun e (inr (inl missing)) = inr (tree_of u, has_tree, unknown missing.0 (subst (λ (g : ℕ → Bool). HasUnknown by.types by.args g) used_is missing.1))
+    why_not_begun e (inr (inr fault)) = inr (tree_of u, has_tree, undeclared fault.others (declared_so fault.others fault.are_declared) fault.fault_is)
+
+    why_not_written : (e : EmitError) (others : List Local) (ds : List (ℕ × ValType ℕ)) → AreDeclared by.types by.args used others → declared by.to (length by.args) others ≡ Ok ds
+        → IsUnemitted f (with_locals by.to by.args (ids_of others)) e → Why e
+    why_not_written e others ds a d (inl memory) = inl memory
+    why_not_written e others ds a d (inr (inl walk)) = absurd (tree_has_no_fault f.sequences (first_slot f) u walk.0 is_tree walk.1)
+    why_not_written e others ds a d (inr (inr fault)) =
+        let to = with_locals by.to by.args (ids_of others) in
+        inr (tree_of u, has_tree, unwritten others ds (declared_so others a) d (subst (λ t. tree_bytes to t ≡ Err e) (only_tree fault.0 fault.1) fault.2))
+
+    pub why_not : (e : EmitError) → Declines by used f e → Why e
+    why_not e (not_begun h) = why_not_begun e h
+    why_not e (not_written others ds a d h) = why_not_written e others ds a d h
+
+-- ---- the places of a raw body's pairs lie within it
+
+abbrev AreWithin : ℕ → List Pair → Type 0
+AreWithin end ps = AllByRecursion (λ (p : Pair). p.1 ≤ end) ps
+
+pairs_within : (xs : List (Located RawOperation)) (place end : ℕ) → place + length (bytes_of xs) ≤ end → AreWithin end (pairs_from place xs)
+pairs_within [] place end h = tt
+pairs_within (x ∷ xs) place end h =
+    let whole = length-append (short x.op) (bytes_of xs) in
+    (omega (arith, h), pairs_within xs (place + length (short x.op)) end (omega (arith, h, whole)))
+
+pub raw_pairs_within : (by : Given) (f : Function) (bytes : List ℕ) (pairs : List Pair) → IsRawBodyOf by f bytes pairs → AreWithin (length bytes) pairs
+raw_pairs_within by f bytes pairs r =
+    let w = r.is_raw_body in
+    let to = with_locals by.to by.args (ids_of w.others) in
+    let before = length (encoded.declarations w.declarations) in
+    let xs = bound (numbered_text to r.tree) (λ xs. Ok (pairs_from before xs)) pairs w.pairs_are in
+    let ys = bound (numbered_text to r.tree) (λ ys. Ok (bytes_of ys)) w.operators w.operators_are in
+    let one : xs.0 ≡ ys.0 = let both : Ok xs.0 ≡ Ok ys.0 = sym xs.1 ∙ ys.1 in cc in
+    let operators : bytes_of xs.0 ≡ w.operators = ap bytes_of one ∙ (let both : Ok (bytes_of ys.0) ≡ Ok w.operators = ys.2 in cc) in
+    let whole = ap length w.bytes_are ∙ length-append (encoded.declarations w.declarations) w.operators in
+    let fits : before + length (bytes_of xs.0) ≤ length bytes = omega (arith, whole, ap length operators) in
+    let same : pairs_from before xs.0 ≡ pairs = let both : Ok (pairs_from before xs.0) ≡ Ok pairs = xs.2 in cc in
+    subst (AreWithin (length bytes)) same (pairs_within xs.0 before (length bytes) fits)
+
+-- behind so many bytes they end below another place
+pub moved_within : (base end last : ℕ) (ps : List Pair) → base + last ≤ end → AreWithin last ps → AllByRecursion (λ (p : Pair). base + p.1 ≤ end) ps
+moved_within base end last [] h w = tt
+moved_within base end last (p ∷ ps) h w = (omega (arith, h, w.0), moved_within base end last ps h w.1)

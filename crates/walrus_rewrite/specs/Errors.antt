@@ -1,0 +1,13 @@
+-- Why a body isn't rewritten.
+use Rattle.std.specs.Prelude.{◌≡◌}
+use Rattle.walrus_ir.specs.declared.error.WalkError.TheVariants as walk
+use Rattle.wasm_body.specs.declared.error.ParseError.TheVariants as parse
+use Rattle.wasm_body.specs.declared.error.EmitError.TheVariants as emit
+use Rattle.walrus_rewrite.specs.declared.error.RewriteError.{RewriteError}
+use Rattle.walrus_rewrite.specs.declared.error.RewriteError.TheVariants.{Parse, Walk, Emit}
+
+-- memory ran out
+abbrev pub WantsMemory : RewriteError → Type 0
+WantsMemory (Parse f) = f.error ≡ parse.Memory
+WantsMemory (Walk w) = w ≡ walk.Memory
+WantsMemory (Emit e) = e ≡ emit.Memory

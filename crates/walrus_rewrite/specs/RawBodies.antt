@@ -1,0 +1,164 @@
+-- Raw bodies: the declarations of a function's locals, and its operators (WebAssembly core specification 3.0, binary
+-- format, code section).
+use Rattle.std.specs.Prelude.{◌≡◌, ◌⊎◌, ℕ, ◌+◌, Bool, List, [], ◌++◌, length, map, Option, Some, None, Result, Ok, Err}
+use Rattle.walrus_ir.specs.declared.module.Module.{Module}
+use Rattle.walrus_ir.specs.declared.val_type.ValType.{ValType}
+use Rattle.walrus_ir.specs.Function.{Function}
+use Rattle.walrus_ir.specs.declared.error.WalkError.{WalkError}
+use Rattle.walrus_ir.specs.Walk.{HasNoWalk}
+use Rattle.std.proofs.Common.{inl, inr}
+use Rattle.wasm_encode.specs.Declarations as encoded
+use Rattle.wasm_body.specs.declared.error.EmitError.{EmitError}
+use Rattle.wasm_body.specs.declared.error.EmitError.TheVariants.{Memory, UnknownLocal, UnknownSequence}
+use Rattle.wasm_body.specs.declared.error.ParseFailure.{ParseFailure}
+use Rattle.wasm_body.specs.Bytes.{Numbers, tree_bytes}
+use Rattle.wasm_body.specs.FunctionTree.{FunctionTree}
+use Rattle.wasm_body.specs.LocalNumbers.{Local, ids_of, AreDeclared, declared, uses_local, with_locals}
+use Rattle.wasm_body.specs.Pairs.{Pair, tree_pairs}
+use Rattle.wasm_body.specs.TreeOfFunction.{HasTree, fault_of_walk}
+use Rattle.walrus_maps.specs.declared.ids_to_indices.IdsToIndices.{IdsToIndices}
+use Rattle.walrus_emitter.specs.EmittedLocals.{Declares, HasUnknown, IsUndeclared}
+use Rattle.walrus_body.specs.Emitting.{Written}
+use Rattle.walrus_body.specs.FunctionParts.{FunctionParts}
+use Rattle.walrus_body.specs.LocalFunctions.{first_slot, HasEntry}
+use Rattle.walrus_facts.specs.Sizes.{IsTooLarge}
+use Rattle.walrus_body.specs.EmittedInstructions.{LentPairs, Left, IsUnemitted}
+use Rattle.walrus_emitter.specs.TreeWriting.Trees as trees
+use Rattle.walrus_emitter.specs.TreeWriting.Operators.{numbers_by}
+use Rattle.walrus_rewrite.specs.declared.error.RewriteError.{RewriteError}
+use Rattle.walrus_rewrite.specs.declared.error.RewriteError.TheVariants.{Parse, Walk, Emit}
+
+-- What a body is written with: the numbers of ids, the types of the module's locals, and the function's arguments.
+pub record Given : Type 0 where
+  pub to : Numbers
+  pub types : List (ValType ℕ)
+  pub args : List ℕ
+
+-- of a function in a module, with the numbers of index maps
+abbrev pub given : IdsToIndices → Module → FunctionParts → Given
+given out m f = record { to = numbers_by out []; types = m.locals; args = f.args }
+
+-- These are the bytes and the location pairs of a tree as a raw body, the places counted from its first byte.
+pub record IsRawBody (by : Given) (t : FunctionTree) (bytes : List ℕ) (pairs : List Pair) : Type 0 where
+  pub others : List Local
+  pub are_declared : AreDeclared by.types by.args (uses_local t) others
+  pub declarations : List (ℕ × ValType ℕ)
+  pub declarations_are : declared by.to (length by.args) others ≡ Ok declarations
+  pub operators : List ℕ
+  pub operators_are : tree_bytes (with_locals by.to by.args (ids_of others)) t ≡ Ok operators
+  pub bytes_are : bytes ≡ encoded.declarations declarations ++ operators
+  pub pairs_are : tree_pairs (with_locals by.to by.args (ids_of others)) t (length (encoded.declarations declarations)) ≡ Ok pairs
+
+-- This is why a tree has no raw body: a used local isn't known, or else the declarations have this first fault, or else the
+-- operators.
+pub data HasNoRawBody (by : Given) (t : FunctionTree) (e : EmitError) : Type 0 where
+  unknown : e ≡ UnknownLocal → HasUnknown by.types by.args (uses_local t) → HasNoRawBody by t e
+  undeclared :
+      (others : List Local) → AreDeclared by.types by.args (uses_local t) others → declared by.to (length by.args) others ≡ Err e →
+      HasNoRawBody by t e
+  unwritten :
+      (others : List Local) (declarations : List (ℕ × ValType ℕ)) → AreDeclared by.types by.args (uses_local t) others →
+      declared by.to (length by.args) others ≡ Ok declarations → tree_bytes (with_locals by.to by.args (ids_of others)) t ≡ Err e →
+      HasNoRawBody by t e
+
+-- ---- of a function
+
+-- These are the bytes and the pairs of the function's tree.
+pub record IsRawBodyOf (by : Given) (f : Function) (bytes : List ℕ) (pairs : List Pair) : Type 0 where
+  pub tree : FunctionTree
+  pub has_tree : HasTree f.sequences (first_slot f) tree
+  pub is_raw_body : IsRawBody by tree bytes pairs
+
+-- a pair behind so many bytes more
+abbrev pub moved : ℕ → Pair → Pair
+moved n p = (p.0, n + p.1)
+
+-- ---- of a function whose used locals are handed in
+
+-- These locals are declared so in an encoder, and they and the arguments have these numbers.
+pub record Begins (by : Given) (used : ℕ → Bool) (encoder : List ℕ) (numbers : List (ℕ × ℕ)) : Type 0 where
+  pub declarations : List (ℕ × ValType ℕ)
+  pub declares : Declares by.to by.types by.args used declarations numbers
+  pub encoder_is : encoder ≡ encoded.declarations declarations
+
+abbrev pub IsNotBegun : Given → (ℕ → Bool) → EmitError → Type 0
+IsNotBegun by used e = IsUndeclared by.to by.types by.args used e
+
+-- Behind the declarations stands what is written with the numbers of the locals.
+pub record Writes (by : Given) (used : ℕ → Bool) (IsWritten : Numbers → List ℕ → Type 0) : Type 0 where
+  pub others : List Local
+  pub are_declared : AreDeclared by.types by.args used others
+  pub declarations : List (ℕ × ValType ℕ)
+  pub declarations_are : declared by.to (length by.args) others ≡ Ok declarations
+  pub is_written : IsWritten (with_locals by.to by.args (ids_of others)) (encoded.declarations declarations)
+
+abbrev pub WritesBytes : Given → (ℕ → Bool) → Function → List ℕ → Type 0
+WritesBytes by used f bytes = Writes by used (λ to old. trees.AppendsBytes f.sequences (first_slot f) to old bytes)
+
+abbrev pub WritesBoth : Given → (ℕ → Bool) → Function → List ℕ → (old_pairs new_pairs : List Pair) → Type 0
+WritesBoth by used f bytes old_pairs new_pairs = Writes by used (λ to old. trees.Appends f.sequences (first_slot f) to old bytes old_pairs new_pairs)
+
+pub data Declines (by : Given) (used : ℕ → Bool) (f : Function) (e : EmitError) : Type 0 where
+  not_begun : IsNotBegun by used e → Declines by used f e
+  not_written :
+      (others : List Local) (declarations : List (ℕ × ValType ℕ)) → AreDeclared by.types by.args used others →
+      declared by.to (length by.args) others ≡ Ok declarations → IsUnemitted f (with_locals by.to by.args (ids_of others)) e →
+      Declines by used f e
+
+-- ---- appended
+
+-- the pairs stand behind those of the list, if there is one
+abbrev pub AppendsPairs : {Z : Type 0} → List Pair → (entry : Option (LentPairs Z)) → (exit : Left (LentPairs Z)) → Type 0
+AppendsPairs pairs None (inl none) = Unit {0}
+AppendsPairs pairs (Some list) (inr (inl left)) = left.0.now.items ≡ list.now.items ++ pairs
+AppendsPairs pairs _ _ = ⊥
+
+-- The function's raw body stands behind what stood there.
+pub record AppendsBytes (by : Given) (f : Function) (old new : List ℕ) : Type 0 where
+  pub raw : List ℕ
+  pub pairs : List Pair
+  pub is_raw_body : IsRawBodyOf by f raw pairs
+  pub appends : new ≡ old ++ raw
+
+-- And its pairs behind others.
+pub record AppendsBoth (by : Given) (f : Function) (old new : List ℕ) (old_pairs new_pairs : List Pair) : Type 0 where
+  pub raw : List ℕ
+  pub pairs : List Pair
+  pub is_raw_body : IsRawBodyOf by f raw pairs
+  pub appends : new ≡ old ++ raw
+  pub appends_pairs : new_pairs ≡ old_pairs ++ pairs
+
+-- Memory ran out, or facts about the function can't be gathered, or it can't be written.
+abbrev pub IsUnappended : Given → Function → RewriteError → Type 0
+IsUnappended by f (Parse p) = ⊥
+IsUnappended by f (Walk w) = HasNoWalk f.sequences (first_slot f) w ⊎ IsTooLarge f.sequences (first_slot f) w
+IsUnappended by f (Emit e) = (e ≡ Memory) ⊎ ((t : FunctionTree) × HasTree f.sequences (first_slot f) t × HasNoRawBody by t e)
+
+-- Of what a parse answered: its failure, or why the raw body of its function isn't appended.
+abbrev pub IsUnfinished : (FunctionParts → Given) → Result FunctionParts ParseFailure → RewriteError → Type 0
+IsUnfinished by (Ok made) e = IsUnappended (by made) made.builder e
+IsUnfinished by (Err f) e = e ≡ Parse f
+
+-- ---- the entry of a function in the code section
+
+-- The bytes are the function's raw body, and the pairs are its own behind so many bytes.
+pub record WritesEntry (by : Given) (f : Function) (before : ℕ) (written : Written) : Type 0 where
+  pub pairs : List Pair
+  pub is_raw_body : IsRawBodyOf by f written.bytes pairs
+  pub are_moved : written.code_transform ≡ map (moved before) pairs
+
+-- Both stand behind what stood there.
+pub record AppendsEntry (by : Given) (f : Function) (old new : List ℕ) (old_pairs new_pairs : List Pair) : Type 0 where
+  pub written : Written
+  pub writes : WritesEntry by f (length old) written
+  pub appends : new ≡ old ++ written.bytes
+  pub appends_pairs : new_pairs ≡ old_pairs ++ written.code_transform
+
+-- Of a function that has an entry: memory ran out, or there is no walk, or too many instructions, or no raw body.
+abbrev pub RefusesEntry : Given → Function → EmitError → Type 0
+RefusesEntry by f e =
+    (e ≡ Memory) ⊎ (((w : WalkError) × (HasNoWalk f.sequences (first_slot f) w ⊎ IsTooLarge f.sequences (first_slot f) w) × (e ≡ fault_of_walk w))
+    ⊎ ((t : FunctionTree) × HasTree f.sequences (first_slot f) t × HasNoRawBody by t e))
+
+abbrev pub RefusesAnyEntry : Given → Function → EmitError → Type 0
+RefusesAnyEntry by f e = ((e ≡ UnknownSequence) × (HasEntry f → ⊥)) ⊎ RefusesEntry by f e

@@ -1,0 +1,32 @@
+//! Why a body isn't rewritten.
+
+use std::alloc::AllocError;
+use thiserror::Error;
+use walrus_body::{EmitError, ParseFailure};
+use walrus_ir::WalkError;
+
+/// Why a body isn't rewritten.
+#[derive(Clone, Copy, Debug, PartialEq, Eq, Error)]
+pub enum RewriteError {
+    /// It isn't parsed.
+    #[error(transparent)]
+    Parse(ParseFailure),
+    /// No facts about it are found.
+    #[error(transparent)]
+    Walk(WalkError),
+    /// It isn't written.
+    #[error(transparent)]
+    Emit(EmitError),
+}
+
+impl From<AllocError> for RewriteError {
+    ghost use Rattle.std.specs.Prelude.{◌≡◌};
+    ghost use Rattle.wasm_body.specs.declared.error.EmitError.TheVariants.{Memory};
+    ghost use Rattle.walrus_rewrite.specs.declared.error.RewriteError.TheVariants.{Emit};
+
+    ghost from_gives = { λ _ error. error ≡ Emit Memory };
+
+    fn from(_failed: AllocError) -> RewriteError {
+        RewriteError::Emit(EmitError::Memory)
+    }
+}

@@ -1,0 +1,248 @@
+//! Rewriting whole bodies, and writing those of functions.
+ghost use Rattle.std.specs.Prelude.{◌≡◌, ◌⊎◌, ◌++◌, ◌≤◌, ◌<◌, ◌+◌, ◌^◌, ℕ, [], length, Option, Some, Ok, OnOk, OnErr, IfOk, IfErr, IsErr};
+ghost use Rattle.wasm_body.specs.declared.error.ParseFailure.{ParseFailure as Failure};
+ghost use Rattle.wasm_body.specs.SourceTree.{Body};
+ghost use Rattle.wasm_body.specs.Naming.{Occurrence};
+ghost use Rattle.wasm_body.specs.Parsing.Accepted.{Accepted, FirstFault};
+ghost use Rattle.walrus_parser.specs.Ranges.{range_at};
+ghost use Rattle.walrus_body.specs.LocalFunctions.{HasEntry};
+ghost use Rattle.walrus_parser.specs.Bodies.{body_input, body_setting, body_operators};
+ghost use Rattle.walrus_parser.specs.Locating.{MayAsk};
+ghost use Rattle.walrus_parser.specs.Settings.{BothOrNone};
+ghost use Rattle.walrus_body.specs.EmittedInstructions.{KeepsPairs};
+ghost use Rattle.walrus_emitter.specs.TreeWriting.Operators.{numbers_by};
+ghost use Rattle.walrus_rewrite.specs.declared.error.RewriteError.TheVariants.{Parse};
+ghost use Rattle.walrus_rewrite.specs.Errors.{WantsMemory};
+ghost use Rattle.walrus_rewrite.specs.RawBodies.{given, AppendsBytes, AppendsBoth, IsUnappended, IsUnfinished};
+ghost use Rattle.walrus_rewrite.specs.RewrittenBodies.{Rewrites, RefusesRewriting, IsOfWriting};
+
+use crate::error::RewriteError;
+use crate::raw_body::{raw_body, raw_body_with_map};
+use std::alloc::AllocError;
+use walrus_body::{FunctionBody, IdsToIndices, IndicesToIds, LocalFunction, OpCheck, ParseFailure};
+use walrus_ir::{FunctionId, Instr, InstrLocId, LocalId, Module, TypeId};
+
+/// Appends both, or nothing where memory runs out.
+pub(crate) fn append_both(
+    dst: &mut Vec<u8>,
+    map: &mut Vec<(InstrLocId, usize)>,
+    bytes: &[u8],
+    pairs: &[(InstrLocId, usize)],
+) -> Result<(), AllocError>
+    ensures bytes { OnOk result (dst.new.items ≡ dst.old.items ++ bytes.now) }
+    ensures pairs { OnOk result (map.new.items ≡ map.old.items ++ pairs.now) }
+    ensures same_bytes { OnErr result (dst.new.items ≡ dst.old.items) }
+    ensures same_pairs { OnErr result (map.new.items ≡ map.old.items) }
+{
+    map.reserve(pairs.len())?;
+    dst.extend_from_slice(bytes)?;
+    map.extend_from_slice(pairs).unwrap();
+    Ok(())
+}
+
+/// Appends the raw body of a function.
+///
+/// # Errors
+///
+/// `Walk` where facts about the function can't be gathered, and then `Emit` where it can't be
+/// written. `dst` is then as before.
+pub fn append_raw_body(
+    function: &LocalFunction,
+    module: &Module,
+    indices: &IdsToIndices,
+    dst: &mut Vec<u8>,
+) -> Result<(), RewriteError>
+    requires { HasEntry function.now.builder }
+    ensures ok { OnOk result (AppendsBytes (given indices.now «module».now function.now)
+        function.now.builder dst.old.items dst.new.items) }
+    ensures err { IfErr result (IsUnappended (given indices.now «module».now function.now)
+        function.now.builder) }
+    ensures same_bytes { OnErr result (dst.new.items ≡ dst.old.items) }
+{
+    let facts = match function.emit_facts() {
+        Ok(facts) => facts,
+        Err(fault) => return Err(RewriteError::Walk(fault)),
+    };
+    match raw_body(
+        *dst.allocator(),
+        function,
+        &facts.used_locals,
+        module,
+        indices,
+    ) {
+        Ok(bytes) => Ok(dst.extend_from_slice(&bytes)?),
+        Err(fault) => Err(RewriteError::Emit(fault)),
+    }
+}
+
+/// The same with the location pairs of the function: the places count from the first byte that is
+/// appended.
+///
+/// # Errors
+///
+/// Those of `append_raw_body`. `dst` and `map` are then as before.
+pub fn append_raw_body_with_map(
+    function: &LocalFunction,
+    module: &Module,
+    indices: &IdsToIndices,
+    dst: &mut Vec<u8>,
+    map: &mut Vec<(InstrLocId, usize)>,
+) -> Result<(), RewriteError>
+    requires { HasEntry function.now.builder }
+    ensures ok { OnOk result (AppendsBoth (given indices.now «module».now function.now)
+        function.now.builder dst.old.items dst.new.items map.old.items map.new.items) }
+    ensures err { IfErr result (IsUnappended (given indices.now «module».now function.now)
+        function.now.builder) }
+    ensures same_bytes { OnErr result (dst.new.items ≡ dst.old.items) }
+    ensures same_pairs { OnErr result (map.new.items ≡ map.old.items) }
+{
+    let facts = match function.emit_facts() {
+        Ok(facts) => facts,
+        Err(fault) => return Err(RewriteError::Walk(fault)),
+    };
+    let alloc = *dst.allocator();
+    let mut pairs = Vec::new(alloc);
+    let used = &facts.used_locals;
+    match raw_body_with_map(alloc, function, used, module, indices, &mut pairs) {
+        Ok(bytes) => Ok(append_both(dst, map, &bytes, &pairs)?),
+        Err(fault) => Err(RewriteError::Emit(fault)),
+    }
+}
+
+/// Appends the raw body of the function that a parse answered.
+///
+/// # Errors
+///
+/// `Parse` where it answered none, else those of `append_raw_body`.
+fn finish(
+    parsed: Result<LocalFunction, ParseFailure>,
+    module: &Module,
+    indices: &IdsToIndices,
+    dst: &mut Vec<u8>,
+) -> Result<LocalFunction, RewriteError>
+    requires { IfOk parsed (λ made. HasEntry made.builder) }
+    ensures ok { IfOk result (λ made. (parsed ≡ Ok made)
+        × AppendsBytes (given indices.now «module».now made) made.builder dst.old.items
+        dst.new.items) }
+    ensures err { IfErr result (IsUnfinished (given indices.now «module».now) parsed) }
+    ensures same_bytes { OnErr result (dst.new.items ≡ dst.old.items) }
+{
+    match parsed {
+        Ok(function) => match append_raw_body(&function, module, indices, dst) {
+            Ok(()) => Ok(function),
+            Err(error) => Err(error),
+        },
+        Err(failure) => Err(RewriteError::Parse(failure)),
+    }
+}
+
+/// The same with the location pairs of the function.
+///
+/// # Errors
+///
+/// `Parse` where the parse answered none, else those of `append_raw_body_with_map`.
+fn finish_with_map(
+    parsed: Result<LocalFunction, ParseFailure>,
+    module: &Module,
+    indices: &IdsToIndices,
+    dst: &mut Vec<u8>,
+    map: &mut Vec<(InstrLocId, usize)>,
+) -> Result<LocalFunction, RewriteError>
+    requires { IfOk parsed (λ made. HasEntry made.builder) }
+    ensures ok { IfOk result (λ made. (parsed ≡ Ok made)
+        × AppendsBoth (given indices.now «module».now made) made.builder dst.old.items
+        dst.new.items map.old.items map.new.items) }
+    ensures err { IfErr result (IsUnfinished (given indices.now «module».now) parsed) }
+    ensures same_bytes { OnErr result (dst.new.items ≡ dst.old.items) }
+    ensures same_pairs { OnErr result (map.new.items ≡ map.old.items) }
+{
+    match parsed {
+        Ok(function) => match append_raw_body_with_map(&function, module, indices, dst, map) {
+            Ok(()) => Ok(function),
+            Err(error) => Err(error),
+        },
+        Err(failure) => Err(RewriteError::Parse(failure)),
+    }
+}
+
+/// Rewrites a function's body: parses it as `LocalFunction::parse` does, and appends to `dst` the
+/// declarations of the function's locals and the shortest spellings of what the parse made of its
+/// operators, with the new indices of `out`. Each operator's location goes to the list `map`, if
+/// there is one, with its place, counted from the first byte that is appended. Answers the function.
+///
+/// # Errors
+///
+/// `Parse` with the body's first fault and its place; else `Emit` where a used local, a number or a
+/// count is missing or too large; or the `Memory` of these and of `Walk`. `dst` and `map` are then as
+/// before.
+pub fn rewrite_body<V: OpCheck, F: Fn(&usize) -> InstrLocId>(
+    module: &Module,
+    indices: &IndicesToIds,
+    id: FunctionId,
+    ty: TypeId,
+    args: Vec<LocalId>,
+    body: FunctionBody<'_>,
+    on_instr_pos: Option<&F>,
+    validator: V,
+    instrs: &mut Vec<(Instr, InstrLocId)>,
+    out: &IdsToIndices,
+    dst: &mut Vec<u8>,
+    map: Option<&mut Vec<(InstrLocId, usize)>>,
+) -> Result<LocalFunction, RewriteError>
+    requires offset { «module».now.code_section_offset ≤ body.start }
+    requires ops { body.ops ≤ length body.bytes.now }
+    requires fits { body.start + length body.bytes.now < 2 ^ 64 }
+    requires may_ask { MayAsk F.pre on_instr_pos (body.start + body.ops)
+        (body.start + length body.bytes.now) }
+    // What is appended is the raw body of the normal form of the accepted body: for every list of
+    // outcomes and bound on turns it executes the operators of the source and ends alike, and its
+    // pairs hold their locations. What is refused is so for the first reason.
+    ensures rewritten { IfOk result (λ made. Rewrites F.Fn (body_input «module».now indices.now
+        id ty body.entry on_instr_pos.entry V.check (V.state validator)) (record {
+          to = numbers_by out.now [];
+          types = «module».now.locals;
+          args = args.items;
+        }) made.builder made.instruction_mapping dst.old.items dst.new.items map.entry map.exit) }
+    ensures refused { IfErr result (RefusesRewriting F.Fn (body_input «module».now indices.now
+        id ty body.entry on_instr_pos.entry V.check (V.state validator)) (record {
+          to = numbers_by out.now [];
+          types = «module».now.locals;
+          args = args.items;
+        })) }
+    // No accepted body is refused by the parse, want of memory aside, and each first fault is the
+    // answer.
+    ensures each_body { (locations : Option (ℕ → ℕ)) (b : Body Occurrence)
+        → BothOrNone on_instr_pos.entry locations
+        → Accepted (body_setting «module».now indices.now id ty body.entry V.check
+        (V.state validator) locations) (body_operators body.entry) b
+        → IfErr result IsOfWriting }
+    ensures each_fault { (locations : Option (ℕ → ℕ)) (f : Failure)
+        → BothOrNone on_instr_pos.entry locations
+        → FirstFault (body_setting «module».now indices.now id ty body.entry V.check
+        (V.state validator) locations) (body_operators body.entry) f
+        → IsErr result × IfErr result (λ e. WantsMemory e ⊎ (e ≡ Parse f)) }
+    ensures same_bytes { OnErr result (dst.new.items ≡ dst.old.items) }
+    ensures same_pairs { OnErr result (KeepsPairs map.entry map.exit) }
+    // The function is as a parse gives it.
+    ensures args { IfOk result (λ made. made.args ≡ args.items) }
+    ensures range { IfOk result (λ made. made.original_range
+        ≡ Some (range_at body.entry.start (length body.entry.bytes.now)
+        «module».now.code_section_offset)) }
+    ensures instrs { instrs.new.items ≡ [] }
+{
+    let parsed = LocalFunction::parse(
+        module,
+        indices,
+        id,
+        ty,
+        args,
+        body,
+        on_instr_pos,
+        validator,
+        instrs,
+    );
+    match map {
+        Some(list) => finish_with_map(parsed, module, out, dst, list),
+        None => finish(parsed, module, out, dst),
+    }
+}

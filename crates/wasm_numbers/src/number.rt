@@ -1,0 +1,393 @@
+//! Reading numbers: integers in LEB128 (WebAssembly core specification 3.0, binary format, values).
+
+ghost use Rattle.std.specs.Prelude.{◌≡◌, ◌<◌, ◌≤◌, ◌+◌, ◌-◌, ◌*◌, ◌^◌, ℕ, IfOk, IfSome, Some, Ok};
+ghost use Rattle.std.specs.Prelude.{pos, ◌≤ℤ◌, ◌<ℤ◌, ◌+ℤ◌, ◌*ℤ◌};
+ghost use Rattle.walrus_ir.specs.Results.{Gives};
+ghost use Rattle.wasm_numbers.specs.Reading.{many};
+ghost use Rattle.wasm_numbers.specs.Numbers.{unsigned, signed, unsigned_last, signed_last, integer, u32 as a_u32, u64 as a_u64, s32 as an_s32, s64 as an_s64, byte as byte_at, bits as some_bits};
+
+use crate::fault::ReadFault;
+
+/// What a last byte stands for in an unsigned number with so many bits left.
+#[tactic(auto, using(crate::proofs::Powers::powers))]
+fn last_unsigned(bits: u32, byte: u8) -> Option<u64>
+    requires { byte < 128 }
+    ensures gives { result ≡ unsigned_last bits byte }
+    ensures fits { IfSome result (λ v. v < 2 ^ bits) }
+{
+    if bits >= 7 {
+        Some(byte as u64)
+    } else if byte < 1 << bits {
+        Some(byte as u64)
+    } else {
+        None
+    }
+}
+
+/// What a last byte stands for in a signed number with so many bits left.
+#[tactic(auto, using(crate::proofs::Powers::powers))]
+fn last_signed(bits: u32, byte: u8) -> Option<i64>
+    requires some { 0 < bits }
+    requires low { byte < 128 }
+    ensures gives { result ≡ signed_last bits byte }
+    ensures low { IfSome result (λ v. pos 0 ≤ℤ (v +ℤ pos (2 ^ (bits - 1)))) }
+    ensures high { IfSome result (λ v. v <ℤ pos (2 ^ (bits - 1))) }
+{
+    let half: u8 = if bits >= 7 { 64 } else { 1 << (bits - 1) };
+    if byte < 64 {
+        if byte < half { Some(byte as i64) } else { None }
+    } else if 128 <= byte + half {
+        Some(byte as i64 - 128)
+    } else {
+        None
+    }
+}
+
+/// The number of `bits` bits that has these low seven bits, and this number above them.
+fn join_unsigned(bits: u32, low: u8, high: u64) -> u64
+    requires long { 7 < bits }
+    requires wide { bits ≤ 64 }
+    requires low { low < 128 }
+    requires high { high < 2 ^ (bits - 7) }
+    ensures value { result ≡ low + 128 * high }
+    ensures fits { result < 2 ^ bits }
+{
+    low as u64 + 128 * high
+}
+
+/// The signed number of `bits` bits that has these low seven bits, and this number above them.
+#[inline(always)]
+fn join_signed(bits: u32, low: u8, high: i64) -> i64
+    requires long { 7 < bits }
+    requires wide { bits ≤ 64 }
+    requires low { low < 128 }
+    requires least { pos 0 ≤ℤ (high +ℤ pos (2 ^ (bits - 7 - 1))) }
+    requires most { high <ℤ pos (2 ^ (bits - 7 - 1)) }
+    ensures value { result ≡ pos low +ℤ (pos 128 *ℤ high) }
+    ensures low { pos 0 ≤ℤ (result +ℤ pos (2 ^ (bits - 1))) }
+    ensures high { result <ℤ pos (2 ^ (bits - 1)) }
+{
+    let shifted = 128 * high;
+    low as i64 + shifted
+}
+
+/// An unsigned number of `bits` bits at the front, and what follows it.
+#[tactic(auto, using(crate::proofs::Powers::powers), unfolding(crate::specs::Numbers::integer))]
+fn read_unsigned(bits: u32, bytes: &[u8]) -> Result<(u64, &[u8]), ReadFault>
+    requires { bits ≤ 64 }
+    ensures gives { Gives (λ x. (x.0, x.1.now)) result (integer unsigned bits bytes.now) }
+    ensures fits { IfOk result (λ x. x.0 < 2 ^ bits) }
+{
+    match bytes {
+        [] => Err(ReadFault::Truncated),
+        [byte, rest @ ..] => {
+            if *byte < 128 {
+                match last_unsigned(bits, *byte) {
+                    Some(value) => Ok((value, rest)),
+                    None => Err(ReadFault::BadNumber),
+                }
+            } else if bits <= 7 {
+                Err(ReadFault::BadNumber)
+            } else {
+                let (high, rest) = read_unsigned(bits - 7, rest)?;
+                Ok((join_unsigned(bits, *byte - 128, high), rest))
+            }
+        }
+    }
+}
+
+/// A signed number of `bits` bits at the front, and what follows it.
+#[tactic(auto, using(crate::proofs::Powers::powers), unfolding(crate::specs::Numbers::integer))]
+pub fn read_signed(bits: u32, bytes: &[u8]) -> Result<(i64, &[u8]), ReadFault>
+    requires some { 0 < bits }
+    requires wide { bits ≤ 64 }
+    ensures gives { Gives (λ x. (x.0, x.1.now)) result (integer signed bits bytes.now) }
+    ensures low { IfOk result (λ x. pos 0 ≤ℤ (x.0 +ℤ pos (2 ^ (bits - 1)))) }
+    ensures high { IfOk result (λ x. x.0 <ℤ pos (2 ^ (bits - 1))) }
+{
+    match bytes {
+        [] => Err(ReadFault::Truncated),
+        [byte, rest @ ..] => {
+            if *byte < 128 {
+                match last_signed(bits, *byte) {
+                    Some(value) => Ok((value, rest)),
+                    None => Err(ReadFault::BadNumber),
+                }
+            } else if bits <= 7 {
+                Err(ReadFault::BadNumber)
+            } else {
+                let (high, rest) = read_signed(bits - 7, rest)?;
+                Ok((join_signed(bits, *byte - 128, high), rest))
+            }
+        }
+    }
+}
+
+/// A `u32` at the front, of any number of bytes, and what follows it.
+#[inline(never)]
+fn read_u32_of_any_length(bytes: &[u8]) -> Result<(u32, &[u8]), ReadFault>
+    ensures { Gives (λ x. (x.0, x.1.now)) result (a_u32 bytes.now) }
+{
+    let (value, rest) = read_unsigned(32, bytes)?;
+    Ok((value as u32, rest))
+}
+
+/// A `u32` at the front, and what follows it. Most are of one byte. It takes no memory.
+///
+/// # Errors
+///
+/// `BadNumber` where it is too long or too great; else `Truncated` where the bytes end inside it.
+#[inline(always)]
+#[tactic(auto, using(crate::proofs::Powers::powers), unfolding(crate::specs::Numbers::integer))]
+pub fn read_u32(bytes: &[u8]) -> Result<(u32, &[u8]), ReadFault>
+    ensures { Gives (λ x. (x.0, x.1.now)) result (a_u32 bytes.now) }
+{
+    if let [byte, rest @ ..] = bytes {
+        if *byte < 128 {
+            return Ok((*byte as u32, rest));
+        }
+    }
+    read_u32_of_any_length(bytes)
+}
+
+/// A `u64` at the front, of any number of bytes, and what follows it.
+#[inline(never)]
+fn read_u64_of_any_length(bytes: &[u8]) -> Result<(u64, &[u8]), ReadFault>
+    ensures { Gives (λ x. (x.0, x.1.now)) result (a_u64 bytes.now) }
+{
+    read_unsigned(64, bytes)
+}
+
+/// A `u64` at the front, and what follows it. Most are of one byte. It takes no memory.
+///
+/// # Errors
+///
+/// Those of `read_u32`.
+#[inline(always)]
+#[tactic(auto, using(crate::proofs::Powers::powers), unfolding(crate::specs::Numbers::integer))]
+pub fn read_u64(bytes: &[u8]) -> Result<(u64, &[u8]), ReadFault>
+    ensures { Gives (λ x. (x.0, x.1.now)) result (a_u64 bytes.now) }
+{
+    if let [byte, rest @ ..] = bytes {
+        if *byte < 128 {
+            return Ok((*byte as u64, rest));
+        }
+    }
+    read_u64_of_any_length(bytes)
+}
+
+/// An `s32` at the front, of any number of bytes, and what follows it.
+#[inline(never)]
+fn read_s32_of_any_length(bytes: &[u8]) -> Result<(i32, &[u8]), ReadFault>
+    ensures { Gives (λ x. (x.0, x.1.now)) result (an_s32 bytes.now) }
+{
+    let (value, rest) = read_signed(32, bytes)?;
+    Ok((value as i32, rest))
+}
+
+/// An `s32` at the front, and what follows it. Most are of one byte.
+#[inline(always)]
+#[tactic(auto, using(crate::proofs::Powers::powers), unfolding(crate::specs::Numbers::integer))]
+pub fn read_s32(bytes: &[u8]) -> Result<(i32, &[u8]), ReadFault>
+    ensures { Gives (λ x. (x.0, x.1.now)) result (an_s32 bytes.now) }
+{
+    if let [byte, rest @ ..] = bytes {
+        if *byte < 64 {
+            return Ok((*byte as i32, rest));
+        }
+        if *byte < 128 {
+            return Ok((*byte as i32 - 128, rest));
+        }
+    }
+    read_s32_of_any_length(bytes)
+}
+
+/// An `s64` at the front, of any number of bytes, and what follows it.
+#[inline(never)]
+fn read_s64_of_any_length(bytes: &[u8]) -> Result<(i64, &[u8]), ReadFault>
+    ensures { Gives (λ x. (x.0, x.1.now)) result (an_s64 bytes.now) }
+{
+    read_signed(64, bytes)
+}
+
+/// An `s64` at the front, and what follows it. Most are of one byte.
+#[inline(always)]
+#[tactic(auto, using(crate::proofs::Powers::powers), unfolding(crate::specs::Numbers::integer))]
+pub fn read_s64(bytes: &[u8]) -> Result<(i64, &[u8]), ReadFault>
+    ensures { Gives (λ x. (x.0, x.1.now)) result (an_s64 bytes.now) }
+{
+    if let [byte, rest @ ..] = bytes {
+        if *byte < 64 {
+            return Ok((*byte as i64, rest));
+        }
+        if *byte < 128 {
+            return Ok((*byte as i64 - 128, rest));
+        }
+    }
+    read_s64_of_any_length(bytes)
+}
+
+/// An unsigned number of up to three bytes at the front, and what follows it, where one stands
+/// there.
+#[inline(always)]
+#[tactic(auto, using(crate::proofs::Powers::powers), unfolding(crate::specs::Numbers::integer))]
+pub fn read_short_unsigned(bytes: &[u8]) -> Option<(u32, &[u8])>
+    ensures short { IfSome result (λ x. a_u32 bytes.now ≡ Ok (x.0, x.1.now)) }
+    ensures long { IfSome result (λ x. a_u64 bytes.now ≡ Ok (x.0, x.1.now)) }
+{
+    let [first, rest @ ..] = bytes else {
+        return None;
+    };
+    if *first < 128 {
+        return Some((*first as u32, rest));
+    }
+    let low = *first as u32 - 128;
+    let [second, rest @ ..] = rest else {
+        return None;
+    };
+    if *second < 128 {
+        return Some((low + 128 * *second as u32, rest));
+    }
+    let middle = *second as u32 - 128;
+    let [third, rest @ ..] = rest else {
+        return None;
+    };
+    if *third < 128 {
+        return Some((low + 128 * (middle + 128 * *third as u32), rest));
+    }
+    None
+}
+
+/// What a last byte stands for in a signed number with seven bits or more left.
+#[inline(always)]
+fn wide_last_signed(byte: u8) -> i64
+    requires { byte < 128 }
+    ensures gives { (bits : ℕ) → 7 ≤ bits → signed_last bits byte ≡ Some result }
+    ensures low { pos 0 ≤ℤ (result +ℤ pos 64) }
+    ensures high { result <ℤ pos 64 }
+{
+    if byte < 64 {
+        byte as i64
+    } else {
+        byte as i64 - 128
+    }
+}
+
+/// A signed number of up to three bytes at the front, and what follows it, where one stands there.
+#[inline(always)]
+#[tactic(auto, using(crate::proofs::Powers::powers), unfolding(crate::specs::Numbers::integer))]
+fn read_short_signed(bytes: &[u8]) -> Option<(i64, &[u8])>
+    ensures short { IfSome result (λ x. an_s32 bytes.now ≡ Ok (x.0, x.1.now)) }
+    ensures long { IfSome result (λ x. an_s64 bytes.now ≡ Ok (x.0, x.1.now)) }
+    ensures low { IfSome result (λ x. pos 0 ≤ℤ (x.0 +ℤ pos (2 ^ 31))) }
+    ensures high { IfSome result (λ x. x.0 <ℤ pos (2 ^ 31)) }
+{
+    let [first, rest @ ..] = bytes else {
+        return None;
+    };
+    if *first < 128 {
+        return Some((wide_last_signed(*first), rest));
+    }
+    let [second, rest @ ..] = rest else {
+        return None;
+    };
+    if *second < 128 {
+        let high = wide_last_signed(*second);
+        return Some((join_signed(14, *first - 128, high), rest));
+    }
+    let [third, rest @ ..] = rest else {
+        return None;
+    };
+    if *third < 128 {
+        let high = join_signed(14, *second - 128, wide_last_signed(*third));
+        return Some((join_signed(21, *first - 128, high), rest));
+    }
+    None
+}
+
+/// An `s32` of up to three bytes at the front, and what follows it, where one stands there.
+#[inline(always)]
+pub fn read_short_s32(bytes: &[u8]) -> Option<(i32, &[u8])>
+    ensures { IfSome result (λ x. an_s32 bytes.now ≡ Ok (x.0, x.1.now)) }
+{
+    let (value, rest) = read_short_signed(bytes)?;
+    Some((value as i32, rest))
+}
+
+/// An `s64` of up to three bytes at the front, and what follows it, where one stands there.
+#[inline(always)]
+pub fn read_short_s64(bytes: &[u8]) -> Option<(i64, &[u8])>
+    ensures { IfSome result (λ x. an_s64 bytes.now ≡ Ok (x.0, x.1.now)) }
+{
+    read_short_signed(bytes)
+}
+
+/// A byte at the front, and what follows it.
+pub fn read_byte(bytes: &[u8]) -> Result<(u8, &[u8]), ReadFault>
+    ensures { Gives (λ x. (x.0, x.1.now)) result (byte_at bytes.now) }
+{
+    match bytes {
+        [] => Err(ReadFault::Truncated),
+        [byte, rest @ ..] => Ok((*byte, rest)),
+    }
+}
+
+/// The number of `count` bytes that has this low byte, and this number above it.
+fn join_bytes(count: u32, low: u8, high: u128) -> u128
+    requires some { 0 < count }
+    requires few { count ≤ 16 }
+    requires high { high < 2 ^ (8 * (count - 1)) }
+    ensures value { result ≡ low + 256 * high }
+    ensures fits { result < 2 ^ (8 * count) }
+{
+    low as u128 + 256 * high
+}
+
+/// So many bytes at the front as one number, the least first, and what follows them.
+#[tactic(auto, using(crate::proofs::BitsLaws::reading))]
+fn read_bits(count: u32, bytes: &[u8]) -> Result<(u128, &[u8]), ReadFault>
+    requires { count ≤ 16 }
+    ensures gives { Gives (λ x. (x.0, x.1.now)) result (some_bits count bytes.now) }
+    ensures fits { IfOk result (λ x. x.0 < 2 ^ (8 * count)) }
+{
+    if count == 0 {
+        return Ok((0, bytes));
+    }
+    let (low, rest) = read_byte(bytes)?;
+    let (high, rest) = read_bits(count - 1, rest)?;
+    Ok((join_bytes(count, low, high), rest))
+}
+
+/// The bits of an `f32` at the front, and what follows them.
+pub fn read_f32(bytes: &[u8]) -> Result<(u32, &[u8]), ReadFault>
+    ensures { Gives (λ x. (x.0, x.1.now)) result (some_bits 4 bytes.now) }
+{
+    let (bits, rest) = read_bits(4, bytes)?;
+    Ok((bits as u32, rest))
+}
+
+/// The bits of an `f64` at the front, and what follows them.
+pub fn read_f64(bytes: &[u8]) -> Result<(u64, &[u8]), ReadFault>
+    ensures { Gives (λ x. (x.0, x.1.now)) result (some_bits 8 bytes.now) }
+{
+    let (bits, rest) = read_bits(8, bytes)?;
+    Ok((bits as u64, rest))
+}
+
+/// The bits of a `v128` at the front, and what follows them.
+pub fn read_v128(bytes: &[u8]) -> Result<(u128, &[u8]), ReadFault>
+    ensures { Gives (λ x. (x.0, x.1.now)) result (some_bits 16 bytes.now) }
+{
+    read_bits(16, bytes)
+}
+
+/// Sixteen lanes at the front, and what follows them.
+#[tactic(auto, using(crate::proofs::Lanes::reading_lanes))]
+pub fn read_lanes(bytes: &[u8]) -> Result<(&[u8; 16], &[u8]), ReadFault>
+    ensures { Gives (λ x. (x.0.now, x.1.now)) result (many byte_at 16 bytes.now) }
+{
+    match bytes.split_first_chunk::<16>() {
+        Some((lanes, rest)) => Ok((lanes, rest)),
+        None => Err(ReadFault::Truncated),
+    }
+}

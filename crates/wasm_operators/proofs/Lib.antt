@@ -1,0 +1,15 @@
+pub mod TypeLaws
+pub mod ImmediateLaws
+pub mod OperationLaws
+pub mod ReadingBytes
+pub mod ShortestNumbers
+pub mod Shortness
+pub mod ShortestTypes
+pub mod ShortestImmediates
+pub mod ShortestOperations
+pub mod ListLaws
+pub mod Written
+pub mod Rows
+pub mod BorrowedLists
+pub mod SameLists
+pub mod Shapes

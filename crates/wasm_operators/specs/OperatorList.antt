@@ -1,0 +1,16 @@
+-- The operators that bytes spell, each with its place.
+use Rattle.std.specs.Prelude.{◌≡◌, ℕ, ◌+◌, List, [], ◌∷◌, ◌++◌, length}
+use Rattle.wasm_operators.specs.Operations.{RawOperation}
+use Rattle.wasm_operators.specs.Spelling.{Spells}
+
+-- An operator, and the place of its first byte.
+pub record Placed : Type 0 where
+  pub spelt : RawOperation
+  pub place : ℕ
+
+-- From this place on the bytes are spellings of these operators, one behind the other, each at its place; then the rest
+-- follows.
+abbrev pub Lists : List Placed → (place : ℕ) → (bytes rest : List ℕ) → Type 0
+Lists [] place bytes rest = bytes ≡ rest
+Lists (x ∷ xs) place bytes rest =
+    (x.place ≡ place) × (text behind : List ℕ) × (bytes ≡ text ++ behind) × Spells x.spelt text × Lists xs (place + length text) behind rest

@@ -1,0 +1,75 @@
+//! What follows an opcode.
+
+use crate::types::{BlockType, RawCast, RawHeapType, RawMemArg, RawValType, Space};
+
+/// What follows an opcode. `T` is the labels of a `br_table`, and `C` the clauses of a `try_table`.
+#[derive(Debug, Drop, PartialEq, Eq)]
+pub enum Immediates<T, C> {
+    /// Nothing.
+    Nothing,
+    /// An index in a space.
+    Index(Space, u32),
+    /// An index in a space, and one in another.
+    Pair(Space, u32, Space, u32),
+    /// An index in a space, and a number.
+    IndexNumber(Space, u32, u32),
+    /// A local.
+    Local(u32),
+    /// A label.
+    Label(u32),
+    /// Which of the handlers around, of a `rethrow`.
+    Handler(u32),
+    /// A label counted from outside its construct, of a `delegate`.
+    Outer(u32),
+    /// The labels of a `br_table`.
+    Table(T),
+    /// A memory argument.
+    Access(RawMemArg),
+    /// A memory argument, and a lane.
+    LaneAccess(RawMemArg, u8),
+    /// A block type.
+    Block(BlockType),
+    /// A block type, and the clauses of a `try_table`.
+    Clauses(BlockType, C),
+    /// A heap type.
+    Heap(RawHeapType),
+    /// The type of a `select`.
+    Value(RawValType),
+    /// What follows the opcode of a branch on a cast.
+    Cast(RawCast),
+    /// A constant.
+    I32(i32),
+    /// A constant.
+    I64(i64),
+    /// The bits of a constant.
+    F32(u32),
+    /// The bits of a constant.
+    F64(u64),
+    /// The bits of a constant.
+    V128(u128),
+    /// A lane.
+    Lane(u8),
+    /// The lanes of a shuffle.
+    Lanes([u8; 16]),
+    /// The byte behind a fence.
+    ZeroByte,
+}
+
+/// What follows the opcode of an operator on references, structs or arrays.
+#[derive(Clone, Copy)]
+pub enum ReferenceImmediates {
+    /// Nothing.
+    Nothing,
+    /// An index in a space.
+    Index(Space, u32),
+    /// An index in a space, and one in another.
+    Pair(Space, u32, Space, u32),
+    /// An index in a space, and a number.
+    IndexNumber(Space, u32, u32),
+    /// A label.
+    Label(u32),
+    /// A heap type.
+    Heap(RawHeapType),
+    /// What follows the opcode of a branch on a cast.
+    Cast(RawCast),
+}

@@ -1,0 +1,259 @@
+//! Operators.
+
+use crate::branch_table::BrTable;
+use crate::catch_list::CatchList;
+use crate::reference_operator::ReferenceOp;
+use crate::types::{AtomicKind, BlockType, RawMemArg, RawValType};
+use walrus_ir::{BinaryOp, LoadKind, LoadSimdKind, StoreKind, TernaryOp, UnaryOp};
+
+/// An operator as it is spelt (WebAssembly core specification 3.0, binary format, instructions):
+/// with raw indices, and labels as depths. `T` is the labels of a `br_table`, and `C` the clauses
+/// of a `try_table`.
+#[derive(Drop)]
+pub enum Op<T, C> {
+    /// `unreachable`
+    Unreachable,
+    /// `nop`
+    Nop,
+    /// `block`
+    Block {
+        ty: BlockType,
+    },
+    /// `loop`
+    Loop {
+        ty: BlockType,
+    },
+    /// `if`
+    If {
+        ty: BlockType,
+    },
+    /// `else`
+    Else,
+    /// `try`
+    Try {
+        ty: BlockType,
+    },
+    /// `catch`
+    Catch {
+        tag: u32,
+    },
+    /// `throw`
+    Throw {
+        tag: u32,
+    },
+    /// `rethrow`: which handler, as a depth
+    Rethrow {
+        depth: u32,
+    },
+    /// `throw_ref`
+    ThrowRef,
+    /// `end`
+    End,
+    /// `br`
+    Br {
+        label: u32,
+    },
+    /// `br_if`
+    BrIf {
+        label: u32,
+    },
+    /// `br_table`
+    BrTable(T),
+    /// `return`
+    Return,
+    /// `call`
+    Call {
+        func: u32,
+    },
+    /// `call_indirect`
+    CallIndirect {
+        ty: u32,
+        table: u32,
+    },
+    /// `return_call`
+    ReturnCall {
+        func: u32,
+    },
+    /// `return_call_indirect`
+    ReturnCallIndirect {
+        ty: u32,
+        table: u32,
+    },
+    /// `call_ref`
+    CallRef {
+        ty: u32,
+    },
+    /// `return_call_ref`
+    ReturnCallRef {
+        ty: u32,
+    },
+    /// `delegate`: which construct, as a depth from outside its own
+    Delegate {
+        depth: u32,
+    },
+    /// `catch_all`
+    CatchAll,
+    /// `drop`
+    Drop,
+    /// `select`
+    Select,
+    /// `select` with the type of its operands
+    TypedSelect {
+        ty: RawValType,
+    },
+    /// `try_table`
+    TryTable {
+        ty: BlockType,
+        catches: C,
+    },
+    /// `local.get`
+    LocalGet {
+        local: u32,
+    },
+    /// `local.set`
+    LocalSet {
+        local: u32,
+    },
+    /// `local.tee`
+    LocalTee {
+        local: u32,
+    },
+    /// `global.get`
+    GlobalGet {
+        global: u32,
+    },
+    /// `global.set`
+    GlobalSet {
+        global: u32,
+    },
+    /// `table.get`
+    TableGet {
+        table: u32,
+    },
+    /// `table.set`
+    TableSet {
+        table: u32,
+    },
+    /// a load, as `i32.load8_s`
+    Load {
+        kind: LoadKind,
+        memarg: RawMemArg,
+    },
+    /// a store, as `i64.store`
+    Store {
+        kind: StoreKind,
+        memarg: RawMemArg,
+    },
+    /// a vector access that is no plain load or store, as `v128.load8_splat`
+    LoadSimd {
+        kind: LoadSimdKind,
+        memarg: RawMemArg,
+    },
+    /// an atomic access that is no plain load or store, as `i32.atomic.rmw.add`
+    Atomic {
+        kind: AtomicKind,
+        memarg: RawMemArg,
+    },
+    /// `atomic.fence`
+    AtomicFence,
+    /// `memory.size`
+    MemorySize {
+        memory: u32,
+    },
+    /// `memory.grow`
+    MemoryGrow {
+        memory: u32,
+    },
+    /// `i32.const`
+    I32Const {
+        value: i32,
+    },
+    /// `i64.const`
+    I64Const {
+        value: i64,
+    },
+    /// `f32.const`, by its bits
+    F32Const {
+        bits: u32,
+    },
+    /// `f64.const`, by its bits
+    F64Const {
+        bits: u64,
+    },
+    /// an operator of one operand, as `i32.eqz`
+    Unop(UnaryOp),
+    /// an operator of two operands, as `i32.add`
+    Binop(BinaryOp),
+    /// an operator of three operands
+    TernOp(TernaryOp),
+    /// `memory.init`
+    MemoryInit {
+        data: u32,
+        memory: u32,
+    },
+    /// `data.drop`
+    DataDrop {
+        data: u32,
+    },
+    /// `memory.copy`
+    MemoryCopy {
+        target: u32,
+        source: u32,
+    },
+    /// `memory.fill`
+    MemoryFill {
+        memory: u32,
+    },
+    /// `table.init`
+    TableInit {
+        element: u32,
+        table: u32,
+    },
+    /// `elem.drop`
+    ElemDrop {
+        element: u32,
+    },
+    /// `table.copy`
+    TableCopy {
+        target: u32,
+        source: u32,
+    },
+    /// `table.grow`
+    TableGrow {
+        table: u32,
+    },
+    /// `table.size`
+    TableSize {
+        table: u32,
+    },
+    /// `table.fill`
+    TableFill {
+        table: u32,
+    },
+    /// `i64.add128`
+    I64Add128,
+    /// `i64.sub128`
+    I64Sub128,
+    /// `i64.mul_wide_s`
+    I64MulWideS,
+    /// `i64.mul_wide_u`
+    I64MulWideU,
+    /// `v128.const`, by its bits
+    V128Const {
+        bits: u128,
+    },
+    /// `i8x16.shuffle`
+    I8x16Shuffle {
+        indices: [u8; 16],
+    },
+    /// `i8x16.swizzle`
+    I8x16Swizzle,
+    /// `v128.bitselect`
+    V128Bitselect,
+    /// an operator on references, structs or arrays, as `ref.is_null`
+    Reference(ReferenceOp),
+}
+
+/// An operator as it is read, whose lists stand in the input. Two are equal where their meanings
+/// are.
+pub type Operator<'a> = Op<BrTable<'a>, CatchList<'a>>;

@@ -1,0 +1,25 @@
+//! The opcodes of operators of three operands, as they are written: a row an operator.
+
+ghost use Rattle.std.specs.Prelude.{◌≡◌};
+ghost use Rattle.wasm_operators.specs.TernaryOperations.{ternary_opcode as the_ternary_opcode};
+
+use crate::types::Opcode;
+use crate::types::Opcode::Prefixed;
+use walrus_ir::TernaryOp;
+
+/// 0xfd 261 to 275.
+pub fn ternary_opcode(op: TernaryOp) -> Opcode
+    ensures { result ≡ the_ternary_opcode op }
+{
+    match op {
+        TernaryOp::F32x4RelaxedMadd => Prefixed(0xfd, 261),
+        TernaryOp::F32x4RelaxedNmadd => Prefixed(0xfd, 262),
+        TernaryOp::F64x2RelaxedMadd => Prefixed(0xfd, 263),
+        TernaryOp::F64x2RelaxedNmadd => Prefixed(0xfd, 264),
+        TernaryOp::I8x16RelaxedLaneselect => Prefixed(0xfd, 265),
+        TernaryOp::I16x8RelaxedLaneselect => Prefixed(0xfd, 266),
+        TernaryOp::I32x4RelaxedLaneselect => Prefixed(0xfd, 267),
+        TernaryOp::I64x2RelaxedLaneselect => Prefixed(0xfd, 268),
+        TernaryOp::I32x4RelaxedDotI8x16I7x16AddS => Prefixed(0xfd, 275),
+    }
+}

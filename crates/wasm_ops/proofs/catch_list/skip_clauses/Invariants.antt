@@ -1,8 +1,0 @@
-use Rattle.std.proofs.Common.{◌-◌}
-use Rattle.wasm_ops.specs.Reading.{many}
-use Rattle.wasm_ops.specs.Immediates.{clause}
-use Rattle.wasm_ops.proofs.BorrowedLists.{GoesOn}
-use Rattle.wasm_ops.proofs.catch_list.skip_clauses.Given as goal
-
-abbrev pub invariant-loop : goal.invariant-loop
-invariant-loop l = GoesOn clause (many clause (l.count - l.counter) l.rest) (many clause l.count l.bytes)

@@ -1,5 +1,0 @@
-use Rattle.wasm_ops.proofs.ReadingBytes.{reading_agrees}
-use Rattle.wasm_ops.proofs.law.law_reading.Goals as goal
-
-pub returns : goal.returns
-returns c = reading_agrees

@@ -1,5 +1,0 @@
-use Rattle.wasm_ops.proofs.ShortestOperations.{shortest_operation}
-use Rattle.wasm_ops.proofs.law.law_shortest.Goals as goal
-
-pub returns : goal.returns
-returns c = shortest_operation
