@@ -4,7 +4,7 @@ use crate::function_text::push_parsed_function;
 use crate::small_module::{Setting, parse_lent};
 use std::alloc::{AllocError, Global};
 use std::test::Fail;
-use walrus_body::{AcceptAll, ParseFailure};
+use walrus_body::AcceptAll;
 use walrus_ir::{Instr, InstrLocId};
 
 /// Trees of bodies that begin at the place 0, with the location of each operator.
@@ -222,15 +222,10 @@ fn clears_the_lent_list(rt: HostRuntime) -> Result<(), Fail> {
 }
 
 // Parses a body with the list that is lent, and drops its function.
-fn parse_away(body: &str, instrs: &mut Vec<(Instr, InstrLocId)>) -> Result<(), ParseFailure> {
+fn parse_away(body: &str, instrs: &mut Vec<(Instr, InstrLocId)>) -> Result<(), Fail> {
     let alloc = *instrs.allocator();
-    match parse_lent(alloc, Setting::PLAIN, body, AcceptAll, instrs) {
-        Ok(function) => {
-            drop(function);
-            Ok(())
-        }
-        Err(failure) => Err(failure),
-    }
+    drop(parse_lent(alloc, Setting::PLAIN, body, AcceptAll, instrs)?);
+    Ok(())
 }
 
 /// Bodies that are accepted leave the list empty that is lent, with the memory that it had.
