@@ -1,5 +1,5 @@
 //! Functions that are written: those that are made by hand, and those that are parsed.
-use crate::by_hand::{Access, Made, function};
+use crate::by_hand::{Access, Made, function, put};
 use crate::cases::{About, AboutMade, check, check_made};
 use crate::function_text::{At, push_sequences};
 use crate::index_maps::give;
@@ -7,7 +7,7 @@ use crate::small_module::Setting;
 use std::alloc::{AllocError, Global};
 use std::test::Fail;
 use walrus_body::{EmitError, IdsToIndices, IndexError, LocalFunction, Space};
-use walrus_ir::{IdHashMap, InstrLocId, InstrSeqId, InstrSeqType, LocalId, TypeId};
+use walrus_ir::{BrTable, IdHashMap, Instr, InstrLocId, InstrSeqId, InstrSeqType, LocalId, TypeId};
 use wasm_encode::FunctionEncoder;
 
 // The types 8, 2, 6 and 5 have the new indices 0 to 3; the function 7 and the memory 0 have 0.
@@ -142,6 +142,11 @@ fn writes_what_is_made_by_hand(rt: HostRuntime) -> Result<(), Fail> {
         (0, Made::Call(0), 2),
         (0, Made::Br(1), 3),
     ];
+    let unnumbered_and_shared = [
+        (0, Made::Call(0), 1),
+        (0, Made::Block(1), 2),
+        (0, Made::Block(1), 3),
+    ];
     let cases = [
         (
             nested.as_slice(),
@@ -154,6 +159,7 @@ fn writes_what_is_made_by_hand(rt: HostRuntime) -> Result<(), Fail> {
         (unknown.as_slice(), "UnknownSequence 00 9@9"),
         (own.as_slice(), "SharedSequence 00 9@9"),
         (shared.as_slice(), "SharedSequence 00 9@9"),
+        (unnumbered_and_shared.as_slice(), "SharedSequence 00 9@9"),
         (outside.as_slice(), "BranchOutside 00 9@9"),
         (
             unnumbered.as_slice(),
@@ -161,6 +167,31 @@ fn writes_what_is_made_by_hand(rt: HostRuntime) -> Result<(), Fail> {
         ),
     ];
     check_made(&rt, rt.alloc(), AboutMade::Written, &cases)
+}
+
+// A table of branches to the entry and to the third sequence, or else to the second.
+fn table(alloc: Global) -> Result<Instr, AllocError> {
+    let blocks = vec![in alloc; InstrSeqId::new(0), InstrSeqId::new(2)]?;
+    let default = InstrSeqId::new(1);
+    Ok(Instr::BrTable(BrTable { blocks, default }))
+}
+
+// An entry with two blocks, of which the first has the table: the third sequence isn't around it.
+fn with_table(alloc: Global) -> Result<LocalFunction, AllocError> {
+    let mut builder = function(alloc, 3, &[(0, Made::Block(1), 1), (0, Made::Block(2), 2)])?;
+    put(&mut builder, 1, table(alloc)?, 3)?;
+    Ok(LocalFunction::new(Vec::new(alloc), builder))
+}
+
+/// A table one of whose branches goes to a sequence beside its own leaves bytes and pairs as they
+/// were.
+#[test]
+fn refuses_a_table_to_a_sibling(rt: HostRuntime) -> Result<(), Fail> {
+    let function = with_table(rt.alloc())?;
+    let mut text = String::new(rt.alloc());
+    push_written(&mut text, &function)?;
+    assert_eq!(rt; text.as_str(), "BranchOutside 00 9@9");
+    Ok(())
 }
 
 /// Locals are written by the numbers that are handed in; one without is refused in its turn.

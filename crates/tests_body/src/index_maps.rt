@@ -189,6 +189,20 @@ fn each_space_has_its_ids(rt: HostRuntime) -> Result<(), Fail> {
     check_ids(&rt, rt.alloc(), &ids)
 }
 
+/// An index that is looked up in an empty map is out of range, and named in the text.
+#[test]
+fn finds_nothing_in_an_empty_map(rt: HostRuntime) -> Result<(), Fail> {
+    let ids = IndicesToIds::new(rt.alloc());
+    let text = shown(rt.alloc(), get(&ids, Space::Tables, 5))?;
+    assert_eq!(rt; text.as_str(), "index `5` is out of bounds for tables");
+    let (space, index) = (Space::Tables, 5);
+    assert_eq!(rt;
+        ids.get_table(5),
+        Err(IndexError::OutOfRange { space, index })
+    );
+    Ok(())
+}
+
 // The new index of an id.
 fn number(numbers: &IdsToIndices, space: Space, id: usize) -> Result<u32, IndexError>
     ensures { result ≡ number_of numbers.now space id }

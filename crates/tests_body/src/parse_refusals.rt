@@ -5,7 +5,7 @@ use crate::validators::Exhausted;
 use std::test::Fail;
 
 // Bodies, and the first fault of each.
-const FIRST_FAULTS: [(&str, &str); 24] = [
+const FIRST_FAULTS: [(&str, &str); 30] = [
     ("", "MissingEnd at 0"),
     ("01", "MissingEnd at 1"),
     ("02400b", "MissingEnd at 3"),
@@ -30,6 +30,12 @@ const FIRST_FAULTS: [(&str, &str); 24] = [
     ("1c027f7f0b", "BadSelect 0 at 0"),
     ("fc12000b", "UnknownOperator 0 at 0"),
     ("0fff", "UnknownOperator 1 at 1"),
+    ("41", "Truncated 0 at 0"),
+    ("fe03010b", "BadFence 0 at 0"),
+    ("fb18040070700b", "BadCastFlags 0 at 0"),
+    ("190b", "CatchOutsideTry at 0"),
+    ("09000b", "RethrowOutsideHandler at 0"),
+    ("18000b", "DelegateOutsideTry at 0"),
 ];
 
 /// The first fault of a body, and the place of its operator.

@@ -70,6 +70,25 @@ fn reads_one_after_the_other(rt: HostRuntime) -> Result<(), Fail> {
     check(&rt, rt.alloc(), About::Read(100), &cases)
 }
 
+// Operators that can't be read, and why.
+const UNREADABLE: [(&str, &str); 6] = [
+    ("41", " ReadError { fault: Truncated, at: 100 }"),
+    ("0e0200", " ReadError { fault: Truncated, at: 100 }"),
+    ("fc12000b", " ReadError { fault: UnknownOperator, at: 100 }"),
+    ("fe03010b", " ReadError { fault: BadFence, at: 100 }"),
+    ("1c027f7f0b", " ReadError { fault: BadSelect, at: 100 }"),
+    (
+        "fb18040070700b",
+        " ReadError { fault: BadCastFlags, at: 100 }",
+    ),
+];
+
+/// The fault of an operator, and its place.
+#[test]
+fn refuses_operators(rt: HostRuntime) -> Result<(), Fail> {
+    check(&rt, rt.alloc(), About::Read(100), &UNREADABLE)
+}
+
 // The number of labels, the default, and the labels.
 fn labels_text(alloc: Global, table: &BrTable<'_>) -> Result<String, AllocError> {
     let mut text = format!(in alloc; "{} {}:", table.len(), table.default())?;
