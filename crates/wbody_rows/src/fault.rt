@@ -25,6 +25,8 @@ pub(crate) enum Fault {
     NotRewritten,
     #[error("`rewrite_body` appends other bytes")]
     AppendsOthers,
+    #[error("a front of it is accepted")]
+    FrontAccepted,
     #[error("a run shows other operators")]
     OtherEvents,
     #[error("a run ends otherwise")]

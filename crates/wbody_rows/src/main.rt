@@ -1,14 +1,17 @@
 //! The program `wbody_rows`: runs the cases that it reads from standard input through the program
-//! `wbody`, over memory. Of each body that is accepted it reads back what is written, and runs both.
+//! `wbody`, over memory. Of each body that is accepted it reads back what is written, and runs both;
+//! and it parses each front of the body's operators, which isn't accepted.
 #![tactic(auto)]
 
 mod demo;
 mod fault;
+mod fronts;
 mod read_back;
 mod traces;
 
 use crate::demo::{Body, Demo};
 use crate::fault::Fault;
+use crate::fronts::are_refused;
 use crate::read_back::read_back;
 use crate::traces::compare_runs;
 use std::alloc::{AllocError, Global};
@@ -128,10 +131,12 @@ fn check_source(alloc: Global, demo: &Demo, source: Body<'_>) -> Result<(), Faul
     }
 }
 
-/// Reads back what is written of the body that the last of these words spells, and runs both.
+/// Reads back what is written of the body that the last of these words spells, and runs both; and
+/// checks that no front of its operators is accepted.
 fn check_body(alloc: Global, demo: &Demo, words: &str) -> Result<(), Fault> {
     let bytes = hex::decode(alloc, words.rsplit(' ').next().unwrap_or(""))?;
-    check_source(alloc, demo, demo.source(&bytes))
+    check_source(alloc, demo, demo.source(&bytes))?;
+    are_refused(alloc, demo, &bytes)
 }
 
 /// What is wrong with the body of these words, if anything is.
@@ -205,7 +210,7 @@ impl Counts {
             bodies_differ,
         } = self;
         println!(rt; "{rows} rows, {rows_differ} differ")?;
-        println!(rt; "{bodies} bodies read back and traced, {bodies_differ} differ")
+        println!(rt; "{bodies} bodies read back, traced and cut short, {bodies_differ} differ")
     }
 }
 
