@@ -21,8 +21,19 @@ fn words(rt: &HostRuntime) -> io::Result<Vec<String>> {
     Ok(words)
 }
 
+// Says that memory ran out before the words were read, as `run_words` says it of what follows.
+fn refuse(rt: &HostRuntime) -> io::Result<ExitCode> {
+    eprintln!(rt; "refused: Memory")?;
+    Ok(ExitCode::FAILURE)
+}
+
 fn main(rt: HostRuntime) -> io::Result<ExitCode> {
-    let words = words(&rt)?;
-    let status = run_words(rt.alloc(), &words, &mut rt.stdout(), &mut rt.stderr());
-    Ok(ExitCode::from(status))
+    match words(&rt) {
+        Ok(words) => {
+            let status = run_words(rt.alloc(), &words, &mut rt.stdout(), &mut rt.stderr());
+            Ok(ExitCode::from(status))
+        }
+        Err(error) if error.kind() == io::ErrorKind::OutOfMemory => refuse(&rt),
+        Err(error) => Err(error),
+    }
 }
