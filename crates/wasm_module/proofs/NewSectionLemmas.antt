@@ -5,6 +5,7 @@ use Rattle.std.proofs.lemmas.Bool.{lt-ltb, le-ltb}
 use Rattle.std.proofs.lemmas.List.{append-nil, drop_all}
 use Rattle.wasm_numbers.specs.Numbers.{u32}
 use Rattle.wasm_numbers.proofs.Agreement.{ok_is}
+use Rattle.wasm_module.specs.declared.changes.Changes.{Changes}
 use Rattle.wasm_module.specs.declared.changes.Given.{Given}
 use Rattle.wasm_module.specs.declared.fault.ModuleError.{ModuleError}
 use Rattle.wasm_module.specs.declared.sections.Section.{Section}
@@ -150,7 +151,7 @@ all_new first second gs i old now at end p h =
 -- ---- behind a section
 
 pub behind_other :
-    (writes : Writes) (source : ParsedModule) (given : List Given) (all : List SectionAt) (r : ℕ) → r ≢ 0 →
-    new_behind given all r ≡ new_behind_section writes source given all r
-behind_other writes source given all zero h = absurd (h refl)
-behind_other writes source given all (suc r) h = refl
+    (writes : Writes) (source : ParsedModule) (changes : Changes) (all : List SectionAt) (r : ℕ) → r ≢ 0 →
+    new_behind changes.given.items all r ≡ new_behind_section writes source changes all r
+behind_other writes source changes all zero h = absurd (h refl)
+behind_other writes source changes all (suc r) h = refl

@@ -1,8 +1,10 @@
 -- Modules that are written (WebAssembly core specification 3.0, binary format, modules): section by section, each as it was,
--- but for the code, for those that are given new contents, and for custom sections that follow the code.
-use Rattle.std.specs.Prelude.{◌≡◌, ◌≢◌, ◌⊎◌, ◌+◌, ◌-◌, ℕ, zero, suc, List, [], ◌∷◌, ◌++◌, length, Bool, ◌==◌, ◌&&◌, nat_lt, if◌then◌else◌, Option, Some, None, Ok, codes}
+-- but for the code, for those that are given new contents, for custom sections that follow the code, and for debug information that is
+-- left out.
+use Rattle.std.specs.Prelude.{◌≡◌, ◌≢◌, ◌⊎◌, ◌+◌, ◌-◌, ℕ, zero, suc, List, [], ◌∷◌, ◌++◌, length, Bool, true, ◌==◌, ◌&&◌, nat_lt, if◌then◌else◌, Option, Some, None, Ok, codes}
 use Rattle.std.specs.Io.KnownBytes.{Appends}
 use Rattle.wasm_numbers.specs.Numbers.{u32}
+use Rattle.wasm_module.specs.declared.changes.Changes.{Changes}
 use Rattle.wasm_module.specs.declared.changes.Given.{Given}
 use Rattle.wasm_module.specs.declared.parsed.ParsedModule.{ParsedModule}
 use Rattle.wasm_module.specs.declared.rewriting.RewrittenModule.{RewrittenModule}
@@ -45,15 +47,29 @@ HasFollowedName contents =
     (name behind : List ℕ) × (u32 contents ≡ Ok (length name, name ++ behind))
     × ((name ≡ codes "name") ⊎ ((kind : List ℕ) × (name ≡ codes "metadata.code." ++ kind)))
 
+-- a name of debug information, or of where it is (WebAssembly tool conventions, and DWARF for WebAssembly)
+abbrev pub IsDebugName : List ℕ → Type 0
+IsDebugName name = (name ≡ codes "sourceMappingURL") ⊎ ((name ≡ codes "external_debug_info") ⊎ ((kind : List ℕ) × (name ≡ codes ".debug_" ++ kind)))
+
+-- A custom section holds debug information where its name says so.
+abbrev pub HasDebugName : (contents : List ℕ) → Type 0
+HasDebugName contents = (name behind : List ℕ) × (u32 contents ≡ Ok (length name, name ++ behind)) × IsDebugName name
+
 -- Of a section that holds no code: contents that are written in the place of its own. Of custom ones it isn't said what
 -- they are.
-pub data IsReplacedBy (given : List Given) (s : SectionAt) (contents : List ℕ) : Type 0 where
-  followed : s.id ≡ 0 → HasFollowedName s.contents → IsReplacedBy given s contents
-  given_so : s.id ≢ 0 → contents_in given s.id ≡ Some contents → IsReplacedBy given s contents
+pub data IsReplacedBy (changes : Changes) (s : SectionAt) (contents : List ℕ) : Type 0 where
+  followed : s.id ≡ 0 → HasFollowedName s.contents → IsReplacedBy changes s contents
+  given_so : s.id ≢ 0 → contents_in changes.given.items s.id ≡ Some contents → IsReplacedBy changes s contents
 
 -- Or it is written as it is: a custom one, or one for which nothing is given.
-abbrev pub IsCarriedOver : List Given → SectionAt → Type 0
-IsCarriedOver given s = s.id ≢ 0 → contents_in given s.id ≡ None
+abbrev pub IsCarriedOver : Changes → SectionAt → Type 0
+IsCarriedOver changes s = s.id ≢ 0 → contents_in changes.given.items s.id ≡ None
+
+-- Or it is left out: debug information, where that is asked for.
+pub record IsLeftOut (changes : Changes) (s : SectionAt) : Type 0 where
+  pub is_asked : changes.leaves_out_debug ≡ true
+  pub is_custom : s.id ≡ 0
+  pub is_debug : HasDebugName s.contents
 
 -- ---- bodies
 
@@ -84,18 +100,19 @@ module _ (writes : Writes) (source : ParsedModule) where
 
   -- ---- sections
 
-  module _ (given : List Given) where
+  module _ (changes : Changes) where
     -- what is written in the place of a section
     pub data IsWrittenFor (s : SectionAt) (text : List ℕ) : Type 0 where
       code : (contents : List ℕ) → s.id ≡ 10 → IsWrittenCode s contents → text ≡ section 10 contents → IsWrittenFor s text
-      replaced : (contents : List ℕ) → s.id ≢ 10 → IsReplacedBy given s contents → text ≡ section s.id contents → IsWrittenFor s text
-      carried_over : s.id ≢ 10 → IsCarriedOver given s → text ≡ s.whole → IsWrittenFor s text
+      replaced : (contents : List ℕ) → s.id ≢ 10 → IsReplacedBy changes s contents → text ≡ section s.id contents → IsWrittenFor s text
+      carried_over : s.id ≢ 10 → IsCarriedOver changes s → text ≡ s.whole → IsWrittenFor s text
+      left_out : IsLeftOut changes s → text ≡ [] → IsWrittenFor s text
 
     module _ (all : List SectionAt) where
       -- what is put behind a section; nothing behind a custom one
       abbrev pub new_behind_section : (rank : ℕ) → List ℕ
       new_behind_section zero = []
-      new_behind_section (suc r) = new_behind given all (suc r)
+      new_behind_section (suc r) = new_behind changes.given.items all (suc r)
 
       -- what is written in the place of a section, and behind it
       pub record IsWrittenAt (s : SectionAt) (text : List ℕ) : Type 0 where
@@ -113,4 +130,4 @@ module _ (writes : Writes) (source : ParsedModule) where
       pub is_module : IsModule source.bytes.now sections
       pub text : List ℕ
       pub are_written : AreWrittenAt sections sections text
-      pub new_is : new ≡ preamble ++ (new_behind given sections 0 ++ text)
+      pub new_is : new ≡ preamble ++ (new_behind changes.given.items sections 0 ++ text)

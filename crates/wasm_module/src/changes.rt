@@ -20,6 +20,8 @@ pub(crate) struct Given {
 #[derive(Drop)]
 pub struct Changes {
     pub(crate) given: Vec<Given>,
+    /// Whether custom sections with debug information are left out.
+    pub(crate) leaves_out_debug: bool,
 }
 
 impl Changes {
@@ -29,6 +31,7 @@ impl Changes {
     {
         Changes {
             given: Vec::new(alloc),
+            leaves_out_debug: false,
         }
     }
 

@@ -2,7 +2,7 @@
 //! hints). They follow the code that is written.
 
 ghost use Rattle.std.specs.Prelude.{IsTrue};
-ghost use Rattle.wasm_module.specs.WrittenModules.{HasFollowedName};
+ghost use Rattle.wasm_module.specs.WrittenModules.{HasFollowedName, HasDebugName};
 
 use crate::bodies::Scratch;
 use crate::code::Body;
@@ -12,7 +12,6 @@ use crate::labels::follow_labels;
 use crate::parsed::ParsedModule;
 use crate::sections::{Section, SectionKind};
 use std::alloc::Global;
-use std::fmt;
 use walrus_body::LocalFunction;
 use walrus_ir::{IdHashMap, InstrLocId, LocalId};
 use walrus_rewrite::RewriteError;
@@ -225,8 +224,12 @@ impl<'a> Part<'a> {
 /// What is to be said of a custom section that isn't kept true.
 #[derive(Clone, Copy, Debug, PartialEq, Eq)]
 pub enum NoteKind {
-    /// It holds offsets into the code of the source.
-    OldOffsets,
+    /// It says where the source map is, whose offsets are those of the source.
+    SourceMap,
+    /// It holds debug information, with addresses in the code of the source; or says where that is.
+    DebugInfo,
+    /// It holds relocations of the code of the source.
+    Relocations,
     /// It should follow the code, but isn't as it should be, or there are too many such sections.
     NotFollowed,
 }
@@ -236,16 +239,6 @@ pub enum NoteKind {
 pub struct Note<'a> {
     pub name: &'a str,
     pub kind: NoteKind,
-}
-
-impl fmt::Display for Note<'_> {
-    fn fmt<W: fmt::Write>(&self, f: &mut fmt::Formatter<W>) -> fmt::Result {
-        let name = self.name;
-        match self.kind {
-            NoteKind::OldOffsets => write!(f, "section {name} speaks of offsets in the source"),
-            NoteKind::NotFollowed => write!(f, "section {name} is carried over as it is"),
-        }
-    }
 }
 
 /// Whether the name of a custom section says that it holds names, or metadata of code, which follow
@@ -259,12 +252,38 @@ pub(crate) fn follows_code(section: &Section<'_>) -> bool
     }
 }
 
-/// Whether a custom section with this name holds offsets into the code, but none that are followed.
-fn has_old_offsets(name: &str) -> bool {
-    name == "sourceMappingURL"
-        || name == "external_debug_info"
-        || name.starts_with(".debug_")
-        || name.starts_with("reloc.")
+/// Whether the name of a custom section says that it holds debug information, or where that is.
+pub(crate) fn holds_debug(section: &Section<'_>) -> bool
+    ensures { IsTrue result → HasDebugName section.now.contents.rest.now }
+{
+    match section.name() {
+        Ok((name, _)) => {
+            name == "sourceMappingURL"
+                || name == "external_debug_info"
+                || name.starts_with(".debug_")
+        }
+        Err(_) => false,
+    }
+}
+
+/// What is to be said of a custom section with this name that isn't followed, if it holds offsets
+/// into the code. Sections of debug information that hold none, as `.debug_str`, stay true.
+fn note_on(name: &str) -> Option<NoteKind> {
+    match name {
+        "sourceMappingURL" => Some(NoteKind::SourceMap),
+        "external_debug_info"
+        | ".debug_addr"
+        | ".debug_aranges"
+        | ".debug_frame"
+        | ".debug_info"
+        | ".debug_line"
+        | ".debug_loc"
+        | ".debug_loclists"
+        | ".debug_ranges"
+        | ".debug_rnglists" => Some(NoteKind::DebugInfo),
+        "reloc.CODE" => Some(NoteKind::Relocations),
+        _ => None,
+    }
 }
 
 /// The custom sections that follow the code, and what is to be said of others.
@@ -300,8 +319,8 @@ impl<'a> Followers<'a> {
         } else if name.starts_with("metadata.code.") {
             read_metadata(alloc, section)
         } else {
-            if has_old_offsets(name) {
-                self.note(name, NoteKind::OldOffsets)?;
+            if let Some(kind) = note_on(name) {
+                self.note(name, kind)?;
             }
             return Ok(());
         };

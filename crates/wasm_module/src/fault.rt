@@ -7,12 +7,12 @@ ghost use Rattle.wasm_module.specs.declared.code_fault.CodeFault.TheVariants as 
 ghost use Rattle.walrus_rewrite.specs.Errors.{WantsMemory};
 ghost use Rattle.wasm_module.specs.Refusals.{place_in_file};
 
-use crate::code_fault::CodeFault;
+use crate::code_fault::{CodeFault, items_of};
 use std::alloc::{AllocError, AllocFailed};
 use std::error::Error;
 use std::fmt;
 use thiserror::Error as ErrorText;
-use walrus_body::{IndexError, ParseError, ParseFailure};
+use walrus_body::{IndexError, ParseError, ParseFailure, Space};
 use walrus_rewrite::RewriteError;
 use wasm_ops::ReadError;
 
@@ -31,11 +31,11 @@ pub enum ModuleFault {
     /// No section has this id.
     #[error("no section has this id")]
     UnknownSection,
-    /// A section stands behind one that it has to stand before, or twice.
+    /// A section comes after one that it has to come before, or twice.
     #[error("a section is out of order")]
     SectionOutOfOrder,
-    /// Bytes stand behind the last item of a section, or of bytes that are handed in.
-    #[error("bytes stand behind the last item of a section")]
+    /// Bytes are left after the last item of a section, or of bytes that are handed in.
+    #[error("bytes are left after the last item of a section")]
     Trailing,
     /// A number in LEB128 is too long or too great for its type.
     #[error("a number is too long or too great for its type")]
@@ -43,7 +43,7 @@ pub enum ModuleFault {
     /// A name isn't UTF-8.
     #[error("a name is not UTF-8")]
     BadName,
-    #[error("no type that may stand here is spelt so")]
+    #[error("this is no type that is allowed here")]
     BadType,
     #[error("no import is of this kind")]
     BadImportKind,
@@ -60,11 +60,11 @@ pub enum ModuleFault {
     #[error("the kind of an element is not 0")]
     BadElementKind,
     /// A constant expression has an operator that opens or parts a construct.
-    #[error("no such operator stands in a constant expression")]
+    #[error("this operator is not allowed in a constant expression")]
     BadConstant,
     /// An index names nothing that the module has.
-    #[error("an index names nothing")]
-    IndexOutOfRange,
+    #[error("index {index} is out of bounds for {}", items_of(*space))]
+    IndexOutOfRange { space: Space, index: u32 },
     /// The type of a function or of a tag isn't a function type.
     #[error("a type is not a function type")]
     NotAFunctionType,
@@ -72,7 +72,7 @@ pub enum ModuleFault {
     #[error("there are not as many bodies as functions")]
     BodyCount,
     /// The data count section doesn't tell the number of data segments.
-    #[error("the number of data segments is not the one that was told")]
+    #[error("the data count is not the number of data segments")]
     DataCount,
     /// A function has more than 50,000 locals, its parameters among them.
     #[error("a function has more than 50000 locals")]
@@ -84,7 +84,7 @@ pub enum ModuleFault {
     #[error("the module has no type for a handler")]
     TypeMissing,
     /// A body or a constant expression isn't accepted, or a body can't be written.
-    #[error("code is not accepted: {0}")]
+    #[error("{0}")]
     Code(CodeFault),
     /// An export that is to be added has the name of one that is there.
     #[error("an export has this name already")]
@@ -100,6 +100,23 @@ pub enum ModuleFault {
     Memory,
 }
 
+/// The name of a fault: that of its innermost variant.
+#[derive(Clone, Copy, Debug, PartialEq, Eq)]
+pub struct FaultName(ModuleFault);
+
+impl fmt::Display for FaultName {
+    fn fmt<W: fmt::Write>(&self, f: &mut fmt::Formatter<W>) -> fmt::Result {
+        match self.0 {
+            ModuleFault::IndexOutOfRange { .. } => f.write_str("IndexOutOfRange"),
+            ModuleFault::Code(CodeFault::OutOfRange { .. }) => f.write_str("OutOfRange"),
+            ModuleFault::Code(CodeFault::LocalOutOfRange { .. }) => f.write_str("LocalOutOfRange"),
+            ModuleFault::Code(CodeFault::Unnumbered { .. }) => f.write_str("Unnumbered"),
+            ModuleFault::Code(fault) => write!(f, "{fault:?}"),
+            fault => write!(f, "{fault:?}"),
+        }
+    }
+}
+
 impl ModuleFault {
     /// What is wrong with code.
     fn of_code(fault: CodeFault) -> ModuleFault
@@ -112,6 +129,11 @@ impl ModuleFault {
             fault => ModuleFault::Code(fault),
         }
     }
+
+    /// The fault's name.
+    pub fn name(self) -> FaultName {
+        FaultName(self)
+    }
 }
 
 /// A fault of a module, and the place in the file where it stands. The place is open for `Memory`.
@@ -121,14 +143,11 @@ pub struct ModuleError {
     pub at: usize,
 }
 
-/// The name of the fault, and its place in hexadecimal.
+/// The place in hexadecimal, the text of the fault, and its name.
 impl fmt::Display for ModuleError {
     fn fmt<W: fmt::Write>(&self, f: &mut fmt::Formatter<W>) -> fmt::Result {
-        let at = self.at;
-        match self.fault {
-            ModuleFault::Code(fault) => write!(f, "{fault:?} at 0x{at:x}"),
-            fault => write!(f, "{fault:?} at 0x{at:x}"),
-        }
+        let (at, fault, name) = (self.at, self.fault, self.fault.name());
+        write!(f, "0x{at:x}: {fault} ({name})")
     }
 }
 
@@ -146,7 +165,9 @@ impl ModuleError {
         ensures { error ≡ index.Memory → result.fault ≡ Memory }
     {
         let fault = match error {
-            IndexError::OutOfRange { .. } => ModuleFault::IndexOutOfRange,
+            IndexError::OutOfRange { space, index } => {
+                ModuleFault::IndexOutOfRange { space, index }
+            }
             IndexError::Memory => ModuleFault::Memory,
             IndexError::NoLocals { .. } | IndexError::LocalOutOfRange { .. } => {
                 ModuleFault::LocalOutOfRange

@@ -125,6 +125,11 @@ impl<'a> ParsedModule<'a> {
         self.imported
     }
 
+    /// Whether an imported function has this index.
+    pub fn is_imported(&self, index: usize) -> bool {
+        index < self.imported
+    }
+
     /// Whether a function with a body has this index, which counts behind imported ones.
     pub fn has_body(&self, index: usize) -> bool {
         index >= self.imported && index < self.func_types.len()

@@ -1,16 +1,16 @@
 //! Rewriting a module: each body is written once, to learn of its faults, of its size, and of what
 //! follows it, before anything goes out.
 
-ghost use Rattle.std.specs.Prelude.{◌≡◌, [], OnOk, IfOk, IfSome, IfNone};
+ghost use Rattle.std.specs.Prelude.{◌≡◌, [], true, IsTrue, OnOk, IfOk, IfSome, IfNone};
 ghost use Rattle.wasm_module.specs.RewrittenCode.{Extends};
 ghost use Rattle.wasm_module.specs.Sections.{section_at};
-ghost use Rattle.wasm_module.specs.WrittenModules.{given_in, IsReplacedBy, IsCarriedOver};
+ghost use Rattle.wasm_module.specs.WrittenModules.{given_in, IsReplacedBy, IsCarriedOver, IsLeftOut};
 
 use crate::bodies::Scratch;
 use crate::body_writer::{BodyWriter, ChangeFunction, Changing, Rewriting};
 use crate::changes::Changes;
 use crate::code::Body;
-use crate::custom::{Followed, Followers, Note, contents_at, follows_code};
+use crate::custom::{Followed, Followers, Note, contents_at, follows_code, holds_debug};
 use crate::fault::ModuleError;
 use crate::output::number_len;
 use crate::parsed::ParsedModule;
@@ -31,9 +31,9 @@ pub struct RewrittenModule<'a, B> {
 impl<B> RewrittenModule<'_, B> {
     /// What is written as the contents of a section that holds no code, in the place of its own.
     pub(crate) fn contents_for(&self, section: &Section<'_>) -> Option<&[u8]>
-        ensures some { IfSome result (λ contents. IsReplacedBy (given_in self.now)
+        ensures some { IfSome result (λ contents. IsReplacedBy self.now.changes
             (section_at section.now) contents.now) }
-        ensures none { IfNone result (IsCarriedOver (given_in self.now)
+        ensures none { IfNone result (IsCarriedOver self.now.changes
             (section_at section.now)) }
     {
         match section.kind {
@@ -41,6 +41,25 @@ impl<B> RewrittenModule<'_, B> {
             SectionKind::Custom => None,
             kind => self.changes.contents_of(kind),
         }
+    }
+}
+
+impl<B> RewrittenModule<'_, B> {
+    /// Leaves out the custom sections with debug information when the module is written:
+    /// `sourceMappingURL`, `external_debug_info`, and those whose names begin with `.debug_`.
+    pub fn leave_out_debug(&mut self)
+        ensures changes { self.new.changes
+            ≡ record self.old.changes { leaves_out_debug = true } }
+        ensures bodies { self.new.bodies ≡ self.old.bodies }
+    {
+        self.changes.leaves_out_debug = true;
+    }
+
+    /// Whether a section is left out.
+    pub(crate) fn leaves_out(&self, section: &Section<'_>) -> bool
+        ensures { IsTrue result → IsLeftOut self.now.changes (section_at section.now) }
+    {
+        self.changes.leaves_out_debug && section.kind == SectionKind::Custom && holds_debug(section)
     }
 }
 

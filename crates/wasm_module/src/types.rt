@@ -3,6 +3,7 @@
 use crate::fault::{ModuleError, ModuleFault};
 use crate::input::Input;
 use std::alloc::Global;
+use walrus_body::Space;
 use walrus_ir::{HeapType, RefType, ValType};
 use wasm_ops::RawValType;
 
@@ -15,6 +16,16 @@ pub(crate) enum RawType {
     },
     /// A struct or array type.
     Other,
+}
+
+impl Input<'_> {
+    /// Why a type names no other.
+    fn no_type(&self, index: u32) -> ModuleError {
+        self.fault(ModuleFault::IndexOutOfRange {
+            space: Space::Types,
+            index,
+        })
+    }
 }
 
 /// Reads types that may name so many types.
@@ -35,7 +46,7 @@ impl TypeReader<'_> {
                     heap_type: HeapType::Concrete(index),
                     ..
                 },
-            ) if index as usize >= self.count => { Err(begin.fault(ModuleFault::IndexOutOfRange)) }
+            ) if index as usize >= self.count => { Err(begin.no_type(index)) }
             _ => Ok(ty),
         }
     }
@@ -92,8 +103,9 @@ impl TypeReader<'_> {
             self.input.byte()?;
             for _ in 0..self.input.number()? {
                 let begin = self.input;
-                if self.input.number()? as usize >= self.count {
-                    return Err(begin.fault(ModuleFault::IndexOutOfRange));
+                let index = self.input.number()?;
+                if index as usize >= self.count {
+                    return Err(begin.no_type(index));
                 }
             }
         }

@@ -222,12 +222,15 @@ impl<'a> ParsedModule<'a> {
         ensures extends { OnOk result (Extends self.old self.new) }
         ensures written { (source : Parsed) → Extends source self.old
             → IfOk result (λ end. (text : List ℕ)
-            × IsWrittenFor (B.writes rewritten.now.bodies) source (given_in rewritten.now)
+            × IsWrittenFor (B.writes rewritten.now.bodies) source rewritten.now.changes
             (section_at section.now) text
             × Puts (W.contents out.old) (W.contents out.new) at end text) }
     {
         if section.kind == SectionKind::Code {
             return self.put_code_section(rewritten, section, tell, at, out);
+        }
+        if rewritten.leaves_out(section) {
+            return Ok(at);
         }
         match rewritten.contents_for(section) {
             Some(contents) => put_section(self.alloc, section.kind, contents, at, out),
@@ -264,7 +267,7 @@ impl<'a> ParsedModule<'a> {
         ensures extends { OnOk result (Extends self.old self.new) }
         ensures written { (source : Parsed) (all : List SectionAt) → Extends source self.old
             → IsModule self.old.bytes.now all → IfOk result (λ end. (text : List ℕ)
-            × IsWrittenAt (B.writes rewritten.now.bodies) source (given_in rewritten.now) all
+            × IsWrittenAt (B.writes rewritten.now.bodies) source rewritten.now.changes all
             (section_at section.now) text
             × Puts (W.contents out.old) (W.contents out.new) at end text) }
     {
@@ -286,7 +289,7 @@ impl<'a> ParsedModule<'a> {
     ) -> Result<(), WriteError>
         ensures extends { OnOk result (Extends self.old self.new) }
         ensures written { OnOk result ((new : List ℕ)
-            × IsWrittenModule (B.writes rewritten.now.bodies) self.old (given_in rewritten.now) new
+            × IsWrittenModule (B.writes rewritten.now.bodies) self.old rewritten.now.changes new
             × Appends (W.contents out.old) (W.contents out.new) new) }
     {
         let begin = put(&PREAMBLE, 0, out)?;
@@ -299,7 +302,8 @@ impl<'a> ParsedModule<'a> {
     }
 
     /// Writes the module: each section in its place, those that aren't changed byte for byte, and
-    /// new ones in theirs; and each body behind its size, as it is rewritten or changed.
+    /// new ones in theirs; and each body behind its size, as it is rewritten or changed. Sections of
+    /// debug information aren't written where `leave_out_debug` was called.
     ///
     /// # Errors
     ///
@@ -312,7 +316,7 @@ impl<'a> ParsedModule<'a> {
     ) -> Result<(), WriteError>
         ensures extends { OnOk result (Extends self.old self.new) }
         ensures written { OnOk result ((new : List ℕ)
-            × IsWrittenModule (B.writes rewritten.now.bodies) self.old (given_in rewritten.now) new
+            × IsWrittenModule (B.writes rewritten.now.bodies) self.old rewritten.now.changes new
             × Appends (W.contents out.old) (W.contents out.new) new) }
     {
         self.write_telling(rewritten, &mut Nobody, out)
@@ -333,7 +337,7 @@ impl<'a> ParsedModule<'a> {
     ) -> Result<(), WriteError>
         ensures extends { OnOk result (Extends self.old self.new) }
         ensures written { OnOk result ((new : List ℕ)
-            × IsWrittenModule (B.writes rewritten.now.bodies) self.old (given_in rewritten.now) new
+            × IsWrittenModule (B.writes rewritten.now.bodies) self.old rewritten.now.changes new
             × Appends (W.contents out.old) (W.contents out.new) new) }
     {
         self.write_telling(rewritten, &mut MapLines(map), out)

@@ -1,7 +1,7 @@
 use Rattle.std.proofs.Common.{◌≡◌, ◌≢◌, ℕ, List, ◌++◌, sym, ap, subst, ◌∙◌, arith}
 use Rattle.std.proofs.lemmas.List.{append-nil}
 use Rattle.wasm_module.specs.Sections.{rank, id_of, IsModule}
-use Rattle.wasm_module.specs.WrittenModules.{given_in, new_behind, new_behind_section}
+use Rattle.wasm_module.specs.WrittenModules.{new_behind, new_behind_section}
 use Rattle.wasm_module.proofs.WritingLemmas.{if_so, puts_then}
 use Rattle.wasm_module.proofs.NewSectionLemmas.{behind_other}
 use Rattle.wasm_module.proofs.parsed.ParsedModule.put_with_new.Goals as goal
@@ -9,14 +9,14 @@ use Rattle.wasm_module.proofs.parsed.ParsedModule.put_with_new.Goals as goal
 pub returns-then-rank-eq0-clause-written : goal.returns-then-rank-eq0-clause-written
 returns-then-rank-eq0-clause-written g c = λ source all e m.
     let writes = g.B.BodyWriter.writes c.args.rewritten.now.bodies in
-    let given = given_in c.args.rewritten.now in
+    let changes = c.args.rewritten.now.changes in
     let w = c.in_ok-end.ensures.written source e in
     let is_custom : 0 ≡ rank (id_of c.args.section.now.kind) = omega (arith, c.rank-rank.ensures) in (
       w.0,
       record {
         own = w.0;
         is_written = w.1;
-        text_is = sym (append-nil w.0) ∙ ap (λ (n : ℕ). w.0 ++ new_behind_section writes source given all n) is_custom;
+        text_is = sym (append-nil w.0) ∙ ap (λ (n : ℕ). w.0 ++ new_behind_section writes source changes all n) is_custom;
       },
       w.2,
     )
@@ -24,20 +24,20 @@ returns-then-rank-eq0-clause-written g c = λ source all e m.
 pub returns-clause-written : goal.returns-clause-written
 returns-clause-written g c = λ source all e m.
     let contents = g.W.Write.contents in
-    let given = given_in c.args.rewritten.now in
+    let changes = c.args.rewritten.now.changes in
     let r = rank (id_of c.args.section.now.kind) in
     let not_custom : r ≢ 0 = omega (arith, c.rank-rank.ensures) in
     let w = c.in_ok-end.ensures.written source e in
     let here = subst (λ (l : List ℕ). IsModule l all) (sym c.in_ok-end.ensures.extends.bytes) m in
     if_so c.put_behind.result (c.put_behind.ensures all here) (λ end puts. (
-      w.0 ++ new_behind given all c.rank-rank.result,
+      w.0 ++ new_behind changes.given.items all c.rank-rank.result,
       record {
         own = w.0;
         is_written = w.1;
         text_is =
             ap (λ (l : List ℕ). w.0 ++ l)
-            (ap (λ (n : ℕ). new_behind given all n) c.rank-rank.ensures ∙ behind_other (g.B.BodyWriter.writes c.args.rewritten.now.bodies) source given all r not_custom);
+            (ap (λ (n : ℕ). new_behind changes.given.items all n) c.rank-rank.ensures ∙ behind_other (g.B.BodyWriter.writes c.args.rewritten.now.bodies) source changes all r not_custom);
       },
       puts_then (contents c.args.out.now) (contents c.put_in_place.new.out) (contents c.put_behind.new.out) c.args.at c.in_ok-end.end end w.0
-          (new_behind given all c.rank-rank.result) w.2 puts,
+          (new_behind changes.given.items all c.rank-rank.result) w.2 puts,
     ))

@@ -1,0 +1,12 @@
+use Rattle.std.proofs.Common.{◌≡◌, true, drop, length, inr, codes}
+use Rattle.std.proofs.lemmas.Bool.Decides.{Decides-eqb}
+use Rattle.std.proofs.lemmas.Slice.Eq.{starts_is}
+use Rattle.std.proofs.lemmas.Str.Pattern.{starts_text}
+use Rattle.wasm_module.proofs.custom.holds_debug.Goals as goal
+
+pub returns-else-eq-2 : goal.returns-else-eq-2
+returns-else-eq-2 c = λ is_true.
+    let name = c.in-Ok.name.now in
+    let front = codes ".debug_" in
+    let begins = (starts_is Decides-eqb name front c.starts_with.result (starts_text c.starts_with.result front name c.starts_with.ensures.cases)).0 is_true in
+    (name, c.in-Ok.field-0-1.rest.now, c.in-Ok.ensures, inr (inr (drop (length front) name, begins)))
