@@ -1,97 +1,229 @@
 //! Files that are read whole, and written whole or not at all. The path `-` stands for standard
 //! input or output.
 
-use crate::ending::Stop;
-use std::alloc::Global;
-use std::io::{BufWriter, Read, Write};
+use crate::ending::{Attempt, Stop};
+use crate::places::resolve;
+use std::alloc::{AllocError, Global};
+use std::fs::{OpenFile, OpenOptions, Permissions};
+use std::io::{Read, Write};
+use std::os::unix::fs::OpenOptionsExt;
+use std::path::Path;
 use std::rt::Files;
 use std::{fs, io};
-use wasm_module::{BodyWriter, ParsedModule, RewrittenModule, WriteError};
+
+/// How many names are tried for a file that is being written.
+const MOST_NAMES: u32 = 10_000;
+
+/// How many bytes of a file's name are in the name of one that is written beside it: a name has 255
+/// at most.
+const MOST_NAME: usize = 200;
 
 /// The bytes of a file, in a list that may have reserved more than they take.
-fn read_whole<R: Files + Input + AllocGlobal>(rt: &R, path: &str) -> io::Result<Vec<u8>> {
-    if path != "-" {
-        return fs::read(rt, path);
-    }
+fn read_whole<'w, R: Files + Input + AllocGlobal>(
+    rt: &R,
+    path: &'w str,
+) -> Result<Vec<u8>, Stop<'w>> {
     let mut bytes = Vec::new(rt.alloc());
-    rt.reader().read_to_end(&mut bytes)?;
-    Ok(bytes)
+    let read = match path {
+        "-" => rt.reader().read_to_end(&mut bytes),
+        path => match fs::open(rt, path) {
+            Ok(mut file) => file.read_to_end(&mut bytes),
+            Err(error) => return Err(Stop::file(path, Attempt::Open, error)),
+        },
+    };
+    match read {
+        Ok(_) => Ok(bytes),
+        Err(error) => Err(Stop::file(path, Attempt::Read, error)),
+    }
 }
 
 /// The bytes of a file, which take no more memory than they need.
-pub fn read_file<R: Files + Input + AllocGlobal>(rt: &R, path: &str) -> io::Result<Vec<u8>> {
+pub fn read_file<'w, R: Files + Input + AllocGlobal>(
+    rt: &R,
+    path: &'w str,
+) -> Result<Vec<u8>, Stop<'w>> {
     let mut bytes = read_whole(rt, path)?;
     bytes.shrink_to_fit();
     Ok(bytes)
 }
 
-/// Whether something stands at the path that isn't a file, as a device or a link, in whose place no
-/// file is put.
-fn is_special(rt: &impl Files, path: &str) -> bool {
-    match fs::symlink_metadata(rt, path) {
-        Ok(metadata) => !metadata.is_file(),
-        Err(_) => false,
+/// What is at a path.
+#[derive(Drop)]
+enum Standing {
+    /// A file, with these permissions.
+    File(Permissions),
+    Nothing,
+    /// Something that isn't a file, as a device, in whose place no file is put.
+    Special,
+}
+
+impl Standing {
+    fn at(rt: &impl Files, path: &str) -> io::Result<Standing> {
+        match fs::metadata(rt, path) {
+            Ok(metadata) if metadata.is_file() => Ok(Standing::File(metadata.permissions())),
+            Ok(_) => Ok(Standing::Special),
+            Err(error) if error.kind() == io::ErrorKind::NotFound => Ok(Standing::Nothing),
+            Err(error) => Err(error),
+        }
     }
+}
+
+/// The path of a file that is being written, beside the one that it becomes.
+fn path_beside(alloc: Global, path: &str, number: u32) -> Result<String, AllocError> {
+    let path = Path::new(path);
+    let name = path.file_name().unwrap_or("");
+    let (front, _) = name.split_at(name.floor_char_boundary(MOST_NAME));
+    let name = format!(in alloc; "{front}.unfinished-{number}")?;
+    Ok(path.with_file_name(alloc, name.as_str())?.into_string())
+}
+
+/// Makes a file, where none is: its owner alone may read it where `is_private`.
+fn create_new<R: Files>(rt: &R, path: &str, is_private: bool) -> io::Result<R::File> {
+    let mut options = OpenOptions::new();
+    options.write(true).create_new(true);
+    if is_private {
+        options.mode(0o600);
+    }
+    options.open(rt, path)
+}
+
+/// Makes a file under a name that none has, beside the one that it becomes.
+fn create_beside<R: Files + AllocGlobal>(
+    rt: &R,
+    path: &str,
+    is_private: bool,
+) -> io::Result<(String, R::File)> {
+    for number in 0..MOST_NAMES {
+        let beside = path_beside(rt.alloc(), path, number)?;
+        match create_new(rt, beside.as_str(), is_private) {
+            Ok(file) => return Ok((beside, file)),
+            Err(error) if error.kind() == io::ErrorKind::AlreadyExists => {}
+            Err(error) => return Err(error),
+        }
+    }
+    Err(io::Error::from(io::ErrorKind::AlreadyExists))
 }
 
 /// A file that is being written, beside the one that it becomes; or standard output.
 #[derive(Drop)]
-pub struct Target<'a, R: Files> {
-    rt: &'a R,
-    path: &'a str,
-    /// Where it is written; none where it is written at its place.
-    beside: Option<String>,
+pub struct Target<'w, R: Files> {
+    rt: &'w R,
+    /// The path that was given.
+    path: &'w str,
+    /// Where it is written, and where it is put then; none where it is written at its place.
+    move_to: Option<(String, String)>,
     /// None for standard output.
     file: Option<R::File>,
+    /// Whether writing failed.
+    has_failed: bool,
 }
 
-impl<'a, R: Files + AllocGlobal> Target<'a, R> {
-    /// A file that is to be written to this path. What stands there stays until it is closed.
-    pub fn create(rt: &'a R, path: &'a str) -> io::Result<Target<'a, R>> {
-        let mut target = Target {
+impl<'w, R: Files + AllocGlobal> Target<'w, R> {
+    /// What is written to this path, which is no device, nor standard output.
+    fn create_file(
+        rt: &'w R,
+        path: &'w str,
+        permissions: Option<Permissions>,
+    ) -> io::Result<Target<'w, R>> {
+        let place = resolve(rt, path)?;
+        let (beside, file) = create_beside(rt, place.as_str(), permissions.is_some())?;
+        let target = Target {
             rt,
             path,
-            beside: None,
-            file: None,
+            file: Some(file),
+            move_to: Some((beside, place)),
+            has_failed: false,
         };
-        if path == "-" {
-            return Ok(target);
+        match target.permit(permissions) {
+            Ok(()) => Ok(target),
+            Err(error) => {
+                target.discard();
+                Err(error)
+            }
         }
-        if is_special(rt, path) {
-            target.file = Some(fs::create(rt, path)?);
-            return Ok(target);
+    }
+
+    /// Gives the file these permissions.
+    fn permit(&self, permissions: Option<Permissions>) -> io::Result<()> {
+        match (&self.file, permissions) {
+            (Some(file), Some(permissions)) => file.set_permissions(permissions),
+            _ => Ok(()),
         }
-        let beside = format!(in rt.alloc(); "{path}.part")?;
-        target.file = Some(fs::create(rt, beside.as_str())?);
-        target.beside = Some(beside);
-        Ok(target)
+    }
+
+    fn try_create(rt: &'w R, path: &'w str) -> io::Result<Target<'w, R>> {
+        let file = match path {
+            "-" => None,
+            path => match Standing::at(rt, path)? {
+                Standing::File(permissions) => {
+                    return Target::create_file(rt, path, Some(permissions));
+                }
+                Standing::Nothing => return Target::create_file(rt, path, None),
+                Standing::Special => Some(fs::create(rt, path)?),
+            },
+        };
+        Ok(Target {
+            rt,
+            path,
+            move_to: None,
+            file,
+            has_failed: false,
+        })
+    }
+
+    /// A file that is to be written to this path. What is there stays until it is closed. Through a
+    /// link the file that it leads to is replaced; a new file has the mode of the one that it
+    /// replaces.
+    pub fn create(rt: &'w R, path: &'w str) -> Result<Target<'w, R>, Stop<'w>> {
+        match Target::try_create(rt, path) {
+            Ok(target) => Ok(target),
+            Err(error) => Err(Stop::file(path, Attempt::Create, error)),
+        }
+    }
+
+    /// Whether it is the one that failed, of those that were written.
+    pub fn has_failed(&self) -> bool {
+        self.has_failed
+    }
+
+    /// The path that was given.
+    pub fn path(&self) -> &'w str {
+        self.path
     }
 
     /// Puts the file in its place.
-    pub fn keep(self) -> io::Result<()> {
+    pub fn keep(self) -> Result<(), Stop<'w>> {
         let Target {
             rt,
             path,
-            beside,
+            move_to,
             file,
+            has_failed: _,
         } = self;
         drop(file);
-        match beside {
-            Some(beside) => fs::rename(rt, beside.as_str(), path),
-            None => Ok(()),
+        let Some((beside, place)) = move_to else {
+            return Ok(());
+        };
+        match fs::rename(rt, beside.as_str(), place.as_str()) {
+            Ok(()) => Ok(()),
+            Err(error) => {
+                let _ = fs::remove_file(rt, beside.as_str());
+                Err(Stop::file(path, Attempt::Rename, error))
+            }
         }
     }
 
-    /// Takes the file away, so that what stands at its place stays.
+    /// Removes the file, so that what is at its place stays.
     pub fn discard(self) {
         let Target {
             rt,
             path: _,
-            beside,
+            move_to,
             file,
+            has_failed: _,
         } = self;
         drop(file);
-        if let Some(beside) = beside {
+        if let Some((beside, _)) = move_to {
             let _ = fs::remove_file(rt, beside.as_str());
         }
     }
@@ -99,9 +231,16 @@ impl<'a, R: Files + AllocGlobal> Target<'a, R> {
 
 impl<R: Files + Print> Write for Target<'_, R> {
     fn write(&mut self, bytes: &[u8]) -> io::Result<usize> {
-        match &mut self.file {
+        let written = match &mut self.file {
             Some(file) => file.write(bytes),
             None => self.rt.write_some(bytes),
+        };
+        match written {
+            Ok(count) => Ok(count),
+            Err(error) => {
+                self.has_failed = error.kind() != io::ErrorKind::Interrupted;
+                Err(error)
+            }
         }
     }
 
@@ -109,98 +248,6 @@ impl<R: Files + Print> Write for Target<'_, R> {
         match &mut self.file {
             Some(file) => file.flush(),
             None => Ok(()),
-        }
-    }
-}
-
-/// Writes a module, buffered.
-fn write_buffered<W: Write, B: BodyWriter>(
-    alloc: Global,
-    parsed: &mut ParsedModule<'_>,
-    module: &RewrittenModule<'_, B>,
-    target: &mut W,
-) -> Result<(), WriteError> {
-    let mut out = BufWriter::new(alloc, target)?;
-    parsed.write_module(module, &mut out)?;
-    Ok(out.flush()?)
-}
-
-/// Writes a module and its location map, buffered.
-fn write_both_buffered<W: Write, B: BodyWriter>(
-    alloc: Global,
-    parsed: &mut ParsedModule<'_>,
-    module: &RewrittenModule<'_, B>,
-    target: &mut W,
-    map_target: &mut W,
-) -> Result<(), WriteError> {
-    let mut out = BufWriter::new(alloc, target)?;
-    let mut map = BufWriter::new(alloc, map_target)?;
-    parsed.write_module_with_map(module, &mut out, &mut map)?;
-    map.flush()?;
-    Ok(out.flush()?)
-}
-
-/// Says on standard error what is to be said of a module that is rewritten.
-fn say_notes<B>(rt: &impl Eprint, module: &RewrittenModule<'_, B>) -> io::Result<()> {
-    for note in &module.notes {
-        eprintln!(rt; "note: {note}")?;
-    }
-    Ok(())
-}
-
-/// Says on standard error what is to be said of a module that is rewritten, and writes it.
-///
-/// # Errors
-///
-/// Where it can't be written. The file is then as before.
-pub fn write_module<R: Files + Print + Eprint + AllocGlobal + Drop, B: BodyWriter>(
-    rt: &R,
-    parsed: &mut ParsedModule<'_>,
-    module: &RewrittenModule<'_, B>,
-    path: &str,
-) -> Result<(), Stop> {
-    say_notes(rt, module)?;
-    let mut target = Target::create(rt, path)?;
-    match write_buffered(rt.alloc(), parsed, module, &mut target) {
-        Ok(()) => Ok(target.keep()?),
-        Err(error) => {
-            target.discard();
-            Err(Stop::from(error))
-        }
-    }
-}
-
-/// The same, with the location map in a file of its own.
-///
-/// # Errors
-///
-/// Where one of them can't be written. Both files are then as before; but where the module can't be
-/// put in its place at the very end the map is new.
-pub fn write_module_with_map<R: Files + Print + Eprint + AllocGlobal + Drop, B: BodyWriter>(
-    rt: &R,
-    parsed: &mut ParsedModule<'_>,
-    module: &RewrittenModule<'_, B>,
-    path: &str,
-    map_path: &str,
-) -> Result<(), Stop> {
-    say_notes(rt, module)?;
-    let mut target = Target::create(rt, path)?;
-    let mut map = match Target::create(rt, map_path) {
-        Ok(map) => map,
-        Err(error) => {
-            target.discard();
-            return Err(Stop::from(error));
-        }
-    };
-    match write_both_buffered(rt.alloc(), parsed, module, &mut target, &mut map) {
-        Ok(()) => {
-            map.keep()?;
-            Ok(target.keep()?)
-        }
-        Err(error) => {
-            map.discard();
-            target.discard();
-            Err(Stop::from(error))
         }
     }
 }

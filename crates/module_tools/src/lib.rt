@@ -1,13 +1,27 @@
-//! Tools that change whole modules, and what their programs share: words, files, and how they end.
+//! Tools that change whole modules, and what their programs share: words, files, errors, and how
+//! they end.
 #![tactic(auto)]
 
 mod counting;
 mod edits;
 mod ending;
+mod escaped;
 mod files;
+mod names;
+mod places;
+mod program;
+mod running;
 mod snipping;
+mod warnings;
+mod writing;
+mod wrong_use;
 
 pub use counting::{CALLS, CountCalls, count_calls};
-pub use ending::{Stop, exit_code, words};
-pub use files::{Target, read_file, write_module, write_module_with_map};
+pub use ending::{Attempt, Item, Refusal, Stop};
+pub use escaped::Escaped;
+pub use files::{Target, read_file};
+pub use names::{Found, FunctionNames, function_at};
+pub use program::{Program, Request, Task, read_words};
+pub use running::{Tool, VERSION, run};
 pub use snipping::{Snipping, snip};
+pub use wrong_use::WrongUse;

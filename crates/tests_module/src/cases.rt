@@ -5,7 +5,7 @@ use crate::whole_modules::{map_or_faults, notes_of, rewritten_text};
 use std::alloc::Global;
 use std::process::Abort;
 use std::test::Fail;
-use wasm_module::{ModuleError, ModuleFault, ParsedModule};
+use wasm_module::{ModuleError, ParsedModule};
 
 /// What is asked about a module.
 #[derive(Clone, Copy)]
@@ -43,11 +43,8 @@ pub(crate) fn without_spaces(alloc: Global, module: &str) -> Result<String, Fail
 
 /// A fault's name, and its place.
 pub(crate) fn fault_text(alloc: Global, error: ModuleError) -> Result<String, Fail> {
-    let text = match error.fault {
-        ModuleFault::Code(fault) => format!(in alloc; "{fault:?} at {}", error.at)?,
-        fault => format!(in alloc; "{fault:?} at {}", error.at)?,
-    };
-    Ok(text)
+    let name = error.fault.name();
+    Ok(format!(in alloc; "{name} at {}", error.at)?)
 }
 
 // What is found about a module that is read.

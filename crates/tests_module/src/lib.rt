@@ -11,3 +11,5 @@ mod every_operator;
 mod tools;
 #[cfg(test)]
 mod whole_modules;
+#[cfg(test)]
+mod words;

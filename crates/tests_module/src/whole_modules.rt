@@ -1,10 +1,9 @@
 //! Whole modules: their sections, and what follows their code.
 use crate::cases::{Asked, bytes_of, check, check_modules, fault_text, found};
-use std::alloc::{AllocError, Global};
+use std::alloc::Global;
+use std::io::Write;
 use std::test::Fail;
-use wasm_module::{
-    BodyWriter, Command, Note, ParsedModule, RewrittenModule, Sections, Task, WriteError,
-};
+use wasm_module::{BodyWriter, Note, ParsedModule, RewrittenModule, Scratch, Sections, WriteError};
 
 /// A section of each kind, in order, with custom sections between them, and bodies that are as they
 /// are written. The types are: from nothing to nothing; from an i32 to an i32; a group of two
@@ -263,7 +262,8 @@ fn refuses_truncated_modules(rt: HostRuntime) -> Result<(), Fail> {
 fn notes_text(alloc: Global, notes: &[Note<'_>]) -> Result<String, Fail> {
     let mut text = String::new(alloc);
     for note in notes {
-        write!(text, "{note}, ")?;
+        let Note { name, kind } = note;
+        write!(text, "{name} {kind:?}, ")?;
     }
     Ok(text)
 }
@@ -294,16 +294,32 @@ fn push_map(alloc: Global, parsed: &mut ParsedModule<'_>, out: &mut Vec<u8>) -> 
     push_map_with(alloc, parsed, &rewritten, out)
 }
 
+/// Appends which bodies are refused.
+fn push_faults(
+    alloc: Global,
+    parsed: &mut ParsedModule<'_>,
+    out: &mut Vec<u8>,
+) -> Result<(), Fail> {
+    let mut scratch = Scratch::new(alloc);
+    for body in parsed.bodies() {
+        if let Err(error) = parsed.parse(body, &mut scratch) {
+            writeln!(out, "function {}: {error}", body.func)?;
+        }
+    }
+    Ok(())
+}
+
 /// Appends which bodies are refused; and the location map where none is.
 fn push_map_or_faults(
     alloc: Global,
     parsed: &mut ParsedModule<'_>,
     out: &mut Vec<u8>,
 ) -> Result<(), Fail> {
-    match parsed.check_bodies(out)? {
-        0 => push_map(alloc, parsed, out),
-        _ => Ok(()),
+    push_faults(alloc, parsed, out)?;
+    if out.is_empty() {
+        push_map(alloc, parsed, out)?;
     }
+    Ok(())
 }
 
 /// Which bodies are refused; and the location map where none is.
@@ -313,18 +329,15 @@ pub(crate) fn map_or_faults(alloc: Global, parsed: &mut ParsedModule<'_>) -> Res
     Ok(String::from_utf8_lossy(alloc, &out)?)
 }
 
-/// Sections that speak of old offsets, or that can't be followed: names of locals that are cut off.
+/// Sections with old offsets, and those that can't be followed: names of locals that are cut off.
 #[test]
 fn notes_sections(rt: HostRuntime) -> Result<(), Fail> {
     let cases = [
+        (FOLLOWED, "sourceMappingURL SourceMap, "),
         (
-            FOLLOWED,
-            "section sourceMappingURL speaks of offsets in the source, ",
-        ),
-        (
-            "0061736d01000000 000c0b2e64656275675f6c696e65 0008046e616d65020101",
-            "section .debug_line speaks of offsets in the source, \
-            section name is carried over as it is, ",
+            "0061736d01000000 000c0b2e64656275675f6c696e65 000b0a2e64656275675f737472 \
+            0008046e616d65020101",
+            ".debug_line DebugInfo, name NotFollowed, ",
         ),
     ];
     check(&rt, rt.alloc(), Asked::Notes, &cases)
@@ -342,64 +355,10 @@ fn maps_and_checks(rt: HostRuntime) -> Result<(), Fail> {
         (
             "0061736d01000000 010401600000 020701016d01660000 030403000000 \
             0a0f0304000c010b02000b050020001a0b",
-            "function 1: NoSuchLabel at 0x22\nfunction 3: LocalOutOfRange at 0x2a\n",
+            "function 1: 0x22: a label is not open (NoSuchLabel)\n\
+            function 3: 0x2a: an index is out of bounds for the function's locals \
+            (LocalOutOfRange)\n",
         ),
     ];
     check(&rt, rt.alloc(), Asked::MapOrFaults, &cases)
-}
-
-/// What a command is, as text.
-fn command_text(alloc: Global, command: &Command) -> Result<String, Fail> {
-    let verbose = command.is_verbose;
-    match &command.task {
-        Task::Check { input } => Ok(format!(in alloc; "check {input} {verbose}")?),
-        Task::Rewrite { input, output, map } => {
-            Ok(format!(in alloc; "rewrite {input} {output} {map:?} {verbose}")?)
-        }
-    }
-}
-
-/// What words ask for, as text.
-fn asked_of(alloc: Global, words: &[String]) -> Result<String, Fail> {
-    match Command::of_words(alloc, words)? {
-        Some(command) => command_text(alloc, &command),
-        None => Ok(String::from_str(alloc, "wrong use")?),
-    }
-}
-
-fn list(alloc: Global, words: &str) -> Result<Vec<String>, AllocError> {
-    let mut list = Vec::new(alloc);
-    for word in words.split(' ') {
-        list.push(word.to_string(alloc)?)?;
-    }
-    Ok(list)
-}
-
-fn asked(alloc: Global, words: &str) -> Result<String, Fail> {
-    let list = list(alloc, words)?;
-    asked_of(alloc, &list)
-}
-
-// Words of the program, and what they ask for.
-const COMMANDS: [(&str, &str); 10] = [
-    ("a b", "rewrite a b None false"),
-    ("- - --verbose", "rewrite - - None true"),
-    ("a --map m b", "rewrite a b Some(\"m\") false"),
-    ("--check a", "check a false"),
-    ("--check --map m a", "wrong use"),
-    ("--check a b", "wrong use"),
-    ("a b --map", "wrong use"),
-    ("a", "wrong use"),
-    ("a b c", "wrong use"),
-    ("--all a b", "wrong use"),
-];
-
-/// The words of the program.
-#[test]
-fn takes_words(rt: HostRuntime) -> Result<(), Fail> {
-    for (words, want) in &COMMANDS {
-        let found = asked(rt.alloc(), words)?;
-        assert_eq!(rt; found.as_str(), *want, "of {words}");
-    }
-    Ok(())
 }

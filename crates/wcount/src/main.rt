@@ -1,24 +1,55 @@
 //! The program `wcount`: lets the functions of a module count their calls.
 #![tactic(auto)]
 
-use module_tools::{Stop, count_calls, exit_code, read_file, words, write_module};
+use module_tools::{CountCalls, Program, Tool, count_calls, run};
+use std::alloc::Global;
 use std::io;
+use std::io::IsTerminal;
 use std::process::ExitCode;
-use wasm_module::ParsedModule;
+use walrus_ir::{FunctionId, IdHashSet};
+use wasm_module::{Changing, ModuleError, ParsedModule, RewrittenModule};
 
-const USAGE: &str = "usage: wcount IN.wasm OUT.wasm";
+const PROGRAM: Program = Program {
+    name: "wcount",
+    help: "usage: wcount [OPTION].. IN.wasm OUT.wasm
 
-fn run(rt: &HostRuntime, words: &[String]) -> Result<(), Stop> {
-    let [input, output] = words else {
-        return Err(Stop::WrongUse(USAGE));
-    };
-    let bytes = read_file(rt, input.as_str())?;
-    let mut parsed = ParsedModule::read(rt.alloc(), &bytes)?;
-    let counting = count_calls(rt.alloc(), &mut parsed)?;
-    write_module(rt, &mut parsed, &counting, output.as_str())
+Lets each function of a WebAssembly module count its calls, all in one global of type
+i64, which is exported as `calls`; and rewrites the functions as `wrewrite` does. A
+path of `-` is standard input or output. OUT.wasm may be IN.wasm.
+
+      --map FILE       write a line for each operator to FILE: its old and its new
+                       offset from the start of the module, in hexadecimal
+      --strip-debug    leave out debug information and source maps
+  -v, --verbose        print how many functions and bytes were read, and the time
+  -h, --help           print this
+  -V, --version        print the version
+      --               what follows is no option
+
+Status: 0 written; 1 refused, or a file can't be read or written; 2 wrong use.
+
+example: wcount in.wasm counted.wasm",
+    takes_check: false,
+    takes_functions: false,
+};
+
+/// Lets each function count its calls.
+#[derive(Clone, Copy)]
+struct Count;
+
+impl Tool for Count {
+    type Bodies = Changing<CountCalls>;
+
+    fn rewrite<'a>(
+        &self,
+        alloc: Global,
+        parsed: &mut ParsedModule<'a>,
+        _functions: IdHashSet<FunctionId>,
+    ) -> Result<RewrittenModule<'a, Changing<CountCalls>>, ModuleError> {
+        count_calls(alloc, parsed)
+    }
 }
 
 fn main(rt: HostRuntime) -> io::Result<ExitCode> {
-    let words = words(&rt)?;
-    exit_code(&rt, run(&rt, &words))
+    let is_terminal = rt.stdout().is_terminal();
+    run(&rt, &Count, &PROGRAM, is_terminal)
 }

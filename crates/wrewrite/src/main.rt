@@ -1,14 +1,60 @@
 //! The program `wrewrite`: rewrites the bodies of a module's functions.
 #![tactic(auto)]
 
-mod run;
-
-use module_tools::words;
-use run::run;
+use module_tools::{Program, Tool, run};
+use std::alloc::Global;
 use std::io;
+use std::io::IsTerminal;
 use std::process::ExitCode;
+use walrus_ir::{FunctionId, IdHashSet};
+use wasm_module::{ModuleError, ParsedModule, Rewriting, RewrittenModule};
+
+const PROGRAM: Program = Program {
+    name: "wrewrite",
+    help: "usage: wrewrite [OPTION].. IN.wasm OUT.wasm
+       wrewrite [OPTION].. --check IN.wasm
+
+Rewrites each function of a WebAssembly module: in the shortest spellings, without
+`nop`, without what can't be reached after a branch, and without unused locals.
+Names of locals and of labels, and branch hints, follow the code. A path of `-` is
+standard input or output. OUT.wasm may be IN.wasm.
+
+      --check          write nothing, and print a line for each function that is
+                       refused; types are not validated
+      --map FILE       write a line for each operator to FILE: its old and its new
+                       offset from the start of the module, in hexadecimal
+      --strip-debug    leave out debug information and source maps
+  -v, --verbose        print how many functions and bytes were read, and the time
+  -h, --help           print this
+  -V, --version        print the version
+      --               what follows is no option
+
+Status: 0 written, or nothing is refused; 1 refused, or a file can't be read or
+written; 2 wrong use.
+
+example: wrewrite --map out.map in.wasm out.wasm",
+    takes_check: true,
+    takes_functions: false,
+};
+
+/// Rewrites each body as it is.
+#[derive(Clone, Copy)]
+struct RewriteAll;
+
+impl Tool for RewriteAll {
+    type Bodies = Rewriting;
+
+    fn rewrite<'a>(
+        &self,
+        _alloc: Global,
+        parsed: &mut ParsedModule<'a>,
+        _functions: IdHashSet<FunctionId>,
+    ) -> Result<RewrittenModule<'a, Rewriting>, ModuleError> {
+        parsed.rewrite_all()
+    }
+}
 
 fn main(rt: HostRuntime) -> io::Result<ExitCode> {
-    let words = words(&rt)?;
-    run(&rt, &words)
+    let is_terminal = rt.stdout().is_terminal();
+    run(&rt, &RewriteAll, &PROGRAM, is_terminal)
 }

@@ -1,63 +1,56 @@
 //! The program `wsnip`: takes away the bodies of functions of a module.
 #![tactic(auto)]
 
-use module_tools::{Stop, exit_code, read_file, snip, words, write_module};
+use module_tools::{Program, Snipping, Tool, run, snip};
+use std::alloc::Global;
 use std::io;
+use std::io::IsTerminal;
 use std::process::ExitCode;
 use walrus_ir::{FunctionId, IdHashSet};
-use wasm_module::ParsedModule;
+use wasm_module::{Changing, ModuleError, ParsedModule, RewrittenModule};
 
-const WRONG_USE: Stop = Stop::WrongUse("usage: wsnip IN.wasm OUT.wasm INDEX...");
+const PROGRAM: Program = Program {
+    name: "wsnip",
+    help: "usage: wsnip [OPTION].. IN.wasm OUT.wasm FUNCTION..
 
-/// The numbers that the words spell.
-fn indices(rt: &HostRuntime, words: &[String]) -> Result<Vec<usize>, Stop> {
-    let mut indices = Vec::new(rt.alloc());
-    for word in words {
-        match word.as_str().parse::<usize>() {
-            Ok(index) => match indices.push(index) {
-                Ok(()) => {}
-                Err(error) => return Err(Stop::Io(io::Error::from(error))),
-            },
-            Err(_) => return Err(WRONG_USE),
-        }
+Leaves nothing but `unreachable` of functions of a WebAssembly module, and rewrites
+all others as `wrewrite` does. FUNCTION is an index, which counts imported functions
+too, or a name: of the `name` section, or else of an export. A path of `-` is standard
+input or output. OUT.wasm may be IN.wasm.
+
+      --map FILE       write a line for each operator to FILE: its old and its new
+                       offset from the start of the module, in hexadecimal
+      --strip-debug    leave out debug information and source maps
+  -v, --verbose        print how many functions and bytes were read, and the time
+  -h, --help           print this
+  -V, --version        print the version
+      --               what follows is no option
+
+Status: 0 written; 1 refused, or a file can't be read or written; 2 wrong use.
+
+example: wsnip in.wasm out.wasm 12 unused_function",
+    takes_check: false,
+    takes_functions: true,
+};
+
+/// Takes away the bodies of functions.
+#[derive(Clone, Copy)]
+struct Snip;
+
+impl Tool for Snip {
+    type Bodies = Changing<Snipping>;
+
+    fn rewrite<'a>(
+        &self,
+        alloc: Global,
+        parsed: &mut ParsedModule<'a>,
+        functions: IdHashSet<FunctionId>,
+    ) -> Result<RewrittenModule<'a, Changing<Snipping>>, ModuleError> {
+        snip(alloc, parsed, functions)
     }
-    Ok(indices)
-}
-
-/// The functions with these indices, each of which has a body.
-fn functions(
-    rt: &HostRuntime,
-    parsed: &ParsedModule<'_>,
-    indices: &[usize],
-) -> Result<IdHashSet<FunctionId>, Stop> {
-    let mut functions = IdHashSet::new(rt.alloc());
-    for index in indices {
-        if !parsed.has_body(*index) {
-            return Err(Stop::NoBody(*index));
-        }
-        if functions.insert(FunctionId::new(*index)).is_err() {
-            return Err(Stop::Io(io::Error::from(io::ErrorKind::OutOfMemory)));
-        }
-    }
-    Ok(functions)
-}
-
-fn run(rt: &HostRuntime, words: &[String]) -> Result<(), Stop> {
-    let [input, output, numbers @ ..] = words else {
-        return Err(WRONG_USE);
-    };
-    if numbers.is_empty() {
-        return Err(WRONG_USE);
-    }
-    let indices = indices(rt, numbers)?;
-    let bytes = read_file(rt, input.as_str())?;
-    let mut parsed = ParsedModule::read(rt.alloc(), &bytes)?;
-    let functions = functions(rt, &parsed, &indices)?;
-    let snipped = snip(rt.alloc(), &mut parsed, functions)?;
-    write_module(rt, &mut parsed, &snipped, output.as_str())
 }
 
 fn main(rt: HostRuntime) -> io::Result<ExitCode> {
-    let words = words(&rt)?;
-    exit_code(&rt, run(&rt, &words))
+    let is_terminal = rt.stdout().is_terminal();
+    run(&rt, &Snip, &PROGRAM, is_terminal)
 }
