@@ -1,6 +1,6 @@
 //! Where paths lead: two of them may be one file.
 
-use crate::ending::Stop;
+use crate::ending::{Attempt, Stop};
 use crate::program::Task;
 use crate::wrong_use::WrongUse;
 use std::alloc::{AllocError, Global};
@@ -129,12 +129,24 @@ fn is_input<R: Files + AllocGlobal>(rt: &R, output: &str, input: &str) -> Result
     }
 }
 
-/// Looks at the files of a task before any is opened: the location map has a file of its own. The
-/// module may be written onto the one that is read.
+/// Looks whether standard output is open where a path is `-`: else the next file that is opened gets
+/// its number, and what is written to both.
+fn check_stdout<'w, R: Files + AllocGlobal>(rt: &R, path: &'w str) -> Result<(), Stop<'w>> {
+    if path != "-" {
+        return Ok(());
+    }
+    match fs::metadata(rt, "/dev/stdout") {
+        Ok(_) => Ok(()),
+        Err(error) => Err(Stop::file(path, Attempt::Write, error)),
+    }
+}
+
+/// Looks at the files of a task before any is opened: the location map has a file of its own, and a
+/// path of `-` an open standard output. The module may be written onto the one that is read.
 ///
 /// # Errors
 ///
-/// Wrong use, with the two words; or that memory ran out.
+/// Wrong use, with the two words; standard output that is closed; or that memory ran out.
 pub(crate) fn check_files<'w, R: Files + AllocGlobal>(
     rt: &R,
     task: &Task<'w>,
@@ -150,5 +162,9 @@ pub(crate) fn check_files<'w, R: Files + AllocGlobal>(
     if is_input(rt, map, task.input)? {
         return Err(Stop::WrongUse(WrongUse::SameFile(map, task.input)));
     }
-    Ok(())
+    check_stdout(rt, map)?;
+    match task.output {
+        Some(output) => check_stdout(rt, output),
+        None => Ok(()),
+    }
 }
