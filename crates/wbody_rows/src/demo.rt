@@ -1,4 +1,4 @@
-//! The module over which `wbody` runs, its index maps, and what is read over them.
+//! The demo module: the index maps that `wbody` uses with it, and the bodies that are read in it.
 ghost use Rattle.std.specs.Prelude.{◌≡◌, ◌≤◌, ◌<◌, ◌+◌, ◌^◌, length};
 
 use crate::fault::Fault;
@@ -7,7 +7,7 @@ use walrus_body::{AcceptAll, FunctionBody, IdsToIndices, IndexError, IndicesToId
 use walrus_ir::{FunctionId, InstrLocId, LocalId, Module, TypeId};
 use walrus_run::{NamedBody, demo};
 
-/// How many locals the module has, which are those of function 0.
+/// How many locals the module has. All of them are locals of function 0.
 pub(crate) const LOCALS: usize = 4;
 
 /// The function whose bodies are read.
@@ -25,7 +25,8 @@ pub(crate) fn arguments(alloc: Global) -> Result<Vec<LocalId>, AllocError> {
     Ok(vec![in alloc; LocalId::new(0)]?)
 }
 
-/// The module, whose code begins at the place 0, the ids of its old indices, and its new indices.
+/// The module, whose code begins at the place 0, with the ids of its old indices and its new
+/// indices.
 #[derive(Drop)]
 pub(crate) struct Demo {
     pub module: Module,
@@ -34,7 +35,7 @@ pub(crate) struct Demo {
     ghost begins_at_zero: { «module».code_section_offset ≡ 0 },
 }
 
-/// The ids of the old indices, where these are function 0's locals, in order.
+/// The ids of the old indices, with these as function 0's locals, in order.
 pub(crate) fn indices(alloc: Global, locals: &[LocalId]) -> Result<IndicesToIds, IndexError> {
     let mut indices = demo::indices_of_items(alloc)?;
     for local in locals {
@@ -43,7 +44,7 @@ pub(crate) fn indices(alloc: Global, locals: &[LocalId]) -> Result<IndicesToIds,
     Ok(indices)
 }
 
-/// A body of the function: its bytes, where its operators begin, and what its indices stand for.
+/// A body of the function: its bytes, where its operators begin, and the ids of its indices.
 #[derive(Clone, Copy)]
 pub(crate) struct Body<'a> {
     pub indices: &'a IndicesToIds,
@@ -52,7 +53,7 @@ pub(crate) struct Body<'a> {
 }
 
 impl<'a> Body<'a> {
-    /// The bytes, which begin at the place 0.
+    /// The bytes, starting at the place 0.
     pub(crate) fn at_zero(&self) -> FunctionBody<'a>
         ensures start { result.start ≡ 0 }
         ensures ops { result.ops ≤ length result.bytes.now }
@@ -88,7 +89,7 @@ impl Demo {
         }
     }
 
-    /// The body whose operators are these bytes, without declarations, under the old indices.
+    /// The body with these bytes as its operators, no declarations, and the old indices.
     pub(crate) fn source<'a>(&'a self, bytes: &'a [u8]) -> Body<'a> {
         Body {
             indices: &self.indices,
@@ -117,7 +118,7 @@ impl Demo {
         }
     }
 
-    /// A body's operators as the module names them.
+    /// A body's operators, with the names that the module gives them.
     pub(crate) fn named(&self, alloc: Global, body: Body<'_>) -> Result<NamedBody, Fault> {
         let named = NamedBody::read(
             alloc,

@@ -1,4 +1,4 @@
-//! What is found wrong with a body.
+//! What can be wrong with a body.
 
 use std::alloc::AllocError;
 use thiserror::Error;
@@ -6,7 +6,7 @@ use walrus_body::{EmitError, ParseError, ParseFailure};
 use walrus_ir::WalkError;
 use walrus_run::RewriteError;
 
-/// What is wrong with a body or with what is written of it, or that memory ran out.
+/// What is wrong with a body or with the bytes written for it, or that memory ran out.
 #[derive(Clone, Copy, Debug, PartialEq, Eq, Error)]
 pub(crate) enum Fault {
     #[error("out of memory")]
@@ -34,7 +34,7 @@ pub(crate) enum Fault {
 }
 
 impl Fault {
-    /// This one, unless it is memory that ran out.
+    /// This fault, unless memory ran out.
     pub(crate) fn unless(self, no_memory: bool) -> Fault {
         if no_memory { Fault::Memory } else { self }
     }

@@ -1,4 +1,4 @@
-//! Bodies that are cut short.
+//! Truncated bodies.
 
 use crate::demo::Demo;
 use crate::fault::Fault;
@@ -13,7 +13,7 @@ fn is_refused(alloc: Global, demo: &Demo, front: &[u8]) -> Result<(), Fault> {
     }
 }
 
-/// Checks that no proper front of a body's operators is accepted.
+/// Checks that no proper prefix of a body's operators is accepted.
 pub(crate) fn are_refused(alloc: Global, demo: &Demo, bytes: &[u8]) -> Result<(), Fault> {
     for length in 0..bytes.len() {
         is_refused(alloc, demo, &bytes[..length])?;

@@ -1,6 +1,6 @@
-//! The program `wbody_rows`: runs the cases that it reads from standard input through the program
-//! `wbody`, over memory. Of each body that is accepted it reads back what is written, and runs both;
-//! and it parses each front of the body's operators, which isn't accepted.
+//! The program `wbody_rows`: reads cases from standard input and runs each through the program
+//! `wbody`, in memory. If a case's body is accepted, it reads back the bytes written for it, runs
+//! both bodies, and checks that each proper prefix of the body's operators is refused.
 #![tactic(auto)]
 
 mod demo;
@@ -19,7 +19,7 @@ use std::io;
 use std::io::{BufRead, BufReader};
 use walrus_run::{NamedBody, run_words};
 
-/// What a run gives: its status, and what it prints to standard output and to standard error.
+/// The result of a run: its status, and what it prints to standard output and to standard error.
 #[derive(Drop)]
 struct Answer {
     status: u8,
@@ -27,8 +27,8 @@ struct Answer {
     err: Vec<u8>,
 }
 
-/// A case: words with one space between them, the status that is wanted, and what is to be printed
-/// to standard output and to standard error. Either is nothing, or lines with `;` between them.
+/// A case: words with one space between them, the expected status, and the expected standard output
+/// and standard error. Each of these is empty, or lines with `;` between them.
 #[derive(Clone, Copy)]
 struct Row<'a> {
     words: &'a str,
@@ -37,7 +37,7 @@ struct Row<'a> {
     err: &'a str,
 }
 
-/// Whether a field of a row spells this text, which ends each of its lines.
+/// Whether a field of a row spells this text, each of whose lines has a line end.
 fn is_spelt(alloc: Global, field: &str, text: &[u8]) -> Result<bool, AllocError> {
     let mut spelt: Vec<u8> = Vec::new(alloc);
     for line in field.split_terminator(';') {
@@ -48,7 +48,7 @@ fn is_spelt(alloc: Global, field: &str, text: &[u8]) -> Result<bool, AllocError>
 }
 
 impl<'a> Row<'a> {
-    /// The case that a line spells, four fields with a tab between them.
+    /// The case that a line spells: four fields with a tab between them.
     fn of_line(line: &'a str) -> Row<'a> {
         let mut fields = line.split('\t');
         Row {
@@ -59,7 +59,7 @@ impl<'a> Row<'a> {
         }
     }
 
-    /// Whether this answer is wanted.
+    /// Whether this result is the expected one.
     fn wants(&self, alloc: Global, answer: &Answer) -> Result<bool, AllocError> {
         let status = format!(in alloc; "{}", answer.status)?;
         Ok(
@@ -70,7 +70,7 @@ impl<'a> Row<'a> {
     }
 }
 
-/// How many cases and bodies there were, and how many of each are not as they should be.
+/// How many cases and bodies there were, and how many of each failed.
 #[derive(Clone, Copy)]
 struct Counts {
     rows: u64,
@@ -79,7 +79,7 @@ struct Counts {
     bodies_differ: u64,
 }
 
-/// Words that have one space between them.
+/// The list of words that have one space between them.
 fn list(alloc: Global, words: &str) -> Result<Vec<String>, AllocError> {
     let mut list = Vec::new(alloc);
     for word in words.split(' ') {
@@ -88,7 +88,7 @@ fn list(alloc: Global, words: &str) -> Result<Vec<String>, AllocError> {
     Ok(list)
 }
 
-/// What the program answers to these words, which have one space between them.
+/// The result of the program for these words, which have one space between them.
 fn answer_to(alloc: Global, words: &str) -> Result<Answer, AllocError> {
     let words = list(alloc, words)?;
     let mut out: Vec<u8> = Vec::new(alloc);
@@ -97,7 +97,7 @@ fn answer_to(alloc: Global, words: &str) -> Result<Answer, AllocError> {
     Ok(Answer { status, out, err })
 }
 
-/// Runs a body and what is written of it.
+/// Runs a body and the bytes written for it.
 fn compare_with(
     alloc: Global,
     demo: &Demo,
@@ -110,7 +110,7 @@ fn compare_with(
     }
 }
 
-/// Runs a body and what is written of it, which is read.
+/// Reads the bytes written for a body, and runs both bodies.
 fn compare_written(
     alloc: Global,
     demo: &Demo,
@@ -123,7 +123,7 @@ fn compare_written(
     }
 }
 
-/// Reads back what is written of a body, and runs both.
+/// Reads back the bytes written for a body, and runs both bodies.
 fn check_source(alloc: Global, demo: &Demo, source: Body<'_>) -> Result<(), Fault> {
     match read_back(alloc, demo, source) {
         Ok(written) => compare_written(alloc, demo, source, written.body()),
@@ -131,15 +131,15 @@ fn check_source(alloc: Global, demo: &Demo, source: Body<'_>) -> Result<(), Faul
     }
 }
 
-/// Reads back what is written of the body that the last of these words spells, and runs both; and
-/// checks that no front of its operators is accepted.
+/// Reads back the bytes written for the body that the last of these words spells, and runs both
+/// bodies; then checks that no proper prefix of its operators is accepted.
 fn check_body(alloc: Global, demo: &Demo, words: &str) -> Result<(), Fault> {
     let bytes = hex::decode(alloc, words.rsplit(' ').next().unwrap_or(""))?;
     check_source(alloc, demo, demo.source(&bytes))?;
     are_refused(alloc, demo, &bytes)
 }
 
-/// What is wrong with the body of these words, if anything is.
+/// What is wrong with the body of these words, if anything.
 fn body_fault(alloc: Global, demo: &Demo, words: &str) -> Result<Option<Fault>, AllocError> {
     match check_body(alloc, demo, words) {
         Ok(()) => Ok(None),
@@ -148,7 +148,7 @@ fn body_fault(alloc: Global, demo: &Demo, words: &str) -> Result<Option<Fault>, 
     }
 }
 
-/// Prints what was found for these words.
+/// Prints the result for these words.
 fn print(rt: &HostRuntime, words: &str, answer: &Answer) -> io::Result<()> {
     let out = String::from_utf8_lossy(rt.alloc(), &answer.out)?;
     let err = String::from_utf8_lossy(rt.alloc(), &answer.err)?;
@@ -156,7 +156,7 @@ fn print(rt: &HostRuntime, words: &str, answer: &Answer) -> io::Result<()> {
 }
 
 impl Counts {
-    /// Counts a case, and prints what was found where that is not as it should be.
+    /// Counts a case, and prints the result if it isn't the expected one.
     fn compare(&mut self, rt: &HostRuntime, row: Row<'_>, answer: &Answer) -> io::Result<()> {
         self.rows = self.rows.saturating_add(1);
         if !row.wants(rt.alloc(), answer)? {
@@ -166,15 +166,14 @@ impl Counts {
         Ok(())
     }
 
-    /// Counts a case. Returns the status that was found.
+    /// Counts a case. Returns the status of the run.
     fn take_row(&mut self, rt: &HostRuntime, row: Row<'_>) -> io::Result<u8> {
         let answer = answer_to(rt.alloc(), row.words)?;
         self.compare(rt, row, &answer)?;
         Ok(answer.status)
     }
 
-    /// Counts a body that is accepted, and prints its words and what is wrong with it, if anything
-    /// is.
+    /// Counts an accepted body, and prints its words and what is wrong with it, if anything.
     fn take_body(&mut self, rt: &HostRuntime, demo: &Demo, words: &str) -> io::Result<()> {
         self.bodies = self.bodies.saturating_add(1);
         if let Some(fault) = body_fault(rt.alloc(), demo, words)? {
@@ -184,7 +183,7 @@ impl Counts {
         Ok(())
     }
 
-    /// Counts the case that a line spells, and its body where that is accepted.
+    /// Counts the case that a line spells, and its body if it is accepted.
     fn take_line(&mut self, rt: &HostRuntime, demo: &Demo, line: &str) -> io::Result<()> {
         let row = Row::of_line(line);
         if self.take_row(rt, row)? == 0 {

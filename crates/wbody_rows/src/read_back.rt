@@ -1,4 +1,4 @@
-//! What is written of a body, read back and written again.
+//! The bytes written for a body, read back and written again.
 
 use crate::demo::{Body, Demo, LOCALS, arguments, function, function_type, indices};
 use crate::fault::Fault;
@@ -8,18 +8,18 @@ use walrus_ir::{IdHashMap, InstrLocId, LocalId};
 use walrus_run::rewrite_body;
 use wasm_encode::FunctionEncoder;
 
-/// What is written of a body: the declarations of its locals, and then its operators.
+/// The bytes written for a body: the declarations of its locals, and then its operators.
 #[derive(Drop)]
 pub(crate) struct Written {
     bytes: Vec<u8>,
     /// Where the operators begin.
     operators: usize,
-    /// What the numbers stand for that are written.
+    /// The ids of the numbers that are written.
     undoing: IndicesToIds,
 }
 
 impl Written {
-    /// The body that it is under the numbers that are written.
+    /// The written bytes as a body under the written numbers.
     pub(crate) fn body(&self) -> Body<'_> {
         Body {
             indices: &self.undoing,
@@ -29,7 +29,7 @@ impl Written {
     }
 }
 
-/// The locals that have numbers, by their numbers from 0 on.
+/// The locals that have numbers, in the order of their numbers, from 0 on.
 fn by_number(alloc: Global, numbers: &IdHashMap<LocalId, u32>) -> Result<Vec<LocalId>, AllocError> {
     let mut locals = Vec::new(alloc);
     for number in 0..LOCALS as u32 {
@@ -43,7 +43,7 @@ fn by_number(alloc: Global, numbers: &IdHashMap<LocalId, u32>) -> Result<Vec<Loc
     Ok(locals)
 }
 
-/// What is written of a function.
+/// The bytes written for a function.
 fn write(alloc: Global, demo: &Demo, function: &LocalFunction) -> Result<Written, Fault> {
     if !function.has_entry() {
         return Err(Fault::Unwritten);
@@ -75,7 +75,7 @@ fn write(alloc: Global, demo: &Demo, function: &LocalFunction) -> Result<Written
     }
 }
 
-/// What `rewrite_body` appends of a body.
+/// The bytes that `rewrite_body` appends for a body.
 fn append(alloc: Global, demo: &Demo, body: Body<'_>) -> Result<Vec<u8>, Fault> {
     let mut instrs = Vec::new(alloc);
     let mut bytes = Vec::new(alloc);
@@ -100,7 +100,7 @@ fn append(alloc: Global, demo: &Demo, body: Body<'_>) -> Result<Vec<u8>, Fault> 
     }
 }
 
-/// What is written of a body.
+/// The bytes written for a body.
 fn written_of(alloc: Global, demo: &Demo, source: Body<'_>) -> Result<Written, Fault> {
     match demo.parse(alloc, source) {
         Ok(function) => write(alloc, demo, &function),
@@ -113,7 +113,7 @@ fn compare(found: &[u8], written: &[u8], fault: Fault) -> Result<(), Fault> {
     if found == written { Ok(()) } else { Err(fault) }
 }
 
-/// Checks that these bytes are written of a function.
+/// Checks that these are the bytes written for a function.
 fn is_written(
     alloc: Global,
     demo: &Demo,
@@ -126,7 +126,7 @@ fn is_written(
     }
 }
 
-/// Checks that what is written is read back, and written again.
+/// Checks that the written bytes are read back, and that the same bytes are written for them.
 fn is_written_again(alloc: Global, demo: &Demo, written: &Written) -> Result<(), Fault> {
     match demo.parse(alloc, written.body()) {
         Ok(function) => is_written(alloc, demo, &function, &written.bytes),
@@ -134,7 +134,7 @@ fn is_written_again(alloc: Global, demo: &Demo, written: &Written) -> Result<(),
     }
 }
 
-/// Checks that `rewrite_body` appends these bytes of a body.
+/// Checks that `rewrite_body` appends these bytes for a body.
 fn is_appended(alloc: Global, demo: &Demo, source: Body<'_>, written: &[u8]) -> Result<(), Fault> {
     match append(alloc, demo, source) {
         Ok(found) => compare(&found, written, Fault::AppendsOthers),
@@ -142,14 +142,15 @@ fn is_appended(alloc: Global, demo: &Demo, source: Body<'_>, written: &[u8]) -> 
     }
 }
 
-/// Checks that what is written of a body is written again, and appended.
+/// Checks that the bytes written for a body are written again when they are read back, and that
+/// `rewrite_body` appends them.
 fn holds(alloc: Global, demo: &Demo, source: Body<'_>, written: &Written) -> Result<(), Fault> {
     is_written_again(alloc, demo, written)?;
     is_appended(alloc, demo, source, &written.bytes)
 }
 
-/// What is written of a body, where the same is written again of what is read back, and where
-/// `rewrite_body` appends the same.
+/// The bytes written for a body, after checking that they are written again when they are read back
+/// and that `rewrite_body` appends them.
 pub(crate) fn read_back(alloc: Global, demo: &Demo, source: Body<'_>) -> Result<Written, Fault> {
     let written = written_of(alloc, demo, source)?;
     match holds(alloc, demo, source, &written) {

@@ -1,4 +1,4 @@
-//! Runs of a body and of what is written of it.
+//! Runs of a body and of the bytes written for it.
 
 use crate::fault::Fault;
 use std::alloc::{AllocError, Global};
@@ -9,16 +9,16 @@ use walrus_run::{Ending, Event, NamedBody, Outcome, Run, execute};
 /// How many outcomes there are to choose from.
 const CHOICES: usize = 8;
 
-/// How many outcomes a run is given at most.
+/// The greatest number of outcomes that a run is given.
 const STEPS: usize = 10;
 
-/// How many lists of outcomes there are for each number of turns.
+/// How many lists of outcomes are tried for each number of turns.
 const SEEDS: usize = 3;
 
 /// The numbers of turns.
 const TURNS: [u64; 2] = [0, 2];
 
-/// So many of the module's tags, from the first on.
+/// The first `count` tags of the module.
 fn tags(alloc: Global, count: usize) -> Result<BTreeSet<TagId>, AllocError> {
     let mut tags = BTreeSet::new(alloc);
     for tag in 0..count {
@@ -27,7 +27,7 @@ fn tags(alloc: Global, count: usize) -> Result<BTreeSet<TagId>, AllocError> {
     Ok(tags)
 }
 
-/// An outcome to be tried, by its number.
+/// The outcome with this number.
 fn outcome(alloc: Global, number: usize) -> Result<Outcome, AllocError> {
     let outcome = match number % CHOICES {
         0 => Outcome::Way(true),
@@ -42,8 +42,8 @@ fn outcome(alloc: Global, number: usize) -> Result<Outcome, AllocError> {
     Ok(outcome)
 }
 
-/// Adds the first outcome, from the one with this number on, that the next operator asks for.
-/// Answers whether the run then asks for another one.
+/// Adds the first outcome, starting at the one with this number, that the next operator can have.
+/// Returns whether the run then needs another one.
 fn add_outcome(
     alloc: Global,
     source: &NamedBody,
@@ -63,7 +63,7 @@ fn add_outcome(
     Ok(false)
 }
 
-/// Outcomes that a body asks for in so many turns. Another seed mostly gives other ones.
+/// Outcomes that a body takes in this many turns. Another seed mostly gives others.
 fn outcomes(
     alloc: Global,
     source: &NamedBody,
@@ -83,7 +83,7 @@ fn outcomes(
     Ok(outcomes)
 }
 
-/// Whether both bodies have an operator at these positions, and the same one.
+/// Whether both bodies have an operator at these positions, and it is the same one.
 fn is_same_operator(source: &NamedBody, i: usize, text: &NamedBody, j: usize) -> bool {
     match (source.ops().get(i), text.ops().get(j)) {
         (Some(operator), Some(other)) => operator == other,
@@ -91,7 +91,7 @@ fn is_same_operator(source: &NamedBody, i: usize, text: &NamedBody, j: usize) ->
     }
 }
 
-/// Whether an event of a body shows the same as one of another body.
+/// Whether an event of one body and an event of another show the same.
 fn is_same_event(source: &NamedBody, event: &Event, text: &NamedBody, other: &Event) -> bool {
     match (event, other) {
         (Event::Op(i), Event::Op(j)) => is_same_operator(source, *i, text, *j),
@@ -120,7 +120,7 @@ fn is_same_ending(ending: &Ending, other: &Ending) -> bool {
     }
 }
 
-/// Compares a run of a body with one of another body.
+/// Compares a run of one body with a run of another.
 fn compare(source: &NamedBody, run: &Run, text: &NamedBody, other: &Run) -> Result<(), Fault> {
     if run.events.len() != other.events.len() {
         return Err(Fault::OtherEvents);
@@ -136,8 +136,8 @@ fn compare(source: &NamedBody, run: &Run, text: &NamedBody, other: &Run) -> Resu
     Ok(())
 }
 
-/// Runs a body and what is written of it for several lists of outcomes and numbers of turns: they
-/// execute the same operators and end alike.
+/// Runs a body and the bytes written for it, for several lists of outcomes and numbers of turns,
+/// and checks that they execute the same operators and end alike.
 pub(crate) fn compare_runs(
     alloc: Global,
     source: &NamedBody,
@@ -148,7 +148,7 @@ pub(crate) fn compare_runs(
             let outcomes = outcomes(alloc, source, turns, seed)?;
             let run = execute(source, &outcomes, turns)?;
             compare(source, &run, text, &execute(text, &outcomes, turns)?)?;
-            // A body that asks for no outcome gets the same list by every seed.
+            // A body that takes no outcome gets the same list from every seed.
             if outcomes.is_empty() {
                 break;
             }
