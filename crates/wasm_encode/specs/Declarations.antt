@@ -4,10 +4,10 @@ use Rattle.std.specs.List.{flat_map}
 use Rattle.walrus_ir.specs.declared.val_type.ValType.{ValType}
 use Rattle.wasm_operators.specs.Shortest.{short_number, short_value}
 
--- so many locals of a type
+-- a number of locals of one type
 abbrev pub short_declaration : ℕ × ValType ℕ → List ℕ
 short_declaration local = short_number local.0 ++ short_value local.1
 
--- how many pairs of a count and a type there are, and each pair
+-- the number of pairs of a count and a type, and then each pair
 abbrev pub declarations : List (ℕ × ValType ℕ) → List ℕ
 declarations locals = short_number (length locals) ++ flat_map short_declaration locals

@@ -1,9 +1,9 @@
--- Which operators may be written.
+-- Which operators can be written.
 use Rattle.std.specs.Prelude.{◌<◌}
 use Rattle.std.specs.List.{AllByRecursion}
 use Rattle.wasm_operators.specs.Operations.{RawImmediate, access, RawOperation}
 
--- The flags of an access to memory hold an exponent below 32.
+-- The exponent of the alignment in a memory argument is below 32.
 abbrev pub FitsFlags : RawImmediate → Type 0
 FitsFlags (access a) = a.alignment < 32
 FitsFlags _ = Unit {0}

@@ -23,7 +23,7 @@ fn write_pair(out: &mut Vec<u8>, first: u32, second: u32) -> Result<(), AllocErr
     write_number(out, second as u64)
 }
 
-/// Appends a memory argument: memory 0 has the short form of the flags.
+/// Appends a memory argument. Memory 0 has the short form of the flags.
 #[tactic(auto, using(crate::proofs::Appending::appending), unfolding(wasm_operators::specs::Shortest::short_access))]
 fn write_memarg(out: &mut Vec<u8>, memarg: RawMemArg) -> Result<(), AllocError>
     ensures ok { OnOk result (out.new.items ≡ out.old.items ++ short_access (access_of memarg)) }
@@ -38,7 +38,7 @@ fn write_memarg(out: &mut Vec<u8>, memarg: RawMemArg) -> Result<(), AllocError>
     write_number(out, memarg.offset)
 }
 
-/// Appends the type of a `select`, behind its count.
+/// Appends the type of a `select`, after the number of types, which is 1.
 #[tactic(auto, using(crate::proofs::Appending::appending))]
 fn write_selected(out: &mut Vec<u8>, ty: RawValType) -> Result<(), AllocError>
     ensures ok { OnOk result (out.new.items ≡ out.old.items ++ 1 ∷ short_value ty) }

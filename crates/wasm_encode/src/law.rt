@@ -1,4 +1,4 @@
-//! The law of what is written, the contract of a function that does nothing.
+//! The law on written operators: the contract of a function that does nothing.
 
 ghost use Rattle.std.specs.Prelude.{◌≡◌};
 ghost use Rattle.std.specs.List.{AllByRecursion};
@@ -56,7 +56,7 @@ fn law_lanes(lanes: &[u8])
     }
 }
 
-/// The index that a heap type may name fits its spelling.
+/// If a heap type is an index, it fits its spelling.
 fn law_heap_type(heap_type: RawHeapType)
     ensures { FitsHeap heap_type }
 {
@@ -66,7 +66,7 @@ fn law_heap_type(heap_type: RawHeapType)
     }
 }
 
-/// The numbers behind the opcode of a branch on a cast fit their spellings.
+/// The numbers after the opcode of a branch on a cast fit their spellings.
 fn law_cast(cast: RawCast)
     ensures label { FitsLabel cast.label }
     ensures source { FitsHeap cast.source }
@@ -82,7 +82,7 @@ fn law_cast(cast: RawCast)
     law_heap_type(target);
 }
 
-/// The index that a value type may name fits its spelling.
+/// If a value type contains an index, it fits its spelling.
 fn law_value_type(ty: RawValType)
     ensures { FitsValue ty }
 {
@@ -91,7 +91,7 @@ fn law_value_type(ty: RawValType)
     }
 }
 
-/// The index that a block type may name fits its spelling.
+/// If a block type is an index or contains one, it fits its spelling.
 fn law_block_type(ty: BlockType)
     ensures { FitsBlock ty }
 {
@@ -102,7 +102,7 @@ fn law_block_type(ty: BlockType)
     }
 }
 
-/// The numbers of what follows an opcode fit their spellings.
+/// The numbers that follow an opcode fit their spellings.
 fn law_fit(immediates: OutImmediates<'_>)
     requires { AreSpeakable (immediates_of immediates) }
     ensures { AllFit (immediates_of immediates.entry) }
@@ -173,8 +173,9 @@ fn law_numbers(op: &OutOp<'_>)
     law_fit(behind_opcode(op));
 }
 
-/// Of an operator whose lists have fewer than 2^32 items, and whose alignment can be spelt, the
-/// shortest spelling is a spelling: what is written reads back.
+/// If the lists of an operator have fewer than 2^32 items and the exponent of its alignment is
+/// below 32, its shortest spelling is one of its spellings. So reading the written bytes gives the
+/// operator back.
 pub fn law_written(op: &OutOp<'_>)
     requires { AreSpeakable (meaning op.now).immediates }
     ensures { Spells (meaning op.now) (short (meaning op.now)) }

@@ -1,4 +1,4 @@
-//! Operators of WebAssembly as they are written, each by its shortest spelling; and numbers.
+//! Writes WebAssembly operators, each with its shortest spelling, and numbers.
 #![tactic(auto)]
 
 mod encoder;

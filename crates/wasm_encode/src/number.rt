@@ -1,5 +1,5 @@
 //! Writing numbers: integers in LEB128 (WebAssembly core specification 3.0, binary format, values),
-//! by as few bytes as can be.
+//! with as few bytes as possible.
 
 ghost use Rattle.std.specs.Prelude.{◌≡◌, ◌<◌, ◌^◌, ◌++◌, ◌∷◌, [], OnOk, take, length, ◌<ℤ◌, pos, negsuc};
 ghost use Rattle.wasm_operators.specs.Shortest.{short_unsigned, short_number, low_bits, high_bits, short_signed, short_integer, short_bits};
@@ -32,11 +32,13 @@ fn write_unsigned(out: &mut Vec<u8>, more: u32, n: u64) -> Result<(), AllocError
     write_unsigned(out, more - 1, n / 128)
 }
 
-/// Appends the shortest spelling of an unsigned number in LEB128.
+/// Appends the shortest spelling of an unsigned number in LEB128 (WebAssembly core specification
+/// 3.0, binary format, values).
 ///
 /// # Errors
 ///
-/// `AllocError` for want of memory. What was there before stays in front.
+/// `AllocError` if memory runs out. The bytes that were in `out` before are unchanged, and some
+/// bytes of the number may follow them.
 #[inline(always)]
 #[tactic(auto, unfolding(wasm_operators::specs::Shortest::short_unsigned))]
 pub fn write_number(out: &mut Vec<u8>, n: u64) -> Result<(), AllocError>
@@ -49,7 +51,7 @@ pub fn write_number(out: &mut Vec<u8>, n: u64) -> Result<(), AllocError>
     write_unsigned(out, 9, n)
 }
 
-/// How far a negative number lies below -1.
+/// How far a negative number is below -1.
 fn flip(z: i64) -> u64
     requires { z <ℤ pos 0 }
     ensures flipped { z ≡ negsuc result }
@@ -58,7 +60,7 @@ fn flip(z: i64) -> u64
     (-(z + 1)) as u64
 }
 
-/// The number that lies so far below -1.
+/// The number that is this far below -1.
 fn below(n: u64) -> i64
     requires { n < 2 ^ 63 }
     ensures { result ≡ negsuc n }
@@ -66,7 +68,7 @@ fn below(n: u64) -> i64
     -(n as i64) - 1
 }
 
-/// The low seven bits, and the number above them.
+/// The low seven bits of a number, and the number that the other bits make.
 fn parted(z: i64) -> (u8, i64)
     ensures low { result.0 ≡ low_bits z }
     ensures bits { result.0 < 128 }
@@ -105,7 +107,7 @@ pub(crate) fn write_integer(out: &mut Vec<u8>, z: i64) -> Result<(), AllocError>
     write_signed(out, 9, z)
 }
 
-/// Appends so many bytes of a number, the least first.
+/// Appends a number as `count` bytes, the least significant first.
 #[tactic(auto, using(crate::proofs::Appending::appending))]
 pub(crate) fn write_bits(out: &mut Vec<u8>, count: u32, bits: u128) -> Result<(), AllocError>
     ensures ok { OnOk result (out.new.items ≡ out.old.items ++ short_bits count bits) }

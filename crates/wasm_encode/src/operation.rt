@@ -53,7 +53,7 @@ macro_rules! written {
     };
 }
 
-/// Appends an operator, or a front of its bytes where memory runs out.
+/// Appends the bytes of an operator, or only the first of them if memory runs out.
 #[inline(always)]
 #[tactic(auto, using(crate::proofs::Appending::appending))]
 fn write_whole(out: &mut Vec<u8>, op: &OutOp<'_>) -> Result<(), AllocError>
@@ -73,8 +73,12 @@ fn write_whole(out: &mut Vec<u8>, op: &OutOp<'_>) -> Result<(), AllocError>
     )
 }
 
-/// Appends the shortest spelling of an operator. It asks that the exponent of a memory argument is
-/// at most 31. Where memory runs out the list is as before.
+/// Appends the shortest spelling of an operator (WebAssembly core specification 3.0, binary format,
+/// instructions). Requires that the exponent of the alignment in a memory argument is at most 31.
+///
+/// # Errors
+///
+/// `AllocError` if memory runs out. `out` is then unchanged.
 #[inline(always)]
 pub fn write_op(op: &OutOp<'_>, out: &mut Vec<u8>) -> Result<(), AllocError>
     requires { IsWritable (meaning op.now) }

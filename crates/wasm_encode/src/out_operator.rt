@@ -3,12 +3,12 @@
 use std::marker::Model;
 use wasm_operators::{Immediates, Op, RawCatch};
 
-/// The labels of a `br_table` as they are written. A contract sees the labels and the default.
+/// The labels of a `br_table`, to be written. A contract sees the labels and the default.
 #[derive(Clone, Debug, Drop)]
 pub struct OutTable<'a> {
-    /// The labels, as depths.
+    /// The labels, as depths, which the operand selects.
     pub targets: &'a [u32],
-    /// The label where the operand is past the others.
+    /// The label, as a depth, for every operand that is not below the number of `targets`.
     pub default: u32,
 }
 
@@ -20,7 +20,7 @@ impl<'a> Model for OutTable<'a> {
     ghost view = { λ t. (t.targets.now, t.default) };
 }
 
-/// The clauses of a `try_table` as they are written. A contract sees the list of them.
+/// The clauses of a `try_table`, to be written. A contract sees the list of them.
 #[derive(Clone, Debug, Drop)]
 pub struct OutClauses<'a> {
     /// The clauses, in order.
@@ -36,8 +36,8 @@ impl<'a> Model for OutClauses<'a> {
     ghost view = { λ c. c.clauses.now };
 }
 
-/// An operator as it is written, whose lists stand in slices.
+/// An operator to be written. Its lists are borrowed slices.
 pub type OutOp<'a> = Op<OutTable<'a>, OutClauses<'a>>;
 
-/// What follows the opcode of an operator as it is written.
+/// What follows the opcode of an operator to be written.
 pub(crate) type OutImmediates<'a> = Immediates<OutTable<'a>, OutClauses<'a>>;

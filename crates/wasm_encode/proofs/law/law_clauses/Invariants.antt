@@ -1,4 +1,4 @@
--- Where the numbers of those that are left fit, those of all do.
+-- If the numbers of the remaining clauses fit, those of all clauses do.
 use Rattle.std.proofs.Common.{length}
 use Rattle.std.specs.List.{AllByRecursion}
 use Rattle.wasm_operators.specs.Fitting.{FitsClause}

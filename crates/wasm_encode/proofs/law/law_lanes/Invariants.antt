@@ -1,4 +1,4 @@
--- Where those that are left are bytes, all are.
+-- If the remaining lanes are bytes, all lanes are.
 use Rattle.std.proofs.Common.{length}
 use Rattle.std.specs.List.{AllByRecursion}
 use Rattle.wasm_operators.specs.Fitting.{FitsLane}
