@@ -1,4 +1,4 @@
--- What is collected at the events of a walk, by the instructions of the tree; and the data segments so.
+-- What a visitor collects at the events of a walk, in terms of the tree's instructions; with this, the data segments.
 use Rattle.std.proofs.Common.{◌≡◌, ◌⊎◌, ℕ, List, [], ◌∷◌, ◌++◌, Bool, true, false, ◌||◌, ◌==◌, cond, refl, sym, ap, ◌∙◌, subst, append-nil, append_assoc, inl, inr}
 use Rattle.std.specs.List.{flat_map}
 use Rattle.std.specs.HashSet.{HashSet, contains}
@@ -20,7 +20,7 @@ use Rattle.walrus_facts.specs.Segments.{holds, named, Collects, WantsMemory, Hol
 use Rattle.walrus_facts.specs.declared.segments.DataSegmentsVisitor.{DataSegmentsVisitor}
 use Rattle.walrus_maps.proofs.EntryMaps.{same_id}
 
--- Nothing is collected where a sequence starts or ends, and at an instruction what it has.
+-- Nothing is collected where a sequence starts or ends; at an instruction, what the instruction has is collected.
 pub record IsByInstruction {A : Type 0} (at_event : WalkEvent → List A) (at_instruction : LocatedInstr → List A) : Type 0 where
   pub starts : (seq : InstrSeq) → at_event (StartSequence seq) ≡ []
   pub ends : (seq : InstrSeq) → at_event (EndSequence seq) ≡ []
@@ -46,12 +46,12 @@ module _ {A : Type 0} {g : WalkEvent → List A} {f : LocatedInstr → List A} (
       let all = items_collected t.items (EndSequence t.head.seq ∷ []) in
       rw (h.starts t.head.seq, all, h.ends t.head.seq) (append-nil (flat_map f (instructions t.items)))
 
--- What is added at once is what is added one after the other.
+-- Adding two lists one after the other is adding both at once.
 pub record IsAdding {A B : Type 0} (add : List A → B → B) : Type 0 where
   pub none : (b : B) → add [] b ≡ b
   pub both : (xs ys : List A) (b : B) → add ys (add xs b) ≡ add (xs ++ ys) b
 
--- what is added at each event is added over all of them
+-- adding what each event has is adding what all events have
 pub folded : {V A B : Type 0} {steps : V → WalkEvent → V → Type 0} {g : WalkEvent → List A} {add : List A → B → B} (has : V → B) → IsAdding add
     → ((v w : V) (e : WalkEvent) → steps v e w → has w ≡ add (g e) (has v))
     → {v w : V} {es : List WalkEvent} → Folds steps v es w → has w ≡ add (flat_map g es) (has v)
@@ -81,7 +81,7 @@ or_swap true false c = refl
 or_swap false true c = refl
 or_swap false false c = refl
 
--- a set of ids, by their numbers
+-- a set of ids in terms of their numbers
 by_number : {S : Type 0} (s : HashSet ℕ S) (d : ℕ) → contains same_id s d ≡ contains (λ x y. x == y) s d
 by_number s d = λ i. contains (λ x y. and-true (x == y) i) s d
 
@@ -89,14 +89,14 @@ put_or : (a b : Bool) → cond a true b ≡ (a || false) || b
 put_or true b = refl
 put_or false b = refl
 
--- an insertion puts in one id
+-- an insertion adds one id
 pub put_one : {S : Type 0} (s t : HashSet ℕ S) (k d : ℕ) → contains same_id t d ≡ cond (same_id k d) true (contains same_id s d)
     → contains (λ x y. x == y) t d ≡ among d (k ∷ []) || contains (λ x y. x == y) s d
 put_one s t k d h =
     let now : contains (λ x y. x == y) t d ≡ cond (same_id k d) true (contains (λ x y. x == y) s d) = rw (sym (by_number t d), h, by_number s d) refl in
     rw (now, and-true (k == d), nat_eq_equiv.symm k d) (put_or (d == k) (contains (λ x y. x == y) s d))
 
--- membership of an id, in what is collected or before
+-- whether an id is among those that are collected or were there before
 pub adding_members : (d : ℕ) → IsAdding (λ (xs : List ℕ) (b : Bool). among d xs || b)
 adding_members d = record {
   none = λ b. refl;

@@ -1,4 +1,4 @@
--- The instructions of a tree, counted by a walk.
+-- Counting the instructions of a tree in a walk.
 use Rattle.std.proofs.Common.{◌≡◌, ◌⊎◌, ◌+◌, ◌^◌, ◌≤◌, ℕ, List, [], ◌∷◌, length, length-append, refl, ap, ◌∙◌, arith, inl, inr}
 use Rattle.std.specs.List.{flat_map}
 use Rattle.std.proofs.lemmas.List.{length-map}
@@ -34,18 +34,18 @@ one_an_instruction = record { starts = λ seq. refl; ends = λ seq. refl; visits
 pub tree_visited : (t : Tree SequenceAt LocatedInstr) → length (flat_map visited (events t)) ≡ count t.items
 tree_visited t = ap (λ xs. length xs) (tree_collected one_an_instruction t ∙ flat_map_single (λ x. x) (instructions t.items)) ∙ length-map (instructions t.items) (λ x. x)
 
--- a count, with what is counted
+-- a count plus the number of items counted
 adding_count : IsAdding (λ (xs : List LocatedInstr) (n : ℕ). n + length xs)
 adding_count = record {
   none = λ n. omega arith;
   both = λ xs ys n. let all = length-append xs ys in omega (arith, all);
 }
 
--- memory ran out, or so many instructions don't fit 64 bits
+-- memory ran out, or this number of instructions doesn't fit 64 bits
 abbrev pub IsFull : WalkError → ℕ → Type 0
 IsFull f n = (f ≡ Memory) ⊎ ((f ≡ TooLarge) × (2 ^ 64 ≤ n))
 
--- as many at least
+-- a refusal at one count is a refusal at any greater count
 full_as_well : {f : WalkError} {m n : ℕ} → m ≤ n → IsFull f m → IsFull f n
 full_as_well more (inl memory) = inl memory
 full_as_well more (inr h) = let past = h.1 in inr (h.0, omega (arith, more, past))
@@ -55,7 +55,7 @@ full_of_tree : {b : List InstrSeq} {start : ℕ} {f : WalkError} {n : ℕ} (t : 
 full_of_tree t is_tree all (inl memory) = inl (inl memory)
 full_of_tree t is_tree all (inr h) = let past = h.1 in inr (h.0, record { tree = t; is_tree = is_tree; holds = omega (arith, past, all) })
 
--- A visitor that counts the instructions, and is refused for want of memory or where its count would pass 64 bits.
+-- A visitor that counts the instructions. It refuses one if memory runs out or the count would pass 64 bits.
 pub record IsCounting {V : Type 0} (steps : V → WalkEvent → V → Type 0) (refuses : V → WalkEvent → WalkError → Type 0) (size : V → ℕ) : Type 0 where
   pub steps_count : (v w : V) (e : WalkEvent) → steps v e w → size w ≡ size v + length (visited e)
   pub refused_for : (v : V) (e : WalkEvent) (f : WalkError) → refuses v e f → IsFull f (size v + length (visited e))

@@ -1,4 +1,4 @@
--- The facts of a function agree with its other calls, since it has one tree.
+-- The facts of a function agree with its other calls, since all of them are about its one tree.
 use Rattle.std.proofs.Common.{true≢false, ◌≡◌, ◌||◌, ℕ, List, [], ◌∷◌, IsTrue, refl, sym, ap, ◌∙◌}
 use Rattle.std.proofs.lemmas.Cmp.{nat_eq_equiv}
 use Rattle.walrus_ir.specs.Unfolding.{among}

@@ -1,4 +1,4 @@
--- The facts of a tree, gathered by a walk.
+-- Gathering the facts of a tree in a walk.
 use Rattle.std.proofs.Common.{◌≡◌, ℕ, ◌+◌, List, [], ◌∷◌, ◌++◌, length, Bool, false, ◌||◌, refl, append-nil, append_assoc, inl, inr}
 use Rattle.std.specs.List.{flat_map}
 use Rattle.std.proofs.Math.Bool.{or-false}
@@ -50,11 +50,11 @@ some_of_both [] ys b = refl
 some_of_both (x ∷ xs) [] b = refl
 some_of_both (x ∷ xs) (y ∷ ys) b = refl
 
--- whether there are any, of what is collected or before
+-- whether there are any, among those collected and those before
 adding_some : IsAdding (λ (xs : List ℕ) (b : Bool). are_some xs || b)
 adding_some = record { none = λ b. refl; both = some_of_both }
 
--- a list, with what is collected behind it
+-- a list with the collected items after it
 adding_behind : IsAdding (λ (xs before : List ℕ). before ++ xs)
 adding_behind = record { none = append-nil; both = λ xs ys before. append_assoc before xs ys }
 

@@ -1,4 +1,4 @@
--- what visitors make of a tree's events
+-- the result of each visitor over the events of a tree
 mod Collecting
 mod Counting
 mod Gathering

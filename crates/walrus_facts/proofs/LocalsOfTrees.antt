@@ -1,4 +1,4 @@
--- The locals that a builder's instructions name are those of its tree.
+-- The locals that a builder's instructions name are those that its tree names.
 use Rattle.std.specs.Prelude.{Option, Some, None}
 use Rattle.std.proofs.Common.{◌≡◌, ℕ, suc, ◌+◌, length, List, [], ◌∷◌, ◌++◌, refl, sym, ap, ◌∙◌}
 use Rattle.std.specs.List.{flat_map}
@@ -92,7 +92,7 @@ mutual
 pub locals_of_tree : (t : Tree SequenceAt LocatedInstr) → locals_of (tree_of t) ≡ locals_used t.items
 locals_of_tree t = of_items (t.head.slot ∷ []) t.items
 
--- ---- the tree has as many instructions
+-- ---- the builder has as many instructions as the tree
 
 mutual
   count_items : (around : List ℕ) (is : Items SequenceAt LocatedInstr) → length (instructions (items_in around is)) ≡ length (instructions is)

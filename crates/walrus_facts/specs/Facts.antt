@@ -1,5 +1,4 @@
--- Facts of a function's tree: its instructions, how many they are, and the data segments, functions and locals that they
--- name.
+-- Facts of a function's tree: its instructions, their number, and the data segments, functions and locals that they name.
 use Rattle.std.specs.Prelude.{◌≡◌, ◌==◌, ℕ, Bool, true, false, List, [], ◌∷◌, ◌++◌, length}
 use Rattle.std.specs.HashSet.{contains}
 use Rattle.std.specs.List.{flat_map}
@@ -20,11 +19,11 @@ abbrev mutual
   instructions_inside no_sequences = []
   instructions_inside (sequence head items rest) = instructions items ++ instructions_inside rest
 
--- how many they are
+-- how many there are
 abbrev pub count : {S I : Type 0} → Items S I → ℕ
 count items = length (instructions items)
 
--- the data segment that an instruction names, where it names one
+-- the data segment that an instruction names, if it names one
 abbrev pub segment_of : Instr → List ℕ
 segment_of (MemoryInit x) = x.data_id ∷ []
 segment_of (DataDrop x) = x.data_id ∷ []
@@ -32,31 +31,31 @@ segment_of (ArrayNewData x) = x.data_id ∷ []
 segment_of (ArrayInitData x) = x.data_id ∷ []
 segment_of _ = []
 
--- the data segments that they name, repeats kept
+-- the data segments that the instructions name, with repeats
 abbrev pub segments : Items SequenceAt LocatedInstr → List ℕ
 segments items = flat_map (λ (x : LocatedInstr). segment_of x.0) (instructions items)
 
--- the function that an instruction refers to, where it is a `ref.func`
+-- the function that an instruction refers to, if it is a `ref.func`
 abbrev pub function_of : Instr → List ℕ
 function_of (RefFunc x) = x.func ∷ []
 function_of _ = []
 
--- the functions that they refer to, in walk order, repeats kept
+-- the functions that the instructions refer to, in walk order, with repeats
 abbrev pub referred : Items SequenceAt LocatedInstr → List ℕ
 referred items = flat_map (λ (x : LocatedInstr). function_of x.0) (instructions items)
 
--- the local that an instruction reads or writes, where it does
+-- the local that an instruction reads or writes, if it does
 abbrev pub local_of_instr : Instr → List ℕ
 local_of_instr (LocalGet x) = x.local ∷ []
 local_of_instr (LocalSet x) = x.local ∷ []
 local_of_instr (LocalTee x) = x.local ∷ []
 local_of_instr _ = []
 
--- the locals that they read or write, repeats kept
+-- the locals that the instructions read or write, with repeats
 abbrev pub locals_used : Items SequenceAt LocatedInstr → List ℕ
 locals_used items = flat_map (λ (x : LocatedInstr). local_of_instr x.0) (instructions items)
 
--- whether there are any
+-- whether the list has an item
 abbrev pub are_some : {A : Type 0} → List A → Bool
 are_some [] = false
 are_some (x ∷ xs) = true
@@ -68,7 +67,7 @@ pub record AreFacts (items : Items SequenceAt LocatedInstr) (f : EmitFacts) : Ty
   pub ref_funcs : f.ref_funcs.items ≡ referred items
   pub used_locals : (l : ℕ) → contains (λ x y. x == y) f.used_locals l ≡ among l (locals_used items)
 
--- From this sequence on there is a tree, and this holds of it.
+-- The sequences from this one on are a tree, and this holds of it.
 pub record TreeHas (b : List InstrSeq) (start : ℕ) (Holds : Tree SequenceAt LocatedInstr → Type 0) : Type 0 where
   pub tree : Tree SequenceAt LocatedInstr
   pub is_tree : IsTree b start tree

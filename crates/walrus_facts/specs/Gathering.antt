@@ -1,4 +1,4 @@
--- What `FactsVisitor` means: it gathers the facts of the instructions that are visited.
+-- `FactsVisitor` gathers the facts of the instructions that it visits.
 use Rattle.std.specs.Prelude.{◌≡◌, ◌||◌, ◌+◌, ◌^◌, ◌≤◌, ◌==◌, ℕ, Bool, List, [], ◌∷◌, ◌++◌, length}
 use Rattle.std.specs.HashSet.{contains}
 use Rattle.std.proofs.Common.{sym, ap, ◌∙◌, subst, refl}
@@ -13,21 +13,21 @@ use Rattle.walrus_facts.specs.Facts.{are_some}
 use Rattle.walrus_facts.specs.Segments.{named}
 use Rattle.walrus_facts.specs.Sizes.{visited}
 
--- whether these facts hold a local
+-- whether these facts contain a local
 abbrev pub uses_local : EmitFacts → ℕ → Bool
 uses_local f l = contains (λ x y. x == y) f.used_locals l
 
--- the function that an event names
+-- the function that the instruction of an event refers to
 abbrev pub function_at : WalkEvent → List ℕ
 function_at (NameFunction n) = n ∷ []
 function_at _ = []
 
--- the local that an event names
+-- the local that the instruction of an event reads or writes
 abbrev pub local_at : WalkEvent → List ℕ
 local_at (NameLocal l) = l ∷ []
 local_at _ = []
 
--- to these facts an event adds its instruction and what it names
+-- An event adds its instruction, and what that names, to these facts.
 pub record Adds (s : EmitFacts) (e : WalkEvent) (t : EmitFacts) : Type 0 where
   pub size : t.size ≡ s.size + length (visited e)
   pub uses_data_segments : t.uses_data_segments ≡ (are_some (named e) || s.uses_data_segments)
@@ -37,7 +37,7 @@ pub record Adds (s : EmitFacts) (e : WalkEvent) (t : EmitFacts) : Type 0 where
 abbrev pub Gathers : FactsVisitor → WalkEvent → FactsVisitor → Type 0
 Gathers s e t = Adds s.facts e t.facts
 
--- the count would not fit 64 bits, or no memory was left for the function or the local that is named
+-- the count would not fit 64 bits, or memory ran out for the function or the local that is named
 abbrev pub Declines : FactsVisitor → WalkEvent → WalkError → Type 0
 Declines s (VisitInstruction i location) f = (f ≡ TooLarge) × (2 ^ 64 ≤ s.facts.size + 1)
 Declines s (NameFunction n) f = f ≡ Memory
@@ -51,7 +51,7 @@ pub record SaySame (s t : EmitFacts) : Type 0 where
   pub ref_funcs : t.ref_funcs.items ≡ s.ref_funcs.items
   pub used_locals : (l : ℕ) → uses_local t l ≡ uses_local s l
 
--- it holds facts that say the same
+-- both hold facts that say the same
 abbrev pub HoldsSameFacts : FactsVisitor → FactsVisitor → Type 0
 HoldsSameFacts s t = SaySame s.facts t.facts
 
@@ -74,7 +74,7 @@ chained s t u h k = record {
   used_locals = λ l. k.used_locals l ∙ h.used_locals l;
 }
 
--- where they hold the same before and the same after, both gather what an event adds
+-- where both hold the same before and the same after, a step of one is a step of the other
 pub gather_alike : AreStepsAlike HoldsSameFacts Gathers
 gather_alike s s' t t' e from to step = record {
   size = to.size ∙ (step.size ∙ ap (λ n. n + length (visited e)) (sym from.size));
@@ -83,7 +83,7 @@ gather_alike s s' t t' e from to step = record {
   used_locals = λ l. to.used_locals l ∙ (step.used_locals l ∙ ap (λ b. among l (local_at e) || b) (sym (from.used_locals l)));
 }
 
--- what else they hold is no matter where one is refused
+-- a refusal depends only on what the facts say
 pub decline_alike : AreRefusalsAlike HoldsSameFacts Declines
 decline_alike s s' (StartSequence seq) f from h = h
 decline_alike s s' (EndSequence seq) f from h = h

@@ -1,4 +1,4 @@
--- What `DataSegmentsVisitor` means: it collects the data segments that are named.
+-- `DataSegmentsVisitor` collects the data segments that instructions name.
 use Rattle.std.specs.Prelude.{◌≡◌, ◌||◌, ◌==◌, ℕ, Bool, List, [], ◌∷◌}
 use Rattle.std.specs.HashSet.{contains}
 use Rattle.std.proofs.Common.{sym, ap, ◌∙◌}
@@ -13,7 +13,7 @@ use Rattle.walrus_facts.specs.declared.segments.DataSegmentsVisitor.{DataSegment
 abbrev pub holds : DataSegmentsVisitor → ℕ → Bool
 holds s d = contains (λ x y. x == y) s.segments d
 
--- the data segment that an event names
+-- the data segment that the instruction of an event names
 abbrev pub named : WalkEvent → List ℕ
 named (NameData d) = d ∷ []
 named _ = []
@@ -21,20 +21,20 @@ named _ = []
 abbrev pub Collects : DataSegmentsVisitor → WalkEvent → DataSegmentsVisitor → Type 0
 Collects s e t = (d : ℕ) → holds t d ≡ (among d (named e) || holds s d)
 
--- no memory was left for the data segment that is named
+-- memory ran out for the data segment that is named
 abbrev pub WantsMemory : DataSegmentsVisitor → WalkEvent → WalkError → Type 0
 WantsMemory s (NameData d) f = f ≡ Memory
 WantsMemory s _ f = ⊥
 
--- it holds the same data segments
+-- both hold the same data segments
 abbrev pub HoldsSame : DataSegmentsVisitor → DataSegmentsVisitor → Type 0
 HoldsSame s t = (d : ℕ) → holds t d ≡ holds s d
 
--- where they hold the same before and the same after, both collect what an event names
+-- where both hold the same before and the same after, a step of one is a step of the other
 pub collect_alike : AreStepsAlike HoldsSame Collects
 collect_alike s s' t t' e from to step d = to d ∙ (step d ∙ ap (λ b. among d (named e) || b) (sym (from d)))
 
--- what they hold is no matter where memory runs out
+-- whether memory runs out doesn't depend on what they hold
 pub want_alike : AreRefusalsAlike HoldsSame WantsMemory
 want_alike s s' (StartSequence seq) f from h = h
 want_alike s s' (EndSequence seq) f from h = h

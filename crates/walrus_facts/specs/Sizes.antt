@@ -1,4 +1,4 @@
--- What `SizeVisitor` means: it counts the instructions that are visited.
+-- `SizeVisitor` counts the instructions that it visits.
 use Rattle.std.specs.Prelude.{◌≡◌, ◌+◌, ◌^◌, ◌≤◌, ℕ, List, [], ◌∷◌, length}
 use Rattle.walrus_ir.specs.declared.seq.InstrSeq.{InstrSeq}
 use Rattle.walrus_ir.specs.declared.error.WalkError.{WalkError}
@@ -20,6 +20,6 @@ Counts s e t = t.size ≡ s.size + length (visited e)
 abbrev pub Overflows : SizeVisitor → WalkEvent → WalkError → Type 0
 Overflows s e f = (f ≡ TooLarge) × (2 ^ 64 ≤ s.size + length (visited e))
 
--- there is a tree, and its size doesn't fit 64 bits
+-- the sequences are a tree, and its size doesn't fit 64 bits
 abbrev pub IsTooLarge : List InstrSeq → ℕ → WalkError → Type 0
 IsTooLarge b start error = (error ≡ TooLarge) × TreeHas b start (λ t. 2 ^ 64 ≤ count t.items)

@@ -1,4 +1,4 @@
-//! What the body of a function is found to hold before it is written.
+//! Facts of a function's body that are needed before it is written.
 ghost use Rattle.std.specs.Prelude.{◌≡◌, ◌⊎◌, ◌==◌, ℕ, [], false, IfOk, IfErr};
 ghost use Rattle.std.specs.HashSet.{contains};
 ghost use Rattle.walrus_ir.specs.Walk.{HasNoWalk};
@@ -12,28 +12,29 @@ use walrus_ir::{
     LocalId, RefFunc, Visitor, WalkError, dfs_in_order,
 };
 
-/// What the body of a function is found to hold before it is written.
+/// Facts of a function's body that are needed before it is written.
 #[derive(Drop)]
 pub struct EmitFacts {
     /// How many instructions there are.
     pub size: u64,
-    /// Whether an instruction names a data segment.
+    /// Whether an instruction names a data segment (`memory.init`, `data.drop`, `array.new_data`,
+    /// `array.init_data`).
     pub uses_data_segments: bool,
-    /// The functions that `ref.func` refers to, in the order of the instructions, repeats kept.
+    /// The functions that `ref.func` refers to, in the order of the instructions, with repeats.
     pub ref_funcs: Vec<FunctionId>,
-    /// The locals that are read or written.
+    /// The locals that `local.get`, `local.set` and `local.tee` name.
     pub used_locals: IdHashSet<LocalId>,
 }
 
-/// Gathers the facts of the instructions that it is told of.
+/// Gathers the facts of the instructions that it visits.
 #[derive(Drop)]
 pub struct FactsVisitor {
-    /// The facts so far.
+    /// The facts of the instructions visited so far.
     pub facts: EmitFacts,
 }
 
 impl FactsVisitor {
-    /// A visitor that has been told of no instruction. It takes no memory.
+    /// A visitor that has visited no instruction. Allocates nothing.
     pub fn new(alloc: Global) -> FactsVisitor
         ensures size { result.facts.size ≡ 0 }
         ensures uses_data_segments { result.facts.uses_data_segments ≡ false }
@@ -52,8 +53,8 @@ impl FactsVisitor {
     }
 }
 
-/// It refuses an instruction with `WalkError::TooLarge`, where the count would pass `u64::MAX`, a
-/// function or a local with `WalkError::Memory`, where no memory was left for it, and nothing else.
+/// Refuses an instruction with `WalkError::TooLarge` if the count would pass `u64::MAX`, and a
+/// function or a local with `WalkError::Memory` if memory runs out. Refuses nothing else.
 impl Visitor for FactsVisitor {
     type Fault = WalkError;
 
@@ -116,9 +117,9 @@ impl Visitor for FactsVisitor {
 ///
 /// # Errors
 ///
-/// `WalkError::UnknownSequence` or `WalkError::SharedSequence` where the sequences are no tree, the
-/// first in walk order; `WalkError::TooLarge` where the number of instructions doesn't fit 64 bits;
-/// `WalkError::Memory` where none was left for the walk or for the facts.
+/// `WalkError::UnknownSequence` or `WalkError::SharedSequence` if the sequences are not a tree: the
+/// first fault in walk order. `WalkError::TooLarge` if the number of instructions doesn't fit 64
+/// bits. `WalkError::Memory` if memory runs out.
 pub fn emit_facts(builder: &FunctionBuilder, start: InstrSeqId) -> Result<EmitFacts, WalkError>
     ensures ok { IfOk result (λ f. TreeHas builder.now.sequences start
         (λ t. AreFacts t.items f)) }
@@ -131,9 +132,9 @@ pub fn emit_facts(builder: &FunctionBuilder, start: InstrSeqId) -> Result<EmitFa
     Ok(facts)
 }
 
-/// The facts of a function agree with its other calls, where each answers: the size among them is
-/// its size, and they say that data segments are used exactly where one is among its used data
-/// segments. `S` is the hasher of the set of these.
+/// Where each of the calls succeeds, the facts of a function agree with them: the size in the facts
+/// is its size, and they say that data segments are used exactly where its used data segments
+/// contain one. `S` is the hasher of that set.
 pub fn law_facts<S>()
     ensures size { FactsHaveSize }
     ensures uses_data_segments { FactsUseFound S }

@@ -1,5 +1,5 @@
-//! Facts of a function's tree: how many instructions it has, which data segments, functions and locals
-//! they name.
+//! Facts of a function's tree: how many instructions it has, and which data segments, functions and
+//! locals they name.
 #![tactic(auto)]
 
 mod facts;

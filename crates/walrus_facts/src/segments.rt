@@ -11,15 +11,15 @@ use walrus_ir::{
     Visitor, WalkError, dfs_in_order,
 };
 
-/// Collects the data segments that instructions name.
+/// Collects the data segments that the visited instructions name.
 #[derive(Drop)]
 pub struct DataSegmentsVisitor {
-    /// The data segments that were named.
+    /// The data segments named so far.
     pub segments: IdHashSet<DataId>,
 }
 
 impl DataSegmentsVisitor {
-    /// A visitor that has been told of no data segment. It takes no memory.
+    /// A visitor that has visited no instruction. Allocates nothing.
     pub fn new(alloc: Global) -> DataSegmentsVisitor
         ensures { (d : ℕ) → contains (λ x y. x == y) result.segments d ≡ false }
     {
@@ -29,8 +29,7 @@ impl DataSegmentsVisitor {
     }
 }
 
-/// It refuses a data segment with `WalkError::Memory`, where no memory was left for it, and nothing
-/// else.
+/// Refuses a data segment with `WalkError::Memory` if memory runs out. Refuses nothing else.
 impl Visitor for DataSegmentsVisitor {
     type Fault = WalkError;
 
@@ -81,13 +80,13 @@ impl Visitor for DataSegmentsVisitor {
     }
 }
 
-/// The data segments that instructions name in the sequence `start` and in those inside of it: of
-/// `memory.init`, `data.drop`, `array.new_data` and `array.init_data`.
+/// The data segments that the instructions in the sequence `start` and in those inside of it name:
+/// those of `memory.init`, `data.drop`, `array.new_data` and `array.init_data`.
 ///
 /// # Errors
 ///
-/// `WalkError::UnknownSequence` or `WalkError::SharedSequence` where the sequences are no tree, the
-/// first in walk order; `WalkError::Memory` where none was left for the walk or for the set.
+/// `WalkError::UnknownSequence` or `WalkError::SharedSequence` if the sequences are not a tree: the
+/// first fault in walk order. `WalkError::Memory` if memory runs out.
 pub fn used_data_segments(
     builder: &FunctionBuilder,
     start: InstrSeqId,

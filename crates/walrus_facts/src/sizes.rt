@@ -9,15 +9,15 @@ use walrus_ir::{
     WalkError, dfs_in_order,
 };
 
-/// Counts the instructions that it is told of.
+/// Counts the instructions that it visits.
 #[derive(Drop)]
 pub struct SizeVisitor {
-    /// How many there were.
+    /// How many instructions were visited.
     pub size: u64,
 }
 
 impl SizeVisitor {
-    /// A visitor that has been told of no instruction.
+    /// A visitor that has visited no instruction.
     pub fn new() -> SizeVisitor
         ensures { result.size ≡ 0 }
     {
@@ -25,7 +25,7 @@ impl SizeVisitor {
     }
 }
 
-/// It refuses an instruction with `WalkError::TooLarge`, where the count would pass `u64::MAX`, and
+/// Refuses an instruction with `WalkError::TooLarge` if the count would pass `u64::MAX`. Refuses
 /// nothing else.
 impl Visitor for SizeVisitor {
     type Fault = WalkError;
@@ -84,9 +84,9 @@ impl Visitor for SizeVisitor {
 ///
 /// # Errors
 ///
-/// `WalkError::UnknownSequence` or `WalkError::SharedSequence` where the sequences are no tree, the
-/// first in walk order; `WalkError::TooLarge` where the number doesn't fit 64 bits;
-/// `WalkError::Memory` where none was left for the walk.
+/// `WalkError::UnknownSequence` or `WalkError::SharedSequence` if the sequences are not a tree: the
+/// first fault in walk order. `WalkError::TooLarge` if the number doesn't fit 64 bits.
+/// `WalkError::Memory` if memory runs out.
 pub fn size(builder: &FunctionBuilder, start: InstrSeqId) -> Result<u64, WalkError>
     ensures ok { IfOk result (λ n. TreeHas builder.now.sequences start (λ t. n ≡ count t.items)) }
     ensures err { IfErr result (λ e. HasNoWalk builder.now.sequences start e
