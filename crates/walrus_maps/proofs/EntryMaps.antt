@@ -1,4 +1,4 @@
--- A hashed map from ids, as the finite map that its entries make.
+-- A hash map from ids, as the finite map of its entries.
 use Rattle.std.proofs.Common.{◌≡◌, ℕ, ◌+◌, List, [], ◌∷◌, length, Bool, true, false, ◌&&◌, cond, Option, Some, None, is_some, nat_eq, refl, sym, ap, ◌∙◌, arith}
 use Rattle.std.specs.List.{IsDistinct, AllByRecursion}
 use Rattle.std.specs.Map.{lookup, keys_of}
@@ -9,57 +9,57 @@ use Rattle.std.proofs.lemmas.Bool.{eqb-true}
 use Rattle.std.proofs.lemmas.Map.{lookup-none}
 use Rattle.std.proofs.lemmas.Map.Keys.{IsDistinct-head, IsDistinct-tail}
 
--- how ids are compared: by number, and by their kind, of which there is one
+-- how ids are compared: by number, and by kind, of which there is only one
 abbrev pub same_id : ℕ → ℕ → Bool
 same_id a b = nat_eq a b && true
 
--- the kind decides nothing
+-- the kind never decides
 and_true : (b : Bool) → (b && true) ≡ b
 and_true true = refl
 and_true false = refl
 
--- ids are the same where their order says a tie
+-- ids are the same where their order is equal
 tied : (a b : ℕ) → eq_by_cmp nat_cmp a b ≡ same_id a b
 tied a b = unsigned_tied a b ∙ sym (and_true (nat_eq a b))
 
--- in either order
+-- comparing in either order
 flipped : (a b : ℕ) → same_id a b ≡ same_id b a
 flipped a b = ap (λ t. t && true) (nat_eq_equiv.symm a b)
 
 module _ {X : Type 0} where
-  -- the first entry at an id, found by the order or by `==`
+  -- the first entry of an id, found by the order or by `==`
   find-lookup : (es : List (ℕ × X)) (q : ℕ) → find nat_cmp q es ≡ lookup (same_id q) es
   find-lookup [] q = refl
   find-lookup (e ∷ es) q = λ i. cond (tied q e.0 i) (Some e.1) (find-lookup es q i)
 
-  -- at an id the finite map has what the hashed map has
+  -- the finite map has the same value at an id as the hash map
   pub get-entries : (es : List (ℕ × X)) (q : ℕ) → get (from_entries {R = nat_cmp} es) q ≡ lookup (same_id q) es
   get-entries es q = get-from_entries nat_cmp_total es q ∙ find-lookup es q
 
-  -- entries that differ at one id make maps that differ there
+  -- entries that differ only at one id make maps that differ only there
   pub one_put : (es fs : List (ℕ × X)) (k : ℕ) (v : X) → ((q : ℕ) → lookup (same_id q) fs ≡ cond (same_id k q) (Some v) (lookup (same_id q) es)) → from_entries {R = nat_cmp} fs ≡ insert (from_entries es) k v
   one_put es fs k v h = same_map nat_cmp_total nat_cmp-IsAntisymmetric _ _ (λ q.
       get-entries fs q ∙ h q
       ∙ (λ i. cond ((flipped k q ∙ sym (tied q k)) i) (Some v) (sym (get-entries es q) i))
       ∙ sym (get-insert nat_cmp_total (from_entries es) k v q))
 
-  -- what is there already, put again
+  -- an entry that is there, put again
   kept : (b : Bool) (o : Option X) (v : X) → (b ≡ true → o ≡ Some v) → cond b (Some v) o ≡ o
   kept true o v h = sym (h refl)
   kept false o v h = refl
 
-  -- what a map has at a key, put there again, changes nothing
+  -- putting again what a map has at a key changes nothing
   pub insert-same : (m : FinMap nat_cmp X) (k : ℕ) (v : X) → get m k ≡ Some v → insert m k v ≡ m
   insert-same m k v has = same_map nat_cmp_total nat_cmp-IsAntisymmetric _ _ (λ q.
       get-insert nat_cmp_total m k v q
       ∙ kept (eq_by_cmp nat_cmp q k) (get m q) v (λ e. ap (get m) (eqb-true q k (sym (unsigned_tied q k) ∙ e)) ∙ has))
 
-  -- what holds of each key holds of each entry's
+  -- what holds of each key holds of the key of each entry
   all_keys : (P : ℕ → Type 0) (es : List (ℕ × X)) → AllByRecursion P (keys_of es) → AllByRecursion (λ e. P e.0) es
   all_keys P [] h = tt
   all_keys P (e ∷ es) h = (h.0, all_keys P es h.1)
 
-  -- distinct ids are counted each
+  -- the number of entries is the number of distinct ids
   pub len-entries : (es : List (ℕ × X)) → IsDistinct same_id (keys_of es) → len (from_entries {R = nat_cmp} es) ≡ length es
   len-entries [] d = len-empty nat_cmp X
   len-entries (e ∷ es) d =

@@ -1,4 +1,4 @@
--- What is listed so far stands before what is left.
+-- The items listed so far come before the remaining ones.
 use Rattle.std.specs.Prelude.{List, ◌++◌, Result, Ok}
 use Rattle.walrus_ir.specs.Results.{◌>>=◌}
 

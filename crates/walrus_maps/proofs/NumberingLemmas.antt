@@ -1,4 +1,4 @@
--- Pushes of distinct ids number them by their places.
+-- Pushing distinct ids numbers them by their positions.
 use Rattle.std.proofs.Common.{◌≡◌, ℕ, zero, suc, List, [], ◌∷◌, ◌++◌, length, false, cond, Some, None, Ok, nat_eq, ◌==◌, refl, sym, ap, subst, ◌∙◌, arith, append_assoc, append-nil, length-append}
 use Rattle.std.specs.Prelude.{slice_get}
 use Rattle.std.specs.List.{IsDistinct, AllByRecursion}
@@ -18,28 +18,28 @@ use Rattle.walrus_ir.specs.Results.{some_or}
 use Rattle.walrus_ir.proofs.ResultLemmas.{some_or_ok}
 use Rattle.walrus_maps.specs.Numbering.{pushed, AreNumberedInOrder, PushesNumberInOrder}
 
--- what is read after one more item
+-- what is read from a list with one more item
 slice_get-push : {X : Type 0} (xs : List X) (x : X) (k : ℕ) → slice_get (xs ++ x ∷ []) k ≡ cond (k == length xs) (Some x) (slice_get xs k)
 slice_get-push [] x zero = refl
 slice_get-push [] x (suc k) = ap (λ b. cond b (Some x) None) (sym (eqb-suc-zero k))
 slice_get-push (y ∷ ys) x zero = ap (λ b. cond b (Some x) (Some y)) (sym (eqb-zero-suc (length ys)))
 slice_get-push (y ∷ ys) x (suc k) = grind (arith, nat_tests, slice_get-push ys x k)
 
--- the numbers of these ids are their places, and no other id has one
+-- the numbers of these ids are their positions, and no other id has one
 record ByPlace (ids : List ℕ) (m : FinMap nat_cmp ℕ) : Type 0 where
   place : (id number : ℕ) → get m id ≡ Some number → slice_get ids number ≡ Some id
   number : (id number : ℕ) → slice_get ids number ≡ Some id → get m id ≡ Some number
   count : len m ≡ length ids
 
--- no id of these has a number
+-- none of these ids has a number
 abbrev AreNew : FinMap nat_cmp ℕ → List ℕ → Type 0
 AreNew m ids = AllByRecursion (λ id. get m id ≡ None) ids
 
--- one more id: its number, and those of the others
+-- the numbers after one more id has one
 pub get-numbered : (m : FinMap nat_cmp ℕ) (id q : ℕ) → get (numbered m id) q ≡ cond (q == id) (Some (len m)) (get m q)
 get-numbered m id q = get-insert nat_cmp_total m id (len m) q ∙ ap (λ b. cond b (Some (len m)) (get m q)) (unsigned_tied q id)
 
--- a new id has the next place
+-- a new id gets the next position
 one_more : (ids : List ℕ) (m : FinMap nat_cmp ℕ) (id : ℕ) → get m id ≡ None → ByPlace ids m → ByPlace (ids ++ id ∷ []) (numbered m id)
 one_more ids m id new b = record {
   place = λ q n has.
@@ -51,7 +51,7 @@ one_more ids m id new b = record {
   count = len-insert nat_cmp_total m id (len m) ∙ grind (arith, new, b.count, length-append);
 }
 
--- nothing is numbered in an empty map
+-- an empty map numbers nothing
 none_yet : ByPlace [] empty
 none_yet = record {
   place = λ q n has. let none = get-empty {X = ℕ} nat_cmp q in absurd cc;
@@ -59,7 +59,7 @@ none_yet = record {
   count = len-empty nat_cmp ℕ;
 }
 
--- the other ids are as new as before
+-- the other ids are still new
 still_new : (m : FinMap nat_cmp ℕ) (id : ℕ) (ids : List ℕ) → AllByRecursion (λ other. nat_eq id other ≡ false) ids → AreNew m ids → AreNew (numbered m id) ids
 still_new m id [] apart new = tt
 still_new m id (other ∷ ids) apart new =
@@ -84,7 +84,7 @@ numbers_in-with_numbers Elements numbers m = refl
 numbers_in-with_numbers Data numbers m = refl
 numbers_in-with_numbers Tags numbers m = refl
 
--- more ids are pushed behind those that have their places
+-- more ids are pushed after those that have their positions
 by_place-pushed : (space : Space) (done ids : List ℕ) (m : IdsToIndices) → IsDistinct nat_eq ids → AreNew (numbers_in m space) ids → ByPlace done (numbers_in m space) → ByPlace (done ++ ids) (numbers_in (pushed space ids m) space)
 by_place-pushed space done [] m distinct new places = subst (λ ids. ByPlace ids (numbers_in m space)) (sym (append-nil done)) places
 by_place-pushed space done (id ∷ ids) m distinct new places =
@@ -94,7 +94,7 @@ by_place-pushed space done (id ∷ ids) m distinct new places =
     subst (λ all. ByPlace all (numbers_in (pushed space (id ∷ ids) m) space)) (append_assoc done (id ∷ []) ids)
     (by_place-pushed space (done ++ id ∷ []) ids (with_next_number space id m) (IsDistinct-tail nat_eq id ids distinct) others one)
 
--- numbers by place are what the maps answer
+-- the maps return the numbers by position
 in_order : (space : Space) (ids : List ℕ) (m : IdsToIndices) → ByPlace ids (numbers_in m space) → AreNumberedInOrder space ids m
 in_order space ids m places =
     let found : (id index : ℕ) → number_of m space id ≡ Ok index → slice_get ids index ≡ Some id = λ id index has. places.place id index (some_or_ok _ _ index has) in

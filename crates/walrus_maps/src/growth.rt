@@ -4,7 +4,7 @@ ghost use Rattle.walrus_maps.specs.Growth.{index_behind};
 
 use wasm_body::IndexError;
 
-/// The index that is given behind so many ids. It takes no memory.
+/// The index of the next id after this many.
 pub(crate) fn index_behind(count: usize) -> Result<u32, IndexError>
     ensures { result ≡ index_behind count }
 {

@@ -23,7 +23,7 @@ impl<K> Model for IdList<K> {
 }
 
 impl<K> IdList<K> {
-    /// No ids. It takes no memory.
+    /// No ids.
     pub fn new(alloc: Global) -> Self
         ensures { result ≡ [] }
     {
@@ -32,7 +32,7 @@ impl<K> IdList<K> {
         }
     }
 
-    /// Adds an id behind the others, and answers its index.
+    /// Adds an id after the others, and returns its index.
     pub fn push(&mut self, id: Id<K>) -> Result<u32, IndexError>
         ensures index { IfOk result (λ n. n ≡ length self.old) }
         ensures ok { OnOk result (self.new ≡ self.old ++ id ∷ []) }
@@ -44,14 +44,14 @@ impl<K> IdList<K> {
         Ok(index)
     }
 
-    /// The id with this index, if there is one. It takes no memory.
+    /// The id with this index, if there is one.
     pub fn get(&self, index: u32) -> Option<Id<K>>
         ensures { result ≡ slice_get self.now index }
     {
         self.ids.get(index as usize).copied()
     }
 
-    /// The id with this index, or `OutOfRange` in this space. It takes no memory.
+    /// The id with this index, or `OutOfRange` with this space.
     pub fn get_in(&self, space: Space, index: u32) -> Result<Id<K>, IndexError>
         ensures { result ≡ some_or (slice_get self.now index) (IndexError.OutOfRange space index) }
     {
@@ -59,7 +59,7 @@ impl<K> IdList<K> {
             .ok_or(IndexError::OutOfRange { space, index })
     }
 
-    /// Puts an id at an index in the place of the one that is there. It takes no memory.
+    /// Replaces the id at an index.
     pub fn set(&mut self, index: u32, id: Id<K>)
         requires { index < length self.old }
         ensures { self.new ≡ slice_set self.old index id }

@@ -28,7 +28,7 @@ impl<K> Model for IdNumbers<K> {
 }
 
 impl<K> IdNumbers<K> {
-    /// No numbers. It takes no memory.
+    /// No numbers.
     pub fn new(alloc: Global) -> Self
         ensures { result ≡ map.empty }
     {
@@ -44,7 +44,7 @@ impl<K> IdNumbers<K> {
         self.numbers.len()
     }
 
-    /// Gives an id that has no number the next one: how many have one.
+    /// Gives an id that has no number the next one, which is how many ids have one.
     pub fn push(&mut self, id: Id<K>) -> Result<(), IndexError>
         requires { map.get self.old id ≡ None }
         ensures ok { OnOk result (self.new ≡ map.insert self.old id (map.len self.old)) }
@@ -55,7 +55,7 @@ impl<K> IdNumbers<K> {
         self.set(id, number)
     }
 
-    /// Gives an id this number, in the place of the one that it has.
+    /// Gives an id this number, and replaces the one it has.
     pub fn set(&mut self, id: Id<K>, number: u32) -> Result<(), IndexError>
         ensures ok { OnOk result (self.new ≡ map.insert self.old id number) }
         ensures err { OnErr result (self.new ≡ self.old) }
@@ -65,7 +65,7 @@ impl<K> IdNumbers<K> {
         Ok(())
     }
 
-    /// The number of an id, or `Unnumbered` in this space. It takes no memory.
+    /// The number of an id, or `Unnumbered` with this space.
     pub fn get_in(&self, space: Space, id: Id<K>) -> Result<u32, IndexError>
         ensures { result ≡ some_or (map.get self.now id) (IndexError.Unnumbered space) }
     {

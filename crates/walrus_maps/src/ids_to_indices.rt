@@ -16,8 +16,8 @@ use walrus_ir::{
 use wasm_body::IndexError;
 use wasm_operators::Space;
 
-/// The new indices of ids, which are the numbers that are written for them. Each space counts its
-/// indices from 0 on.
+/// The new indices of ids: the numbers that are written for them. Each space has its own indices,
+/// from 0 on (WebAssembly core specification 3.0, structure, modules, indices).
 #[derive(Drop)]
 pub struct IdsToIndices {
     tables: IdNumbers<kind::Table>,
@@ -28,12 +28,12 @@ pub struct IdsToIndices {
     elements: IdNumbers<kind::Element>,
     data: IdNumbers<kind::Data>,
     tags: IdNumbers<kind::Tag>,
-    /// The new indices of the locals of each function, which whoever numbers them sets.
+    /// The new indices of the locals of each function, set by whoever numbers them.
     pub locals: IdHashMap<FunctionId, IdHashMap<LocalId, u32>>,
 }
 
 impl IdsToIndices {
-    /// No id has a new index. It takes no memory.
+    /// No id has a new index. Allocates nothing.
     pub fn new(alloc: Global) -> IdsToIndices
         ensures numbers { (space : Space) → numbers_in result space ≡ map.empty }
         ensures locals { IsEmpty result.locals }
@@ -51,8 +51,8 @@ impl IdsToIndices {
         }
     }
 
-    /// Gives a table that has no new index the next one. Errors: `TooMany` where 2^32 have one, and
-    /// `Memory`.
+    /// Gives a table that has no new index the next one. Errors: `TooMany` if 2^32 tables have one,
+    /// `Memory` if memory runs out.
     pub fn push_table(&mut self, id: TableId) -> Result<(), IndexError>
         requires { IsErr (number_of self.old Tables id) }
         ensures ok { OnOk result (self.new ≡ with_next_number Tables id self.old) }
@@ -62,8 +62,8 @@ impl IdsToIndices {
         self.tables.push(id)
     }
 
-    /// Gives a type that has no new index the next one. Errors: `TooMany` where 2^32 have one, and
-    /// `Memory`.
+    /// Gives a type that has no new index the next one. Errors: `TooMany` if 2^32 types have one,
+    /// `Memory` if memory runs out.
     pub fn push_type(&mut self, id: TypeId) -> Result<(), IndexError>
         requires { IsErr (number_of self.old Types id) }
         ensures ok { OnOk result (self.new ≡ with_next_number Types id self.old) }
@@ -73,8 +73,8 @@ impl IdsToIndices {
         self.types.push(id)
     }
 
-    /// Gives a function that has no new index the next one. Errors: `TooMany` where 2^32 have one,
-    /// and `Memory`.
+    /// Gives a function that has no new index the next one. Errors: `TooMany` if 2^32 functions
+    /// have one, `Memory` if memory runs out.
     pub fn push_func(&mut self, id: FunctionId) -> Result<(), IndexError>
         requires { IsErr (number_of self.old Funcs id) }
         ensures ok { OnOk result (self.new ≡ with_next_number Funcs id self.old) }
@@ -84,8 +84,8 @@ impl IdsToIndices {
         self.funcs.push(id)
     }
 
-    /// Gives a global that has no new index the next one. Errors: `TooMany` where 2^32 have one,
-    /// and `Memory`.
+    /// Gives a global that has no new index the next one. Errors: `TooMany` if 2^32 globals have
+    /// one, `Memory` if memory runs out.
     pub fn push_global(&mut self, id: GlobalId) -> Result<(), IndexError>
         requires { IsErr (number_of self.old Globals id) }
         ensures ok { OnOk result (self.new ≡ with_next_number Globals id self.old) }
@@ -95,8 +95,8 @@ impl IdsToIndices {
         self.globals.push(id)
     }
 
-    /// Gives a memory that has no new index the next one. Errors: `TooMany` where 2^32 have one,
-    /// and `Memory`.
+    /// Gives a memory that has no new index the next one. Errors: `TooMany` if 2^32 memories have
+    /// one, `Memory` if memory runs out.
     pub fn push_memory(&mut self, id: MemoryId) -> Result<(), IndexError>
         requires { IsErr (number_of self.old Memories id) }
         ensures ok { OnOk result (self.new ≡ with_next_number Memories id self.old) }
@@ -106,8 +106,8 @@ impl IdsToIndices {
         self.memories.push(id)
     }
 
-    /// Gives an element segment that has no new index the next one. Errors: `TooMany` where 2^32
-    /// have one, and `Memory`.
+    /// Gives an element segment that has no new index the next one. Errors: `TooMany` if 2^32
+    /// element segments have one, `Memory` if memory runs out.
     pub fn push_element(&mut self, id: ElementId) -> Result<(), IndexError>
         requires { IsErr (number_of self.old Elements id) }
         ensures ok { OnOk result (self.new ≡ with_next_number Elements id self.old) }
@@ -117,8 +117,8 @@ impl IdsToIndices {
         self.elements.push(id)
     }
 
-    /// Gives a tag that has no new index the next one. Errors: `TooMany` where 2^32 have one, and
-    /// `Memory`.
+    /// Gives a tag that has no new index the next one. Errors: `TooMany` if 2^32 tags have one,
+    /// `Memory` if memory runs out.
     pub fn push_tag(&mut self, id: TagId) -> Result<(), IndexError>
         requires { IsErr (number_of self.old Tags id) }
         ensures ok { OnOk result (self.new ≡ with_next_number Tags id self.old) }
@@ -128,8 +128,8 @@ impl IdsToIndices {
         self.tags.push(id)
     }
 
-    /// Gives a data segment this new index, in the place of the one that it has. The only error is
-    /// `Memory`.
+    /// Gives a data segment this new index, and replaces the one it has. The only error is
+    /// `Memory`, if memory runs out.
     pub fn set_data_index(&mut self, id: DataId, index: u32) -> Result<(), IndexError>
         ensures ok { OnOk result (self.new ≡ with_number Data id index self.old) }
         ensures err { OnErr result (self.new ≡ self.old) }
@@ -138,56 +138,56 @@ impl IdsToIndices {
         self.data.set(id, index)
     }
 
-    /// The new index of a table, or `Unnumbered`. It takes no memory.
+    /// The new index of a table, or `Unnumbered`. Allocates nothing.
     pub fn get_table_index(&self, id: TableId) -> Result<u32, IndexError>
         ensures { result ≡ number_of self.now Tables id }
     {
         self.tables.get_in(Space::Tables, id)
     }
 
-    /// The new index of a type, or `Unnumbered`. It takes no memory.
+    /// The new index of a type, or `Unnumbered`. Allocates nothing.
     pub fn get_type_index(&self, id: TypeId) -> Result<u32, IndexError>
         ensures { result ≡ number_of self.now Types id }
     {
         self.types.get_in(Space::Types, id)
     }
 
-    /// The new index of a function, or `Unnumbered`. It takes no memory.
+    /// The new index of a function, or `Unnumbered`. Allocates nothing.
     pub fn get_func_index(&self, id: FunctionId) -> Result<u32, IndexError>
         ensures { result ≡ number_of self.now Funcs id }
     {
         self.funcs.get_in(Space::Funcs, id)
     }
 
-    /// The new index of a global, or `Unnumbered`. It takes no memory.
+    /// The new index of a global, or `Unnumbered`. Allocates nothing.
     pub fn get_global_index(&self, id: GlobalId) -> Result<u32, IndexError>
         ensures { result ≡ number_of self.now Globals id }
     {
         self.globals.get_in(Space::Globals, id)
     }
 
-    /// The new index of a memory, or `Unnumbered`. It takes no memory.
+    /// The new index of a memory, or `Unnumbered`. Allocates nothing.
     pub fn get_memory_index(&self, id: MemoryId) -> Result<u32, IndexError>
         ensures { result ≡ number_of self.now Memories id }
     {
         self.memories.get_in(Space::Memories, id)
     }
 
-    /// The new index of an element segment, or `Unnumbered`. It takes no memory.
+    /// The new index of an element segment, or `Unnumbered`. Allocates nothing.
     pub fn get_element_index(&self, id: ElementId) -> Result<u32, IndexError>
         ensures { result ≡ number_of self.now Elements id }
     {
         self.elements.get_in(Space::Elements, id)
     }
 
-    /// The new index of a data segment, or `Unnumbered`. It takes no memory.
+    /// The new index of a data segment, or `Unnumbered`. Allocates nothing.
     pub fn get_data_index(&self, id: DataId) -> Result<u32, IndexError>
         ensures { result ≡ number_of self.now Data id }
     {
         self.data.get_in(Space::Data, id)
     }
 
-    /// The new index of a tag, or `Unnumbered`. It takes no memory.
+    /// The new index of a tag, or `Unnumbered`. Allocates nothing.
     pub fn get_tag_index(&self, id: TagId) -> Result<u32, IndexError>
         ensures { result ≡ number_of self.now Tags id }
     {
@@ -195,8 +195,8 @@ impl IdsToIndices {
     }
 }
 
-/// Distinct ids, pushed into a space where no id has a new index, are numbered in their order, from
-/// 0 on without gaps. No other id gets a number, and no two get the same one.
+/// Distinct ids that are pushed into a space in which no id has a new index are numbered in their
+/// order, from 0 on without gaps. No other id gets a number, and no two get the same one.
 pub fn law_numbers_of_pushes()
     ensures { PushesNumberInOrder }
 {}

@@ -1,5 +1,5 @@
-//! Index maps: from the indices of a module that is read to ids, and from ids to the indices of one that
-//! is written.
+//! Index maps: from the indices of a module that is read to ids, and from ids to the indices of a
+//! module that is written.
 #![tactic(auto)]
 
 mod function_locals;
