@@ -1,4 +1,4 @@
--- Reading bits a byte at a time.
+-- Reading bits one byte at a time.
 use Rattle.std.proofs.Common.{◌≡◌, ℕ, zero, suc, ◌+◌, ◌-◌, ◌*◌, ◌<◌, List, ◌∷◌, Result, Ok, Err, refl, ap, arith}
 use Rattle.wasm_numbers.specs.declared.fault.ReadFault.{ReadFault}
 use Rattle.wasm_numbers.specs.Reading.{many}
@@ -16,7 +16,7 @@ unfolding many
 bits_short zero text e h p = absurd (omega arith)
 bits_short (suc count) text e h p = rw p refl
 
--- what bytes stand for, and what they stand for behind one more
+-- the number of some bytes, and of the same bytes after one more
 abbrev as_number : List ℕ × List ℕ → Result (ℕ × List ℕ) ReadFault
 as_number x = Ok (joined x.0, x.1)
 

@@ -1,4 +1,4 @@
--- So many bytes are read where as many are there.
+-- This many bytes are read if there are as many.
 use Rattle.std.proofs.Common.{◌≡◌, ℕ, zero, suc, ◌<◌, ◌≤◌, List, [], ◌∷◌, length, take, drop, Ok, Err, refl, arith}
 use Rattle.wasm_numbers.specs.declared.fault.ReadFault.TheVariants.{Truncated}
 use Rattle.wasm_numbers.specs.Reading.{many}

@@ -1,4 +1,4 @@
--- Reading numbers byte by byte: a last byte, and a byte in front of others.
+-- Reading numbers byte by byte: a last byte, and a byte before others.
 use Rattle.std.proofs.Common.{◌≡◌, ℕ, ◌+◌, ◌-◌, ◌^◌, ◌<◌, ◌≤◌, List, [], ◌∷◌, length, take, drop, slice_index_or, Some, Ok, refl, ap, sym, ◌∙◌, pos, ◌-ℤ◌, arith}
 use Rattle.std.proofs.lemmas.List.{take_all}
 use Rattle.std.proofs.lemmas.Bool.{lt-ltb, le-ltb, lt-leb, le-leb}
@@ -15,7 +15,7 @@ last_high bits byte wide high =
     let fits : 128 ≤ byte + 2 ^ (bits - 1) = omega (arith, pow_64 bits wide) in
     rw (le-ltb byte 64 high, le-leb 128 (byte + 2 ^ (bits - 1)) fits) refl
 
--- what follows the first byte, as a slice has it
+-- what follows the first byte, read as a slice
 abbrev pub behind : List ℕ → List ℕ
 behind bytes = take (length bytes - 1) (drop 1 bytes)
 
@@ -39,7 +39,7 @@ pub one : {V : Type 0} (e : Encoding V) (bits : ℕ) (bytes : List ℕ) (v : V) 
     → e.last bits (slice_index_or bytes 0 0) ≡ Some v → integer e bits bytes ≡ Ok (v, behind bytes)
 one e bits bytes v some low last = ap (integer e bits) (front bytes some) ∙ one_of e bits (slice_index_or bytes 0 0) (behind bytes) v low last
 
--- a byte at the front that others follow
+-- a byte at the front, with more of the number after it
 pub more : {V : Type 0} (e : Encoding V) (bits : ℕ) (bytes : List ℕ) (high : V) (rest : List ℕ) → 1 ≤ length bytes → 128 ≤ slice_index_or bytes 0 0 → 7 < bits
     → integer e (bits - 7) (behind bytes) ≡ Ok (high, rest) → integer e bits bytes ≡ Ok (e.more (slice_index_or bytes 0 0 - 128) high, rest)
 more e bits bytes high rest some low wide read =

@@ -1,25 +1,25 @@
--- Numbers (WebAssembly core specification 3.0, binary format, values: bytes, integers, floats). An integer of N bits is
--- spelt in LEB128: seven bits a byte, the least first.
+-- Numbers (WebAssembly core specification 3.0, binary format, values: bytes, integers, floats). An integer of N bits is spelt
+-- in LEB128: seven bits a byte, the least significant first.
 use Rattle.std.specs.Prelude.{◌≡◌, ℕ, ◌+◌, ◌-◌, ◌*◌, ◌^◌, ◌<◌, ◌≤◌, List, [], ◌∷◌, Option, Some, None, Ok, Err, Result, nat_lt, nat_le, if◌then◌else◌, ℤ, pos, ◌+ℤ◌, ◌-ℤ◌, ◌*ℤ◌}
 use Rattle.wasm_numbers.specs.declared.fault.ReadFault.{ReadFault}
 use Rattle.wasm_numbers.specs.declared.fault.ReadFault.TheVariants.{Truncated, BadNumber}
 use Rattle.wasm_numbers.specs.Reading.{Spelling, Reader, Many, many, Made, made}
 use Rattle.walrus_ir.specs.Results.{◌>>=◌}
 
--- How bytes make a number: what a last byte below 128 stands for, where so many bits are left for it, if it may stand
--- there; and what the low seven bits of a byte from 128 on make of the number that is spelt behind it.
+-- How bytes make a number. Of a last byte, below 128, with this many bits left: its number, if it is allowed there. Of a byte
+-- from 128 on: the number that its low seven bits and the number spelt after it make.
 pub record Encoding (V : Type 0) : Type 0 where
   pub last : (bits byte : ℕ) → Option V
   pub more : (low : ℕ) (high : V) → V
 
--- u(N): a last byte has no bit set that N doesn't allow
+-- u(N): a last byte has no bit set beyond the N bits
 abbrev pub unsigned_last : ℕ → ℕ → Option ℕ
 unsigned_last bits byte = if nat_lt byte (2 ^ bits) then Some byte else None
 
 abbrev pub unsigned : Encoding ℕ
 unsigned = record { last = unsigned_last; more = λ low high. low + 128 * high }
 
--- s(N): the sign is bit 6 of a last byte, and the bits that N doesn't allow are as the sign
+-- s(N): bit 6 of a last byte is the sign, and the bits beyond the N bits are equal to it
 abbrev pub signed_last : ℕ → ℕ → Option ℤ
 signed_last bits byte =
     if nat_lt byte 64 then (if nat_lt byte (2 ^ (bits - 1)) then Some (pos byte) else None)
@@ -28,8 +28,8 @@ signed_last bits byte =
 abbrev pub signed : Encoding ℤ
 signed = record { last = signed_last; more = λ low high. pos low +ℤ (pos 128 *ℤ high) }
 
--- The bytes spell a number of so many bits. Behind a byte from 128 on stands a number of seven bits less: so the limits
--- of length and of unused bits follow, and longer spellings than needed are allowed within them.
+-- The bytes spell a number of this many bits. A byte from 128 on is followed by a number of seven bits less. So the limits of
+-- length and of unused bits follow, and longer spellings than needed are allowed within them.
 abbrev pub IsInteger : {V : Type 0} → Encoding V → (bits : ℕ) → Spelling V
 IsInteger e bits v [] = ⊥
 IsInteger e bits v (b ∷ []) = (b < 128) × (e.last bits b ≡ Some v)
@@ -78,7 +78,7 @@ s33 = integer signed 33
 abbrev pub s64 : Reader ℤ
 s64 = integer signed 64
 
--- ---- bytes, and bits as bytes, the least first
+-- ---- bytes, and bits as bytes, the least significant first
 
 abbrev pub IsByte : Spelling ℕ
 IsByte b text = (b < 256) × (text ≡ b ∷ [])
@@ -87,7 +87,7 @@ abbrev pub byte : Reader ℕ
 byte [] = Err Truncated
 byte (b ∷ bytes) = Ok (b, bytes)
 
--- what bytes stand for as one number
+-- the number that bytes make
 abbrev pub joined : List ℕ → ℕ
 joined [] = 0
 joined (b ∷ bs) = b + 256 * joined bs

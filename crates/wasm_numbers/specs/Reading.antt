@@ -1,6 +1,7 @@
--- Spellings one behind the other, and reading them from left to right: the first part that can't be read is the fault.
--- A spelling is a relation between a value and the bytes that spell it. Reading is a function from the bytes that are
--- there to a value and the bytes behind its spelling. Each pair of definitions below is one way to put them together.
+-- Spellings one after the other, and reading them from left to right: the first part that can't be read is the fault. A
+-- spelling is a relation between a value and the bytes that spell it. Reading is a function from bytes to the value that they
+-- begin with and the bytes that follow its spelling. Each pair of definitions below is one way to combine spellings and their
+-- readings.
 use Rattle.std.specs.Prelude.{◌≡◌, ℕ, zero, suc, List, [], ◌∷◌, ◌++◌, Bool, true, false, if◌then◌else◌, ◌⊎◌, Result, Ok}
 use Rattle.walrus_ir.specs.Results.{◌>>=◌}
 use Rattle.wasm_numbers.specs.declared.fault.ReadFault.{ReadFault}
@@ -9,11 +10,11 @@ use Rattle.wasm_numbers.specs.declared.fault.ReadFault.{ReadFault}
 abbrev pub Spelling : Type 0 → Type 1
 Spelling A = A → List ℕ → Type 0
 
--- the value at the front and what follows it, or why there is none
+-- the value at the front and the bytes that follow it, or why there is none
 abbrev pub Reader : Type 0 → Type 0
 Reader A = List ℕ → Result (A × List ℕ) ReadFault
 
--- ---- one behind the other, where the second may depend on what the first spells
+-- ---- one after the other, where the second may depend on the value of the first
 
 abbrev pub Then : {A B : Type 0} → Spelling A → (A → Spelling B) → Spelling (A × B)
 Then First Second v text = (first second : List ℕ) × (text ≡ first ++ second) × First v.0 first × Second v.0 v.1 second
@@ -21,7 +22,7 @@ Then First Second v text = (first second : List ℕ) × (text ≡ first ++ secon
 abbrev pub then_read : {A B : Type 0} → Reader A → (A → Reader B) → Reader (A × B)
 then_read first second bytes = first bytes >>= λ x. second x.0 x.1 >>= λ y. Ok ((x.0, y.0), y.1)
 
--- ---- what is spelt makes the value, or is refused
+-- ---- the spelt value makes another value, or is refused
 
 abbrev pub Made : {A B : Type 0} → Spelling A → (A → Result B ReadFault) → Spelling B
 Made {A} Raw make v text = (raw : A) × (make raw ≡ Ok v) × Raw raw text
@@ -29,7 +30,7 @@ Made {A} Raw make v text = (raw : A) × (make raw ≡ Ok v) × Raw raw text
 abbrev pub made : {A B : Type 0} → Reader A → (A → Result B ReadFault) → Reader B
 made raw make bytes = raw bytes >>= λ x. make x.0 >>= λ v. Ok (v, x.1)
 
--- ---- so many, one behind the other
+-- ---- a number of them, one after the other
 
 abbrev pub Many : {A : Type 0} → Spelling A → ℕ → Spelling (List A)
 Many One zero [] text = text ≡ []

@@ -2,8 +2,8 @@
 
 use thiserror::Error;
 
-/// What is wrong with the bytes of an operator: the first part, from left to right, that can't be
-/// read.
+/// What is wrong with the bytes of an operator: the fault of the first part, from left to right,
+/// that can't be read.
 #[derive(Clone, Copy, Debug, PartialEq, Eq, Error)]
 pub enum ReadFault {
     #[error("the bytes end inside an operator")]
@@ -26,7 +26,7 @@ pub enum ReadFault {
     BadSelect,
 }
 
-/// An operator that can't be read, and its place: that of its first byte.
+/// An operator that can't be read: why, and its place, the byte offset of its first byte.
 #[derive(Clone, Copy, Debug, PartialEq, Eq, Error)]
 #[error("{fault} at {at}")]
 pub struct ReadError {

@@ -8,7 +8,7 @@ ghost use Rattle.wasm_numbers.specs.Numbers.{unsigned, signed, unsigned_last, si
 
 use crate::fault::ReadFault;
 
-/// What a last byte stands for in an unsigned number with so many bits left.
+/// The number of a last byte in an unsigned number with this many bits left.
 #[tactic(auto, using(crate::proofs::Powers::powers))]
 fn last_unsigned(bits: u32, byte: u8) -> Option<u64>
     requires { byte < 128 }
@@ -24,7 +24,7 @@ fn last_unsigned(bits: u32, byte: u8) -> Option<u64>
     }
 }
 
-/// What a last byte stands for in a signed number with so many bits left.
+/// The number of a last byte in a signed number with this many bits left.
 #[tactic(auto, using(crate::proofs::Powers::powers))]
 fn last_signed(bits: u32, byte: u8) -> Option<i64>
     requires some { 0 < bits }
@@ -43,7 +43,7 @@ fn last_signed(bits: u32, byte: u8) -> Option<i64>
     }
 }
 
-/// The number of `bits` bits that has these low seven bits, and this number above them.
+/// The number of `bits` bits that has these low seven bits and this number above them.
 fn join_unsigned(bits: u32, low: u8, high: u64) -> u64
     requires long { 7 < bits }
     requires wide { bits ≤ 64 }
@@ -55,7 +55,7 @@ fn join_unsigned(bits: u32, low: u8, high: u64) -> u64
     low as u64 + 128 * high
 }
 
-/// The signed number of `bits` bits that has these low seven bits, and this number above them.
+/// The signed number of `bits` bits that has these low seven bits and this number above them.
 #[inline(always)]
 fn join_signed(bits: u32, low: u8, high: i64) -> i64
     requires long { 7 < bits }
@@ -71,7 +71,7 @@ fn join_signed(bits: u32, low: u8, high: i64) -> i64
     low as i64 + shifted
 }
 
-/// An unsigned number of `bits` bits at the front, and what follows it.
+/// Reads an unsigned number of `bits` bits at the front. Returns it and the bytes that follow.
 #[tactic(auto, using(crate::proofs::Powers::powers), unfolding(crate::specs::Numbers::integer))]
 fn read_unsigned(bits: u32, bytes: &[u8]) -> Result<(u64, &[u8]), ReadFault>
     requires { bits ≤ 64 }
@@ -96,7 +96,8 @@ fn read_unsigned(bits: u32, bytes: &[u8]) -> Result<(u64, &[u8]), ReadFault>
     }
 }
 
-/// A signed number of `bits` bits at the front, and what follows it.
+/// Reads a signed number of `bits` bits at the front (WebAssembly core specification 3.0, binary
+/// format, values). Returns it and the bytes that follow.
 #[tactic(auto, using(crate::proofs::Powers::powers), unfolding(crate::specs::Numbers::integer))]
 pub fn read_signed(bits: u32, bytes: &[u8]) -> Result<(i64, &[u8]), ReadFault>
     requires some { 0 < bits }
@@ -123,7 +124,7 @@ pub fn read_signed(bits: u32, bytes: &[u8]) -> Result<(i64, &[u8]), ReadFault>
     }
 }
 
-/// A `u32` at the front, of any number of bytes, and what follows it.
+/// Reads a `u32` at the front, of any number of bytes. Returns it and the bytes that follow.
 #[inline(never)]
 fn read_u32_of_any_length(bytes: &[u8]) -> Result<(u32, &[u8]), ReadFault>
     ensures { Gives (λ x. (x.0, x.1.now)) result (a_u32 bytes.now) }
@@ -132,11 +133,13 @@ fn read_u32_of_any_length(bytes: &[u8]) -> Result<(u32, &[u8]), ReadFault>
     Ok((value as u32, rest))
 }
 
-/// A `u32` at the front, and what follows it. Most are of one byte. It takes no memory.
+/// Reads a `u32` at the front (WebAssembly core specification 3.0, binary format, values). Returns
+/// it and the bytes that follow. Fastest for one byte. Allocates nothing.
 ///
 /// # Errors
 ///
-/// `BadNumber` where it is too long or too great; else `Truncated` where the bytes end inside it.
+/// `BadNumber` if the number is too long or too great; otherwise `Truncated` if the bytes end
+/// inside it.
 #[inline(always)]
 #[tactic(auto, using(crate::proofs::Powers::powers), unfolding(crate::specs::Numbers::integer))]
 pub fn read_u32(bytes: &[u8]) -> Result<(u32, &[u8]), ReadFault>
@@ -150,7 +153,7 @@ pub fn read_u32(bytes: &[u8]) -> Result<(u32, &[u8]), ReadFault>
     read_u32_of_any_length(bytes)
 }
 
-/// A `u64` at the front, of any number of bytes, and what follows it.
+/// Reads a `u64` at the front, of any number of bytes. Returns it and the bytes that follow.
 #[inline(never)]
 fn read_u64_of_any_length(bytes: &[u8]) -> Result<(u64, &[u8]), ReadFault>
     ensures { Gives (λ x. (x.0, x.1.now)) result (a_u64 bytes.now) }
@@ -158,7 +161,8 @@ fn read_u64_of_any_length(bytes: &[u8]) -> Result<(u64, &[u8]), ReadFault>
     read_unsigned(64, bytes)
 }
 
-/// A `u64` at the front, and what follows it. Most are of one byte. It takes no memory.
+/// Reads a `u64` at the front (WebAssembly core specification 3.0, binary format, values). Returns
+/// it and the bytes that follow. Fastest for one byte. Allocates nothing.
 ///
 /// # Errors
 ///
@@ -176,7 +180,7 @@ pub fn read_u64(bytes: &[u8]) -> Result<(u64, &[u8]), ReadFault>
     read_u64_of_any_length(bytes)
 }
 
-/// An `s32` at the front, of any number of bytes, and what follows it.
+/// Reads an `s32` at the front, of any number of bytes. Returns it and the bytes that follow.
 #[inline(never)]
 fn read_s32_of_any_length(bytes: &[u8]) -> Result<(i32, &[u8]), ReadFault>
     ensures { Gives (λ x. (x.0, x.1.now)) result (an_s32 bytes.now) }
@@ -185,7 +189,8 @@ fn read_s32_of_any_length(bytes: &[u8]) -> Result<(i32, &[u8]), ReadFault>
     Ok((value as i32, rest))
 }
 
-/// An `s32` at the front, and what follows it. Most are of one byte.
+/// Reads an `s32` at the front (WebAssembly core specification 3.0, binary format, values). Returns
+/// it and the bytes that follow. Fastest for one byte.
 #[inline(always)]
 #[tactic(auto, using(crate::proofs::Powers::powers), unfolding(crate::specs::Numbers::integer))]
 pub fn read_s32(bytes: &[u8]) -> Result<(i32, &[u8]), ReadFault>
@@ -202,7 +207,7 @@ pub fn read_s32(bytes: &[u8]) -> Result<(i32, &[u8]), ReadFault>
     read_s32_of_any_length(bytes)
 }
 
-/// An `s64` at the front, of any number of bytes, and what follows it.
+/// Reads an `s64` at the front, of any number of bytes. Returns it and the bytes that follow.
 #[inline(never)]
 fn read_s64_of_any_length(bytes: &[u8]) -> Result<(i64, &[u8]), ReadFault>
     ensures { Gives (λ x. (x.0, x.1.now)) result (an_s64 bytes.now) }
@@ -210,7 +215,8 @@ fn read_s64_of_any_length(bytes: &[u8]) -> Result<(i64, &[u8]), ReadFault>
     read_signed(64, bytes)
 }
 
-/// An `s64` at the front, and what follows it. Most are of one byte.
+/// Reads an `s64` at the front (WebAssembly core specification 3.0, binary format, values). Returns
+/// it and the bytes that follow. Fastest for one byte.
 #[inline(always)]
 #[tactic(auto, using(crate::proofs::Powers::powers), unfolding(crate::specs::Numbers::integer))]
 pub fn read_s64(bytes: &[u8]) -> Result<(i64, &[u8]), ReadFault>
@@ -227,8 +233,8 @@ pub fn read_s64(bytes: &[u8]) -> Result<(i64, &[u8]), ReadFault>
     read_s64_of_any_length(bytes)
 }
 
-/// An unsigned number of up to three bytes at the front, and what follows it, where one stands
-/// there.
+/// Reads an unsigned number of up to three bytes at the front, if there is one. Returns it and the
+/// bytes that follow.
 #[inline(always)]
 #[tactic(auto, using(crate::proofs::Powers::powers), unfolding(crate::specs::Numbers::integer))]
 pub fn read_short_unsigned(bytes: &[u8]) -> Option<(u32, &[u8])>
@@ -258,7 +264,7 @@ pub fn read_short_unsigned(bytes: &[u8]) -> Option<(u32, &[u8])>
     None
 }
 
-/// What a last byte stands for in a signed number with seven bits or more left.
+/// The number of a last byte in a signed number with seven bits or more left.
 #[inline(always)]
 fn wide_last_signed(byte: u8) -> i64
     requires { byte < 128 }
@@ -273,7 +279,8 @@ fn wide_last_signed(byte: u8) -> i64
     }
 }
 
-/// A signed number of up to three bytes at the front, and what follows it, where one stands there.
+/// Reads a signed number of up to three bytes at the front, if there is one. Returns it and the
+/// bytes that follow.
 #[inline(always)]
 #[tactic(auto, using(crate::proofs::Powers::powers), unfolding(crate::specs::Numbers::integer))]
 fn read_short_signed(bytes: &[u8]) -> Option<(i64, &[u8])>
@@ -305,7 +312,8 @@ fn read_short_signed(bytes: &[u8]) -> Option<(i64, &[u8])>
     None
 }
 
-/// An `s32` of up to three bytes at the front, and what follows it, where one stands there.
+/// Reads an `s32` of up to three bytes at the front, if there is one. Returns it and the bytes that
+/// follow.
 #[inline(always)]
 pub fn read_short_s32(bytes: &[u8]) -> Option<(i32, &[u8])>
     ensures { IfSome result (λ x. an_s32 bytes.now ≡ Ok (x.0, x.1.now)) }
@@ -314,7 +322,8 @@ pub fn read_short_s32(bytes: &[u8]) -> Option<(i32, &[u8])>
     Some((value as i32, rest))
 }
 
-/// An `s64` of up to three bytes at the front, and what follows it, where one stands there.
+/// Reads an `s64` of up to three bytes at the front, if there is one. Returns it and the bytes that
+/// follow.
 #[inline(always)]
 pub fn read_short_s64(bytes: &[u8]) -> Option<(i64, &[u8])>
     ensures { IfSome result (λ x. an_s64 bytes.now ≡ Ok (x.0, x.1.now)) }
@@ -322,7 +331,7 @@ pub fn read_short_s64(bytes: &[u8]) -> Option<(i64, &[u8])>
     read_short_signed(bytes)
 }
 
-/// A byte at the front, and what follows it.
+/// Reads a byte at the front. Returns it and the bytes that follow.
 pub fn read_byte(bytes: &[u8]) -> Result<(u8, &[u8]), ReadFault>
     ensures { Gives (λ x. (x.0, x.1.now)) result (byte_at bytes.now) }
 {
@@ -332,7 +341,7 @@ pub fn read_byte(bytes: &[u8]) -> Result<(u8, &[u8]), ReadFault>
     }
 }
 
-/// The number of `count` bytes that has this low byte, and this number above it.
+/// The number of `count` bytes that has this low byte and this number above it.
 fn join_bytes(count: u32, low: u8, high: u128) -> u128
     requires some { 0 < count }
     requires few { count ≤ 16 }
@@ -343,7 +352,8 @@ fn join_bytes(count: u32, low: u8, high: u128) -> u128
     low as u128 + 256 * high
 }
 
-/// So many bytes at the front as one number, the least first, and what follows them.
+/// Reads `count` bytes at the front as one number, the least significant byte first. Returns it and
+/// the bytes that follow.
 #[tactic(auto, using(crate::proofs::BitsLaws::reading))]
 fn read_bits(count: u32, bytes: &[u8]) -> Result<(u128, &[u8]), ReadFault>
     requires { count ≤ 16 }
@@ -358,7 +368,7 @@ fn read_bits(count: u32, bytes: &[u8]) -> Result<(u128, &[u8]), ReadFault>
     Ok((join_bytes(count, low, high), rest))
 }
 
-/// The bits of an `f32` at the front, and what follows them.
+/// Reads the bits of an `f32` at the front. Returns them and the bytes that follow.
 pub fn read_f32(bytes: &[u8]) -> Result<(u32, &[u8]), ReadFault>
     ensures { Gives (λ x. (x.0, x.1.now)) result (some_bits 4 bytes.now) }
 {
@@ -366,7 +376,7 @@ pub fn read_f32(bytes: &[u8]) -> Result<(u32, &[u8]), ReadFault>
     Ok((bits as u32, rest))
 }
 
-/// The bits of an `f64` at the front, and what follows them.
+/// Reads the bits of an `f64` at the front. Returns them and the bytes that follow.
 pub fn read_f64(bytes: &[u8]) -> Result<(u64, &[u8]), ReadFault>
     ensures { Gives (λ x. (x.0, x.1.now)) result (some_bits 8 bytes.now) }
 {
@@ -374,14 +384,14 @@ pub fn read_f64(bytes: &[u8]) -> Result<(u64, &[u8]), ReadFault>
     Ok((bits as u64, rest))
 }
 
-/// The bits of a `v128` at the front, and what follows them.
+/// Reads the bits of a `v128` at the front. Returns them and the bytes that follow.
 pub fn read_v128(bytes: &[u8]) -> Result<(u128, &[u8]), ReadFault>
     ensures { Gives (λ x. (x.0, x.1.now)) result (some_bits 16 bytes.now) }
 {
     read_bits(16, bytes)
 }
 
-/// Sixteen lanes at the front, and what follows them.
+/// Reads sixteen lanes at the front. Returns them and the bytes that follow.
 #[tactic(auto, using(crate::proofs::Lanes::reading_lanes))]
 pub fn read_lanes(bytes: &[u8]) -> Result<(&[u8; 16], &[u8]), ReadFault>
     ensures { Gives (λ x. (x.0.now, x.1.now)) result (many byte_at 16 bytes.now) }
