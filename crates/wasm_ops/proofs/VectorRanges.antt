@@ -1,4 +1,4 @@
--- What follows 0xfd and a number of a range that the table of vector operators has no gap in.
+-- What follows 0xfd and a number in a range of the vector table all of whose numbers have an operator.
 use Rattle.std.proofs.Common.{◌≡◌, ℕ, ◌+◌, ◌<◌, ◌≤◌, List, [], ◌∷◌, ◌++◌, take, drop, Bool, true, false, Option, Some, None, Ok, Err, refl, sym, ap, ◌∙◌, arith}
 use Rattle.std.proofs.lemmas.Bool.{le-leb, lt-leb, ltb-true}
 use Rattle.std.specs.Prelude.{◌&&◌, nat_le, nat_lt, if◌then◌else◌}
@@ -17,7 +17,7 @@ abbrev pub all_below : {V : Type 0} → ℕ → List (ℕ × V) → Bool
 all_below low [] = true
 all_below low (row ∷ rows) = nat_lt row.0 low && all_below low rows
 
--- A number that lies behind the ranges before, and not behind the next one, has what that one has.
+-- A number after the ranges before, and not after the next one, has the value of that one.
 range_in : {V : Type 0} (before behind : List (ℕ × Option V)) (v : Option V) (low high n : ℕ) → all_below low before ≡ true → low ≤ n → n ≤ high
     → range_at (before ++ ((high, v) ∷ behind)) n ≡ v
 range_in [] behind v low high n below from to =
@@ -29,7 +29,7 @@ range_in (row ∷ rows) behind v low high n below from to =
     let e : nat_le n row.0 ≡ false = lt-leb n row.0 (omega arith) in
     rw e (range_in rows behind v low high n p.1 from to)
 
--- The range at a place of the table has these kinds.
+-- The range at this position in the table has these kinds of immediates.
 vector_kinds : (place : ℕ) (kinds : List Kind) (low high n : ℕ)
     → take place vector_ranges ++ ((high, Some kinds) ∷ drop (place + 1) vector_ranges) ≡ vector_ranges
     → all_below low (take place vector_ranges) ≡ true → low ≤ n → n ≤ high → kinds_behind 0xfd n ≡ Some kinds
@@ -38,7 +38,7 @@ vector_kinds place kinds low high n whole below from to =
     ap (λ (rows : List (ℕ × Option (List Kind))). range_at rows n) (sym whole)
     ∙ range_in (take place vector_ranges) (drop (place + 1) vector_ranges) (Some kinds) low high n below from to
 
--- An operator that nothing follows is read.
+-- An operator without immediates is read.
 pub plain_vector : (place low high n : ℕ) (o : RawOperation) (bytes : List ℕ)
     → take place vector_ranges ++ ((high, Some []) ∷ drop (place + 1) vector_ranges) ≡ vector_ranges
     → all_below low (take place vector_ranges) ≡ true → low ≤ n → n ≤ high → o ≡ operation (Prefixed 0xfd n) []
@@ -46,7 +46,7 @@ pub plain_vector : (place low high n : ℕ) (o : RawOperation) (bytes : List ℕ
 plain_vector place low high n o bytes whole below from to means =
     rw (vector_kinds place [] low high n whole below from to) (ap (λ (m : RawOperation). Ok (m, bytes)) (sym means))
 
--- An operator that a lane follows is read, or its lane isn't there.
+-- An operator with a lane is read, or its lane is missing.
 pub lane_read : (n : ℕ) (o : RawOperation) (bytes rest : List ℕ) (number : ℕ) → 21 ≤ n → n ≤ 34 → byte bytes ≡ Ok (number, rest)
     → o ≡ operation (Prefixed 0xfd n) (lane number ∷ []) → operands (Prefixed 0xfd n) bytes ≡ Ok (o, rest)
 lane_read n o bytes rest number from to read means =

@@ -1,12 +1,12 @@
--- Where a reader stands.
+-- Where a reader is.
 use Rattle.std.specs.Prelude.{◌≡◌, ℕ, ◌+◌, List, ◌++◌, length}
 
--- What is left of the bytes, and the place of the first byte that is left.
+-- The remaining bytes, and the place of the first of them.
 pub record Position : Type 0 where
   pub rest : List ℕ
   pub place : ℕ
 
--- The reader moves behind the text.
+-- The reader moves past the text.
 pub record Moves (old : Position) (text : List ℕ) (new : Position) : Type 0 where
   pub parts : old.rest ≡ text ++ new.rest
   pub place : new.place ≡ old.place + length text

@@ -1,4 +1,4 @@
-//! Reading loads and stores: their memory arguments, and the kinds of their opcodes.
+//! Reading loads and stores: their memory arguments, and the kinds that their opcodes have.
 
 ghost use Rattle.std.specs.Prelude.{◌≡◌, ◌≤◌, IfSome, Ok};
 ghost use Rattle.walrus_ir.specs.Results.{Gives};
@@ -10,7 +10,7 @@ use walrus_ir::{LoadKind, StoreKind};
 use wasm_numbers::{ReadFault, read_short_unsigned, read_u32, read_u64};
 use wasm_operators::{Opcode, RawMemArg};
 
-/// The exponent that flags mean, and whether the index of a memory follows.
+/// The exponent that flags contain, and whether the index of a memory follows.
 fn exponent(flags: u32) -> Result<(u32, bool), ReadFault>
     ensures { Gives (λ x. x) result (memory_flags flags) }
 {
@@ -25,7 +25,8 @@ fn exponent(flags: u32) -> Result<(u32, bool), ReadFault>
     }
 }
 
-/// The index of the memory where one follows, else 0; and what follows it.
+/// Reads the index of the memory if it follows; otherwise it is 0. Returns it and the bytes that
+/// follow.
 fn read_memory(flags: (u32, bool), bytes: &[u8]) -> Result<(u32, &[u8]), ReadFault>
     ensures { Gives (λ x. (x.0, x.1.now)) result (memory_behind flags bytes.now) }
 {
@@ -36,7 +37,8 @@ fn read_memory(flags: (u32, bool), bytes: &[u8]) -> Result<(u32, &[u8]), ReadFau
     }
 }
 
-/// A memory argument of memory 0 and of a byte for each number at the front, and what follows it.
+/// Reads a memory argument at the front if it is of memory 0, its flags have one byte and its
+/// offset has at most three. Returns it and the bytes that follow.
 #[inline(always)]
 #[tactic(auto, using(wasm_numbers::proofs::Powers::powers), unfolding(wasm_operators::specs::Immediates::memory_access, wasm_numbers::specs::Numbers::integer))]
 pub(crate) fn read_short_memarg(bytes: &[u8]) -> Option<(RawMemArg, &[u8])>
@@ -57,7 +59,7 @@ pub(crate) fn read_short_memarg(bytes: &[u8]) -> Option<(RawMemArg, &[u8])>
     Some((memarg, rest))
 }
 
-/// A memory argument at the front, and what follows it.
+/// Reads a memory argument at the front. Returns it and the bytes that follow.
 #[tactic(auto, unfolding(wasm_operators::specs::Immediates::memory_access))]
 pub(crate) fn read_memarg(bytes: &[u8]) -> Result<(RawMemArg, &[u8]), ReadFault>
     ensures { Gives (λ x. (access_of x.0, x.1.now)) result (memory_access bytes.now) }

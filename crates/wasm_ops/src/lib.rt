@@ -1,5 +1,6 @@
-//! Reading operators of WebAssembly; with the numbers and the types that other parts of a module spell
-//! too. What is read is defined in the crates below, whose names this one gives too.
+//! Reading WebAssembly operators, and the numbers and types that other parts of a module contain
+//! too. The values that are read are defined in the crates below, whose names this crate exports
+//! too.
 #![tactic(auto)]
 
 mod access_reader;

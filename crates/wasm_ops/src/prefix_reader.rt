@@ -1,4 +1,4 @@
-//! Reading an operator whose opcode is a prefix byte and a number: a row an operator.
+//! Reading an operator whose opcode is a prefix byte and a number: one row for each operator.
 
 ghost use Rattle.walrus_ir.specs.Results.{Gives};
 ghost use Rattle.wasm_operators.specs.Spelling.{operands};
@@ -16,7 +16,7 @@ use walrus_ir::{LoadKind, LoadSimdKind, StoreKind};
 use wasm_numbers::{ReadFault, read_lanes, read_u32, read_v128};
 use wasm_operators::{Opcode, Operator, index_rows};
 
-/// Reads the operator that has the number: those of the rows behind 0xfc, and the others.
+/// Reads the operator with this number after 0xfc: those of the rows, and the others.
 macro_rules! read_number {
     (
         ($number:ident $bytes:ident)
@@ -39,7 +39,7 @@ macro_rules! read_number {
     };
 }
 
-/// What follows 0xfc and a number.
+/// Reads what follows 0xfc and a number.
 #[tactic(auto, unfolding(wasm_operators::specs::Opcodes::kinds_behind))]
 pub(crate) fn read_behind_fc(number: u32, bytes: &[u8]) -> Result<(Operator<'_>, &[u8]), ReadFault>
     ensures { Gives (λ x. (meaning x.0, x.1.now)) result
@@ -48,7 +48,7 @@ pub(crate) fn read_behind_fc(number: u32, bytes: &[u8]) -> Result<(Operator<'_>,
     index_rows!(read_number, number bytes)
 }
 
-/// What follows 0xfd and a number.
+/// Reads what follows 0xfd and a number.
 #[tactic(auto, unfolding(wasm_operators::specs::Opcodes::kinds_behind))]
 pub(crate) fn read_behind_fd(number: u32, bytes: &[u8]) -> Result<(Operator<'_>, &[u8]), ReadFault>
     ensures { Gives (λ x. (meaning x.0, x.1.now)) result

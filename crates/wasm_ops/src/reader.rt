@@ -19,7 +19,7 @@ use wasm_numbers::{
 };
 use wasm_operators::{Operator, index_rows};
 
-/// The operator at the front, and what follows it.
+/// Reads the operator at the front. Returns it and the bytes that follow.
 #[tactic(auto, unfolding(wasm_operators::specs::Spelling::read_operation, wasm_operators::specs::Opcodes::opcode))]
 fn read_operator(bytes: &[u8]) -> Result<(Operator<'_>, &[u8]), ReadFault>
     ensures { Gives (λ x. (meaning x.0, x.1.now)) result (read_operation bytes.now) }
@@ -46,29 +46,29 @@ fn read_operator(bytes: &[u8]) -> Result<(Operator<'_>, &[u8]), ReadFault>
     }
 }
 
-/// The operator at the front, and what follows it.
+/// Reads the operator at the front. Returns it and the bytes that follow.
 fn read_front(bytes: &[u8]) -> Result<(Operator<'_>, &[u8]), ReadFault>
-    // What is read is spelt by what was taken.
+    // The operator that is read is spelt by the bytes that were taken.
     ensures found { IfOk result (λ x. (text : List ℕ) × (bytes.now ≡ text ++ x.1.now) × Spells (meaning x.0) text) }
-    // What stands at the front is read.
+    // An operator that is spelt at the front is read.
     ensures only { (o : RawOperation) (text rest : List ℕ) → Spells o text → bytes.now ≡ text ++ rest
         → IsOkAnd result (λ x. (meaning x.0 ≡ o) × (x.1.now ≡ rest)) }
-    // What is read, as a function of the bytes.
+    // The result, as a function of the bytes.
     ensures answer { IfOk result (λ x. read_operation bytes.now ≡ Ok (meaning x.0, x.1.now)) }
-    // Which fault it is.
+    // Which fault there is.
     ensures fault { IfErr result (λ e. read_operation bytes.now ≡ Err e) }
 {
     read_operator(bytes)
 }
 
-/// An operator that is read at the front is spelt by what is taken.
+/// An operator that is read at the front is spelt by the bytes that are taken.
 #[inline(always)]
 fn law_front(bytes: &[u8])
     ensures { (o : RawOperation) (rest : List ℕ) → read_operation bytes.now ≡ Ok (o, rest)
         → (text : List ℕ) × (bytes.now ≡ text ++ rest) × Spells o text }
 {}
 
-/// Answers an operator that stands at the front, and goes on behind it.
+/// Returns an operator that is spelt at the front, and moves past it.
 macro_rules! answer {
     ($reader:expr, $operator:expr, $rest:expr) => {{
         let operator = $operator;
@@ -77,7 +77,7 @@ macro_rules! answer {
     }};
 }
 
-/// Answers the operator made of what was read, if it was, and goes on behind it.
+/// Returns the operator made from what was read, if there is any, and moves past it.
 macro_rules! answer_made {
     ($reader:expr, $read:expr, $part:pat => $operator:expr) => {
         if let Some(($part, rest)) = $read {
@@ -86,7 +86,7 @@ macro_rules! answer_made {
     };
 }
 
-/// Answers the operator that has the byte and this number: those of locals, globals and tables, and
+/// Returns the operator with this byte and this number: those on locals, globals and tables, and
 /// others.
 macro_rules! answer_index {
     (
@@ -114,8 +114,8 @@ macro_rules! answer_index {
     };
 }
 
-/// Reads operators one after the other. A contract sees what is left of the bytes, and the place of
-/// its first byte.
+/// Reads operators one after the other (WebAssembly core specification 3.0, binary format,
+/// instructions). A contract sees the remaining bytes and the place of the first of them.
 #[derive(Drop)]
 pub struct Reader<'a> {
     rest: &'a [u8],
@@ -140,7 +140,7 @@ impl<'a> Reader<'a> {
     ghost use Rattle.wasm_ops.specs.Position.{Position, Moves};
     ghost use Rattle.wasm_operators.specs.Meaning.{meaning};
 
-    /// A reader of these bytes, the first of which stands at the place `start`.
+    /// A reader of these bytes. `start` is the place of the first byte, its offset.
     pub fn new(bytes: &'a [u8], start: usize) -> Self
         requires { start + length bytes.now < 2 ^ 64 }
         ensures { result ≡ record { rest = bytes.now; place = start } }
@@ -151,28 +151,28 @@ impl<'a> Reader<'a> {
         }
     }
 
-    /// Whether no byte is left.
+    /// Whether no bytes remain.
     pub fn eof(&self) -> bool
         ensures { result ≡ (length self.now.rest == 0) }
     {
         self.rest.is_empty()
     }
 
-    /// The place of the first byte that is left.
+    /// The place of the first remaining byte.
     pub fn original_position(&self) -> usize
         ensures { result ≡ self.now.place }
     {
         self.position
     }
 
-    /// Goes on behind an operator that stands at the front.
+    /// Moves past an operator that is spelt at the front.
     #[inline(always)]
     fn pass(&mut self, operator: &Operator<'a>, rest: &'a [u8])
         requires { read_operation self.old.rest ≡ Ok (meaning operator.now, rest.now) }
-        // It is spelt by what was passed.
+        // It is spelt by the bytes that were passed.
         ensures found { (text : List ℕ) × Moves self.old text self.new
             × Spells (meaning operator.now) text }
-        // It is what stands at the front.
+        // It is the operator that is spelt at the front.
         ensures only { (o : RawOperation) (text rest : List ℕ) → Spells o text → self.old.rest ≡ text ++ rest
             → (meaning operator.now ≡ o) × Moves self.old text self.new }
         // It is read, as a function of the bytes.
@@ -183,17 +183,17 @@ impl<'a> Reader<'a> {
         self.rest = rest;
     }
 
-    /// The next operator, of any length.
+    /// Reads the next operator, of any length.
     #[inline(never)]
     fn read_at_length(&mut self) -> Result<Operator<'a>, ReadError>
-        // What is read is spelt by what was taken.
+        // The operator that is read is spelt by the bytes that were taken.
         ensures found { IfOk result (λ x. (text : List ℕ) × Moves self.old text self.new × Spells (meaning x) text) }
-        // What stands at the front is read.
+        // An operator that is spelt at the front is read.
         ensures only { (o : RawOperation) (text rest : List ℕ) → Spells o text → self.old.rest ≡ text ++ rest
             → IsOkAnd result (λ x. (meaning x ≡ o) × Moves self.old text self.new) }
-        // What is read, as a function of the bytes.
+        // The result, as a function of the bytes.
         ensures answer { IfOk result (λ x. read_operation self.old.rest ≡ Ok (meaning x, self.new.rest)) }
-        // Which fault it is, and where.
+        // Which fault there is, and where.
         ensures fault { IfErr result (λ e. (read_operation self.old.rest ≡ Err e.fault) × (e.at ≡ self.old.place)) }
         ensures err { OnErr result (self.new ≡ self.old) }
     {
@@ -210,18 +210,23 @@ impl<'a> Reader<'a> {
         }
     }
 
-    /// The next operator. Its parts are read from left to right, and the first that can't be read
-    /// decides the fault. It takes no memory.
+    /// Reads the next operator. Its parts are read from left to right, and the first that can't be
+    /// read decides the fault. Allocates nothing.
+    ///
+    /// # Errors
+    ///
+    /// A `ReadError` with the fault and the place of the operator's first byte. The reader doesn't
+    /// move.
     #[tactic(auto, unfolding(wasm_operators::specs::Spelling::read_operation, wasm_operators::specs::Opcodes::opcode, wasm_operators::specs::Opcodes::kinds_of_byte))]
     pub fn read(&mut self) -> Result<Operator<'a>, ReadError>
-        // What is read is spelt by what was taken.
+        // The operator that is read is spelt by the bytes that were taken.
         ensures found { IfOk result (λ x. (text : List ℕ) × Moves self.old text self.new × Spells (meaning x) text) }
-        // What stands at the front is read.
+        // An operator that is spelt at the front is read.
         ensures only { (o : RawOperation) (text rest : List ℕ) → Spells o text → self.old.rest ≡ text ++ rest
             → IsOkAnd result (λ x. (meaning x ≡ o) × Moves self.old text self.new) }
-        // What is read, as a function of the bytes.
+        // The result, as a function of the bytes.
         ensures answer { IfOk result (λ x. read_operation self.old.rest ≡ Ok (meaning x, self.new.rest)) }
-        // Which fault it is, and where.
+        // Which fault there is, and where.
         ensures fault { IfErr result (λ e. (read_operation self.old.rest ≡ Err e.fault) × (e.at ≡ self.old.place)) }
         ensures err { OnErr result (self.new ≡ self.old) }
     {
@@ -260,8 +265,8 @@ impl<'a> Reader<'a> {
                 }
             }
         }
-        // Taken apart, it gets a place of its own in memory, and the answers above are built in
-        // registers.
+        // Matching on the result gives it a place of its own in memory; the operators returned
+        // above are built in registers.
         match self.read_at_length() {
             Ok(operator) => Ok(operator),
             Err(error) => Err(error),

@@ -1,4 +1,4 @@
-//! Reading operators on references, structs and arrays: a row an operator.
+//! Reading operators on references, structs and arrays: one row for each operator.
 
 ghost use Rattle.std.specs.Prelude.{◌≤◌};
 ghost use Rattle.walrus_ir.specs.Results.{Gives};
@@ -12,7 +12,7 @@ use crate::type_reader::read_heap_type;
 use wasm_numbers::{ReadFault, read_byte, read_u32};
 use wasm_operators::{Opcode, Operator, RawCast, ReferenceOp, aggregate_rows};
 
-/// Whether the source and the target of a cast are nullable, by the flags.
+/// Whether the source and the target of a cast are nullable, according to the flags.
 fn cast_flags(flags: u8) -> Result<(bool, bool), ReadFault>
     ensures { Gives (λ x. x) result (the_cast_flags flags) }
 {
@@ -25,7 +25,7 @@ fn cast_flags(flags: u8) -> Result<(bool, bool), ReadFault>
     }
 }
 
-/// What follows the opcode of a branch on a cast, and what follows it.
+/// Reads the immediates of a branch on a cast. Returns them and the bytes that follow.
 #[tactic(auto, unfolding(wasm_operators::specs::Immediates::cast_parts))]
 fn read_cast(bytes: &[u8]) -> Result<(RawCast, &[u8]), ReadFault>
     ensures { Gives (λ x. (cast_of x.0, x.1.now)) result (cast_parts bytes.now) }
@@ -45,7 +45,7 @@ fn read_cast(bytes: &[u8]) -> Result<(RawCast, &[u8]), ReadFault>
     Ok((cast, rest))
 }
 
-/// What follows an opcode from 0xd0 to 0xd6.
+/// Reads what follows an opcode from 0xd0 to 0xd6.
 #[tactic(auto, unfolding(wasm_operators::specs::Opcodes::kinds_of_byte))]
 pub(crate) fn read_reference(byte: u8, bytes: &[u8]) -> Result<(Operator<'_>, &[u8]), ReadFault>
     requires low { 0xd0 ≤ byte }
@@ -70,7 +70,7 @@ pub(crate) fn read_reference(byte: u8, bytes: &[u8]) -> Result<(Operator<'_>, &[
     }
 }
 
-/// What follows 0xfb and a number from 20 to 30: tests, casts and conversions.
+/// Reads what follows 0xfb and a number from 20 to 30: tests, casts and conversions.
 #[tactic(auto, unfolding(wasm_operators::specs::Opcodes::kinds_behind))]
 fn read_conversion(number: u32, bytes: &[u8]) -> Result<(Operator<'_>, &[u8]), ReadFault>
     requires low { 20 ≤ number }
@@ -109,7 +109,7 @@ fn read_conversion(number: u32, bytes: &[u8]) -> Result<(Operator<'_>, &[u8]), R
     }
 }
 
-/// The operator of the indices at the front, and what follows it.
+/// Reads the operator with the indices at the front. Returns it and the bytes that follow.
 macro_rules! read_row {
     ($bytes:ident $name:ident $index:ident) => {
         made!(read_u32($bytes), $index => Operator::Reference(ReferenceOp::$name { $index }))
@@ -121,7 +121,7 @@ macro_rules! read_row {
     };
 }
 
-/// Reads the operator that has the number behind 0xfb: those of the rows, and the others.
+/// Reads the operator with this number after 0xfb: those of the rows, and the others.
 macro_rules! read_number {
     (
         ($code:ident $bytes:ident)
@@ -138,7 +138,7 @@ macro_rules! read_number {
     };
 }
 
-/// What follows 0xfb and a number.
+/// Reads what follows 0xfb and a number.
 #[tactic(auto, unfolding(wasm_operators::specs::Opcodes::kinds_behind))]
 pub(crate) fn read_behind_fb(number: u32, bytes: &[u8]) -> Result<(Operator<'_>, &[u8]), ReadFault>
     ensures { Gives (λ x. (meaning x.0, x.1.now)) result

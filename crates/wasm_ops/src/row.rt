@@ -1,4 +1,4 @@
-//! The form of a row of the readers.
+//! How a row of the readers is read.
 
 ghost use Rattle.walrus_ir.specs.Results.{Gives};
 ghost use Rattle.wasm_numbers.specs.Reading.{Then, then_read};
@@ -6,7 +6,7 @@ ghost use Rattle.wasm_numbers.specs.Numbers.{u32 as a_u32};
 
 use wasm_numbers::{ReadFault, read_u32};
 
-/// Two indices at the front, and what follows them.
+/// Reads two indices at the front. Returns them and the bytes that follow.
 pub(crate) fn read_pair(bytes: &[u8]) -> Result<((u32, u32), &[u8]), ReadFault>
     ensures { Gives (λ x. (x.0, x.1.now)) result (then_read a_u32 (λ first. a_u32) bytes.now) }
 {
@@ -15,7 +15,7 @@ pub(crate) fn read_pair(bytes: &[u8]) -> Result<((u32, u32), &[u8]), ReadFault>
     Ok(((first, second), rest))
 }
 
-/// The operator made of what was read, and what follows it; or the fault.
+/// The operator made from what was read and the bytes that follow; or the fault.
 macro_rules! made {
     ($read:expr, $part:pat => $operator:expr) => {
         match $read {
@@ -25,7 +25,7 @@ macro_rules! made {
     };
 }
 
-/// The operator of the indices at the front, and what follows it.
+/// Reads the operator with the indices at the front. Returns it and the bytes that follow.
 macro_rules! read_indices {
     ($bytes:ident $name:ident $field:ident) => {
         made!(read_u32($bytes), $field => Operator::$name { $field })

@@ -13,7 +13,7 @@ use walrus_ir::{AbstractHeapType, RefType};
 use wasm_numbers::{ReadFault, read_signed, read_u32};
 use wasm_operators::{BlockType, RawHeapType, RawValType};
 
-/// The abstract heap type of a byte.
+/// The abstract heap type that a byte spells.
 #[tactic(auto, unfolding(wasm_operators::specs::Types::heap_at))]
 fn heap_of(byte: u8) -> Option<AbstractHeapType>
     ensures { result ≡ heap_at byte }
@@ -45,7 +45,7 @@ fn reference(nullable: bool, heap_type: RawHeapType) -> RawValType
     })
 }
 
-/// The value type that is one byte.
+/// The value type that one byte spells.
 #[tactic(auto, unfolding(wasm_operators::specs::Types::value_at))]
 fn value_of(byte: u8) -> Option<RawValType>
     ensures { result ≡ value_at byte }
@@ -63,7 +63,7 @@ fn value_of(byte: u8) -> Option<RawValType>
     }
 }
 
-/// Whether a reference to the heap type behind the byte is nullable.
+/// Whether a reference is nullable, if this byte comes before its heap type.
 #[tactic(auto, unfolding(wasm_operators::specs::Types::nullable_at))]
 fn nullable_of(byte: u8) -> Option<bool>
     ensures { result ≡ nullable_at byte }
@@ -75,14 +75,14 @@ fn nullable_of(byte: u8) -> Option<bool>
     }
 }
 
-/// Whether a value type begins with the byte.
+/// Whether a value type can begin with the byte.
 fn starts_value_type(byte: u8) -> bool
     ensures { result ≡ is_value_byte byte }
 {
     value_of(byte).is_some() || nullable_of(byte).is_some()
 }
 
-/// A heap type at the front, and what follows it.
+/// Reads a heap type at the front. Returns it and the bytes that follow.
 #[tactic(auto, unfolding(wasm_numbers::specs::Numbers::integer))]
 pub(crate) fn read_heap_type(bytes: &[u8]) -> Result<(RawHeapType, &[u8]), ReadFault>
     ensures { Gives (λ x. (x.0, x.1.now)) result (heap_type bytes.now) }
@@ -99,12 +99,13 @@ pub(crate) fn read_heap_type(bytes: &[u8]) -> Result<(RawHeapType, &[u8]), ReadF
     }
 }
 
-/// A value type at the front, and what follows it. It takes no memory.
+/// Reads a value type at the front (WebAssembly core specification 3.0, binary format, types).
+/// Returns it and the bytes that follow. Allocates nothing.
 ///
 /// # Errors
 ///
-/// `Truncated`; `BadType` where no value type begins with the byte at the front, or the type index
-/// behind it is negative; `BadNumber` where that is too long or too great.
+/// `Truncated` if the bytes end inside it; `BadType` if no value type begins with the first byte,
+/// or if the type index in it is negative; `BadNumber` if that index is too long or too great.
 pub fn read_value_type(bytes: &[u8]) -> Result<(RawValType, &[u8]), ReadFault>
     ensures { Gives (λ x. (x.0, x.1.now)) result (value_type bytes.now) }
 {
@@ -120,7 +121,7 @@ pub fn read_value_type(bytes: &[u8]) -> Result<(RawValType, &[u8]), ReadFault>
     }
 }
 
-/// The type index that a signed number of 33 bits stands for.
+/// The type index that a signed number of 33 bits spells.
 fn type_index(value: i64) -> Result<u32, ReadFault>
     requires { value <ℤ pos (2 ^ 32) }
     ensures { Gives (λ x. x) result (type_index_of value) }
@@ -132,7 +133,7 @@ fn type_index(value: i64) -> Result<u32, ReadFault>
     }
 }
 
-/// A block type at the front, and what follows it.
+/// Reads a block type at the front. Returns it and the bytes that follow.
 #[tactic(auto, unfolding(wasm_numbers::specs::Numbers::integer))]
 pub(crate) fn read_block_type(bytes: &[u8]) -> Result<(BlockType, &[u8]), ReadFault>
     ensures { Gives (λ x. (x.0, x.1.now)) result (block_type bytes.now) }
@@ -152,7 +153,8 @@ pub(crate) fn read_block_type(bytes: &[u8]) -> Result<(BlockType, &[u8]), ReadFa
     }
 }
 
-/// The block type without a value at the front, and what follows it, where it stands there.
+/// Reads the block type without parameters and results, if it is at the front. Returns it and the
+/// bytes that follow.
 #[inline(always)]
 pub(crate) fn read_empty_block_type(bytes: &[u8]) -> Option<(BlockType, &[u8])>
     ensures { IfSome result (λ x. block_type bytes.now ≡ Ok (x.0, x.1.now)) }
@@ -163,7 +165,8 @@ pub(crate) fn read_empty_block_type(bytes: &[u8]) -> Option<(BlockType, &[u8])>
     }
 }
 
-/// The one type of a `select` at the front, behind a count that is one, and what follows it.
+/// Reads the one type of a `select` at the front, after a count, which must be 1. Returns it and
+/// the bytes that follow.
 #[tactic(auto, unfolding(wasm_operators::specs::Immediates::selected))]
 pub(crate) fn read_selected(bytes: &[u8]) -> Result<(RawValType, &[u8]), ReadFault>
     ensures { Gives (λ x. (x.0, x.1.now)) result (selected bytes.now) }

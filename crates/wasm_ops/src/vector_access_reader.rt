@@ -1,4 +1,4 @@
-//! Reading vector accesses that are no plain loads and stores, by ranges of their numbers.
+//! Reading vector accesses other than plain loads and stores, by ranges of their numbers.
 
 ghost use Rattle.std.specs.Prelude.{◌≡◌, ◌≤◌, Some, None};
 ghost use Rattle.walrus_ir.specs.Results.{Gives};
@@ -12,7 +12,7 @@ use walrus_ir::LoadSimdKind;
 use wasm_numbers::{ReadFault, read_byte};
 use wasm_operators::{Opcode, Operator};
 
-/// What the load of a number from 1 to 10 does: it widens or splats.
+/// What the load with a number from 1 to 10 does: it widens or splats.
 fn wide_load_kind(number: u32) -> LoadSimdKind
     requires low { 1 ≤ number }
     requires high { number ≤ 10 }
@@ -33,7 +33,7 @@ fn wide_load_kind(number: u32) -> LoadSimdKind
     }
 }
 
-/// What the access of a number from 84 to 91 does with a lane.
+/// What the access with a number from 84 to 91 does with a lane.
 fn lane_kind(number: u32, lane: u8) -> LoadSimdKind
     requires low { 84 ≤ number }
     requires high { number ≤ 91 }
@@ -52,7 +52,7 @@ fn lane_kind(number: u32, lane: u8) -> LoadSimdKind
     }
 }
 
-/// What follows 0xfd and a number from 1 to 10.
+/// Reads what follows 0xfd and a number from 1 to 10.
 #[tactic(auto, unfolding(wasm_operators::specs::Opcodes::kinds_behind))]
 pub(crate) fn read_wide_load(number: u32, bytes: &[u8]) -> Result<(Operator<'_>, &[u8]), ReadFault>
     requires low { 1 ≤ number }
@@ -65,7 +65,7 @@ pub(crate) fn read_wide_load(number: u32, bytes: &[u8]) -> Result<(Operator<'_>,
     Ok((Operator::LoadSimd { kind, memarg }, rest))
 }
 
-/// What follows 0xfd and a number from 84 to 91.
+/// Reads what follows 0xfd and a number from 84 to 91.
 #[tactic(auto, unfolding(wasm_operators::specs::Opcodes::kinds_behind))]
 pub(crate) fn read_lane_access(
     number: u32,

@@ -1,4 +1,4 @@
-//! The operators of vectors that access no memory, which stand behind 0xfd: a row an operator.
+//! The vector operators that access no memory, which follow 0xfd: one row for each operator.
 
 ghost use Rattle.std.specs.Prelude.{◌≡◌, ◌≤◌, [], ◌∷◌};
 ghost use Rattle.walrus_ir.specs.Results.{Gives};
@@ -11,7 +11,7 @@ use walrus_ir::{BinaryOp, TernaryOp, UnaryOp};
 use wasm_numbers::{ReadFault, read_byte};
 use wasm_operators::{Opcode, Operator};
 
-/// What follows 0xfd and a number from 14 to 20: `i8x16.swizzle`, and splats.
+/// Reads what follows 0xfd and a number from 14 to 20: `i8x16.swizzle` and splats.
 #[tactic(auto, unfolding(wasm_operators::specs::Opcodes::kinds_behind))]
 pub(crate) fn read_splat(number: u32, bytes: &[u8]) -> Result<(Operator<'_>, &[u8]), ReadFault>
     requires low { 14 ≤ number }
@@ -30,7 +30,7 @@ pub(crate) fn read_splat(number: u32, bytes: &[u8]) -> Result<(Operator<'_>, &[u
     }
 }
 
-/// The operator of 0xfd and a number from 21 to 34: a lane is read or replaced.
+/// The operator with 0xfd and a number from 21 to 34, which extracts or replaces a lane.
 fn lane(number: u32, idx: u8) -> Operator<'static>
     requires low { 21 ≤ number }
     requires high { number ≤ 34 }
@@ -54,7 +54,7 @@ fn lane(number: u32, idx: u8) -> Operator<'static>
     }
 }
 
-/// What follows 0xfd and a number from 21 to 34: lanes that are read or replaced.
+/// Reads what follows 0xfd and a number from 21 to 34: operators that extract or replace a lane.
 #[tactic(auto, unfolding(wasm_operators::specs::Opcodes::kinds_behind))]
 pub(crate) fn read_lane(number: u32, bytes: &[u8]) -> Result<(Operator<'_>, &[u8]), ReadFault>
     requires low { 21 ≤ number }
@@ -65,7 +65,7 @@ pub(crate) fn read_lane(number: u32, bytes: &[u8]) -> Result<(Operator<'_>, &[u8
     made!(read_byte(bytes), idx => lane(number, idx))
 }
 
-/// The operator of 0xfd and a number from 35 to 44: a comparison of lanes of a byte.
+/// The operator with 0xfd and a number from 35 to 44: a comparison of lanes of one byte.
 fn i8x16_comparison(number: u32) -> Operator<'static>
     requires low { 35 ≤ number }
     requires high { number ≤ 44 }
@@ -85,7 +85,7 @@ fn i8x16_comparison(number: u32) -> Operator<'static>
     }
 }
 
-/// The operator of 0xfd and a number from 45 to 54: a comparison of lanes of two bytes.
+/// The operator with 0xfd and a number from 45 to 54: a comparison of lanes of two bytes.
 fn i16x8_comparison(number: u32) -> Operator<'static>
     requires low { 45 ≤ number }
     requires high { number ≤ 54 }
@@ -105,7 +105,7 @@ fn i16x8_comparison(number: u32) -> Operator<'static>
     }
 }
 
-/// The operator of 0xfd and a number from 55 to 64: a comparison of lanes of four bytes.
+/// The operator with 0xfd and a number from 55 to 64: a comparison of lanes of four bytes.
 fn i32x4_comparison(number: u32) -> Operator<'static>
     requires low { 55 ≤ number }
     requires high { number ≤ 64 }
@@ -125,7 +125,7 @@ fn i32x4_comparison(number: u32) -> Operator<'static>
     }
 }
 
-/// The operator of 0xfd and a number from 65 to 76: a comparison of lanes that are floats.
+/// The operator with 0xfd and a number from 65 to 76: a comparison of floating-point lanes.
 fn float_comparison(number: u32) -> Operator<'static>
     requires low { 65 ≤ number }
     requires high { number ≤ 76 }
@@ -147,7 +147,7 @@ fn float_comparison(number: u32) -> Operator<'static>
     }
 }
 
-/// The operator of 0xfd and a number from 35 to 76: a comparison.
+/// The operator with 0xfd and a number from 35 to 76: a comparison.
 fn vector_comparison(number: u32) -> Operator<'static>
     requires low { 35 ≤ number }
     requires high { number ≤ 76 }
@@ -161,7 +161,7 @@ fn vector_comparison(number: u32) -> Operator<'static>
     }
 }
 
-/// What follows 0xfd and a number from 35 to 76: comparisons.
+/// Reads what follows 0xfd and a number from 35 to 76: comparisons.
 #[tactic(auto, unfolding(wasm_operators::specs::Opcodes::kinds_behind))]
 pub(crate) fn read_vector_comparison(
     number: u32,
@@ -175,7 +175,7 @@ pub(crate) fn read_vector_comparison(
     Ok((vector_comparison(number), bytes))
 }
 
-/// What follows 0xfd and a number from 77 to 83: operators on all bits.
+/// Reads what follows 0xfd and a number from 77 to 83: operators on all bits.
 #[tactic(auto, unfolding(wasm_operators::specs::Opcodes::kinds_behind))]
 pub(crate) fn read_bitwise(number: u32, bytes: &[u8]) -> Result<(Operator<'_>, &[u8]), ReadFault>
     requires low { 77 ≤ number }
@@ -194,8 +194,8 @@ pub(crate) fn read_bitwise(number: u32, bytes: &[u8]) -> Result<(Operator<'_>, &
     }
 }
 
-/// The operator of 0xfd and a number from 94 to 102: a conversion of floats, or one on lanes of a
-/// byte.
+/// The operator with 0xfd and a number from 94 to 102: a floating-point conversion, or an operator
+/// on lanes of one byte.
 fn i8x16_by_lane(number: u32) -> Operator<'static>
     requires low { 94 ≤ number }
     requires high { number ≤ 102 }
@@ -214,8 +214,8 @@ fn i8x16_by_lane(number: u32) -> Operator<'static>
     }
 }
 
-/// The operator of 0xfd and a number from 103 to 115: one that rounds floats, or a shift, a sum or
-/// a difference of lanes of a byte.
+/// The operator with 0xfd and a number from 103 to 115: floating-point rounding, or a shift, sum or
+/// difference of lanes of one byte.
 fn i8x16_sum(number: u32) -> Operator<'static>
     requires low { 103 ≤ number }
     requires high { number ≤ 115 }
@@ -238,8 +238,8 @@ fn i8x16_sum(number: u32) -> Operator<'static>
     }
 }
 
-/// The operator of 0xfd and a number from 116 to 127: one that rounds floats, a bound or a mean of
-/// lanes of a byte, or sums of neighbours.
+/// The operator with 0xfd and a number from 116 to 127: floating-point rounding, a minimum, maximum
+/// or average of lanes of one byte, or a sum of neighbours.
 fn i8x16_bound(number: u32) -> Operator<'static>
     requires low { 116 ≤ number }
     requires high { number ≤ 127 }
@@ -261,7 +261,7 @@ fn i8x16_bound(number: u32) -> Operator<'static>
     }
 }
 
-/// The operator of 0xfd and a number from 128 to 138: one on lanes of two bytes, or one that
+/// The operator with 0xfd and a number from 128 to 138: one on lanes of two bytes, or one that
 /// narrows or widens to them.
 fn i16x8_by_lane(number: u32) -> Operator<'static>
     requires low { 128 ≤ number }
@@ -283,8 +283,8 @@ fn i16x8_by_lane(number: u32) -> Operator<'static>
     }
 }
 
-/// The operator of 0xfd and a number from 139 to 153: a shift, arithmetic or a bound of lanes of
-/// two bytes, or one that rounds floats.
+/// The operator with 0xfd and a number from 139 to 153: a shift, arithmetic, a minimum or a maximum
+/// of lanes of two bytes, or floating-point rounding.
 fn i16x8_arithmetic(number: u32) -> Operator<'static>
     requires low { 139 ≤ number }
     requires high { number ≤ 153 }
@@ -309,7 +309,8 @@ fn i16x8_arithmetic(number: u32) -> Operator<'static>
     }
 }
 
-/// The operator of 0xfd and a number from 94 to 153: one on lanes of a byte or two, and others.
+/// The operator with 0xfd and a number from 94 to 153: one on lanes of one or two bytes, and
+/// others.
 fn narrow_vector(number: u32) -> Operator<'static>
     requires low { 94 ≤ number }
     requires high { number ≤ 153 }
@@ -324,8 +325,8 @@ fn narrow_vector(number: u32) -> Operator<'static>
     }
 }
 
-/// What follows 0xfd and a number from 94 to 153: conversions of floats, operators on lanes of a
-/// byte or two, and others.
+/// Reads what follows 0xfd and a number from 94 to 153: floating-point conversions, operators on
+/// lanes of one or two bytes, and others.
 #[tactic(auto, unfolding(wasm_operators::specs::Opcodes::kinds_behind))]
 pub(crate) fn read_narrow_vector(
     number: u32,
@@ -339,7 +340,8 @@ pub(crate) fn read_narrow_vector(
     Ok((narrow_vector(number), bytes))
 }
 
-/// What follows 0xfd and a number from 155 to 159: means and long products of lanes of two bytes.
+/// Reads what follows 0xfd and a number from 155 to 159: averages and extended products of lanes of
+/// two bytes.
 #[tactic(auto, unfolding(wasm_operators::specs::Opcodes::kinds_behind))]
 pub(crate) fn read_i16x8_product(
     number: u32,
@@ -359,7 +361,7 @@ pub(crate) fn read_i16x8_product(
     }
 }
 
-/// What follows 0xfd and a number from 160 to 191: operators on lanes of four bytes.
+/// Reads what follows 0xfd and a number from 160 to 191: operators on lanes of four bytes.
 #[tactic(auto, unfolding(wasm_operators::specs::Opcodes::kinds_behind))]
 pub(crate) fn read_i32x4(number: u32, bytes: &[u8]) -> Result<(Operator<'_>, &[u8]), ReadFault>
     requires low { 160 ≤ number }
@@ -395,7 +397,7 @@ pub(crate) fn read_i32x4(number: u32, bytes: &[u8]) -> Result<(Operator<'_>, &[u
     }
 }
 
-/// What follows 0xfd and a number from 192 to 223: operators on lanes of eight bytes.
+/// Reads what follows 0xfd and a number from 192 to 223: operators on lanes of eight bytes.
 #[tactic(auto, unfolding(wasm_operators::specs::Opcodes::kinds_behind))]
 pub(crate) fn read_i64x2(number: u32, bytes: &[u8]) -> Result<(Operator<'_>, &[u8]), ReadFault>
     requires low { 192 ≤ number }
@@ -432,8 +434,8 @@ pub(crate) fn read_i64x2(number: u32, bytes: &[u8]) -> Result<(Operator<'_>, &[u
     }
 }
 
-/// What follows 0xfd and a number from 224 to 237: operators on lanes of four bytes that are floats, and
-/// signs of those of eight bytes.
+/// Reads what follows 0xfd and a number from 224 to 237: operators on floating-point lanes of four
+/// bytes, `f64x2.abs` and `f64x2.neg`.
 #[tactic(auto, unfolding(wasm_operators::specs::Opcodes::kinds_behind))]
 pub(crate) fn read_f32x4(number: u32, bytes: &[u8]) -> Result<(Operator<'_>, &[u8]), ReadFault>
     requires low { 224 ≤ number }
@@ -459,8 +461,8 @@ pub(crate) fn read_f32x4(number: u32, bytes: &[u8]) -> Result<(Operator<'_>, &[u
     }
 }
 
-/// The operator of 0xfd and a number from 239 to 247: arithmetic on lanes of eight bytes that are
-/// floats.
+/// The operator with 0xfd and a number from 239 to 247: arithmetic on floating-point lanes of eight
+/// bytes.
 fn f64x2_arithmetic(number: u32) -> Operator<'static>
     requires low { 239 ≤ number }
     requires high { number ≤ 247 }
@@ -479,8 +481,8 @@ fn f64x2_arithmetic(number: u32) -> Operator<'static>
     }
 }
 
-/// The operator of 0xfd and a number from 248 to 255: a conversion of lanes to floats, or from
-/// them.
+/// The operator with 0xfd and a number from 248 to 255: a conversion of lanes to or from
+/// floating-point.
 fn float_conversion(number: u32) -> Operator<'static>
     requires low { 248 ≤ number }
     requires high { number ≤ 255 }
@@ -498,8 +500,8 @@ fn float_conversion(number: u32) -> Operator<'static>
     }
 }
 
-/// The operator of 0xfd and a number from 256 to 268: a relaxed operator of one operand or three,
-/// or `i8x16.relaxed_swizzle`.
+/// The operator with 0xfd and a number from 256 to 268: a relaxed operator with one or three
+/// operands, or `i8x16.relaxed_swizzle`.
 fn relaxed_lanes(number: u32) -> Operator<'static>
     requires low { 256 ≤ number }
     requires high { number ≤ 268 }
@@ -522,7 +524,7 @@ fn relaxed_lanes(number: u32) -> Operator<'static>
     }
 }
 
-/// The operator of 0xfd and a number from 269 to 275: relaxed arithmetic.
+/// The operator with 0xfd and a number from 269 to 275: relaxed arithmetic.
 fn relaxed_arithmetic(number: u32) -> Operator<'static>
     requires low { 269 ≤ number }
     requires high { number ≤ 275 }
@@ -539,8 +541,8 @@ fn relaxed_arithmetic(number: u32) -> Operator<'static>
     }
 }
 
-/// The operator of 0xfd and a number from 239 to 275: one on lanes of eight bytes that are floats, a
-/// conversion, or a relaxed one.
+/// The operator with 0xfd and a number from 239 to 275: one on floating-point lanes of eight bytes,
+/// a conversion, or a relaxed one.
 fn f64x2_or_relaxed(number: u32) -> Operator<'static>
     requires low { 239 ≤ number }
     requires high { number ≤ 275 }
@@ -554,8 +556,8 @@ fn f64x2_or_relaxed(number: u32) -> Operator<'static>
     }
 }
 
-/// What follows 0xfd and a number from 239 to 275: operators on lanes of eight bytes that are floats,
-/// conversions, and relaxed operators.
+/// Reads what follows 0xfd and a number from 239 to 275: operators on floating-point lanes of eight
+/// bytes, conversions, and relaxed operators.
 #[tactic(auto, unfolding(wasm_operators::specs::Opcodes::kinds_behind))]
 pub(crate) fn read_f64x2_or_relaxed(
     number: u32,
