@@ -1,4 +1,4 @@
--- Values that are read one behind the other, as a loop and an iterator read them.
+-- Values that are read one after the other, as a loop and an iterator read them.
 use Rattle.std.proofs.Common.{◌≡◌, ℕ, zero, suc, ◌-◌, ◌+◌, ◌≤◌, ◌<◌, List, [], ◌∷◌, ◌++◌, length, Result, Ok, Err, refl, sym, ap, ◌∙◌, append_assoc, arith}
 use Rattle.std.proofs.lemmas.List.{append-nil}
 use Rattle.wasm_numbers.specs.declared.fault.ReadFault.{ReadFault}
@@ -37,7 +37,7 @@ module _ {A : Type 0} (one : List ℕ → Result (A × List ℕ) ReadFault) wher
   others_read (Ok x) item n h = (refl, omega arith)
   others_read (Err e) item n h = absurd cc
 
-  -- one item, and so many others
+  -- one item, and the remaining ones
   pub next_item : (n : ℕ) (bytes : List ℕ) (item : A) (rest : List ℕ) → 0 < n → AreItems one n bytes → one bytes ≡ Ok (item, rest) → (items_of one n bytes ≡ item ∷ items_of one (n - 1) rest) × AreItems one (n - 1) rest
   unfolding many
   next_item zero bytes item rest some all e = absurd (omega arith)
@@ -50,7 +50,7 @@ module _ {A : Type 0} (one : List ℕ → Result (A × List ℕ) ReadFault) wher
 
   -- ---- a loop over them
 
-  -- what was read before, and what is still read
+  -- the items read before, and those still to be read
   abbrev with_front : List A → Result (List A × List ℕ) ReadFault → Result (List A × List ℕ) ReadFault
   with_front front read = read >>= λ x. Ok (front ++ x.0, x.1)
 
@@ -62,7 +62,7 @@ module _ {A : Type 0} (one : List ℕ → Result (A × List ℕ) ReadFault) wher
   regroup front n (Ok x) = ap (λ (ns : List A). Ok (ns, x.1)) (simp append_assoc)
   regroup front n (Err f) = refl
 
-  -- what is left, behind some items, is the whole
+  -- the items read so far and the remaining ones are the whole list
   pub record GoesOn (left total : Result (List A × List ℕ) ReadFault) : Type 0 where
     pub front : List A
     pub same : with_front front left ≡ total

@@ -50,7 +50,7 @@ selected_agrees : Agrees IsSelected selected
 unfolding selected
 selected_agrees = agrees_made _ _ made_selected (agrees_then _ _ _ _ (agrees_made _ _ one_type (integers_agree unsigned 32)) (λ count. value_types_agree))
 
--- ---- of each kind
+-- ---- each kind
 
 -- The immediate is of the kind, and is spelt so.
 abbrev pub IsOfKind : Kind → RawImmediate → List ℕ → Type 0
@@ -63,7 +63,7 @@ as_immediate_ok {V} make read i rest e =
     let both = ok_is (make x.0.0, x.0.1) (i, rest) x.2 in
     (x.0.0, x.1 ∙ ap (λ (p : RawImmediate × List ℕ). Ok (x.0.0, p.1)) both, ap (λ (p : RawImmediate × List ℕ). p.0) both)
 
--- What is read as what an immediate holds is read as the immediate.
+-- If what an immediate contains is read from its spellings, so is the immediate.
 module _ {V : Type 0} (kind : Kind) (make : V → RawImmediate) (R : V → List ℕ → Type 0) (r : List ℕ → Result (V × List ℕ) ReadFault) (inner : Agrees R r)
     (onto : (v : V) (text : List ℕ) → R v text → IsOfKind kind (make v) text) where
   pub taken : (bytes : List ℕ) (i : RawImmediate) (rest : List ℕ) → IsBytes bytes → as_immediate make (r bytes) ≡ Ok (i, rest) → Takes (IsOfKind kind) bytes i rest
@@ -73,7 +73,7 @@ module _ {V : Type 0} (kind : Kind) (make : V → RawImmediate) (R : V → List 
       let one : Takes (IsOfKind kind) bytes (make x.0) rest = record { text = p.text; parts = p.parts; spelt = onto x.0 p.text p.spelt; rest_fits = p.rest_fits } in
       subst (λ (j : RawImmediate). Takes (IsOfKind kind) bytes j rest) x.2 one
 
--- the byte behind a fence is 0
+-- the byte after `atomic.fence` is 0
 fence_is : (b : ℕ) (text : List ℕ) → Made IsByte fence_byte b text → text ≡ 0 ∷ []
 fence_is b text h =
     elim (chosen (eqb h.0 0) (Ok h.0) (Err BadFence) (Ok b) h.1) [
@@ -133,7 +133,7 @@ again_of_kind kind i text rest h = subst (λ (k : Kind). immediate k (text ++ re
 pub immediate_agrees : (kind : Kind) → Agrees (IsOfKind kind) (immediate kind)
 immediate_agrees kind = record { takes = immediate_takes kind; again = again_of_kind kind }
 
--- ---- one behind the other
+-- ---- one after the other
 
 abbrev pub AreOfKinds : List Kind → List RawImmediate → List ℕ → Type 0
 AreOfKinds kinds is text = (map kind_of is ≡ kinds) × SpellsImmediates is text

@@ -11,7 +11,7 @@ use Rattle.wasm_operators.specs.Laws.{GoesOn, ListsAgree, OneList}
 use Rattle.wasm_numbers.proofs.Agreement.{one_spelling}
 use Rattle.wasm_operators.proofs.OperationLaws.{operations_agree}
 
--- ---- no operator is spelt by nothing
+-- ---- no operator has an empty spelling
 
 opcode_length : (o : Opcode) (text : List ℕ) → IsOpcode o text → 0 < length text
 opcode_length (Byte b) text h = omega (arith, ap length h.2)
@@ -31,7 +31,7 @@ none_between (x ∷ xs) place rest h =
 
 -- ---- two lists
 
--- nothing goes before the second
+-- no operator comes before the second list
 from_nothing : (ys : List Placed) (place : ℕ) (bytes rest others : List ℕ) → bytes ≡ rest → Lists ys place bytes others → GoesOn [] ys place bytes rest others
 from_nothing ys place bytes rest others same h = record {
   more = ys;
@@ -41,7 +41,7 @@ from_nothing ys place bytes rest others same h = record {
   behind = rw add-zero (subst (λ (t : List ℕ). Lists ys place t others) same h);
 }
 
--- the same operator goes before both
+-- the same operator comes before both lists
 behind_both : (x y : Placed) (xs ys : List Placed) (place : ℕ) (bytes text behind rest others : List ℕ) → x ≡ y → bytes ≡ text ++ behind → GoesOn xs ys (place + length text) behind rest others
     → GoesOn (x ∷ xs) (y ∷ ys) place bytes rest others
 behind_both x y xs ys place bytes text behind rest others same parts g =

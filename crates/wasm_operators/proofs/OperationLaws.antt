@@ -16,7 +16,7 @@ use Rattle.walrus_ir.proofs.ResultLemmas.{bind_ok}
 
 -- ---- opcodes
 
--- a prefix byte and the number behind it
+-- a prefix byte and the number after it
 abbrev numbered : ℕ → List ℕ → Result (Opcode × List ℕ) ReadFault
 numbered prefix bytes = u32 bytes >>= λ n. Ok (Prefixed prefix n.0, n.1)
 
@@ -62,7 +62,7 @@ opcodes_agree = record { takes = opcode_takes; again = opcode_again }
 
 -- ---- operators
 
--- what was read behind an opcode
+-- what was read after an opcode
 record Read (o : Opcode) (kinds : Option (List Kind)) (bytes : List ℕ) (v : RawOperation) (rest : List ℕ) : Type 0 where
   asked : List Kind
   known : kinds ≡ Some asked
@@ -110,6 +110,6 @@ unfolding read_operation
 operation_again v text rest h =
     ap read_operation (parted text rest h.first h.others h.parts) ∙ rw (opcodes_agree.again v.opcode h.first (h.others ++ rest) h.opcode, h.kinds, immediates_again v.immediates h.others rest h.immediates) refl
 
--- what is read is spelt so, and what is spelt so is read
+-- what is read is spelt by the bytes that are taken, and what is spelt at the front is read
 pub operations_agree : Agrees Spells read_operation
 operations_agree = record { takes = operation_takes; again = operation_again }

@@ -1,4 +1,4 @@
--- Clauses that are compared as equal are the same.
+-- Clauses that compare as equal are the same.
 use Rattle.std.proofs.Common.{◌≡◌, ℕ, List, [], ◌∷◌, Bool, true, false, Option, Some, None, refl, ap}
 use Rattle.std.proofs.lemmas.Bool.{eqb-true}
 use Rattle.std.specs.Prelude.{nat_eq, ◌&&◌}

@@ -1,4 +1,4 @@
--- What follows an opcode is found again in the immediates that it means.
+-- The immediates after an opcode can be recovered from their meanings.
 use Rattle.std.proofs.Common.{◌≡◌, refl}
 use Rattle.wasm_operators.specs.declared.immediates.Immediates.TheVariants as immediates
 use Rattle.wasm_operators.specs.Parts.{ListedImmediates, immediates_of, shape_of}

@@ -20,7 +20,7 @@ pub either_way : (b : Bool) → (b ≡ true) ⊎ (b ≡ false)
 either_way true = inl refl
 either_way false = inr refl
 
--- the rows of an answer that goes by the tests before it
+-- a result after a test: the branch of the test, or one of the others
 taken_or : {A : Type 0} (b : Bool) (x : A) (others : Result A ReadFault) (v : A) → cond b (Ok x) others ≡ Ok v → ((b ≡ true) × (x ≡ v)) ⊎ ((b ≡ false) × (others ≡ Ok v))
 taken_or true x others v e = inl (refl, cc)
 taken_or false x others v e = inr (refl, e)
@@ -31,7 +31,7 @@ refused_or false fault others v e = (refl, e)
 
 -- ---- memory accesses
 
--- what flags mean: an exponent below 32, and 64 more where a memory's index follows
+-- what flags mean: an exponent below 32; if a memory index follows, the flags are 64 more
 pub record AreFlags (k : ℕ) (flags : ℕ × Bool) : Type 0 where
   pub small : flags.0 < 32
   pub is : k ≡ cond flags.1 (flags.0 + 64) flags.0
@@ -63,7 +63,7 @@ indexed_spelt exponent text small h =
     let back : exponent + 64 - 64 ≡ exponent = omega arith in
     (exponent + 64, rw (le-ltb (exponent + 64) 32 a, le-ltb (exponent + 64) 64 b, lt-ltb (exponent + 64) 96 c, back) refl, h)
 
--- an access with no index of a memory, and one with an index
+-- an access without a memory index, and one with an index
 record IsPlain (a : Access) (text : List ℕ) : Type 0 where
   flags : List ℕ
   offset : List ℕ
@@ -149,7 +149,7 @@ plainly a text p =
       least_along _ (p.flags ++ p.offset) text (sym p.parts) (least_append _ _ _ _ flags.1 offset.1),
     )
 
--- with an index: that of memory 0 is left out
+-- with an index: that of memory 0 is omitted
 with_index : (a : Access) (text : List ℕ) → IsIndexed a text → IsAccess a (short_access a) × IsLeast (short_access a) text
 with_index a text p =
     let flags = (least_u32 (a.alignment + 64)).is p.flags p.flags_spelt in
@@ -186,7 +186,7 @@ access_is a text h =
 least_access : (a : Access) → Least (IsAccess a) (short_access a)
 least_access a = record { is = access_is a }
 
--- ---- lists behind a count
+-- ---- lists after their length
 
 counted_is : {A : Type 0} (One : A → List ℕ → Type 0) (n : ℕ) (vs : List A) (text : List ℕ) → Many One n vs text → Many One (length vs) vs text
 counted_is One n vs text h = subst (λ (k : ℕ). Many One k vs text) (many_length One n vs text h) h
@@ -207,7 +207,7 @@ least_table targets default =
     least_moved _ _ _ (sym (append_assoc (short_number (length targets)) (flat_map short_number targets) (short_number default)))
     (least_made _ made_table (targets, default) (length targets, (targets, default)) _ (λ text h. (refl, table_is (targets, default) text h)) parts)
 
--- ---- two bits in a byte below 4
+-- ---- two bits of a byte below 4
 
 module _ {V : Type 0} (make : ℕ → Result V ReadFault) (number_of : V → ℕ) (zero_is one_is two_is three_is : V) (fault : ReadFault)
     (made : (b : ℕ) → make b ≡ cond (eqb b 0) (Ok zero_is) (cond (eqb b 1) (Ok one_is) (cond (eqb b 2) (Ok two_is) (cond (eqb b 3) (Ok three_is) (Err fault)))))
@@ -415,7 +415,7 @@ least_immediate (lane n) = least_only (SpellsImmediate (lane n)) (n ∷ []) (λ 
 least_immediate (lanes ns) = least_only (SpellsImmediate (lanes ns)) ns (bytes_are 16 ns)
 least_immediate zero_byte = least_only (SpellsImmediate zero_byte) (0 ∷ []) (λ text h. h)
 
--- ---- one behind the other
+-- ---- one after the other
 
 immediates_are : (is : List RawImmediate) (text : List ℕ) → SpellsImmediates is text → SpellsImmediates is (short_immediates is) × IsLeast (short_immediates is) text
 immediates_are [] text h = (refl, inl (sym h))

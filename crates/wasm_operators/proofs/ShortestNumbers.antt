@@ -1,4 +1,4 @@
--- The shortest spelling of a number is one, and every other is longer.
+-- The shortest spelling of a number is one of its spellings, and every other is longer.
 use Rattle.std.proofs.Common.{◌≡◌, ℕ, zero, suc, ◌+◌, ◌-◌, ◌*◌, ◌/◌, ◌%◌, ◌^◌, ◌<◌, ◌≤◌, true, false, List, [], ◌∷◌, Some, None, refl, sym, ap, subst, ◌∙◌, arith, inl, inr, ℤ, pos, negsuc, ◌+ℤ◌, ◌-ℤ◌, ◌*ℤ◌}
 use Rattle.std.proofs.lemmas.Bool.{ltb-true, lt-ltb, le-ltb, le-leb, lt-leb, cases_lt}
 use Rattle.std.proofs.lemmas.Int.{ints}
@@ -8,7 +8,7 @@ use Rattle.wasm_operators.specs.Shortest.{IsLeast, short_unsigned, low_bits, hig
 use Rattle.wasm_numbers.proofs.Powers.{pow_split, pow_half}
 use Rattle.wasm_numbers.proofs.NumberLaws.{longer}
 
--- a byte in front of both
+-- the same byte before both
 least_behind : (x y : ℕ) (short text : List ℕ) → x ≡ y → IsLeast short text → IsLeast (x ∷ short) (y ∷ text)
 least_behind x y short text e (inl q) = inl (ap (λ (z : ℕ). z ∷ short) e ∙ ap (λ (z : List ℕ). y ∷ z) q)
 least_behind x y short text e (inr q) = inr (omega arith)
@@ -88,13 +88,13 @@ unsigned_shortest more w h n text s =
     let below = unsigned_below w n text s in
     (unsigned_spelt more w n h below, unsigned_least more w n text h below s)
 
--- ---- signed: a number is known by its sign and its magnitude, one less below zero
+-- ---- signed: a number is determined by its sign and its magnitude, which is one less for a negative number
 
 abbrev magnitude : ℤ → ℕ
 magnitude (pos n) = n
 magnitude (negsuc n) = n
 
--- what a last byte stands for
+-- the number of a last byte
 signed_last_is : (w b : ℕ) (z : ℤ) → b < 128 → signed_last w b ≡ Some z → (low_bits z ≡ b) × (fits_seven z ≡ true) × (magnitude z < 2 ^ (w - 1))
 signed_last_is w b z low e = elim (cases_lt b 64) [
   | inl lt ↦ elim (cases_lt b (2 ^ (w - 1))) [
@@ -117,7 +117,7 @@ signed_last_is w b z low e = elim (cases_lt b 64) [
   ]
 ]
 
--- what is spelt with more bytes: the low seven bits of the first, and the number behind it
+-- a spelling of more bytes: the low seven bits of the first, and the number after it
 above_is : (low : ℕ) (high z : ℤ) → low < 128 → z ≡ pos low +ℤ (pos 128 *ℤ high) → (low_bits z ≡ low) × (high_bits z ≡ high)
 above_is low (pos m) z lt e =
     let is : z ≡ pos (low + 128 * m) = e ∙ omega (arith, ints) in
@@ -130,7 +130,7 @@ above_is low (negsuc m) z lt e =
     let high : (127 - low + 128 * m) / 128 ≡ m = omega arith in
     (ap low_bits is ∙ bits, ap high_bits is ∙ ap (λ (n : ℕ). negsuc n) high)
 
--- the low seven bits, and the number above them, make the number
+-- the low seven bits and the number above them make the number
 made_of : (z : ℤ) → z ≡ pos (low_bits z) +ℤ (pos 128 *ℤ high_bits z)
 made_of (pos n) = omega (arith, ints)
 made_of (negsuc n) = omega (arith, ints)
@@ -155,7 +155,7 @@ is_great : (z : ℤ) → 64 ≤ magnitude z → fits_seven z ≡ false
 is_great (pos n) h = le-ltb n 64 h
 is_great (negsuc n) h = le-ltb n 64 h
 
--- seven bits stand for a number that they hold
+-- the number of seven bits, if they can contain it
 last_of : (w : ℕ) (z : ℤ) → magnitude z < 64 → magnitude z < 2 ^ (w - 1) → signed_last w (low_bits z) ≡ Some z
 last_of w (pos n) small fits =
     let same : n % 128 ≡ n = omega arith in

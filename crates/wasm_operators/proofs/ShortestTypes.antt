@@ -25,7 +25,7 @@ abbrev pub EachRow : {V : Type 0} → (ℕ → V → Type 0) → List (ℕ × V)
 EachRow P [] = Unit {0}
 EachRow P (row ∷ rows) = P row.0 row.1 × EachRow P rows
 
--- what holds of each row holds of what the table has at a number
+-- what holds of each row holds of the value of the table at a number
 pub row_holds : {V : Type 0} (P : ℕ → V → Type 0) (rows : List (ℕ × V)) → EachRow P rows → (n : ℕ) (v : V) → row_at rows n ≡ Some v → P n v
 row_holds P [] each n v e = absurd cc
 row_holds {V} P (row ∷ rows) each n v e =
@@ -47,7 +47,7 @@ listed_some (Some v) e = (v, refl)
 some_listed : {V : Type 0} (o : Option V) (v : V) → o ≡ Some v → is_listed o ≡ true
 some_listed {V} o v e = ap (λ (p : Option V). is_listed p) e
 
--- ---- where a type index begins: with a byte below 64, or from 128 on
+-- ---- the first byte of a type index: below 64, or from 128 on
 
 abbrev IsBetween : ℕ → Type 0
 IsBetween b = (64 ≤ b) × (b < 128)
@@ -104,7 +104,7 @@ least_heap (Concrete n) = record { is = concrete_least n }
 
 -- ---- value types
 
--- a value type that is one byte is a number or vector type, or stands for an abstract heap type
+-- a value type of one byte is a number or vector type, or the reference type that the byte of an abstract heap type means
 value_cases : (b : ℕ) (t : ValType ℕ) → value_at b ≡ Some t
     → (row_at number_rows b ≡ Some t) ⊎ ((a : AbstractHeapType) × (heap_at b ≡ Some a) × (nullable_to a ≡ t))
 unfolding value_at
@@ -135,7 +135,7 @@ nullable_is = row_holds (λ b nullable. b ≡ reference_byte nullable) nullable_
 abbrev reference_to : Bool → HeapType ℕ → ValType ℕ
 reference_to nullable heap = Ref (record { nullable = nullable; heap_type = heap })
 
--- A nullable reference to an abstract heap type is spelt by one byte too.
+-- A nullable reference to an abstract heap type can also be spelt with one byte.
 pub abstract_byte : (a : AbstractHeapType) → (value_at (heap_byte a) ≡ Some (nullable_to a)) × (is_listed (nullable_at (heap_byte a)) ≡ false)
 unfolding nullable_at value_at heap_at
 abstract_byte abstract.NoExn = (refl, refl)
@@ -145,12 +145,12 @@ pub heap_below : (a : AbstractHeapType) → heap_byte a < 256
 heap_below abstract.NoExn = omega arith
 heap_below _ = omega arith
 
--- what is shorter than the shortest that is known
+-- what is shorter than a least text is least too
 least_below : (short long text : List ℕ) → length short < length long → IsLeast long text → IsLeast short text
 least_below short long text lt (inl e) = inr (omega (arith, ap length e))
 least_below short long text lt (inr h) = inr (omega arith)
 
--- with a byte before the heap type
+-- a byte for whether it is nullable, and then the heap type
 IsLong : Bool → HeapType ℕ → List ℕ → Type 0
 IsLong nullable heap text = Then (Made IsByte (λ b. listed (nullable_at b))) (λ nullable. IsHeapType) (nullable, heap) text
 
@@ -164,7 +164,7 @@ least_long nullable heap =
     (λ text h. h.2.1 ∙ ap (λ (b : ℕ). b ∷ []) (nullable_is h.0 nullable (listed_ok (nullable_at h.0) nullable h.1))) in
     least_then (Made IsByte (λ b. listed (nullable_at b))) (λ nullable. IsHeapType) nullable heap (reference_byte nullable ∷ []) (short_heap heap) first (least_heap heap)
 
--- of what was spelt so the byte is known
+-- the first byte of such a spelling says whether it is nullable
 nullable_byte : (nullable : Bool) (heap : HeapType ℕ) (text : List ℕ) → IsLong nullable heap text → nullable_at (reference_byte nullable) ≡ Some nullable
 unfolding IsLong
 nullable_byte nullable heap text h =
@@ -211,7 +211,7 @@ or_true : (a b : Bool) → b ≡ true → (a || b) ≡ true
 or_true true b e = refl
 or_true false b e = e
 
--- what a value type begins with
+-- the first byte of a value type
 value_byte : (b : ℕ) → starts_value_type b ≡ true → (64 < b) × (b < 128)
 unfolding nullable_at heap_at
 value_byte b e =

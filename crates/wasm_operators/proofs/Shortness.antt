@@ -1,4 +1,4 @@
--- How shortest spellings are put together.
+-- How shortest spellings are combined.
 use Rattle.std.proofs.Common.{◌≡◌, ℕ, zero, suc, List, [], ◌∷◌, ◌++◌, length, Result, Ok, refl, sym, ap, subst, ◌∙◌, arith, inl, inr, ℤ}
 use Rattle.std.proofs.lemmas.List.{length-append}
 use Rattle.std.specs.List.{flat_map}
@@ -8,7 +8,7 @@ use Rattle.wasm_numbers.specs.Numbers.{IsU32, IsU64, IsS32, IsS33, IsS64}
 use Rattle.wasm_operators.specs.Shortest.{IsLeast, short_number, short_integer}
 use Rattle.wasm_operators.proofs.ShortestNumbers.{unsigned_shortest, signed_shortest}
 
--- Among the spellings of one value, where there are any, this one is the shortest, and every other is longer.
+-- If a value has a spelling, this one is the shortest, and every other is longer.
 pub record Least (Spelt : List ℕ → Type 0) (short : List ℕ) : Type 0 where
   pub is : (text : List ℕ) → Spelt text → Spelt short × IsLeast short text
 
@@ -25,7 +25,7 @@ least_along short text other e = subst (IsLeast short) e
 pub least_only : (Spelt : List ℕ → Type 0) (short : List ℕ) → ((text : List ℕ) → Spelt text → text ≡ short) → Least Spelt short
 least_only Spelt short only = record { is = λ text h. (subst Spelt (only text h) h, inl (sym (only text h))) }
 
--- what is the same as a relation whose shortest spelling is known
+-- a relation that is the same as one whose shortest spelling is known
 pub least_same : (Spelt Other : List ℕ → Type 0) (short : List ℕ) → ((text : List ℕ) → Other text → Spelt text) → ((text : List ℕ) → Spelt text → Other text) → Least Spelt short → Least Other short
 least_same Spelt Other short into onto least = record { is = λ text h. let s = least.is text (into text h) in (onto short s.0, s.1) }
 
@@ -39,7 +39,7 @@ module _ {A B : Type 0} (First : A → List ℕ → Type 0) (Second : A → B �
   pub least_then : Least (Then First Second (a, b)) (x ++ y)
   least_then = record { is = then_is }
 
--- one thing alone makes the value
+-- only one thing makes the value
 pub least_made : {A B : Type 0} (Raw : A → List ℕ → Type 0) (make : A → Result B ReadFault) (v : B) (raw : A) (short : List ℕ)
     → ((text : List ℕ) → Made Raw make v text → (make raw ≡ Ok v) × Raw raw text) → Least (Raw raw) short → Least (Made Raw make v) short
 least_made Raw make v raw short only least = record {

@@ -1,4 +1,4 @@
--- The shortest spelling is a spelling of what fits.
+-- If an operator's numbers fit, its shortest spelling is one of its spellings.
 use Rattle.std.proofs.Common.{◌≡◌, ℕ, zero, suc, ◌+◌, ◌*◌, ◌/◌, ◌%◌, ◌^◌, ◌<◌, Bool, true, false, eqb, List, [], ◌∷◌, ◌++◌, map, length, append_assoc, Option, Some, None, Ok, refl, sym, ap, subst, ◌∙◌, arith, rules, inl, inr, ◌⊎◌, leb, ℤ, pos, negsuc}
 use Rattle.std.proofs.lemmas.Bool.{eqb-true, leb-true, lt-leb, cases_lt}
 use Rattle.std.proofs.lemmas.Nat.{pow-add}
@@ -116,7 +116,7 @@ pub heap_spelt : (h : HeapType ℕ) → FitsHeap h → IsHeapType h (short_heap 
 heap_spelt (Abstract a) h = abstract_spelt a
 heap_spelt (Concrete n) h = inr (index_starts (λ b. is_listed (heap_at b)) heap_between n, (pos n, refl, s33_spelt n h))
 
--- with a byte before the heap type
+-- a byte for whether it is nullable, and then the heap type
 long_spelt : (nullable : Bool) (byte : ℕ) (h : HeapType ℕ) → nullable_at byte ≡ Some nullable → byte < 256 → FitsHeap h
     → IsValueType (Ref (record { nullable = nullable; heap_type = h })) (byte ∷ short_heap h)
 long_spelt nullable byte h is below fits =
@@ -154,7 +154,7 @@ access_spelt a h =
       | inr e ↦ subst (IsAccess a) (sym (short_indexed a e)) (indexed_access a _ _ _ small (u32_spelt (a.alignment + 64) (omega arith)) (u32_spelt a.memory h.1) (u64_spelt a.offset h.2))
     ]
 
--- ---- lists behind a count
+-- ---- lists after their length
 
 many_spelt : {A : Type 0} (One : A → List ℕ → Type 0) (short : A → List ℕ) (P : A → Type 0) → ((v : A) → P v → One v (short v))
     → (vs : List A) → AllByRecursion P vs → Many One (length vs) vs (flat_map short vs)
@@ -272,7 +272,7 @@ immediates_spelt (i ∷ is) h = (short_immediate i, short_immediates is, refl, i
 none_some : {A : Type 0} (x : A) → None ≡ Some x → ⊥
 none_some x e = cc
 
--- no byte below a prefix is that prefix
+-- no byte below a prefix is the prefix
 no_equal : (b c : ℕ) → b < c → eqb b c ≡ false
 no_equal b c h = elim (either_way (eqb b c)) [ inl e ↦ absurd (let is = eqb-true b c e in omega arith) | inr e ↦ e ]
 
@@ -331,7 +331,7 @@ behind_fb : (n : ℕ) (ks : List Kind) → kinds_behind 0xfb n ≡ Some ks → n
 unfolding kinds_behind
 behind_fb n ks e = range_within (2 ^ 32) aggregate_ranges (search rules) n ks e
 
--- a prefix behind which an operator stands
+-- a prefix that an operator can follow
 prefixes : (prefix n : ℕ) (ks : List Kind) → kinds_behind prefix n ≡ Some ks → (prefix ≡ 0xfc) ⊎ ((prefix ≡ 0xfd) ⊎ ((prefix ≡ 0xfe) ⊎ (prefix ≡ 0xfb)))
 unfolding kinds_behind
 prefixes prefix n ks e =
@@ -474,7 +474,7 @@ kinds_of_reference (reference.RefCast true type) = refl
 kinds_of_reference (reference.RefCast false type) = refl
 kinds_of_reference _ = refl
 
--- what follows an opcode of the code is what its row says
+-- the immediates after an opcode are those of its row
 kinds_right : (op : Listed) → kinds_of (meaning op).opcode ≡ Some (map kind_of (meaning op).immediates)
 unfolding kinds_of_byte kinds_behind
 kinds_right (operator.Unop op) = kinds_of_unary op
@@ -487,6 +487,6 @@ kinds_right (operator.Atomic kind memarg) = kinds_of_atomic kind
 kinds_right (operator.Reference op) = kinds_of_reference op
 kinds_right _ = refl
 
--- so of an operator of the code whose numbers fit the shortest spelling is a spelling
+-- so if the numbers of an operator fit, its shortest spelling is one of its spellings
 pub written : (op : Listed) → AllFit (meaning op).immediates → Spells (meaning op) (short (meaning op))
 written op fits = spelt (meaning op) (kinds_right op) fits

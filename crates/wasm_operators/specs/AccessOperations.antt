@@ -1,4 +1,4 @@
--- Loads and stores: the opcode of each, a row an operator (WebAssembly core specification 3.0, binary format, memory
+-- Loads and stores: the opcode of each, one row for each operator (WebAssembly core specification 3.0, binary format, memory
 -- instructions; the proposal for threads).
 use Rattle.std.specs.Prelude.{true, false, [], ◌∷◌}
 use Rattle.walrus_ir.specs.declared.memory.LoadKind.{LoadKind}
@@ -54,7 +54,7 @@ store_opcode (store.I64_8 true) = Prefixed 0xfe 0x1b
 store_opcode (store.I64_16 true) = Prefixed 0xfe 0x1c
 store_opcode (store.I64_32 true) = Prefixed 0xfe 0x1d
 
--- what a raw memory argument says of the access
+-- the access that a raw memory argument describes
 abbrev pub access_of : RawMemArg → Access
 access_of memarg = record { alignment = memarg.exponent; memory = memarg.memory; offset = memarg.offset }
 

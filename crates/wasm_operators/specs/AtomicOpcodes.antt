@@ -1,5 +1,5 @@
--- Atomic operators that read, modify and write: the opcode of each (the proposal for threads). Seven follow each other for
--- each kind, one a width.
+-- Atomic operators that read, modify and write: the opcode of each (the proposal for threads). Each kind has seven opcodes in a
+-- row, one for each width.
 use Rattle.std.specs.Prelude.{ℕ, ◌+◌, [], ◌∷◌}
 use Rattle.walrus_ir.specs.declared.memory.AtomicOp.{AtomicOp}
 use Rattle.walrus_ir.specs.declared.memory.AtomicOp.TheVariants.{Add, Sub, And, Or, Xor, Xchg}
@@ -11,7 +11,7 @@ use Rattle.wasm_operators.specs.declared.types.Opcode.{Opcode}
 use Rattle.wasm_operators.specs.declared.types.Opcode.TheVariants.{Prefixed}
 use Rattle.wasm_operators.specs.Operations.{Access, access, Operation, operation}
 
--- the place of a width among the seven
+-- the position of a width among the seven
 abbrev pub width_number : AtomicWidth → ℕ
 width_number I32 = 0
 width_number I64 = 1

@@ -1,6 +1,5 @@
--- Operators of two operands: the opcode of each, a row an operator, and the lane that it names, where it names one
--- (WebAssembly core specification 3.0, binary format, numeric and vector instructions). Each table ends in the one above it,
--- and the first in the one operator that is left.
+-- Operators of two operands: the opcode of each, one row for each operator, and its lane if it has one (WebAssembly core
+-- specification 3.0, binary format, numeric and vector instructions). Each operator is in one of these tables.
 use Rattle.std.specs.Prelude.{List, [], ◌∷◌, Option, Some, None}
 use Rattle.walrus_ir.specs.declared.binary.BinaryOp.{BinaryOp}
 use Rattle.walrus_ir.specs.declared.binary.BinaryOp.TheVariants as binary
@@ -9,7 +8,7 @@ use Rattle.wasm_operators.specs.declared.types.Opcode.TheVariants.{Byte, Prefixe
 use Rattle.wasm_operators.specs.Rows.{first_some, the_row}
 use Rattle.wasm_operators.specs.Operations.{Immediate, lane, Operation, operation}
 
--- the lanes that are replaced
+-- operators that replace a lane
 abbrev pub replace_opcode : BinaryOp → Option Opcode
 replace_opcode (binary.I8x16ReplaceLane idx) = Some (Prefixed 0xfd 23)
 replace_opcode (binary.I16x8ReplaceLane idx) = Some (Prefixed 0xfd 26)
@@ -169,7 +168,7 @@ vector_comparison_opcode binary.V128Or = Some (Prefixed 0xfd 80)
 vector_comparison_opcode binary.V128Xor = Some (Prefixed 0xfd 81)
 vector_comparison_opcode _ = None
 
--- floats: opcodes of one byte
+-- floating-point: opcodes of one byte
 abbrev pub float_binary_opcode : BinaryOp → Option Opcode
 float_binary_opcode binary.F32Eq = Some (Byte 0x5b)
 float_binary_opcode binary.F32Ne = Some (Byte 0x5c)
@@ -253,14 +252,14 @@ integer_binary_opcode binary.I64Rotl = Some (Byte 0x89)
 integer_binary_opcode binary.I64Rotr = Some (Byte 0x8a)
 integer_binary_opcode _ = None
 
--- the row of an operator: each has one
+-- the row of an operator; each has one
 abbrev pub binary_row : BinaryOp → Option Opcode
 binary_row op = first_some (integer_binary_opcode op) (first_some (float_binary_opcode op) (first_some (vector_comparison_opcode op) (first_some (low_vector_binary_opcode op) (first_some (high_vector_binary_opcode op) (first_some (replace_opcode op) (None))))))
 
 abbrev pub binary_opcode : BinaryOp → Opcode
 binary_opcode op = the_row (binary_row op)
 
--- the lane of an operator that names one
+-- the lane of an operator, if it has one
 abbrev pub replace_lane : {L B : Type 0} → BinaryOp → List (Immediate L B)
 replace_lane (binary.I8x16ReplaceLane idx) = lane idx ∷ []
 replace_lane (binary.I16x8ReplaceLane idx) = lane idx ∷ []

@@ -1,4 +1,4 @@
--- Which operators have a spelling, as far as their immediates say.
+-- Which operators have a spelling, in terms of their immediates.
 use Rattle.std.specs.Prelude.{◌≡◌, ℕ, ◌^◌, ◌<◌, List, [], ◌∷◌, length, Option, Some, None, ℤ, pos, negsuc}
 use Rattle.std.specs.List.{AllByRecursion}
 use Rattle.walrus_ir.specs.declared.val_type.HeapType.{HeapType}
@@ -9,7 +9,7 @@ use Rattle.wasm_operators.specs.declared.types.BlockType.{BlockType}
 use Rattle.wasm_operators.specs.declared.types.BlockType.TheVariants.{Empty, Value, FuncType}
 use Rattle.wasm_operators.specs.Operations.{CatchClause, RawImmediate, index, local, label, handler, outer, number, branch_table, clauses, access, block, heap, value, cast, i32, i64, f32, f64, v128, lane, lanes, zero_byte}
 
--- What is asked of an immediate beside that its numbers fit their types.
+-- What an immediate needs besides numbers that fit their types.
 abbrev pub IsSpeakable : RawImmediate → Type 0
 IsSpeakable (access a) = a.alignment < 32
 IsSpeakable (branch_table targets default) = length targets < 2 ^ 32

@@ -1,4 +1,4 @@
--- How each immediate is spelt, and how one of a kind is read (WebAssembly core specification 3.0, binary format,
+-- The spellings of each immediate, and how an immediate of a kind is read (WebAssembly core specification 3.0, binary format,
 -- instructions).
 use Rattle.std.specs.Prelude.{◌≡◌, ℕ, ◌-◌, Bool, true, false, List, [], ◌∷◌, ◌++◌, Option, Some, None, Result, Ok, Err, nat_lt, ◌==◌, if◌then◌else◌}
 use Rattle.walrus_ir.specs.declared.val_type.HeapType.{HeapType}
@@ -12,10 +12,10 @@ use Rattle.wasm_operators.specs.Types.{IsHeapType, heap_type, IsValueType, value
 use Rattle.wasm_operators.specs.Operations.{Access, CatchClause, Cast, RawImmediate, index, local, label, handler, outer, number, access, branch_table, clauses, block, heap, value, cast, i32, i64, f32, f64, v128, lane, lanes, zero_byte}
 use Rattle.walrus_ir.specs.Results.{◌>>=◌}
 
--- ---- memory accesses: flags, the memory's index where the flags say so, and the offset
+-- ---- memory accesses: flags, the index of the memory if the flags say so, and the offset
 
--- Flags below 64 are the exponent, and memory 0 is meant; from 64 on they are 64 more than the exponent, and the
--- memory's index follows. An exponent is below 32.
+-- Flags below 64 are the exponent, and the memory is memory 0. Flags from 64 on are 64 more than the exponent, and the index of
+-- the memory follows. An exponent is below 32.
 abbrev pub memory_flags : ℕ → Result (ℕ × Bool) ReadFault
 memory_flags n =
     if nat_lt n 32 then Ok (n, false)
@@ -40,7 +40,7 @@ IsAccess = Made (Then (Made IsU32 memory_flags) (λ flags. Then (IsMemory flags)
 unfoldable pub memory_access : Reader Access
 memory_access = made (then_read (made u32 memory_flags) (λ flags. then_read (memory flags) (λ memory. u64))) made_access
 
--- ---- the labels of `br_table`: a count, so many labels, and the default
+-- ---- the labels of `br_table`: a count, that many labels, and the default
 
 abbrev pub Table : Type 0
 Table = List ℕ × ℕ
@@ -54,9 +54,9 @@ IsTable = Made (Then IsU32 (λ count. Then (Many IsU32 count) (λ targets. IsU32
 unfoldable pub label_table : Reader Table
 label_table = made (then_read u32 (λ count. then_read (many u32 count) (λ targets. u32))) made_table
 
--- ---- the clauses of `try_table`: a count, and so many of a kind, a tag where it has one, and a label
+-- ---- the clauses of `try_table`: a count, and that many clauses: a kind, a tag if the kind has one, and a label
 
--- of each kind: whether it has a tag, and whether it hands on a reference
+-- for each kind: whether it has a tag, and whether it passes a reference to the exception
 abbrev pub catch_kind : ℕ → Result (Bool × Bool) ReadFault
 catch_kind b =
     if b == 0 then Ok (true, false)
@@ -113,7 +113,7 @@ IsCast = Made (Then (Made IsByte cast_flags) (λ flags. Then IsU32 (λ label. Th
 unfoldable pub cast_parts : Reader (Cast ℕ)
 cast_parts = made (then_read (made byte cast_flags) (λ flags. then_read u32 (λ label. then_read heap_type (λ source. heap_type)))) made_cast
 
--- ---- the type of a `select`: a count, which is one, and a value type
+-- ---- the type of a `select`: a count, which is 1, and a value type
 
 abbrev pub one_type : ℕ → Result ℕ ReadFault
 one_type count = if count == 1 then Ok count else Err BadSelect
@@ -127,7 +127,7 @@ IsSelected = Made (Then (Made IsU32 one_type) (λ count. IsValueType)) made_sele
 unfoldable pub selected : Reader (ValType ℕ)
 selected = made (then_read (made u32 one_type) (λ count. value_type)) made_selected
 
--- ---- the byte behind a fence
+-- ---- the byte after `atomic.fence`
 
 abbrev pub fence_byte : ℕ → Result ℕ ReadFault
 fence_byte b = if b == 0 then Ok b else Err BadFence
@@ -180,7 +180,7 @@ kind_of (lane n) = a_lane
 kind_of (lanes ns) = sixteen_lanes
 kind_of zero_byte = a_zero_byte
 
--- The bytes spell the immediate.
+-- The bytes are a spelling of the immediate.
 abbrev pub SpellsImmediate : Spelling RawImmediate
 SpellsImmediate (index space n) text = IsU32 n text
 SpellsImmediate (local n) text = IsU32 n text

@@ -1,4 +1,4 @@
--- Lists as they stand in the input: so many values, read one behind the other.
+-- Lists as they are in the input: a number of values, read one after the other.
 use Rattle.std.specs.Prelude.{◌≡◌, ℕ, List, [], length, Result, Ok, Err, Bool, Option, nat_eq, ◌&&◌}
 use Rattle.std.specs.Bool.{beq}
 use Rattle.std.specs.Option.{option_eq}
@@ -19,7 +19,7 @@ values (Err e) = []
 abbrev pub items_of : {A : Type 0} → Reader A → ℕ → List ℕ → List A
 items_of one n bytes = values (many one n bytes)
 
--- so many values stand at the front
+-- there are this many values at the front
 pub record AreItems {A : Type 0} (one : Reader A) (n : ℕ) (bytes : List ℕ) : Type 0 where
   pub all : length (items_of one n bytes) ≡ n
 
@@ -45,6 +45,6 @@ clauses_equiv = lists_equiv (and_equiv (on_equiv (λ c. c.by_reference) bool_eq_
 pub clauses_per : IsPartialEquivalence (pointwise clause_eq)
 clauses_per = partial_equiv_from_equiv clauses_equiv
 
--- a clause of these parts
+-- a clause with these parts
 abbrev pub clause_of : Bool × Option ℕ × ℕ → CatchClause ℕ
 clause_of parts = record { by_reference = parts.0; tag = parts.1; label = parts.2 }

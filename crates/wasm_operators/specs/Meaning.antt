@@ -1,4 +1,4 @@
--- What an operator of the code means: its opcode and its immediates, a row an operator.
+-- The meaning of an operator of the code: its opcode and its immediates, one row for each operator.
 use Rattle.std.specs.Prelude.{ℕ, List, [], ◌∷◌}
 use Rattle.wasm_operators.specs.declared.operator.Op.{Op}
 use Rattle.wasm_operators.specs.declared.operator.Op.TheVariants as operator
@@ -14,8 +14,8 @@ use Rattle.wasm_operators.specs.VectorAccessOpcodes.{vector_access_operation}
 use Rattle.wasm_operators.specs.AtomicOpcodes.{atomic_operation}
 use Rattle.wasm_operators.specs.ReferenceOperations.{reference_operation}
 
--- An operator with its lists, as a contract sees them: those that are read stand in the input, those that are written in
--- slices, and both are seen as lists.
+-- An operator with its lists, as a contract sees it. Lists that are read refer to the input, lists that are written are slices;
+-- a contract sees both as lists.
 abbrev pub Listed : Type 0
 Listed = Op Table (List (CatchClause ℕ))
 

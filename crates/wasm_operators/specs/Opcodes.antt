@@ -1,5 +1,5 @@
--- Which opcodes there are, and which immediates follow each: a row an opcode or a range of opcodes (WebAssembly core
--- specification 3.0, binary format, instructions). An operator is carried where its opcode has a row here.
+-- Which opcodes there are, and which immediates follow each: one row for each opcode or range of opcodes (WebAssembly core
+-- specification 3.0, binary format, instructions). An operator is supported if its opcode has a row here.
 use Rattle.std.specs.Prelude.{◌≡◌, ℕ, ◌<◌, Bool, true, false, ◌||◌, List, [], ◌∷◌, Option, Some, None, Ok, Err, nat_le, ◌==◌, if◌then◌else◌}
 use Rattle.wasm_numbers.specs.declared.fault.ReadFault.TheVariants.{Truncated}
 use Rattle.wasm_operators.specs.declared.types.Opcode.{Opcode}
@@ -69,12 +69,12 @@ constant_rows =
     (0x44, an_f64 ∷ []) ∷  -- f64.const
     []
 
--- what a table of ranges has at a number: each row has the last number of its range, and ranges follow each other
+-- the value of a table of ranges at a number: each row has the last number of its range, and the next range follows it
 abbrev pub range_at : {V : Type 0} → List (ℕ × Option V) → ℕ → Option V
 range_at [] n = None
 range_at (row ∷ rows) n = if nat_le n row.0 then row.1 else range_at rows n
 
--- 0xc5 to 0xd6: ranges of opcodes that have an operator, and of opcodes that have none
+-- 0xc5 to 0xd6: ranges of opcodes, with and without an operator
 abbrev pub reference_ranges : List (ℕ × Option (List Kind))
 reference_ranges =
     (0xcf, None) ∷
@@ -96,7 +96,7 @@ kinds_of_byte b =
 
 -- ---- opcodes of a prefix byte and a number
 
--- the prefix bytes behind which an operator is carried
+-- the prefix bytes that the number of a supported operator follows
 abbrev pub is_prefix : ℕ → Bool
 is_prefix b = b == 0xfb || b == 0xfc || b == 0xfd || b == 0xfe
 
@@ -139,17 +139,17 @@ aggregate_ranges =
     (30, Some []) ∷  -- conversions, i31
     []
 
--- 0xfd 0 to 275: ranges of numbers that have an operator, and of numbers that have none
+-- 0xfd 0 to 275: ranges of numbers, with and without an operator
 abbrev pub vector_ranges : List (ℕ × Option (List Kind))
 vector_ranges =
     (11, Some (an_access ∷ [])) ∷  -- loads and stores of whole vectors
     (12, Some (a_v128 ∷ [])) ∷  -- v128.const
     (13, Some (sixteen_lanes ∷ [])) ∷  -- i8x16.shuffle
     (20, Some []) ∷  -- i8x16.swizzle, splats
-    (34, Some (a_lane ∷ [])) ∷  -- lanes that are read or replaced
+    (34, Some (a_lane ∷ [])) ∷  -- extract or replace a lane
     (83, Some []) ∷  -- comparisons, operators on all bits
     (91, Some (an_access ∷ a_lane ∷ [])) ∷  -- loads and stores of one lane
-    (93, Some (an_access ∷ [])) ∷  -- loads that zero
+    (93, Some (an_access ∷ [])) ∷  -- loads that fill up with zeros
     (153, Some []) ∷
     (154, None) ∷
     (161, Some []) ∷
@@ -177,19 +177,19 @@ vector_ranges =
     (275, Some []) ∷  -- and relaxed operators
     []
 
--- 0xfe 0 to 0x4e: so too
+-- 0xfe 0 to 0x4e: ranges of numbers, with and without an operator
 abbrev pub atomic_ranges : List (ℕ × Option (List Kind))
 atomic_ranges =
     (2, Some (an_access ∷ [])) ∷  -- memory.atomic.notify, wait32, wait64
     (3, Some (a_zero_byte ∷ [])) ∷  -- atomic.fence
     (0xf, None) ∷
-    (0x4e, Some (an_access ∷ [])) ∷  -- loads, stores, and what reads and writes
+    (0x4e, Some (an_access ∷ [])) ∷  -- loads, stores, and read-modify-write operators
     []
 
 unfoldable pub kinds_behind : ℕ → ℕ → Option (List Kind)
 kinds_behind prefix n =
     if prefix == 0xfc then
-    (if nat_le n 7 then Some []  -- conversions that saturate
+    (if nat_le n 7 then Some []  -- saturating conversions
     else row_at bulk_rows n)
     else if prefix == 0xfd then range_at vector_ranges n
     else if prefix == 0xfe then range_at atomic_ranges n
@@ -202,7 +202,7 @@ abbrev pub kinds_of : Opcode → Option (List Kind)
 kinds_of (Byte b) = kinds_of_byte b
 kinds_of (Prefixed prefix n) = kinds_behind prefix n
 
--- a byte that is no prefix, or a prefix and any spelling of the number
+-- a byte that is not a prefix, or a prefix and any spelling of the number
 abbrev pub IsOpcode : Spelling Opcode
 IsOpcode (Byte b) text = (is_prefix b ≡ false) × (b < 256) × (text ≡ b ∷ [])
 IsOpcode (Prefixed prefix n) text = (is_prefix prefix ≡ true) × (prefix < 256) × (rest : List ℕ) × (text ≡ prefix ∷ rest) × IsU32 n rest

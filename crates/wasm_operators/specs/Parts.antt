@@ -1,4 +1,4 @@
--- An operator taken apart: its opcode, and what follows it.
+-- An operator in parts: its opcode, and its immediates.
 use Rattle.std.specs.Prelude.{ℕ, List, [], ◌∷◌, Option, Some, None}
 use Rattle.wasm_operators.specs.declared.types.Opcode.{Opcode}
 use Rattle.wasm_operators.specs.declared.immediates.Immediates.{Immediates}
@@ -10,8 +10,8 @@ use Rattle.wasm_operators.specs.declared.immediates.ReferenceImmediates.TheVaria
 use Rattle.wasm_operators.specs.AccessOperations.{access_of, memarg_of}
 use Rattle.wasm_operators.specs.ReferenceOperations.{cast_of, raw_cast_of}
 
--- What follows an opcode, as a contract sees it: lists that are read stand in the input, those that are written in slices,
--- and both are seen as lists.
+-- The immediates after an opcode, as a contract sees them. Lists that are read refer to the input, lists that are written are
+-- slices; a contract sees both as lists.
 abbrev pub ListedImmediates : Type 0
 ListedImmediates = Immediates Table (List (CatchClause ℕ))
 
@@ -41,7 +41,7 @@ immediates_of (immediates.Lane n) = lane n ∷ []
 immediates_of (immediates.Lanes ns) = lanes ns ∷ []
 immediates_of immediates.ZeroByte = zero_byte ∷ []
 
--- The immediates as one of these, which they are where they follow an opcode of the code.
+-- The immediates as one of these shapes; the immediates of each opcode of the code have one.
 abbrev pub shape_of : List RawImmediate → ListedImmediates
 shape_of (index space n ∷ []) = immediates.Index space n
 shape_of (index first m ∷ index second n ∷ is) = immediates.Pair first m second n
@@ -71,12 +71,12 @@ shape_of _ = immediates.Nothing
 abbrev pub parts_of : RawOperation → Opcode × ListedImmediates
 parts_of o = (o.opcode, shape_of o.immediates)
 
--- the lane that an operator names, where it names one
+-- the lane of an operator, if it has one
 abbrev pub lane_immediates : Option ℕ → List RawImmediate
 lane_immediates (Some n) = lane n ∷ []
 lane_immediates None = []
 
--- what follows the opcode of an operator on references, structs and arrays
+-- the immediates of an operator on references, structs and arrays
 abbrev pub behind_reference : ReferenceImmediates → List RawImmediate
 behind_reference behind.Nothing = []
 behind_reference (behind.Index space n) = index space n ∷ []

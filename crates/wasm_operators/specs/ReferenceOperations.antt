@@ -1,5 +1,5 @@
--- Operators on references, structs and arrays: the opcode of each, and what follows it, a row an operator (WebAssembly core
--- specification 3.0, binary format, instructions).
+-- Operators on references, structs and arrays: the opcode and the immediates of each, one row for each operator (WebAssembly
+-- core specification 3.0, binary format, instructions).
 use Rattle.std.specs.Prelude.{ℕ, List, [], ◌∷◌, Bool, true, false}
 use Rattle.wasm_operators.specs.declared.reference_operator.ReferenceOp.{ReferenceOp}
 use Rattle.wasm_operators.specs.declared.reference_operator.ReferenceOp.TheVariants as reference
@@ -9,14 +9,14 @@ use Rattle.wasm_operators.specs.declared.types.RawCast.{RawCast}
 use Rattle.wasm_operators.specs.declared.types.Space.TheVariants.{Types, Funcs, Elements, Data}
 use Rattle.wasm_operators.specs.Operations.{Cast, RawImmediate, index, label, number, heap, cast, RawOperation, operation}
 
--- what follows the opcode of a branch on a cast, and as it stands in the code
+-- the immediates of a branch on a cast, from those of the code
 abbrev pub cast_of : RawCast → Cast ℕ
 cast_of c = record { from_nullable = c.from_nullable; to_nullable = c.to_nullable; label = c.label; source = c.source; target = c.target }
 
 abbrev pub raw_cast_of : Cast ℕ → RawCast
 raw_cast_of c = record { from_nullable = c.from_nullable; to_nullable = c.to_nullable; label = c.label; source = c.source; target = c.target }
 
--- the second where a reference may be null
+-- the second number if a reference may be null
 abbrev pub by_null : Bool → ℕ → ℕ → Opcode
 by_null false m n = Prefixed 0xfb m
 by_null true m n = Prefixed 0xfb n

@@ -1,4 +1,4 @@
--- Tables of rows, one behind the other.
+-- Tables of rows, one after the other.
 use Rattle.std.specs.Prelude.{Option, Some, None}
 use Rattle.wasm_operators.specs.declared.types.Opcode.{Opcode}
 use Rattle.wasm_operators.specs.declared.types.Opcode.TheVariants.{Byte}

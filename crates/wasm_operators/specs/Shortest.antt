@@ -17,7 +17,7 @@ use Rattle.wasm_operators.specs.Operations.{Access, CatchClause, Cast, RawImmedi
 abbrev pub IsLeast : (shortest text : List ℕ) → Type 0
 IsLeast shortest text = (shortest ≡ text) ⊎ (length shortest < length text)
 
--- ---- integers: at most so many bytes before the last
+-- ---- integers: at most this many bytes before the last
 
 unfoldable pub short_unsigned : ℕ → ℕ → List ℕ
 short_unsigned zero n = n % 128 ∷ []
@@ -32,7 +32,7 @@ abbrev pub high_bits : ℤ → ℤ
 high_bits (pos n) = pos (n / 128)
 high_bits (negsuc n) = negsuc (n / 128)
 
--- seven bits hold the number with its sign
+-- seven bits can contain the number with its sign
 abbrev pub fits_seven : ℤ → Bool
 fits_seven (pos n) = nat_lt n 64
 fits_seven (negsuc n) = nat_lt n 64
@@ -48,7 +48,7 @@ short_number = short_unsigned 9
 abbrev pub short_integer : ℤ → List ℕ
 short_integer = short_signed 9
 
--- so many bytes of a number, the least first
+-- a number as `count` bytes, the least significant first
 abbrev pub short_bits : (count bits : ℕ) → List ℕ
 short_bits zero bits = []
 short_bits (suc count) bits = bits % 256 ∷ short_bits count (bits / 256)

@@ -8,8 +8,8 @@ use Rattle.wasm_operators.specs.Immediates.{Kind, kind_of, SpellsImmediates, imm
 use Rattle.wasm_operators.specs.Opcodes.{kinds_of, IsOpcode, opcode}
 use Rattle.walrus_ir.specs.Results.{◌>>=◌}
 
--- The bytes are a spelling of the operator: its opcode, and then each of its immediates, which are those that its opcode
--- asks for.
+-- The bytes are a spelling of the operator: of its opcode, and then of each of its immediates, whose kinds are those of the
+-- opcode.
 pub record Spells (o : RawOperation) (text : List ℕ) : Type 0 where
   pub first : List ℕ
   pub others : List ℕ
@@ -18,7 +18,7 @@ pub record Spells (o : RawOperation) (text : List ℕ) : Type 0 where
   pub kinds : kinds_of o.opcode ≡ Some (map kind_of o.immediates)
   pub immediates : SpellsImmediates o.immediates others
 
--- Reading an operator: its opcode, and then each immediate that the opcode asks for.
+-- Reading an operator: its opcode, and then each immediate of the opcode's kinds.
 abbrev pub operands_of : Opcode → Option (List Kind) → Reader RawOperation
 operands_of o None bytes = Err UnknownOperator
 operands_of o (Some kinds) bytes = immediates kinds bytes >>= λ is. Ok (operation o is.0, is.1)

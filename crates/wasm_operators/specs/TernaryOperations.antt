@@ -1,5 +1,5 @@
--- Operators of three operands: the opcode of each, a row an operator (WebAssembly core specification 3.0, binary format,
--- vector instructions).
+-- Operators of three operands: the opcode of each, one row for each operator (WebAssembly core specification 3.0, binary
+-- format, vector instructions).
 use Rattle.std.specs.Prelude.{[]}
 use Rattle.walrus_ir.specs.declared.ternary.TernaryOp.{TernaryOp}
 use Rattle.walrus_ir.specs.declared.ternary.TernaryOp.TheVariants as ternary

@@ -15,7 +15,7 @@ use Rattle.wasm_numbers.specs.Numbers.{IsS33, s33, IsByte, byte}
 use Rattle.wasm_operators.specs.Rows.{first_some}
 use Rattle.walrus_ir.specs.Results.{◌>>=◌}
 
--- what a table has at a number
+-- the value of a table at a number
 abbrev pub row_at : {V : Type 0} → List (ℕ × V) → ℕ → Option V
 row_at [] n = None
 row_at (row ∷ rows) n = if n == row.0 then Some row.1 else row_at rows n
@@ -24,7 +24,7 @@ abbrev pub is_listed : {V : Type 0} → Option V → Bool
 is_listed (Some v) = true
 is_listed None = false
 
--- what is listed, or no type that may stand here
+-- the listed value; without one, no type is allowed here
 abbrev pub listed : {V : Type 0} → Option V → Result V ReadFault
 listed (Some v) = Ok v
 listed None = Err BadType
@@ -67,13 +67,13 @@ IsHeapType = Switch (λ b. is_listed (heap_at b)) (Made IsByte abstract_heap) (M
 abbrev pub heap_type : Reader (HeapType ℕ)
 heap_type = switch (λ b. is_listed (heap_at b)) (made byte abstract_heap) (made s33 concrete_heap)
 
--- ---- value types: a byte that is listed, or a byte that says whether a reference is nullable, and a heap type
+-- ---- value types: a byte that is listed, or a byte for whether a reference is nullable and then a heap type
 
 -- number and vector types
 abbrev pub number_rows : List (ℕ × ValType ℕ)
 number_rows = (0x7f, I32) ∷ (0x7e, I64) ∷ (0x7d, F32) ∷ (0x7c, F64) ∷ (0x7b, V128) ∷ []
 
--- the byte of an abstract heap type stands for its nullable reference
+-- the byte of an abstract heap type is also the value type of a nullable reference to it
 abbrev pub nullable_to : AbstractHeapType → ValType ℕ
 nullable_to a = Ref (record { nullable = true; heap_type = Abstract a })
 
@@ -101,7 +101,7 @@ value_type =
     (made (then_read (made byte (λ b. listed (nullable_at b))) (λ nullable. heap_type)) reference)
     (made byte (λ b. listed (value_at b)))
 
--- ---- block types: 0x40, a value type, or a type index; a first byte of a value type decides for the value type
+-- ---- block types: 0x40, a value type, or a type index; a first byte that a value type can have means a value type
 
 abbrev pub starts_value_type : ℕ → Bool
 starts_value_type b = is_listed (value_at b) || is_listed (nullable_at b)

@@ -1,6 +1,5 @@
--- Operators of one operand: the opcode of each, a row an operator, and the lane that it names, where it names one
--- (WebAssembly core specification 3.0, binary format, numeric and vector instructions). Each table ends in the one above it,
--- and the first in the one operator that is left.
+-- Operators of one operand: the opcode of each, one row for each operator, and its lane if it has one (WebAssembly core
+-- specification 3.0, binary format, numeric and vector instructions). Each operator is in one of these tables.
 use Rattle.std.specs.Prelude.{List, [], ◌∷◌, Option, Some, None}
 use Rattle.walrus_ir.specs.declared.unary.UnaryOp.{UnaryOp}
 use Rattle.walrus_ir.specs.declared.unary.UnaryOp.TheVariants as unary
@@ -9,7 +8,7 @@ use Rattle.wasm_operators.specs.declared.types.Opcode.TheVariants.{Byte, Prefixe
 use Rattle.wasm_operators.specs.Rows.{first_some, the_row}
 use Rattle.wasm_operators.specs.Operations.{Immediate, lane, Operation, operation}
 
--- the lanes that are read
+-- operators that extract a lane
 abbrev pub extract_opcode : UnaryOp → Option Opcode
 extract_opcode (unary.I8x16ExtractLaneS idx) = Some (Prefixed 0xfd 21)
 extract_opcode (unary.I8x16ExtractLaneU idx) = Some (Prefixed 0xfd 22)
@@ -162,14 +161,14 @@ scalar_unary_opcode unary.I64TruncSSatF64 = Some (Prefixed 0xfc 6)
 scalar_unary_opcode unary.I64TruncUSatF64 = Some (Prefixed 0xfc 7)
 scalar_unary_opcode _ = None
 
--- the row of an operator: each has one
+-- the row of an operator; each has one
 abbrev pub unary_row : UnaryOp → Option Opcode
 unary_row op = first_some (scalar_unary_opcode op) (first_some (low_vector_unary_opcode op) (first_some (high_vector_unary_opcode op) (first_some (extract_opcode op) (None))))
 
 abbrev pub unary_opcode : UnaryOp → Opcode
 unary_opcode op = the_row (unary_row op)
 
--- the lane of an operator that names one
+-- the lane of an operator, if it has one
 abbrev pub extract_lane : {L B : Type 0} → UnaryOp → List (Immediate L B)
 extract_lane (unary.I8x16ExtractLaneS idx) = lane idx ∷ []
 extract_lane (unary.I8x16ExtractLaneU idx) = lane idx ∷ []

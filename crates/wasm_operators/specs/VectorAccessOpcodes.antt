@@ -1,4 +1,4 @@
--- Loads of vectors that splat, widen or zero, and loads and stores of one lane: the opcode of each (WebAssembly core
+-- Vector loads that splat, widen or fill up with zeros, and loads and stores of one lane: the opcode of each (WebAssembly core
 -- specification 3.0, binary format, vector instructions).
 use Rattle.std.specs.Prelude.{List, [], ◌∷◌}
 use Rattle.walrus_ir.specs.declared.memory.LoadSimdKind.{LoadSimdKind}
@@ -29,7 +29,7 @@ vector_access_opcode (vector_access.V128Store64Lane n) = Prefixed 0xfd 91
 vector_access_opcode vector_access.V128Load32Zero = Prefixed 0xfd 92
 vector_access_opcode vector_access.V128Load64Zero = Prefixed 0xfd 93
 
--- the lane that an access names
+-- the lane of an access, if it has one
 abbrev pub access_lane : {L B : Type 0} → LoadSimdKind → List (Immediate L B)
 access_lane (vector_access.V128Load8Lane n) = lane n ∷ []
 access_lane (vector_access.V128Load16Lane n) = lane n ∷ []

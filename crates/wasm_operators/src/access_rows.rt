@@ -1,4 +1,4 @@
-//! The opcodes of loads and stores, as they are written: a row an operator.
+//! The opcodes of loads and stores: one row for each operator.
 
 ghost use Rattle.std.specs.Prelude.{◌≡◌};
 ghost use Rattle.wasm_operators.specs.AccessOperations.{load_opcode as the_load_opcode, store_opcode as the_store_opcode};

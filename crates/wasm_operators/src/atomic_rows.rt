@@ -1,4 +1,4 @@
-//! Atomic accesses: their opcodes, a row an operator.
+//! Atomic accesses: their opcodes, one row for each operator.
 
 ghost use Rattle.std.specs.Prelude.{◌≡◌, ◌≤◌, ◌+◌};
 ghost use Rattle.wasm_operators.specs.AtomicOpcodes.{width_number as the_width_number, first_atomic as the_first_atomic, atomic_opcode as the_atomic_opcode};
@@ -7,7 +7,7 @@ use crate::types::Opcode::Prefixed;
 use crate::types::{AtomicKind, Opcode};
 use walrus_ir::{AtomicOp, AtomicWidth};
 
-/// The place of a width among the seven.
+/// The position of a width among the seven.
 fn width_number(width: AtomicWidth) -> u32
     ensures gives { result ≡ the_width_number width }
     ensures small { result ≤ 6 }
@@ -38,7 +38,7 @@ fn first_atomic(op: AtomicOp) -> u32
     }
 }
 
-/// The opcode of an access.
+/// The opcode of an atomic access other than a plain load or store (the proposal for threads).
 pub fn atomic_opcode(kind: AtomicKind) -> Opcode
     ensures { result ≡ the_atomic_opcode kind }
 {

@@ -1,4 +1,4 @@
-//! The opcodes of operators of two operands, as they are written: a row an operator.
+//! The opcodes of operators of two operands: one row for each operator.
 
 ghost use Rattle.std.specs.Prelude.{◌≡◌};
 ghost use Rattle.wasm_operators.specs.BinaryOperations.{binary_opcode as the_binary_opcode, integer_binary_opcode as the_integer_binary_opcode, float_binary_opcode as the_float_binary_opcode, vector_comparison_opcode as the_vector_comparison_opcode, low_vector_binary_opcode as the_low_vector_binary_opcode, high_vector_binary_opcode as the_high_vector_binary_opcode, replace_opcode as the_replace_opcode, replace_lane as the_replace_lane};
@@ -67,7 +67,7 @@ fn integer_binary_opcode(op: BinaryOp) -> Option<Opcode>
     }
 }
 
-/// Floats: opcodes of one byte.
+/// Floating-point: opcodes of one byte.
 fn float_binary_opcode(op: BinaryOp) -> Option<Opcode>
     ensures { result ≡ the_float_binary_opcode op }
 {
@@ -267,7 +267,7 @@ fn high_vector_binary_opcode(op: BinaryOp) -> Option<Opcode>
     }
 }
 
-/// The lanes that are replaced.
+/// Operators that replace a lane.
 fn replace_opcode(op: BinaryOp) -> Option<Opcode>
     ensures { result ≡ the_replace_opcode op }
 {
@@ -282,7 +282,8 @@ fn replace_opcode(op: BinaryOp) -> Option<Opcode>
     }
 }
 
-/// The opcode of an operator.
+/// The opcode of an operator of two operands (WebAssembly core specification 3.0, binary format,
+/// numeric and vector instructions).
 #[tactic(auto, using(crate::proofs::Rows::binary_has_row))]
 pub fn binary_opcode(op: BinaryOp) -> Opcode
     ensures { result ≡ the_binary_opcode op }
@@ -308,7 +309,7 @@ pub fn binary_opcode(op: BinaryOp) -> Opcode
     }
 }
 
-/// The lane of an operator that names one.
+/// The lane of an operator that replaces one; else none.
 pub fn replace_lane(op: BinaryOp) -> Option<u8>
     ensures { lane_immediates result ≡ the_replace_lane op }
 {

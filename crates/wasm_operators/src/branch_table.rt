@@ -1,11 +1,10 @@
-//! The labels of a `br_table`, as they stand in the input.
+//! The labels of a `br_table`, borrowed from the input.
 
 use std::fmt;
 use std::marker::Model;
 use wasm_numbers::{ReadFault, read_u32};
 
-/// The labels of a `br_table`, as they stand in the input. A contract sees the labels and the
-/// default.
+/// The labels of a `br_table`, borrowed from the input. A contract sees the labels and the default.
 #[derive(Clone, Drop)]
 pub struct BrTable<'a> {
     len: u32,
@@ -24,7 +23,7 @@ impl<'a> Model for BrTable<'a> {
     ghost invariant = { λ t. AreLabels t.len t.labels.now };
 }
 
-/// The labels of a table, one after the other. A contract sees those that are left.
+/// The labels of a table, one after the other. A contract sees those that remain.
 #[derive(Drop)]
 pub struct Targets<'a> {
     left: u32,
@@ -78,21 +77,21 @@ impl<'a> BrTable<'a> {
         }
     }
 
-    /// How many labels there are beside the default.
+    /// How many labels there are without the default.
     pub fn len(&self) -> u32
         ensures { result ≡ length self.now.0 }
     {
         self.len
     }
 
-    /// The label where the operand is past the others.
+    /// The label, as a depth, for every operand that is not below `len`.
     pub fn default(&self) -> u32
         ensures { result ≡ self.now.1 }
     {
         self.default
     }
 
-    /// The labels in order, without the default.
+    /// The labels, as depths, in order and without the default.
     pub fn targets(&self) -> Targets<'a>
         ensures { result ≡ self.now.0 }
     {
@@ -112,7 +111,7 @@ impl<'a> fmt::Debug for BrTable<'a> {
     }
 }
 
-/// The labels that are left.
+/// Shows the labels that remain.
 impl<'a> fmt::Debug for Targets<'a> {
     fn fmt<W: fmt::Write>(&self, f: &mut fmt::Formatter<W>) -> fmt::Result {
         let left = Targets {
@@ -170,7 +169,7 @@ fn are_same(mut a: Targets<'_>, mut b: Targets<'_>) -> bool
     b.next().is_none()
 }
 
-/// What follows so many labels.
+/// Reads `count` labels, and returns the bytes that follow.
 fn skip_labels(count: u32, bytes: &[u8]) -> Result<&[u8], ReadFault>
     ensures { Gives (λ rest. (labels_of count bytes.now, rest.now)) result
         (many a_u32 count bytes.now) }
@@ -183,7 +182,7 @@ fn skip_labels(count: u32, bytes: &[u8]) -> Result<&[u8], ReadFault>
     Ok(rest)
 }
 
-/// The labels of a `br_table` at the front, and what follows them.
+/// Reads the labels of a `br_table` at the front. Returns them and the bytes that follow.
 #[tactic(auto, unfolding(crate::specs::Immediates::label_table))]
 pub fn read_table(bytes: &[u8]) -> Result<(BrTable<'_>, &[u8]), ReadFault>
     ensures { Gives (λ x. (x.0, x.1.now)) result (label_table bytes.now) }

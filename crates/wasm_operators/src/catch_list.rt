@@ -1,11 +1,11 @@
-//! The clauses of a `try_table`, as they stand in the input.
+//! The clauses of a `try_table`, borrowed from the input.
 
 use crate::types::RawCatch;
 use std::fmt;
 use std::marker::Model;
 use wasm_numbers::{ReadFault, read_byte, read_u32};
 
-/// The clauses of a `try_table`, as they stand in the input. A contract sees the list of them.
+/// The clauses of a `try_table`, borrowed from the input. A contract sees the list of them.
 #[derive(Clone, Drop)]
 pub struct CatchList<'a> {
     len: u32,
@@ -24,7 +24,7 @@ impl<'a> Model for CatchList<'a> {
     ghost invariant = { λ t. HoldClauses t.len t.clauses.now };
 }
 
-/// Clauses, one after the other. A contract sees those that are left.
+/// Clauses, one after the other. A contract sees those that remain.
 #[derive(Drop)]
 pub struct Catches<'a> {
     left: u32,
@@ -50,8 +50,8 @@ ghost use Rattle.wasm_operators.specs.Immediates.{clause, catch_clauses};
 ghost use Rattle.wasm_operators.specs.Lists.{clauses_of, clause_of, clause_eq};
 ghost use Rattle.walrus_ir.specs.Results.{Gives};
 
-/// A clause at the front: whether it hands on a reference, its tag and its label; and what follows
-/// it.
+/// Reads a clause at the front: whether it passes a reference to the exception, its tag and its
+/// label. Returns them and the bytes that follow.
 fn read_clause(bytes: &[u8]) -> Result<((bool, Option<u32>, u32), &[u8]), ReadFault>
     ensures { Gives (λ x. (clause_of x.0, x.1.now)) result (clause bytes.now) }
 {
@@ -168,7 +168,7 @@ fn are_same(mut a: Catches<'_>, mut b: Catches<'_>) -> bool
     b.next().is_none()
 }
 
-/// What follows so many clauses.
+/// Reads `count` clauses, and returns the bytes that follow.
 fn skip_clauses(count: u32, bytes: &[u8]) -> Result<&[u8], ReadFault>
     ensures { Gives (λ rest. (clauses_of count bytes.now, rest.now)) result
         (many clause count bytes.now) }
@@ -181,7 +181,7 @@ fn skip_clauses(count: u32, bytes: &[u8]) -> Result<&[u8], ReadFault>
     Ok(rest)
 }
 
-/// The clauses of a `try_table` at the front, and what follows them.
+/// Reads the clauses of a `try_table` at the front. Returns them and the bytes that follow.
 #[tactic(auto, unfolding(crate::specs::Immediates::catch_clauses))]
 pub fn read_clauses(bytes: &[u8]) -> Result<(CatchList<'_>, &[u8]), ReadFault>
     ensures { Gives (λ x. (x.0, x.1.now)) result (catch_clauses bytes.now) }

@@ -1,8 +1,10 @@
-//! What follows an opcode.
+//! The immediates after an opcode.
 
 use crate::types::{BlockType, RawCast, RawHeapType, RawMemArg, RawValType, Space};
 
-/// What follows an opcode. `T` is the labels of a `br_table`, and `C` the clauses of a `try_table`.
+/// The immediates after an opcode (WebAssembly core specification 3.0, binary format,
+/// instructions). `T` is the type of a `br_table`'s labels, and `C` that of a `try_table`'s
+/// clauses.
 #[derive(Debug, Drop, PartialEq, Eq)]
 pub enum Immediates<T, C> {
     /// Nothing.
@@ -17,7 +19,7 @@ pub enum Immediates<T, C> {
     Local(u32),
     /// A label.
     Label(u32),
-    /// Which of the handlers around, of a `rethrow`.
+    /// The depth of an enclosing handler, of a `rethrow`.
     Handler(u32),
     /// A label counted from outside its construct, of a `delegate`.
     Outer(u32),
@@ -35,7 +37,7 @@ pub enum Immediates<T, C> {
     Heap(RawHeapType),
     /// The type of a `select`.
     Value(RawValType),
-    /// What follows the opcode of a branch on a cast.
+    /// The immediates of a branch on a cast.
     Cast(RawCast),
     /// A constant.
     I32(i32),
@@ -51,11 +53,11 @@ pub enum Immediates<T, C> {
     Lane(u8),
     /// The lanes of a shuffle.
     Lanes([u8; 16]),
-    /// The byte behind a fence.
+    /// The byte after `atomic.fence`, which is 0.
     ZeroByte,
 }
 
-/// What follows the opcode of an operator on references, structs or arrays.
+/// The immediates of an operator on references, structs or arrays.
 #[derive(Clone, Copy)]
 pub enum ReferenceImmediates {
     /// Nothing.
@@ -70,6 +72,6 @@ pub enum ReferenceImmediates {
     Label(u32),
     /// A heap type.
     Heap(RawHeapType),
-    /// What follows the opcode of a branch on a cast.
+    /// The immediates of a branch on a cast.
     Cast(RawCast),
 }

@@ -13,24 +13,24 @@ use crate::immediates::Immediates;
 use crate::operator::Operator;
 use crate::types::{BlockType, Opcode, RawCast, RawHeapType, RawValType, Space};
 
-/// What is spelt at a front is read there, and what is read at the front of bytes is spelt by
-/// what is taken.
+/// An operator that is spelt at the front of some bytes is read there, and an operator that is read
+/// at the front is spelt by the bytes that are taken.
 pub fn law_reading()
     ensures { ReadingAgrees }
 {}
 
-/// No spelling begins another, and none spells two operators.
+/// No spelling is a prefix of another, and none spells two operators.
 pub fn law_one_spelling()
     ensures { OneSpelling Spells }
 {}
 
-/// The same bytes spell one list of operators at most.
+/// The same bytes spell at most one list of operators.
 pub fn law_one_list()
     ensures fronts { ListsAgree }
     ensures whole { OneList }
 {}
 
-/// Of a number that has a spelling the shortest is one, and every other is longer.
+/// If a number has a spelling, the shortest is one of its spellings, and every other is longer.
 pub fn law_shortest_number()
     ensures of_u32 { IsShortest short_number IsU32 }
     ensures of_u64 { IsShortest short_number IsU64 }
@@ -39,15 +39,15 @@ pub fn law_shortest_number()
     ensures of_s64 { IsShortest short_integer IsS64 }
 {}
 
-/// Of an operator that has a spelling the shortest is one, and every other is longer.
+/// If an operator has a spelling, the shortest is one of its spellings, and every other is longer.
 pub fn law_shortest()
     ensures { IsShortest short Spells }
 {}
 
-/// What follows the opcode of an operator.
+/// The immediates of an operator.
 type OperatorImmediates<'a> = Immediates<BrTable<'a>, CatchList<'a>>;
 
-/// Opcodes are compared as equal exactly where they are the same.
+/// Opcodes compare as equal exactly if they are the same.
 fn same_opcode(a: &Opcode, b: &Opcode) -> bool
     ensures compares { result ≡ ⟦<Opcode as PartialEq>⟧.eq a.now b.now }
     ensures same { result ≡ true → a.now ≡ b.now }
@@ -56,7 +56,7 @@ fn same_opcode(a: &Opcode, b: &Opcode) -> bool
     a == b
 }
 
-/// Spaces are compared as equal exactly where they are the same.
+/// Spaces compare as equal exactly if they are the same.
 fn same_space(a: &Space, b: &Space) -> bool
     ensures compares { result ≡ ⟦<Space as PartialEq>⟧.eq a.now b.now }
     ensures same { result ≡ true → a.now ≡ b.now }
@@ -64,7 +64,7 @@ fn same_space(a: &Space, b: &Space) -> bool
     a == b
 }
 
-/// Value types are compared as equal exactly where they are the same.
+/// Value types compare as equal exactly if they are the same.
 fn same_value_type(a: &RawValType, b: &RawValType) -> bool
     ensures compares { result ≡ ⟦<RawValType as PartialEq>⟧.eq a.now b.now }
     ensures same { result ≡ true → a.now ≡ b.now }
@@ -72,7 +72,7 @@ fn same_value_type(a: &RawValType, b: &RawValType) -> bool
     a == b
 }
 
-/// Heap types are compared as equal exactly where they are the same.
+/// Heap types compare as equal exactly if they are the same.
 fn same_heap_type(a: &RawHeapType, b: &RawHeapType) -> bool
     ensures compares { result ≡ ⟦<RawHeapType as PartialEq>⟧.eq a.now b.now }
     ensures same { result ≡ true → a.now ≡ b.now }
@@ -80,7 +80,7 @@ fn same_heap_type(a: &RawHeapType, b: &RawHeapType) -> bool
     a == b
 }
 
-/// Casts are compared as equal exactly where they are the same.
+/// Casts compare as equal exactly if they are the same.
 fn same_cast(a: &RawCast, b: &RawCast) -> bool
     ensures compares { result ≡ ⟦<RawCast as PartialEq>⟧.eq a.now b.now }
     ensures same { result ≡ true → a.now ≡ b.now }
@@ -90,7 +90,7 @@ fn same_cast(a: &RawCast, b: &RawCast) -> bool
     a == b
 }
 
-/// Sixteen lanes are compared as equal exactly where they are the same.
+/// Sixteen lanes compare as equal exactly if they are the same.
 #[tactic(auto, using(crate::proofs::SameLists::same_lists))]
 fn same_lanes(a: &[u8; 16], b: &[u8; 16]) -> bool
     ensures compares { result ≡ ⟦<[u8; 16] as PartialEq>⟧.eq a.now b.now }
@@ -99,7 +99,7 @@ fn same_lanes(a: &[u8; 16], b: &[u8; 16]) -> bool
     a == b
 }
 
-/// Block types are compared as equal exactly where they are the same.
+/// Block types compare as equal exactly if they are the same.
 fn same_block_type(a: &BlockType, b: &BlockType) -> bool
     ensures compares { result ≡ ⟦<BlockType as PartialEq>⟧.eq a.now b.now }
     ensures same { result ≡ true → a.now ≡ b.now }
@@ -110,7 +110,7 @@ fn same_block_type(a: &BlockType, b: &BlockType) -> bool
     a == b
 }
 
-/// Lists of clauses are compared as equal exactly where they are the same.
+/// Lists of clauses compare as equal exactly if they are the same.
 #[tactic(auto, using(crate::proofs::SameLists::same_clauses))]
 fn same_clauses(a: &CatchList<'_>, b: &CatchList<'_>) -> bool
     ensures compares { result ≡ ⟦<CatchList<'static> as PartialEq>⟧.eq a.now b.now }
@@ -119,7 +119,7 @@ fn same_clauses(a: &CatchList<'_>, b: &CatchList<'_>) -> bool
     a == b
 }
 
-/// What follows an opcode is the same where it is compared as equal.
+/// Immediates that compare as equal are the same.
 #[tactic(auto, using(crate::proofs::SameLists::same_lists))]
 fn equal_immediates(a: &OperatorImmediates<'_>, b: &OperatorImmediates<'_>)
     ensures { ⟦<Immediates<BrTable<'static>, CatchList<'static>> as PartialEq>⟧.eq a.now b.now ≡ true
@@ -183,7 +183,7 @@ fn equal_immediates(a: &OperatorImmediates<'_>, b: &OperatorImmediates<'_>)
     }
 }
 
-/// What follows an opcode is compared as equal exactly where it is the same.
+/// Immediates compare as equal exactly if they are the same.
 fn same_immediates(a: &OperatorImmediates<'_>, b: &OperatorImmediates<'_>) -> bool
     ensures compares { result
         ≡ ⟦<Immediates<BrTable<'static>, CatchList<'static>> as PartialEq>⟧.eq a.now b.now }
@@ -194,7 +194,7 @@ fn same_immediates(a: &OperatorImmediates<'_>, b: &OperatorImmediates<'_>) -> bo
     a == b
 }
 
-/// Two operators are equal exactly where they mean the same.
+/// Two operators are equal exactly if they mean the same.
 pub fn law_operator_equality(a: &Operator<'_>, b: &Operator<'_>) -> bool
     ensures same { result ≡ true → meaning a.now ≡ meaning b.now }
     ensures equal { meaning a.now ≡ meaning b.now → result ≡ true }

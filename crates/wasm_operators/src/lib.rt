@@ -1,5 +1,5 @@
-//! Operators of WebAssembly as they are spelt: types, opcodes and immediates, a row an operator, and the
-//! laws of spellings.
+//! WebAssembly operators as they are spelt: types, opcodes and immediates, with one row for each
+//! operator, and the laws of spellings.
 #![tactic(auto)]
 
 mod access_rows;

@@ -7,8 +7,8 @@ use crate::types::{AtomicKind, BlockType, RawMemArg, RawValType};
 use walrus_ir::{BinaryOp, LoadKind, LoadSimdKind, StoreKind, TernaryOp, UnaryOp};
 
 /// An operator as it is spelt (WebAssembly core specification 3.0, binary format, instructions):
-/// with raw indices, and labels as depths. `T` is the labels of a `br_table`, and `C` the clauses
-/// of a `try_table`.
+/// with raw indices, and labels as depths. `T` is the type of a `br_table`'s labels, and `C` that
+/// of a `try_table`'s clauses.
 #[derive(Drop)]
 pub enum Op<T, C> {
     /// `unreachable`
@@ -41,7 +41,7 @@ pub enum Op<T, C> {
     Throw {
         tag: u32,
     },
-    /// `rethrow`: which handler, as a depth
+    /// `rethrow`: the depth of an enclosing handler
     Rethrow {
         depth: u32,
     },
@@ -87,7 +87,7 @@ pub enum Op<T, C> {
     ReturnCallRef {
         ty: u32,
     },
-    /// `delegate`: which construct, as a depth from outside its own
+    /// `delegate`: the depth of an enclosing construct, counted from outside its own
     Delegate {
         depth: u32,
     },
@@ -144,12 +144,12 @@ pub enum Op<T, C> {
         kind: StoreKind,
         memarg: RawMemArg,
     },
-    /// a vector access that is no plain load or store, as `v128.load8_splat`
+    /// a vector access other than a plain load or store, as `v128.load8_splat`
     LoadSimd {
         kind: LoadSimdKind,
         memarg: RawMemArg,
     },
-    /// an atomic access that is no plain load or store, as `i32.atomic.rmw.add`
+    /// an atomic access other than a plain load or store, as `i32.atomic.rmw.add`
     Atomic {
         kind: AtomicKind,
         memarg: RawMemArg,
@@ -254,6 +254,6 @@ pub enum Op<T, C> {
     Reference(ReferenceOp),
 }
 
-/// An operator as it is read, whose lists stand in the input. Two are equal where their meanings
-/// are.
+/// An operator as it is read. Its lists are borrowed from the input. Two are equal if they mean the
+/// same, whatever their spellings.
 pub type Operator<'a> = Op<BrTable<'a>, CatchList<'a>>;

@@ -1,4 +1,4 @@
-//! Operators taken apart, and compared.
+//! The parts of operators, and their equality.
 
 use crate::branch_table::BrTable;
 use crate::catch_list::CatchList;
@@ -7,7 +7,7 @@ use crate::operator::Op;
 use crate::types::Opcode;
 use crate::{index_rows, parts_of};
 
-/// An opcode, and what follows it.
+/// An opcode and its immediates.
 macro_rules! pair {
     (() $opcode:expr, $immediates:expr) => {
         ($opcode, $immediates)
@@ -20,7 +20,7 @@ impl<'a> Op<BrTable<'a>, CatchList<'a>> {
     ghost use Rattle.wasm_operators.specs.Meaning.{meaning};
     ghost use Rattle.wasm_operators.specs.Parts.{immediates_of, parts_of};
 
-    // The operator's opcode, and what follows it.
+    // The operator's opcode and its immediates.
     fn taken_apart(&self) -> (Opcode, Immediates<BrTable<'a>, CatchList<'a>>)
         ensures { operation result.0 (immediates_of result.1) ≡ meaning self.now }
     {
@@ -33,7 +33,7 @@ impl<'a> Op<BrTable<'a>, CatchList<'a>> {
         )
     }
 
-    /// The operator's opcode, and what follows it.
+    /// The operator's opcode and its immediates.
     pub fn parts(&self) -> (Opcode, Immediates<BrTable<'a>, CatchList<'a>>)
         ensures means { operation result.0 (immediates_of result.1) ≡ meaning self.now }
         ensures exact { result ≡ parts_of (meaning self.now) }
@@ -42,7 +42,7 @@ impl<'a> Op<BrTable<'a>, CatchList<'a>> {
     }
 }
 
-/// Two operators are equal where their opcodes and what follows them are.
+/// Two operators are equal if their opcodes and their immediates are.
 impl<'a> PartialEq for Op<BrTable<'a>, CatchList<'a>> {
     ghost use denote.Signature.{static_lft};
     ghost use Rattle.std.specs.Cmp.{on_per, and_per};

@@ -1,9 +1,9 @@
-//! Rows of operators, one for each operator, for every place that has a row for each operator.
+//! Rows of operators: one for each operator, used in every place that lists all operators.
 
-/// Hands the operators of one index or two to the macro `$with`, behind what it takes beside them.
-/// Each group says what its numbers stand behind. A row has the number, the name of the operator
-/// and of its instruction, and each index: its name in the operator and in the instruction, and its
-/// space.
+/// Passes the operators with one index or two to the macro `$with`, after its other arguments. Each
+/// group says what comes before its numbers: nothing (`Byte`) or a prefix byte. A row has the
+/// number, the name of the operator and of its instruction, and each index: its name in the
+/// operator, its name in the instruction, and its space.
 #[macro_export]
 macro_rules! index_rows {
     ($with:ident, $($context:tt)*) => {
@@ -44,10 +44,10 @@ macro_rules! index_rows {
     };
 }
 
-/// Hands the operators on structs and arrays that name types and segments to the macro `$with`,
-/// behind what it takes beside them: first those of indices alone, then those of an index and a
-/// number. A row has the number behind 0xfb, the name of the operator and of its instruction, and
-/// each index with its name in the operator and in the instruction and its space.
+/// Passes the operators on structs and arrays with indices of types and segments to the macro
+/// `$with`, after its other arguments: first those with indices alone, then those with an index and
+/// a number. A row has the number after 0xfb, the name of the operator and of its instruction, and
+/// each index: its name in the operator, its name in the instruction, and its space.
 #[macro_export]
 macro_rules! aggregate_rows {
     ($with:ident, $($context:tt)*) => {
@@ -91,7 +91,7 @@ macro_rules! opcode_at {
     };
 }
 
-/// What follows an opcode: one index, or two.
+/// The immediates of an operator with one index or two.
 #[macro_export]
 macro_rules! indices_of {
     ($space:ident $index:ident) => {
@@ -102,7 +102,7 @@ macro_rules! indices_of {
     };
 }
 
-/// What follows the opcode of an operator that may name a lane.
+/// The immediates of an operator that can have a lane.
 #[macro_export]
 macro_rules! lane_of {
     ($lane:expr) => {
@@ -113,7 +113,7 @@ macro_rules! lane_of {
     };
 }
 
-/// What follows the opcode of an access to memory that may name a lane.
+/// The immediates of a memory access that can have a lane.
 #[macro_export]
 macro_rules! access_of {
     ($memarg:expr, $lane:expr) => {
@@ -124,7 +124,7 @@ macro_rules! access_of {
     };
 }
 
-/// What follows the opcode of an operator on references, structs or arrays.
+/// The immediates of an operator on references, structs or arrays.
 #[macro_export]
 macro_rules! behind_reference {
     ($immediates:expr) => {
@@ -146,9 +146,9 @@ macro_rules! behind_reference {
     };
 }
 
-/// Takes an operator apart, and hands its opcode and what follows it to the macro `$each`, behind
-/// what that takes beside them. The rows of operators with lists come from outside, since lists are
-/// handed on in other ways where an operator is read and where it is written.
+/// Takes an operator apart, and passes its opcode and its immediates to the macro `$each`, after
+/// that macro's other arguments. The rows of operators with lists are arguments, since lists differ
+/// between operators that are read and operators that are written.
 #[macro_export]
 macro_rules! parts_of {
     (

@@ -100,7 +100,7 @@ pub enum ReferenceOp {
     ArrayFill {
         ty: u32,
     },
-    /// `array.copy`, with the types of both
+    /// `array.copy`, with the types of both arrays
     ArrayCopy {
         target: u32,
         source: u32,

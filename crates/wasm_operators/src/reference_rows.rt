@@ -1,5 +1,5 @@
-//! Operators on references, structs and arrays: their opcodes and what follows them, as they are
-//! written, a row an operator.
+//! Operators on references, structs and arrays: their opcodes and immediates, one row for each
+//! operator.
 
 ghost use Rattle.std.specs.Prelude.{◌≡◌};
 ghost use Rattle.wasm_operators.specs.Parts.{behind_reference};
@@ -16,7 +16,7 @@ use crate::reference_operator::ReferenceOp;
 use crate::types::Opcode::{Byte, Prefixed};
 use crate::types::{Opcode, Space};
 
-/// The opcode of a test or cast: the second number where a reference may be null.
+/// The opcode of a test or cast: the second number if a reference may be null.
 fn by_null(nullable: bool, number: u32, nullable_number: u32) -> Opcode
     ensures { result ≡ the_opcode_by_null nullable number nullable_number }
 {
@@ -42,7 +42,7 @@ macro_rules! opcode_row {
     };
 }
 
-/// What follows an opcode: one index, or two.
+/// The immediates of an operator with one index or two.
 macro_rules! indices_of {
     ($space:ident $index:ident) => {
         Index(Space::$space, $index)
@@ -52,7 +52,7 @@ macro_rules! indices_of {
     };
 }
 
-/// What follows the opcode of an operator: the rows, and those of the other operators.
+/// The immediates of an operator: the rows, and those of the other operators.
 macro_rules! immediates_row {
     (
         ($op:ident, $($others:tt)*)
@@ -69,7 +69,8 @@ macro_rules! immediates_row {
     };
 }
 
-/// The opcode of an operator.
+/// The opcode of an operator on references, structs or arrays (WebAssembly core specification 3.0,
+/// binary format, instructions).
 pub fn reference_opcode(op: ReferenceOp) -> Opcode
     ensures { result ≡ the_reference_opcode op }
 {
@@ -95,7 +96,7 @@ pub fn reference_opcode(op: ReferenceOp) -> Opcode
     )
 }
 
-/// What follows the opcode of an operator.
+/// The immediates of an operator on references, structs or arrays.
 pub fn reference_immediates(op: ReferenceOp) -> ReferenceImmediates
     ensures { behind_reference result ≡ the_immediates op }
 {

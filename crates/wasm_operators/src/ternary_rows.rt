@@ -1,4 +1,4 @@
-//! The opcodes of operators of three operands, as they are written: a row an operator.
+//! The opcodes of operators of three operands: one row for each operator.
 
 ghost use Rattle.std.specs.Prelude.{◌≡◌};
 ghost use Rattle.wasm_operators.specs.TernaryOperations.{ternary_opcode as the_ternary_opcode};
@@ -7,7 +7,8 @@ use crate::types::Opcode;
 use crate::types::Opcode::Prefixed;
 use walrus_ir::TernaryOp;
 
-/// 0xfd 261 to 275.
+/// The opcode of an operator of three operands, from 0xfd 261 to 0xfd 275 (WebAssembly core
+/// specification 3.0, binary format, vector instructions).
 pub fn ternary_opcode(op: TernaryOp) -> Opcode
     ensures { result ≡ the_ternary_opcode op }
 {

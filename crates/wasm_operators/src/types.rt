@@ -1,4 +1,4 @@
-//! Types and other immediates as operators spell them: with raw indices.
+//! Types and other immediates as they are spelt: with raw indices.
 
 use std::fmt;
 use std::marker::Model;
@@ -9,44 +9,45 @@ pub type RawValType = ValType<u32>;
 /// What a reference refers to, with raw type indices.
 pub type RawHeapType = HeapType<u32>;
 
-/// What a block takes and gives, as it is spelt.
+/// The type of a block, as it is spelt (WebAssembly core specification 3.0, binary format, control
+/// instructions).
 #[derive(Clone, Copy, Debug, PartialEq, Eq, Hash)]
 pub enum BlockType {
-    /// Nothing is taken or given.
+    /// No parameters and no results.
     Empty,
-    /// One value is given.
+    /// No parameters and one result.
     Value(RawValType),
-    /// What the function type with this raw index takes and gives.
+    /// The parameters and results of the function type with this raw index.
     FuncType(u32),
 }
 
-/// What an access to memory says of itself, as it is spelt.
+/// A memory argument, as it is spelt.
 #[derive(Clone, Copy, Debug, PartialEq, Eq)]
 pub struct RawMemArg {
-    /// The exponent of the alignment, a power of two; at most 31.
+    /// The exponent of two of the alignment in bytes; at most 31.
     pub exponent: u32,
     /// The raw index of the memory.
     pub memory: u32,
-    /// A number of bytes, which is added to the address.
+    /// The number of bytes that is added to the address.
     pub offset: u64,
 }
 
-/// What follows the opcode of a branch on a cast, as it is spelt.
+/// The immediates of a branch on a cast, as they are spelt.
 #[derive(Clone, Copy, Debug, PartialEq, Eq)]
 pub struct RawCast {
-    /// Whether the operand may be null.
+    /// Whether the source type of the cast is nullable.
     pub from_nullable: bool,
-    /// Whether what it is cast to may be null.
+    /// Whether the target type of the cast is nullable.
     pub to_nullable: bool,
     /// The label, as a depth.
     pub label: u32,
-    /// What the operand refers to.
+    /// The heap type of the source.
     pub source: RawHeapType,
-    /// What it is cast to.
+    /// The heap type of the target.
     pub target: RawHeapType,
 }
 
-/// What an atomic access does that is no plain load or store.
+/// What an atomic access other than a plain load or store does.
 #[derive(Clone, Copy, Debug)]
 pub enum AtomicKind {
     /// `memory.atomic.notify`
@@ -94,16 +95,16 @@ impl fmt::Display for Space {
 pub enum Opcode {
     /// One byte.
     Byte(u8),
-    /// A prefix byte, and a number behind it.
+    /// A prefix byte, and a number after it.
     Prefixed(u8, u32),
 }
 
 /// A clause of `try_table`, as it is spelt. A contract sees the clause.
 #[derive(Clone, Copy, Debug, PartialEq, Eq)]
 pub struct RawCatch {
-    /// Whether it hands on a reference to the exception.
+    /// Whether it passes a reference to the exception, as `catch_ref` and `catch_all_ref` do.
     pub by_reference: bool,
-    /// The raw index of its tag; none where it catches all.
+    /// The raw index of its tag; none if it catches all.
     pub tag: Option<u32>,
     /// Its label, as a depth.
     pub label: u32,

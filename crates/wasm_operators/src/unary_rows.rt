@@ -1,4 +1,4 @@
-//! The opcodes of operators of one operand, as they are written: a row an operator.
+//! The opcodes of operators of one operand: one row for each operator.
 
 ghost use Rattle.std.specs.Prelude.{◌≡◌};
 ghost use Rattle.wasm_operators.specs.UnaryOperations.{unary_opcode as the_unary_opcode, scalar_unary_opcode as the_scalar_unary_opcode, low_vector_unary_opcode as the_low_vector_unary_opcode, high_vector_unary_opcode as the_high_vector_unary_opcode, extract_opcode as the_extract_opcode, extract_lane as the_extract_lane};
@@ -164,7 +164,7 @@ fn high_vector_unary_opcode(op: UnaryOp) -> Option<Opcode>
     }
 }
 
-/// The lanes that are read.
+/// Operators that extract a lane.
 fn extract_opcode(op: UnaryOp) -> Option<Opcode>
     ensures { result ≡ the_extract_opcode op }
 {
@@ -181,7 +181,8 @@ fn extract_opcode(op: UnaryOp) -> Option<Opcode>
     }
 }
 
-/// The opcode of an operator.
+/// The opcode of an operator of one operand (WebAssembly core specification 3.0, binary format,
+/// numeric and vector instructions).
 #[tactic(auto, using(crate::proofs::Rows::unary_has_row))]
 pub fn unary_opcode(op: UnaryOp) -> Opcode
     ensures { result ≡ the_unary_opcode op }
@@ -201,7 +202,7 @@ pub fn unary_opcode(op: UnaryOp) -> Opcode
     }
 }
 
-/// The lane of an operator that names one.
+/// The lane of an operator that extracts one; else none.
 pub fn extract_lane(op: UnaryOp) -> Option<u8>
     ensures { lane_immediates result ≡ the_extract_lane op }
 {

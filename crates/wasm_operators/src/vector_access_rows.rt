@@ -1,4 +1,4 @@
-//! Vector accesses that are no plain loads and stores: their opcodes, a row an operator.
+//! Vector accesses other than plain loads and stores: their opcodes, one row for each operator.
 
 ghost use Rattle.std.specs.Prelude.{◌≡◌};
 ghost use Rattle.wasm_operators.specs.Parts.{lane_immediates};
@@ -8,7 +8,8 @@ use crate::types::Opcode;
 use crate::types::Opcode::Prefixed;
 use walrus_ir::LoadSimdKind;
 
-/// The opcode of an access.
+/// The opcode of a vector access other than a plain load or store (WebAssembly core specification
+/// 3.0, binary format, vector instructions).
 pub fn vector_access_opcode(kind: LoadSimdKind) -> Opcode
     ensures { result ≡ the_vector_access_opcode kind }
 {
@@ -36,7 +37,7 @@ pub fn vector_access_opcode(kind: LoadSimdKind) -> Opcode
     }
 }
 
-/// The lane of an access that names one.
+/// The lane of an access, if it has one.
 pub fn access_lane(kind: LoadSimdKind) -> Option<u8>
     ensures { lane_immediates result ≡ the_access_lane kind }
 {

@@ -3,7 +3,7 @@ use Rattle.wasm_operators.specs.Parts.{parts_of}
 use Rattle.wasm_operators.proofs.Shapes.{shape_again}
 use Rattle.wasm_operators.proofs.operator_parts.Op+BrTable+CatchList.parts.Goals as goal
 
--- The parts are those of what they mean.
+-- The parts are those of their meaning.
 pub returns-clause-exact : goal.returns-clause-exact
 returns-clause-exact c =
     let r = c.taken_apart.result in

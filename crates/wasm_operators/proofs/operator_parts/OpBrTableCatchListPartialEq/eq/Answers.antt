@@ -12,7 +12,7 @@ use Rattle.wasm_operators.specs.contracts.catch_list.CatchList.{the_row as claus
 use Rattle.wasm_operators.specs.contracts.catch_list.CatchListPartialEq.TheImpl.{ghosts as clauses_ghosts, dict as clauses_dict}
 use Rattle.wasm_operators.proofs.operator_parts.OpBrTableCatchListPartialEq.eq.Goals as goal
 
--- Where the opcodes are the same, what is compared is what follows them.
+-- If the opcodes are the same, the immediates are compared.
 both_parts : {O I : Type 0} (f : O → O → Bool) (g : I → I → Bool) (a b x y : O × I) → a ≡ x → b ≡ y → (r : Bool) → f a.0 b.0 ≡ true → r ≡ g a.1 b.1
     → r ≡ (f x.0 y.0 && g x.1 y.1)
 both_parts f g a b x y p q r opcodes h = h ∙ (sym (λ i. opcodes i && g a.1 b.1) ∙ (λ i. f (p i).0 (q i).0 && g (p i).1 (q i).1))
