@@ -1,4 +1,4 @@
--- Frames whose instructions stand in one list, one frame behind the other.
+-- Frames whose instructions are in one list, one frame after the other.
 use Rattle.std.specs.Prelude.{◌≡◌, ℕ, zero, suc, ◌+◌, ◌-◌, ◌<◌, ◌≤◌, List, [], ◌∷◌, ◌++◌, length, take, drop, Some, slice_get, slice_set, false, cond}
 use Rattle.std.specs.List.{AllByRecursion}
 use Rattle.std.proofs.lemmas.List.{append-nil, reverse-append, take-append-drop, take-append-le, drop-append-le, take_all, length-take, length-drop, length-append}
@@ -27,7 +27,7 @@ part_taken xs s from to less within long =
     let l = length-take s xs in
     sym (part_front (take s xs) (drop s xs) from to less (omega arith)) ∙ ap (λ ys. part ys from to) (take-append-drop s xs)
 
--- ---- starts that don't fall
+-- ---- starts that don't decrease
 
 starts_to : (low : ℕ) (cs : List ControlFrame) (end : ℕ) → StartFrom low cs end → low ≤ begin_of cs end
 starts_to low [] end h = h
@@ -50,7 +50,7 @@ begin_append : (cs : List ControlFrame) (f : ControlFrame) (end : ℕ) → begin
 begin_append [] f end = refl
 begin_append (g ∷ cs) f end = refl
 
--- what the first of some frames is, where these are behind it
+-- the first of some frames, when the others come after it
 abbrev first_in : List LocatedInstr → List ControlFrame → ControlFrame → OpenFrame
 first_in all fs f = frame_with f (part all f.start (begin_of fs (length all)))
 
@@ -83,7 +83,7 @@ begin_set [] i f h end at e = refl
 begin_set (g ∷ cs) zero f h end at e = let same : g ≡ f = cc in e ∙ ap (λ x. x.start) (sym same)
 begin_set (g ∷ cs) (suc i) f h end at e = refl
 
--- a frame that begins where it did
+-- a frame with the same start as before
 pub starts_set : (low : ℕ) (cs : List ControlFrame) (i : ℕ) (f h : ControlFrame) (end : ℕ) → slice_get cs i ≡ Some f → h.start ≡ f.start → StartFrom low cs end → StartFrom low (slice_set cs i h) end
 starts_set low [] i f h end at e s = s
 starts_set low (g ∷ cs) zero f h end at e s =
@@ -128,7 +128,7 @@ module _ (all : List LocatedInstr) where
       ap (λ k. frames_in all (frame_with g (part all g.start k) ∷ outer) (slice_set cs i h)) (begin_set cs i f h (length all) at e)
       ∙ set_control change (first_in all cs g ∷ outer) cs i n f h (omega arith) at e does
 
-  -- frames of the code are shown, the innermost first
+  -- these open frames show the frames of the code, the innermost first
   shown_onto : (acc : List ControlFrame) (outer : List OpenFrame) (cs : List ControlFrame) → AreShown acc outer → AreShown (reverse cs ++ acc) (frames_in all outer cs)
   shown_onto acc outer [] h = h
   shown_onto acc outer (g ∷ cs) h =
@@ -139,19 +139,19 @@ module _ (all : List LocatedInstr) where
   pub all_shown : (cs : List ControlFrame) → AreShown (reverse cs) (frames_in all [] cs)
   all_shown cs = subst (λ xs. AreShown xs (frames_in all [] cs)) (append-nil (reverse cs)) (shown_onto [] [] cs tt)
 
--- what a change that changes nothing leaves
+-- a change that changes nothing leaves the frames as they are
 pub unchanged_at : (change : OpenFrame → OpenFrame) (fs : List OpenFrame) (n : ℕ) (f : OpenFrame) → slice_get fs n ≡ Some f → change f ≡ f → changed_at n change fs ≡ fs
 unchanged_at change [] n f at same = refl
 unchanged_at change (g ∷ fs) zero f at same = let is : g ≡ f = cc in ap (λ x. x ∷ fs) (ap change is ∙ same ∙ sym is)
 unchanged_at change (g ∷ fs) (suc n) f at same = ap (λ xs. g ∷ xs) (unchanged_at change fs n f at same)
 
--- ---- an instruction behind all others, and the starts behind it moved
+-- ---- an instruction after all others, and the starts of the frames after it moved
 
 -- frames that begin where the list ends
 abbrev pub AllAtEnd : ℕ → List ControlFrame → Type 0
 AllAtEnd end cs = AllByRecursion (λ f. f.start ≡ end) cs
 
--- the same of those behind the i-th
+-- frames after the i-th that begin where the list ends
 abbrev pub BehindAtEnd : ℕ → ℕ → List ControlFrame → Type 0
 BehindAtEnd end i [] = Unit {0}
 BehindAtEnd end zero (f ∷ fs) = AllAtEnd end fs
@@ -200,7 +200,7 @@ module _ (all : List LocatedInstr) where
     longer : length (all ++ x ∷ []) ≡ length all + 1
     longer = length-append all (x ∷ [])
 
-    -- where the frames behind one begin
+    -- the start of the frames after one
     begin_later : (cs : List ControlFrame) → AllAtEnd (length all) cs → begin_of (moved_from 0 cs) (length (all ++ x ∷ [])) ≡ length all + 1
     begin_later cs h = ap (begin_of (moved_from 0 cs)) longer ∙ begin_moved (length all) cs h
 
@@ -214,7 +214,7 @@ module _ (all : List LocatedInstr) where
         ap (λ xs. frames_in (all ++ x ∷ []) (frame_with g xs ∷ outer) (moved_from 0 cs)) (none ∙ sym (part_none all g.start (begin_of cs (length all)) (omega arith)))
         ∙ moved_inner (first_in all cs g ∷ outer) cs h.1
 
-    -- it is one more of the frame behind which all begin where the list ends
+    -- the instruction is added to the frame after which all frames begin where the list ends
     pub appended : (outer : List OpenFrame) (low : ℕ) (cs : List ControlFrame) (i n : ℕ) (g : ControlFrame) → n + i + 1 ≡ length cs → slice_get cs i ≡ Some g → g.unreachable ≡ false →
         StartFrom low cs (length all) → BehindAtEnd (length all) i cs → frames_in (all ++ x ∷ []) outer (moved_from (suc i) cs) ≡ changed_at n (with_instr x) (frames_in all outer cs)
     appended outer low [] i n g is at alive h e = absurd cc
@@ -273,7 +273,7 @@ moved_length [] i = refl
 moved_length (f ∷ fs) zero = ap suc (moved_length fs 0)
 moved_length (f ∷ fs) (suc i) = ap suc (moved_length fs i)
 
--- one frame more is moved, before those that are
+-- one more frame is moved, before those that are moved already
 module _ (xs cs : List ControlFrame) (k i : ℕ) (moving : cs ≡ moved_from k xs) (next : k ≡ suc i) where
   moving_on : cs ≡ moved_from (suc i) xs
   moving_on = moving ∙ ap (λ n. moved_from n xs) next

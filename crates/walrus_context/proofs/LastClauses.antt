@@ -1,4 +1,4 @@
--- A clause is added to the legacy `try` that ends the frame around the innermost.
+-- Adding a clause to the legacy `try` at the end of the frame around the innermost.
 use Rattle.std.specs.Prelude.{◌≡◌, ◌≢◌, ◌≤◌, ◌+◌, ℕ, zero, suc, List, [], ◌∷◌, ◌++◌, length, take, drop, Bool, true, false, cond, Option, Some, None, option_map, slice_get, slice_set, Result, Ok, Err, OnOk, OnErr}
 use Rattle.std.proofs.lemmas.List.{length-take, length-set, drop-set-lt, drop-append-le, take-append-le, set-get_or}
 use Rattle.std.proofs.lemmas.Grind.{take-set_at}
@@ -75,7 +75,7 @@ module _ (c : LegacyCatch) where
   in_dead : (f : ControlFrame) (xs : List LocatedInstr) → f.unreachable ≡ true → with_clause c (frame_with f xs) ≡ Some (frame_with f xs)
   in_dead f xs dead = ap (λ d. cond d (Some (frame_with f xs)) (option_map (λ ys. record (frame_with f xs) { instrs = ys }) (with_last_clause c xs))) dead
 
-  -- a dead frame is as it was
+  -- a dead frame is unchanged
   pub passes : (all : List LocatedInstr) (cs : List ControlFrame) (i : ℕ) (f : ControlFrame) → 1 + i + 1 ≡ length cs → slice_get cs i ≡ Some f → f.unreachable ≡ true →
       with_clause_around c (frames_in all [] cs) ≡ Ok (frames_in all [] cs)
   passes all cs i f is at dead =
@@ -83,7 +83,7 @@ module _ (c : LegacyCatch) where
       let frame = frame_with f found.0 in
       around (frames_in all [] cs) frame frame found.1 (in_dead f found.0 dead) ∙ ap Ok (unchanged_at (λ g. frame) (frames_in all [] cs) 1 frame found.1 refl)
 
-  -- the two innermost frames of some, the last of which begins behind the other
+  -- the two innermost frames, the innermost after the other
   module _ (all : List LocatedInstr) (cs : List ControlFrame) (i : ℕ) (f h : ControlFrame) (rise : StartFrom 0 cs (length all)) (is : i + 2 ≡ length cs) (at : slice_get cs i ≡ Some f) (behind : slice_get cs (i + 1) ≡ Some h) where
     abbrev pub ds : List ControlFrame
     ds = take i cs
@@ -107,7 +107,7 @@ module _ (c : LegacyCatch) where
         ∙ closed xs [] (ds ++ f ∷ []) h 0 inside.0 (omega arith)
         ∙ ap (λ fs. frame_with h (drop h.start xs) ∷ fs) (closed (take h.start xs) [] ds f 0 outside.0 (omega arith))
 
-    -- where the other has no instructions
+    -- if the other has no instructions
     pub lacks : f.unreachable ≡ false → h.start ≤ f.start → with_clause_around c (frames_in all [] cs) ≡ Err NoTry
     lacks alive less =
         let l = length-take h.start all in
@@ -115,7 +115,7 @@ module _ (c : LegacyCatch) where
         let shown = two_inside all refl ∙ ap (λ xs. frame_with h (drop h.start all) ∷ frame_with f xs ∷ frames_in (take f.start (take h.start all)) [] ds) none in
         none_around (frames_in all [] cs) (frame_with f []) (ap (λ fs. slice_get fs 1) shown) (in_frame f [] alive)
 
-    -- where it has some, of which this is the last
+    -- if it has some, and this is the last
     module _ (e : ℕ) (x : LocatedInstr) (ends : e + 1 ≡ h.start) (less : f.start ≤ e) (last : slice_get all e ≡ Some x) where
       abbrev with_last : LocatedInstr → List OpenFrame
       with_last y = frame_with h (drop h.start all) ∷ frame_with f (drop f.start (take e all) ++ y ∷ []) ∷ frames_in (take f.start (take e all)) [] ds
@@ -157,7 +157,7 @@ module _ (c : LegacyCatch) where
       pub stays : (y : LocatedInstr) → y ≡ x → frames_in (slice_set all e y) [] cs ≡ frames_in all [] cs
       stays y as_before = shown y ∙ ap with_last as_before ∙ sym shown_before
 
--- ---- frames that stand in an arena
+-- ---- frames that are in an arena
 
 pub clause_kept : (c : LegacyCatch) (f h : OpenFrame) → with_clause c f ≡ Some h → h.sequence ≡ f.sequence
 clause_kept c f h is = by_dead f.dead (with_last_clause c f.instrs) is

@@ -5,13 +5,13 @@ use Rattle.walrus_ir.specs.declared.seq.InstrSeq.{InstrSeq}
 use Rattle.walrus_context.specs.OpenFrames.{OpenFrame, changed_at}
 use Rattle.walrus_context.specs.OpenTrees.{StandIn}
 
--- frames that stand in an arena, where one is changed
+-- the frames are in an arena after one of them is changed
 pub stand_changed : (arena : List InstrSeq) (change : OpenFrame → OpenFrame) → ((f : OpenFrame) → (change f).sequence ≡ f.sequence) → (n : ℕ) (fs : List OpenFrame) → StandIn arena fs → StandIn arena (changed_at n change fs)
 stand_changed arena change same n [] h = tt
 stand_changed arena change same zero (f ∷ fs) h = let e = same f in let l = h.0 in (omega arith, h.1)
 stand_changed arena change same (suc n) (f ∷ fs) h = (h.0, stand_changed arena change same n fs h.1)
 
--- behind a call that changed a frame, or was refused
+-- the frames are in an arena after a call that changed a frame or was refused
 pub stand_after : {E : Type 0} (P : Type 0) (arena : List InstrSeq) (change : OpenFrame → OpenFrame) → ((f : OpenFrame) → (change f).sequence ≡ f.sequence) → (n : ℕ) (old new : List OpenFrame) (r : Result (Unit {0}) E) →
     OnOk r (P × (new ≡ changed_at n change old)) → OnErr r (new ≡ old) → StandIn arena old → StandIn arena new
 stand_after P arena change same n old new (Ok u) ok err h = subst (StandIn arena) (sym ok.1) (stand_changed arena change same n old h)

@@ -1,4 +1,4 @@
--- What a parse keeps of the sequences that are open: of each the normal form so far, in its frame and in the builder's arena.
+-- The open sequences during a parse: the normal form of each so far, in its frame and in the builder's arena.
 use Rattle.std.specs.Prelude.{◌≡◌, ℕ, suc, List, [], ◌∷◌, ◌++◌, map, Some, None, slice_get}
 use Rattle.walrus_ir.specs.declared.seq.InstrSeq.{InstrSeq}
 use Rattle.walrus_ir.specs.declared.instr.Instr.{Instr}
@@ -27,8 +27,8 @@ use Rattle.walrus_context.specs.OpenFrames.{OpenFrame, changed_at, with_instr}
 abbrev pub slots : List OpenFrame → List ℕ
 slots fs = map (λ (f : OpenFrame). f.sequence) fs
 
--- Of the sequence so far the frame's instructions are the normal form; the sequences inside stand behind the frame's own
--- slot, in rising order and below `high`.
+-- The frame's instructions are the normal form of the sequence so far. The sequences inside have slots after the frame's own,
+-- in rising order and below `high`.
 pub record IsKept (env : Environment) (arena : List InstrSeq) (high : ℕ) (f : OpenFrame) (around : List ℕ) (s : Sequence Occurrence) : Type 0 where
   pub items : Items SequenceAt LocatedInstr
   pub are_items : AreItems arena f.instrs items
@@ -36,7 +36,7 @@ pub record IsKept (env : Environment) (arena : List InstrSeq) (high : ℕ) (f : 
   pub is_normal : items_in (f.sequence ∷ around) items ≡ normal (typing_of env) (map_sequence name_at s)
   pub is_dead : f.dead ≡ is_dead s
 
--- a sequence of the type, whose end has no location, stands in the slot
+-- the slot has a sequence of this type whose end has no location yet
 pub record IsReserved (arena : List InstrSeq) (slot : ℕ) (type : InstrSeqType) : Type 0 where
   pub seq : InstrSeq
   pub stands : slice_get arena slot ≡ Some seq
@@ -45,12 +45,13 @@ pub record IsReserved (arena : List InstrSeq) (slot : ℕ) (type : InstrSeqType)
 
 -- ---- the construct of the innermost frame
 
--- an `if` has a parameter list to hand to an alternative, for which the module holds the pick
+-- an `if` has a parameter list to give to an alternative, and the module has the picked type of it
 abbrev pub TakesParameters : Environment → OpenConstruct Occurrence → List (ValType ℕ) → Type 0
 TakesParameters env (InThen a) types = (types ≡ (block_signature a.named).parameters) × (t : InstrSeqType) × (pick env.types (block_signature a.named) ≡ Some t)
 TakesParameters env _ types = Unit {0}
 
--- The frame is that of the construct, whose closed sequences stand in the slots `before`, from `low` on and below its own.
+-- The frame is that of the construct. The construct's closed sequences have the slots `before`, from `low` on and below its
+-- own.
 pub record Encloses (env : Environment) (arena : List InstrSeq) (low : ℕ) (f : OpenFrame) (around : List ℕ) (p : OpenConstruct Occurrence) (before : List ℕ) : Type 0 where
   pub inside : Sequences SequenceAt LocatedInstr
   pub are_sequences : AreSequences arena before inside
@@ -61,7 +62,7 @@ pub record Encloses (env : Environment) (arena : List InstrSeq) (low : ℕ) (f :
   pub takes : TakesParameters env p f.start_types
   pub gives : f.end_types ≡ (block_signature (opener_in p).named).results
 
--- The construct's instruction stands behind those of the frame around, where that is alive; without it they are `fs'`.
+-- The construct's instruction is appended to those of the frame around, unless that is dead; without it the frames are `fs'`.
 pub record IsAppended (around before : List ℕ) (slot : ℕ) (p : OpenConstruct Occurrence) (IsOpener : Instr → Type 0) (fs fs' : List OpenFrame) : Type 0 where
   pub opener : LocatedInstr
   pub places : slots_in opener.0 ≡ before ++ slot ∷ []
@@ -78,14 +79,14 @@ IsAny i = Unit {0}
 abbrev pub the_if : Occurrence → Type 0
 the_if a = kept_operation a.named ≡ operation (Byte 0x04) (block tt ∷ [])
 
--- An `if` whose consequent is open: what is kept for it, and the other `if`s.
+-- An `if` whose consequent is open: its state, and those of the other `if`s.
 pub record OpensThen (before : List ℕ) (slot : ℕ) (a : Occurrence) (fs fs' : List OpenFrame) (ifs ifs' : List IfElseState) : Type 0 where
   pub frames : fs ≡ fs'
   pub kept : ifs ≡ record { start = a.location; consequent = slot; alternative = None } ∷ ifs'
   pub none_before : before ≡ []
   pub is_if : the_if a
 
--- An `if` whose alternative is open, behind its consequent.
+-- An `if` whose alternative is open, after its consequent.
 pub record OpensElse (before : List ℕ) (slot : ℕ) (a : Occurrence) (fs fs' : List OpenFrame) (ifs ifs' : List IfElseState) : Type 0 where
   pub frames : fs ≡ fs'
   pub consequent : ℕ
@@ -93,8 +94,8 @@ pub record OpensElse (before : List ℕ) (slot : ℕ) (a : Occurrence) (fs fs' :
   pub kept : ifs ≡ record { start = a.location; consequent = consequent; alternative = Some slot } ∷ ifs'
   pub is_if : the_if a
 
--- The construct's instruction: that of an `if` is still to come, with what is kept for it; any other stands behind those of
--- the frame around. Without the construct the frames around are `fs'`, and what is kept for the other `if`s is `ifs'`.
+-- The construct's instruction. That of an `if` isn't there yet, only its state; any other is the last of the frame around.
+-- Without the construct the frames around are `fs'`, and the states of the other `if`s are `ifs'`.
 abbrev pub OpensWith : (around before : List ℕ) → (slot : ℕ) → OpenConstruct Occurrence → (fs fs' : List OpenFrame) → (ifs ifs' : List IfElseState) → Type 0
 OpensWith around before slot (InThen a) fs fs' ifs ifs' = OpensThen before slot a fs fs' ifs ifs'
 OpensWith around before slot (InElse a b l) fs fs' ifs ifs' = OpensElse before slot a fs fs' ifs ifs'
@@ -103,7 +104,7 @@ OpensWith around before slot p fs fs' ifs ifs' = IsAppended around before slot p
 
 -- ---- all open sequences
 
--- Outermost is the function's own sequence, in the first slot.
+-- The outermost frame is the function's own sequence, in the first slot.
 pub record IsOutermost (env : Environment) (arena : List InstrSeq) (high : ℕ) (frame : OpenFrame) (around : List OpenFrame) (ifs : List IfElseState) (s : Sequence Occurrence) : Type 0 where
   pub kept : IsKept env arena high frame (slots around) s
   pub alone : around ≡ []
@@ -112,7 +113,7 @@ pub record IsOutermost (env : Environment) (arena : List InstrSeq) (high : ℕ) 
   pub kind : frame.kind ≡ kind.FunctionEntry
   pub no_if : ifs ≡ []
 
--- The innermost frame is that of an open construct, within frames of which `Outer` holds.
+-- The innermost frame is that of an open construct, inside frames for which `Outer` holds.
 pub record IsWithin (env : Environment) (arena : List InstrSeq) (high : ℕ) (frame : OpenFrame) (around : List OpenFrame) (ifs : List IfElseState) (p : OpenConstruct Occurrence) (s : Sequence Occurrence)
     (Outer : ℕ → List OpenFrame → List IfElseState → Type 0) : Type 0 where
   pub kept : IsKept env arena high frame (slots around) s

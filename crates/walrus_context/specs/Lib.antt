@@ -1,4 +1,4 @@
--- Open sequences, and what is kept of them.
+-- Open sequences, and their normal form so far.
 pub mod OpenConstructs
 pub mod OpenFrames
 pub mod OpenTrees

@@ -1,5 +1,5 @@
--- The normal form of a construct that is open: its opener, its clauses so far, and its closed sequences; the open one has a
--- type, and ends where it is closed.
+-- The normal form of an open construct: its opener, its clauses so far, and its closed sequences. The open sequence has a type,
+-- and ends where it is closed.
 use Rattle.std.specs.Prelude.{ℕ, List, [], ◌∷◌}
 use Rattle.walrus_ir.specs.declared.val_type.InstrSeqType.{InstrSeqType}
 use Rattle.walrus_ir.specs.declared.control.BlockKind.{BlockKind}
@@ -21,7 +21,7 @@ opener_in (InTry a) = a
 opener_in (InCatch a b gs h t) = a
 opener_in (InCatchAll a b gs h) = a
 
--- what the open sequence is to it
+-- the kind of the open sequence in its construct
 abbrev pub wrapper_kind : Wrapper → BlockKind
 wrapper_kind OfBlock = kind.Block
 wrapper_kind OfLoop = kind.Loop
@@ -35,7 +35,7 @@ kind_in (InTry a) = kind.Try
 kind_in (InCatch a b gs h t) = kind.Catch
 kind_in (InCatchAll a b gs h) = kind.CatchAll
 
--- ---- the clauses of a legacy `try`, that of the open handler included
+-- ---- the clauses of a legacy `try`, with that of the open handler
 
 abbrev pub clauses_behind : {A : Type 0} → List (ClosedClause A) → List LegacyClause → List LegacyClause
 clauses_behind [] cs = cs
@@ -54,13 +54,13 @@ clauses_in (InCatchAll a b gs h) = clauses_behind gs (handles_all ∷ [])
 abbrev pub Named : Type 0
 Named = Located NamedOperation
 
--- sequences behind others
+-- sequences after others
 abbrev pub sequences_joined : {S I : Type 0} → Sequences S I → Sequences S I → Sequences S I
 sequences_joined no_sequences rs = rs
 sequences_joined (sequence h is r) rs = sequence h is (sequences_joined r rs)
 
--- The handlers of closed clauses, of which the last comes first, and then the rest: each ends where the next clause begins,
--- and the last at this location.
+-- The handlers of closed clauses, given last first, and then the rest. Each ends where the next clause begins, and the last at
+-- this location.
 abbrev pub handlers_behind : Typing → NamedOperation → (end_location : ℕ) → List (ClosedClause Named) → Sequences Head Instruction → Sequences Head Instruction
 handlers_behind m o end_location [] rest = rest
 handlers_behind m o end_location (g ∷ gs) rest =
@@ -89,16 +89,16 @@ type_in m (InCatch a b gs h t) = handler_type m a.op (m.tag_parameters t)
 type_in m (InCatchAll a b gs h) = handler_type m a.op []
 type_in m p = construct_type m (opener_in p).op
 
--- the sequence behind an open one that is closed by `end`: an empty alternative behind a consequent
+-- the sequence after an open one that `end` closes: an empty alternative after a consequent
 abbrev pub added_in : Typing → OpenConstruct Named → Sequences Head Instruction
 added_in m (InThen a) = sequence (head (construct_type m a.op) default_location) no_items no_sequences
 added_in m _ = no_sequences
 
--- the sequences, where the open one holds these items and ends at this location
+-- the sequences when the open one has these items and ends at this location
 abbrev pub sequences_closed : Typing → OpenConstruct Named → Items Head Instruction → (location : ℕ) → Sequences Head Instruction → Sequences Head Instruction
 sequences_closed m p items location rest = sequences_joined (closed_in m p) (sequence (head (type_in m p) location) items rest)
 
--- ---- the same with something else shown
+-- ---- the same with other items shown
 
 abbrev pub reshown_clause : {A B : Type 0} → (A → B) → ClosedClause A → ClosedClause B
 reshown_clause f g = closed_clause (f g.mark) g.tag (map_sequence f g.body)

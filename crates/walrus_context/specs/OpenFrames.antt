@@ -1,4 +1,4 @@
--- What contracts see of the open frames, and what single calls do to them.
+-- The open frames as contracts see them, and what single calls do to them.
 use Rattle.std.specs.Prelude.{◌≡◌, ◌<◌, ◌≤◌, ℕ, zero, suc, List, [], ◌∷◌, ◌++◌, length, slice_get, Option, Some, None, option_map, Bool, true, false, cond, take, Result, Ok, Err}
 use Rattle.std.specs.List.{AllByRecursion}
 use Rattle.walrus_ir.specs.declared.control.BlockKind.{BlockKind}
@@ -11,7 +11,8 @@ use Rattle.wasm_body.specs.declared.error.ParseError.{ParseError}
 use Rattle.wasm_body.specs.declared.error.ParseError.TheVariants.{NoFrame, NoSuchLabel, NoTry}
 use Rattle.walrus_context.specs.declared.frame.ControlFrame.{ControlFrame}
 
--- An open frame: its kind, what it takes and gives, its sequence, whether what follows is dropped, and its instructions.
+-- An open frame: its kind, the types of its parameters and results, its sequence, whether it is dead (what follows is dropped),
+-- and its instructions.
 pub record OpenFrame : Type 0 where
   pub kind : BlockKind
   pub start_types : List (ValType ℕ)
@@ -20,15 +21,15 @@ pub record OpenFrame : Type 0 where
   pub dead : Bool
   pub instrs : List LocatedInstr
 
--- what a frame of the code shows, with these instructions
+-- the open frame that a frame of the code shows, with these instructions
 abbrev pub frame_with : ControlFrame → List LocatedInstr → OpenFrame
 frame_with f instrs = record { kind = f.kind; start_types = f.start_types.items; end_types = f.end_types.items; sequence = f.block; dead = f.unreachable; instrs = instrs }
 
--- the frame as the code shows it, whatever its instructions
+-- the frame of the code shows the open frame, whatever its instructions
 pub record Shows (f : ControlFrame) (frame : OpenFrame) : Type 0 where
   pub is : frame ≡ frame_with f frame.instrs
 
--- the n-th frame is shown so
+-- the n-th open frame is shown by this frame of the code
 abbrev pub ShowsAt : List OpenFrame → (n : ℕ) → ControlFrame → Type 0
 ShowsAt fs n f = (frame : OpenFrame) × (slice_get fs n ≡ Some frame) × Shows f frame
 
@@ -41,7 +42,7 @@ AreShown (c ∷ cs) (f ∷ fs) = Shows c f × AreShown cs fs
 abbrev pub new_frame : BlockKind → (takes gives : List (ValType ℕ)) → (sequence : ℕ) → OpenFrame
 new_frame kind takes gives sequence = record { kind = kind; start_types = takes; end_types = gives; sequence = sequence; dead = false; instrs = [] }
 
--- the n-th frame changed, every other as it was
+-- the n-th frame changed, and every other as before
 abbrev pub changed_at : ℕ → (OpenFrame → OpenFrame) → List OpenFrame → List OpenFrame
 changed_at n change [] = []
 changed_at zero change (f ∷ fs) = change f ∷ fs
@@ -50,11 +51,11 @@ changed_at (suc n) change (f ∷ fs) = f ∷ changed_at n change fs
 abbrev pub killed : OpenFrame → OpenFrame
 killed f = record f { dead = true }
 
--- one more instruction, or where the frame is dead none
+-- one more instruction, or no change if the frame is dead
 abbrev pub with_instr : LocatedInstr → OpenFrame → OpenFrame
 with_instr x f = record f { instrs = cond f.dead f.instrs (f.instrs ++ x ∷ []) }
 
--- the n-th frame is changed so, and every other is as it was
+-- the n-th frame is changed like this, and every other is as before
 abbrev pub ChangesAt : ℕ → (OpenFrame → OpenFrame) → (old new : List OpenFrame) → Type 0
 ChangesAt n change old new = (n < length old) × (new ≡ changed_at n change old)
 
@@ -64,7 +65,7 @@ ChangesAt n change old new = (n < length old) × (new ≡ changed_at n change ol
 abbrev pub HasNoFrame : List OpenFrame → ParseError → Type 0
 HasNoFrame fs e = (e ≡ NoFrame) × (fs ≡ [])
 
--- fewer frames are open than the label counts
+-- no more frames are open than the label counts
 abbrev pub HasNoFrameAt : List OpenFrame → (n : ℕ) → ParseError → Type 0
 HasNoFrameAt fs n e = (e ≡ NoSuchLabel) × (length fs ≤ n)
 
@@ -74,7 +75,7 @@ InnerAreEmpty n fs = AllByRecursion (λ f. f.instrs ≡ []) (take n fs)
 
 -- ---- a clause of a legacy `try`
 
--- one more clause for an instruction that is a `try`
+-- one more clause for an instruction, if it is a `try`
 abbrev pub with_clause_in : LegacyCatch → LocatedInstr → Option LocatedInstr
 with_clause_in c (instr.Try t, location) = Some (instr.Try (record t { catches = t.catches ++ c ∷ [] }), location)
 with_clause_in c _ = None
@@ -85,7 +86,7 @@ with_last_clause c [] = None
 with_last_clause c (x ∷ []) = option_map (λ y. y ∷ []) (with_clause_in c x)
 with_last_clause c (x ∷ y ∷ xs) = option_map (λ ys. x ∷ ys) (with_last_clause c (y ∷ xs))
 
--- the same in a frame, or where that is dead no change
+-- the same in a frame, or no change if it is dead
 abbrev pub with_clause : LegacyCatch → OpenFrame → Option OpenFrame
 with_clause c f = cond f.dead (Some f) (option_map (λ xs. record f { instrs = xs }) (with_last_clause c f.instrs))
 

@@ -1,4 +1,4 @@
--- What contracts see of a validation context, and what its calls do.
+-- A validation context as contracts see it, and what its calls do.
 use Rattle.std.specs.Prelude.{◌≡◌, ◌<◌, ℕ, List, ◌∷◌, length, Some, IsSomeAnd, slice_get, Result, Ok, Err}
 use Rattle.std.specs.List.{AllByRecursion}
 use Rattle.walrus_ir.specs.declared.control.BlockKind.{BlockKind}
@@ -26,11 +26,11 @@ pub record OpenTrees : Type 0 where
   pub builder : Function
   pub frames : List OpenFrame
 
--- each frame's sequence is one of these
+-- each frame's sequence is in this arena
 abbrev pub StandIn : List InstrSeq → List OpenFrame → Type 0
 StandIn sequences fs = AllByRecursion (λ f. f.sequence < length sequences) fs
 
--- An empty frame is open with a new sequence of this type; nothing else changed.
+-- An empty frame is opened with a new sequence of this type; nothing else changed.
 pub record Opens (old new : OpenTrees) (kind : BlockKind) (type : InstrSeqType) (takes gives : List (ValType ℕ)) (id : ℕ)
     : Type 0 where
   pub is_next : id ≡ length old.builder.sequences
@@ -39,28 +39,28 @@ pub record Opens (old new : OpenTrees) (kind : BlockKind) (type : InstrSeqType) 
     frames = new_frame kind takes gives id ∷ old.frames;
   }
 
--- what a body of this function is named by
+-- what names the parts of a body of this function
 abbrev pub env_of : OpenTrees → Environment
 env_of c = environment_of c.module c.indices c.function c.builder.type
 
--- what a block type takes and gives, if the module holds the pick for it
+-- the parameters and results of a block type, if the module has a picked type for them
 abbrev pub opened_type : Environment → BlockType → Result Signature ParseError
 opened_type env b = name_block env b >>= λ s. has_pick env s >>= λ _. Ok s
 
--- An empty frame is open with a new sequence that takes and gives what was named, and has the pick for it.
+-- An empty frame is opened with a new sequence. It has these parameters and results, and their picked type.
 abbrev pub OpensAs : (old new : OpenTrees) → BlockKind → (id : ℕ) → Result Signature ParseError → Type 0
 OpensAs old new kind id (Ok s) = IsSomeAnd (pick old.module.types s) (λ type. Opens old new kind type s.parameters s.results id)
 OpensAs old new kind id (Err e) = ⊥
 
--- The same for a block type.
+-- The same for the parameters and results of a block type.
 abbrev pub OpensBlock : (old new : OpenTrees) → BlockKind → BlockType → (id : ℕ) → Type 0
 OpensBlock old new kind b id = OpensAs old new kind id (name_block (env_of old) b)
 
--- why a block type has no name, or the module not the pick for it
+-- why a block type can't be named, or has no picked type in the module
 abbrev pub HasNoType : OpenTrees → BlockType → ParseError → Type 0
 HasNoType c b e = opened_type (env_of c) b ≡ Err e
 
--- The innermost frame is closed, and its sequence has its instructions; nothing else changed.
+-- The innermost frame is closed, and its sequence now has its instructions; nothing else changed.
 pub record Closes (old new : OpenTrees) (frame : OpenFrame) : Type 0 where
   pub was : InstrSeq
   pub before : slice_get old.builder.sequences frame.sequence ≡ Some was
@@ -70,14 +70,14 @@ pub record Closes (old new : OpenTrees) (frame : OpenFrame) : Type 0 where
     frames = new.frames;
   }
 
--- The innermost frame is closed, which is shown so and has this sequence.
+-- The innermost frame, which is shown by this one and has this sequence, is closed.
 pub record Pops (old new : OpenTrees) (f : ControlFrame) (block : ℕ) : Type 0 where
   pub frame : OpenFrame
   pub shown : Shows f frame
   pub is_block : block ≡ frame.sequence
   pub closes : Closes old new frame
 
--- The n-th frame is changed so; nothing else changed.
+-- The n-th frame is changed like this; nothing else changed.
 abbrev pub ChangesFrame : ℕ → (OpenFrame → OpenFrame) → (old new : OpenTrees) → Type 0
 ChangesFrame n change old new = (n < length old.frames) × (new ≡ record old { frames = changed_at n change old.frames })
 

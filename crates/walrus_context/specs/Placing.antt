@@ -1,5 +1,5 @@
--- Instructions of operators as they are read: old indices become ids, a label the place of the sequence that it names, and an
--- exponent a number of bytes.
+-- The instructions of operators as they are read: an old index becomes an id, a label the slot of its sequence, and an exponent
+-- a number of bytes.
 use Rattle.std.specs.Prelude.{ℕ, ◌^◌, List, drop, length, nat_lt, Bool, true, false, slice_get, Result, Ok}
 use Rattle.walrus_ir.specs.declared.control.BlockKind.{BlockKind}
 use Rattle.walrus_ir.specs.declared.control.BlockKind.TheVariants as kind
@@ -19,7 +19,7 @@ use Rattle.walrus_context.specs.Keeping.{slots}
 abbrev pub ids_at : IndicesToIds → Space → ℕ → Result ℕ ParseError
 ids_at indices space n = with_fault Index (id_of indices space n)
 
--- the place of the sequence that a label names
+-- the slot of the sequence that a label names
 abbrev pub place_at : List OpenFrame → ℕ → Result ℕ ParseError
 place_at fs n = some_or (slice_get (slots fs) n) NoSuchLabel
 
@@ -29,23 +29,23 @@ is_handler_kind kind.Catch = true
 is_handler_kind kind.CatchAll = true
 is_handler_kind _ = false
 
--- what the sequence that a depth names is to its construct
+-- the kind of the sequence that a depth names
 abbrev pub kind_at : List OpenFrame → ℕ → Result BlockKind ParseError
 kind_at fs n = some_or (slice_get fs n) NoSuchLabel >>= λ f. Ok f.kind
 
--- a depth that `rethrow` names
+-- the depth of a `rethrow`, which must name a handler
 abbrev pub handler_in : List OpenFrame → ℕ → Result ℕ ParseError
 handler_in fs n = kind_at fs n >>= λ k. unless (is_handler_kind k) RethrowOutsideHandler >>= λ u. Ok n
 
--- a depth that `delegate` names, which counts from outside the innermost construct
+-- the depth of a `delegate`, which counts from outside the innermost construct
 abbrev pub depth_around : List OpenFrame → ℕ → Result ℕ ParseError
 depth_around fs n = unless (nat_lt n (length (drop 1 fs))) NoSuchLabel >>= λ u. Ok n
 
--- whether the types that a block type names are there, and it names none but a function type
+-- whether the types in a block type exist, and the type that it names, if any, is a function type
 abbrev pub block_found : Environment → BlockType → Result (Unit {0}) ParseError
 block_found env b = name_block env b >>= λ s. Ok tt
 
--- where these frames are open, innermost first
+-- with these frames open, innermost first
 abbrev pub placing : Environment → List OpenFrame → Translation ℕ BlockType ℕ (Unit {0}) ParseError
 placing env fs = record {
   index = id_at env;

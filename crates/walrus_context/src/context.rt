@@ -1,4 +1,4 @@
-//! The sequences of a function that is parsed, some of which are open.
+//! The sequences of a function during its parse, some of which are open.
 ghost use Rattle.std.specs.Prelude.{reverse, ◌≡◌, ◌⊎◌, ◌≤◌, ◌<◌, [], length, IsSomeAnd, None, IfOk, IfErr, OnOk, OnErr, MatchResult};
 ghost use Rattle.walrus_ir.specs.Types.{existing, signature_of};
 ghost use Rattle.walrus_ir.specs.declared.val_type.InstrSeqType.TheVariants.{MultiValue};
@@ -24,8 +24,8 @@ use walrus_maps::IndicesToIds;
 use wasm_body::ParseError;
 use wasm_operators::{BlockType, RawValType};
 
-/// The sequences of a function that is parsed, some of which are open. A contract sees the
-/// sequences and the open frames, innermost first, each with its instructions.
+/// The sequences of a function during its parse, some of which are open. A contract sees the
+/// sequences, and the open frames with their instructions, innermost first.
 #[derive(Drop)]
 pub struct ValidationContext<'a> {
     module: &'a Module,
@@ -66,7 +66,7 @@ fn copied(alloc: Global, types: &[ValType]) -> Result<Vec<ValType>, ParseError>
 }
 
 impl<'a> ValidationContext<'a> {
-    /// No frame is open.
+    /// A context without an open frame. Requires that both lists are empty.
     pub fn new(
         module: &'a Module,
         indices: &'a IndicesToIds,
@@ -101,7 +101,7 @@ impl<'a> ValidationContext<'a> {
         self.indices
     }
 
-    /// The local of the function with this old index.
+    /// The local of the function with this old index. The error is `Index` if there is none.
     pub fn local(&self, index: u32) -> Result<LocalId, ParseError>
         ensures { result
             ≡ with_fault Index (local_of self.now.indices self.now.function index) }
@@ -119,8 +119,8 @@ impl<'a> ValidationContext<'a> {
         self.module
     }
 
-    /// Whether a block type names types that are there: where it names a type by an old index, a
-    /// function type.
+    /// Checks that the types in a block type exist, and that a type which it names by its old index
+    /// is a function type.
     pub fn has_block_type(&self, ty: BlockType) -> Result<(), ParseError>
         ensures { result ≡ block_found (env_of self.now) ty }
     {
@@ -141,7 +141,8 @@ impl<'a> ValidationContext<'a> {
         }
     }
 
-    /// What the sequence of the n-th frame from the innermost is.
+    /// The kind of the sequence of the n-th frame from the innermost, 0. The error is `NoSuchLabel`
+    /// if there are not so many frames.
     pub fn kind_at(&self, n: usize) -> Result<BlockKind, ParseError>
         ensures { result ≡ kind_at self.now.frames n }
     {
@@ -151,7 +152,7 @@ impl<'a> ValidationContext<'a> {
         }
     }
 
-    /// Sets where a sequence ends.
+    /// Sets the location of a sequence's end.
     pub fn end_sequence(&mut self, sequence: InstrSeqId, location: InstrLocId)
         requires { sequence < length self.old.builder.sequences }
         ensures { EndsAt self.old self.new sequence location }
@@ -187,8 +188,12 @@ impl<'a> ValidationContext<'a> {
         }
     }
 
-    /// Opens a frame that takes and gives these, whose sequence has the type that is picked for
-    /// them.
+    /// Opens a frame with these parameters and results. Its sequence has the type in the module
+    /// that is picked for them.
+    ///
+    /// # Errors
+    ///
+    /// `TypeMissing` if the module has no such type; `Memory` if memory runs out.
     pub fn push_control(
         &mut self,
         kind: BlockKind,
@@ -208,8 +213,12 @@ impl<'a> ValidationContext<'a> {
         }
     }
 
-    /// Opens a frame that takes and gives what a function type does, which is the type of its
+    /// Opens a frame with the parameters and results of a function type, which is the type of its
     /// sequence.
+    ///
+    /// # Errors
+    ///
+    /// `NotAFunctionType` if the id is that of another type; `Memory` if memory runs out.
     pub fn push_control_with_ty(
         &mut self,
         kind: BlockKind,
@@ -229,7 +238,7 @@ impl<'a> ValidationContext<'a> {
         self.enter(kind, InstrSeqType::MultiValue(ty), start_types, end_types)
     }
 
-    // Opens a frame that takes and gives what the function type of this old index does.
+    // Opens a frame with the parameters and results of the function type with this old index.
     fn push_function_type(&mut self, kind: BlockKind, index: u32) -> Result<InstrSeqId, ParseError>
         ensures ok { IfOk result (λ id. OpensBlock self.old self.new kind (FuncType index) id) }
         ensures err { IfErr result (λ e. (e ≡ Fault.Memory)
@@ -244,7 +253,7 @@ impl<'a> ValidationContext<'a> {
         self.push_control(kind, start_types, end_types)
     }
 
-    // Opens a frame that takes nothing and gives a value of this type.
+    // Opens a frame without parameters and with one result of this type.
     fn push_value_type(&mut self, kind: BlockKind, ty: RawValType) -> Result<InstrSeqId, ParseError>
         ensures ok { IfOk result (λ id. OpensBlock self.old self.new kind (Value ty) id) }
         ensures err { IfErr result (λ e. (e ≡ Fault.Memory) ⊎ HasNoType self.old (Value ty) e) }
@@ -255,7 +264,8 @@ impl<'a> ValidationContext<'a> {
         }
     }
 
-    /// Opens a frame that takes and gives what a block type says, with its old indices looked up.
+    /// Opens a frame with the parameters and results of a block type (WebAssembly core
+    /// specification 3.0, binary format, control instructions), whose old indices are looked up.
     pub fn push_block(&mut self, kind: BlockKind, ty: BlockType) -> Result<InstrSeqId, ParseError>
         ensures ok { IfOk result (λ id. OpensBlock self.old self.new kind ty id) }
         ensures err { IfErr result (λ e. (e ≡ Fault.Memory) ⊎ HasNoType self.old ty e) }
@@ -267,7 +277,11 @@ impl<'a> ValidationContext<'a> {
         }
     }
 
-    /// Closes the innermost frame. Its sequence then owns its instructions.
+    /// Closes the innermost frame. Its sequence then has its instructions.
+    ///
+    /// # Errors
+    ///
+    /// `NoFrame` if no frame is open; `Memory` if memory runs out. Nothing is changed then.
     pub fn pop_control(&mut self) -> Result<(ControlFrame, InstrSeqId), ParseError>
         ensures ok { IfOk result (λ x. Pops self.old self.new x.0 x.1) }
         ensures err { IfErr result (λ e. (e ≡ Fault.Memory) ⊎ HasNoFrame self.old.frames e) }
@@ -284,7 +298,8 @@ impl<'a> ValidationContext<'a> {
         }
     }
 
-    /// What follows in the innermost frame is dropped.
+    /// Marks the innermost frame as dead: the instructions that follow in it are dropped. The error
+    /// is `NoFrame` if no frame is open.
     pub fn unreachable(&mut self) -> Result<(), ParseError>
         ensures ok { OnOk result (ChangesFrame 0 killed self.old self.new) }
         ensures err { IfErr result (HasNoFrame self.old.frames) }
@@ -293,7 +308,7 @@ impl<'a> ValidationContext<'a> {
         self.stack.kill()
     }
 
-    /// The n-th frame from the innermost.
+    /// The n-th frame from the innermost, 0. The error is `NoSuchLabel` if there are not so many.
     pub fn control(&self, n: usize) -> Result<&ControlFrame, ParseError>
         ensures { MatchResult result (λ f. ShowsAt self.now.frames n f.now)
             (HasNoFrameAt self.now.frames n) }
@@ -304,7 +319,13 @@ impl<'a> ValidationContext<'a> {
         }
     }
 
-    /// Appends an instruction to the n-th frame from the innermost, or drops it where that is dead.
+    /// Appends an instruction to the n-th frame from the innermost, 0, or drops it if that frame is
+    /// dead.
+    ///
+    /// # Errors
+    ///
+    /// `NoSuchLabel` if there are not so many frames; `Memory` if memory runs out. Nothing is
+    /// changed then.
     pub fn alloc_instr_in_control(
         &mut self,
         n: usize,
@@ -319,7 +340,11 @@ impl<'a> ValidationContext<'a> {
         self.stack.append(n, instr, loc)
     }
 
-    /// The same for the innermost frame.
+    /// Appends an instruction to the innermost frame, or drops it if that frame is dead.
+    ///
+    /// # Errors
+    ///
+    /// `NoFrame` if no frame is open; `Memory` if memory runs out. Nothing is changed then.
     #[inline(always)]
     pub fn alloc_instr(&mut self, instr: Instr, loc: InstrLocId) -> Result<(), ParseError>
         ensures ok { OnOk result (ChangesFrame 0 (with_instr (instr, loc)) self.old self.new) }
@@ -334,14 +359,14 @@ impl<'a> ValidationContext<'a> {
         }
     }
 
-    /// Adds a clause to the legacy `try` that ends the frame around the innermost, or drops it
-    /// where that frame is dead. So the innermost frame is the body of the `try`, for `delegate`,
-    /// or the clause's own handler.
+    /// Adds a clause to the legacy `try` at the end of the frame around the innermost, or drops it
+    /// if that frame is dead. The innermost frame is the body of the `try` for a `delegate`, and
+    /// the clause's own handler for a `catch` or `catch_all`.
     ///
     /// # Errors
     ///
-    /// `NoSuchLabel` where no frame is around the innermost, `NoTry` where no `try` ends it,
-    /// `Memory`.
+    /// `NoSuchLabel` if there is no frame around the innermost; `NoTry` if that frame doesn't end
+    /// in a `try`; `Memory` if memory runs out. Nothing is changed then.
     pub fn add_legacy_catch(&mut self, catch: LegacyCatch) -> Result<(), ParseError>
         ensures ok { OnOk result (AddsClauseAround catch self.old self.new) }
         ensures err { IfErr result (λ e. (e ≡ Fault.Memory)
@@ -351,8 +376,8 @@ impl<'a> ValidationContext<'a> {
         self.stack.add_clause(catch)
     }
 
-    /// The function, the open frames as they are shown, the innermost last, and the list of
-    /// instructions, which is empty where no frame is open.
+    /// The function, the open frames, the innermost last, and the list of instructions, which is
+    /// empty if no frame is open.
     pub fn into_parts(self) -> (FunctionBuilder, ControlStack, Vec<(Instr, InstrLocId)>)
         ensures function { result.0 ≡ self.entry.builder }
         ensures frames { AreShown (reverse result.1.items) self.entry.frames }

@@ -1,19 +1,19 @@
-//! Open sequences, as they are shown.
+//! Open sequences.
 
 use walrus_ir::{BlockKind, InstrLocId, InstrSeqId, ValType};
 
-/// A sequence that is open.
+/// An open sequence (WebAssembly core specification 3.0, appendix, validation algorithm).
 #[derive(Drop)]
 pub struct ControlFrame {
-    /// What it takes.
+    /// The types of its parameters.
     pub start_types: Vec<ValType>,
-    /// What it gives.
+    /// The types of its results.
     pub end_types: Vec<ValType>,
-    /// Whether what follows is dropped.
+    /// Whether it is dead: the instructions that follow in it are dropped.
     pub unreachable: bool,
-    /// The sequence.
+    /// Its sequence.
     pub block: InstrSeqId,
-    /// What it is to the construct that holds it.
+    /// The kind of the sequence in its construct.
     pub kind: BlockKind,
     /// The position of its first instruction in the list of the instructions of all open frames.
     pub start: usize,
@@ -22,13 +22,13 @@ pub struct ControlFrame {
 /// The open sequences, the innermost last.
 pub type ControlStack = Vec<ControlFrame>;
 
-/// An `if` whose `end` is still to come.
+/// An `if` whose `end` isn't read yet.
 #[derive(Clone, Copy)]
 pub struct IfElseState {
     /// The location of the `if`.
     pub start: InstrLocId,
-    /// The sequence behind the `if`.
+    /// The sequence after the `if`.
     pub consequent: InstrSeqId,
-    /// The sequence behind the `else`, if there is one.
+    /// The sequence after the `else`, if there is one.
     pub alternative: Option<InstrSeqId>,
 }

@@ -9,7 +9,7 @@ use std::marker::Model;
 use walrus_ir::{BlockKind, Instr, InstrLocId, InstrSeqId, LegacyCatch, ValType};
 use wasm_body::ParseError;
 
-/// Pushes an item, or leaves the list as it was.
+/// Pushes an item. If memory runs out, the list is unchanged.
 #[inline(always)]
 pub fn pushed<T: Drop>(list: &mut Vec<T>, item: T) -> Result<(), ParseError>
     ensures ok { OnOk result (list.new.items ≡ list.old.items ++ item ∷ []) }
@@ -22,7 +22,7 @@ pub fn pushed<T: Drop>(list: &mut Vec<T>, item: T) -> Result<(), ParseError>
     }
 }
 
-/// Where the n-th frame from the innermost stands, if so many are open.
+/// The index of the n-th frame from the innermost, if there are so many.
 #[inline(always)]
 fn index_of(controls: &ControlStack, n: usize) -> Option<usize>
     ensures { MatchOption result (length controls.now.items ≤ n)
@@ -34,7 +34,7 @@ fn index_of(controls: &ControlStack, n: usize) -> Option<usize>
     Some(controls.len() - n - 1)
 }
 
-/// Adds a clause to an instruction that is a `try`.
+/// Adds a clause to an instruction. The error is `NoTry` if it isn't a `try`.
 fn add_clause_in(item: &mut (Instr, InstrLocId), catch: LegacyCatch) -> Result<(), ParseError>
     ensures ok { OnOk result (with_clause_in catch item.old ≡ Some item.new) }
     ensures err { IfErr result (λ e. (e ≡ Fault.Memory)
@@ -47,7 +47,7 @@ fn add_clause_in(item: &mut (Instr, InstrLocId), catch: LegacyCatch) -> Result<(
     }
 }
 
-/// Has every frame from one on begin one instruction later.
+/// Moves the start of every frame from this one on by one instruction.
 fn move_starts(controls: &mut ControlStack, from: usize)
     requires within { from ≤ length controls.old.items }
     requires fit { (end : ℕ) × (end + 1 < 2 ^ 64) × StartFrom 0 controls.old.items end }
@@ -81,7 +81,7 @@ impl Model for FrameStack {
 }
 
 impl FrameStack {
-    /// No frame is open.
+    /// A stack without an open frame. It uses these two lists, which are empty.
     pub fn new(controls: ControlStack, lent: Vec<(Instr, InstrLocId)>) -> FrameStack
         requires none { controls.items ≡ [] }
         requires empty { lent.items ≡ [] }
@@ -146,7 +146,7 @@ impl FrameStack {
         }
     }
 
-    /// Closes the innermost frame and drops its instructions. It takes no memory.
+    /// Closes the innermost frame and drops its instructions.
     pub fn discard(&mut self)
         requires { 0 < length self.old }
         ensures { (frame : OpenFrame) × (self.old ≡ frame ∷ self.new) }
@@ -155,7 +155,7 @@ impl FrameStack {
         self.instrs.truncate(frame.start);
     }
 
-    /// What follows in the innermost frame is dropped.
+    /// Marks the innermost frame as dead: the instructions that follow in it are dropped.
     pub fn kill(&mut self) -> Result<(), ParseError>
         ensures ok { OnOk result (ChangesAt 0 killed self.old self.new) }
         ensures err { IfErr result (HasNoFrame self.old) }
@@ -170,7 +170,8 @@ impl FrameStack {
         }
     }
 
-    /// Appends an instruction to the n-th frame from the innermost, or drops it where that is dead.
+    /// Appends an instruction to the n-th frame from the innermost, or drops it if that frame is
+    /// dead.
     #[inline(always)]
     pub fn append(&mut self, n: usize, instr: Instr, location: InstrLocId) -> Result<(), ParseError>
         requires { InnerAreEmpty n self.old }
@@ -194,8 +195,8 @@ impl FrameStack {
         }
     }
 
-    /// Adds a clause to the `try` that ends the frame around the innermost, or drops it where that
-    /// is dead.
+    /// Adds a clause to the `try` at the end of the frame around the innermost, or drops it if that
+    /// frame is dead.
     pub fn add_clause(&mut self, catch: LegacyCatch) -> Result<(), ParseError>
         ensures ok { OnOk result (with_clause_around catch self.old ≡ Ok self.new) }
         ensures err { IfErr result (λ e. (e ≡ Fault.Memory)
@@ -216,7 +217,7 @@ impl FrameStack {
         add_clause_in(&mut self.instrs[end - 1], catch)
     }
 
-    /// The frames as they are shown, the innermost last, and a list without instructions.
+    /// The frames, the innermost last, and the list of instructions, now empty.
     pub fn into_parts(self) -> (ControlStack, Vec<(Instr, InstrLocId)>)
         ensures frames { AreShown (reverse result.0.items) self }
         ensures empty { result.1.items ≡ [] }

@@ -1,4 +1,4 @@
-//! Types that operators name, with old indices looked up.
+//! Types in operators, with their old indices looked up.
 ghost use Rattle.std.specs.Prelude.{◌≡◌};
 ghost use Rattle.wasm_body.specs.Translation.{translate_heap, translate_value};
 ghost use Rattle.walrus_context.specs.Placing.{ids_at};
@@ -8,8 +8,8 @@ use walrus_maps::IndicesToIds;
 use wasm_body::ParseError;
 use wasm_operators::{RawHeapType, RawValType};
 
-/// A heap type with the id of the type that it names, if it names one; or `Index`. It takes no
-/// memory.
+/// A heap type with the id of its type, if it is an old index. The error is `Index` if that index
+/// has no id. Allocates nothing.
 pub fn heap_type_of(indices: &IndicesToIds, ty: RawHeapType) -> Result<HeapType, ParseError>
     ensures { result ≡ translate_heap (ids_at indices.now) ty }
 {
@@ -19,8 +19,8 @@ pub fn heap_type_of(indices: &IndicesToIds, ty: RawHeapType) -> Result<HeapType,
     }
 }
 
-/// A value type with the id of the type that it names, if it names one; or `Index`. It takes no
-/// memory.
+/// A value type with the id of its type, if it contains an old index. The error is `Index` if that
+/// index has no id. Allocates nothing.
 pub fn value_type(indices: &IndicesToIds, ty: RawValType) -> Result<ValType, ParseError>
     ensures { result ≡ translate_value (ids_at indices.now) ty }
 {
