@@ -1,4 +1,4 @@
--- how locals are numbered
+-- numbering locals
 pub mod LocalNumbering
 -- writing a function's tree
 pub mod Emission

@@ -33,7 +33,7 @@ use Rattle.walrus_maps.proofs.EntryMaps.{same_id, get-entries}
 
 -- ---- numbers
 
--- an entry that is put gives its id its number, and no other changes
+-- putting an entry gives its id its number, and changes no other
 pub one_number : (es fs : List (ℕ × ℕ)) (k n : ℕ) → ((q : ℕ) → lookup (same_id q) fs ≡ cond (same_id k q) (Some n) (lookup (same_id q) es))
     → (q : ℕ) → number_in fs q ≡ cond (k == q) (Some n) (number_in es q)
 one_number es fs k n put q =
@@ -49,7 +49,7 @@ last_place-push (y ∷ ys) x q =
       | false ↦ refl
     ]
 
--- one argument more
+-- one more argument
 pub argument_numbered : (args : List ℕ) (i x n : ℕ) (es fs : List (ℕ × ℕ)) → i < length args → x ≡ get_or args i x → n ≡ cut i
     → ((q : ℕ) → lookup (same_id q) fs ≡ cond (same_id x q) (Some n) (lookup (same_id q) es))
     → ((q : ℕ) → number_in es q ≡ option_map cut (last_place (take i args) q))
@@ -62,7 +62,7 @@ argument_numbered args i x n es fs within is number put before q =
     ∙ (elim (x == q) as (λ b. cond b (Some (cut i)) (option_map cut (last_place (take i args) q)) ≡ option_map cut (cond b (Some i) (last_place (take i args) q))) [ true ↦ refl | false ↦ refl ]
     ∙ ap (option_map cut) (sym pushed))))
 
--- one other local more
+-- one more local after the arguments
 pub other_numbered : (args : List ℕ) (others : List Local) (i : ℕ) (l : Local) (es fs : List (ℕ × ℕ)) → i < length others → l ≡ get_or others i l
     → ((q : ℕ) → lookup (same_id q) fs ≡ cond (same_id l.1 q) (Some (length args + i)) (lookup (same_id q) es))
     → ((q : ℕ) → number_in es q ≡ number_of_local args (ids_of (take i others)) q)
@@ -97,7 +97,7 @@ pub leading_none : (t : ValType ℕ) (locals : List Local) (n : ℕ) (d : Local)
 leading_none t locals n d within other =
     ap (leading t) (dropped n d locals within) ∙ ap (λ b. cond b (leading t (types_of (drop (n + 1) locals)) + 1) 0) other
 
--- the first run, and those of what is behind it
+-- the first run, and the runs of the types after it
 pub first_run : (t : ValType ℕ) (us : List (ValType ℕ)) → runs (t ∷ us) ≡ (leading t us + 1, t) ∷ runs (drop (leading t us) us)
 first_run t [] = refl
 first_run t (u ∷ us) =
@@ -115,7 +115,7 @@ first_run t (u ∷ us) =
           ∙ ap (λ rs. (1, t) ∷ rs) (sym (first_run u us)))
     ] refl
 
--- one run more
+-- one more run
 pub run_found : (locals left behind rest : List Local) (l : Local) (done found : List (ℕ × ValType ℕ)) (n : ℕ) → left ≡ l ∷ behind → n ≡ leading l.0 (types_of behind)
     → rest ≡ drop n behind → done ++ runs (types_of left) ≡ runs (types_of locals) → found ≡ done ++ (n + 1, l.0) ∷ [] → found ++ runs (types_of rest) ≡ runs (types_of locals)
 run_found locals left behind rest l done found n first count others before pushed =
@@ -139,7 +139,7 @@ module _ (types : List (ValType ℕ)) (numbers : List (ℕ × ℕ)) where
   abbrev Others : List ℕ → Result (List Local) EmitError
   Others ids = unnumbered types numbers ids
 
-  -- by whether an id has a number
+  -- whether an id has a number
   taken : (id : ℕ) (rest ids : List ℕ) (b : Bool) → ids ≡ id ∷ rest → is_some (lookup (same_id id) numbers) ≡ b
       → Others ids ≡ each (typed_local types) (cond (not b) (id ∷ filter (λ k. not (is_some (number_in numbers k))) rest) (filter (λ k. not (is_some (number_in numbers k))) rest))
   taken id rest ids b first has =
@@ -173,7 +173,7 @@ module _ (types : List (ValType ℕ)) (numbers : List (ℕ × ℕ)) where
 abbrev Typed : List (ValType ℕ) → Local → Type 0
 Typed types l = slice_get types l.1 ≡ Some l.0
 
--- what is found are the ids, each with its type
+-- the locals that are found are those of the ids, each with its type
 record AreTyped (types : List (ValType ℕ)) (ids : List ℕ) (ls : List Local) : Type 0 where
   are : ids_of ls ≡ ids
   typed : AllByRecursion (Typed types) ls
@@ -214,7 +214,7 @@ each_untyped types (id ∷ ids) e h =
       | None ↦ λ has f. let is : e ≡ UnknownLocal = cc in record { fault = is; id = id; stands = ap (λ b. b || among id ids) (eq-eqb id id refl); has_none = has }
     ] refl h
 
--- which ids a filter keeps
+-- the ids that a filter keeps
 kept_one : (p : ℕ → Bool) (id k : ℕ) (rest : Bool) (b : Bool) → p k ≡ b → (cond b ((id == k) || (rest && p id)) (rest && p id)) ≡ (((id == k) || rest) && p id)
 kept_one p id k rest b keeps =
     elim (id == k) as (λ c. (id == k) ≡ c → cond b (c || (rest && p id)) (rest && p id) ≡ ((c || rest) && p id)) [
@@ -246,7 +246,7 @@ distinct_kept p (x ∷ ids) d =
       | false ↦ distinct_kept p ids (IsDistinct-tail same_id x ids d)
     ]
 
--- keys that a set holds are apart
+-- the keys of a set are distinct
 none_among : (k : ℕ) (ks : List ℕ) → AllByRecursion (λ y. same_id k y ≡ false) ks → among k ks ≡ false
 none_among k [] h = refl
 none_among k (y ∷ ks) h = ap (λ b. b || among k ks) (sym (and-true (k == y)) ∙ h.0) ∙ none_among k ks h.1
@@ -273,7 +273,7 @@ found_apart types numbers keys found unique is =
     let free = λ (id : ℕ). not (is_some (number_in numbers id)) in
     subst Apart (sym (each_typed types (filter free keys) found is).are) (distinct_apart (filter free keys) (distinct_kept free keys unique))
 
--- neighbours of a sorted list whose ids differ ascend
+-- neighbours in a sorted list ascend if their ids differ
 then_equal : (o p : Ordering) → ordering_then o p ≡ Equal → p ≡ Equal
 then_equal Less p h = cc
 then_equal Equal p h = h
@@ -347,7 +347,7 @@ some_place (x ∷ xs) id =
       | false ↦ elim (among id xs) as (λ b. (b || false) ≡ b) [ true ↦ refl | false ↦ refl ]
     ]))
 
--- the map tells arguments from other locals
+-- whether the map has a number for an id says whether it is an argument
 pub arguments_told : (args : List ℕ) (es : List (ℕ × ℕ)) → ((id : ℕ) → number_in es id ≡ option_map cut (last_place args id)) → (id : ℕ) → is_some (number_in es id) ≡ among id args
 arguments_told args es h id =
     ap is_some (h id)
@@ -357,7 +357,7 @@ arguments_told args es h id =
 cut_fits : (n : ℕ) → n < 2 ^ 32 → cut n ≡ n
 cut_fits n h = ap (λ b. cond b n (2 ^ 32 - 1)) (lt-ltb n (2 ^ 32) h)
 
--- where all places fit, nothing is cut
+-- if all positions fit, no number is cut
 pub nothing_cut : (args : List ℕ) (es : List (ℕ × ℕ)) → length args ≤ 2 ^ 32 → ((id : ℕ) → number_in es id ≡ option_map cut (last_place args id)) → (id : ℕ) → number_in es id ≡ last_place args id
 nothing_cut args es fit h id =
     h id

@@ -1,4 +1,4 @@
--- Writing a function's tree as a visitor of its walk: what an emitter makes of each event.
+-- Writing a function's tree as a visitor of its walk: the emitter after each event.
 use Rattle.std.specs.Prelude.{ℕ, ◌+◌, List, [], ◌∷◌, ◌++◌, length, map, slice_get, Bool, if◌then◌else◌, Option, Some, None, Result, Ok, Err}
 use Rattle.walrus_ir.specs.declared.seq.InstrSeq.{InstrSeq}
 use Rattle.walrus_ir.specs.declared.val_type.InstrSeqType.{InstrSeqType}
@@ -22,7 +22,7 @@ use Rattle.wasm_body.specs.Pairs.{pairs_from}
 
 -- ---- the sequences in an instruction, and what closes them
 
--- a sequence that is to begin or is open: its slot, and the operator that closes it at a location, if one does
+-- a sequence that is to come or is open: its slot, and the operator, if any, that closes it, with its location
 pub record Scope : Type 0 where
   pub slot : ℕ
   pub closer : Option (Located TextOperation)
@@ -52,13 +52,13 @@ first_type_at b (p ∷ ps) = some_or (slice_get b p) UnknownSequence >>= λ seq.
 
 -- ---- the emitter
 
--- what is written: bytes, and for each operator its location and its place
+-- the output: bytes, and for each operator its location and its place
 pub record Output : Type 0 where
   pub bytes : List ℕ
   pub pairs : List (ℕ × ℕ)
 
--- Of these sequences, under these numbers: the scopes that are to begin, the next first, those that are open, the innermost
--- first, and the output so far, behind so many bytes of others; pairs are kept where they are asked for.
+-- For these sequences, under these numbers: the scopes that are to come, the next one first; those that are open, the innermost
+-- first; and the output so far. `base` is the number of bytes before it, and `has_map` says whether pairs are kept.
 pub record Emitter : Type 0 where
   pub sequences : List InstrSeq
   pub numbers : Numbers
@@ -71,7 +71,7 @@ pub record Emitter : Type 0 where
 abbrev pub slots_of : List Scope → List ℕ
 slots_of ss = map (λ (s : Scope). s.slot) ss
 
--- an operator behind what is written
+-- an operator after the output
 abbrev pub pairs_behind : Bool → ℕ → Output → ℕ → List (ℕ × ℕ)
 pairs_behind has_map base o location = if has_map then o.pairs ++ (location, base + length o.bytes) ∷ [] else o.pairs
 
@@ -85,7 +85,7 @@ abbrev pub with_closer : Emitter → Option (Located TextOperation) → Result E
 with_closer s None = Ok s
 with_closer s (Some c) = written (then_by (numbering s.numbers)) c.op c.location >>= λ x. Ok (with_operator s x)
 
--- An instruction's own operator is written, and the sequences in it are to begin.
+-- An instruction's own operator is written, and the sequences in it are to come next.
 abbrev pub with_instruction : Emitter → LocatedInstr → Result Emitter EmitError
 with_instruction s x =
     first_type_at s.sequences (slots_in x.0) >>= λ type.
@@ -93,8 +93,7 @@ with_instruction s x =
     scopes_at s.sequences (slots_in x.0) (closers_in x.0) >>= λ scopes.
     Ok (with_operator (record s { coming = scopes ++ s.coming }) op)
 
--- The next scope is open; the innermost is closed. (A walk starts no sequence that isn't to begin, and ends none that isn't
--- open.)
+-- The next scope is opened; the innermost is closed. (A walk starts only sequences that are to come, and ends only open ones.)
 abbrev pub with_start : Emitter → List Scope → Result Emitter EmitError
 with_start s [] = Err UnknownSequence
 with_start s (c ∷ cs) = Ok (record s { coming = cs; open_scopes = c ∷ s.open_scopes })
@@ -109,14 +108,14 @@ emitter_behind s (StartSequence seq) = with_start s s.coming
 emitter_behind s (EndSequence seq) = with_end s s.open_scopes
 emitter_behind s _ = Ok s
 
--- behind so many events
+-- after these events
 abbrev pub emitter_behind_all : Emitter → List WalkEvent → Result Emitter EmitError
 emitter_behind_all s [] = Ok s
 emitter_behind_all s (e ∷ es) = emitter_behind s e >>= λ t. emitter_behind_all t es
 
 -- ---- a whole tree
 
--- nothing is written, and the sequence in this slot is to begin, which `end` closes
+-- nothing is written, and only the sequence in this slot is to come, which `end` closes
 abbrev pub first_emitter : List InstrSeq → Numbers → ℕ → Bool → Scope → Emitter
 first_emitter b to base has_map scope = record {
   sequences = b;
@@ -128,6 +127,6 @@ first_emitter b to base has_map scope = record {
   output = record { bytes = []; pairs = [] };
 }
 
--- what a text is written as, behind so many bytes of others
+-- the output of a text with `base` bytes before it
 abbrev pub output_of : Bool → ℕ → List (Located RawOperation) → Output
 output_of has_map base xs = record { bytes = bytes_of xs; pairs = if has_map then pairs_from base xs else [] }

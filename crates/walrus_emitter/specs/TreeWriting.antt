@@ -1,4 +1,4 @@
--- Writing a function's tree: what the code keeps, and what it makes of each event of the walk.
+-- Writing a function's tree: the state of the code, and the state after each event of the walk.
 pub mod Closers
 pub mod ScopeLists
 pub mod ScopeTables

@@ -1,4 +1,4 @@
-//! The sequences in an instruction are to begin: each with what closes it.
+//! Announcing the sequences in an instruction, each with what closes it: they are to come next.
 ghost use Rattle.std.specs.Prelude.{◌≡◌, ◌∷◌, [], length, map, true, OnOk, OnErr, IfErr};
 ghost use Rattle.walrus_ir.specs.Unfolding.{handler_of as clause_places, handlers, slots_in};
 ghost use Rattle.wasm_body.specs.InstructionTable.{legacy_clause, clauses_of_try};
@@ -13,7 +13,7 @@ use crate::open_scopes::Scopes;
 use walrus_ir::{FunctionBuilder, Instr, InstrSeqId, LegacyCatch, Try};
 use wasm_body::EmitError;
 
-/// The sequence at a place is to begin, which this closes at the location of its end.
+/// Announces the sequence in a slot, which this closes at the location of its end.
 fn announce_one(
     scopes: &mut Scopes,
     builder: &FunctionBuilder,
@@ -35,7 +35,7 @@ fn announce_one(
     Ok(())
 }
 
-/// The handler of a clause is to begin, if it has one, before the others.
+/// Announces the handler of a clause, if it has one, before the others.
 fn announce_handler(
     scopes: &mut Scopes,
     builder: &FunctionBuilder,
@@ -55,8 +55,8 @@ fn announce_handler(
     }
 }
 
-/// The sequences in a legacy `try` are to begin, before the others. Where it fails some of them may
-/// be.
+/// Announces the sequences in a legacy `try`, before the others. If it fails, some of them may be
+/// announced.
 fn announce_try(
     scopes: &mut Scopes,
     builder: &FunctionBuilder,
@@ -84,8 +84,8 @@ fn announce_try(
     announce_one(scopes, builder, construct.seq, closer)
 }
 
-/// The sequences in an instruction are to begin, before the others. Where it fails some of them may
-/// be.
+/// Announces the sequences in an instruction, before the others. If it fails, some of them may be
+/// announced.
 pub(crate) fn announce(
     scopes: &mut Scopes,
     builder: &FunctionBuilder,

@@ -1,4 +1,4 @@
-//! The clauses of a legacy `try`, as they are written.
+//! The clauses of a legacy `try`.
 ghost use Rattle.std.specs.Prelude.{◌≡◌, map};
 ghost use Rattle.std.specs.Option.{option_to_list};
 ghost use Rattle.walrus_ir.specs.Unfolding.{handler_of};
@@ -9,7 +9,7 @@ ghost use Rattle.walrus_emitter.specs.TreeWriting.Closers.{closing, opening_clau
 use crate::closing::Closer;
 use walrus_ir::{InstrSeqId, LegacyCatch};
 
-/// The sequence that a clause handles exceptions with, if it has one.
+/// The handler of a clause, if it has one.
 pub(crate) fn handler_of(clause: &LegacyCatch) -> Option<InstrSeqId>
     ensures { option_to_list result ≡ handler_of clause.now }
 {
@@ -19,7 +19,7 @@ pub(crate) fn handler_of(clause: &LegacyCatch) -> Option<InstrSeqId>
     }
 }
 
-/// What a clause begins with, which closes the sequence before it.
+/// The operator with which a clause begins, which closes the sequence before it.
 pub(crate) fn closer_before(clause: &LegacyCatch) -> Closer
     ensures { closing result ≡ opening_clause (legacy_clause clause.now) }
 {
@@ -30,7 +30,7 @@ pub(crate) fn closer_before(clause: &LegacyCatch) -> Closer
     }
 }
 
-/// Whether there are any number of handlers by tag, and then at most one of all.
+/// Whether the clauses are any number of `catch`, and then at most one `catch_all`.
 fn are_handlers(clauses: &[LegacyCatch]) -> bool
     ensures { result ≡ are_handlers (map legacy_clause clauses.now) }
 {
@@ -45,7 +45,8 @@ fn are_handlers(clauses: &[LegacyCatch]) -> bool
     true
 }
 
-/// Whether the clauses are in a lawful order: handlers, or one `delegate` alone.
+/// Whether the clauses are in a lawful order: `catch` clauses and at most one `catch_all` after
+/// them, or one `delegate` alone.
 pub(crate) fn are_lawful(clauses: &[LegacyCatch]) -> bool
     ensures { result ≡ are_lawful (map legacy_clause clauses.now) }
 {

@@ -14,14 +14,14 @@ pub(crate) enum Closer {
     Catch { tag: TagId },
     /// `catch_all`, where the handler for all exceptions begins
     CatchAll,
-    /// `delegate`, with the number of constructs between
+    /// `delegate`, with the number of constructs between its own and the one that it names
     Delegate { relative_depth: u32 },
 }
 
-/// A sequence that is to begin or is open, by its place in the builder.
+/// A sequence that is to come or is open, by its slot in the builder.
 #[derive(Clone, Copy)]
 pub(crate) struct SequenceScope {
     pub place: InstrSeqId,
-    /// What closes it, at which location, if something does.
+    /// The operator that closes it, if any, and its location.
     pub closer: Option<(Closer, InstrLocId)>,
 }

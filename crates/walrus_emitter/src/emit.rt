@@ -27,7 +27,7 @@ use walrus_ir::{
 use wasm_body::EmitError;
 use wasm_encode::{FunctionEncoder, OutOp};
 
-/// Writes the operators of the events that it is told of, aside.
+/// Writes the operators of the events that it visits, aside.
 #[derive(Drop)]
 pub(crate) struct EmitVisitor<'a> {
     builder: &'a FunctionBuilder,
@@ -37,7 +37,7 @@ pub(crate) struct EmitVisitor<'a> {
     ghost as_many: { scopes.count ≡ length builder.now.sequences },
 }
 
-/// The type of the sequence at a place.
+/// The type of the sequence in a slot.
 fn type_at(builder: &FunctionBuilder, place: InstrSeqId) -> Result<InstrSeqType, EmitError>
     ensures { result ≡ first_type_at builder.now.sequences (place ∷ []) }
 {
@@ -47,7 +47,8 @@ fn type_at(builder: &FunctionBuilder, place: InstrSeqId) -> Result<InstrSeqType,
     Ok(builder.seq(place).ty)
 }
 
-/// The type of the first sequence in an instruction, or that of a block without a type.
+/// The type of the first sequence in an instruction. Without one, that of a block without
+/// parameters and results.
 fn first_type(builder: &FunctionBuilder, instr: &Instr) -> Result<InstrSeqType, EmitError>
     ensures { result ≡ first_type_at builder.now.sequences (slots_in instr.now) }
 {
@@ -71,7 +72,7 @@ fn has_lawful_clauses(instr: &Instr) -> bool
     }
 }
 
-/// What closes a sequence is written, if something does.
+/// Writes the operator that closes a sequence, if there is one.
 fn write_closer(
     draft: &mut Draft,
     closer: Option<(Closer, InstrLocId)>,
@@ -94,7 +95,7 @@ impl<'a> EmitVisitor<'a> {
     ghost use Rattle.walrus_ir.specs.Events.{VisitInstruction};
     ghost use Rattle.walrus_emitter.specs.TreeWriting.Visiting.{Steps, Refuses, Same, HasOnlyMore};
 
-    /// An instruction without sequences, whose operator is this one.
+    /// Writes an instruction without sequences, which has this operator.
     #[inline(always)]
     fn write_plain(
         &mut self,
@@ -112,7 +113,7 @@ impl<'a> EmitVisitor<'a> {
         self.draft.write(op, location)
     }
 
-    /// An instruction without sequences, of any kind.
+    /// Writes an instruction without sequences, of any kind.
     #[inline(never)]
     fn visit_at_length(&mut self, instr: &Instr, location: InstrLocId) -> Result<(), EmitError>
         requires { slots_in instr.now ≡ [] }
@@ -128,7 +129,7 @@ impl<'a> EmitVisitor<'a> {
         }
     }
 
-    /// A load.
+    /// Writes a load.
     #[inline(never)]
     fn visit_load(
         &mut self,
@@ -150,7 +151,7 @@ impl<'a> EmitVisitor<'a> {
         self.write_plain(instr, &OutOp::Load { kind, memarg }, location)
     }
 
-    /// A store.
+    /// Writes a store.
     #[inline(never)]
     fn visit_store(
         &mut self,
@@ -172,7 +173,7 @@ impl<'a> EmitVisitor<'a> {
         self.write_plain(instr, &OutOp::Store { kind, memarg }, location)
     }
 
-    /// A `call`.
+    /// Writes a `call`.
     #[inline(never)]
     fn visit_call(
         &mut self,
@@ -191,7 +192,7 @@ impl<'a> EmitVisitor<'a> {
         }
     }
 
-    /// A `global.get`.
+    /// Writes a `global.get`.
     #[inline(never)]
     fn visit_global_get(
         &mut self,
@@ -210,7 +211,7 @@ impl<'a> EmitVisitor<'a> {
         }
     }
 
-    /// A `global.set`.
+    /// Writes a `global.set`.
     #[inline(never)]
     fn visit_global_set(
         &mut self,
@@ -229,7 +230,7 @@ impl<'a> EmitVisitor<'a> {
         }
     }
 
-    /// A `br`.
+    /// Writes a `br`.
     #[inline(never)]
     fn visit_br(
         &mut self,
@@ -248,7 +249,7 @@ impl<'a> EmitVisitor<'a> {
         }
     }
 
-    /// A `br_if`.
+    /// Writes a `br_if`.
     #[inline(never)]
     fn visit_br_if(
         &mut self,
@@ -267,8 +268,8 @@ impl<'a> EmitVisitor<'a> {
         }
     }
 
-    /// An instruction without sequences. The common ones are written here, each where its operator
-    /// is made.
+    /// Writes an instruction without sequences. Common ones are written where their operator is
+    /// made.
     fn visit_plain(&mut self, instr: &Instr, location: InstrLocId) -> Result<(), EmitError>
         requires { slots_in instr.now ≡ [] }
         ensures ok { OnOk result (Steps self.old (VisitInstruction instr.now location) self.new) }
@@ -295,7 +296,8 @@ impl<'a> EmitVisitor<'a> {
         }
     }
 
-    /// An instruction, whose sequences are to begin. Where it fails some of them may be.
+    /// Writes the operator of an instruction and announces its sequences. If it fails, some of them
+    /// may be announced.
     fn begin_construct(&mut self, instr: &Instr, location: InstrLocId) -> Result<(), EmitError>
         ensures ok { OnOk result (Steps self.old (VisitInstruction instr.now location) self.new) }
         ensures err { IfErr result (Refuses self.old (VisitInstruction instr.now location)) }
@@ -318,7 +320,7 @@ impl<'a> EmitVisitor<'a> {
         }
     }
 
-    /// An instruction with sequences.
+    /// Writes the operator of an instruction with sequences.
     fn visit_construct(&mut self, instr: &Instr, location: InstrLocId) -> Result<(), EmitError>
         ensures ok { OnOk result (Steps self.old (VisitInstruction instr.now location) self.new) }
         ensures err { IfErr result (Refuses self.old (VisitInstruction instr.now location)) }
@@ -400,7 +402,7 @@ impl Visitor for EmitVisitor<'_> {
     }
 }
 
-/// The sequences of a builder, of which none is open, and the one at the entry is to begin.
+/// The sequences of a builder. None is open, and only the one at the entry is to come.
 fn first_scopes(builder: &FunctionBuilder, entry: InstrSeqId) -> Result<Scopes, AllocError>
     requires { entry < length builder.now.sequences }
     ensures { IfOk result (IsFirstScope builder.now.sequences entry) }
@@ -410,12 +412,13 @@ fn first_scopes(builder: &FunctionBuilder, entry: InstrSeqId) -> Result<Scopes, 
     Ok(scopes)
 }
 
-/// What is written of the tree of the function from a sequence on, behind so many bytes of others.
+/// Writes the tree of the function from a sequence on, aside. `base` is the number of bytes before
+/// it.
 ///
 /// # Errors
 ///
-/// Where there is no tree, the first fault in walk order; else the first fault in order of writing.
-/// Or memory runs out.
+/// If the sequences are not a tree, the first fault in walk order; otherwise the first fault in the
+/// order of writing. Or `Memory` if memory runs out.
 fn draft_tree(
     builder: &FunctionBuilder,
     entry: InstrSeqId,
@@ -449,13 +452,14 @@ fn draft_tree(
     }
 }
 
-/// Appends the tree of the function from a sequence on to an encoder, and its location pairs to a
-/// list, each with the place of its operator in the encoder.
+/// Appends the tree of the function from the sequence `entry` on to an encoder, and its location
+/// pairs to a list. A pair is the location of an operator and the place of its first byte in the
+/// encoder, a byte offset.
 ///
 /// # Errors
 ///
-/// Where there is no tree, the first fault in walk order; else the first fault in order of writing.
-/// Or memory runs out. The encoder and the list are then as before.
+/// If the sequences are not a tree, the first fault in walk order; otherwise the first fault in the
+/// order of writing. Or `Memory` if memory runs out. The encoder and the list are then unchanged.
 pub fn emit_with_map(
     builder: &FunctionBuilder,
     entry: InstrSeqId,
@@ -478,11 +482,11 @@ pub fn emit_with_map(
     }
 }
 
-/// Appends the tree of the function from a sequence on to an encoder.
+/// Appends the tree of the function from the sequence `entry` on to an encoder.
 ///
 /// # Errors
 ///
-/// Those of `emit_with_map`. The encoder is then as before.
+/// Those of `emit_with_map`. The encoder is then unchanged.
 pub fn emit_without_map(
     builder: &FunctionBuilder,
     entry: InstrSeqId,

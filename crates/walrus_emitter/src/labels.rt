@@ -11,12 +11,11 @@ use walrus_ir::{BrTable, InstrSeqId};
 use wasm_body::EmitError;
 use wasm_encode::OutTable;
 
-/// The depths of the open sequences at these places are put into the list, in place of what is
-/// there.
+/// Replaces the contents of the list with the depths of the open sequences in these slots.
 ///
 /// # Errors
 ///
-/// That of the first place that has no depth, or `Memory`.
+/// That of the first slot that has no depth, or `Memory`.
 fn list_depths(
     places: &[InstrSeqId],
     scopes: &Scopes,
@@ -42,11 +41,11 @@ fn list_depths(
     Ok(())
 }
 
-/// The labels of a `br_table`, which are put into the list, in place of what is there.
+/// The labels of a `br_table`. They replace the contents of the list.
 ///
 /// # Errors
 ///
-/// `TooLarge` where their number doesn't fit 32 bits, that of the first place that has no depth, or
+/// `TooLarge` if their number doesn't fit 32 bits, that of the first slot that has no depth, or
 /// `Memory`.
 #[inline(never)]
 pub(crate) fn branch_table<'t>(

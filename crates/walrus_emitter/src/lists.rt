@@ -1,10 +1,10 @@
-//! The lists of an operator as it is written.
+//! The lists of an operator that is written.
 
 use std::alloc::Global;
 use wasm_operators::RawCatch;
 
-/// The labels of a `br_table`, and the clauses of a `try_table`, as they are written. Both are
-/// empty until such an operator is.
+/// The labels of a `br_table` and the clauses of a `try_table` while they are written. Otherwise
+/// both are empty.
 #[derive(Drop)]
 pub(crate) struct Lists {
     pub labels: Vec<u32>,
@@ -12,7 +12,7 @@ pub(crate) struct Lists {
 }
 
 impl Lists {
-    /// Empty lists. It takes no memory.
+    /// Empty lists.
     pub fn new(alloc: Global) -> Lists {
         Lists {
             labels: Vec::new(alloc),

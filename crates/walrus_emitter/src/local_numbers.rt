@@ -1,4 +1,4 @@
-//! The numbers of a function's locals, and the declarations of those that are no arguments.
+//! The numbers of a function's locals, and the declarations of those that aren't arguments.
 ghost use Rattle.std.specs.Prelude.{◌≡◌, ◌⊎◌, ◌≤◌, ◌+◌, ◌^◌, ◌==◌, ℕ, [], true, nat_lt, is_some, length, IfOk, IfErr, OnOk, Ok, Err};
 ghost use Rattle.std.specs.HashSet.{contains};
 ghost use Rattle.std.specs.List.{list_all};
@@ -21,10 +21,10 @@ use walrus_maps::IdsToIndices;
 use wasm_body::EmitError;
 use wasm_operators::RawValType;
 
-/// How many numbers there are in 32 bits.
+/// How many numbers of 32 bits there are.
 const NUMBERS: usize = 1 << 32;
 
-/// The number of this place, or the greatest number where it doesn't fit 32 bits.
+/// The number of this position, or the greatest number if the position doesn't fit 32 bits.
 fn cut_number(place: usize) -> u32
     ensures { result ≡ cut place }
 {
@@ -35,8 +35,8 @@ fn cut_number(place: usize) -> u32
     }
 }
 
-/// The number of each argument: its last place. Where that doesn't fit 32 bits it is cut, so that
-/// the map still tells arguments from other locals.
+/// The number of each argument: its last position. A position that doesn't fit 32 bits is cut, so
+/// that the map still has all arguments.
 fn number_arguments(alloc: Global, args: &[LocalId]) -> Result<IdHashMap<LocalId, u32>, AllocError>
     ensures { IfOk result (λ numbers. (id : ℕ)
         → number_in numbers.entries id ≡ option_map cut (last_place args.now id)) }
@@ -48,7 +48,7 @@ fn number_arguments(alloc: Global, args: &[LocalId]) -> Result<IdHashMap<LocalId
     Ok(numbers)
 }
 
-/// Those of the used locals that have no number, each with its type, in any order.
+/// The used locals that have no number, each with its type, in any order.
 fn used_others(
     alloc: Global,
     locals: &ModuleLocals,
@@ -94,14 +94,14 @@ fn declared_locals(
         Ok(others) => others,
         Err(fault) => return Err(fault),
     };
-    // By these laws the order of the pairs is that of the types, then of the ids.
+    // By these laws pairs are ordered by their types, and then by their ids.
     law_type_order();
     law_ids::<kind::Local>();
     others.sort_unstable();
     Ok(others)
 }
 
-/// Numbers the other locals, in order, behind the arguments.
+/// Numbers the other locals, in order, after the arguments.
 fn number_others(
     numbers: &mut IdHashMap<LocalId, u32>,
     args: &[LocalId],
@@ -125,7 +125,7 @@ fn are_same(a: &ValType, b: &ValType) -> bool
     a == b
 }
 
-/// How many locals from the first on are of a type.
+/// How many of the first locals have this type.
 fn leading(ty: &ValType, locals: &[(ValType, LocalId)]) -> usize
     ensures count { result ≡ leading ty.now (types_of locals.now) }
     ensures within { result ≤ length locals.now }
@@ -138,7 +138,7 @@ fn leading(ty: &ValType, locals: &[(ValType, LocalId)]) -> usize
     locals.len()
 }
 
-/// How often each type stands in a row.
+/// The runs of equal types, each with its length.
 fn runs(alloc: Global, locals: &[(ValType, LocalId)]) -> Result<Vec<(usize, ValType)>, AllocError>
     ensures { IfOk result (λ found. found.items ≡ runs (types_of locals.now)) }
 {
@@ -159,7 +159,7 @@ fn counts_fit(runs: &[(usize, ValType)]) -> bool
     runs.iter().all(|(count, _ty)| *count < NUMBERS)
 }
 
-/// Each run with the numbers of the types that it names.
+/// Each run, with numbers for the ids of its type.
 fn written_runs(
     alloc: Global,
     numbers: &NumberMaps<'_>,
@@ -186,12 +186,12 @@ fn written_runs(
     Ok(made)
 }
 
-/// The declarations of runs.
+/// The declarations of these runs.
 ///
 /// # Errors
 ///
-/// `TooLarge` where the number of runs or a count doesn't fit 32 bits, that of the first number
-/// that is missing, or `Memory`.
+/// `TooLarge` if the number of runs or a count doesn't fit 32 bits, that of the first missing
+/// number, or `Memory`.
 fn declarations(
     alloc: Global,
     numbers: &NumberMaps<'_>,
@@ -208,8 +208,8 @@ fn declarations(
     written_runs(alloc, numbers, runs)
 }
 
-/// The declarations of the locals that are used and no arguments, and the number of each argument
-/// and of each of them.
+/// The declarations of the used locals that aren't arguments, and the numbers of these and of the
+/// arguments (WebAssembly core specification 3.0, binary format, code section).
 ///
 /// # Errors
 ///

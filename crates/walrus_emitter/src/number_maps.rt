@@ -3,7 +3,7 @@
 use walrus_ir::{IdHashMap, LocalId};
 use walrus_maps::IdsToIndices;
 
-/// Where the numbers of a function's ids are looked up.
+/// The numbers of a function's ids.
 #[derive(Clone, Copy)]
 pub struct NumberMaps<'a> {
     pub ids: &'a IdsToIndices,

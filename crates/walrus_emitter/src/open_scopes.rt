@@ -1,4 +1,4 @@
-//! The sequences that are to begin, and those that are open, while a tree is written.
+//! The sequences that are to come and those that are open, while a tree is written.
 ghost use Rattle.std.specs.Prelude.{◌≡◌, ◌<◌, ◌⊎◌, ◌∷◌, ◌++◌, [], List, length, drop, OnOk, OnErr, IfOk, IfErr, MatchOption};
 ghost use Rattle.wasm_body.specs.declared.error.EmitError.TheVariants as emit;
 ghost use Rattle.wasm_body.specs.Bytes.{in_32_bits};
@@ -15,17 +15,17 @@ use wasm_body::EmitError;
 #[derive(Clone, Copy)]
 struct Entered {
     scope: SequenceScope,
-    /// The level in the table before.
+    /// The level that the table had for its slot before.
     before: Option<usize>,
 }
 
-/// The sequences that are to begin, and those that are open, with a table that gives the level of
-/// each. A contract sees both lists, the next one and the innermost one first.
+/// The sequences that are to come and those that are open, with a table of the levels of the open
+/// ones. A contract sees both lists, with the next one and the innermost one first.
 #[derive(Drop)]
 pub(crate) struct Scopes {
-    /// Of each sequence of the builder, if it is open, how many open sequences stand around it.
+    /// For each sequence of the builder that is open, how many open sequences are around it.
     levels: Vec<Option<usize>>,
-    /// Those that are to begin, the next one last.
+    /// Those that are to come, the next one last.
     coming: Vec<SequenceScope>,
     /// Those that are open, the innermost last.
     entered: Vec<Entered>,
@@ -48,7 +48,8 @@ impl Model for Scopes {
     ghost invariant = { λ s. IsTable s.levels.items s.coming.items s.entered.items };
 }
 
-/// A depth, or a count of labels, as it is written.
+/// A depth or a number of labels, as it is written. The error is `TooLarge` if it doesn't fit 32
+/// bits.
 pub(crate) fn in_32_bits(number: usize) -> Result<u32, EmitError>
     ensures { result ≡ in_32_bits number }
 {
@@ -58,7 +59,7 @@ pub(crate) fn in_32_bits(number: usize) -> Result<u32, EmitError>
 impl Scopes {
     ghost use Rattle.walrus_emitter.specs.TreeWriting.ScopeTables.{depth_in};
 
-    /// Of this many sequences none is open, and none is to begin.
+    /// None of `count` sequences is open or to come.
     pub fn new(alloc: Global, count: usize) -> Result<Scopes, AllocError>
         ensures { IfOk result (λ s. s ≡ record { count = count; coming = []; open_scopes = [] }) }
     {
@@ -71,13 +72,12 @@ impl Scopes {
         })
     }
 
-    /// What is written for the number of sequences between the open sequence at this place and the
-    /// innermost one.
+    /// The depth of the open sequence in this slot: how many open sequences are inside of it.
     ///
     /// # Errors
     ///
-    /// `BranchOutside` where none is open there, and `TooLarge` where the number doesn't fit 32
-    /// bits.
+    /// `BranchOutside` if no open sequence is in this slot, and `TooLarge` if the depth doesn't fit
+    /// 32 bits.
     pub fn depth(&self, place: InstrSeqId) -> Result<u32, EmitError>
         ensures { result ≡ depth_in (places_of self.now.open_scopes) place }
     {
@@ -88,7 +88,7 @@ impl Scopes {
         in_32_bits(self.entered.len().saturating_sub(level).saturating_sub(1))
     }
 
-    /// A sequence of the builder is to begin, before the others.
+    /// Announces a sequence of the builder, before the others.
     pub fn announce(
         &mut self,
         place: InstrSeqId,
@@ -106,14 +106,14 @@ impl Scopes {
         Ok(())
     }
 
-    /// How many sequences are to begin.
+    /// How many sequences are to come.
     pub fn coming_count(&self) -> usize
         ensures { result ≡ length self.now.coming }
     {
         self.coming.len()
     }
 
-    /// Of those that are to begin only this many last ones are left.
+    /// Keeps only the last `count` of the sequences that are to come.
     pub fn keep_last(&mut self, count: usize)
         ensures { (more rest : List SequenceScope) → self.old.coming ≡ more ++ rest
             → length rest ≡ count → self.new ≡ record self.old { coming = rest } }
@@ -121,11 +121,11 @@ impl Scopes {
         self.coming.truncate(count);
     }
 
-    /// The next sequence begins.
+    /// Opens the next sequence.
     ///
     /// # Errors
     ///
-    /// `UnknownSequence` where none is to begin, and `Memory`. It then leaves all as it was.
+    /// `UnknownSequence` if none is to come, and `Memory`. Nothing is changed then.
     pub fn begin(&mut self) -> Result<(), EmitError>
         ensures ok { OnOk result (Begins self.old self.new) }
         ensures err { IfErr result (λ e. (e ≡ emit.Memory)

@@ -1,5 +1,5 @@
-//! The operators that instructions are written as: ids are looked up in the order in which their
-//! numbers are written.
+//! The operators of instructions. Ids are looked up in the order in which their numbers are
+//! written.
 ghost use Rattle.std.specs.Prelude.{◌≡◌, ◌<◌, ℕ, List, true, IfOk};
 ghost use Rattle.walrus_ir.specs.Results.{Gives};
 ghost use Rattle.wasm_operators.specs.Meaning.{meaning};
@@ -23,14 +23,14 @@ use wasm_body::EmitError;
 use wasm_encode::OutOp;
 use wasm_operators::{AtomicKind, RawMemArg, index_rows};
 
-/// The exponent of the greatest power of two that is at most the alignment; 0 where there is none.
+/// The exponent of the greatest power of two that is at most the alignment; 0 if there is none.
 fn exponent_of(align: u32) -> u32
     ensures { (result ≡ exponent_of align) × (result < 32) }
 {
     align.checked_ilog2().unwrap_or(0)
 }
 
-/// An access to the memory with this number, with its alignment as an exponent.
+/// A memory argument for the memory with this number, with the alignment as an exponent.
 pub(crate) fn memory_argument(arg: MemArg, memory: u32) -> RawMemArg
     ensures { (result.exponent ≡ exponent_of arg.align) × (result.exponent < 32)
         × (result.memory ≡ memory) × (result.offset ≡ arg.offset) }
@@ -115,8 +115,7 @@ macro_rules! operator_row {
 }
 
 /// The operator of an instruction whose first sequence, if it has one, has this type. The labels of
-/// a `br_table`, and the clauses of a `try_table`, are put into their list, in place of what is
-/// there.
+/// a `br_table` and the clauses of a `try_table` replace the contents of their list.
 pub(crate) fn operator_of<'t>(
     instr: &Instr,
     ty: InstrSeqType,

@@ -1,4 +1,4 @@
-//! Operators on references, structs and arrays, as they are written: ids are looked up in the order
+//! The operators of instructions on references, structs and arrays. Ids are looked up in the order
 //! in which their numbers are written.
 ghost use Rattle.std.specs.Prelude.{◌≡◌, true, IfOk};
 ghost use Rattle.walrus_ir.specs.Results.{Gives};

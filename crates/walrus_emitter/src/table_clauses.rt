@@ -16,7 +16,7 @@ use wasm_body::EmitError;
 use wasm_encode::OutClauses;
 use wasm_operators::RawCatch;
 
-/// Whether a clause hands on a reference to the exception, its tag, and where it goes.
+/// Whether a clause passes a reference to the exception, its tag, and the sequence of its label.
 fn parts(clause: TryTableCatch) -> (bool, Option<TagId>, InstrSeqId)
     ensures { table_clause clause ≡ clause_of result }
 {
@@ -28,7 +28,7 @@ fn parts(clause: TryTableCatch) -> (bool, Option<TagId>, InstrSeqId)
     }
 }
 
-/// The number of a clause's tag, where it has one.
+/// The number of a clause's tag, if it has one.
 fn number_of_tag(tag: Option<TagId>, numbers: &NumberMaps<'_>) -> Result<Option<u32>, EmitError>
     ensures { result ≡ translate_tag (numbers_in_32_bits (numbers_of numbers.now)).number_of tag }
 {
@@ -65,11 +65,11 @@ fn number_clause(
     }
 }
 
-/// The clauses with their numbers are put into the list, in place of what is there.
+/// Replaces the contents of the list with the clauses, with their numbers.
 ///
 /// # Errors
 ///
-/// That of the first number that is missing, or `Memory`.
+/// That of the first missing number, or `Memory`.
 fn list_clauses(
     catches: &[TryTableCatch],
     scopes: &Scopes,
@@ -98,13 +98,12 @@ fn list_clauses(
     Ok(())
 }
 
-/// The clauses of a `try_table`, which are put into the list, in place of what is there. Their
-/// labels count from outside it.
+/// The clauses of a `try_table`. They replace the contents of the list. Their labels count from
+/// outside the `try_table`.
 ///
 /// # Errors
 ///
-/// `TooLarge` where how many there are doesn't fit 32 bits, that of the first number that is
-/// missing, or `Memory`.
+/// `TooLarge` if their number doesn't fit 32 bits, that of the first missing number, or `Memory`.
 pub(crate) fn table_clauses<'t>(
     construct: &TryTable,
     scopes: &Scopes,

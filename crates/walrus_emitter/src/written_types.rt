@@ -1,4 +1,4 @@
-//! The types that a tree names, with the numbers that are written for them.
+//! The types in a tree, with the numbers that are written for them.
 ghost use Rattle.std.specs.Prelude.{◌≡◌};
 ghost use Rattle.wasm_body.specs.Bytes.{numbered_block, numbers_in_32_bits};
 ghost use Rattle.wasm_body.specs.Translation.{translate_heap, translate_value};
@@ -9,7 +9,7 @@ use walrus_ir::{HeapType, InstrSeqType, RefType, ValType};
 use wasm_body::EmitError;
 use wasm_operators::{BlockType, RawHeapType, RawValType};
 
-/// A heap type with the number of the type that it names, if it names one.
+/// A heap type with the number of its type, if it is one of the module.
 pub(crate) fn heap_type(numbers: &NumberMaps<'_>, ty: HeapType) -> Result<RawHeapType, EmitError>
     ensures { result
         ≡ translate_heap (numbers_in_32_bits (numbers_of numbers.now)).number_of ty }
@@ -20,7 +20,7 @@ pub(crate) fn heap_type(numbers: &NumberMaps<'_>, ty: HeapType) -> Result<RawHea
     }
 }
 
-/// A value type with the numbers of the types that it names.
+/// A value type with the numbers of its types.
 pub(crate) fn value_type(numbers: &NumberMaps<'_>, ty: ValType) -> Result<RawValType, EmitError>
     ensures { result
         ≡ translate_value (numbers_in_32_bits (numbers_of numbers.now)).number_of ty }

@@ -1,4 +1,4 @@
--- Behind the events of a tree its text is written.
+-- After the events of a tree, its text is written.
 use Rattle.std.specs.Prelude.{◌≡◌, ℕ, ◌+◌, length, List, [], ◌∷◌, ◌++◌, map, slice_get, Some, Bool, true, false, if◌then◌else◌, Result, Ok, Err}
 use Rattle.std.proofs.Common.{refl, sym, ap, subst, ◌∙◌, append_assoc, add-zero, arith}
 use Rattle.std.proofs.lemmas.List.{append-nil, length-append}
@@ -28,17 +28,17 @@ use Rattle.walrus_emitter.specs.Emission.{Scope, closers_in, scopes_at, first_ty
 abbrev Written : Type 0
 Written = Result (Located RawOperation) EmitError
 
--- ---- an emitter whose output is another one
+-- ---- an emitter with another output
 
 abbrev with_output : Emitter → Output → Emitter
 with_output s o = record s { output = o }
 
--- what these answers, written behind an output, make of it; then it goes on
+-- the output with these operators written after it, if they can be written; then it goes on
 abbrev outputs : Emitter → List Written → (Output → Result Emitter EmitError) → Output → Result Emitter EmitError
 outputs s [] go o = go o
 outputs s (r ∷ rs) go o = r >>= λ x. outputs s rs go (output_behind s.has_map s.base o x)
 
--- wherever the output stands, these events make of the emitter what `go` makes of the output
+-- whatever the output is, these events turn the emitter into what `go` turns the output into
 abbrev Tells : Emitter → List WalkEvent → (Output → Result Emitter EmitError) → Type 0
 Tells s es go = (o : Output) → emitter_behind_all (with_output s o) es ≡ go o
 
@@ -64,7 +64,7 @@ type_found : {b : List InstrSeq} {ps : List ℕ} {ss : Sequences SequenceAt Loca
 type_found around are_no_sequences = refl
 type_found around (are_sequences {seq = seq} e s t) = ap (λ r. some_or r UnknownSequence >>= λ q. Ok q.ty) e
 
--- each sequence has its closer
+-- each sequence has a closer
 abbrev AreClosed : Sequences SequenceAt LocatedInstr → List TextOperation → Type 0
 AreClosed no_sequences cs = Unit {0}
 AreClosed (sequence h is r) [] = ⊥
@@ -73,7 +73,7 @@ AreClosed (sequence h is r) (c ∷ cs) = AreClosed r cs
 none_inside : {b : List InstrSeq} {ss : Sequences SequenceAt LocatedInstr} → AreSequences b [] ss → ss ≡ no_sequences
 none_inside are_no_sequences = refl
 
--- ---- what an instruction names writes nothing
+-- ---- the names in an instruction write nothing
 
 names_passed : (s : Emitter) (i : Instr) (es : List WalkEvent) → emitter_behind_all s (names i ++ es) ≡ emitter_behind_all s es
 names_passed s (instr.RefFunc x) es = refl
@@ -86,9 +86,9 @@ names_passed s (instr.ArrayNewData x) es = refl
 names_passed s (instr.ArrayInitData x) es = refl
 names_passed s _ es = refl
 
--- ---- each sequence in an instruction has its closer
+-- ---- each sequence in an instruction has a closer
 
--- a lawful `try` has a closer for its body and one for each handler
+-- a `try` with lawful clauses has a closer for its body and one for each handler
 try_closed : {b : List InstrSeq} {ss : Sequences SequenceAt LocatedInstr} (xs : List LegacyCatch) → AreSequences b (handlers xs) ss → are_handlers (map legacy_clause xs) ≡ true
     → (h : SequenceAt) (is : Items SequenceAt LocatedInstr) → AreClosed (sequence h is ss) (try_closers (map legacy_clause xs))
 try_closed [] are_no_sequences l h is = tt
@@ -105,7 +105,7 @@ all_closed (CatchAll p ∷ xs) s l h is = try_closed (CatchAll p ∷ xs) s l h i
 all_closed (Delegate n ∷ []) are_no_sequences l h is = tt
 all_closed (Delegate n ∷ x ∷ xs) s l h is = absurd (cc)
 
--- the closers of the text are these, where there is a sequence
+-- the closers of the text are these, if there are sequences
 record IsClosed (around : List ℕ) (i : Instr) (ss : Sequences SequenceAt LocatedInstr) : Type 0 where
   pub same : (w : Writing ℕ BlockType) (k : List Written) → texts w (closers (role_of (operation_of i).opcode) (clauses_of_try i) (sequences_in around ss)) (sequences_in around ss) k ≡ texts w (closers_in i) (sequences_in around ss) k
   pub closed : AreClosed ss (closers_in i)
@@ -115,7 +115,7 @@ record IsClosed (around : List ℕ) (i : Instr) (ss : Sequences SequenceAt Locat
 abbrev writing : Emitter → Writing ℕ BlockType
 writing s = then_by (numbering s.numbers)
 
--- with these scopes to begin before those that were
+-- with these scopes to come before the others
 abbrev with_coming : Emitter → List Scope → Emitter
 with_coming s scopes = record s { coming = scopes ++ s.coming }
 
@@ -130,7 +130,7 @@ is_closed around (instr.Try x) (are_sequences {seq = seq} {items = js} e i s) l 
 }
 is_closed around i s l = subst (IsClosed around i) (sym (none_inside s)) (record { same = λ w k. refl; closed = tt })
 
--- ---- one operator, and what follows it
+-- ---- one operator, and what comes after it
 
 -- an instruction's own operator, if it has one
 told : (r : Written) (sc : Result (List Scope) EmitError) (u : Located RawOperation → List Scope → Emitter) (rest : Emitter → Result Emitter EmitError) (go : Located RawOperation → Result Emitter EmitError)
@@ -150,7 +150,7 @@ lawful_of : (l : Bool) (r : Written) (x : Located RawOperation) → (if l then r
 lawful_of true r x e = refl
 lawful_of false r x e = absurd (cc)
 
--- with a scope open, and these to begin
+-- with one scope open, and these to come
 abbrev within : Emitter → Scope → List Scope → Emitter
 within s c cs = record s { coming = cs ++ s.coming; open_scopes = c ∷ s.open_scopes }
 
@@ -191,13 +191,13 @@ mutual
       (λ x. sequences_told s cs es k go q t closed h (output_behind s.has_map s.base n x)))
       o
 
--- ---- what is written of a tree
+-- ---- the output of a tree
 
--- nothing is to begin or open any more
+-- no scope is open or to come any more
 abbrev pub last_emitter : List InstrSeq → Numbers → ℕ → Bool → Output → Emitter
 last_emitter b to base m o = record { sequences = b; numbers = to; coming = []; open_scopes = []; base = base; has_map = m; output = o }
 
--- operators behind an output
+-- an output with operators after it
 abbrev output_behind_all : Bool → ℕ → Output → List (Located RawOperation) → Output
 output_behind_all has_map base o [] = o
 output_behind_all has_map base o (x ∷ xs) = output_behind_all has_map base (output_behind has_map base o x) xs
@@ -235,7 +235,7 @@ written_as : (m : Bool) (base : ℕ) (xs : List (Located RawOperation)) → outp
 written_as true base xs = λ i. record { bytes = bytes_behind true base nothing xs i; pairs = (pairs_with_map base nothing xs ∙ ap (λ n. pairs_from n xs) (add-zero base)) i }
 written_as false base xs = λ i. record { bytes = bytes_behind false base nothing xs i; pairs = pairs_without base nothing xs i }
 
--- the head of the tree in a slot is the sequence there
+-- the head of the tree in a slot is that slot's sequence
 record IsHead (b : List InstrSeq) (start : ℕ) (h : SequenceAt) : Type 0 where
   pub place : h.slot ≡ start
   pub stands : slice_get b start ≡ Some h.seq
@@ -243,7 +243,7 @@ record IsHead (b : List InstrSeq) (start : ℕ) (h : SequenceAt) : Type 0 where
 head_found : {b : List InstrSeq} {start : ℕ} (h : SequenceAt) (is : Items SequenceAt LocatedInstr) → AreSequences b (start ∷ []) (sequence h is no_sequences) → IsHead b start h
 head_found h is (are_sequences e i t) = record { place = refl; stands = e }
 
--- Behind the events of the tree in a slot the emitter has written its text, or it stopped at the text's first fault.
+-- After the events of the tree in a slot, the emitter has written its text or stopped at the text's first fault.
 pub tree_told : {b : List InstrSeq} {start : ℕ} (to : Numbers) (base : ℕ) (m : Bool) (seq : InstrSeq) (t : Tree SequenceAt LocatedInstr) →
     slice_get b start ≡ Some seq → AreSequences b (start ∷ []) (alone t) →
     emitter_behind_all (first_emitter b to base m (scope start end_operation seq.end)) (events t)

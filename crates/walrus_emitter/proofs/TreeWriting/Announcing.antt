@@ -26,7 +26,7 @@ use Rattle.walrus_emitter.specs.TreeWriting.Announcing.{Announces, IsUnannounced
 
 -- ---- one sequence before others
 
--- what a lookup is followed by
+-- what follows a lookup
 abbrev looked_up : ℕ → TextOperation → Option InstrSeq → Result (List Scope) EmitError → Result (List Scope) EmitError
 looked_up p c o t =
     (some_or o UnknownSequence >>= λ seq. Ok (record { slot = p; closer = Some (at_location c seq.end) })) >>= λ s. t >>= λ ss. Ok (s ∷ ss)
@@ -62,7 +62,7 @@ one_announced b p c seq s t stands h = record {
   are_first = h;
 }
 
--- ---- a sequence that isn't known
+-- ---- a sequence that doesn't exist
 
 one_missing : (r : Result Scope EmitError) (t : Result (List Scope) EmitError) (e : EmitError)
     → (r >>= λ s. Ok (s ∷ [])) ≡ Err e → (r >>= λ s. t >>= λ ss. Ok (s ∷ ss)) ≡ Err e
@@ -98,7 +98,7 @@ later_missing b p c ps cs e h =
 
 -- ---- the clauses of a legacy `try`
 
--- what closes the sequence before these clauses, and what closes their handlers
+-- the operator that closes the sequence before these clauses, and those that close their handlers
 abbrev first_closer : List LegacyClause → TextOperation
 first_closer [] = end_operation
 first_closer (c ∷ cs) = opening_clause c
@@ -115,7 +115,7 @@ closers_split (handles t ∷ cs) = refl
 closers_split (handles_all ∷ cs) = refl
 closers_split (delegates n ∷ cs) = refl
 
--- the handlers behind these clauses are announced, and this closes the one before them
+-- the handlers after the remaining clauses are announced, and this closes the sequence before them
 pub record Remaining (b : List InstrSeq) (all left : List LegacyCatch) (old new : ScopeLists) (closer : Closer) : Type 0 where
   pub done : List LegacyCatch
   pub splits : all ≡ left ++ done
@@ -138,7 +138,7 @@ delegate_alone (CatchAll p ∷ x ∷ before) after n h = absurd (cc)
 delegate_alone (Delegate m ∷ []) after n h = absurd (cc)
 delegate_alone (Delegate m ∷ x ∷ before) after n h = absurd (cc)
 
--- the closers of the handlers from a clause with a handler on
+-- the closers of the handlers, starting at a clause with a handler
 closers_from : (c : TextOperation) (done : List LegacyCatch) → c ≡ first_closer (map legacy_clause done)
     → c ∷ later_closers (map legacy_clause done) ≡ try_closers (map legacy_clause done)
 closers_from c done h =
@@ -186,7 +186,7 @@ remains b all left before x s t u closer next lawful split r a opens =
       next = opens;
     }
 
--- ---- a handler that isn't known
+-- ---- a handler that doesn't exist
 
 none_empty : (b : List InstrSeq) (before done : List LegacyCatch) (cs : List TextOperation) (e : EmitError)
     → is_empty (map legacy_clause (before ++ done)) ≡ true → scopes_at b (handlers done) cs ≡ Err e → ⊥
@@ -225,7 +225,7 @@ handler_missing b (CatchAll p) done c e h k =
     sym (ap (scopes_at b (p ∷ handlers done)) (closers_from c done h)) ∙ one_missing (scope_at b p c) _ e k
 handler_missing b (Delegate n) done c e h k = absurd (cc)
 
--- the whole `try`, by what is known of its handlers
+-- why the sequences of the `try` aren't announced, if one of its handlers isn't
 pub try_missing : (b : List InstrSeq) (seq : ℕ) (all left before : List LegacyCatch) (x : LegacyCatch) (s t : ScopeLists) (closer : Closer)
     (e : EmitError) → are_lawful (map legacy_clause all) ≡ true → left ≡ before ++ x ∷ [] → Remaining b all left s t closer
     → IsUnannounced b (handler_of x) (closing closer ∷ []) e → IsUnannounced b (seq ∷ handlers all) (try_closers (map legacy_clause all)) e
@@ -243,7 +243,7 @@ try_missing b seq all left before x s t closer e lawful split r (inr h) =
     inr (ap (scopes_at b (seq ∷ handlers all)) (closers_split (map legacy_clause all))
     ∙ later_missing b seq (first_closer (map legacy_clause all)) (handlers all) (later_closers (map legacy_clause all)) e whole)
 
--- no clause is left
+-- no clause remains
 pub try_announced : (b : List InstrSeq) (seq : ℕ) (all left : List LegacyCatch) (s t u : ScopeLists) (closer : Closer)
     → left ≡ [] → Remaining b all left s t closer → Announces b (seq ∷ []) (closing closer ∷ []) t u
     → Announces b (seq ∷ handlers all) (try_closers (map legacy_clause all)) s u
@@ -253,7 +253,7 @@ try_announced b seq all left s t u closer none r a =
     (subst (λ cs. Announces b (seq ∷ handlers q.done) cs s u) (closers_from (closing closer) q.done q.next)
     (announces_before b seq (closing closer) (handlers q.done) (later_closers (map legacy_clause q.done)) s t u q.announced a))
 
--- ---- what a call answers
+-- ---- the result of a call
 
 pub alternatives_announced : (b : List InstrSeq) (i : Instr) (x : IfElse) (s t u : ScopeLists) (r : Result (Unit {0}) EmitError)
     → i ≡ instr.IfElse x → Announces b (x.alternative ∷ []) (end_operation ∷ []) s t

@@ -1,4 +1,4 @@
--- The exponent of an alignment, by its bounds.
+-- The exponent of an alignment, by bounds.
 use Rattle.std.specs.Prelude.{◌≡◌, ℕ, zero, suc, ◌*◌, ◌/◌, ◌^◌, ◌<◌, ◌≤◌, if◌then◌else◌, Option, None, Some, IfNone, IfSome, unwrap_or}
 use Rattle.std.proofs.Common.{ap, sym, ◌∙◌, arith}
 use Rattle.std.proofs.Math.Nat.{pow-suc}
@@ -20,7 +20,7 @@ halved (suc f) n (suc e) fuel low high =
 pub exponent_is : (n e : ℕ) → 2 ^ e ≤ n → n < 2 * 2 ^ e → exponent_of n ≡ e
 exponent_is n e low high = halved n n e (omega arith) low high
 
--- by the answer of a logarithm that is none at 0
+-- from a logarithm, which is none at 0
 pub exponent_from : (o : Option ℕ) (n : ℕ) → IfNone o (n ≡ 0) → IfSome o (λ e. 2 ^ e ≤ n) → IfSome o (λ e. n < 2 * 2 ^ e) → IfSome o (λ e. e < 32)
     → (unwrap_or o 0 ≡ exponent_of n) × (unwrap_or o 0 < 32)
 exponent_from None n none low high below = (sym (ap exponent_of none), omega arith)

@@ -1,4 +1,4 @@
--- The operator that an instruction is written as, from its parts: the labels of a `br_table`, and the clauses of a `try_table`.
+-- The operator of an instruction, from its parts: the labels of a `br_table`, and the clauses of a `try_table`.
 use Rattle.std.specs.Prelude.{◌≡◌, ℕ, List, [], ◌∷◌, length, map, Result, Ok, Err}
 use Rattle.std.proofs.Common.{refl, sym, ap, ◌∙◌}
 use Rattle.std.proofs.lemmas.List.{length-map}
@@ -27,7 +27,7 @@ use Rattle.walrus_emitter.specs.TreeWriting.ScopeTables.{depth_in}
 
 -- ---- any operator
 
--- from places of sequences to depths, and from ids to numbers
+-- from slots of sequences to depths, and from ids to numbers
 abbrev from_places : Numbers → List ℕ → InstrSeqType → Translation ℕ (Unit {0}) ℕ BlockType EmitError
 from_places to around type = record {
   index = (numbers_in_32_bits to).number_of;
@@ -79,7 +79,7 @@ module _ (to : Numbers) (around : List ℕ) (type : InstrSeqType) where
 
 -- ---- the labels of a `br_table`
 
--- the operator of labels that were looked up
+-- the operator with these labels, if they were found
 abbrev pub table_operator : Result Table EmitError → Result RawOperation EmitError
 table_operator r = r >>= λ t. Ok (operation (Byte 0x0e) (branch_table t.0 t.1 ∷ []))
 
@@ -111,7 +111,7 @@ each_behind : {A B C E : Type 0} → (f : A → B) (g : B → Result C E) (xs : 
 each_behind f g [] = refl
 each_behind f g (x ∷ xs) = ap (λ r. g (f x) >>= λ y. r >>= λ ys. Ok (y ∷ ys)) (each_behind f g xs)
 
--- the operator of a block type and of clauses that were looked up
+-- the operator with this block type and these clauses, if they were found
 abbrev pub try_operator : Result BlockType EmitError → Result (List (CatchClause ℕ)) EmitError → Result RawOperation EmitError
 try_operator type cs = type >>= λ b. cs >>= λ ds. Ok (operation (Byte 0x1f) (block b ∷ clauses ds ∷ []))
 

@@ -1,4 +1,4 @@
--- The table of the open sequences: their levels, and the target that a place is by its level.
+-- The table of the open sequences: their levels, and the target of a slot according to its level.
 use Rattle.std.specs.Prelude.{◌≡◌, ℕ, suc, ◌-◌, ◌<◌, ◌==◌, List, [], ◌∷◌, ◌++◌, length, map, reverse, take, drop, slice_get, true, false, Option, None, Some, if◌then◌else◌, slice_index_or, unwrap_or, Err}
 use Rattle.std.specs.Option.{option_flatten}
 use Rattle.std.proofs.Common.{refl, ap, sym, subst, ◌∙◌, arith}
@@ -16,7 +16,7 @@ use Rattle.walrus_emitter.specs.TreeWriting.Closers.{places_of}
 use Rattle.walrus_emitter.specs.TreeWriting.ScopeLists.{ScopeLists, Begins}
 use Rattle.walrus_emitter.specs.TreeWriting.ScopeTables.{level_in, opened_in, AreKnown, IsTable, depth_in}
 
--- ---- the target that a place is, by its level among so many open sequences
+-- ---- the target of a slot, from its level and the number of open sequences
 
 abbrev pub target_at : ℕ → Option ℕ → Target
 target_at n None = Outside
@@ -64,7 +64,7 @@ opened_length es =
     places_length (opened_in es) ∙ length-reverse (map (λ (e : Entered). e.scope) es)
     ∙ length-map es (λ (e : Entered). e.scope)
 
--- ---- the depth of a place
+-- ---- the depth of a slot
 
 pub flattened : (o : Option (Option ℕ)) → option_flatten o ≡ unwrap_or o None
 flattened None = refl

@@ -1,4 +1,4 @@
--- What an emitter makes of an instruction without sequences.
+-- An emitter after an instruction without sequences.
 use Rattle.std.specs.Prelude.{◌≡◌, ◌++◌, ℕ, List, [], Bool, true, None, if◌then◌else◌, Result, Ok, Err, OnOk}
 use Rattle.std.proofs.Common.{refl, sym, ap, ◌∙◌}
 use Rattle.std.proofs.lemmas.List.{map-append}
@@ -64,7 +64,7 @@ module _ (s : Emitter) (i : Instr) (l : ℕ) where
       → Begins s i l (Ok (with_operator (record s { coming = scopes ++ s.coming }) (at_location o l)))
   sequences_begin type o scopes t lawful op sc = operator_begins type o t lawful op ∙ ap (with_these s (at_location o l)) sc
 
--- what the code keeps then
+-- the state of the code after that
 pub kept_begins : (b : List InstrSeq) (to : Numbers) (old new : ScopeLists) (draft drafted : Drafted) (more : List SequenceScope)
     (o : RawOperation) (l : ℕ) → new ≡ with_more old more → drafted ≡ behind draft (at_location o l)
     → with_operator (record (emitter_at b to old draft) { coming = scopes_of more ++ scopes_of old.coming }) (at_location o l)
@@ -89,7 +89,7 @@ plain_type b i e = ap (first_type_at b) e
 pub plain_scopes : (b : List InstrSeq) (i : Instr) → slots_in i ≡ [] → scopes_at b (slots_in i) (closers_in i) ≡ Ok []
 plain_scopes b i e = ap (λ ps. scopes_at b ps (closers_in i)) e
 
--- ---- what the code makes of it
+-- ---- the emitter that the code makes
 
 pub plain_visited : (b : List InstrSeq) (to : Numbers) (scopes : ScopeLists) (draft drafted : Drafted) (i : Instr) (l : ℕ) (op : Listed)
     → slots_in i ≡ [] → IsOperatorOf to (places_of scopes.open_scopes) (Simple None) i (Ok op)
@@ -100,7 +100,7 @@ plain_visited b to scopes draft drafted i l op e h k =
     (plain_scopes b i e)
     ∙ ap (λ (s : Emitter). Ok s) (kept_begins b to scopes scopes draft drafted [] (meaning op) l refl k)
 
--- where it is written
+-- if it is written
 pub on_ok : {P Q : Type 0} (r : Result (Unit {0}) EmitError) → (P → Q) → OnOk r P → OnOk r Q
 on_ok (Ok x) f h = f h
 on_ok (Err e) f h = tt

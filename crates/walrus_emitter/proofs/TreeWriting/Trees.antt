@@ -1,4 +1,4 @@
--- What a walk makes of the visitor, and what is then written.
+-- The visitor after a walk, and what it has written.
 use Rattle.std.specs.Prelude.{◌≡◌, ◌≤◌, ◌<◌, ◌⊎◌, ◌↔◌, ◌++◌, ℕ, zero, suc, List, [], ◌∷◌, length, Bool, true, false, IsTrue, Some, None, slice_get, Result, Ok, Err}
 use Rattle.std.proofs.Common.{refl, sym, ap, subst, ◌∙◌, inl, inr, arith}
 use Rattle.walrus_ir.specs.declared.seq.InstrSeq.{InstrSeq}
@@ -28,7 +28,7 @@ use Rattle.walrus_emitter.specs.TreeWriting.Trees.{IsDraftOf, IsFirstScope, Appe
 use Rattle.walrus_emitter.specs.TreeWriting.Visiting.{emitter_of, Steps, Refuses, Same}
 use Rattle.walrus_emitter.proofs.Emission.Texts.{last_emitter, tree_told}
 
--- ---- the visitor behind events is the emitter behind them
+-- ---- the visitor after some events is the emitter after them
 
 folded : {v w : EmitVisitor} {es : List WalkEvent} → Folds Steps v es w → emitter_behind_all (emitter_of v) es ≡ Ok (emitter_of w)
 folded through = refl
@@ -54,7 +54,7 @@ stopped (later {v = v} {w = w} {e = e} {es = es} {f = f} step rest) =
 
 -- ---- the visitor at first
 
--- nothing is written under these numbers, and the sequence at the entry is to begin
+-- nothing is written yet under these numbers, and only the sequence at the entry is to come
 pub record IsFirst (b : List InstrSeq) (entry : ℕ) (to : Numbers) (base : ℕ) (m : Bool) (v : EmitVisitor) : Type 0 where
   pub seq : InstrSeq
   pub stands : slice_get b entry ≡ Some seq
@@ -145,11 +145,11 @@ none_there b n has known lacks =
     let past : n < length b → ⊥ = λ h. let does : has ≡ true = known.1 h in absurd (cc (does, lacks)) in
     none_past b n (omega (arith, past))
 
--- the sequence at the entry isn't known
+-- the sequence at the entry doesn't exist
 pub entry_missing : (b : List InstrSeq) (entry : ℕ) (to : Numbers) → slice_get b entry ≡ None → IsUnwritten b entry to UnknownSequence
 entry_missing b entry to h = inr (inl (walk.UnknownSequence, unknown begun h, refl))
 
--- ---- what is handed over
+-- ---- what is passed on
 
 pub appends : (b : List InstrSeq) (entry : ℕ) (to : Numbers) (base : ℕ) (draft : Drafted) (old_bytes new_bytes : List ℕ) (old_pairs new_pairs : List Pair)
     → base ≡ length old_bytes → IsDraftOf b entry to base true draft → new_bytes ≡ old_bytes ++ draft.output.bytes

@@ -1,4 +1,4 @@
--- The sequences in an instruction are to begin.
+-- Announcing the sequences in an instruction: they are to come next.
 use Rattle.std.specs.Prelude.{◌≡◌, ◌⊎◌, ℕ, List, Ok, Err}
 use Rattle.walrus_ir.specs.declared.seq.InstrSeq.{InstrSeq}
 use Rattle.wasm_body.specs.declared.error.EmitError.{EmitError}
@@ -9,18 +9,18 @@ use Rattle.walrus_emitter.specs.Emission.{scopes_at}
 use Rattle.walrus_emitter.specs.TreeWriting.Closers.{scopes_of}
 use Rattle.walrus_emitter.specs.TreeWriting.ScopeLists.{ScopeLists, with_more}
 
--- those in these slots, which these close, before the others
+-- the sequences in these slots, which have these closers, are to come before the others
 pub record Announces (b : List InstrSeq) (slots : List ℕ) (closers : List TextOperation)
     (old new : ScopeLists) : Type 0 where
   pub more : List SequenceScope
   pub are_these : scopes_at b slots closers ≡ Ok (scopes_of more)
   pub are_first : new ≡ with_more old more
 
--- memory ran out, or one of them isn't known
+-- memory ran out, or one of them doesn't exist
 abbrev pub IsUnannounced : List InstrSeq → List ℕ → List TextOperation → EmitError → Type 0
 IsUnannounced b slots closers e = (e ≡ Memory) ⊎ (scopes_at b slots closers ≡ Err e)
 
--- some may have been announced
+-- some of them may be announced
 pub record HasMore (old new : ScopeLists) : Type 0 where
   pub more : List SequenceScope
   pub are_first : new ≡ with_more old more

@@ -1,4 +1,4 @@
--- The sequences that the code keeps while a tree is written, as scopes of the emitter.
+-- The code's sequences as scopes of the emitter, while a tree is written.
 use Rattle.std.specs.Prelude.{ℕ, List, [], ◌∷◌, map, Option, option_map}
 use Rattle.wasm_operators.specs.declared.types.Space.TheVariants.{Tags}
 use Rattle.wasm_operators.specs.Operations.{index, operation}
@@ -11,7 +11,7 @@ use Rattle.walrus_emitter.specs.declared.closing.Closer.TheVariants as closer
 use Rattle.walrus_emitter.specs.declared.closing.SequenceScope.{SequenceScope}
 use Rattle.walrus_emitter.specs.Emission.{Scope, slots_of}
 
--- which operator it is
+-- the operator of a closer
 abbrev pub closing : Closer → TextOperation
 closing closer.End = end_operation
 closing closer.Else = else_operation
@@ -19,13 +19,13 @@ closing (closer.Catch tag) = operation catch_opcode (index Tags tag ∷ [])
 closing closer.CatchAll = catch_all_operation
 closing (closer.Delegate depth) = delegate_operation depth
 
--- which operator a clause of a legacy `try` begins with
+-- the operator with which a clause of a legacy `try` begins
 abbrev pub opening_clause : LegacyClause → TextOperation
 opening_clause (handles tag) = operation catch_opcode (index Tags tag ∷ [])
 opening_clause handles_all = catch_all_operation
 opening_clause (delegates depth) = delegate_operation depth
 
--- what closes a sequence, at its location
+-- the operator that closes a sequence, with its location
 abbrev pub closer_at : Option (Closer × ℕ) → Option (Located TextOperation)
 closer_at c = option_map (λ (x : Closer × ℕ). at_location (closing x.0) x.1) c
 
@@ -35,6 +35,6 @@ scope_of s = record { slot = s.place; closer = closer_at s.closer }
 abbrev pub scopes_of : List SequenceScope → List Scope
 scopes_of ss = map scope_of ss
 
--- the places of open sequences
+-- the slots of open sequences
 abbrev pub places_of : List SequenceScope → List ℕ
 places_of ss = slots_of (scopes_of ss)

@@ -1,15 +1,15 @@
--- What contracts see of bytes and location pairs that are written aside.
+-- Bytes and location pairs that are written aside, as contracts see them.
 use Rattle.std.specs.Prelude.{ℕ, Bool}
 use Rattle.wasm_operators.specs.Operations.{RawOperation}
 use Rattle.wasm_body.specs.Translation.{Located}
 use Rattle.walrus_emitter.specs.Emission.{Output, output_behind}
 
--- What is written, behind so many bytes of others; pairs are kept where they are asked for.
+-- The output, the number of bytes before it, and whether pairs are kept.
 pub record Drafted : Type 0 where
   pub base : ℕ
   pub has_map : Bool
   pub output : Output
 
--- with an operator behind it
+-- with an operator after it
 abbrev pub behind : Drafted → Located RawOperation → Drafted
 behind d x = record d { output = output_behind d.has_map d.base d.output x }

@@ -1,4 +1,4 @@
--- What the code keeps while a tree is written, as an emitter, and why that refuses an event.
+-- The state of the code as an emitter, while a tree is written, and why it refuses an event.
 use Rattle.std.specs.Prelude.{◌≡◌, ◌⊎◌, ℕ, List, Option, Ok, Err}
 use Rattle.walrus_ir.specs.declared.seq.InstrSeq.{InstrSeq}
 use Rattle.walrus_ir.specs.Events.{WalkEvent}
@@ -11,7 +11,7 @@ use Rattle.walrus_emitter.specs.TreeWriting.Closers.{closer_at, scopes_of}
 use Rattle.walrus_emitter.specs.TreeWriting.Drafts.{Drafted}
 use Rattle.walrus_emitter.specs.TreeWriting.ScopeLists.{ScopeLists}
 
--- of these sequences, under these numbers
+-- the emitter for these sequences, under these numbers
 abbrev pub emitter_at : List InstrSeq → Numbers → ScopeLists → Drafted → Emitter
 emitter_at b to scopes draft = record {
   sequences = b;
@@ -25,11 +25,11 @@ emitter_at b to scopes draft = record {
 
 -- ---- why an event is refused
 
--- memory ran out, or the emitter answers this fault
+-- memory ran out, or the emitter has this fault
 abbrev pub IsFaultAt : Emitter → WalkEvent → EmitError → Type 0
 IsFaultAt s e f = (f ≡ Memory) ⊎ (emitter_behind s e ≡ Err f)
 
--- ---- what closes a sequence, wherever it stands
+-- ---- closing a sequence, whichever it is
 
 abbrev pub ClosesWith : Numbers → Option (Closer × ℕ) → Drafted → Drafted → Type 0
 ClosesWith to c old new = (b : List InstrSeq) (scopes : ScopeLists)

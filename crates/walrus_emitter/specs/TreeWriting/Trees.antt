@@ -1,4 +1,4 @@
--- Writing a function's tree: what is written of it, and why it isn't.
+-- Writing a function's tree: what is written for it, and why it isn't written.
 use Rattle.std.specs.Prelude.{◌≡◌, ◌⊎◌, ◌++◌, ℕ, List, [], ◌∷◌, length, Bool, Some, slice_get, Ok, Err}
 use Rattle.walrus_ir.specs.declared.seq.InstrSeq.{InstrSeq}
 use Rattle.walrus_ir.specs.declared.error.WalkError.{WalkError}
@@ -16,7 +16,7 @@ use Rattle.walrus_emitter.specs.TreeWriting.Drafts.{Drafted}
 use Rattle.walrus_emitter.specs.declared.closing.Closer.TheVariants.{End}
 use Rattle.walrus_emitter.specs.TreeWriting.ScopeLists.{ScopeLists, ending}
 
--- what is written of the tree from a sequence on, behind so many bytes of others
+-- the draft of the tree from a sequence on, with `base` bytes before it
 pub record IsDraftOf (b : List InstrSeq) (entry : ℕ) (to : Numbers) (base : ℕ) (has_map : Bool)
     (draft : Drafted) : Type 0 where
   pub tree : FunctionTree
@@ -26,8 +26,7 @@ pub record IsDraftOf (b : List InstrSeq) (entry : ℕ) (to : Numbers) (base : �
   pub is : draft
       ≡ record { base = base; has_map = has_map; output = output_of has_map base operators }
 
--- Behind what stood in an encoder and in a list stand the bytes of the tree from a sequence on, and
--- its location pairs.
+-- The bytes of the tree from a sequence on are appended to an encoder, and its location pairs to a list.
 pub record Appends (b : List InstrSeq) (entry : ℕ) (to : Numbers) (old_bytes new_bytes : List ℕ)
     (old_pairs new_pairs : List Pair) : Type 0 where
   pub tree : FunctionTree
@@ -39,7 +38,7 @@ pub record Appends (b : List InstrSeq) (entry : ℕ) (to : Numbers) (old_bytes n
   pub pairs_are : tree_pairs to tree (length old_bytes) ≡ Ok pairs
   pub appends_pairs : new_pairs ≡ old_pairs ++ pairs
 
--- the bytes alone
+-- the bytes alone are appended
 pub record AppendsBytes (b : List InstrSeq) (entry : ℕ) (to : Numbers) (old new : List ℕ)
     : Type 0 where
   pub tree : FunctionTree
@@ -48,7 +47,7 @@ pub record AppendsBytes (b : List InstrSeq) (entry : ℕ) (to : Numbers) (old ne
   pub bytes_are : tree_bytes to tree ≡ Ok bytes
   pub appends : new ≡ old ++ bytes
 
--- none of the sequences is open, and the one at the entry is to begin, which an `end` closes
+-- no sequence is open, and only the one at the entry is to come, which an `end` closes
 pub record IsFirstScope (b : List InstrSeq) (entry : ℕ) (scopes : ScopeLists) : Type 0 where
   pub seq : InstrSeq
   pub stands : slice_get b entry ≡ Some seq
@@ -57,7 +56,7 @@ pub record IsFirstScope (b : List InstrSeq) (entry : ℕ) (scopes : ScopeLists) 
 
 -- ---- why it isn't written
 
--- Memory ran out, there is no tree, or the fault is the first of the tree in order of writing.
+-- Memory ran out, there is no tree, or this is the first fault of the tree in the order of writing.
 abbrev pub IsUnwritten : List InstrSeq → (entry : ℕ) → Numbers → EmitError → Type 0
 IsUnwritten b entry to e =
     (e ≡ Memory) ⊎ (((walk : WalkError) × FirstWalkFault b entry walk × (e ≡ fault_of_walk walk))

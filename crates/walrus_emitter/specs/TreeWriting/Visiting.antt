@@ -1,5 +1,4 @@
--- Writing a tree as a visitor of its walk: which emitter the visitor is, and what it makes of each
--- event.
+-- Writing a tree as a visitor of its walk: the emitter that the visitor is, and the one after each event.
 use Rattle.std.specs.Prelude.{◌≡◌, List, Ok}
 use Rattle.std.proofs.Common.{sym, ap, subst, ◌∙◌}
 use Rattle.walrus_ir.specs.Events.{WalkEvent, AreStepsAlike, AreRefusalsAlike}
@@ -25,7 +24,7 @@ Refuses v e f = IsFaultAt (emitter_of v) e f
 abbrev pub Same : EmitVisitor → EmitVisitor → Type 0
 Same v w = emitter_of v ≡ emitter_of w
 
--- at most some sequences more are to begin
+-- only the sequences that are to come may be more
 pub record HasOnlyMore (v w : EmitVisitor) : Type 0 where
   pub more : List SequenceScope
   pub coming : w.scopes ≡ with_more v.scopes more
@@ -33,7 +32,7 @@ pub record HasOnlyMore (v w : EmitVisitor) : Type 0 where
   pub numbers : w.numbers ≡ v.numbers
   pub draft : w.draft ≡ v.draft
 
--- those that are the same emitter take and refuse the same events
+-- visitors that are the same emitter accept and refuse the same events
 pub same_steps : AreStepsAlike Same Steps
 same_steps v v' w w' e from to step = ap (λ s. emitter_behind s e) (sym from) ∙ (step ∙ ap Ok to)
 

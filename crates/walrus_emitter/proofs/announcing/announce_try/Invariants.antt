@@ -1,4 +1,4 @@
--- The handlers behind the clauses that are left are announced.
+-- The handlers after the remaining clauses are announced.
 use Rattle.std.proofs.Common.{◌≡◌, length}
 use Rattle.walrus_emitter.proofs.TreeWriting.Announcing.{Remaining}
 use Rattle.walrus_emitter.proofs.announcing.announce_try.Given as goal

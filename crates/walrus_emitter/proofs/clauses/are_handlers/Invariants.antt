@@ -1,4 +1,4 @@
--- What is left decides.
+-- The remaining clauses decide.
 use Rattle.std.proofs.Common.{◌≡◌, length}
 use Rattle.std.specs.Prelude.{map}
 use Rattle.wasm_body.specs.InstructionTable.{legacy_clause}

@@ -1,4 +1,4 @@
--- What is listed stands before the depths of what is left.
+-- The listed depths come before those of the remaining labels.
 use Rattle.std.proofs.Common.{◌≡◌, length}
 use Rattle.walrus_ir.specs.Results.{each}
 use Rattle.walrus_emitter.specs.TreeWriting.Closers.{places_of}

@@ -1,4 +1,4 @@
--- The runs that were found stand before those of what is left.
+-- The runs found so far come before those of the remaining locals.
 use Rattle.std.proofs.Common.{◌≡◌, ◌++◌, length}
 use Rattle.wasm_body.specs.LocalNumbers.{types_of, runs}
 use Rattle.walrus_emitter.proofs.local_numbers.runs.Given as goal

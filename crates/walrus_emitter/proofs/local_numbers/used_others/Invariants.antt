@@ -1,4 +1,4 @@
--- What was found stands before what is found among the ids that are left.
+-- The locals found so far come before those found among the remaining ids.
 use Rattle.std.proofs.Common.{◌≡◌}
 use Rattle.walrus_emitter.specs.EmittedLocals.{unnumbered}
 use Rattle.walrus_maps.proofs.Listed.{behind_these}

@@ -1,4 +1,4 @@
--- What is written stands before the declarations of what is left, whose counts fit.
+-- The declarations written so far come before those of the remaining runs, whose counts fit.
 use Rattle.std.proofs.Common.{◌≡◌, ◌^◌, length, nat_lt, true}
 use Rattle.std.specs.List.{list_all}
 use Rattle.walrus_ir.specs.Results.{each}

@@ -28,7 +28,7 @@ returns-in-Err-branch_table-clause-operator c = elim c.in-Err-branch_table.ensur
       )
 ]
 
--- a `try_table`, whose block type has its number
+-- a `try_table` whose block type has a number
 abbrev IsWritten : Numbers → List ℕ → InstrSeqType → Instr → Result BlockType EmitError → Result (List (CatchClause ℕ)) EmitError → Type 0
 IsWritten to around type i block cs = numbered_operator to around type i ≡ try_operator block cs
 

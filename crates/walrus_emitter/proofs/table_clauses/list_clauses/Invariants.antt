@@ -1,4 +1,4 @@
--- What is listed stands before the clauses that are left.
+-- The listed clauses come before the remaining ones.
 use Rattle.std.proofs.Common.{◌≡◌, length}
 use Rattle.walrus_ir.specs.Results.{each}
 use Rattle.walrus_emitter.specs.TreeWriting.Closers.{places_of}
