@@ -1,4 +1,5 @@
--- How an operator by itself advances a parse: it has a name where its ids and labels were found, and its instruction is kept.
+-- How an operator by itself advances a parse: if its ids and labels are found it has a name, and its instruction is added to
+-- the normal form so far.
 use Rattle.std.specs.Prelude.{◌≡◌, ◌⊎◌, ◌<◌, ◌≤◌, ℕ, suc, List, [], ◌∷◌, length, Bool, true, false, Some, Result, Ok, Err, OnOk, IfErr}
 use Rattle.std.proofs.Common.{refl, inl, inr, ap, sym, subst, ◌∙◌, arith, reverse}
 use Rattle.walrus_ir.specs.declared.instr.Instr.{Instr}
@@ -42,7 +43,7 @@ taken_as x true f = sym (taken_dead x f)
 taken_as x false f = sym (taken_alive x f)
 
 module _ (env : Environment) (o : RawOperation) (cut : Bool) (role : fate_of_role (role_of o.opcode) ≡ Some (fate_by cut)) where
-  -- the name does the same
+  -- the name does the same to the control as the operator
   named_does : (fs : List (Frame Occurrence)) (named : NamedOperation) → translate (naming env fs) o ≡ Ok named → DoesAs (control_of named) (fate_by cut)
   named_does fs named e =
       let made = bound (translate_immediates (naming env fs) o.immediates) (λ is. Ok (record { opcode = o.opcode; immediates = is })) named e in
@@ -109,7 +110,7 @@ passes_nop c ifs ls s place location keeps = by_frames c.frames refl
     by_frames [] e = absurd (some_open (env_of c) (state_with c ifs) ls s keeps e)
     by_frames (f ∷ fs) e = steps_dropped (env_of c) (state_with c ifs) ls s nop_operation place location keeps f fs nop_operation Nop e (is_named ls) refl refl
 
--- it is the parse of the same body
+-- the parse is still that of the same body
 pub same_body : (c d : OpenTrees) (x : LocatedInstr) (cut : Bool) (r : Result (Unit {0}) ParseError) →
     OnOk r ((0 < length c.frames) × (d ≡ record c { frames = changed_at 0 (taking x cut) c.frames })) → OnOk r (IsSameBody c d)
 same_body c d x cut (Ok u) h = record { env = ap env_of h.1; entry = ap (λ (t : OpenTrees). t.builder.entry) h.1 }
@@ -117,7 +118,7 @@ same_body c d x cut (Err e) h = tt
 
 -- ---- how many frames are open
 
--- where only one is open, no construct is
+-- if only one frame is open, no construct is
 pub no_layers : (p : BodyParser) (ls : List (Layer Occurrence)) (s : Sequence Occurrence) → Keeps (env_of p.context) (state_of p) ls s → length p.context.frames ≤ 1 → ls ≡ []
 no_layers p [] s keeps few = refl
 no_layers p (l ∷ ls) s keeps few = absurd (some_layer ls (holds_length (env_of p.context) p.context.builder.sequences (l ∷ ls) s (length p.context.builder.sequences) p.context.frames (reverse p.if_else.items) keeps))

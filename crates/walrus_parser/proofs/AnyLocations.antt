@@ -1,4 +1,4 @@
--- Which fault is the first doesn't depend on what the location function answers.
+-- The first fault doesn't depend on the location function.
 use Rattle.std.specs.Prelude.{◌≡◌, ℕ, zero, suc, ◌+◌, ◌-◌, List, [], ◌∷◌, length, Bool, true, false, Option, Some, None, Result, Ok, Err}
 use Rattle.std.proofs.Common.{refl, ap, sym, ◌∙◌}
 use Rattle.wasm_numbers.specs.declared.fault.ReadFault.{ReadFault}
@@ -23,7 +23,7 @@ use Rattle.walrus_parser.specs.Checking.{placed_at}
 use Rattle.walrus_parser.specs.Settings.{Taken, taken, given_with, BothOrNone}
 use Rattle.walrus_parser.proofs.SoFars.{occurrence}
 
--- ---- what naming asks of frames
+-- ---- what the naming of an operator depends on in the frames
 
 abbrev shapes : List (Frame Occurrence) → List (Frame NamedOperation)
 shapes = map_frames named_of
@@ -47,7 +47,7 @@ module _ (env : Environment) where
   named_is fs o =
       (λ i. unless ((sym (stand_frames named_of fs (control_of o))) i) (position_fault (control_of o)) >>= λ _. translate (naming_is fs i) o >>= λ named. types_named env fs (control_of named) named i >>= λ _. Ok named)
 
-  -- frames that were opened by operators of the same names name an operator alike
+  -- an operator has the same name in frames that were opened by operators with the same names
   pub named_same : (fs gs : List (Frame Occurrence)) (o : RawOperation) → shapes fs ≡ shapes gs → named_in env fs o ≡ named_in env gs o
   named_same fs gs o e = named_is fs o ∙ ap (λ hs. named_by hs o) e ∙ sym (named_is gs o)
 
@@ -72,7 +72,7 @@ module _ {S : Type 0} (env : Environment) (start : ℕ) (check : S → Placed �
   abbrev given : Option (ℕ → ℕ) → Setting S
   given = given_with env start check first
 
-  -- an operator that was taken, with its name
+  -- an operator that was taken, and its name
   abbrev stepped : (ℕ → Bool) → S → List (Frame Occurrence) → ℕ → List ℕ → Result (NamedOperation × Taken S) ParseError
   stepped fits v fs place bytes = taken fits check v place bytes >>= λ t. named_in env fs t.spelt >>= λ named. Ok (named, t)
 

@@ -1,4 +1,4 @@
--- A parse that has read nothing, and the function's own type.
+-- A parse that has read nothing yet, and the function's own type.
 use Rattle.std.specs.Prelude.{◌≡◌, ◌≤◌, ℕ, List, [], ◌∷◌, length, true, Option, Some, None, IsSomeAnd, Ok, slice_get, get_or}
 use Rattle.std.proofs.lemmas.List.Quantifiers.{position-Some}
 use Rattle.std.proofs.lemmas.Option.{slice_get-get_or}
@@ -25,7 +25,7 @@ use Rattle.walrus_parser.specs.BodyParsers.{state_with}
 
 -- ---- the function's entry type
 
--- the entry type that the module has is one
+-- the entry type of the module has a signature
 entry_signature : (types : List ModuleType) (results : List (ValType ℕ)) (id : ℕ) → find_entry types results ≡ Some id → (s : Signature) × (signature_of types id ≡ Some s)
 entry_signature types results id is =
     let found = position-Some (is_entry results) types id Other is in
@@ -57,7 +57,7 @@ entry_found env results found known is = by_type (signature_of env.types env.typ
 -- ---- the first frame
 
 module _ (c : OpenTrees) (ty entry : ℕ) where
-  -- only the function's own sequence is open, which is empty
+  -- only the function's own sequence is open, and it is empty
   abbrev first_tree : Signature → OpenTrees
   first_tree s = record c {
     builder = with_new_sequence (record (empty_function ty) { entry = Some 0 }) (MultiValue entry);
@@ -86,7 +86,7 @@ module _ (c : OpenTrees) (ty entry : ℕ) where
         ap env_of opens.is,
       )
 
-  -- where the entry's type is one
+  -- if the entry's type has a signature
   pub begun_as : (d : OpenTrees) (id : ℕ) (ifs : List IfElseState) (o : Option Signature) → c.frames ≡ [] → c.builder ≡ record (empty_function ty) { entry = Some 0 } → entry_type_id (env_of c) ≡ Ok entry → ifs ≡ [] →
       IsSomeAnd o (λ s. Opens c d kind.FunctionEntry (MultiValue entry) s.parameters s.results id) → Keeps (env_of d) (state_with d (reverse ifs)) [] Empty × (d.builder.entry ≡ Some 0)
   begun_as d id ifs None none fresh is no_if opens = absurd opens

@@ -1,4 +1,4 @@
--- A parse so far with a caller's location function and validator: what is read, and what the parser keeps of it.
+-- A parse so far, with a caller's location function and validator: the operators read, and the state of the parser.
 use Rattle.std.specs.Prelude.{◌≡◌, ℕ, ◌+◌, ◌-◌, ◌<◌, ◌≤◌, List, [], ◌∷◌, ◌++◌, length, Option, Some, None, Ok, Err}
 use Rattle.std.specs.Borrow.{Bor}
 use Rattle.std.specs.Fn.{Shared}
@@ -86,9 +86,9 @@ module _ {S F : Type 0} (g : Shared F (Bor ℕ × Unit {0}) ℕ) (i : ParseInput
     ends_early p state place rest mapping f s none is =
         anyway mapping f (missing g i.on_instr_pos i.environment i.start i.offset i.check i.first i.bytes fits s.layers s.sequence state place rest mapping s.reads none ∙ ap Err (sym is))
 
-    -- ---- one operator further
+    -- ---- one more operator
 
-    -- the operator was read and taken, and has a name
+    -- the operator was read and taken, and it has a name
     pub over_next : (p : BodyParser) (state next_state : S) (place next : ℕ) (rest after : List ℕ) (mapping behind : List (ℕ × ℕ)) (op : RawOperation) (location : ℕ) (named : NamedOperation) (s : SoFar p state place rest mapping) →
         taken (has_place i.on_instr_pos) i.check state place rest ≡ Ok (record { spelt = op; rest = after; state = next_state }) → Locates g i.on_instr_pos place location → named_in (env_of p.context) (frames_of s.layers) op ≡ Ok named →
         next + length after ≡ place + length rest → length after < length rest → behind ≡ mapping ++ (place - i.offset, location) ∷ [] →

@@ -1,4 +1,4 @@
--- What a parse answers is what is accepted, or the first fault.
+-- The result of a parse is the accepted body, or the first fault.
 use Rattle.std.specs.Prelude.{◌≡◌, ◌⊎◌, ℕ, List, Option, Some, None, Result, Ok, Err, IfOk, IfErr, IsErr}
 use Rattle.std.specs.Borrow.{Bor}
 use Rattle.std.specs.Fn.{Shared}
@@ -47,7 +47,7 @@ module _ {S F : Type 0} (g : Shared F (Bor ℕ × Unit {0}) ℕ) (i : ParseInput
   refuses_err id is fits (Ok made) h = tt
   refuses_err id is fits (Err f) h = refuses id is fits f h
 
-  -- the function's type or its entry type is at fault
+  -- the fault is in the function's type or its entry type
   pub refuses_entry : (e : ParseError) (f : ParseFailure) → entry_type_id i.environment ≡ Err e → f ≡ failure e i.start → RefusesBody g i f
   refuses_entry e f is at = inr (λ locations both. of_entry (is ∙ ap (λ h. Err h.error) (sym at)) (ap (λ h. h.at) at))
 
@@ -62,7 +62,7 @@ module _ {S F : Type 0} (g : Shared F (Bor ℕ × Unit {0}) ℕ) (i : ParseInput
       let one = sym (accepted_parsed given reading_agrees i.bytes b a) ∙ fault_parsed given reading_agrees i.bytes f (faulty locations both) in
       absurd (cc)
 
-  -- a body that is accepted with some location function has no first fault with another
+  -- a body that is accepted with one location function has no first fault with another
   no_fault : (l m : Option (ℕ → ℕ)) (b : Body Occurrence) (f : ParseFailure) → BothOrNone l m → Accepted (setting_with i m) i.bytes b → FirstFault (setting_with i l) i.bytes f → ⊥
   no_fault l m b f both a fault =
       let e = entry_type_id i.environment in

@@ -1,4 +1,4 @@
--- What a parse keeps of a legacy `try`, where its body or a handler is closed by the next clause.
+-- The normal form of a legacy `try` so far, when the next clause closes its body or a handler.
 use Rattle.std.specs.Prelude.{◌≡◌, ℕ, List, [], ◌∷◌, ◌++◌, map}
 use Rattle.std.proofs.Common.{refl, ap, sym, subst, ◌∙◌}
 use Rattle.std.proofs.lemmas.List.{append-nil, map-append}
@@ -19,7 +19,7 @@ use Rattle.walrus_context.specs.Keeping.{IsTry, IsAppended}
 
 -- ---- a clause is added to a legacy `try`
 
--- the `try` with one clause more
+-- the `try` with one more clause
 pub record GainsClause (x y : LocatedInstr) (clause : LegacyCatch) : Type 0 where
   pub old : Try
   pub new : Try
@@ -29,7 +29,7 @@ pub record GainsClause (x y : LocatedInstr) (clause : LegacyCatch) : Type 0 wher
   pub clauses : new.catches ≡ old.catches ++ clause ∷ []
   pub same_location : y.1 ≡ x.1
 
--- what it is as an instruction of the tree, and the sequences in it
+-- its slots and its instruction in the tree, with one more clause
 pub gained_places : (x y : LocatedInstr) (clause : LegacyCatch) → GainsClause x y clause → slots_in y.0 ≡ slots_in x.0 ++ handler_of clause
 gained_places x y clause h =
     ap slots_in h.is
@@ -49,7 +49,7 @@ gained_instruction around x y clause a cs h is =
       location = (h.same_location ∙ ap (λ (j : Instruction). j.location) is) i;
     }
 
--- The frame around holds the construct's instruction with the clause more.
+-- The frame around has the construct's instruction with one more clause.
 pub gains : (around before : List ℕ) (slot next : ℕ) (p q : OpenConstruct Occurrence) (x y : LocatedInstr) (clause : LegacyCatch) (fs gs outside : List OpenFrame) →
     (a : IsAppended around before slot p IsTry fs outside) → a.opener ≡ x → GainsClause x y clause → handler_of clause ≡ next ∷ [] → opener_in q ≡ opener_in p → clauses_in q ≡ clauses_in p ++ legacy_clause clause ∷ [] →
     gs ≡ changed_at 0 (with_instr y) outside → IsAppended around (before ++ slot ∷ []) next q IsTry gs outside
@@ -62,7 +62,7 @@ gains around before slot next p q x y clause fs gs outside a e h handler same cl
   frames = frames;
 }
 
--- What adding a clause makes of frames, the innermost of which ends with a legacy `try` or is dead.
+-- Adding a clause to frames: the innermost ends with a legacy `try`, or is dead.
 abbrev pub AddsClause : (fs gs : List OpenFrame) → LegacyCatch → Type 0
 AddsClause fs gs clause =
     (x : LocatedInstr) (outside : List OpenFrame) → fs ≡ changed_at 0 (with_instr x) outside → IsTry x.0 →

@@ -1,4 +1,4 @@
--- The normal form of a construct whose open sequence is closed, by its closed sequences.
+-- The normal form of a construct whose open sequence is closed, in terms of its closed sequences.
 use Rattle.std.specs.Prelude.{◌≡◌, ℕ, List, [], ◌∷◌, ◌++◌}
 use Rattle.std.proofs.Common.{refl, sym, ap, ◌∙◌}
 use Rattle.walrus_ir.specs.Tree.{no_items, item, Sequences, no_sequences, sequence}
@@ -9,7 +9,7 @@ use Rattle.wasm_body.specs.NormalForm.{Typing, construct_type, handler_type, ins
 use Rattle.wasm_body.specs.Parsing.Progress.{ClosedClause, closed_clause, behind_closed, OpenConstruct, InWrapper, InThen, InElse, InTry, InCatch, InCatchAll, closed}
 use Rattle.walrus_context.specs.OpenConstructs.{opener_in, clauses_behind, clauses_in, Named, sequences_joined, handlers_behind, first_clause_at, try_sequences, closed_in, added_in, sequences_closed, reshown_closed, reshown_construct}
 
--- ---- clauses behind closed ones
+-- ---- clauses after closed ones
 
 clauses_closed : {A : Type 0} → (gs : List (ClosedClause A)) (cs : Clauses A) → legacy_clauses (behind_closed gs cs) ≡ clauses_behind gs (legacy_clauses cs)
 clauses_closed [] cs = refl
@@ -34,7 +34,7 @@ clauses_more (g ∷ gs) cs ds = clauses_more gs (handles g.tag ∷ cs) ds
 
 -- ---- the open sequence is closed by `end`, or by `delegate`
 
--- a legacy `try` with these clauses behind closed ones
+-- a legacy `try` with these clauses after closed ones
 try_closed : (m : Typing) (a : Named) (b : Sequence Named) (gs : List (ClosedClause Named)) (cs : Clauses Named) →
     normal m (TryCatch a b (behind_closed gs cs) Empty)
     ≡ item (instruction a (clauses_behind gs (legacy_clauses cs))) (sequences_joined (try_sequences m a.op b gs (closed_at cs)) (handlers m a.op cs)) no_items
@@ -52,14 +52,14 @@ normal_closed m (InTry a) s e = refl
 normal_closed m (InCatch a b gs h t) s e = try_closed m a b gs (Catches h t s (Ended e))
 normal_closed m (InCatchAll a b gs h) s e = try_closed m a b gs (CatchesAll h s e)
 
--- ---- the next sequence is open
+-- ---- the next sequence is opened
 
 pub closed_by_catch : (m : Typing) (a : Named) (b s : Sequence Named) (gs : List (ClosedClause Named)) (i h : Named) (t u : ℕ) →
     closed_in m (InCatch a b (closed_clause i u s ∷ gs) h t) ≡ sequences_closed m (InCatch a b gs i u) (normal m s) h.location no_sequences
 closed_by_catch m a b s gs i h t u = ap (sequence (head (construct_type m a.op) (first_clause_at i.location gs)) (normal m b))
     (handlers_joined m a.op i.location gs no_sequences (sequence (head (handler_type m a.op (m.tag_parameters u)) h.location) (normal m s) no_sequences))
 
--- ---- the same with something else shown
+-- ---- the same with other items shown
 
 pub reshown_behind : {A B : Type 0} → (f : A → B) (gs : List (ClosedClause A)) (cs : Clauses A) → map_clauses f (behind_closed gs cs) ≡ behind_closed (reshown_closed f gs) (map_clauses f cs)
 reshown_behind f [] cs = refl

@@ -1,4 +1,4 @@
--- Which construct is open, by the kind of its frame.
+-- Which construct is open, from the kind of its frame.
 use Rattle.std.proofs.Common.{◌≡◌, ℕ, List, subst}
 use Rattle.walrus_ir.specs.declared.control.BlockKind.{BlockKind}
 use Rattle.walrus_ir.specs.declared.control.BlockKind.TheVariants as kind
@@ -18,7 +18,7 @@ of_wrapper OfBlock = tt
 of_wrapper OfLoop = tt
 of_wrapper (OfTryTable cs) = tt
 
--- whether a clause of a legacy `try` may stand behind the frame
+-- whether a clause of a legacy `try` is allowed after the frame
 abbrev pub IsBehindTry : BlockKind → Type 0
 IsBehindTry kind.Try = Unit {0}
 IsBehindTry kind.Catch = Unit {0}

@@ -1,4 +1,4 @@
--- What a parse keeps of open sequences where a construct is opened, goes on to its next sequence, or is closed.
+-- The open sequences after a construct is opened, goes on to its next sequence, or is closed.
 use Rattle.std.specs.Prelude.{◌≡◌, ◌≢◌, ℕ, zero, suc, ◌+◌, ◌<◌, ◌≤◌, List, [], ◌∷◌, ◌++◌, length, false, Some, slice_get}
 use Rattle.std.proofs.lemmas.List.{length_push}
 use Rattle.std.proofs.Common.{refl, ap, sym, subst, ◌∙◌, arith}
@@ -41,7 +41,7 @@ same_grown b seq p l h = grown_before b seq p h
 
 -- ---- a construct is opened
 
--- a new frame that is empty, alive, and that of the construct
+-- a new frame: it is empty, alive, and the frame of the construct
 pub record IsOpened (env : Environment) (slot : ℕ) (p : OpenConstruct Occurrence) (f : OpenFrame) (seq : InstrSeq) : Type 0 where
   pub here : f.sequence ≡ slot
   pub is_empty : f.instrs ≡ []
@@ -52,7 +52,7 @@ pub record IsOpened (env : Environment) (slot : ℕ) (p : OpenConstruct Occurren
   pub has_type : seq.ty ≡ type_in (typing_of env) (reshown_construct name_at p)
   pub has_no_end : seq.end ≡ default_location
 
--- a new frame is that of a construct which takes and gives so
+-- a new frame is that of a construct with these parameters and results
 pub is_opened : (env : Environment) (slot : ℕ) (p : OpenConstruct Occurrence) (f : OpenFrame) (seq : InstrSeq) (k : BlockKind) (takes gives : List (ValType ℕ)) → f ≡ new_frame k takes gives slot → k ≡ kind_in p → TakesParameters env p f.start_types →
     gives ≡ (block_signature (opener_in p).named).results → seq.ty ≡ type_in (typing_of env) (reshown_construct name_at p) → seq.end ≡ default_location → IsOpened env slot p f seq
 is_opened env slot p f seq k takes gives frame kind has gives_so type no_end = record {
@@ -66,7 +66,7 @@ is_opened env slot p f seq k takes gives frame kind has gives_so type no_end = r
   has_no_end = no_end;
 }
 
--- its sequence is empty, and nothing is inside
+-- its sequence is empty, with no sequences inside
 kept_empty : (env : Environment) (b : List InstrSeq) (high : ℕ) (f : OpenFrame) (around : List ℕ) → f.instrs ≡ [] → f.dead ≡ false → f.sequence < high → IsKept env b high f around Empty
 kept_empty env b high f around empty alive below =
     record { items = no_items; are_items = subst (λ xs. AreItems b xs no_items) (sym empty) are_no_items; rise = omega arith; is_normal = refl; is_dead = alive }
@@ -97,7 +97,7 @@ holds_opened env b seq ls s p f around outside ifs other_ifs o none opens h =
       outer = holds_same env b (b ++ seq ∷ []) ls s (length b) outside other_ifs (same_grown b seq) h;
     }
 
--- ---- sequences beside each other, one list behind another
+-- ---- sequences of one construct, one list after another
 
 are_joined : {b : List InstrSeq} {ps qs : List ℕ} {ss ts : Sequences SequenceAt LocatedInstr} → AreSequences b ps ss → AreSequences b qs ts → AreSequences b (ps ++ qs) (sequences_joined ss ts)
 are_joined are_no_sequences t = t
@@ -113,20 +113,20 @@ all_rise_joined low middle high (sequence h is rest) ts r t = (r.0, r.1, r.2, al
 
 -- ---- the open sequence is closed
 
--- one sequence is this one, the others are as before
+-- one slot has this sequence, all others are as before
 pub record IsWritten (b : List InstrSeq) (slot : ℕ) (seq : InstrSeq) (c : List InstrSeq) : Type 0 where
   pub here : slice_get c slot ≡ Some seq
   pub elsewhere : (p : ℕ) → p ≢ slot → slice_get c p ≡ slice_get b p
   pub as_many : length c ≡ length b
 
--- The construct's sequences are closed, the last at this location and then the rest.
+-- The construct's sequences are closed, the last at this location; the rest follow.
 pub record AreClosed (env : Environment) (c : List InstrSeq) (low high : ℕ) (around places : List ℕ) (p : OpenConstruct Occurrence) (s : Sequence Occurrence) (location : ℕ) (rest : Sequences Head Instruction) : Type 0 where
   pub inside : Sequences SequenceAt LocatedInstr
   pub are_sequences : AreSequences c places inside
   pub rise : AllRiseIn low inside high
   pub is_normal : sequences_in around inside ≡ sequences_closed (typing_of env) (reshown_construct name_at p) (normal (typing_of env) (map_sequence name_at s)) location rest
 
--- The frame's sequence stands in its slot, closed at this location; the others are as before.
+-- The frame's sequence is in its slot, closed at this location; the others are as before.
 pub record IsSealed (env : Environment) (b c : List InstrSeq) (f : OpenFrame) (p : OpenConstruct Occurrence) (location : ℕ) : Type 0 where
   pub seq : InstrSeq
   pub written : IsWritten b f.sequence seq c
@@ -176,7 +176,7 @@ closed_item env c low high around places p s e x at is a =
           ∙ ap (normal m) (sym (reshown_in name_at p s e));
     }
 
--- a sequence that is changed leaves those before it
+-- changing a sequence leaves those before it unchanged
 pub same_written : (b c : List InstrSeq) (slot : ℕ) (seq : InstrSeq) → IsWritten b slot seq c → SameIn b c 0 slot
 same_written b c slot seq w q l h = w.elsewhere q (λ e. let d : q ≡ slot = e in omega arith)
 
@@ -184,7 +184,7 @@ none_holds : (env : Environment) (b : List InstrSeq) (ls : List (Layer Occurrenc
 none_holds env b [] s high ifs h = h
 none_holds env b (l ∷ ls) s high ifs h = h
 
--- the frame around takes the construct
+-- the construct is added to the frame around
 pub holds_behind : (env : Environment) (c : List InstrSeq) (ls : List (Layer Occurrence)) (s t : Sequence Occurrence) (low high : ℕ) (fs : List OpenFrame) (ifs : List IfElseState) (x : LocatedInstr) → low ≤ high → is_dead t ≡ false →
     AreNormal env c low high (slots fs) (x ∷ []) t → Holds env c ls s low fs ifs → Holds env c ls (append s t) high (changed_at 0 (with_instr x) fs) ifs
 holds_behind env c ls s t low high [] ifs x wider alive a h = absurd (none_holds env c ls s low ifs h)
@@ -204,7 +204,7 @@ closed_range {low = low} {high = high} a = all_rise-range low a.inside high a.ri
 
 -- ---- closers
 
--- `end` closes a construct whose instruction stands there already
+-- `end` closes a construct whose instruction is already there
 pub holds_ended : (env : Environment) (b c : List InstrSeq) (ls : List (Layer Occurrence)) (before s : Sequence Occurrence) (p : OpenConstruct Occurrence) (IsOpener : Instr → Type 0) (f : OpenFrame) (fs outside : List OpenFrame) (ifs : List IfElseState)
     (low : ℕ) (places : List ℕ) (e : Occurrence) → added_in (typing_of env) (reshown_construct name_at p) ≡ no_sequences →
     IsKept env b (length b) f (slots fs) s → Encloses env b low f (slots fs) p places → IsAppended (slots fs) places f.sequence p IsOpener fs outside → IsSealed env b c f p e.location →
@@ -239,7 +239,7 @@ holds_chosen env b c ls before s t a l e f fs ifs low consequent is k o w h =
     (closed_item env c low (length c) (slots fs) (consequent ∷ f.sequence ∷ []) p t e (if_else consequent f.sequence a.location) refl (is_if (slots fs) consequent f.sequence a is) closes)
     (holds_same env b c ls before low fs ifs (λ q m n. w.written.elsewhere q (λ d. let at : q ≡ f.sequence = d in omega arith)) h)
 
--- an empty alternative is made for a consequent that `end` closes
+-- `end` closes a consequent: an empty alternative is made
 with_alternative : (env : Environment) (c : List InstrSeq) (other : InstrSeq) (low : ℕ) (around places : List ℕ) (a : Occurrence) (s : Sequence Occurrence) (location : ℕ) →
     other.ty ≡ type_in (typing_of env) (InThen (name_at a)) → other.instrs ≡ [] → other.end ≡ default_location →
     AreClosed env c low (length c) around places (InThen a) s location no_sequences →
@@ -277,7 +277,7 @@ holds_chosen_alone env b c other ls before s a e f fs ifs low is k o w type empt
     (holds_same env c d ls before low fs ifs (λ q m n. same_grown c other q m (omega arith))
     (holds_same env b c ls before low fs ifs (λ q m n. w.written.elsewhere q (λ d. let at : q ≡ f.sequence = d in omega arith)) h))
 
--- ---- the next sequence of a construct is open
+-- ---- the next sequence of a construct is opened
 
 pub holds_parted : (env : Environment) (b c : List InstrSeq) (seq : InstrSeq) (ls : List (Layer Occurrence)) (before s : Sequence Occurrence) (p q : OpenConstruct Occurrence) (f g : OpenFrame) (fs gs outside : List OpenFrame) (ifs other_ifs : List IfElseState)
     (low : ℕ) (places : List ℕ) (location : ℕ) →

@@ -1,4 +1,4 @@
--- `delegate`: its name, or the first rule that it breaks, and what the calls of the context make of what was kept.
+-- `delegate`: its name or the first rule that it breaks, and the state after the calls of the context.
 use Rattle.std.proofs.Common.{arith, ◌≡◌, ◌≢◌, ◌<◌, ◌+◌, ℕ, suc, List, [], ◌∷◌, length, nat_lt, slice_get, Bool, true, false, Option, Some, None, is_some, Result, Ok, Err, refl, sym, ap, ◌∙◌, subst}
 use Rattle.std.proofs.lemmas.Option.{slice_get_within}
 use Rattle.walrus_ir.specs.declared.control.BlockKind.{BlockKind}
@@ -61,7 +61,7 @@ module _ (old : OpenTrees) (ifs : List IfElseState) (s : Sequence Occurrence) (p
   within : (f : OpenFrame) (fs : List OpenFrame) (l : Layer Occurrence) (ls : List (Layer Occurrence)) → old.frames ≡ f ∷ fs → Kept (l ∷ ls) → Within f fs l ls l.construct
   within f fs l ls frames keeps = subst (λ gs. Holds (env_of old) old.builder.sequences (l ∷ ls) s (length old.builder.sequences) gs ifs) frames keeps
 
-  -- no frame is open
+  -- without an open frame
   pub none_open : (e : ParseError) → kind_at old.frames 0 ≡ Err e → (ls : List (Layer Occurrence)) → Kept ls → ⊥
   none_open e is ls keeps = by_frames old.frames refl
     where
@@ -69,7 +69,7 @@ module _ (old : OpenTrees) (ifs : List IfElseState) (s : Sequence Occurrence) (p
       by_frames [] at = some_open (env_of old) (state_with old ifs) ls s keeps at
       by_frames (f ∷ fs) at = let both : Ok f.kind ≡ Err e = ap (λ gs. kind_at gs 0) (sym at) ∙ is in cc both
 
-  -- the innermost frame, by its kind
+  -- the innermost frame, with its kind
   record Innermost (k : BlockKind) : Type 0 where
     pub frame : OpenFrame
     pub around : List OpenFrame
@@ -83,7 +83,7 @@ module _ (old : OpenTrees) (ifs : List IfElseState) (s : Sequence Occurrence) (p
       by_frames [] at = absurd (let both : Err NoSuchLabel ≡ Ok k = ap (λ gs. kind_at gs 0) (sym at) ∙ is in cc both)
       by_frames (f ∷ fs) at = let both : Ok f.kind ≡ Ok k = ap (λ gs. kind_at gs 0) (sym at) ∙ is in let same : f.kind ≡ k = cc both in record { frame = f; around = fs; frames = at; is_kind = same }
 
-  -- it isn't the body of a `try`
+  -- the innermost sequence isn't the body of a `try`
   pub no_try_body : (k : BlockKind) → kind_at old.frames 0 ≡ Ok k → k ≢ kind.Try → (ls : List (Layer Occurrence)) → Kept ls → named_in (env_of old) (frames_of ls) (delegate_operation n) ≡ Err DelegateOutsideTry
   no_try_body k is other [] keeps = named_delegate (env_of old) OfFunction [] n
   no_try_body k is other (l ∷ ls) keeps =
@@ -124,7 +124,7 @@ module _ (old : OpenTrees) (ifs : List IfElseState) (s : Sequence Occurrence) (p
           by_test true q = rw q refl
           by_test false q = rw q refl
 
-    -- its label isn't open
+    -- the label isn't that of an open construct
     pub no_depth : (e : ParseError) → kind_at old.frames (n + 1) ≡ Err e → (ls : List (Layer Occurrence)) → Kept ls → named_in (env_of old) (frames_of ls) (delegate_operation n) ≡ Err e
     no_depth e is [] keeps = absurd (not_outermost keeps)
     no_depth e is (l ∷ ls) keeps =
@@ -134,7 +134,7 @@ module _ (old : OpenTrees) (ifs : List IfElseState) (s : Sequence Occurrence) (p
         let closed : nat_lt n (length (frames_of ls)) ≡ false = grind arith in
         named_as l ls keeps false closed ∙ ap Err (sym missing.0)
 
-    -- the frame around has the clause
+    -- the frame around can take the clause
     pub delegates_to : (e : ParseError) → with_clause_around (Delegate n) old.frames ≡ Err e → (ls : List (Layer Occurrence)) → Kept ls → ⊥
     delegates_to e refused [] keeps = not_outermost keeps
     delegates_to e refused (l ∷ ls) keeps =

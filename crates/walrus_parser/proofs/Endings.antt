@@ -1,4 +1,4 @@
--- The end of a construct: what the calls of the context make of what was kept.
+-- The end of a construct: the state after the calls of the context.
 use Rattle.std.proofs.Common.{arith, Bool, true, ◌≤◌, ◌≡◌, ◌≢◌, ◌⊎◌, inl, inr, ◌<◌, OnOk, IfErr, Result, Ok, Err, ℕ, List, [], ◌∷◌, ◌++◌, length, reverse, slice_get, slice_set, Option, Some, None, IsSomeAnd, refl, sym, ap, ◌∙◌, subst}
 use Rattle.walrus_ir.specs.declared.seq.InstrSeq.{InstrSeq}
 use Rattle.walrus_ir.specs.declared.control.BlockKind.{BlockKind}
@@ -40,7 +40,7 @@ last_set : (b : List InstrSeq) (x : InstrSeq) → slice_set (b ++ x ∷ []) (len
 last_set [] x = refl
 last_set (y ∷ b) x = ap (λ c. y ∷ c) (last_set b x)
 
--- A frame that was opened and closed at once leaves an empty sequence.
+-- Opening a frame and closing it at once adds an empty sequence.
 opened_closed : (old mid new : OpenTrees) (t : InstrSeqType) (takes gives : List (ValType ℕ)) (id block : ℕ) (c : ControlFrame) → Opens old mid kind.Else t takes gives id → Pops mid new c block → AddsEmpty old new t id
 opened_closed old mid new t takes gives id block c o h =
     let f = h.frame in
@@ -98,7 +98,7 @@ module _ (old mid end : OpenTrees) (ifs : List IfElseState) (s : Sequence Occurr
   advances : (new : ParseState) → Keeps (env_of old) new ls (append l.before (closed l.construct s x)) → Advances (env_of old) new (l ∷ ls) s end_operation place location
   advances new h = record { named = end_operation; is_named = named_end (env_of old) (frame_of l.construct) (frames_of ls); keeps = h }
 
-  -- a construct whose instruction stands already
+  -- a construct whose instruction is already there
   pub ends_plain : c.kind ≢ kind.If → c.kind ≢ kind.Else → Advances (env_of old) (state_with end ifs) (l ∷ ls) s end_operation place location
   ends_plain not_if not_else = advances (state_with end ifs)
       (ended (env_of old) (state_with old ifs) l ls s f mid.frames popped.closes.frames keeps l.construct (state_with end ifs) x (λ e. not_if (sym kind_is ∙ e)) (λ e. not_else (sym kind_is ∙ e)) sealed_at frames_end refl inside)
@@ -115,7 +115,7 @@ module _ (old mid end : OpenTrees) (ifs : List IfElseState) (s : Sequence Occurr
   is_kind : (k : BlockKind) → c.kind ≡ k → kind_in l.construct ≡ k
   is_kind k e = sym inside.encloses.kind ∙ kind_is ∙ e
 
-  -- an `if` without one
+  -- an `if` without an alternative
   module _ (takes gives : List (ValType ℕ)) (takes_is : takes ≡ c.start_types.items) (gives_is : gives ≡ c.end_types.items) where
     pub ends_if : c.kind ≡ kind.If → (top : IfElseState) (others : List IfElseState) (t : InstrSeqType) (id : ℕ) (m new : OpenTrees) → ifs ≡ top ∷ others → existing end.module.types takes gives ≡ Some t → AddsEmpty end m t id →
         new ≡ record m { frames = changed_at 0 (with_instr (if_else top.consequent id top.start)) m.frames } → Advances (env_of old) (state_with new others) (l ∷ ls) s end_operation place location
@@ -143,7 +143,7 @@ module _ (old mid end : OpenTrees) (ifs : List IfElseState) (s : Sequence Occurr
             ∙ (λ i. changed_at 0 (with_instr (if_else (first i).consequent (adds.is_next i) top.start)) ((ap (λ (z : OpenTrees). z.frames) adds.is ∙ frames_end) i)))
             refl h
 
-  -- ---- what can't be missing
+  -- ---- what is always there
 
   -- the `if` of the frame
   record HasIf : Type 0 where
@@ -167,9 +167,9 @@ module _ (old mid end : OpenTrees) (ifs : List IfElseState) (s : Sequence Occurr
       (λ a b n h. record { top = record { start = a.location; consequent = h.opens.consequent; alternative = Some f.sequence }; others = h.other_ifs; are = h.opens.kept; alternative = λ e. (f.sequence, refl) })
       l.construct (is_kind kind.Else is_else) inside
 
-  -- ---- the instruction of the `if`, or why it is not appended
+  -- ---- appending the instruction of the `if`
 
-  -- what an append that is refused for no `if` would need
+  -- appending is never refused for lack of an `if`
   absurd_if : (k : (c.kind ≡ kind.If) ⊎ (c.kind ≡ kind.Else)) (p : BodyParser) → reverse p.if_else.items ≡ ifs → p.context.frames ≡ mid.frames → (alternative : Option ℕ) → (c.kind ≡ kind.If → (n : ℕ) × (alternative ≡ Some n)) → HasNoIf p alternative → ⊥
   absurd_if k p same frames alternative given (inl none) =
       let h = has_if k in
@@ -189,7 +189,7 @@ module _ (old mid end : OpenTrees) (ifs : List IfElseState) (s : Sequence Occurr
           by_given None q = let n = (has_if k).alternative is in let r : Some n.0 ≡ None = sym n.1 ∙ ap (λ (t : IfElseState). t.alternative) e ∙ q in cc r
   absurd_if k p same frames alternative given (inr (inr none)) = some_around (env_of old) (state_with old ifs) l ls s f mid.frames keeps popped.closes.frames (sym frames ∙ none)
 
-  -- behind an alternative
+  -- after an alternative
   pub steps_else : c.kind ≡ kind.Else → (p q : BodyParser) → p.context ≡ end → reverse p.if_else.items ≡ ifs → (r : Result (Unit {0}) ParseError) → OnOk r (AppendsIf p q None) → IfErr r (λ e. (e ≡ Memory) ⊎ HasNoIf p None) →
       IsStep (env_of old) (state_with q.context (reverse q.if_else.items)) (l ∷ ls) s end_operation place location r
   steps_else is_else p q at same (Ok u) ok err =
@@ -199,7 +199,7 @@ module _ (old mid end : OpenTrees) (ifs : List IfElseState) (s : Sequence Occurr
   steps_else is_else p q at same (Err e) ok (inr lacks) =
       absurd (absurd_if (inr is_else) p same (ap (λ (z : OpenTrees). z.frames) at ∙ frames_end) None (λ is_if. absurd (let k : kind.If ≡ kind.Else = sym is_if ∙ is_else in cc k)) lacks)
 
-  -- behind a consequent
+  -- after a consequent
   pub steps_if_alone : c.kind ≡ kind.If → (takes gives : List (ValType ℕ)) → takes ≡ c.start_types.items → gives ≡ c.end_types.items → (id : ℕ) (p q : BodyParser) → IsSomeAnd (existing end.module.types takes gives) (λ t. AddsEmpty end p.context t id) →
       reverse p.if_else.items ≡ ifs → (r : Result (Unit {0}) ParseError) → OnOk r (AppendsIf p q (Some id)) → IfErr r (λ e. (e ≡ Memory) ⊎ HasNoIf p (Some id)) →
       IsStep (env_of old) (state_with q.context (reverse q.if_else.items)) (l ∷ ls) s end_operation place location r
@@ -216,9 +216,9 @@ module _ (old mid end : OpenTrees) (ifs : List IfElseState) (s : Sequence Occurr
       of_pick (Some t) e a (Err fault) ok (inr lacks) =
           absurd (absurd_if (inl is_if) p same (ap (λ (z : OpenTrees). z.frames) a.is ∙ frames_end) (Some id) (λ k. (id, refl)) lacks)
 
--- ---- an `end` around which there is a construct
+-- ---- an `end` inside a construct
 
--- where two frames are open, the innermost is that of a construct
+-- if two frames are open, the innermost is that of a construct
 pub of_layers : (old : OpenTrees) (ifs : List IfElseState) (P : List (Layer Occurrence) → Sequence Occurrence → Type 0) → 1 < length old.frames →
     ((l : Layer Occurrence) (ls : List (Layer Occurrence)) (s : Sequence Occurrence) → Keeps (env_of old) (state_with old ifs) (l ∷ ls) s → P (l ∷ ls) s) → (ls : List (Layer Occurrence)) (s : Sequence Occurrence) → Keeps (env_of old) (state_with old ifs) ls s → P ls s
 of_layers old ifs P many go [] s keeps =
@@ -234,7 +234,7 @@ finishes old mid end ifs s e location c block h ended_at here keeps =
     (subst (λ n. Seals old.builder.sequences end.builder.sequences h.frame (Some n)) (sym here) (seals_end old mid end h.frame location h.closes (subst (λ n. EndsAt mid end n location) h.is_block ended_at)))
     (subst (λ gs. Holds (env_of old) old.builder.sequences [] s (length old.builder.sequences) gs ifs) h.closes.frames keeps)
 
--- ---- an instruction, and what is behind it
+-- ---- an instruction, and what follows it
 
 module _ (a b n : OpenTrees) (x : LocatedInstr) (cuts : Bool) (r : Result (Unit {0}) ParseError) (cut : cuts ≡ true) (some : 0 < length a.frames) (appended : b ≡ record a { frames = changed_at 0 (with_instr x) a.frames }) where
   both : (fs : List OpenFrame) → changed_at 0 killed (changed_at 0 (with_instr x) fs) ≡ changed_at 0 (taking x cuts) fs

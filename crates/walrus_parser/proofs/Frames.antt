@@ -1,4 +1,4 @@
--- What a parse keeps of open sequences: in another arena, with more room, and where the innermost one goes on.
+-- The open sequences in another arena, with more room, and with more in the innermost one.
 use Rattle.std.specs.Prelude.{◌≡◌, ℕ, zero, suc, ◌<◌, ◌≤◌, List, [], ◌∷◌, ◌++◌, Bool, true, false, ◌||◌, cond, slice_get}
 use Rattle.std.proofs.lemmas.List.{append-nil}
 use Rattle.std.proofs.Common.{refl, ap, sym, subst, ◌∙◌, arith}
@@ -27,7 +27,7 @@ slots_changed x n [] = refl
 slots_changed x zero (f ∷ fs) = refl
 slots_changed x (suc n) (f ∷ fs) = ap (λ ps. f.sequence ∷ ps) (slots_changed x n fs)
 
--- what no instruction changes of frames is the same around a construct as without it
+-- what instructions don't change in frames is the same inside a construct and outside it
 pub same_outside : {B : Type 0} → (view : List OpenFrame → B) → ((x : LocatedInstr) (gs : List OpenFrame) → view (changed_at 0 (with_instr x) gs) ≡ view gs) →
     (around before : List ℕ) (slot : ℕ) (p : OpenConstruct Occurrence) (fs outside : List OpenFrame) (ifs other_ifs : List IfElseState) → OpensWith around before slot p fs outside ifs other_ifs → view fs ≡ view outside
 same_outside view same around before slot (InWrapper a w) fs outside ifs other_ifs o = ap view o.0.frames ∙ same o.0.opener outside
@@ -37,7 +37,7 @@ same_outside view same around before slot (InTry a) fs outside ifs other_ifs o =
 same_outside view same around before slot (InCatch a b gs h t) fs outside ifs other_ifs o = ap view o.0.frames ∙ same o.0.opener outside
 same_outside view same around before slot (InCatchAll a b gs h) fs outside ifs other_ifs o = ap view o.0.frames ∙ same o.0.opener outside
 
--- the frames around a construct stand where they do without it
+-- the frames around a construct have the same slots as without it
 pub slots_outside : (around before : List ℕ) (slot : ℕ) (p : OpenConstruct Occurrence) (fs outside : List OpenFrame) (ifs other_ifs : List IfElseState) → OpensWith around before slot p fs outside ifs other_ifs → slots fs ≡ slots outside
 slots_outside = same_outside slots (λ x gs. slots_changed x 0 gs)
 
@@ -140,7 +140,7 @@ holds_changed env b (l ∷ ls) s t middle high f fs ifs instrs dead change h = r
   outer = h.outer;
 }
 
--- ---- a sequence with something more
+-- ---- a sequence with more after it
 
 kept_append : (env : Environment) (s t : Sequence Occurrence) → Kept env (append s t) ≡ joined_alive (is_dead s) (Kept env s) (Kept env t)
 kept_append env s t =
@@ -148,7 +148,7 @@ kept_append env s t =
     ∙ normal_append (typing_of env) (map_sequence name_at s) (map_sequence name_at t)
     ∙ ap (λ d. joined_alive d (Kept env s) (Kept env t)) (dead_reshown name_at s)
 
--- instructions that are the normal form of what is added, their sequences in slots from `low` on
+-- instructions that are the normal form of an added sequence, with their own sequences in slots from `low` on
 pub record AreNormal (env : Environment) (b : List InstrSeq) (low high : ℕ) (around : List ℕ) (more : List LocatedInstr) (t : Sequence Occurrence) : Type 0 where
   pub items : Items SequenceAt LocatedInstr
   pub are_items : AreItems b more items
@@ -184,9 +184,9 @@ kept_drop env b middle high f around s t k dead wider =
       is_dead = dead ∙ ap (λ d. d || is_dead t) (sym is_cut) ∙ sym (dead_append s t);
     }
 
--- ---- the innermost frame takes an instruction
+-- ---- the innermost frame with one more instruction
 
--- one more instruction, behind which the frame is dead or not; or where it was dead, all as it was
+-- one more instruction, after which the frame may be dead; a frame that was dead is unchanged
 abbrev pub taken : LocatedInstr → Bool → OpenFrame → OpenFrame
 taken x cut f = with_body f (cond f.dead f.instrs (f.instrs ++ x ∷ [])) (f.dead || cut)
 
@@ -220,7 +220,7 @@ holds_takes env b ls s t middle high f fs ifs x cut wider is a =
     holds_changed env b ls s (append s t) middle high f fs ifs (cond f.dead f.instrs (f.instrs ++ x ∷ [])) (f.dead || cut)
     (kept_takes env b middle high f (slots fs) s t x cut f.dead refl wider is a)
 
--- an operator that is dropped leaves the frame as it was
+-- an operator that is dropped leaves the frame unchanged
 kept_passes : (env : Environment) (b : List InstrSeq) (high : ℕ) (f : OpenFrame) (around : List ℕ) (s t : Sequence Occurrence) (d : Bool) → f.dead ≡ d → is_dead t ≡ false → Kept env t ≡ no_items →
     IsKept env b high f around s → IsKept env b high f around (append s t)
 kept_passes env b high f around s t true dead is none k = kept_drop env b high high f around s t k dead (omega arith)

@@ -1,5 +1,4 @@
--- A clause of a legacy `try`: its name, or the first rule that it breaks, and what the calls of the context make of what was
--- kept.
+-- A clause of a legacy `try`: its name or the first rule that it breaks, and the state after the calls of the context.
 use Rattle.std.proofs.Common.{◌≡◌, ◌≢◌, ◌⊎◌, inl, inr, OnOk, IfErr, IsSomeAnd, ℕ, List, [], ◌∷◌, ◌++◌, length, Bool, true, false, Option, Some, None, option_and_then, is_some, slice_get, Result, Ok, Err, refl, sym, ap, ◌∙◌, subst}
 use Rattle.walrus_ir.specs.declared.control.BlockKind.{BlockKind}
 use Rattle.walrus_ir.specs.declared.control.BlockKind.TheVariants as kind
@@ -40,7 +39,7 @@ use Rattle.walrus_parser.proofs.Partings.{seals_end, some_is, some_around}
 use Rattle.walrus_parser.proofs.Rules.{named_catch, named_catch_all}
 use Rattle.walrus_parser.proofs.Steps.{Seals, catch_parts, catch_all_parts}
 
--- ---- a clause is added behind an instruction that is a `try`
+-- ---- adding a clause to an instruction that is a `try`
 
 some_same : {A : Type 0} (x y : A) → Some x ≡ Some y → x ≡ y
 some_same x y e = cc
@@ -62,7 +61,7 @@ module _ (clause : LegacyCatch) (t : Try) (location : ℕ) where
       by_dead true e = rw e refl
       by_dead false e = rw (e, last_clause clause f.instrs old) refl
 
--- The frame around the innermost is one behind which the `try` stands, so it has the clause.
+-- The frame around the innermost ends in the `try`, so the clause is added to it.
 pub record GetsClause (clause : LegacyCatch) (g : OpenFrame) (fs all : List OpenFrame) : Type 0 where
   pub around : List OpenFrame
   pub are : all ≡ g ∷ around
@@ -97,7 +96,7 @@ gets_clause clause g (f ∷ fs) all e = by_answer (with_clause clause f) refl e
             no_other : (j : _) (t : Try) → j ≡ instr.Try t → ⊥
             no_other j t e = absurd cc
 
--- so it can't be refused
+-- so the clause can't be refused
 pub has_try : (clause : LegacyCatch) (g : OpenFrame) (fs outside : List OpenFrame) (x : LocatedInstr) (e : ParseError) → fs ≢ [] → fs ≡ changed_at 0 (with_instr x) outside → IsTry x.0 → with_clause_around clause (g ∷ fs) ≡ Err e → ⊥
 has_try clause g fs [] x e some frames opener refused = some frames
 has_try clause g fs (o ∷ os) x e some frames opener refused =
@@ -145,7 +144,7 @@ module _ (env : Environment) (f : Frame Occurrence) (fs : List (Frame Occurrence
       by_answers true (Err e) = refl
       by_answers false r = refl
 
--- where the innermost frame is that of this construct
+-- whether a clause is allowed, if the innermost frame is that of this construct
 stands_behind : (p : OpenConstruct Occurrence) → is_some (catch_moves (frame_of p)) ≡ has_clauses (kind_in p)
 stands_behind (InWrapper a OfBlock) = refl
 stands_behind (InWrapper a OfLoop) = refl
@@ -175,7 +174,7 @@ behind_try kind.FunctionEntry e = absurd cc
 behind_try kind.TryTable e = absurd cc
 behind_try kind.CatchAll e = absurd cc
 
--- ---- what a tag's handler takes
+-- ---- the parameters of a handler
 
 abbrev IsTagged : Environment → Option ℕ → List (ValType ℕ) → Type 0
 IsTagged env (Some tag) types = (typing_of env).tag_parameters tag ≡ types
@@ -204,7 +203,7 @@ is_tagged env (Some n) h e = by_id (id_at env Tags n) e
     by_id (Ok u) q = by_type u (tag_type env u) refl q
     by_id (Err f) q = absurd cc
 
--- the construct behind a clause, and the parse
+-- the construct after a clause, and the parse
 abbrev parted_by : Option ℕ → OpenConstruct Occurrence → Sequence Occurrence → Occurrence → Option (OpenConstruct Occurrence)
 parted_by (Some tag) p s x = parted_by_catch p s x tag
 parted_by None p s x = parted_by_catch_all p s x
@@ -214,7 +213,7 @@ further_by : (tag : Option ℕ) (x : Occurrence) (l : Layer Occurrence) (ls : Li
 further_by (Some tag) x l ls s = refl
 further_by None x l ls s = refl
 
--- ---- behind the frame that is closed, as the code shows it
+-- ---- after the innermost frame is closed
 
 module _ (old mid : OpenTrees) (ifs : List IfElseState) (s : Sequence Occurrence) (place location : ℕ) (c : ControlFrame) (block : ℕ) (popped : Pops old mid c block) (tag : Option ℕ) where
   abbrev f : OpenFrame
@@ -235,14 +234,14 @@ module _ (old mid : OpenTrees) (ifs : List IfElseState) (s : Sequence Occurrence
   within : (l : Layer Occurrence) (ls : List (Layer Occurrence)) → Kept (l ∷ ls) → Within l ls l.construct
   within l ls keeps = subst (λ gs. Holds (env_of old) old.builder.sequences (l ∷ ls) s (length old.builder.sequences) gs ifs) popped.closes.frames keeps
 
-  -- no clause may stand there
+  -- a clause isn't allowed there
   pub no_clause : has_clauses c.kind ≡ false → (ls : List (Layer Occurrence)) → Kept ls → named_in (env_of old) (frames_of ls) (clause_operation tag) ≡ Err CatchOutsideTry
   no_clause other [] keeps = named_clause (env_of old) OfFunction [] tag
   no_clause other (l ∷ ls) keeps = named_clause (env_of old) (frame_of l.construct) (frames_of ls) tag
       ∙ ap (clause_named (env_of old) (frame_of l.construct) (frames_of ls) tag) (stands_behind l.construct ∙ ap has_clauses (sym (within l ls keeps).encloses.kind ∙ kind_is) ∙ other)
 
   module _ (may : has_clauses c.kind ≡ true) where
-    -- what is looked up is the same as before
+    -- lookups give the same as before
     handled_before : handled (env_of old) tag ≡ handled (env_of mid) tag
     handled_before = ap (λ t. handled (env_of t) tag) (sym popped.closes.is)
 
@@ -260,7 +259,7 @@ module _ (old mid : OpenTrees) (ifs : List IfElseState) (s : Sequence Occurrence
         ∙ ap (clause_named (env_of old) (frame_of l.construct) (frames_of ls) tag) (stands_behind l.construct ∙ ap has_clauses (sym inside.encloses.kind ∙ kind_is) ∙ may)
         ∙ ap (λ r. handled (env_of old) tag >>= λ h. has_pick (env_of old) (signature h.1 r) >>= λ _. let q : Result NamedOperation ParseError = Ok (clause_operation h.0) in q) (results_around l.construct (frames_of ls) ∙ sym inside.encloses.gives ∙ ends)
 
-    -- its tag is not found
+    -- the tag isn't found
     pub not_handled : (e : ParseError) → handled (env_of mid) tag ≡ Err e → (ls : List (Layer Occurrence)) → Kept ls → named_in (env_of old) (frames_of ls) (clause_operation tag) ≡ Err e
     not_handled e after [] keeps = absurd (not_outermost keeps)
     not_handled e after (l ∷ ls) keeps = let is : handled (env_of old) tag ≡ Err e = handled_before ∙ after in named_as l ls keeps ∙ ap (λ r. r >>= λ h. has_pick (env_of old) (signature h.1 c.end_types.items) >>= λ _. let q : Result NamedOperation ParseError = Ok (clause_operation h.0) in q) is
@@ -279,7 +278,7 @@ module _ (old mid : OpenTrees) (ifs : List IfElseState) (s : Sequence Occurrence
           ∙ ap (λ r. r >>= λ q. has_pick (env_of old) (signature q.1 c.end_types.items) >>= λ _. let k : Result NamedOperation ParseError = Ok (clause_operation q.0) in k) is_handled
           ∙ ap (λ p. unless (is_some p) TypeMissing >>= λ _. let k : Result NamedOperation ParseError = Ok (clause_operation h.0) in k) ((λ i. existing (sym same_module i).types h.1 (sym gives_is i)) ∙ picks)
 
-      -- the module lacks the pick for its handler
+      -- the module has no picked type for the handler
       pub no_pick : existing end.module.types h.1 gives ≡ None → (ls : List (Layer Occurrence)) → Kept ls → named_in (env_of old) (frames_of ls) (clause_operation tag) ≡ Err TypeMissing
       no_pick none [] keeps = absurd (not_outermost keeps)
       no_pick none (l ∷ ls) keeps = named_by l ls None keeps none
@@ -288,7 +287,7 @@ module _ (old mid : OpenTrees) (ifs : List IfElseState) (s : Sequence Occurrence
         frames_pushed : pushed.frames ≡ new_frame (handler_kind h.0) h.1 gives id ∷ mid.frames
         frames_pushed = ap (λ (z : OpenTrees). z.frames) opens.is ∙ ap (λ fs. new_frame (handler_kind h.0) h.1 gives id ∷ fs) (ap (λ (z : OpenTrees). z.frames) ended.is)
 
-        -- the frame around has the clause, since it is one behind which the `try` stands
+        -- the frame around can take the clause, since it ends in the `try`
         pub not_refused : (e : ParseError) → with_clause_around (clause_of h.0 id) pushed.frames ≡ Err e → (ls : List (Layer Occurrence)) → Kept ls → ⊥
         not_refused e refused [] keeps = not_outermost keeps
         not_refused e refused (l ∷ ls) keeps =

@@ -1,4 +1,4 @@
--- Labels: the slots of the open frames fall from the innermost outwards, so a branch to the slot of a label goes to that
+-- Labels: the slots of the open frames decrease from the innermost outwards, so a branch to the slot of a label goes to that
 -- label; and the frames are handlers where those around the operator are.
 use Rattle.std.specs.Prelude.{◌≡◌, ℕ, zero, suc, ◌<◌, ◌≤◌, ◌==◌, nat_lt, List, [], ◌∷◌, length, map, true, false, if◌then◌else◌, Option, Some, None, slice_get, Result, Ok}
 use Rattle.std.specs.List.{AllByRecursion}
@@ -66,7 +66,7 @@ within_lower [] high n p a e = absurd cc
 within_lower (q ∷ ps) high zero p a e = let same : q ≡ p = cc in let b = a.0 in omega arith
 within_lower (q ∷ ps) high (suc n) p a e = within_lower ps high n p a.1 e
 
--- the place of the n-th open sequence is the target n
+-- the slot of the n-th open sequence is the target n
 pub target_of_label : (ps : List ℕ) (n p : ℕ) → Fall ps → slice_get ps n ≡ Some p → target_in ps p ≡ Depth n
 target_of_label [] n p f e = absurd cc
 target_of_label (q ∷ ps) zero p f e = let same : q ≡ p = cc in let is : (p == q) ≡ true = grind arith in ap (λ t. if t then Depth 0 else deeper (target_in ps p)) is
@@ -80,7 +80,7 @@ target_of_label (q ∷ ps) (suc n) p f e =
 abbrev kinds : List OpenFrame → List BlockKind
 kinds fs = map (λ (f : OpenFrame). f.kind) fs
 
--- each is the kind of a handler where the frame is one
+-- each kind is that of a handler exactly if its frame is one
 abbrev pub AreKindsOf : {A : Type 0} → List (Frame A) → List BlockKind → Type 0
 AreKindsOf [] [] = Unit {0}
 AreKindsOf [] (k ∷ ks) = ⊥
@@ -147,7 +147,7 @@ module _ {A : Type 0} where
           let long = many in
           let is : nat_lt n (length gs) ≡ false = grind arith in rw is refl
 
--- The open frames are those around the operator, as far as depths see them.
+-- The open frames match those around the operator, as far as depths can tell.
 pub record AreSeenAs {A : Type 0} (gs : List (Frame A)) (fs : List OpenFrame) : Type 0 where
   pub as_many : length fs ≡ length gs
   pub handlers : (n : ℕ) → handler_in fs n ≡ handler_label gs n

@@ -1,4 +1,4 @@
--- What is kept while a body is parsed.
+-- The state while a body is parsed.
 pub mod Closing
 pub mod Frames
 pub mod Constructs

@@ -1,4 +1,4 @@
--- The mapping of the operators that were read so far, and the location function that it is.
+-- The mapping of the operators read so far, and its location function.
 use Rattle.std.specs.Prelude.{◌≡◌, ◌≢◌, ◌⊎◌, ℕ, ◌+◌, ◌-◌, ◌<◌, ◌≤◌, ◌==◌, if◌then◌else◌, List, [], ◌∷◌, ◌++◌, map, Bool, true, false, Option, Some, None}
 use Rattle.std.specs.Borrow.{Bor}
 use Rattle.std.specs.Fn.{Shared}
@@ -38,7 +38,7 @@ module _ {F : Type 0} (g : Shared F (Bor ℕ × Unit {0}) ℕ) (o : Option (Bor 
     answers = all-append (λ y. Locates g o y.place y.location) xs x m.answers located;
   }
 
--- ---- what the mapping answers
+-- ---- the locations in the mapping
 
 other : (b : Bool) (k l : ℕ) → b ≡ false → (if b then k else l) ≡ l
 other true k l e = absurd cc
@@ -71,7 +71,7 @@ found_all offset (x ∷ xs) from below fits rise =
     )
 
 module _ {F : Type 0} (g : Shared F (Bor ℕ × Unit {0}) ℕ) where
-  -- the mapping answers for each operator its location
+  -- the mapping has each operator's location
   pub mapped_locations : (o : Option (Bor F)) (offset from below : ℕ) (xs : List Occurrence) (mapping : List (ℕ × ℕ)) → offset ≤ from → IsMapping g o offset from below xs mapping →
       AllByRecursion (λ x. x.location ≡ location_at (locations_in o offset mapping) x.place) xs
   mapped_locations None offset from below xs mapping fits m = all-mapped (λ x. Locates g None x.place x.location) (λ x. x.location ≡ x.place) (λ x p. p.1) xs m.answers
@@ -83,7 +83,7 @@ pub mapped_both : {F : Type 0} (o : Option F) (offset : ℕ) (mapping : List (�
 mapped_both None offset mapping = tt
 mapped_both (Some f) offset mapping = tt
 
--- the caller may ask at the next operator
+-- the function may be called at the next operator
 pub may_ask_next : {F : Type 0} (pre : F → Bor ℕ → Type 0) (o : Option (Bor F)) (from to place : ℕ) → from ≤ place → place < to → MayAsk pre o from to → MayAsk pre o place (place + 1)
 may_ask_next pre None from to place low high may = tt
 may_ask_next pre (Some f) from to place low high may = λ p least most. may p (omega arith) (omega arith)

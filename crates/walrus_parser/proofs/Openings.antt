@@ -1,4 +1,4 @@
--- A construct is opened: what the calls of the context make of what was kept.
+-- Opening a construct: the state after the calls of the context.
 use Rattle.std.proofs.Common.{arith, reverse, ◌≡◌, ◌⊎◌, inl, inr, ◌<◌, ◌≤◌, OnOk, IfErr, ℕ, List, [], ◌∷◌, ◌++◌, length, Option, Some, None, Result, Ok, Err, IsSomeAnd, unwrap_or, refl, sym, ap, ◌∙◌, subst}
 use Rattle.std.proofs.lemmas.List.{reverse-append}
 use Rattle.walrus_ir.specs.declared.instr.Instr.{Instr}
@@ -38,13 +38,13 @@ use Rattle.walrus_parser.specs.BodyParsers.{state_with}
 use Rattle.walrus_parser.proofs.Rules.{named_opener}
 use Rattle.walrus_parser.proofs.Steps.{steps_opened, steps_if}
 
--- the name of an opener around which any frames are
+-- the name of an opener, with any frames around it
 opener_is : (env : Environment) (ls : List (Layer Occurrence)) (opcode : Opcode) (construct : Construct) (b : BlockType) (s : Signature) (t : InstrSeqType) → control_of (operation opcode (block b ∷ [])) ≡ OpensConstruct construct →
     ((z : Signature) → control_of (operation opcode (block z ∷ [])) ≡ OpensConstruct construct) → name_block env b ≡ Ok s → pick env.types s ≡ Some t → named_in env (frames_of ls) (operation opcode (block b ∷ [])) ≡ Ok (operation opcode (block s ∷ []))
 opener_is env [] opcode construct b s t raw named is picked = named_opener env OfFunction [] opcode construct b raw named ∙ rw (is, picked) refl
 opener_is env (l ∷ ls) opcode construct b s t raw named is picked = named_opener env (frame_of l.construct) (frames_of ls) opcode construct b raw named ∙ rw (is, picked) refl
 
--- the first rule that an opener breaks, by that of its block type
+-- the first rule that an opener breaks, which is one about its block type
 pub opener_faults : (env : Environment) (ls : List (Layer Occurrence)) (opcode : Opcode) (construct : Construct) (b : BlockType) (f : ParseError) → control_of (operation opcode (block b ∷ [])) ≡ OpensConstruct construct →
     ((z : Signature) → control_of (operation opcode (block z ∷ [])) ≡ OpensConstruct construct) → opened_type env b ≡ Err f → named_in env (frames_of ls) (operation opcode (block b ∷ [])) ≡ Err f
 opener_faults env ls opcode construct b f raw named e = by_frames ls
@@ -61,7 +61,7 @@ opener_faults env ls opcode construct b f raw named e = by_frames ls
     by_frames [] = named_opener env OfFunction [] opcode construct b raw named ∙ refused (name_block env b) e
     by_frames (l ∷ ls) = named_opener env (frame_of l.construct) (frames_of ls) opcode construct b raw named ∙ refused (name_block env b) e
 
--- what a new frame is, by what was named
+-- the new frame, from the named block type
 pub record Named (c m : OpenTrees) (k : BlockKind) (b : BlockType) (id : ℕ) : Type 0 where
   pub signature : Signature
   pub is_named : name_block (env_of c) b ≡ Ok signature
@@ -77,7 +77,7 @@ named_as c m k b id (Ok s) e h = by_pick (pick c.module.types s) refl h
     by_pick None p q = absurd q
 named_as c m k b id (Err f) e h = absurd h
 
--- Constructs whose instruction is appended to the frame around at their opener.
+-- Constructs whose instruction is appended to the frame around when they are opened.
 pub record IsOpenedAtOnce (env : Environment) (construct : Construct) (k : BlockKind) (IsOpener : Instr → Type 0) : Type 0 where
   pub kind : (a : Occurrence) → k ≡ kind_in (opened a construct)
   pub takes : (a : Occurrence) (types : List (ValType ℕ)) → TakesParameters env (opened a construct) types
@@ -108,7 +108,7 @@ module _ (c m n : OpenTrees) (ifs : List IfElseState) (ls : List (Layer Occurren
       state_with n ifs ≡ record { arena = c.builder.sequences ++ empty_sequence (length c.builder.sequences) h.type ∷ []; frames = new_frame k h.signature.parameters h.signature.results id ∷ changed_at 0 (with_instr x) c.frames; ifs = ifs }
   state_is k h x e = ap (λ z. state_with z ifs) (e ∙ ap (λ (z : OpenTrees). record z { frames = changed_at 1 (with_instr x) z.frames }) h.opens.is)
 
-  -- Its name is an opener of the construct, and takes and gives what was named.
+  -- Its name is an opener of the construct, with the parameters and results of the named block type.
   pub opens_as : (k : BlockKind) (h : Named c m k b id) (construct : Construct) (IsOpener : Instr → Type 0) (i : Instr) (o : RawOperation) (named : NamedOperation) → IsOpenedAtOnce (env_of c) construct k IsOpener →
       named_in (env_of c) (frames_of ls) o ≡ Ok named → control_of named ≡ OpensConstruct construct → block_signature named ≡ h.signature → slots_in i ≡ id ∷ [] → clauses_of_try i ≡ [] → aimed (slots c.frames) (operation_of i) ≡ kept_operation named →
       IsOpener i → Appended i → Advances (env_of c) (state_with n ifs) ls s o place location
@@ -143,7 +143,7 @@ module _ (c m n : OpenTrees) (ifs : List IfElseState) (ls : List (Layer Occurren
       opens_as k h construct IsOpener i (operation opcode (block b ∷ [])) (operation opcode (block h.signature ∷ [])) at_once
       (opener_is (env_of c) ls opcode construct b h.signature h.type raw control h.is_named h.picked) (control h.signature) refl places no_clauses aims is_opener e
 
-  -- `if`, whose instruction is still to come
+  -- `if`, whose instruction is appended later
   pub opens_if : OpensAs c m kind.If id (name_block (env_of c) b) → Advances (env_of c) (state_with m (record { start = location; consequent = id; alternative = None } ∷ ifs)) ls s (operation (Byte 0x04) (block b ∷ [])) place location
   opens_if o =
       let h = named_as c m kind.If b id (name_block (env_of c) b) refl o in
@@ -159,7 +159,7 @@ module _ (c m n : OpenTrees) (ifs : List IfElseState) (ls : List (Layer Occurren
       refl
       (ap (λ z. state_with z (made ∷ ifs)) h.opens.is)
 
-  -- the append behind the new frame is refused for want of memory alone, as there is a frame around
+  -- appending is refused only if memory runs out, since there is a frame around
   pub appended_steps : (k : BlockKind) (h : OpensAs c m k id (name_block (env_of c) b)) (i : Instr) (o : RawOperation) (r : Result (Unit {0}) ParseError) → OnOk r ((1 < length m.frames) × Appended i) →
       IfErr r (λ e. (e ≡ Memory) ⊎ ((e ≡ NoSuchLabel) × (length m.frames ≤ 1))) → (Appended i → Advances (env_of c) (state_with n ifs) ls s o place location) → IsStep (env_of c) (state_with n ifs) ls s o place location r
   appended_steps k h i o (Ok u) ok err adv = adv ok.1
@@ -170,11 +170,11 @@ module _ (c m n : OpenTrees) (ifs : List IfElseState) (ls : List (Layer Occurren
       let around : 0 < length c.frames = rw (holds_length (env_of c) c.builder.sequences ls s (length c.builder.sequences) c.frames ifs keeps) (some_frame ls) in
       absurd (let many : length m.frames ≡ length (new_frame k named.signature.parameters named.signature.results id ∷ c.frames) = ap length frames in let few = is.1 in omega arith)
 
--- the last of a list is the first of the list reversed
+-- the last item of a list is the first of the reversed list
 pub reverse_last : {A : Type 0} (xs : List A) (x : A) → reverse (xs ++ x ∷ []) ≡ x ∷ reverse xs
 reverse_last xs x = reverse-append xs (x ∷ [])
 
--- where an `if` is pushed on a list of them, or memory runs out
+-- an `if` is pushed on the list of them, or memory runs out
 pub pushed_steps : (env : Environment) (c : OpenTrees) (old new : List IfElseState) (ls : List (Layer Occurrence)) (s : Sequence Occurrence) (place location : ℕ) (o : RawOperation) (x : IfElseState) (r : Result (Unit {0}) ParseError) → OnOk r (new ≡ old ++ x ∷ []) → IfErr r (λ e. e ≡ Memory) →
     Advances env (state_with c (x ∷ reverse old)) ls s o place location → IsStep env (state_with c (reverse new)) ls s o place location r
 pushed_steps env c old new ls s place location o x (Ok u) ok err adv = subst (λ ifs. Advances env (state_with c ifs) ls s o place location) (sym (reverse_last old x) ∙ ap reverse (sym ok)) adv

@@ -1,4 +1,4 @@
--- The next sequence of a construct, and its end: what the calls of the context make of what was kept.
+-- The next sequence of a construct, and its end: the state after the calls of the context.
 use Rattle.std.proofs.Common.{arith, ◌≡◌, ◌≢◌, ◌<◌, ◌+◌, ℕ, zero, suc, List, [], ◌∷◌, ◌++◌, length, reverse, slice_get, slice_set, true, false, Option, Some, None, is_some, IsSomeAnd, Result, Ok, Err, refl, sym, ap, ◌∙◌, subst}
 use Rattle.std.proofs.lemmas.List.{reverse-append}
 use Rattle.std.proofs.lemmas.Option.{slice_get_within}
@@ -30,7 +30,7 @@ use Rattle.walrus_parser.proofs.Rules.{named_else}
 use Rattle.walrus_parser.proofs.Sealing.{set_written}
 use Rattle.walrus_parser.proofs.Steps.{Seals, else_parts}
 
--- the last item of a list replaced, as the list is reversed
+-- replacing the last item of a list, in terms of the reversed list
 record SetLast {A : Type 0} (xs : List A) (i : ℕ) (x y : A) : Type 0 where
   pub others : List A
   pub before : reverse xs ≡ x ∷ others
@@ -84,12 +84,12 @@ pub some_is : {A : Type 0} {P : A → Type 0} (o : Option A) → IsSomeAnd o P �
 some_is (Some x) h = (x, refl, h)
 some_is None h = absurd h
 
--- a sequence is open
+-- at least one sequence is open
 pub some_open : (env : Environment) (p : ParseState) (ls : List (Layer Occurrence)) (s : Sequence Occurrence) → Keeps env p ls s → p.frames ≡ [] → ⊥
 some_open env p [] s h e = subst (λ fs. Holds env p.arena [] s (length p.arena) fs p.ifs) e h
 some_open env p (l ∷ ls) s h e = subst (λ fs. Holds env p.arena (l ∷ ls) s (length p.arena) fs p.ifs) e h
 
--- and one around it, where a construct is open
+-- and one around it, if a construct is open
 pub some_around : (env : Environment) (p : ParseState) (l : Layer Occurrence) (ls : List (Layer Occurrence)) (s : Sequence Occurrence) (f : OpenFrame) (fs : List OpenFrame) → Keeps env p (l ∷ ls) s → p.frames ≡ f ∷ fs → fs ≢ []
 some_around env p l ls s f fs keeps frames none =
     let many : length p.frames ≡ length (frames_of (l ∷ ls)) = holds_length env p.arena (l ∷ ls) s (length p.arena) p.frames p.ifs keeps in
@@ -99,7 +99,7 @@ some_around env p l ls s f fs keeps frames none =
     let sum : length (frames_of (l ∷ ls)) ≡ length (frame_of l.construct ∷ frames_of ls) = refl in
     absurd (omega arith)
 
--- ---- behind the frame that is closed, as the code shows it
+-- ---- after the innermost frame is closed
 
 pub stands_popped : (old mid : OpenTrees) (c : ControlFrame) (block : ℕ) → Pops old mid c block → block < length mid.builder.sequences
 stands_popped old mid c block h =
@@ -147,7 +147,7 @@ module _ (old mid : OpenTrees) (ifs : List IfElseState) (s : Sequence Occurrence
     abbrev HasPick : Type 0
     HasPick = (t : InstrSeqType) × (existing old.module.types takes gives ≡ Some t)
 
-    -- what the `if` that is open keeps
+    -- the state of the open `if`
     pub pick_kept : c.kind ≡ kind.If → (ls : List (Layer Occurrence)) → Kept ls → HasPick
     pick_kept is_if [] keeps =
         let outermost = subst (λ gs. Holds (env_of old) old.builder.sequences [] s (length old.builder.sequences) gs ifs) popped.closes.frames keeps in
@@ -211,7 +211,7 @@ module _ (old mid : OpenTrees) (ifs : List IfElseState) (s : Sequence Occurrence
               (ap (with_alternative alternative) h.opens.kept)
               h
 
--- a pick that is there isn't missing
+-- a picked type that exists isn't missing
 pub missing : (old mid end : OpenTrees) (block location : ℕ) (c : ControlFrame) → Pops old mid c block → EndsAt mid end block location → (takes gives : List (ValType ℕ)) (t : InstrSeqType) →
     existing old.module.types takes gives ≡ Some t → existing end.module.types takes gives ≡ None → ⊥
 missing old mid end block location c popped ended takes gives t some none =

@@ -1,5 +1,5 @@
--- An operator with places for labels, and its name: both are made, or both are refused for the same fault, and the tree holds
--- the same operator.
+-- An operator with slots for labels, and its name: both exist, or both are refused for the same fault, and the tree has the
+-- same operator.
 use Rattle.std.specs.Prelude.{◌≡◌, ℕ, nat_lt, List, [], ◌∷◌, length, drop, Bool, true, false, Option, Some, None, slice_get, Result, Ok, Err}
 use Rattle.std.proofs.lemmas.Bool.{ltb-true, ltb-false}
 use Rattle.std.proofs.lemmas.List.{length-map}
@@ -61,7 +61,7 @@ module _ {A : Type 0} (env : Environment) (fs : List (Frame A)) (open_frames : L
     counts = λ n u e. refl;
   }
 
-  -- ---- they are refused alike
+  -- ---- both are refused for the same fault
 
   label_alike : (n : ℕ) → Alike {E = ParseError} (some_or (slice_get ps n) NoSuchLabel) (open_label fs n)
   label_alike n = by_test (nat_lt n (length fs)) refl
@@ -97,7 +97,7 @@ module _ {A : Type 0} (env : Environment) (fs : List (Frame A)) (open_frames : L
 
   -- ---- an operator
 
-  -- the name of an operator whose place is known, and what the tree holds of it
+  -- the name of an operator with slots for its labels; the tree has the same operator for both
   pub record IsNamedAs (o : RawOperation) (placed : PlacedOperation) : Type 0 where
     pub named : NamedOperation
     pub is_named : translate (naming env fs) o ≡ Ok named

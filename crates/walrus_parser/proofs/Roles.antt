@@ -1,4 +1,4 @@
--- What the operators that are carried do to the control.
+-- What the supported operators do to the control.
 use Rattle.std.specs.Prelude.{◌≡◌, ◌≢◌, ℕ, List, ◌∷◌, Bool, true, false, Option, Some, None}
 use Rattle.std.proofs.Common.{refl, ap, ◌∙◌}
 use Rattle.walrus_ir.specs.declared.unary.UnaryOp.{UnaryOp}
@@ -33,7 +33,7 @@ use Rattle.wasm_body.specs.Control.{Role, an_unreachable, a_branch, a_conditiona
 use Rattle.wasm_body.specs.NormalForm.{Fate, Stays, Cuts, fate}
 use Rattle.walrus_parser.specs.OperatorKinds.{is_instruction, is_cut}
 
--- ---- plain operators, by the tables of their opcodes
+-- ---- plain operators, from the tables of their opcodes
 
 plain_unary : (op : UnaryOp) → role_of (unary_opcode op) ≡ a_plain
 plain_unary unary.I32Eqz = refl
@@ -100,7 +100,7 @@ plain_atomic _ = refl
 
 -- ---- operators by themselves
 
--- what becomes of an operator of the role, where it stands by itself and makes an instruction
+-- the effect of an operator of this role, if it makes an instruction by itself
 abbrev pub fate_of_role : Role → Option Fate
 fate_of_role an_unreachable = Some Cuts
 fate_of_role a_branch = Some Cuts
@@ -154,7 +154,7 @@ pub record DoesAs (c : Control) (t : Fate) : Type 0 where
   pub does : c ≡ Does action
   pub has_fate : fate action ≡ t
 
--- a branch by a table
+-- a branch with a table
 branches_cut : {B : Type 0} → (is : List (Immediate ℕ B)) → fate (branches is) ≡ Cuts
 branches_cut (branch_table targets default ∷ is) = refl
 branches_cut _ = refl
@@ -172,7 +172,7 @@ does_as a_throw_ref t is e = record { action = ThrowRef; does = refl; has_fate =
 does_as a_plain t is e = record { action = Plain; does = refl; has_fate = cc e }
 does_as _ t is e = absurd cc
 
--- Any other operator than these makes an instruction.
+-- All operators but these make an instruction.
 pub makes_instruction : (op : Listed) → op ≢ operator.Nop → ((type : BlockType) → op ≢ operator.Block type) → ((type : BlockType) → op ≢ operator.Loop type) → ((type : BlockType) → op ≢ operator.If type) →
     op ≢ operator.Else → ((type : BlockType) → op ≢ operator.Try type) → ((tag : ℕ) → op ≢ operator.Catch tag) → op ≢ operator.CatchAll → ((depth : ℕ) → op ≢ operator.Delegate depth) →
     ((type : BlockType) (catches : List (CatchClause ℕ)) → op ≢ operator.TryTable type catches) → op ≢ operator.End → is_instruction op ≡ true

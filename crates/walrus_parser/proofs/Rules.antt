@@ -1,4 +1,4 @@
--- The name of each operator that opens, parts or closes a construct, or the first rule that it breaks, by what is looked up.
+-- The name of each operator that opens, parts or closes a construct, or the first rule that it breaks, from the lookups.
 use Rattle.std.specs.Prelude.{◌≡◌, ℕ, List, [], ◌∷◌, is_some, Bool, true, false, Result, Ok, Err}
 use Rattle.std.proofs.Common.{refl}
 use Rattle.walrus_ir.specs.Types.{Signature, signature}
@@ -18,7 +18,7 @@ use Rattle.wasm_body.specs.Naming.{Environment, NamedOperation, Occurrence, id_a
 module _ (env : Environment) (f : Frame Occurrence) (fs : List (Frame Occurrence)) where
   -- ---- openers
 
-  -- what an opener's name is, by the signature of its block type
+  -- the name of an opener, from the signature of its block type
   abbrev pub opener_named : Opcode → Result Signature ParseError → Result NamedOperation ParseError
   opener_named opcode r = r >>= λ s. has_pick env s >>= λ _. Ok (operation opcode (block s ∷ []))
 
@@ -31,7 +31,7 @@ module _ (env : Environment) (f : Frame Occurrence) (fs : List (Frame Occurrence
         by_answer (Ok s) e = rw (raw, e, named s) refl
         by_answer (Err g) e = rw (raw, e) refl
 
-  -- `try_table`: its clauses are looked up behind the block type, and the pick comes last
+  -- `try_table`: its clauses are looked up after the block type, and the picked type comes last
   abbrev pub table_named : Result Signature ParseError → Result (List (CatchClause ℕ)) ParseError → Result NamedOperation ParseError
   table_named r q = r >>= λ s. q >>= λ cs. has_pick env s >>= λ _. Ok (operation (Byte 0x1f) (block s ∷ clauses cs ∷ []))
 
@@ -56,7 +56,7 @@ module _ (env : Environment) (f : Frame Occurrence) (fs : List (Frame Occurrence
       by_test true e = rw e refl
       by_test false e = rw e refl
 
-  -- a handler's tag is looked up, then its type, then the pick
+  -- a handler's tag is looked up, then the tag's type, then the picked type
   abbrev pub catch_types : ℕ → Result (Unit {0}) ParseError
   catch_types tag = tag_type env tag >>= λ s. has_pick env (signature s.parameters (construct_results (f ∷ fs)))
 

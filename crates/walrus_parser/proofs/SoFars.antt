@@ -1,5 +1,5 @@
--- A parse so far: what is left, read from here on, is what the whole is read from its beginning, for every location function
--- that answers what was answered so far.
+-- A parse so far: reading the remaining bytes from here gives the same as reading all from the beginning, for every location
+-- function that agrees with the locations so far.
 use Rattle.std.specs.Prelude.{◌≡◌, ℕ, zero, suc, ◌+◌, ◌-◌, ◌<◌, ◌≤◌, List, [], ◌∷◌, ◌++◌, map, length, Bool, true, false, Option, Some, None, Result, Ok, Err}
 use Rattle.std.specs.Borrow.{Bor}
 use Rattle.std.specs.Fn.{Shared}
@@ -54,7 +54,7 @@ module _ {S F : Type 0} (g : Shared F (Bor ℕ × Unit {0}) ℕ) (o : Option (Bo
   abbrev pub AreLocated : Option (ℕ → ℕ) → List Occurrence → Type 0
   AreLocated locations xs = AllByRecursion (λ x. x.location ≡ location_at locations x.place) xs
 
-  -- so far these operators are read and taken, and are this much of a body
+  -- these operators are read and taken so far, and they are this part of a body
   pub record Reads (progress : Progress Occurrence) (state : S) (place : ℕ) (rest : List ℕ) (mapping : List (ℕ × ℕ)) : Type 0 where
     pub turns : ℕ
     pub operators : List Occurrence
@@ -116,7 +116,7 @@ module _ {S F : Type 0} (g : Shared F (Bor ℕ × Unit {0}) ℕ) (o : Option (Bo
   after_next locations turns ls s place size r =
       behind place r (λ h. parsed_from (given locations) turns (further (Within ls s) (mark h.operator)) h.state (place + (size - length h.rest)) h.rest)
 
-  -- there is a turn left, and it takes the next operator
+  -- a turn remains, and it takes the next operator
   pub one_turn : (turns : ℕ) (rest : List ℕ) → 0 < length rest → length rest ≤ turns → (t : ℕ) × (turns ≡ suc t)
   one_turn zero rest some enough = absurd (omega arith)
   one_turn (suc t) rest some enough = (t, refl)
@@ -126,7 +126,7 @@ module _ {S F : Type 0} (g : Shared F (Bor ℕ × Unit {0}) ℕ) (o : Option (Bo
   from_next locations both t ls s state place [] some = absurd (omega arith)
   from_next locations both t ls s state place (x ∷ rest) some = ap (after_next locations t ls s place (length (x ∷ rest))) (handled_next locations state (frames_of ls) place (x ∷ rest) both)
 
-  -- an operator that was taken and has a name
+  -- an operator that was taken, and that has a name
   pub goes_over : (ls : List (Layer Occurrence)) (s : Sequence Occurrence) (state next_state : S) (place next : ℕ) (rest after : List ℕ) (mapping : List (ℕ × ℕ)) (op : RawOperation) (location : ℕ) (named : NamedOperation) →
       Reads (Within ls s) state place rest mapping → taken (has_place o) check state place rest ≡ Ok (record { spelt = op; rest = after; state = next_state }) →
       Locates g o place location → named_in env (frames_of ls) op ≡ Ok named → next + length after ≡ place + length rest → length after < length rest →
@@ -156,16 +156,16 @@ module _ {S F : Type 0} (g : Shared F (Bor ℕ × Unit {0}) ℕ) (o : Option (Bo
             ∙ f.goes_on locations both parts.0;
       }
 
-  -- ---- where it ends
+  -- ---- the end of the parse
 
-  -- the operators that are read are those of the body
+  -- the operators read are those of the body
   pub whole_operators : (b : Body Occurrence) (state : S) (place : ℕ) (rest : List ℕ) (mapping : List (ℕ × ℕ)) (f : Reads (Whole b) state place rest mapping) → f.operators ≡ operators_of b
   whole_operators b state place rest mapping f =
       let read = text_read (map mark f.operators) nothing_read [] (subst IsRead (sym f.are_read) tt) in
       let is : body_text b ≡ map mark f.operators = ap (λ p. read_text p []) (sym f.are_read) ∙ read ∙ append-nil (map mark f.operators) in
       sym (shown_marks f.operators) ∙ ap (map (λ m. m.shown)) (sym is)
 
-  -- the location function that the mapping is
+  -- the location function of the mapping
   abbrev pub mapped : List (ℕ × ℕ) → Option (ℕ → ℕ)
   mapped mapping = locations_in o offset mapping
 
@@ -184,7 +184,7 @@ module _ {S F : Type 0} (g : Shared F (Bor ℕ × Unit {0}) ℕ) (o : Option (Bo
         ∙ from_next (mapped mapping) (mapped_both o offset mapping) t.0 ls s state place rest some
         ∙ ap (λ r. after_next (mapped mapping) t.0 ls s place (length rest) (r >>= named_taken (mapped mapping) (frames_of ls) place)) take
 
-    -- it breaks a rule
+    -- the operator breaks a rule
     pub broken : (ls : List (Layer Occurrence)) (s : Sequence Occurrence) (state next_state : S) (place : ℕ) (rest after : List ℕ) (mapping : List (ℕ × ℕ)) (op : RawOperation) (e : ParseError) →
         Reads (Within ls s) state place rest mapping → 0 < length rest → taken (has_place o) check state place rest ≡ Ok (record { spelt = op; rest = after; state = next_state }) →
         named_in env (frames_of ls) op ≡ Err e → parsed_operators (mapped mapping) ≡ Err (failure e place)
@@ -196,13 +196,13 @@ module _ {S F : Type 0} (g : Shared F (Bor ℕ × Unit {0}) ℕ) (o : Option (Bo
         ∙ ap (λ r. after_next (mapped mapping) t.0 ls s place (length rest) (r >>= named_taken (mapped mapping) (frames_of ls) place)) take
         ∙ ap (λ r. after_next (mapped mapping) t.0 ls s place (length rest) (r >>= λ n. Ok (record { operator = occurrence op place (location_at (mapped mapping) place) n; rest = after; state = next_state }))) is
 
-    -- no byte is left, and a sequence is open
+    -- no bytes remain, and a sequence is open
     pub missing : (ls : List (Layer Occurrence)) (s : Sequence Occurrence) (state : S) (place : ℕ) (rest : List ℕ) (mapping : List (ℕ × ℕ)) →
         Reads (Within ls s) state place rest mapping → length rest ≡ 0 → parsed_operators (mapped mapping) ≡ Err (failure MissingEnd place)
     missing ls s state place [] mapping f none = here (Within ls s) state place [] mapping f
     missing ls s state place (x ∷ rest) mapping f none = absurd (omega arith)
 
-    -- the body is whole, and bytes are left or not
+    -- the body is complete, with or without remaining bytes
     pub whole : (b : Body Occurrence) (state : S) (place : ℕ) (rest : List ℕ) (mapping : List (ℕ × ℕ)) → Reads (Whole b) state place rest mapping → length rest ≡ 0 → parsed_operators (mapped mapping) ≡ Ok b
     whole b state place [] mapping f none = here (Whole b) state place [] mapping f
     whole b state place (x ∷ rest) mapping f none = absurd (omega arith)

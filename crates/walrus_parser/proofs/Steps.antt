@@ -40,7 +40,7 @@ module _ (env : Environment) (old : ParseState) (ls : List (Layer Occurrence)) (
   abbrev at : NamedOperation → Occurrence
   at named = occurrence o place location named
 
-  -- what one operator further is, by its control
+  -- the state after one more operator, from its control
   keeps_as : (new : ParseState) (named : NamedOperation) (c : _) → control_of named ≡ c → KeepsProgress env new (further_within c (at named) ls s) → KeepsProgress env new (further_within (control_of named) (at named) ls s)
   keeps_as new named c e h = subst (λ d. KeepsProgress env new (further_within d (at named) ls s)) (sym e) h
 
@@ -96,7 +96,7 @@ module _ (env : Environment) (old : ParseState) (ls : List (Layer Occurrence)) (
   opened_as a OfLoop = refl
   opened_as a (OfTryTable cs) = refl
 
-  -- a construct whose instruction is appended to the frame around, which then holds no sequence of it but this
+  -- a construct whose instruction is appended to the frame around; this is its only sequence so far
   pub steps_opened : (new : ParseState) (named : NamedOperation) (c : Construct) (IsOpener : Instr → Type 0) (g : OpenFrame) (seq : InstrSeq) (x : LocatedInstr) →
       named_in env (frames_of ls) o ≡ Ok named → control_of named ≡ Opens c → IsOpened env (length old.arena) (opened (at named) c) g seq →
       closed_in (typing_of env) (reshown_construct name_at (opened (at named) c)) ≡ no_sequences →
@@ -134,7 +134,7 @@ module _ (env : Environment) (old : ParseState) (ls : List (Layer Occurrence)) (
 
 -- ---- the innermost frame is closed
 
--- Its sequence owns its instructions and ends at the location, or where none is given as before; the others are as before.
+-- The sequence has its instructions and ends at the location, or as before if there is none. The others are as before.
 pub record Seals (b c : List InstrSeq) (f : OpenFrame) (closing : Option ℕ) : Type 0 where
   pub was : InstrSeq
   pub seq : InstrSeq
@@ -166,7 +166,7 @@ module _ (env : Environment) (old : ParseState) (l : Layer Occurrence) (ls : Lis
   abbrev Inside : OpenConstruct Occurrence → Type 0
   Inside p = IsWithin env old.arena (length old.arena) f fs old.ifs p s Outside
 
-  -- a construct whose instruction stands there already
+  -- a construct whose instruction is already there
   ended_as : (p : OpenConstruct Occurrence) (IsOpener : Instr → Type 0) (new : ParseState) (e : Occurrence) (h : Inside p) → added_in (typing_of env) (reshown_construct name_at p) ≡ no_sequences →
       IsAppended (slots fs) h.before f.sequence p IsOpener fs h.outside → old.ifs ≡ h.other_ifs → Seals old.arena new.arena f (Some e.location) → new.frames ≡ fs → new.ifs ≡ old.ifs → Keeps env new ls (append l.before (closed p s e))
   ended_as p IsOpener new e h none a same_outside seals same_frames same_ifs =
@@ -184,7 +184,7 @@ module _ (env : Environment) (old : ParseState) (l : Layer Occurrence) (ls : Lis
   ended (InCatch a b cs i t) new e not_if not_else seals gs is h = ended_as (InCatch a b cs i t) IsTry new e h refl h.opens.0 h.opens.1 seals gs is
   ended (InCatchAll a b cs i) new e not_if not_else seals gs is h = ended_as (InCatchAll a b cs i) IsTry new e h refl h.opens.0 h.opens.1 seals gs is
 
-  -- `end` behind an alternative: the instruction of the `if` is appended
+  -- `end` after an alternative: the instruction of the `if` is appended
   pub chosen : (p : OpenConstruct Occurrence) (new : ParseState) (e : Occurrence) (top : IfElseState) (others : List IfElseState) (alternative : ℕ) → f.kind ≡ kind.Else → old.ifs ≡ top ∷ others → top.alternative ≡ Some alternative → Seals old.arena new.arena f (Some e.location) →
       new.frames ≡ changed_at 0 (with_instr (if_else top.consequent alternative top.start)) fs → new.ifs ≡ others → Inside p → Keeps env new ls (append l.before (closed p s e))
   chosen p new e top others alternative is_else ifs has seals gs is within =
@@ -208,7 +208,7 @@ module _ (env : Environment) (old : ParseState) (l : Layer Occurrence) (ls : Lis
           subst (λ qs. Holds env new.arena ls (append l.before (closed (InElse a b m) s e)) (length new.arena) qs new.ifs) (ap (λ x. changed_at 0 (with_instr x) fs) instr ∙ sym gs)
           (subst (λ qs. Holds env new.arena ls (append l.before (closed (InElse a b m) s e)) (length new.arena) (changed_at 0 (with_instr (if_else c f.sequence a.location)) fs) qs) (sym (is ∙ rest)) whole)
 
-  -- `end` behind a consequent: an empty alternative is made, and the instruction of the `if` is appended
+  -- `end` after a consequent: an empty alternative is made, and the instruction of the `if` is appended
   pub chosen_alone : (p : OpenConstruct Occurrence) (new : ParseState) (c : List InstrSeq) (other : InstrSeq) (e : Occurrence) (top : IfElseState) (others : List IfElseState) → f.kind ≡ kind.If → old.ifs ≡ top ∷ others → Seals old.arena c f (Some e.location) →
       pick env.types (signature f.start_types f.end_types) ≡ Some other.ty → other.instrs ≡ [] → other.end ≡ default_location → new.arena ≡ c ++ other ∷ [] →
       new.frames ≡ changed_at 0 (with_instr (if_else f.sequence (length c) top.start)) fs → new.ifs ≡ others → Inside p → Keeps env new ls (append l.before (closed p s e))
@@ -235,7 +235,7 @@ module _ (env : Environment) (old : ParseState) (l : Layer Occurrence) (ls : Lis
 
   -- ---- the next sequence of a construct
 
-  -- a new sequence in a construct that was open before
+  -- a new sequence in a construct that is already open
   record Parts (c d : List InstrSeq) (p q : OpenConstruct Occurrence) (g : OpenFrame) (location : ℕ) : Type 0 where
     pub seals : Seals old.arena c f (Some location)
     pub seq : InstrSeq
@@ -251,11 +251,11 @@ module _ (env : Environment) (old : ParseState) (l : Layer Occurrence) (ls : Lis
       subst (λ d. Holds env d (layer l.before q ∷ ls) Empty (length d) new.frames new.ifs) (sym m.grows)
       (subst (λ ks. Holds env (c ++ m.seq ∷ []) (layer l.before q ∷ ls) Empty (length (c ++ m.seq ∷ [])) ks new.ifs) (sym is) whole)
 
-  -- the construct goes on as this one, whose new sequence is empty
+  -- the construct goes on as this one, with a new empty sequence
   abbrev IsParted : ParseState → Option (OpenConstruct Occurrence) → Type 0
   IsParted new o = (q : OpenConstruct Occurrence) × (o ≡ Some q) × Keeps env new (layer l.before q ∷ ls) Empty
 
-  -- `else` behind a consequent
+  -- `else` after a consequent
   pub else_parts : (p : OpenConstruct Occurrence) (new : ParseState) (c : List InstrSeq) (seq : InstrSeq) (g : OpenFrame) (x : Occurrence) (top : IfElseState) (others : List IfElseState) → f.kind ≡ kind.If → old.ifs ≡ top ∷ others → Seals old.arena c f (Some x.location) →
       pick env.types (signature f.start_types f.end_types) ≡ Some seq.ty → seq.end ≡ default_location → new.arena ≡ c ++ seq ∷ [] → g ≡ new_frame kind.Else f.start_types f.end_types (length c) →
       new.frames ≡ g ∷ fs → new.ifs ≡ record top { alternative = Some g.sequence } ∷ others → Inside p →
@@ -285,7 +285,7 @@ module _ (env : Environment) (old : ParseState) (l : Layer Occurrence) (ls : Lis
                 gs refl (record { frames = h.opens.frames; consequent = f.sequence; one_before = ap (λ ps. ps ++ f.sequence ∷ []) h.opens.none_before; kept = states; is_if = h.opens.is_if }),
           )
 
-  -- `catch` and `catch_all` behind the body of a legacy `try` or a handler
+  -- `catch` and `catch_all` after the body of a legacy `try` or after a handler
   handler_parts : (p q : OpenConstruct Occurrence) (new : ParseState) (c : List InstrSeq) (seq : InstrSeq) (g : OpenFrame) (gs : List OpenFrame) (location : ℕ) (kind : BlockKind) (parameters : List (ValType ℕ)) (clause : LegacyCatch) → Seals old.arena c f (Some location) →
       pick env.types (signature parameters f.end_types) ≡ Some seq.ty → seq.end ≡ default_location → new.arena ≡ c ++ seq ∷ [] → g ≡ new_frame kind parameters f.end_types (length c) →
       new.frames ≡ g ∷ gs → new.ifs ≡ old.ifs → slots gs ≡ slots fs → AddsClause fs gs clause → handler_of clause ≡ length c ∷ [] → (h : Inside p) → IsAppended (slots fs) h.before f.sequence p IsTry fs h.outside → old.ifs ≡ h.other_ifs →
@@ -365,7 +365,7 @@ module _ (env : Environment) (old : ParseState) (l : Layer Occurrence) (ls : Lis
                 (closed_by_catch (typing_of env) (name_at a) (map_sequence name_at b) (map_sequence name_at s) (reshown_closed name_at cs) (name_at i) (name_at x) 0 u) (λ around before slot hs outside is js o. o),
           )
 
-  -- `delegate` behind the body of a legacy `try`
+  -- `delegate` after the body of a legacy `try`
   pub delegate_ends : (p : OpenConstruct Occurrence) (new : ParseState) (gs : List OpenFrame) (x : Occurrence) (n : ℕ) → f.kind ≡ kind.Try → Seals old.arena new.arena f None → new.frames ≡ gs → new.ifs ≡ old.ifs → AddsClause fs gs (Delegate n) → Inside p →
       (made : Sequence Occurrence) × (delegated p s x n ≡ Some made) × Keeps env new ls (append l.before made)
   delegate_ends p new gs x n is_try seals gs_are is adds within =

@@ -1,4 +1,4 @@
--- The next operator of the bytes, which a validator takes.
+-- The next operator of the bytes, if a validator accepts it.
 use Rattle.std.specs.Prelude.{◌≡◌, ℕ, List, Bool, true, false, Option, Some, None, Result, Ok, Err, ◌⊎◌}
 use Rattle.std.specs.Borrow.{Bor}
 use Rattle.std.specs.Fn.{Shared}
@@ -40,13 +40,13 @@ module _ {S : Type 0} (fits : ℕ → Bool) (check : S → Placed → Result S �
       taken fits check s place bytes ≡ Err (Checked n)
   is_refused bytes rest o n read fit checked = ap by_read read ∙ ap (by_place o rest) fit ∙ ap (by_check o rest) checked
 
-  -- the validator refused it, or wants memory
+  -- the validator refused it, or ran out of memory
   pub is_not_taken_there : (o : RawOperation) (e : CheckError) (t : S) → fits place ≡ true → Checks check s (placed_at o place) (Err e) t →
       (fault_of e ≡ Memory) ⊎ ((bytes rest : List ℕ) → read_operation bytes ≡ Ok (o, rest) → taken fits check s place bytes ≡ Err (fault_of e))
   is_not_taken_there o (Refused n) t fit checked = inr (λ bytes rest read. is_refused bytes rest o n read fit checked)
   is_not_taken_there o wants_memory t fit checked = inl refl
 
-  -- it isn't read
+  -- it can't be read
   pub is_not_read : (bytes : List ℕ) (fault : ReadFault) → read_operation bytes ≡ Err fault → taken fits check s place bytes ≡ Err (Read (record { fault = fault; at = place }))
   is_not_read bytes fault unread = ap by_read unread
 

@@ -1,4 +1,4 @@
--- `try_table`: its name, or the first rule that it breaks, and what the calls of the context make of what was kept.
+-- `try_table`: its name or the first rule that it breaks, and the state after the calls of the context.
 use Rattle.std.proofs.Common.{◌≡◌, ℕ, List, [], ◌∷◌, length, map, is_some, Result, Ok, Err, refl, sym, ap, ◌∙◌}
 use Rattle.walrus_ir.specs.declared.instr.Instr.{Instr}
 use Rattle.walrus_ir.specs.declared.instr.Instr.TheVariants as instr
@@ -34,13 +34,13 @@ module _ (b : BlockType) (cs : List (CatchClause ℕ)) where
   table_operation = operation (Byte 0x1f) (block b ∷ clauses cs ∷ [])
 
   module _ (env : Environment) where
-    -- it may stand anywhere
+    -- it is allowed anywhere
     named_table : (ls : List (Layer Occurrence)) →
         named_in env (frames_of ls) table_operation ≡ (translate (naming env (frames_of ls)) table_operation >>= λ named. has_types env (frames_of ls) (control_of named) named >>= λ _. Ok named)
     named_table [] = refl
     named_table (l ∷ ls) = refl
 
-    -- what its name is, by the signature of its block type
+    -- its name, from the signature of its block type
     table_named : (fs : List (Frame Occurrence)) (s : Signature) (named : NamedOperation) → name_block env b ≡ Ok s → translate (naming env fs) table_operation ≡ Ok named →
         (ds : List (CatchClause ℕ)) × (named ≡ operation (Byte 0x1f) (block s ∷ clauses ds ∷ []))
     table_named fs s named is e = by_clauses (each (translate_clause (naming env fs)) cs) refl
@@ -54,11 +54,11 @@ module _ (b : BlockType) (cs : List (CatchClause ℕ)) where
             let made : translate (naming env fs) table_operation ≡ Err f = rw (is, d) refl in
             absurd (let both : Ok named ≡ Err f = sym e ∙ made in cc both)
 
-    -- a rule that its immediates break is the first
+    -- the first rule that it breaks is one that its immediates break
     refused_first : (ls : List (Layer Occurrence)) (e : ParseError) → translate (naming env (frames_of ls)) table_operation ≡ Err e → named_in env (frames_of ls) table_operation ≡ Err e
     refused_first ls e is = named_table ls ∙ ap (λ r. r >>= λ named. has_types env (frames_of ls) (control_of named) named >>= λ _. let q : Result NamedOperation ParseError = Ok named in q) is
 
-    -- behind them the module must hold the pick
+    -- after these, the module must have the picked type
     pick_last : (ls : List (Layer Occurrence)) (s : Signature) (named : NamedOperation) → name_block env b ≡ Ok s → translate (naming env (frames_of ls)) table_operation ≡ Ok named → named_in env (frames_of ls) table_operation ≡ (has_pick env s >>= λ _. Ok named)
     pick_last ls s named is e =
         let shape = table_named (frames_of ls) s named is e in
@@ -66,7 +66,7 @@ module _ (b : BlockType) (cs : List (CatchClause ℕ)) where
         ∙ ap (λ r. r >>= λ named. has_types env (frames_of ls) (control_of named) named >>= λ _. let q : Result NamedOperation ParseError = Ok named in q) e
         ∙ ap (λ m. has_types env (frames_of ls) (control_of m) m >>= λ _. let q : Result NamedOperation ParseError = Ok named in q) shape.1
 
-    -- ---- what is looked up
+    -- ---- lookups
 
     block_named : (r : Result Signature ParseError) → name_block env b ≡ r → block_found env b ≡ Ok tt → (s : Signature) × (name_block env b ≡ Ok s)
     block_named (Ok s) is found = (s, is)
@@ -76,7 +76,7 @@ module _ (b : BlockType) (cs : List (CatchClause ℕ)) where
     block_lacks (Ok s) e is lacks = absurd (let both : Ok tt ≡ Err e = ap (λ r. r >>= λ s. let q : Result (Unit {0}) ParseError = Ok tt in q) (sym is) ∙ lacks in cc both)
     block_lacks (Err f) e is lacks = let both : Err f ≡ Err e = ap (λ r. r >>= λ s. let q : Result (Unit {0}) ParseError = Ok tt in q) (sym is) ∙ lacks in let same : f ≡ e = cc both in is ∙ ap Err same
 
-    -- the block type names what isn't there
+    -- the block type names a type that doesn't exist
     pub no_block : (ls : List (Layer Occurrence)) (e : ParseError) → block_found env b ≡ Err e → named_in env (frames_of ls) table_operation ≡ Err e
     no_block ls e lacks = let is = block_lacks (name_block env b) e refl lacks in refused_first ls e (rw is refl)
 
@@ -87,7 +87,7 @@ module _ (c : OpenTrees) (ifs : List IfElseState) (ls : List (Layer Occurrence))
   abbrev o : RawOperation
   o = table_operation b cs
 
-  -- a tag or a label of a clause isn't found
+  -- the tag or the label of a clause isn't found
   pub no_clause : (e : ParseError) → each (translate_clause (placing (env_of c) c.frames)) cs ≡ Err e → named_in (env_of c) (frames_of ls) o ≡ Err e
   no_clause e is = refused_first b cs (env_of c) ls e (placed_refused (env_of c) (frames_of ls) c.frames seen o e (rw (found, is) refl))
 
@@ -98,7 +98,7 @@ module _ (c : OpenTrees) (ifs : List IfElseState) (ls : List (Layer Occurrence))
     named_so : (id : ℕ) → IsNamedAs (env_of c) (frames_of ls) c.frames seen o (operation_of (table id))
     named_so id = placed_named (env_of c) (frames_of ls) c.frames seen o (operation_of (table id)) (rw (found, placed) refl)
 
-    -- the module lacks the pick for the block type
+    -- the module has no picked type for the block type
     pub no_pick : (e : ParseError) → opened_type (env_of c) b ≡ Err e → named_in (env_of c) (frames_of ls) o ≡ Err e
     no_pick e lacks =
         let named = named_so 0 in

@@ -1,4 +1,4 @@
--- How a parse goes on: what is kept of the operators so far, and one operator further.
+-- How a parse goes on: its state after the operators so far, and after one more.
 use Rattle.std.specs.Prelude.{◌≡◌, ◌⊎◌, ℕ, List, length, Bool, true, false, Result, Ok, Err}
 use Rattle.walrus_ir.specs.declared.seq.InstrSeq.{InstrSeq}
 use Rattle.wasm_operators.specs.Operations.{RawOperation}
@@ -14,13 +14,13 @@ use Rattle.walrus_context.specs.declared.frame.IfElseState.{IfElseState}
 use Rattle.walrus_context.specs.OpenFrames.{OpenFrame}
 use Rattle.walrus_context.specs.Keeping.{Holds}
 
--- the function's sequences, the open frames, innermost first, and the `if`s whose `end` is to come
+-- the function's sequences, the open frames, innermost first, and the `if`s whose `end` isn't read yet
 pub record ParseState : Type 0 where
   pub arena : List InstrSeq
   pub frames : List OpenFrame
   pub ifs : List IfElseState
 
--- The operators that were read are kept: the open constructs around the sequence so far.
+-- This is the state after the operators so far: the open constructs around the sequence so far.
 abbrev pub Keeps : Environment → ParseState → List (Layer Occurrence) → Sequence Occurrence → Type 0
 Keeps env p ls s = Holds env p.arena ls s (length p.arena) p.frames p.ifs
 
@@ -32,18 +32,18 @@ KeepsProgress env p _ = ⊥
 abbrev pub occurrence : RawOperation → (place location : ℕ) → NamedOperation → Occurrence
 occurrence o place location named = record { spelt = o; place = place; location = location; named = named }
 
--- The operator has a name, and with it what is read is kept.
+-- The operator has a name, and this is the state after it.
 pub record Advances (env : Environment) (new : ParseState) (ls : List (Layer Occurrence)) (s : Sequence Occurrence) (o : RawOperation) (place location : ℕ) : Type 0 where
   pub named : NamedOperation
   pub is_named : named_in env (frames_of ls) o ≡ Ok named
   pub keeps : KeepsProgress env new (further (Within ls s) (mark (occurrence o place location named)))
 
--- It advances the parse, or memory ran out, or it breaks a rule, of which this is the first.
+-- It advances the parse, memory ran out, or this is the first rule that it breaks.
 abbrev pub IsStep : Environment → ParseState → List (Layer Occurrence) → Sequence Occurrence → RawOperation → (place location : ℕ) → Result (Unit {0}) ParseError → Type 0
 IsStep env new ls s o place location (Ok u) = Advances env new ls s o place location
 IsStep env new ls s o place location (Err e) = (e ≡ Memory) ⊎ (named_in env (frames_of ls) o ≡ Err e)
 
--- an operator by itself is kept, and what follows it is dropped or not
+-- an operator by itself isn't dropped, and `cut` says whether what follows it is
 abbrev pub IsFate : Fate → Bool → Type 0
 IsFate Drops cut = ⊥
 IsFate Stays cut = cut ≡ false

@@ -22,8 +22,8 @@ use Rattle.walrus_parser.specs.declared.parse.ParsedOperators.{ParsedOperators}
 use Rattle.walrus_maps.specs.Environments.{environment_of}
 use Rattle.walrus_parser.specs.Settings.{given_with, BothOrNone, operators_of, locations_in, IsMapping}
 
--- What a parse is given: what the body is named by, the place of its first operator, the code offset, the caller's location
--- function, its validator with the state in which that begins, and the bytes of the operators.
+-- The input of a parse: the environment that names the parts of the body, the place of its first operator, the code offset, the
+-- caller's location function, the validator and its first state, and the bytes of the operators.
 pub record ParseInput (S F : Type 0) : Type 0 where
   pub environment : Environment
   pub start : ℕ
@@ -33,11 +33,11 @@ pub record ParseInput (S F : Type 0) : Type 0 where
   pub first : S
   pub bytes : List ℕ
 
--- the same with a function for the caller's location function
+-- the setting of a parse, with this function in place of the caller's location function
 abbrev pub setting_with : {S F : Type 0} → ParseInput S F → Option (ℕ → ℕ) → Setting S
 setting_with i locations = given_with i.environment i.start i.check i.first locations
 
--- as the operators of this function's body, the first of which stands at `start`
+-- the operators of this function's body, the first of which is at `start`
 abbrev pub input_of : {S F : Type 0} → Module → IndicesToIds → (function type start : ℕ) → (bytes : List ℕ) → Option (Bor F) → (S → Placed → Result S ℕ) → S → ParseInput S F
 input_of m indices function type start bytes on_instr_pos check first = record {
   environment = environment_of m indices function type;
@@ -53,17 +53,17 @@ input_of m indices function type start bytes on_instr_pos check first = record {
 abbrev pub body_operators : FunctionBody → List ℕ
 body_operators body = drop body.ops body.bytes.now
 
--- what a body is parsed in, with a function for the caller's location function
+-- the setting in which a body is parsed, with this function in place of the caller's location function
 abbrev pub body_setting : {S : Type 0} → Module → IndicesToIds → (function type : ℕ) → FunctionBody → (S → Placed → Result S ℕ) → S → Option (ℕ → ℕ) → Setting S
 body_setting m indices function type body check first locations =
     given_with (environment_of m indices function type) (body.start + body.ops) check first locations
 
--- the same of a body
+-- the input for a body
 abbrev pub body_input : {S F : Type 0} → Module → IndicesToIds → (function type : ℕ) → FunctionBody → Option (Bor F) → (S → Placed → Result S ℕ) → S → ParseInput S F
 body_input m indices function type body on_instr_pos check first =
     input_of m indices function type (body.start + body.ops) (body_operators body) on_instr_pos check first
 
--- as the operators that a reader has before it
+-- the input for the operators that a reader is to read
 abbrev pub operators_input : {S F : Type 0} → Environment → Position → (offset : ℕ) → Option (Bor F) → (S → Placed → Result S ℕ) → S → ParseInput S F
 operators_input env position offset on_instr_pos check first = record {
   environment = env;
@@ -75,22 +75,22 @@ operators_input env position offset on_instr_pos check first = record {
   bytes = position.rest;
 }
 
--- From its entry on the function has the tree.
+-- From its entry on, the function has this tree.
 pub record IsFunction (function : Function) (tree : FunctionTree) : Type 0 where
   pub entry : function.entry ≡ Some 0
   pub holds : HasTree function.sequences 0 tree
 
 module _ {S F : Type 0} (asks : Shared F (Bor ℕ × Unit {0}) ℕ) (i : ParseInput S F) where
-  -- there is a location function exactly where the caller handed one in
+  -- there is a location function exactly if the caller passed one
   abbrev pub AreGiven : Option (ℕ → ℕ) → Type 0
   AreGiven locations = BothOrNone i.on_instr_pos locations
 
-  -- the location function that a mapping is
+  -- the location function of a mapping
   abbrev pub mapped_by : List (ℕ × ℕ) → Option (ℕ → ℕ)
   mapped_by mapping = locations_in i.on_instr_pos i.offset mapping
 
-  -- The bytes are accepted as a body, where the location function is what the mapping says. The function has the body's
-  -- normal form, and its type. The mapping has the caller's answer for each of the body's operators.
+  -- The bytes are accepted as a body, with the locations of the mapping. The function has the body's normal form, and its type.
+  -- The mapping has the caller's location for each of the body's operators.
   pub record AcceptsBody (function : Function) (mapping : List (ℕ × ℕ)) : Type 0 where
     pub body : Body Occurrence
     pub accepted : Accepted (setting_with i (mapped_by mapping)) i.bytes body
@@ -98,11 +98,11 @@ module _ {S F : Type 0} (asks : Shared F (Bor ℕ × Unit {0}) ℕ) (i : ParseIn
     pub is_function : IsFunction function (normal_form (typing_of i.environment) (named_body body))
     pub is_mapping : IsMapping asks i.on_instr_pos i.offset i.start (i.start + length i.bytes) (operators_of body) mapping
 
-  -- It is the first fault, whatever a location function answers; or the validator or a growth wanted memory.
+  -- This is the first fault, whatever the location function; or memory ran out, for the validator or for a list.
   abbrev pub RefusesBody : ParseFailure → Type 0
   RefusesBody f = (f.error ≡ Memory) ⊎ ((locations : Option (ℕ → ℕ)) → AreGiven locations → FirstFault (setting_with i locations) i.bytes f)
 
-  -- ---- the same where the function's own type is in order, operator by operator
+  -- ---- the same if the function's own type is right, operator by operator
 
   abbrev pub operators_parsed : Option (ℕ → ℕ) → Result (Body Occurrence) ParseFailure
   operators_parsed locations = parsed_from (setting_with i locations) (length i.bytes) nothing_read i.first i.start i.bytes

@@ -1,4 +1,4 @@
--- What contracts see of a parser of bodies, and what its steps do.
+-- A parser of bodies as contracts see it, and what its steps do.
 use Rattle.std.specs.Prelude.{◌≡◌, ◌⊎◌, ℕ, List, [], ◌∷◌, ◌++◌, length, Bool, cond, reverse, Option, Some, None, Result, Ok, Err}
 use Rattle.walrus_ir.specs.declared.instr.Instr.TheVariants as instr
 use Rattle.walrus_ir.specs.declared.val_type.InstrSeqType.{InstrSeqType}
@@ -34,19 +34,19 @@ pub record Begins (p : BodyParser) : Type 0 where
   pub keeps : Keeps (env_of p.context) (state_of p) [] Empty
   pub entry : p.context.builder.entry ≡ Some 0
 
--- an operator with its ids and with the sequences that its labels name
+-- an operator with its ids, and with the slots of the sequences that its labels name
 abbrev pub placed_in : BodyParser → RawOperation → Result PlacedOperation ParseError
 placed_in p o = translate (placing (env_of p.context) p.context.frames) o
 
--- a clause of a `try_table` with the id of its tag and the sequence that its label names
+-- a clause of a `try_table` with the id of its tag, and with the slot of the sequence that its label names
 abbrev pub clause_in : BodyParser → CatchClause ℕ → Result (CatchClause ℕ) ParseError
 clause_in p c = translate_clause (placing (env_of p.context) p.context.frames) c
 
--- what a branch on a cast names, in the same way
+-- the immediates of a branch on a cast, in the same way
 abbrev pub cast_in : BodyParser → RawCast → Result (Cast ℕ) ParseError
 cast_in p c = translate_cast (placing (env_of p.context) p.context.frames) (cast_of c)
 
--- What was answered, seen by `view`, is what is given; or memory ran out.
+-- The result, seen by `view`, is this one; or memory ran out.
 abbrev pub GivesOrMemory : {A B : Type 0} → (A → B) → Result A ParseError → Result B ParseError → Type 0
 GivesOrMemory view (Ok x) given = given ≡ Ok (view x)
 GivesOrMemory view (Err e) given = (e ≡ Memory) ⊎ (given ≡ Err e)
@@ -56,16 +56,16 @@ abbrev pub with_alternative : (alternative : ℕ) → List IfElseState → List 
 with_alternative alternative [] = []
 with_alternative alternative (top ∷ others) = record top { alternative = Some alternative } ∷ others
 
--- the `if` of these sequences, at this location
+-- the `if` with these sequences, at this location
 abbrev pub if_else : (consequent alternative location : ℕ) → LocatedInstr
 if_else consequent alternative location = (instr.IfElse (record { consequent = consequent; alternative = alternative }), location)
 
--- the first of both that is there
+-- the first of both, or else the second
 abbrev pub either : Option ℕ → Option ℕ → Option ℕ
 either (Some n) other = Some n
 either None other = other
 
--- The innermost `if` is no longer open, and its instruction stands in the frame around.
+-- The innermost `if` is closed, and its instruction is appended to the frame around.
 pub record AppendsIf (old new : BodyParser) (alternative : Option ℕ) : Type 0 where
   pub top : IfElseState
   pub popped : old.if_else.items ≡ new.if_else.items ++ top ∷ []
@@ -73,18 +73,18 @@ pub record AppendsIf (old new : BodyParser) (alternative : Option ℕ) : Type 0 
   pub chosen : either alternative top.alternative ≡ Some id
   pub is : new.context ≡ record old.context { frames = changed_at 0 (with_instr (if_else top.consequent id top.start)) old.context.frames }
 
--- The innermost `if` has no alternative, and none is given.
+-- The innermost `if` has no alternative, and none is passed.
 pub record HasNoAlternative (p : BodyParser) (given : Option ℕ) : Type 0 where
   pub front : List IfElseState
   pub top : IfElseState
   pub ifs : p.if_else.items ≡ front ++ top ∷ []
   pub none : either given top.alternative ≡ None
 
--- No `if` is open, or it has no alternative, or there is no frame around.
+-- No `if` is open, it has no alternative, or there is no frame around.
 abbrev pub HasNoIf : BodyParser → Option ℕ → Type 0
 HasNoIf old alternative = (old.if_else.items ≡ []) ⊎ (HasNoAlternative old alternative ⊎ (old.context.frames ≡ []))
 
--- There is one more sequence of this type, which is empty; nothing else changed.
+-- There is one more sequence, which has this type and is empty; nothing else changed.
 pub record AddsEmpty (old new : OpenTrees) (type : InstrSeqType) (id : ℕ) : Type 0 where
   pub is_next : id ≡ length old.builder.sequences
   pub is : new ≡ record old { builder = with_new_sequence old.builder type }
@@ -94,18 +94,18 @@ pub record IsSameBody (old new : OpenTrees) : Type 0 where
   pub env : env_of new ≡ env_of old
   pub entry : new.builder.entry ≡ old.builder.entry
 
--- one more instruction, and what follows it is dropped where it cuts
+-- one more instruction; what follows it is dropped if it cuts
 abbrev pub taking : LocatedInstr → (cuts : Bool) → OpenFrame → OpenFrame
 taking x cuts f = cond cuts (killed (with_instr x f)) (with_instr x f)
 
--- The builder holds the normal form of the body that the operators and the function's own `end` are.
+-- The builder has the normal form of the body that consists of the operators and the function's own `end`.
 pub record Finishes (old : BodyParser) (location : ℕ) (new : Function) : Type 0 where
   pub type : new.type ≡ old.context.builder.type
   pub entry : new.entry ≡ old.context.builder.entry
   pub holds : (s : Sequence Occurrence) (e : Occurrence) → e.location ≡ location → Keeps (env_of old.context) (state_of old) [] s →
       HasTree new.sequences 0 (normal_form (typing_of (env_of old.context)) (named_body (record { sequence = s; close = e })))
 
--- What was kept of the operators so far is kept of this one more, or memory ran out, or it has this first fault.
+-- The state is that after one more operator; or memory ran out, or this is the operator's first fault.
 abbrev pub Steps : BodyParser → BodyParser → RawOperation → (location : ℕ) → Result (Unit {0}) ParseError → Type 0
 Steps old new o location r =
     (ls : List (Layer Occurrence)) (s : Sequence Occurrence) (place : ℕ) →

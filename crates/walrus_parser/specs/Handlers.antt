@@ -1,4 +1,5 @@
--- The clauses of a legacy `try`: `catch` of a tag, or `catch_all`, which is of all (legacy exception handling proposal).
+-- The clauses of a legacy `try`: `catch`, which is for one tag, and `catch_all`, which is for all (legacy exception handling
+-- proposal).
 use Rattle.std.specs.Prelude.{ℕ, List, [], ◌∷◌, Bool, true, false, Option, Some, None, Result, Ok}
 use Rattle.walrus_ir.specs.declared.control.BlockKind.{BlockKind}
 use Rattle.walrus_ir.specs.declared.control.BlockKind.TheVariants as kind
@@ -12,17 +13,17 @@ use Rattle.wasm_body.specs.declared.error.ParseError.{ParseError}
 use Rattle.wasm_body.specs.Control.{catch_opcode, catch_all_operation}
 use Rattle.wasm_body.specs.Naming.{Environment, id_at, tag_type}
 
--- the operator of a clause: of this tag, or of all
+-- the operator of a clause: for this tag, or for all
 abbrev pub clause_operation : {L B : Type 0} → Option ℕ → Operation L B
 clause_operation (Some tag) = operation catch_opcode (index Tags tag ∷ [])
 clause_operation None = catch_all_operation
 
--- what a handler takes: the id of its tag, if it has one, and the parameters of the tag
+-- the tag of a handler, as an id, if it has one; and the parameters of the tag
 abbrev pub handled : Environment → Option ℕ → Result (Option ℕ × List (ValType ℕ)) ParseError
 handled env None = Ok (None, [])
 handled env (Some n) = id_at env Tags n >>= λ tag. tag_type env tag >>= λ s. Ok (Some tag, s.parameters)
 
--- what a handler is to its `try`
+-- the kind of a handler in its `try`
 abbrev pub handler_kind : Option ℕ → BlockKind
 handler_kind (Some tag) = kind.Catch
 handler_kind None = kind.CatchAll
@@ -31,7 +32,7 @@ abbrev pub clause_of : Option ℕ → (place : ℕ) → LegacyCatch
 clause_of (Some tag) place = Catch tag place
 clause_of None place = CatchAll place
 
--- whether a clause may stand behind a sequence of this kind
+-- whether a clause is allowed after a sequence of this kind
 abbrev pub has_clauses : BlockKind → Bool
 has_clauses kind.Try = true
 has_clauses kind.Catch = true

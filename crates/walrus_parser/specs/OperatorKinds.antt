@@ -1,9 +1,9 @@
--- Kinds of operators, by what they become.
+-- Kinds of operators.
 use Rattle.std.specs.Prelude.{Bool, true, false}
 use Rattle.wasm_operators.specs.Meaning.{Listed}
 use Rattle.wasm_operators.specs.declared.operator.Op.TheVariants.{Unreachable, Nop, Block, Loop, If, Else, Try, Catch, Throw, Rethrow, ThrowRef, End, Br, BrTable, Return, Delegate, CatchAll, TryTable}
 
--- those that make an instruction by themselves
+-- operators that make an instruction by themselves
 abbrev pub is_instruction : Listed → Bool
 is_instruction Nop = false
 is_instruction (Block type) = false
@@ -18,7 +18,7 @@ is_instruction (Delegate depth) = false
 is_instruction (TryTable type catches) = false
 is_instruction _ = true
 
--- those behind which nothing of a sequence is executed
+-- operators after which nothing in their sequence is executed
 abbrev pub is_cut : Listed → Bool
 is_cut Unreachable = true
 is_cut (Br depth) = true

@@ -4,8 +4,9 @@ ghost use Rattle.walrus_parser.specs.Ranges.{range_at};
 
 use std::ops::Range;
 
-/// The bytes of a function's body: its operators begin at `bytes[ops]`, and `bytes[i]` stands at
-/// the place `start + i`.
+/// The bytes of a function's body (WebAssembly core specification 3.0, binary format, code
+/// section): its operators begin at `bytes[ops]`, and the place of `bytes[i]`, its offset in the
+/// module, is `start + i`.
 #[derive(Clone, Copy, Debug)]
 pub struct FunctionBody<'a> {
     pub bytes: &'a [u8],
@@ -22,7 +23,7 @@ impl<'a> FunctionBody<'a> {
         &self.bytes[self.ops..]
     }
 
-    /// The places of all bytes, less an offset.
+    /// The places of all bytes, less an offset. Requires that the offset is at most `start`.
     pub fn range(self, offset: usize) -> Range<usize>
         requires fits { self.start + length self.bytes.now < 2 ^ 64 }
         requires offset { offset ≤ self.start }

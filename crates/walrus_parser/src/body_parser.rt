@@ -1,4 +1,4 @@
-//! How a body is parsed: each operator carries on what is kept of the sequences that are open.
+//! How a body is parsed: each operator advances the state of the open sequences.
 ghost use Rattle.std.specs.Prelude.{IsTrue, ◌↔◌, reverse, ◌≡◌, ◌≢◌, ◌⊎◌, ◌<◌, ◌≤◌, length, IfOk, IfErr, OnOk, Some, [], ◌∷◌, Ok, Err, slice_get, IsSome, IsSomeAnd, None, true, false};
 ghost use Rattle.walrus_ir.specs.Types.{existing};
 ghost use Rattle.wasm_operators.specs.declared.types.Opcode.TheVariants.{Byte};
@@ -30,16 +30,16 @@ use walrus_maps::IndicesToIds;
 use wasm_body::ParseError;
 use wasm_ops::{BlockType, Operator, RawMemArg};
 
-/// What is kept while a body is parsed.
+/// The state while a body is parsed.
 #[derive(Drop)]
 pub(crate) struct BodyParser<'a> {
     /// The function's sequences, and which of them are open.
     pub context: ValidationContext<'a>,
-    /// The `if`s whose `end` is still to come, the innermost last.
+    /// The `if`s whose `end` isn't read yet, the innermost last.
     pub if_else: Vec<IfElseState>,
 }
 
-/// The list that is lent, cleared. A new one stands in its place.
+/// Takes the caller's list, cleared, and puts a new one in its place.
 fn cleared(alloc: Global, lent: &mut Vec<(Instr, InstrLocId)>) -> Vec<(Instr, InstrLocId)>
     ensures { result.items ≡ [] }
 {
@@ -49,8 +49,9 @@ fn cleared(alloc: Global, lent: &mut Vec<(Instr, InstrLocId)>) -> Vec<(Instr, In
 }
 
 impl<'a> BodyParser<'a> {
-    /// Nothing is read yet of the body of this function, whose entry has the type `entry`. The
-    /// list that is lent is that of the open sequences until `finish`.
+    /// A parser of the body of this function, which has read nothing. `entry` is the type of the
+    /// function's entry. The caller's list is that of the open sequences until `finish` gives it
+    /// back.
     pub fn new(
         alloc: Global,
         module: &'a Module,
@@ -140,7 +141,7 @@ impl BodyParser<'_> {
         }
     }
 
-    /// The innermost `if` goes on with this alternative.
+    /// Gives the innermost `if` this alternative.
     fn begin_alternative(&mut self, alternative: InstrSeqId)
         ensures context { self.new.context ≡ self.old.context }
         ensures ifs { reverse self.new.if_else.items
@@ -246,8 +247,8 @@ impl BodyParser<'_> {
         }
     }
 
-    /// Appends an instruction to the innermost frame, behind which nothing of it is executed where
-    /// it cuts.
+    /// Appends an instruction to the innermost frame. If it cuts, what follows in the frame is
+    /// dropped.
     #[inline(always)]
     fn take(&mut self, instr: Instr, location: InstrLocId, cuts: bool) -> Result<(), ParseError>
         ensures ok { OnOk result ((0 < length self.old.context.frames)
@@ -264,7 +265,7 @@ impl BodyParser<'_> {
         }
     }
 
-    /// Takes an operator by itself, of which this instruction is made.
+    /// Takes an operator by itself, whose instruction this is.
     #[inline(always)]
     fn take_made(
         &mut self,
@@ -283,7 +284,7 @@ impl BodyParser<'_> {
         self.take(instr, location, cuts)
     }
 
-    /// Takes an operator by itself, that isn't `nop`.
+    /// Takes an operator by itself other than `nop`.
     #[inline(never)]
     fn take_alone(
         &mut self,
@@ -301,7 +302,7 @@ impl BodyParser<'_> {
         }
     }
 
-    /// Refuses an operator by itself, of which no instruction is made for this error.
+    /// Refuses an operator by itself, which has no instruction because of this error.
     fn refuse(
         &mut self,
         operator: &Operator<'_>,
@@ -445,7 +446,7 @@ impl BodyParser<'_> {
         }
     }
 
-    /// Takes the next operator, which isn't the function's own `end`.
+    /// Takes the next operator, other than the function's own `end`.
     pub fn step(&mut self, operator: &Operator<'_>, location: InstrLocId) -> Result<(), ParseError>
         requires inside { operator.now ≡ op.End → 1 < length self.old.context.frames }
         requires writable { IsWritable (meaning operator.now) }
@@ -491,8 +492,8 @@ impl BodyParser<'_> {
         }
     }
 
-    /// Takes the function's own `end`: its sequences. The list of the open sequences is put back
-    /// where it was lent.
+    /// Takes the function's own `end`. Returns the function's sequences, and gives the caller's
+    /// list back.
     pub fn finish(
         mut self,
         location: InstrLocId,
@@ -513,7 +514,7 @@ impl BodyParser<'_> {
     }
 }
 
-/// Whether what follows in the sequence is dropped.
+/// Whether what follows the operator in its sequence is dropped.
 fn is_cut(operator: &Operator<'_>) -> bool
     ensures { result ≡ is_cut operator.now }
 {

@@ -1,5 +1,4 @@
-//! The instructions that operators become: old indices are looked up in the order in which they are
-//! written.
+//! The instructions of operators. Old indices are looked up in the order in which they are written.
 ghost use Rattle.std.specs.Prelude.{◌≡◌, ◌⊎◌, ◌<◌, ◌^◌, List, [], true, IfOk, IfErr, Ok, Err};
 ghost use Rattle.walrus_ir.specs.declared.instr.Instr.TheVariants as instr;
 ghost use Rattle.walrus_ir.specs.Unfolding.{slots_in};
@@ -25,7 +24,7 @@ use wasm_body::ParseError;
 use wasm_operators::index_rows;
 use wasm_ops::{AtomicKind, BrTable, Operator, RawMemArg};
 
-/// An access with its alignment as a number of bytes.
+/// A memory argument with its alignment as a number of bytes.
 pub fn memory_argument(memarg: RawMemArg) -> MemArg
     requires { memarg.exponent < 32 }
     ensures { (result.align ≡ 2 ^ memarg.exponent) × (result.offset ≡ memarg.offset) }
@@ -42,7 +41,7 @@ pub fn constant(value: Value) -> Instr
     Instr::Const(Const { value })
 }
 
-/// An atomic access to a memory that is no plain load or store.
+/// An atomic access to a memory other than a plain load or store.
 fn atomic(kind: AtomicKind, memory: MemoryId, arg: MemArg) -> Instr
     ensures operation { operation_of result ≡ atomic_operation kind (access_at memory arg) }
     ensures plain { (slots_in result ≡ []) × (clauses_of_try result ≡ []) }
@@ -127,7 +126,7 @@ impl BodyParser<'_> {
         }
     }
 
-    /// The sequences that the labels of a table name.
+    /// The sequences that the labels of a `br_table` name.
     fn blocks(&self, table: &BrTable<'_>) -> Result<Vec<InstrSeqId>, ParseError>
         ensures ok { IfOk result (λ blocks.
             each (place_at self.now.context.frames) table.now.0 ≡ Ok blocks.items) }
@@ -166,7 +165,7 @@ impl BodyParser<'_> {
         }
     }
 
-    /// The instruction of an operator by itself, that isn't `nop`.
+    /// The instruction of an operator by itself other than `nop`.
     pub fn instruction(&self, operator: &Operator<'_>) -> Result<Instr, ParseError>
         requires kind { is_instruction operator.now ≡ true }
         requires writable { IsWritable (meaning operator.now) }

@@ -17,15 +17,14 @@ use walrus_ir::{
 use wasm_body::ParseError;
 use wasm_ops::BlockType;
 
-/// What the handler of a clause takes: the tag that it is for, none where it is for all, and the
-/// parameters of the tag.
+/// The handler of a clause: its tag (none if it is for all) and the parameters of the tag.
 #[derive(Clone, Copy)]
 struct Handled<'a> {
     tag: Option<TagId>,
     parameters: &'a [ValType],
 }
 
-/// What a sequence is that a clause opens.
+/// The kind of the sequence that a clause opens.
 fn handler_kind(tag: Option<TagId>) -> BlockKind
     ensures { result ≡ handler_kind tag }
 {
@@ -45,7 +44,7 @@ fn clause_of(tag: Option<TagId>, handler: InstrSeqId) -> LegacyCatch
     }
 }
 
-/// Whether a clause may stand behind a sequence.
+/// Whether a clause is allowed after a sequence of this kind.
 fn has_clauses(kind: BlockKind) -> bool
     ensures { result ≡ has_clauses kind }
 {
@@ -53,7 +52,7 @@ fn has_clauses(kind: BlockKind) -> bool
 }
 
 impl<'a> BodyParser<'a> {
-    /// What the handler of a clause takes, of the tag with this old index, or of all tags.
+    /// The handler of a clause for the tag with this old index, or for all tags.
     fn handled(&self, tag: Option<u32>) -> Result<Handled<'a>, ParseError>
         ensures { Gives (λ h. (h.tag, h.parameters.now)) result
             (handled (env_of self.now.context) tag) }
@@ -126,8 +125,8 @@ impl BodyParser<'_> {
         }
     }
 
-    /// Takes a `delegate`, which closes the body of a legacy `try` that has no clauses. Its depth
-    /// counts from outside the `try`; the sequence gets no end location.
+    /// Takes a `delegate`, which closes the body of a legacy `try` without clauses. Its depth
+    /// counts from outside the `try`. The sequence gets no end location.
     pub fn close_delegate(&mut self, relative_depth: u32) -> Result<(), ParseError>
         ensures step { (location : ℕ)
             → Steps self.old self.new (delegate_operation relative_depth) location result }
@@ -157,7 +156,7 @@ impl BodyParser<'_> {
         }
     }
 
-    /// The instruction of a `rethrow`, which names a handler around it.
+    /// The instruction of a `rethrow`, which names an enclosing handler.
     pub fn rethrow(&self, relative_depth: u32) -> Result<Instr, ParseError>
         ensures placed { GivesOrMemory operation_of result
             (placed_in self.now (operation (Byte 0x09) (handler relative_depth ∷ []))) }

@@ -4,8 +4,8 @@ ghost use Rattle.walrus_parser.specs.Locating.{MayAsk, Locates, HasNoLocation};
 
 use walrus_ir::InstrLocId;
 
-/// The location of the operator at this place: the answer of the function, or the place itself
-/// where there is none and it is small enough.
+/// The location of the operator at this place: the one that the function returns. Without a
+/// function it is the place itself, if that is small enough.
 pub fn location_at<F: Fn(&usize) -> InstrLocId>(
     on_instr_pos: Option<&F>,
     place: usize,

@@ -1,4 +1,4 @@
-//! The next operator, its location, and whether the validator takes it.
+//! The next operator, its location, and whether the validator accepts it.
 ghost use Rattle.std.specs.Prelude.{◌≡◌, ◌⊎◌, ◌+◌, ◌<◌, ℕ, List, length, IfOk, IfErr, Ok, Err};
 ghost use Rattle.wasm_operators.specs.Spelling.{read_operation};
 ghost use Rattle.wasm_operators.specs.Meaning.{meaning};
@@ -30,7 +30,7 @@ fn checked(error: CheckError) -> ParseError
     }
 }
 
-/// The next operator.
+/// Reads the next operator.
 #[inline(always)]
 pub fn read_next<'a>(reader: &mut Reader<'a>) -> Result<Operator<'a>, ReadError>
     ensures answer { IfOk result (λ x.
@@ -45,7 +45,7 @@ pub fn read_next<'a>(reader: &mut Reader<'a>) -> Result<Operator<'a>, ReadError>
     reader.read()
 }
 
-/// The location of an operator that was read at this place, behind which the validator was asked.
+/// The location of an operator that was read at this place, if the validator accepts the operator.
 #[inline(always)]
 pub fn accepted_at<V: OpCheck, F: Fn(&usize) -> InstrLocId>(
     at: usize,

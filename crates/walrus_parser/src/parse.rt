@@ -19,7 +19,8 @@ use walrus_maps::IndicesToIds;
 use wasm_body::{ParseError, ParseFailure};
 use wasm_ops::{Operator, Reader};
 
-/// A function's sequences, and the place and location of each operator that was read.
+/// A function's sequences, and the place (less the code offset) and location of each operator that
+/// was read.
 #[derive(Drop)]
 pub struct ParsedOperators {
     pub builder: FunctionBuilder,
@@ -32,8 +33,8 @@ fn failure(error: ParseError, at: usize) -> ParseFailure
     ParseFailure { error, at }
 }
 
-/// Parses the operators of a body, of which nothing is read yet. Places in the mapping are less the
-/// code offset. The parser's list is put back where it was lent, if the body is accepted.
+/// Parses the operators of a body, none of which is read yet. Places in the mapping are less the
+/// code offset. If the body is accepted, the caller's list is given back.
 fn parse_operators<V: OpCheck, F: Fn(&usize) -> InstrLocId>(
     alloc: Global,
     mut parser: BodyParser<'_>,
@@ -88,8 +89,12 @@ fn parse_operators<V: OpCheck, F: Fn(&usize) -> InstrLocId>(
     Err(failure(ParseError::MissingEnd, reader.original_position()))
 }
 
-/// Parses the operators of the body of this function, the first of which stands at the place
-/// `start`, with the list that is lent.
+/// Parses the operators `ops` of this function's body. The first of them is at the place `start`.
+///
+/// # Errors
+///
+/// The first fault of the body and its place, whatever the location function; or `Memory` if memory
+/// runs out.
 pub fn parse_function<V: OpCheck, F: Fn(&usize) -> InstrLocId>(
     alloc: Global,
     module: &Module,

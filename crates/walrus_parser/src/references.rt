@@ -1,5 +1,5 @@
-//! Instructions of operators on references, structs and arrays: old indices are looked up in the
-//! order in which they are written.
+//! The instructions of operators on references, structs and arrays. Old indices are looked up in
+//! the order in which they are written.
 ghost use Rattle.std.specs.Prelude.{◌≡◌, [], IfOk};
 ghost use Rattle.walrus_ir.specs.Unfolding.{slots_in};
 ghost use Rattle.walrus_ir.specs.Results.{Gives};
@@ -39,7 +39,7 @@ macro_rules! instruction_row {
 }
 
 impl BodyParser<'_> {
-    /// What a branch on a cast names: its label first, then both types.
+    /// The immediates of a branch on a cast: first the sequence of its label, then both types.
     fn cast(&self, cast: RawCast) -> Result<(InstrSeqId, HeapType, HeapType), ParseError>
         ensures { Gives (λ x. record {
           from_nullable = cast.from_nullable;

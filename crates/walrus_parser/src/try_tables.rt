@@ -13,7 +13,7 @@ use walrus_ir::{BlockKind, Instr, InstrLocId, InstrSeqId, TagId, TryTable, TryTa
 use wasm_body::ParseError;
 use wasm_ops::{BlockType, CatchList, RawCatch};
 
-/// A clause that takes exceptions of a tag, or of all, and goes to a sequence.
+/// A clause for the exceptions of a tag, or for all, that branches to a sequence.
 fn table_clause(tag: Option<TagId>, by_reference: bool, label: InstrSeqId) -> TryTableCatch
     ensures { table_clause result
         ≡ record { by_reference = by_reference; tag = tag; label = label } }
@@ -27,7 +27,7 @@ fn table_clause(tag: Option<TagId>, by_reference: bool, label: InstrSeqId) -> Tr
 }
 
 impl BodyParser<'_> {
-    /// A clause with the id of its tag, if it has one, and then the sequence that its label names.
+    /// A clause with the id of its tag, if it has one, and the sequence that its label names.
     fn clause(&self, clause: RawCatch) -> Result<TryTableCatch, ParseError>
         ensures { Gives table_clause result (clause_in self.now clause) }
     {

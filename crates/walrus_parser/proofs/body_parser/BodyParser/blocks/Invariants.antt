@@ -1,4 +1,4 @@
--- What is listed stands before the sequences of the labels that are left.
+-- The listed sequences come before those of the remaining labels.
 use Rattle.std.proofs.Common.{◌≡◌}
 use Rattle.walrus_ir.specs.Results.{each}
 use Rattle.walrus_context.specs.Placing.{place_at}

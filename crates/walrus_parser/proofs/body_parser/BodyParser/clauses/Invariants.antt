@@ -1,4 +1,4 @@
--- What is made stands before the clauses that are left.
+-- The clauses made so far come before the remaining ones.
 use Rattle.std.proofs.Common.{◌≡◌, map}
 use Rattle.walrus_ir.specs.Results.{each}
 use Rattle.wasm_body.specs.InstructionTable.{table_clause}
