@@ -1,4 +1,4 @@
--- What a recorder means: it notes each event, until it was called often enough.
+-- A recorder notes each event, until it has been called a given number of times.
 use Rattle.std.specs.Prelude.{◌≡◌, ◌⊎◌, ◌<◌, ◌+◌, ℕ, List, [], ◌∷◌, ◌++◌, length}
 use Rattle.std.proofs.Common.{sym, ap, subst, ◌∙◌}
 use Rattle.walrus_ir.specs.declared.instr.Instr.{Instr}
@@ -20,7 +20,8 @@ word_of (instr.IfElse x) = word.IfElse
 word_of (instr.Try x) = word.Try
 word_of _ = word.Other
 
--- a sequence's id where it starts, and its length where it ends; an instruction's location; the number of what is named
+-- the id of a sequence where it starts, and its length where it ends; the location of an instruction; the number of the id that
+-- is named
 abbrev pub note_of : WalkEvent → Note
 note_of (StartSequence seq) = record { word = word.Start; number = seq.id }
 note_of (EndSequence seq) = record { word = word.End; number = length seq.instrs }
@@ -29,7 +30,7 @@ note_of (NameFunction f) = record { word = word.Func; number = f }
 note_of (NameLocal l) = record { word = word.Local; number = l }
 note_of (NameData d) = record { word = word.Data; number = d }
 
--- one note more, and one call less is left
+-- one more note, and one call less remaining
 pub record Adds (s : Recorder) (note : Note) (t : Recorder) : Type 0 where
   pub told : t.told.items ≡ s.told.items ++ note ∷ []
   pub calls_left : s.calls_left ≡ t.calls_left + 1
@@ -37,7 +38,7 @@ pub record Adds (s : Recorder) (note : Note) (t : Recorder) : Type 0 where
 abbrev pub Notes : Recorder → WalkEvent → Recorder → Type 0
 Notes s e t = Adds s (note_of e) t
 
--- it was called often enough, or no memory was left
+-- no calls remain, or memory ran out
 abbrev pub IsUnable : Recorder → WalkError → Type 0
 IsUnable s f = ((f ≡ TooLarge) × (s.calls_left ≡ 0)) ⊎ ((f ≡ Memory) × (0 < s.calls_left))
 

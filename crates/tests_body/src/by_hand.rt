@@ -1,4 +1,4 @@
-//! Functions that are made by hand.
+//! Functions made by hand.
 use crate::lent::append;
 use std::alloc::{AllocError, Global};
 use walrus_ir::{
@@ -104,7 +104,7 @@ pub(crate) fn instr(made: Made) -> Instr {
     }
 }
 
-/// Appends an instruction to the sequence at a slot, where there is one.
+/// Appends an instruction to the sequence in a slot, if there is one.
 pub(crate) fn put(
     builder: &mut FunctionBuilder,
     slot: usize,
@@ -129,7 +129,7 @@ pub(crate) fn put_all(builder: &mut FunctionBuilder, instrs: &[Item]) -> Result<
     Ok(())
 }
 
-/// A builder with so many sequences from nothing to nothing, of which the first is the entry.
+/// A builder with this many sequences without parameters and results. The first is the entry.
 pub(crate) fn sequences(alloc: Global, count: usize) -> Result<FunctionBuilder, AllocError> {
     let mut builder = FunctionBuilder::without_entry(alloc, TypeId::new(0));
     for _ in 0..count {
@@ -139,7 +139,7 @@ pub(crate) fn sequences(alloc: Global, count: usize) -> Result<FunctionBuilder, 
     Ok(builder)
 }
 
-/// So many sequences, with these instructions.
+/// A builder with this many sequences and with these instructions.
 pub(crate) fn function(
     alloc: Global,
     count: usize,
@@ -150,7 +150,7 @@ pub(crate) fn function(
     Ok(builder)
 }
 
-// A `try` of the sequence 4, with a `catch` that has 5 and a `catch_all` that has 6.
+// A `try` with the sequence 4 as its body, 5 for a `catch` and 6 for a `catch_all`.
 fn legacy_try(alloc: Global) -> Result<Instr, AllocError> {
     let clauses = [
         LegacyCatch::Catch {
@@ -199,16 +199,16 @@ fn put_example(builder: &mut FunctionBuilder) -> Result<(), AllocError> {
     put_all(builder, &[(0, Made::Const(10), 10), (0, Made::Drop, 0)])
 }
 
-/// An entry of 8 instructions; in it a block of 5, in which an if-else has 2 and 2, and a `try`
-/// with a body and two handlers of 2 each. One sequence more has 2 and is in no other. Each
-/// constant has the location that is its value.
+/// An entry of 8 instructions. It contains a block of 5, which contains an if-else of 2 and 2 and a
+/// `try` with a body and two handlers of 2 each. One more sequence of 2 is in no other. The
+/// location of each constant is its value.
 pub(crate) fn example(alloc: Global) -> Result<FunctionBuilder, AllocError> {
     let mut builder = sequences(alloc, 8)?;
     put_example(&mut builder)?;
     Ok(builder)
 }
 
-/// Sequences in one another, so many.
+/// This many sequences, each inside the one before.
 pub(crate) fn deep(alloc: Global, depth: usize) -> Result<FunctionBuilder, AllocError> {
     let mut builder = sequences(alloc, depth.saturating_add(1))?;
     for slot in 0..depth {

@@ -1,4 +1,4 @@
-//! Tables of cases: what is found about each text or function, as text, beside what is wanted.
+//! Tables of cases: for each text or function, the expected result as text.
 use crate::by_hand::{Item, function};
 use crate::emitting::push_written;
 use crate::facts::{push_answered, push_both_answered, push_gathered_twice, push_visited_twice};
@@ -13,28 +13,28 @@ use std::process::Abort;
 use std::test::Fail;
 use walrus_body::LocalFunction;
 
-/// What is asked about a text.
+/// What is checked about a text.
 #[derive(Clone, Copy)]
 pub(crate) enum About {
-    /// The function that a body gives, or its first fault.
+    /// The function that is parsed from a body, or the body's first fault.
     Function(Setting),
     /// The first sequence of that function.
     Entry,
     /// The function's size and data segments, and whether it is constant.
     Facts,
-    /// What is gathered of a function of the plain module, then its size and data segments.
+    /// The facts of a function of the plain module, then its size and data segments.
     Gathered,
-    /// What a function of the plain module declares.
+    /// The declarations of a function of the plain module.
     Locals,
-    /// The function's bytes and pairs when it is written.
+    /// The function's bytes and pairs.
     Written(Setting),
-    /// The function where a validator refuses the third operator with 7.
+    /// The function, with a validator that refuses the third operator with 7.
     Counted,
-    /// The function where a validator keeps places, and refuses the fourth operator with 9.
+    /// The function, with a validator that records places and refuses the fourth operator with 9.
     Kept,
-    /// The places of the operators that a validator is asked about.
+    /// The places at which a validator is called.
     Told,
-    /// The operators that are read from a place on.
+    /// The operators that are read, starting at a place.
     Read(u32),
 }
 
@@ -67,7 +67,7 @@ fn or_fail(answer: Result<(), AllocError>) -> Result<(), Fail> {
     Ok(answer?)
 }
 
-// Appends what is asked about a text.
+// Appends the result for a text.
 fn push_answer(found: &mut String, about: About, text: &str) -> Result<(), Fail> {
     match about {
         About::Function(setting) => or_fail(push_parsed(found, setting, text)),
@@ -94,7 +94,7 @@ fn answer(alloc: Global, about: About, text: &str) -> Result<String, Fail> {
     Ok(found)
 }
 
-/// Asks about texts, each of which comes before what is wanted.
+/// Checks texts, each of which comes before its expected result.
 pub(crate) fn check(
     rt: &impl Abort,
     alloc: Global,
@@ -108,20 +108,20 @@ pub(crate) fn check(
     Ok(())
 }
 
-/// What is asked about a function that is made by hand.
+/// What is checked about a function made by hand.
 #[derive(Clone, Copy)]
 pub(crate) enum AboutMade {
-    /// What a walk tells.
+    /// The events of a walk.
     Walk,
-    /// Its size and data segments, as visitors find them and as it says itself.
+    /// Its size and data segments, as visitors find them and as its own calls return them.
     Facts,
-    /// What a visitor gathers, and what it says itself.
+    /// The facts that a visitor gathers, and those that its own calls return.
     Gathered,
-    /// Its bytes and pairs when it is written.
+    /// Its bytes and pairs.
     Written,
 }
 
-// Appends what is asked about a function.
+// Appends the result for a function.
 fn push_about(found: &mut String, about: AboutMade, function: &LocalFunction) -> Result<(), Fail> {
     match about {
         AboutMade::Walk => or_fail(push_walk(found, function.builder(), 0, 1000)),
@@ -145,7 +145,7 @@ fn answer_made(alloc: Global, about: AboutMade, instrs: &[Item]) -> Result<Strin
     Ok(found)
 }
 
-/// Asks about functions of three sequences that are made by hand.
+/// Checks functions of three sequences made by hand.
 pub(crate) fn check_made(
     rt: &impl Abort,
     alloc: Global,

@@ -1,4 +1,4 @@
-//! Contexts of a parse, whose calls are made by hand.
+//! Contexts of a parse, with calls made by hand.
 use crate::by_hand::{Made, instr};
 use crate::function_text::push_sequences;
 use crate::small_module::Example;
@@ -14,7 +14,7 @@ use walrus_ir::{
 /// A call of a context.
 #[derive(Clone, Copy)]
 enum Step {
-    /// `push_control` of a frame that takes and gives so many `i32`.
+    /// `push_control` of a frame with these numbers of `i32` parameters and results.
     Push(BlockKind, usize, usize),
     PushWithTy(BlockKind, usize),
     Pop,
@@ -29,13 +29,13 @@ enum Step {
     /// `push_control` of a block, and `alloc_instr_in_control` of the frame around it, with the
     /// start of the block before and after.
     PutAround(Made, u16),
-    /// The same with two blocks, of the frame around both.
+    /// The same with two blocks, and for the frame around both.
     PutOutside(Made, u16),
     /// `add_legacy_catch`.
     Delegate(u32),
 }
 
-// Appends what a frame is.
+// Appends a frame.
 fn push_frame(text: &mut String, frame: &ControlFrame) -> Result<(), AllocError> {
     let (block, start) = (frame.block.index(), frame.start);
     let life = if frame.unreachable { "dead" } else { "alive" };
@@ -47,7 +47,7 @@ fn push_frame(text: &mut String, frame: &ControlFrame) -> Result<(), AllocError>
     )
 }
 
-// Appends an answer of a call that gives nothing.
+// Appends the result of a call that returns nothing.
 fn push_done(text: &mut String, answer: Result<(), ParseError>) -> Result<(), AllocError> {
     match answer {
         Ok(()) => write!(text, " ok"),
@@ -55,7 +55,7 @@ fn push_done(text: &mut String, answer: Result<(), ParseError>) -> Result<(), Al
     }
 }
 
-// Appends an answer of a sequence.
+// Appends the result of a call that returns a sequence.
 fn push_opened(
     text: &mut String,
     answer: Result<InstrSeqId, ParseError>,
@@ -134,7 +134,7 @@ fn put_outside(
     push_start(context, 0, text)
 }
 
-// Makes a call, and appends what it returns.
+// Makes a call, and appends its result.
 fn call(
     alloc: Global,
     context: &mut ValidationContext<'_>,
@@ -175,7 +175,7 @@ fn call(
     }
 }
 
-// Makes calls, and appends what each returns.
+// Makes calls, and appends the result of each.
 fn make_calls(
     alloc: Global,
     context: &mut ValidationContext<'_>,
@@ -196,7 +196,7 @@ fn push_frames(text: &mut String, controls: &[ControlFrame]) -> Result<(), Alloc
     Ok(())
 }
 
-// Appends a bar, the frames that are open, and all sequences.
+// Appends a bar, the open frames, and all sequences.
 fn push_parts(
     text: &mut String,
     controls: &[ControlFrame],
@@ -207,8 +207,8 @@ fn push_parts(
     push_sequences(text, builder)
 }
 
-// Appends what calls return in a context without open frames, and after a bar the frames that are
-// then open and all sequences.
+// Appends the results of calls in a context without open frames, and then a bar, the frames that
+// are open after the calls, and all sequences.
 fn push_called(text: &mut String, example: &Example, steps: &[Step]) -> Result<(), AllocError> {
     let alloc = *text.allocator();
     let mut context = ValidationContext::new(
@@ -230,7 +230,7 @@ fn called(alloc: Global, example: &Example, steps: &[Step]) -> Result<String, Al
     Ok(text)
 }
 
-// Makes calls over a module, each list of which comes before what is wanted.
+// Makes lists of calls with a module. Each list comes before its expected results.
 fn check_calls_in(
     rt: &impl Abort,
     alloc: Global,
@@ -253,7 +253,7 @@ const ENTRY: Step = Step::Push(BlockKind::FunctionEntry, 0, 0);
 
 const BLOCK: Step = Step::Push(BlockKind::Block, 0, 0);
 
-/// Frames that are opened, shown and closed, each with instructions of its own.
+/// Frames are opened, shown and closed, each with its own instructions.
 #[test]
 fn opens_and_closes_frames(rt: HostRuntime) -> Result<(), Fail> {
     let closed = [
@@ -292,7 +292,8 @@ fn opens_and_closes_frames(rt: HostRuntime) -> Result<(), Fail> {
     check_calls(&rt, rt.alloc(), &cases)
 }
 
-/// Instructions go to the innermost frame or to the one around it, and nowhere where it is dead.
+/// Instructions are appended to the innermost frame or to the one around it; none are appended to a
+/// dead frame.
 #[test]
 fn appends_to_frames(rt: HostRuntime) -> Result<(), Fail> {
     let around = [
@@ -313,7 +314,7 @@ fn appends_to_frames(rt: HostRuntime) -> Result<(), Fail> {
     check_calls(&rt, rt.alloc(), &cases)
 }
 
-/// Instructions of frames around others move where these begin, unless they are dropped.
+/// An instruction in a frame around others moves their starts, unless it is dropped.
 #[test]
 fn moves_the_starts_of_inner_frames(rt: HostRuntime) -> Result<(), Fail> {
     let block = [
@@ -358,7 +359,7 @@ fn moves_the_starts_of_inner_frames(rt: HostRuntime) -> Result<(), Fail> {
     check_calls(&rt, rt.alloc(), &cases)
 }
 
-/// A clause is added to the `try` that ends the frame around, or dropped where that is dead.
+/// A clause is added to the `try` at the end of the frame around, or dropped if that frame is dead.
 #[test]
 fn adds_clauses_to_a_try(rt: HostRuntime) -> Result<(), Fail> {
     let tries = Step::Push(BlockKind::Try, 0, 0);
@@ -410,7 +411,7 @@ fn adds_clauses_to_a_try(rt: HostRuntime) -> Result<(), Fail> {
     check_calls(&rt, rt.alloc(), &cases)
 }
 
-/// What is refused where no frame is open, and frames whose type the module doesn't have.
+/// Calls are refused if no frame is open, and for frames whose type the module doesn't have.
 #[test]
 fn refuses_calls(rt: HostRuntime) -> Result<(), Fail> {
     let closed = [

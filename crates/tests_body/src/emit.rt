@@ -9,7 +9,7 @@ use std::test::Fail;
 use walrus_body::{Emit, EmitContext, EmitError, IdsToIndices};
 use walrus_ir::{IdHashMap, InstrLocId, Module};
 
-// A `nop` at its location.
+// A `nop` with its location.
 #[derive(Drop)]
 struct Nop {
     location: InstrLocId,
@@ -38,7 +38,7 @@ impl Emit for Nop {
     }
 }
 
-// An operator that turns out too large once its first byte is written.
+// An operator that turns out to be too large after its first byte is written.
 #[derive(Drop)]
 struct Oversized;
 
@@ -58,7 +58,7 @@ impl Emit for Oversized {
     }
 }
 
-// Writes a part through a reference, which has the part's own meaning.
+// Writes a part through a reference, which has the same meaning as the part.
 fn emit_through_reference<T: Emit>(part: &T, cx: &mut EmitContext<'_>) -> Result<(), EmitError>
     ensures ok { OnOk result (AppendsSome (T.writes part.now cx.old) cx.old cx.new) }
     ensures changes { OnOk result (T.changes part.now cx.old cx.new) }
@@ -69,7 +69,7 @@ fn emit_through_reference<T: Emit>(part: &T, cx: &mut EmitContext<'_>) -> Result
     <&T as Emit>::emit(&part, cx)
 }
 
-// A part, one that is refused, and the part again: how many were written.
+// Writes a part, one that is refused, and the part again. Returns how many were written.
 fn emit_three(nop: &Nop, cx: &mut EmitContext<'_>) -> usize {
     let mut count = 0;
     if emit_through_reference(nop, cx) == Ok(()) {
@@ -93,7 +93,7 @@ fn written_text(alloc: Global, count: usize, cx: &EmitContext<'_>) -> Result<Str
     Ok(text)
 }
 
-// The same of the three parts.
+// The same for the three parts.
 fn emitted_in(alloc: Global, module: &Module) -> Result<String, Fail> {
     let mut indices = IdsToIndices::new(alloc);
     let mut cx = EmitContext {
@@ -113,7 +113,7 @@ fn emitted(alloc: Global) -> Result<String, Fail> {
     emitted_in(alloc, &module)
 }
 
-/// A part that is refused leaves what was written before it.
+/// A refused part leaves what was written before it unchanged.
 #[test]
 fn a_refused_part_leaves_what_was_written(rt: HostRuntime) -> Result<(), Fail> {
     let found = emitted(rt.alloc())?;

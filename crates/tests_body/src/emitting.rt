@@ -1,4 +1,4 @@
-//! Functions that are written: those that are made by hand, and those that are parsed.
+//! Writing functions that were made by hand or parsed.
 use crate::by_hand::{Access, Made, function, put};
 use crate::cases::{About, AboutMade, check, check_made};
 use crate::function_text::{At, push_sequences};
@@ -10,7 +10,8 @@ use walrus_body::{EmitError, IdsToIndices, IndexError, LocalFunction, Space};
 use walrus_ir::{BrTable, IdHashMap, Instr, InstrLocId, InstrSeqId, InstrSeqType, LocalId, TypeId};
 use wasm_encode::FunctionEncoder;
 
-// The types 8, 2, 6 and 5 have the new indices 0 to 3; the function 7 and the memory 0 have 0.
+// The types 8, 2, 6 and 5 have the new indices 0 to 3; the function 7 and the memory 0 have the new
+// index 0.
 fn give_all(numbers: &mut IdsToIndices) -> Result<(), IndexError> {
     for ty in [8, 2, 6, 5] {
         give(numbers, Space::Types, ty)?;
@@ -25,7 +26,7 @@ fn numbers(alloc: Global) -> Result<IdsToIndices, IndexError> {
     Ok(numbers)
 }
 
-// The local 5 has the number 300, and 6 has 0.
+// The local 5 has the number 300, and the local 6 has 0.
 fn local_numbers(alloc: Global) -> Result<IdHashMap<LocalId, u32>, AllocError> {
     let mut locals = IdHashMap::new(alloc);
     for (local, number) in [(5, 300), (6, 0)] {
@@ -34,7 +35,7 @@ fn local_numbers(alloc: Global) -> Result<IdHashMap<LocalId, u32>, AllocError> {
     Ok(locals)
 }
 
-// Writes a function, if it begins with a sequence of its builder.
+// Writes a function, if its entry is a sequence of its builder.
 fn write(
     function: &LocalFunction,
     indices: &IdsToIndices,
@@ -49,7 +50,7 @@ fn write(
     Some(function.emit_instructions(indices, locals, encoder, map))
 }
 
-// Appends the fault, where there is one.
+// Appends the fault, if there is one.
 fn push_fault(text: &mut String, answer: Option<Result<(), EmitError>>) -> Result<(), Fail> {
     match answer {
         Some(Ok(())) => {}
@@ -59,8 +60,7 @@ fn push_fault(text: &mut String, answer: Option<Result<(), EmitError>>) -> Resul
     Ok(())
 }
 
-// Writes a function under these numbers and those that the tests give locals, and appends the
-// fault.
+// Writes a function with these numbers and the tests' numbers of locals, and appends the fault.
 fn write_under(
     text: &mut String,
     function: &LocalFunction,
@@ -73,7 +73,7 @@ fn write_under(
     push_fault(text, answer)
 }
 
-// The same under the numbers of these tests.
+// The same with the numbers of these tests.
 fn write_into(
     text: &mut String,
     function: &LocalFunction,
@@ -99,8 +99,8 @@ fn push_output(
     Ok(())
 }
 
-// Writes a function, and appends what the encoder and a list of one pair then hold, and before that
-// the fault.
+// Writes a function. Appends the fault, and then the contents of the encoder and of a list that had
+// one pair.
 fn push_encoded(
     text: &mut String,
     function: &LocalFunction,
@@ -111,15 +111,15 @@ fn push_encoded(
     Ok(push_output(text, encoder.bytes(), map.as_slice())?)
 }
 
-/// Writes a function, and appends what an encoder of no declarations and a list of one pair then
-/// hold, and before that the fault.
+/// Writes a function. Appends the fault, and then the contents of an encoder without declarations
+/// and of a list that had one pair.
 pub(crate) fn push_written(text: &mut String, function: &LocalFunction) -> Result<(), Fail> {
     let mut encoder = FunctionEncoder::new(*text.allocator(), &[])?;
     push_encoded(text, function, &mut encoder)
 }
 
-/// Bytes and pairs of functions that are made by hand; tree faults first, then the first fault in
-/// order of writing, which leaves bytes and pairs as they were.
+/// Bytes and pairs of functions made by hand. Faults of the tree come first, then the first fault
+/// in the order of writing; bytes and pairs are then unchanged.
 #[test]
 fn writes_what_is_made_by_hand(rt: HostRuntime) -> Result<(), Fail> {
     let nested = [
@@ -169,22 +169,21 @@ fn writes_what_is_made_by_hand(rt: HostRuntime) -> Result<(), Fail> {
     check_made(&rt, rt.alloc(), AboutMade::Written, &cases)
 }
 
-// A table of branches to the entry and to the third sequence, or else to the second.
+// A `br_table` to the entry and the third sequence, with the second as default.
 fn table(alloc: Global) -> Result<Instr, AllocError> {
     let blocks = vec![in alloc; InstrSeqId::new(0), InstrSeqId::new(2)]?;
     let default = InstrSeqId::new(1);
     Ok(Instr::BrTable(BrTable { blocks, default }))
 }
 
-// An entry with two blocks, of which the first has the table: the third sequence isn't around it.
+// An entry with two blocks. The first contains the table, so the third sequence isn't around it.
 fn with_table(alloc: Global) -> Result<LocalFunction, AllocError> {
     let mut builder = function(alloc, 3, &[(0, Made::Block(1), 1), (0, Made::Block(2), 2)])?;
     put(&mut builder, 1, table(alloc)?, 3)?;
     Ok(LocalFunction::new(Vec::new(alloc), builder))
 }
 
-/// A table one of whose branches goes to a sequence beside its own leaves bytes and pairs as they
-/// were.
+/// A table with a branch to a sequence that isn't around it leaves bytes and pairs unchanged.
 #[test]
 fn refuses_a_table_to_a_sibling(rt: HostRuntime) -> Result<(), Fail> {
     let function = with_table(rt.alloc())?;
@@ -194,7 +193,8 @@ fn refuses_a_table_to_a_sibling(rt: HostRuntime) -> Result<(), Fail> {
     Ok(())
 }
 
-/// Locals are written by the numbers that are handed in; one without is refused in its turn.
+/// Locals are written with the numbers in the map; a local without a number is refused where it
+/// would be written.
 #[test]
 fn writes_numbers_of_locals(rt: HostRuntime) -> Result<(), Fail> {
     let numbered = [
@@ -222,8 +222,8 @@ fn writes_numbers_of_locals(rt: HostRuntime) -> Result<(), Fail> {
     check_made(&rt, rt.alloc(), AboutMade::Written, &cases)
 }
 
-/// An alignment in bytes is written as the exponent of the greatest power of two that is at most
-/// it, and 0 as that of 1.
+/// An alignment in bytes is written as the exponent of the greatest power of two that is not above
+/// it; 0 is written like 1.
 #[test]
 fn writes_exponents_of_alignments(rt: HostRuntime) -> Result<(), Fail> {
     for (align, want) in [
@@ -247,7 +247,7 @@ fn writes_exponents_of_alignments(rt: HostRuntime) -> Result<(), Fail> {
     Ok(())
 }
 
-/// Bodies whose places are known: of code that begins at 90, and at 0.
+/// Bodies at known places, in code that begins at 90 and at 0.
 #[test]
 fn writes_what_is_parsed(rt: HostRuntime) -> Result<(), Fail> {
     for (offset, before, body, want) in [
@@ -271,15 +271,14 @@ fn writes_what_is_parsed(rt: HostRuntime) -> Result<(), Fail> {
     Ok(())
 }
 
-// Appends the bytes of a function that is written without a list of pairs, and before them the
-// fault.
+// Writes a function without a list of pairs. Appends the fault, and then the bytes.
 fn push_unlisted(text: &mut String, function: &LocalFunction) -> Result<(), Fail> {
     let mut encoder = FunctionEncoder::new(*text.allocator(), &[])?;
     write_into(text, function, &mut encoder, None)?;
     Ok(push_output(text, encoder.bytes(), &[])?)
 }
 
-/// A function that is written without a list of pairs has the same bytes.
+/// A function written without a list of pairs has the same bytes.
 #[test]
 fn writes_without_pairs(rt: HostRuntime) -> Result<(), Fail> {
     let function = changed(rt.alloc())?;
@@ -299,7 +298,7 @@ fn change_second(function: &mut LocalFunction) {
     }
 }
 
-// A function whose second sequence was changed.
+// A function whose second sequence is changed.
 fn changed(alloc: Global) -> Result<LocalFunction, AllocError> {
     let builder = function(alloc, 2, &[(0, Made::Block(1), 1), (0, Made::Drop, 2)])?;
     let mut function = LocalFunction::new(Vec::new(alloc), builder);
@@ -307,14 +306,14 @@ fn changed(alloc: Global) -> Result<LocalFunction, AllocError> {
     Ok(function)
 }
 
-// Appends what is written of a function, and its sequences.
+// Appends the output of a function, and its sequences.
 fn push_written_and_read(text: &mut String, function: &LocalFunction) -> Result<(), Fail> {
     push_written(text, function)?;
     Ok(push_sequences(text, function.builder())?)
 }
 
-/// A sequence that is changed through `block_mut` is changed alone, and its type is written as it
-/// is named, not as an equal one.
+/// A change through `block_mut` changes only that sequence. Its type is written as it is, not as an
+/// equal one.
 #[test]
 fn changes_one_sequence(rt: HostRuntime) -> Result<(), Fail> {
     let function = changed(rt.alloc())?;
@@ -327,7 +326,7 @@ fn changes_one_sequence(rt: HostRuntime) -> Result<(), Fail> {
     Ok(())
 }
 
-// Appends what a function says about itself.
+// Appends the entry, arguments and other properties of a function.
 fn push_shape(text: &mut String, function: &LocalFunction) -> Result<(), AllocError> {
     let pairs = function.instruction_mapping.len();
     write!(
@@ -351,14 +350,15 @@ fn push_shape(text: &mut String, function: &LocalFunction) -> Result<(), AllocEr
     Ok(())
 }
 
-// A function of two sequences, the second of which has one instruction, and two arguments.
+// A function with two arguments and two sequences, the second of which has one instruction.
 fn with_arguments(alloc: Global) -> Result<LocalFunction, AllocError> {
     let args = vec![in alloc; LocalId::new(3), LocalId::new(1)]?;
     let builder = function(alloc, 2, &[(1, Made::Drop, 5)])?;
     Ok(LocalFunction::new(args, builder))
 }
 
-// Appends what a function says about itself that begins with no sequence, and with the second.
+// Appends the properties of a function without an entry, and then with the second sequence as its
+// entry.
 fn push_shapes(text: &mut String, function: &mut LocalFunction) -> Result<(), AllocError> {
     for entry in [2, 1] {
         function.builder_mut().set_entry(InstrSeqId::new(entry));
@@ -367,7 +367,8 @@ fn push_shapes(text: &mut String, function: &mut LocalFunction) -> Result<(), Al
     Ok(())
 }
 
-/// A function holds what it is made of, and nothing that was read; its entry can be set.
+/// A function made by hand has the parts that it was made from, and nothing from a body; its entry
+/// can be set.
 #[test]
 fn has_what_it_was_made_of(rt: HostRuntime) -> Result<(), Fail> {
     let mut function = with_arguments(rt.alloc())?;

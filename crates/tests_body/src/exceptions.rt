@@ -12,8 +12,8 @@ use walrus_ir::{
 };
 
 /// Clauses of a legacy `try` in the tree, and the faults of a `catch` in the order of its rules:
-/// its tag's old index, that the module holds the tag, that this has a function type, and that
-/// there is a type for the handler.
+/// its tag's old index has no id, the tag isn't in the module, its type isn't a function type,
+/// there is no type for the handler.
 #[test]
 fn parses_clauses(rt: HostRuntime) -> Result<(), Fail> {
     let cases = [
@@ -25,7 +25,7 @@ fn parses_clauses(rt: HostRuntime) -> Result<(), Fail> {
             "06400700190b0b",
             "0..7 0:0 2:2 4:4 5:5 6:6 type4[ try 1 2@0 ]6 ()[ ]2 ()[ ]4 ()[ ]5",
         ),
-        // The body of a `try` that `delegate` closes ends nowhere.
+        // The body of a `try` that `delegate` closes has no end location.
         ("064018000b", "0..5 0:0 2:2 4:4 type4[ try 1 1@0 ]4 ()[ ]-"),
         ("064007040b0b", "Tags 4 at 2"),
         ("064007030b0b", "UnknownId at 2"),
@@ -36,7 +36,7 @@ fn parses_clauses(rt: HostRuntime) -> Result<(), Fail> {
     check(&rt, rt.alloc(), About::Function(Setting::PLAIN), &cases)
 }
 
-/// A `delegate` has the default location, since the sequence that it closes ends nowhere.
+/// A `delegate` has the default location, since the sequence that it closes has no end location.
 #[test]
 fn writes_a_delegate_nowhere(rt: HostRuntime) -> Result<(), Fail> {
     let setting = Setting {
@@ -50,7 +50,7 @@ fn writes_a_delegate_nowhere(rt: HostRuntime) -> Result<(), Fail> {
     check(&rt, rt.alloc(), About::Written(setting), &cases)
 }
 
-/// A clause that a test gives to a `try`; a handler is a slot.
+/// A clause for a `try` in a test; a handler is a slot.
 #[derive(Clone, Copy)]
 enum Clause {
     Catch(usize),
@@ -58,7 +58,7 @@ enum Clause {
     Delegate,
 }
 
-// Lists of clauses in no lawful order.
+// Lists of clauses in orders that aren't lawful.
 const UNLAWFUL: [[Clause; 2]; 4] = [
     [Clause::CatchAll(2), Clause::Catch(3)],
     [Clause::CatchAll(2), Clause::CatchAll(3)],
@@ -87,14 +87,14 @@ fn legacy_catches(alloc: Global, clauses: &[Clause]) -> Result<Vec<LegacyCatch>,
     Ok(catches)
 }
 
-// Puts a `try` of the sequence 1 with these clauses into the sequence 0.
+// Appends to the sequence 0 a `try` with the sequence 1 and these clauses.
 fn put_try(builder: &mut FunctionBuilder, clauses: &[Clause]) -> Result<(), AllocError> {
     let seq = InstrSeqId::new(1);
     let catches = legacy_catches(builder.allocator(), clauses)?;
     put(builder, 0, Instr::Try(Try { seq, catches }), 1)
 }
 
-// Four sequences, of which the second has this type and the others are from nothing to nothing.
+// Four sequences: the second has this type, and the others have no parameters and results.
 fn alloc_four(builder: &mut FunctionBuilder, ty: InstrSeqType) -> Result<(), AllocError> {
     builder.alloc(InstrSeqType::Simple(None))?;
     builder.alloc(ty)?;
@@ -104,7 +104,7 @@ fn alloc_four(builder: &mut FunctionBuilder, ty: InstrSeqType) -> Result<(), All
     Ok(())
 }
 
-// A builder whose entry is a `try` with these clauses, and the type of its body this.
+// A builder whose entry is a `try` with these clauses and with a body of this type.
 fn with_try(
     alloc: Global,
     ty: InstrSeqType,
@@ -117,8 +117,7 @@ fn with_try(
     Ok(builder)
 }
 
-// What writing a function gives whose entry is a `try` with these clauses, and the type of its
-// body this.
+// The output of a function whose entry is a `try` with these clauses and with a body of this type.
 fn written_try(alloc: Global, ty: InstrSeqType, clauses: &[Clause]) -> Result<String, Fail> {
     let builder = with_try(alloc, ty, clauses)?;
     let function = LocalFunction::new(Vec::new(alloc), builder);
@@ -127,7 +126,7 @@ fn written_try(alloc: Global, ty: InstrSeqType, clauses: &[Clause]) -> Result<St
     Ok(text)
 }
 
-// Checks that no `try` is written whose body has this type; bytes and pairs are as before.
+// Checks that no `try` with a body of this type is written, and that bytes and pairs are unchanged.
 fn refuses_unlawful(rt: &impl Abort, alloc: Global, ty: &InstrSeqType) -> Result<(), Fail> {
     for clauses in &UNLAWFUL {
         let text = written_try(alloc, *ty, clauses)?;
@@ -136,13 +135,13 @@ fn refuses_unlawful(rt: &impl Abort, alloc: Global, ty: &InstrSeqType) -> Result
     Ok(())
 }
 
-/// A `try` whose clauses are in no lawful order isn't written.
+/// A `try` whose clauses are in an order that isn't lawful isn't written.
 #[test]
 fn refuses_unlawful_clauses(rt: HostRuntime) -> Result<(), Fail> {
     refuses_unlawful(&rt, rt.alloc(), &InstrSeqType::Simple(None))
 }
 
-/// That is said first where its type has no number.
+/// This fault comes before that of a type without a number.
 #[test]
 fn refuses_unlawful_clauses_of_an_unnumbered_type(rt: HostRuntime) -> Result<(), Fail> {
     refuses_unlawful(&rt, rt.alloc(), &InstrSeqType::MultiValue(TypeId::new(77)))

@@ -1,4 +1,4 @@
-//! Facts about functions: their sizes, what they name, and whether they are constant.
+//! Facts about functions: their sizes, the ids that they name, and whether they are constant.
 use crate::by_hand::{Access, Item, Made, Use, example};
 use crate::cases::{About, AboutMade, check, check_made};
 use std::alloc::{AllocError, Global};
@@ -17,7 +17,7 @@ pub(crate) fn size(builder: &FunctionBuilder, start: InstrSeqId) -> Result<u64, 
     Ok(visitor.size)
 }
 
-// The data segments that are named from a sequence on.
+// The data segments that the instructions name, from a sequence on.
 fn segments(
     alloc: Global,
     builder: &FunctionBuilder,
@@ -50,7 +50,7 @@ fn push_found(
     }
 }
 
-// Appends what visitors find from the first sequence on: the size and the data segments, or the
+// Appends what visitors find, from the first sequence on: the size and the data segments, or the
 // fault.
 fn push_visited(text: &mut String, builder: &FunctionBuilder) -> Result<(), AllocError> {
     let entry = InstrSeqId::new(0);
@@ -59,7 +59,7 @@ fn push_visited(text: &mut String, builder: &FunctionBuilder) -> Result<(), Allo
     push_found(text, found)
 }
 
-/// Appends what a function says about itself.
+/// Appends what a function's own calls return.
 pub(crate) fn push_answered(text: &mut String, function: &LocalFunction) -> Result<(), AllocError> {
     if !function.has_entry() {
         return Ok(());
@@ -72,7 +72,7 @@ pub(crate) fn push_answered(text: &mut String, function: &LocalFunction) -> Resu
     Ok(())
 }
 
-/// Appends its size and data segments as visitors find them, and as it says.
+/// Appends its size and data segments as visitors find them, and as its own calls return them.
 pub(crate) fn push_visited_twice(
     text: &mut String,
     function: &LocalFunction,
@@ -82,7 +82,7 @@ pub(crate) fn push_visited_twice(
     push_answered(text, function)
 }
 
-// Appends the facts: the size, whether data segments are used, the functions in order, and the
+// Appends the facts: the size, whether data segments are named, the functions in order, and the
 // locals below 100.
 fn push_facts(text: &mut String, facts: &EmitFacts) -> Result<(), AllocError> {
     write!(text, "{}", facts.size)?;
@@ -100,8 +100,8 @@ fn push_facts(text: &mut String, facts: &EmitFacts) -> Result<(), AllocError> {
     Ok(())
 }
 
-// Appends the facts that a visitor gathers from the first sequence on, which begins with this size,
-// and the fault.
+// Appends the facts that a visitor with this size at the beginning gathers, from the first sequence
+// on, and the fault.
 fn push_gathered(
     text: &mut String,
     builder: &FunctionBuilder,
@@ -117,7 +117,7 @@ fn push_gathered(
     }
 }
 
-// Appends the facts that a function gives, or the fault.
+// Appends the facts of a function, or the fault.
 fn push_emitted(text: &mut String, function: &LocalFunction) -> Result<(), AllocError> {
     if !function.has_entry() {
         return text.push_str("no entry");
@@ -128,7 +128,7 @@ fn push_emitted(text: &mut String, function: &LocalFunction) -> Result<(), Alloc
     }
 }
 
-/// Appends the facts that a visitor gathers, and those that the function gives.
+/// Appends the facts that a visitor gathers, and those that the function returns.
 pub(crate) fn push_gathered_twice(
     text: &mut String,
     function: &LocalFunction,
@@ -138,7 +138,7 @@ pub(crate) fn push_gathered_twice(
     push_emitted(text, function)
 }
 
-/// Appends the facts that a function gives, and what it says about itself besides.
+/// Appends the facts that a function returns, and what its other calls return.
 pub(crate) fn push_both_answered(
     text: &mut String,
     function: &LocalFunction,
@@ -148,7 +148,7 @@ pub(crate) fn push_both_answered(
     push_answered(text, function)
 }
 
-/// Functions that are made by hand, by visitors and as the function gives them.
+/// Facts of functions made by hand, from visitors and from the functions' own calls.
 #[test]
 fn finds_facts(rt: HostRuntime) -> Result<(), Fail> {
     let reached = [
@@ -179,7 +179,8 @@ fn finds_facts(rt: HostRuntime) -> Result<(), Fail> {
     check_made(&rt, rt.alloc(), AboutMade::Facts, &cases)
 }
 
-/// What is reached from the entry is counted, and `is_const` looks at the entry alone.
+/// The instructions that are reached from the entry are counted, and `is_const` looks at the entry
+/// alone.
 #[test]
 fn finds_facts_of_parsed_functions(rt: HostRuntime) -> Result<(), Fail> {
     let cases = [
@@ -197,8 +198,8 @@ fn finds_facts_of_parsed_functions(rt: HostRuntime) -> Result<(), Fail> {
     check(&rt, rt.alloc(), About::Facts, &cases)
 }
 
-/// What is gathered from the entry on, by a visitor and as the function gives it: functions in walk
-/// order, repeats kept, and nothing where the sequences are no tree.
+/// The facts from the entry on, from a visitor and from the function's own calls: functions in walk
+/// order, with repeats; no facts if the sequences are not a tree.
 #[test]
 fn gathers_what_is_named(rt: HostRuntime) -> Result<(), Fail> {
     let named = [
@@ -238,7 +239,7 @@ fn gathers_what_is_named(rt: HostRuntime) -> Result<(), Fail> {
     check_made(&rt, rt.alloc(), AboutMade::Gathered, &cases)
 }
 
-/// What the bodies of a function of the plain module hold, and then their size and data segments.
+/// The facts of bodies of the plain module's function, and then their size and data segments.
 #[test]
 fn gathers_from_parsed_functions(rt: HostRuntime) -> Result<(), Fail> {
     let cases = [
@@ -249,7 +250,7 @@ fn gathers_from_parsed_functions(rt: HostRuntime) -> Result<(), Fail> {
         ("fb0900001a0b", "2 data; Ok(2) 0"),
         ("20011a20031a0b", "4 local1 local3; Ok(4)"),
         ("410020032101220210010b", "5 local1 local2 local3; Ok(5)"),
-        // What is dropped is no fact.
+        // Dropped code has no facts.
         ("0f20011ad2001afc09000b", "1; Ok(1)"),
     ];
     check(&rt, rt.alloc(), About::Gathered, &cases)?;
@@ -257,7 +258,7 @@ fn gathers_from_parsed_functions(rt: HostRuntime) -> Result<(), Fail> {
     Ok(())
 }
 
-// Appends what counting returns that begins with a number, and what it has then counted.
+// Appends the result of a count that begins at a number, and the count after it.
 fn push_counted(
     text: &mut String,
     builder: &FunctionBuilder,
@@ -268,7 +269,7 @@ fn push_counted(
     write!(text, "{answer:?} {}", visitor.size)
 }
 
-// The same, and then the facts that a visitor gathers which begins with that number.
+// The same, and then the facts of a visitor that begins at that number.
 fn counted_from(
     alloc: Global,
     builder: &FunctionBuilder,
@@ -281,7 +282,7 @@ fn counted_from(
     Ok(text)
 }
 
-// Counts on from numbers up to what 64 bits hold.
+// Checks counts from several numbers, up to the limit of 64 bits.
 fn check_counts(rt: &impl Abort, alloc: Global, builder: &FunctionBuilder) -> Result<(), Fail> {
     for (before, want) in [
         (0, "Ok(()) 23; 23"),
@@ -300,14 +301,14 @@ fn check_counts(rt: &impl Abort, alloc: Global, builder: &FunctionBuilder) -> Re
     Ok(())
 }
 
-/// The size of a tree with every kind of sequence, up to what 64 bits hold.
+/// The size of a tree with every kind of sequence, up to the limit of 64 bits.
 #[test]
 fn counts_up_to_64_bits(rt: HostRuntime) -> Result<(), Fail> {
     let builder = example(rt.alloc())?;
     check_counts(&rt, rt.alloc(), &builder)
 }
 
-// What the function of that tree says about itself.
+// The results of the calls of that tree's function.
 fn example_answered(alloc: Global) -> Result<String, AllocError> {
     let function = LocalFunction::new(Vec::new(alloc), example(alloc)?);
     let mut text = String::new(alloc);
@@ -315,7 +316,7 @@ fn example_answered(alloc: Global) -> Result<String, AllocError> {
     Ok(text)
 }
 
-/// The facts of that tree, as its function gives them.
+/// The facts of that tree, as its function returns them.
 #[test]
 fn gathers_from_every_kind_of_sequence(rt: HostRuntime) -> Result<(), Fail> {
     let found = example_answered(rt.alloc())?;

@@ -1,4 +1,4 @@
-//! Functions as text, to be compared with the text that is wanted.
+//! Functions as text, to be compared with the expected text.
 
 use std::alloc::AllocError;
 use std::fmt;
@@ -9,7 +9,7 @@ use walrus_ir::{
 };
 use wasm_ops::{Opcode, ReadError, binary_opcode, unary_opcode};
 
-/// An opcode: its byte in hexadecimal, or its prefix byte and the number after that.
+/// An opcode: its byte in hexadecimal, or its prefix byte and the number after it.
 #[derive(Clone, Copy)]
 pub(crate) struct Code(pub Opcode);
 
@@ -36,7 +36,7 @@ enum Shown<'a> {
     Store(Store),
 }
 
-// The labels, and the default after them.
+// The labels, and then the default.
 fn write_labels<W: fmt::Write>(f: &mut fmt::Formatter<W>, table: &BrTable) -> fmt::Result {
     write!(f, "br_table")?;
     for block in &table.blocks {
@@ -145,7 +145,7 @@ impl fmt::Display for At {
     }
 }
 
-/// The type of a sequence: the number of a type, or the one that it gives.
+/// The type of a sequence: the number of a type, or its one result.
 #[derive(Clone, Copy)]
 pub(crate) struct Type(pub InstrSeqType);
 
@@ -159,7 +159,8 @@ impl fmt::Display for Type {
     }
 }
 
-/// Appends a sequence: its type, its instructions, each with its location, and where it ends.
+/// Appends a sequence: its type, its instructions with their locations, and the location of its
+/// end.
 pub(crate) fn push_sequence(text: &mut String, seq: &InstrSeq) -> Result<(), AllocError> {
     write!(text, " {}[", Type(seq.ty))?;
     for (instr, location) in &seq.instrs {
@@ -183,8 +184,8 @@ pub(crate) fn push_sequences(
     Ok(())
 }
 
-/// Appends the places of a function's body, the pairs of its mapping, each as a place and its
-/// location, and all its sequences by their slots.
+/// Appends the places of a function's body, its mapping as pairs of a place and a location, and all
+/// its sequences by their slots.
 pub(crate) fn push_parsed_function(
     text: &mut String,
     function: &LocalFunction,
@@ -198,7 +199,7 @@ pub(crate) fn push_parsed_function(
     push_sequences(text, function.builder())
 }
 
-/// Why a body isn't parsed: the name of the fault, with what it holds.
+/// Why a body isn't parsed: the name of the fault, with its values.
 #[derive(Clone, Copy)]
 pub(crate) struct Fault(pub ParseError);
 

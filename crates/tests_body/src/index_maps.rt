@@ -1,4 +1,4 @@
-//! Ids of old indices, new indices of ids, and the texts of what is refused.
+//! Ids of old indices, new indices of ids, and the texts of faults.
 ghost use Rattle.std.specs.Prelude.{◌≡◌};
 ghost use Rattle.walrus_maps.specs.IndexMaps.{number_of};
 
@@ -57,7 +57,8 @@ fn shown(alloc: Global, answer: Result<usize, IndexError>) -> Result<String, All
     }
 }
 
-// Gives types old indices, the first of these to another type, and two locals to a function.
+// Gives old indices to types, and the first of them to another type; gives two locals to a
+// function.
 fn remap(ids: &mut IndicesToIds) -> Result<(), IndexError> {
     ids.push_type(TypeId::new(2))?;
     ids.push_type(TypeId::new(0))?;
@@ -68,7 +69,7 @@ fn remap(ids: &mut IndicesToIds) -> Result<(), IndexError> {
     Ok(())
 }
 
-// The same, and an id in each space.
+// The same, and gives an old index to an id in each space.
 fn push_all(ids: &mut IndicesToIds) -> Result<(), IndexError> {
     remap(ids)?;
     for (space, id) in SPACES {
@@ -77,14 +78,14 @@ fn push_all(ids: &mut IndicesToIds) -> Result<(), IndexError> {
     Ok(())
 }
 
-// Two types of which the first was remapped, an id in each space, and two locals.
+// Two types, of which the first was remapped, an id in each space, and two locals.
 fn some_ids(alloc: Global) -> Result<IndicesToIds, IndexError> {
     let mut ids = IndicesToIds::new(alloc);
     push_all(&mut ids)?;
     Ok(ids)
 }
 
-/// What an old index is asked in.
+/// Where an old index is looked up.
 #[derive(Clone, Copy)]
 enum Place {
     In(Space),
@@ -106,7 +107,7 @@ fn found(
     }
 }
 
-// Where an old index is asked, the index, and the id or the text of the fault.
+// Where an old index is looked up, the index, and the id or the text of the fault.
 const FOUND: [(Place, u32, &str); 22] = [
     (Place::In(Space::Types), 0, "3"),
     (Place::In(Space::Types), 1, "0"),
@@ -181,15 +182,16 @@ fn check_ids(rt: &impl Abort, alloc: Global, ids: &IndicesToIds) -> Result<(), F
     Ok(())
 }
 
-/// Each space has ids of its own and each function its locals, in the order in which they were
-/// pushed; an index that is remapped is, alone; where an index has no id the space is named.
+/// Each space has its own ids and each function its own locals, in the order in which they were
+/// pushed. Remapping an index changes only that one. A fault names the space of an index without an
+/// id.
 #[test]
 fn each_space_has_its_ids(rt: HostRuntime) -> Result<(), Fail> {
     let ids = some_ids(rt.alloc())?;
     check_ids(&rt, rt.alloc(), &ids)
 }
 
-/// An index that is looked up in an empty map is out of range, and named in the text.
+/// An index that is looked up in an empty map is out of range, and the text names it.
 #[test]
 fn finds_nothing_in_an_empty_map(rt: HostRuntime) -> Result<(), Fail> {
     let ids = IndicesToIds::new(rt.alloc());
@@ -219,7 +221,7 @@ fn number(numbers: &IdsToIndices, space: Space, id: usize) -> Result<u32, IndexE
     }
 }
 
-/// Gives an id that has none the next new index, and a data segment 0.
+/// Gives an id that has none the next new index; gives a data segment the new index 0.
 pub(crate) fn give(numbers: &mut IdsToIndices, space: Space, id: usize) -> Result<(), IndexError> {
     if number(numbers, space, id).is_ok() {
         return Ok(());
@@ -249,7 +251,7 @@ fn number_text(
     }
 }
 
-// Gives an id in each space, two functions more, and twice a data segment their new indices.
+// Gives new indices to an id in each space, to two more functions, and twice to a data segment.
 fn give_all(numbers: &mut IdsToIndices) -> Result<(), IndexError> {
     for (space, id) in SPACES {
         give(numbers, space, id)?;
@@ -306,8 +308,8 @@ fn check_numbers(rt: &impl Abort, alloc: Global, numbers: &IdsToIndices) -> Resu
     Ok(())
 }
 
-/// Each space has new indices of its own, in the order in which ids were pushed; that of a data
-/// segment is replaced.
+/// Each space has its own new indices, in the order in which ids were pushed. The new index of a
+/// data segment can be replaced.
 #[test]
 fn each_space_has_its_numbers(rt: HostRuntime) -> Result<(), Fail> {
     let numbers = numbers_of_spaces(rt.alloc())?;

@@ -1,4 +1,4 @@
-//! A sequence that a builder lends, changed by its public fields.
+//! A sequence borrowed from a builder, changed through its public fields.
 ghost use Rattle.std.specs.Prelude.{◌≡◌, ◌<◌, ◌∷◌, ◌++◌, [], length, OnOk, slice_get, Some};
 ghost use Rattle.walrus_ir.specs.declared.seq.InstrSeq.{InstrSeq as Sequence};
 ghost use Rattle.walrus_ir.specs.Function.{with_sequence};

@@ -1,8 +1,8 @@
-//! Tests of reading, parsing, walking and writing, of what no contract says: worked rows and cases
-//! from outside, printed texts, the laws' calls, and that each call that takes memory succeeds
-//! where memory is left. A test is a table of texts or of functions that are made by hand, each
-//! beside the text that is wanted (`cases`). A function here owns one large value and lends it to
-//! the next: one that holds several over calls that may fail takes minutes to prove.
+//! Tests of reading, parsing, walking and writing, for what no contract says: worked rows and cases
+//! from outside, printed texts, the calls of the laws, and that each call that allocates succeeds
+//! if there is memory. A test is a table of texts or of functions made by hand, each with the
+//! expected text (`cases`). A function here owns one large value and lends it to the next: one that
+//! owns several over calls that may fail takes minutes to prove.
 #![tactic(auto)]
 
 #[cfg(test)]

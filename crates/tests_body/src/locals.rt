@@ -8,14 +8,14 @@ use walrus_ir::{FunctionBuilder, IdHashMap, IdHashSet, LocalId, Module, TypeId};
 use wasm_encode::FunctionEncoder;
 use wasm_ops::RawValType;
 
-// The declarations as they are written, of the first hundred.
+// The bytes of the first hundred declarations.
 fn written(alloc: Global, declarations: &[(u32, RawValType)]) -> Result<Vec<u8>, AllocError> {
     let count = declarations.len().min(100);
     let encoder = FunctionEncoder::new(alloc, &declarations[..count])?;
     Ok(encoder.into_raw_body())
 }
 
-// Appends the declarations, and the numbers of those locals whose id is below 100.
+// Appends the declarations, and the numbers of the locals whose id is below 100.
 fn push_declarations(
     text: &mut String,
     declarations: &[(u32, RawValType)],
@@ -32,7 +32,7 @@ fn push_declarations(
     Ok(())
 }
 
-// Appends what a function that uses these locals declares over this module, or the fault.
+// Appends the declarations of a function that uses these locals, with this module; or the fault.
 fn push_declared_in(
     text: &mut String,
     module: &Module,
@@ -47,7 +47,7 @@ fn push_declared_in(
     Ok(())
 }
 
-// The same under these numbers, over the plain module.
+// The same with these numbers and the plain module.
 fn push_declared_under(
     text: &mut String,
     numbers: &IdsToIndices,
@@ -58,7 +58,7 @@ fn push_declared_under(
     push_declared_in(text, &module, numbers, function, used)
 }
 
-// The same under the numbers of that module.
+// The same with the numbers of that module.
 fn push_declared(
     text: &mut String,
     function: &LocalFunction,
@@ -68,7 +68,7 @@ fn push_declared(
     push_declared_under(text, &numbers, function, used)
 }
 
-/// Appends what a function declares that uses the locals that are among its facts.
+/// Appends the declarations of a function that uses the locals in its facts.
 pub(crate) fn push_declared_as_used(
     text: &mut String,
     function: &LocalFunction,
@@ -90,7 +90,7 @@ fn used_locals(alloc: Global, used: &[usize]) -> Result<IdHashSet<LocalId>, Allo
     Ok(locals)
 }
 
-// What a function declares that uses these locals.
+// The declarations of a function that uses these locals.
 fn declared(alloc: Global, function: &LocalFunction, used: &[usize]) -> Result<String, Fail> {
     let used = used_locals(alloc, used)?;
     let mut text = String::new(alloc);
@@ -98,7 +98,7 @@ fn declared(alloc: Global, function: &LocalFunction, used: &[usize]) -> Result<S
     Ok(text)
 }
 
-// A function of these arguments.
+// A function with these arguments.
 fn function_of(alloc: Global, args: &[usize]) -> Result<LocalFunction, AllocError> {
     let mut arguments = Vec::new(alloc);
     for id in args {
@@ -108,42 +108,43 @@ fn function_of(alloc: Global, args: &[usize]) -> Result<LocalFunction, AllocErro
     Ok(LocalFunction::new(arguments, builder))
 }
 
-// What a function of these arguments declares that uses these locals.
+// The declarations of a function with these arguments that uses these locals.
 fn declared_by_hand(alloc: Global, args: &[usize], used: &[usize]) -> Result<String, Fail> {
     let function = function_of(alloc, args)?;
     declared(alloc, &function, used)
 }
 
-/// A case: arguments, used locals, and what is wanted.
+/// A case: arguments, used locals, and the expected text.
 type Case = (&'static [usize], &'static [usize], &'static str);
 
-// The types of the locals are those of the plain module; its type 1 has the new index 2, its type 2
+// The types of the locals are those of the plain module. Its type 1 has the new index 2, its type 2
 // has 1, and its type 4 has none.
 const DECLARED: [Case; 9] = [
     (&[], &[], "00"),
     (&[0], &[], "00 0:0"),
     (&[0], &[0, 1], "01017e 0:0 1:1"),
     (&[0], &[3, 1], "01027e 0:0 1:1 3:2"),
-    // By type, and of one type by id.
+    // By type; locals of the same type by id.
     (
         &[1, 0],
         &[14, 7, 6, 5, 4, 3, 2, 1, 0],
         "05017f027e017c0164700270 0:1 1:0 2:3 3:4 4:5 5:7 6:6 7:2 14:8",
     ),
-    // References that aren't nullable first, then abstract ones, then by the type's id.
+    // References that aren't nullable come first, then abstract heap types before the module's
+    // types, then lower ids.
     (
         &[],
         &[5, 6, 8, 9, 10, 12, 13, 15],
         "08017d017b0164700164020170016f016302016301 5:4 6:2 8:5 9:7 10:6 12:0 13:1 15:3",
     ),
-    // An argument that is named twice keeps its last place.
+    // An argument that is listed twice has its last position as its number.
     (&[1, 1], &[2, 1], "01017e 1:1 2:2"),
     (&[0, 1, 0], &[2], "01017e 0:2 1:1 2:3"),
-    // An argument needs neither a type in the module nor a new index of its type.
+    // An argument needs neither a type in the module nor a new index for its type.
     (&[77, 11], &[2, 11, 77], "01017e 2:2 11:1 77:0"),
 ];
 
-// A local that isn't there comes before a type without a new index.
+// A local that isn't in the module comes before a type without a new index.
 const REFUSED: [Case; 4] = [
     (&[0], &[99, 1], "UnknownLocal"),
     (&[], &[11, 99], "UnknownLocal"),
@@ -163,7 +164,7 @@ fn declares_by_type_and_id(rt: HostRuntime) -> Result<(), Fail> {
     Ok(())
 }
 
-/// Locals of bodies whose argument is the local 0, also where a later one is used first.
+/// Locals of bodies whose argument is the local 0, including bodies that use a later local first.
 #[test]
 fn declares_what_a_body_uses(rt: HostRuntime) -> Result<(), Fail> {
     let cases = [
@@ -178,7 +179,7 @@ fn declares_what_a_body_uses(rt: HostRuntime) -> Result<(), Fail> {
             "20051a200e1a20041a20061a20071a20031a20011a0b",
             "05017f027e017c0164700270 0:0 1:2 3:3 4:4 5:6 6:5 7:1 14:7",
         ),
-        // Those in dropped code aren't used.
+        // Locals in dropped code aren't used.
         ("0f20011a0b", "00 0:0"),
         ("200b1a0b", "Index(Unnumbered { space: Types })"),
         ("200b1a20101a0b", "UnknownLocal"),

@@ -1,4 +1,4 @@
-//! Modules, and the types that they hold.
+//! Modules, and their types.
 use crate::function_text::Type;
 use crate::small_module::types;
 use std::alloc::{AllocError, Global};
@@ -8,7 +8,7 @@ use walrus_ir::{
     InstrLocId, InstrSeqType, ModuleLocals, ModuleTags, ModuleTypes, TagId, TypeId, ValType,
 };
 
-// A number, or 100 where there is none.
+// A number, or 100 if there is none.
 fn number(ty: Option<TypeId>) -> usize {
     match ty {
         Some(ty) => ty.index(),
@@ -29,7 +29,7 @@ fn picked(
     }
 }
 
-// Which type is picked, and which is found, for so many `i32`.
+// Checks which type is picked and which is found for numbers of `i32` parameters and results.
 fn check_picks(rt: &impl Abort, alloc: Global, types: &ModuleTypes) -> Result<(), Fail> {
     let values = [ValType::I32, ValType::I32];
     for (params, results, pick, found) in [
@@ -48,7 +48,8 @@ fn check_picks(rt: &impl Abort, alloc: Global, types: &ModuleTypes) -> Result<()
     Ok(())
 }
 
-// Which entry type is found for so many `i32`, and which types are function types.
+// Checks which entry type is found for numbers of `i32` results, and which types are function
+// types.
 fn check_kinds(rt: &impl Abort, types: &ModuleTypes) {
     let values = [ValType::I32, ValType::I32];
     for (results, want) in [(0, 4), (1, 100), (2, 6)] {
@@ -69,7 +70,7 @@ fn check_kinds(rt: &impl Abort, types: &ModuleTypes) {
     }
 }
 
-/// Of the module's types the first by its number is found; entry types are apart.
+/// Of equal types in the module the first is found; entry types are found separately.
 #[test]
 fn finds_types(rt: HostRuntime) -> Result<(), Fail> {
     let types = types(rt.alloc())?;
@@ -77,7 +78,7 @@ fn finds_types(rt: HostRuntime) -> Result<(), Fail> {
     check_picks(&rt, rt.alloc(), &types)
 }
 
-/// Tags and locals have the numbers of their places.
+/// The numbers of tags and locals are their positions.
 #[test]
 fn keeps_tags_and_locals(rt: HostRuntime) -> Result<(), Fail> {
     let mut tags = ModuleTags::new(rt.alloc());

@@ -1,4 +1,4 @@
-//! Bodies that are refused, for their first fault and at its place.
+//! Bodies that are refused with their first fault and its place.
 use crate::cases::{About, check};
 use crate::small_module::{Setting, push_parsed_by};
 use crate::validators::Exhausted;
@@ -49,7 +49,7 @@ fn names_the_first_fault(rt: HostRuntime) -> Result<(), Fail> {
     )
 }
 
-// Bodies with an old index that has no id, and its space.
+// Bodies with an old index that has no id, and the space of the index.
 const UNKNOWN_INDICES: [(&str, &str); 24] = [
     ("23090b", "Globals 9 at 0"),
     ("24010b", "Globals 1 at 0"),
@@ -77,7 +77,8 @@ const UNKNOWN_INDICES: [(&str, &str); 24] = [
     ("fc0e01070b", "Tables 7 at 0"),
 ];
 
-/// The space and the old index that has no id: of several the one that is spelt first.
+/// The fault names the space and the old index that has no id. If there are several, it is the
+/// first in the spelling.
 #[test]
 fn names_the_space_of_an_index(rt: HostRuntime) -> Result<(), Fail> {
     check(
@@ -88,7 +89,7 @@ fn names_the_space_of_an_index(rt: HostRuntime) -> Result<(), Fail> {
     )
 }
 
-/// The function's own type is looked at first, and refused at the place of the first operator.
+/// The function's own type is checked first. Its fault is at the place of the first operator.
 #[test]
 fn looks_for_the_types_of_the_function_first(rt: HostRuntime) -> Result<(), Fail> {
     let unread = "UnknownOperator 32 at 32";
@@ -117,7 +118,8 @@ fn looks_for_the_types_of_the_function_first(rt: HostRuntime) -> Result<(), Fail
     Ok(())
 }
 
-/// A validator is asked about an operator that was read, before its rules, also in dead code.
+/// A validator is called for an operator that was read, before the operator's rules are checked,
+/// also in dead code.
 #[test]
 fn asks_the_validator(rt: HostRuntime) -> Result<(), Fail> {
     let counted = [
@@ -140,7 +142,7 @@ fn asks_the_validator(rt: HostRuntime) -> Result<(), Fail> {
     check(&rt, rt.alloc(), About::Told, &told)
 }
 
-/// A validator that wants memory makes the parse want it.
+/// If a validator runs out of memory, so does the parse.
 #[test]
 fn wants_memory_as_the_validator_does(rt: HostRuntime) -> Result<(), Fail> {
     let mut text = String::new(rt.alloc());

@@ -1,4 +1,4 @@
-//! Functions that are parsed: their trees, their mappings and the places of their bodies.
+//! Functions that are parsed: their trees, their mappings, and the places of their bodies.
 use crate::cases::{About, check};
 use crate::function_text::push_parsed_function;
 use crate::small_module::{Setting, parse_lent};
@@ -18,7 +18,7 @@ fn gives_trees_and_mappings(rt: HostRuntime) -> Result<(), Fail> {
             "41000e00001a0b",
             "0..7 0:0 2:2 5:5 6:6 type4[ i32.const 0@0 br_table 0@2 ]6",
         ),
-        // A block that is opened in a dead sequence is apart.
+        // A block in a dead sequence isn't in the tree, but the builder has its sequence.
         (
             "0c000240010b0b",
             "0..7 0:0 2:2 4:4 5:5 6:6 type4[ br 0@0 ]6 ()[ ]5",
@@ -28,7 +28,7 @@ fn gives_trees_and_mappings(rt: HostRuntime) -> Result<(), Fail> {
             "0..12 0:0 2:2 4:4 6:6 7:7 8:8 10:10 11:11 \
             type4[ block 1@0 i32.const 5@8 drop@10 ]11 ()[ br 1@2 ]7",
         ),
-        // The alternative that is added ends nowhere.
+        // The alternative that is added has no end location.
         (
             "410104400b0b",
             "0..6 0:0 2:2 4:4 5:5 type4[ i32.const 1@0 if 1 2@2 ]5 ()[ ]4 ()[ ]-",
@@ -55,7 +55,7 @@ fn gives_trees_and_mappings(rt: HostRuntime) -> Result<(), Fail> {
     check(&rt, rt.alloc(), About::Function(Setting::PLAIN), &cases)
 }
 
-/// The instructions that operators become, with the ids of their old indices.
+/// The instructions of operators, with the ids of their old indices.
 #[test]
 fn gives_instructions(rt: HostRuntime) -> Result<(), Fail> {
     let cases = [
@@ -116,8 +116,8 @@ fn gives_constants_and_accesses(rt: HostRuntime) -> Result<(), Fail> {
     check(&rt, rt.alloc(), About::Entry, &cases)
 }
 
-// A body that stands so many bytes after the beginning of the code, and whose operators begin so
-// many bytes further.
+// A body that is `before` bytes after the beginning of the code, and whose operators begin `ops`
+// bytes after that.
 fn at(offset: u32, before: u32, ops: usize) -> About {
     About::Function(Setting {
         ty: 0,
@@ -128,8 +128,8 @@ fn at(offset: u32, before: u32, ops: usize) -> About {
     })
 }
 
-/// Places count from where the body stands, less where the code begins, and locations are places;
-/// those from 2^32 - 1 on are too great.
+/// The places of a mapping are less the code offset, and locations are places. Places from 2^32 - 1
+/// on are too great for a location.
 #[test]
 fn counts_places(rt: HostRuntime) -> Result<(), Fail> {
     let refused = "PlaceTooGreat at 4294967295";
@@ -165,7 +165,8 @@ fn counts_places(rt: HostRuntime) -> Result<(), Fail> {
     Ok(())
 }
 
-/// Locations are what the caller's function returns, also for places that are too great without it.
+/// Locations are those that the caller's function returns, also at places that would be too great
+/// without it.
 #[test]
 fn asks_for_locations(rt: HostRuntime) -> Result<(), Fail> {
     for (before, body, want) in [
@@ -201,7 +202,7 @@ fn some_instrs(alloc: Global) -> Result<Vec<(Instr, InstrLocId)>, AllocError> {
     Ok(instrs)
 }
 
-// The function that is parsed of an `if`, where this list is lent.
+// The function that is parsed from an `if` with this list.
 fn lent_text(instrs: &mut Vec<(Instr, InstrLocId)>) -> Result<String, Fail> {
     let alloc = *instrs.allocator();
     let mut text = String::new(alloc);
@@ -210,7 +211,7 @@ fn lent_text(instrs: &mut Vec<(Instr, InstrLocId)>) -> Result<String, Fail> {
     Ok(text)
 }
 
-/// What the list holds that is lent makes no difference.
+/// The contents of the caller's list make no difference.
 #[test]
 fn clears_the_lent_list(rt: HostRuntime) -> Result<(), Fail> {
     let want = lent_text(&mut Vec::new(rt.alloc()))?;
@@ -221,14 +222,14 @@ fn clears_the_lent_list(rt: HostRuntime) -> Result<(), Fail> {
     Ok(())
 }
 
-// Parses a body with the list that is lent, and drops its function.
+// Parses a body with the caller's list, and drops its function.
 fn parse_away(body: &str, instrs: &mut Vec<(Instr, InstrLocId)>) -> Result<(), Fail> {
     let alloc = *instrs.allocator();
     drop(parse_lent(alloc, Setting::PLAIN, body, AcceptAll, instrs)?);
     Ok(())
 }
 
-/// Bodies that are accepted leave the list empty that is lent, with the memory that it had.
+/// After a body is accepted the caller's list is empty, and has the memory that it had.
 #[test]
 fn keeps_the_memory_of_the_lent_list(rt: HostRuntime) -> Result<(), Fail> {
     let mut instrs = Vec::new(rt.alloc());

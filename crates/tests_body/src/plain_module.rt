@@ -1,5 +1,5 @@
-//! A module whose ids are its old indices, with locals of many types; and what the bodies of its
-//! function 0 give.
+//! A module whose ids are its old indices, with locals of many types; and parsing the bodies of its
+//! function 0.
 ghost use Rattle.std.specs.Prelude.{◌≡◌, IfOk};
 
 use crate::index_maps::{give, push};
@@ -66,7 +66,7 @@ pub(crate) fn module(alloc: Global) -> Result<Module, AllocError>
     }
 }
 
-/// What bodies name, each with an id that is its old index.
+/// The items that bodies name, each with an id that is its old index.
 const ITEMS: [(Space, usize); 4] = [
     (Space::Types, 0),
     (Space::Funcs, 0),
@@ -74,10 +74,10 @@ const ITEMS: [(Space, usize); 4] = [
     (Space::Data, 0),
 ];
 
-/// An id of a local that the module doesn't hold.
+/// An id of a local that isn't in the module.
 const UNKNOWN: usize = 99;
 
-// After the locals of the function 0 comes one that isn't in the module.
+// The local after those of the function 0 isn't in the module.
 fn push_ids(indices: &mut IndicesToIds) -> Result<(), IndexError> {
     for (space, id) in ITEMS {
         push(indices, space, id)?;

@@ -1,4 +1,4 @@
-//! Operators that are read one after the other, and compared.
+//! Operators that are read one after the other, and their equality.
 use crate::cases::{About, check};
 use crate::function_text::Code;
 use std::alloc::{AllocError, Global};
@@ -8,8 +8,8 @@ use wasm_ops::{
     law_reading, law_shortest, law_shortest_number,
 };
 
-// Appends the next operator, as its opcode and what follows that, and the place after it; or the
-// fault. Returns whether there was one.
+// Appends the next operator as its opcode and its immediates, and the place after it; or the fault.
+// Returns whether there was one.
 fn push_next(text: &mut String, reader: &mut Reader<'_>) -> Result<bool, AllocError> {
     match reader.read() {
         Ok(operator) => {
@@ -35,14 +35,14 @@ fn push_operators(text: &mut String, bytes: &[u8], start: u32) -> Result<(), All
     Ok(())
 }
 
-/// Appends the operators in hexadecimal text that begins at a place, each with the place after it,
-/// and last the fault where there is one.
+/// Appends the operators of hexadecimal text that begins at a place, each with the place after it,
+/// and then the fault if there is one.
 pub(crate) fn push_read(text: &mut String, bytes: &str, start: u32) -> Result<(), Fail> {
     let bytes = hex::decode(*text.allocator(), bytes)?;
     Ok(push_operators(text, &bytes, start)?)
 }
 
-/// Operators with the places after them; a fault has its operator's place.
+/// Operators with the places after them. A fault has its operator's place.
 #[test]
 fn reads_one_after_the_other(rt: HostRuntime) -> Result<(), Fail> {
     let cases = [
@@ -105,7 +105,7 @@ fn table_text(alloc: Global, operator: &Operator<'_>) -> Result<String, AllocErr
     }
 }
 
-/// The labels of a branch table, which are in the input.
+/// The labels of a `br_table`, which are borrowed from the input.
 #[test]
 fn reads_labels(rt: HostRuntime) -> Result<(), Fail> {
     let mut reader = Reader::new(&[0x0e, 2, 0, 1, 2], 7);
@@ -116,7 +116,8 @@ fn reads_labels(rt: HostRuntime) -> Result<(), Fail> {
     Ok(())
 }
 
-// Whether the operator of these bytes is a branch to the label 131: by the law, and compared.
+// Whether the operator of these bytes is a branch to the label 131: first by the law, then by
+// comparison.
 fn is_branch(bytes: &[u8]) -> Result<(bool, bool), ReadError> {
     let branch = Operator::Br { label: 131 };
     let operator = Reader::new(bytes, 0).read()?;

@@ -1,4 +1,4 @@
-//! A visitor that writes down what it is told.
+//! A visitor that records events.
 ghost use Rattle.std.specs.Prelude.{◌≡◌, [], OnOk, OnErr, IfErr};
 ghost use Rattle.tests_body.specs.Recording.{Adds, IsUnable, HasSameNotes, word_of};
 
@@ -6,7 +6,7 @@ use std::alloc::{AllocError, Global};
 use std::fmt;
 use walrus_ir::{DataId, Instr, InstrLocId, InstrSeq, LocalId, RefFunc, Visitor, WalkError};
 
-/// What an event was: a call, or the instruction that was visited.
+/// The kind of an event: a call, or the instruction that was visited.
 #[derive(Clone, Copy)]
 pub enum Word {
     Start,
@@ -22,7 +22,7 @@ pub enum Word {
     Data,
 }
 
-/// What was written down of an event.
+/// The record of an event.
 #[derive(Clone, Copy)]
 pub struct Note {
     pub word: Word,
@@ -48,7 +48,7 @@ impl fmt::Display for Note {
     }
 }
 
-/// Writes down what it is told, a note a call, and refuses once it was called often enough.
+/// Records the events that it visits, a note for each call, until no calls remain; then it refuses.
 #[derive(Drop)]
 pub struct Recorder {
     pub told: Vec<Note>,
@@ -56,7 +56,7 @@ pub struct Recorder {
 }
 
 impl Recorder {
-    /// A recorder that takes this many calls.
+    /// A recorder that accepts this many calls.
     pub fn new(alloc: Global, calls_left: u32) -> Recorder
         ensures told { result.told.items ≡ [] }
         ensures calls_left { result.calls_left ≡ calls_left }
@@ -90,7 +90,7 @@ impl Recorder {
     }
 }
 
-// The word for an instruction that is visited.
+// The word for an instruction.
 fn word_of(instr: &Instr) -> Word
     ensures { result ≡ word_of instr.now }
 {

@@ -1,4 +1,4 @@
-//! A module whose ids aren't its old indices, and what its functions' bodies give.
+//! A module whose ids aren't its old indices, and parsing the bodies of its functions.
 ghost use Rattle.std.specs.Prelude.{◌≡◌, IfOk};
 
 use crate::function_text::{Fault, push_parsed_function, push_sequence};
@@ -21,8 +21,9 @@ pub(crate) struct Example {
     pub indices: IndicesToIds,
 }
 
-/// 0 is from nothing to nothing, 1 and 2 are from an `i32` to an `i32`, 3 is no function type, 4 is
-/// the entry type for nothing, 5 is from an `i64` to an `f32`, and 6 the entry type for two `i32`.
+/// 0 has no parameters and results, 1 and 2 have an `i32` parameter and an `i32` result, 3 is not a
+/// function type, 4 is the entry type without results, 5 has an `i64` parameter and an `f32`
+/// result, and 6 is the entry type with two `i32` results.
 pub(crate) fn types(alloc: Global) -> Result<ModuleTypes, AllocError> {
     let mut types = ModuleTypes::new(alloc);
     for id in 0..7 {
@@ -42,7 +43,7 @@ fn add_type(types: &mut ModuleTypes, id: usize) -> Result<TypeId, AllocError> {
     }
 }
 
-// Of the types 0, 3 and 1.
+// Three tags, with the types 0, 3 and 1.
 fn tags(alloc: Global) -> Result<ModuleTags, AllocError> {
     let mut tags = ModuleTags::new(alloc);
     for ty in [0, 3, 1] {
@@ -51,8 +52,8 @@ fn tags(alloc: Global) -> Result<ModuleTags, AllocError> {
     Ok(tags)
 }
 
-// The old types 0 to 3 have the ids 0, 2, 3 and 6; of all else there are
-// one or two, but of tags four, the last of which the module doesn't hold.
+// The old types 0 to 3 have the ids 0, 2, 3 and 6. Each other space has one or two ids, but there
+// are four tags, the last of which isn't in the module.
 fn push_ids(indices: &mut IndicesToIds) -> Result<(), IndexError> {
     for ty in [0, 2, 3, 6] {
         indices.push_type(TypeId::new(ty))?;
@@ -104,23 +105,23 @@ impl Example {
     }
 }
 
-/// Where a body stands, and how it is parsed.
+/// Where a body is, and how it is parsed.
 #[derive(Clone, Copy)]
 pub(crate) struct Setting {
-    /// The function's type.
+    /// The id of the function's type.
     pub ty: usize,
-    /// Where the module's code begins.
+    /// The place where the module's code begins.
     pub offset: u32,
-    /// The number of bytes between that and the body.
+    /// The number of bytes between that place and the body.
     pub before: u32,
-    /// The position of the first operator.
+    /// The position of the first operator in the body.
     pub ops: usize,
-    /// Whether locations are asked for, which are then twice the places.
+    /// Whether there is a location function. It returns twice the place.
     pub located: bool,
 }
 
 impl Setting {
-    /// Operators that stand at the place 0, of a function without arguments and results.
+    /// Operators at the place 0, of a function without parameters and results.
     pub(crate) const PLAIN: Setting = Setting {
         ty: 0,
         offset: 0,
@@ -130,19 +131,19 @@ impl Setting {
     };
 }
 
-// Twice the place, where that fits.
+// Twice the place modulo 10^9, so that it fits.
 pub(crate) fn doubled(place: usize) -> InstrLocId {
     InstrLocId::new((place % 1_000_000_000) as u32 * 2)
 }
 
-/// Want of memory, at no place.
+/// Memory ran out, at no place.
 pub(crate) const OUT_OF_MEMORY: ParseFailure = ParseFailure {
     error: ParseError::Memory,
     at: 0,
 };
 
-/// Parses a function with this id and these arguments, whose body is hexadecimal text, with the
-/// list that is lent.
+/// Parses a function with this id and these arguments and with the caller's list. The body is
+/// hexadecimal text.
 pub(crate) fn parse_in<V: OpCheck>(
     example: &Example,
     id: FunctionId,
@@ -176,7 +177,7 @@ pub(crate) fn parse_in<V: OpCheck>(
     )
 }
 
-/// Parses a function without arguments, whose body is hexadecimal text, with the list that is lent.
+/// Parses a function without arguments and with the caller's list. The body is hexadecimal text.
 pub(crate) fn parse_lent<V: OpCheck>(
     alloc: Global,
     setting: Setting,
@@ -191,7 +192,7 @@ pub(crate) fn parse_lent<V: OpCheck>(
     }
 }
 
-/// Parses a function that no validator refuses.
+/// Parses a function with a validator that accepts all operators.
 pub(crate) fn parse(
     alloc: Global,
     setting: Setting,
@@ -201,7 +202,7 @@ pub(crate) fn parse(
     parse_lent(alloc, setting, body, AcceptAll, &mut instrs)
 }
 
-/// Appends what a parse gives: the function, or the fault and its place.
+/// Appends the result of a parse: the function, or the fault and its place.
 pub(crate) fn push_parsed_by<V: OpCheck>(
     text: &mut String,
     setting: Setting,
@@ -216,7 +217,7 @@ pub(crate) fn push_parsed_by<V: OpCheck>(
     }
 }
 
-/// Appends what a parse gives where no validator refuses anything.
+/// Appends the result of a parse with a validator that accepts all operators.
 pub(crate) fn push_parsed(
     text: &mut String,
     setting: Setting,
@@ -225,7 +226,7 @@ pub(crate) fn push_parsed(
     push_parsed_by(text, setting, body, AcceptAll)
 }
 
-// The places of the operators that a validator is asked about.
+// The places at which a validator is called.
 fn told(alloc: Global, body: &str) -> Vec<usize> {
     let mut told = Vec::new(alloc);
     let mut instrs = Vec::new(alloc);
@@ -234,7 +235,7 @@ fn told(alloc: Global, body: &str) -> Vec<usize> {
     told
 }
 
-/// Appends the places of the operators that a validator is asked about.
+/// Appends the places at which a validator is called.
 pub(crate) fn push_told(text: &mut String, body: &str) -> Result<(), AllocError> {
     let told = told(*text.allocator(), body);
     write!(text, "{told:?}")
@@ -249,7 +250,7 @@ fn push_first(text: &mut String, function: &LocalFunction) -> Result<(), AllocEr
     }
 }
 
-/// Appends the first sequence of the function that these operators give.
+/// Appends the first sequence of the function with these operators.
 pub(crate) fn push_entry(text: &mut String, body: &str) -> Result<(), Fail> {
     let function = parse(*text.allocator(), Setting::PLAIN, body)?;
     Ok(push_first(text, &function)?)

@@ -3,7 +3,7 @@
 use walrus_body::{CheckError, OpCheck};
 use wasm_ops::Operator;
 
-/// Takes so many operators, and refuses the next with 7.
+/// Accepts `left` operators, and refuses the next with 7.
 #[derive(Drop)]
 pub struct Counting {
     pub left: u32,
@@ -28,7 +28,7 @@ impl OpCheck for Counting {
     }
 }
 
-/// Keeps the places of the operators that it is asked about, and refuses the fourth with 9.
+/// Records the places of the operators, and refuses the fourth operator with 9.
 #[derive(Drop)]
 pub struct Keeping {
     pub places: Vec<usize>,
@@ -55,7 +55,7 @@ impl OpCheck for Keeping {
     }
 }
 
-/// Tells a list of someone else's which operators it is asked about, by their places.
+/// Appends the place of each operator to a list of the caller's.
 #[derive(Drop)]
 pub struct Telling<'a> {
     pub told: &'a mut Vec<usize>,
@@ -78,7 +78,7 @@ impl OpCheck for Telling<'_> {
     }
 }
 
-/// Has no memory left.
+/// Always runs out of memory.
 #[derive(Drop)]
 pub struct Exhausted;
 

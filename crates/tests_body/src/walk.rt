@@ -1,4 +1,4 @@
-//! Walks over functions that are made by hand.
+//! Walks over functions made by hand.
 use crate::by_hand::{Access, Made, Use, deep, example};
 use crate::cases::{AboutMade, check_made};
 use crate::facts::size;
@@ -8,8 +8,8 @@ use std::process::Abort;
 use std::test::Fail;
 use walrus_ir::{FunctionBuilder, InstrSeqId, dfs_in_order};
 
-/// Appends what a recorder that takes so many calls is told of the walk from a sequence on, and the
-/// fault.
+/// Appends the events of a walk from a sequence on, as a recorder that accepts this many calls
+/// notes them, and the fault.
 pub(crate) fn push_walk(
     text: &mut String,
     builder: &FunctionBuilder,
@@ -36,7 +36,8 @@ fn walked(
     Ok(text)
 }
 
-// The whole walk, one that the visitor refuses at its third call, and one from nowhere.
+// Checks the whole walk, one that the visitor refuses at its third call, and one from a sequence
+// that doesn't exist.
 fn check_walks(rt: &impl Abort, alloc: Global, builder: &FunctionBuilder) -> Result<(), Fail> {
     let whole = " start0 const1 drop0 block0 start1 const2 drop0 if-else0 start2 const3 drop0 end2 \
         start3 const4 drop0 end2 const5 drop0 end5 const6 drop0 try0 start4 const7 drop0 end2 \
@@ -59,8 +60,8 @@ fn walks_in_order(rt: HostRuntime) -> Result<(), Fail> {
     check_walks(&rt, rt.alloc(), &builder)
 }
 
-/// The names that are told after instructions; the first fault of what is no tree, before anything
-/// is told.
+/// The names that come after instructions; and the first fault of sequences that are not a tree,
+/// which comes before any event.
 #[test]
 fn tells_names_and_faults(rt: HostRuntime) -> Result<(), Fail> {
     let names = [
@@ -92,7 +93,7 @@ fn tells_names_and_faults(rt: HostRuntime) -> Result<(), Fail> {
     check_made(&rt, rt.alloc(), AboutMade::Walk, &cases)
 }
 
-/// Neither a walk nor counting takes stack for each level.
+/// Neither a walk nor a count uses stack for each level.
 #[test]
 fn walks_a_deep_tree(rt: HostRuntime) -> Result<(), Fail> {
     let builder = deep(rt.alloc(), 100_000)?;

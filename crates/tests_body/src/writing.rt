@@ -1,11 +1,11 @@
-//! Operators that are written.
+//! Writing operators.
 use std::alloc::AllocError;
 use std::test::Fail;
 use walrus_ir::{LoadKind, UnaryOp};
 use wasm_encode::{FunctionEncoder, OutClauses, OutOp, OutTable, write_op};
 use wasm_ops::{BlockType, RawCatch, RawMemArg, RawValType};
 
-// Two operators, and a byte as it is.
+// Writes two operators, and a byte as it is.
 fn encode(encoder: &mut FunctionEncoder) -> Result<(), AllocError> {
     encoder.instruction(&OutOp::I64Const { value: -1 })?;
     encoder.instruction(&OutOp::Unop(UnaryOp::I64TruncUSatF64))?;
@@ -24,7 +24,7 @@ fn encodes_a_body(rt: HostRuntime) -> Result<(), Fail> {
     Ok(())
 }
 
-// Operators without lists.
+// Writes operators without lists.
 fn write_plain(out: &mut Vec<u8>) -> Result<(), AllocError> {
     let kind = LoadKind::I32 { atomic: false };
     let memarg = RawMemArg {
@@ -57,7 +57,7 @@ fn writes_operators(rt: HostRuntime) -> Result<(), Fail> {
     Ok(())
 }
 
-// A branch table, and a `try_table` with two clauses.
+// Writes a `br_table`, and a `try_table` with two clauses.
 fn write_listed(out: &mut Vec<u8>) -> Result<(), AllocError> {
     let table = OutTable {
         targets: &[0, 300],
