@@ -1,4 +1,4 @@
--- Reading back: the contracts of parsing and of writing, and the laws, put together.
+-- Reading back: the contracts of parsing and writing, and the laws, combined.
 use Rattle.std.specs.Prelude.{◌≡◌, ◌⊎◌, ℕ, List, [], ◌∷◌, Option, Some, IsOk, IfErr, Result, Ok, Err}
 use Rattle.std.specs.List.{AllByRecursion}
 use Rattle.std.proofs.Common.{inl, inr, refl, ap, subst, ◌∙◌}
@@ -38,9 +38,9 @@ use Rattle.walrus_rewrite.proofs.OneTree.{from_slot, only_tree, begins}
 use Rattle.walrus_rewrite.proofs.SameAnswers.{same_answer, same_refusal, not_both}
 use Rattle.tests_run.specs.ReadBack.{reading_by, IsReadAs, IsWrittenAs, HasBytes, IsFirstFault, IsRefusedAs, HasFault}
 
--- ---- what is refused
+-- ---- refusals
 
--- a fault that is the first with any location function is so with each of them
+-- a fault that is the first with every location function is the first with each of them
 pub first_fault : (env : Environment) (ops : List ℕ) (AreGiven : Option (ℕ → ℕ) → Type 0) {A : Type 0} (r : Result A ParseFailure)
     → IfErr r (λ f. (f.error ≡ parse.Memory) ⊎ ((locations : Option (ℕ → ℕ)) → AreGiven locations → FirstFault (given_with {S = Unit {0}} env 0 (λ s _. Ok s) tt locations) ops f))
     → ((locate : ℕ → ℕ) → AreGiven (Some locate)) → IfErr r (λ f. (f.error ≡ parse.Memory) ⊎ IsFirstFault env ops f)
@@ -54,7 +54,7 @@ module _ (env : Environment) (to : Numbers) (ops : List ℕ) (f : Function) (rea
   abbrev tree : FunctionTree
   tree = body_tree env read.body
 
-  -- it begins with a sequence of its builder
+  -- its entry is a sequence of its builder
   pub read_begins : HasEntry f
   read_begins = begins f tree read.is_function
 
@@ -63,7 +63,7 @@ module _ (env : Environment) (to : Numbers) (ops : List ℕ) (f : Function) (rea
   is_written t h bytes e =
       record { locate = read.locate; body = read.body; accepted = read.accepted; bytes_are = subst (λ u. tree_bytes to u ≡ Ok bytes) (only_tree f tree read.is_function t h) e }
 
-  -- where it isn't written, memory ran out, or this is the first fault of writing the normal form
+  -- if it isn't written, memory ran out, or this is the first fault of writing the normal form
   unwritten : (e : EmitError) → IsUnemitted f to e → (e ≡ Memory) ⊎ (tree_bytes to tree ≡ Err e)
   unwritten e (inl memory) = inl memory
   unwritten e (inr (inl walk)) =
@@ -85,7 +85,7 @@ module _ (env : Environment) (to : Numbers) (ops : List ℕ) (f : Function) (rea
     pub only_bytes : (t : FunctionTree) → HasTree f.sequences (first_slot f) t → (made : List ℕ) → tree_bytes to t ≡ Ok made → made ≡ bytes
     only_bytes t h made e = same_answer (tree_bytes to tree) made bytes (subst (λ u. tree_bytes to u ≡ Ok made) (only_tree f tree read.is_function t h) e) its_bytes
 
-    -- where it has bytes it is written, want of memory aside
+    -- if it has bytes, it is written unless memory runs out
     pub no_fault : (e : EmitError) → IsUnemitted f to e → e ≡ Memory
     no_fault e h = by_fault (unwritten e h)
       where
@@ -93,7 +93,7 @@ module _ (env : Environment) (to : Numbers) (ops : List ℕ) (f : Function) (rea
         by_fault (inl memory) = memory
         by_fault (inr fault) = absurd (not_both (tree_bytes to tree) bytes e its_bytes fault)
 
-  -- what has a fault isn't written, and where it is read it is refused for that fault, want of memory aside
+  -- if the operators have a fault, the function isn't written; it is refused for that fault unless memory runs out
   module _ (found : (locate : ℕ → ℕ) (p : ParseFailure) → FirstFault (reading_by env locate) ops p → ⊥) where
     pub fault_not_written : (fault : RewriteError) → HasFault env to ops fault → (t : FunctionTree) → HasTree f.sequences (first_slot f) t → (bytes : List ℕ) → tree_bytes to t ≡ Ok bytes → ⊥
     fault_not_written (Parse p) has t h bytes e = found has.0 p has.1
@@ -110,7 +110,7 @@ module _ (env : Environment) (to : Numbers) (ops : List ℕ) (f : Function) (rea
         by_fault (inl memory) = inl memory
         by_fault (inr fault) = inr (ap Emit (same_refusal (tree_bytes to tree) e x fault (has.fault_is read.locate read.body read.accepted)))
 
--- what isn't read is refused for the fault that it has
+-- operators that aren't read are refused for the fault that they have
 module _ (env : Environment) (to : Numbers) (ops : List ℕ) (failure : ParseFailure) where
   module _ (each_body : (locate : ℕ → ℕ) (b : Body Occurrence) → Accepted (reading_by env locate) ops b → failure.error ≡ parse.Memory)
       (each_fault : (locate : ℕ → ℕ) (p : ParseFailure) → FirstFault (reading_by env locate) ops p → (failure.error ≡ parse.Memory) ⊎ (failure ≡ p)) where
@@ -133,7 +133,7 @@ passes : (xs : List Placed) → IsOk (validated {V = Unit {0}} (λ s _. Ok s) tt
 passes [] = refl
 passes (x ∷ xs) = passes xs
 
--- with a location function and a validator that takes every operator all bytes are readable
+-- with a location function and a validator that accepts every operator, all bytes are readable
 readable : (env : Environment) (locate : ℕ → ℕ) (bytes : List ℕ) → AreReadable (reading_by env locate) bytes
 readable env locate bytes = record {
   have_locations = λ xs _. always _ (λ x. refl) xs;
@@ -154,7 +154,7 @@ module _ (m : Module) (from again : IndicesToIds) (id type : ℕ) (to : Numbers)
         (undoes env w.accepted.operators w.body w.accepted.lawful to env_again refl refl refl undone)
         (readable env_again locate bytes)
 
-    -- what is written of a body has itself for its bytes
+    -- the bytes written for a body have themselves as the bytes written for them
     pub has_itself : HasBytes env_again to bytes bytes
     has_itself = record {
       body = λ locate. (read_again locate).body;
@@ -162,7 +162,7 @@ module _ (m : Module) (from again : IndicesToIds) (id type : ℕ) (to : Numbers)
       bytes_are = λ locate b accepted. (read_again locate).unchanged b accepted;
     }
 
--- ---- where there is no number, all are undone
+-- ---- if there are no numbers, all are undone
 
 pub none_undone : (out : IdsToIndices) (locals : List (ℕ × ℕ)) (again : Environment) → ((space : Space) → numbers_in out space ≡ empty) → locals ≡ [] → IsInverse (numbers_by out locals) again
 none_undone out locals again none no_locals = record {

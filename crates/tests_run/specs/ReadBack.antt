@@ -1,4 +1,4 @@
--- Reading operators and writing them, with maps of one's own.
+-- Reading and writing operators with any maps.
 use Rattle.std.specs.Prelude.{◌≡◌, ℕ, List, Some, Ok, Err}
 use Rattle.walrus_ir.specs.Function.{Function}
 use Rattle.wasm_body.specs.declared.error.EmitError.{EmitError}
@@ -13,25 +13,26 @@ use Rattle.walrus_parser.specs.Settings.{given_with}
 use Rattle.walrus_rewrite.specs.declared.error.RewriteError.{RewriteError}
 use Rattle.walrus_rewrite.specs.declared.error.RewriteError.TheVariants.{Parse, Walk, Emit}
 
--- How operators are read that stand at place 0: with a location function, and with a validator that takes every operator.
+-- The setting in which operators at place 0 are read: with a location function, and with a validator that accepts every
+-- operator.
 abbrev pub reading_by : Environment → (locate : ℕ → ℕ) → Setting (Unit {0})
 reading_by env locate = given_with env 0 (λ s _. Ok s) tt (Some locate)
 
--- The operators are accepted as a body, of which the function has the normal form.
+-- The operators are accepted as a body, and the function has its normal form.
 pub record IsReadAs (env : Environment) (ops : List ℕ) (function : Function) : Type 0 where
   pub locate : ℕ → ℕ
   pub body : Body Occurrence
   pub accepted : Accepted (reading_by env locate) ops body
   pub is_function : IsFunction function (body_tree env body)
 
--- The operators are accepted as a body, and these are the bytes of its normal form under the numbers.
+-- The operators are accepted as a body, and these are the bytes of its normal form with these numbers.
 pub record IsWrittenAs (env : Environment) (to : Numbers) (ops bytes : List ℕ) : Type 0 where
   pub locate : ℕ → ℕ
   pub body : Body Occurrence
   pub accepted : Accepted (reading_by env locate) ops body
   pub bytes_are : tree_bytes to (body_tree env body) ≡ Ok bytes
 
--- Whatever their locations are, the operators are accepted as a body, and these are the bytes of its normal form.
+-- Whatever the locations, the operators are accepted as a body, and these are the bytes of its normal form.
 pub record HasBytes (env : Environment) (to : Numbers) (ops bytes : List ℕ) : Type 0 where
   pub body : (locate : ℕ → ℕ) → Body Occurrence
   pub accepted : (locate : ℕ → ℕ) → Accepted (reading_by env locate) ops (body locate)
@@ -39,30 +40,30 @@ pub record HasBytes (env : Environment) (to : Numbers) (ops bytes : List ℕ) : 
 
 -- ---- why operators aren't written
 
--- Whatever their locations are, it is the operators' first fault.
+-- Whatever the locations, this is the first fault of the operators.
 abbrev pub IsFirstFault : Environment → List ℕ → ParseFailure → Type 0
 IsFirstFault env ops f = (locate : ℕ → ℕ) → FirstFault (reading_by env locate) ops f
 
--- The operators are accepted as a body, and it is the first fault of writing its normal form under the numbers.
+-- The operators are accepted as a body, and this is the first fault of writing its normal form with these numbers.
 pub record IsUnwrittenAs (env : Environment) (to : Numbers) (ops : List ℕ) (fault : EmitError) : Type 0 where
   pub locate : ℕ → ℕ
   pub body : Body Occurrence
   pub accepted : Accepted (reading_by env locate) ops body
   pub fault_is : tree_bytes to (body_tree env body) ≡ Err fault
 
--- Operators are refused so: for their first fault, or for that of writing them.
+-- The operators are refused with this error: their first fault, or that of writing them.
 abbrev pub IsRefusedAs : Environment → Numbers → List ℕ → RewriteError → Type 0
 IsRefusedAs env to ops (Parse f) = IsFirstFault env ops f
 IsRefusedAs env to ops (Walk w) = ⊥
 IsRefusedAs env to ops (Emit e) = IsUnwrittenAs env to ops e
 
--- Whatever their locations are, the operators are accepted as a body, and it is the first fault of writing its normal form.
+-- Whatever the locations, the operators are accepted as a body, and this is the first fault of writing its normal form.
 pub record HasNoBytes (env : Environment) (to : Numbers) (ops : List ℕ) (fault : EmitError) : Type 0 where
   pub body : (locate : ℕ → ℕ) → Body Occurrence
   pub accepted : (locate : ℕ → ℕ) → Accepted (reading_by env locate) ops (body locate)
   pub fault_is : (locate : ℕ → ℕ) (b : Body Occurrence) → Accepted (reading_by env locate) ops b → tree_bytes to (body_tree env b) ≡ Err fault
 
--- The operators have this fault: with some locations it is their first, or whatever these are it is that of writing them.
+-- The operators have this fault: it is their first with some locations, or it is that of writing them whatever the locations.
 abbrev pub HasFault : Environment → Numbers → List ℕ → RewriteError → Type 0
 HasFault env to ops (Parse f) = (locate : ℕ → ℕ) × FirstFault (reading_by env locate) ops f
 HasFault env to ops (Walk w) = ⊥

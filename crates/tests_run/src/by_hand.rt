@@ -1,4 +1,4 @@
-//! Functions that are made by hand.
+//! Functions made by hand.
 
 use std::alloc::{AllocError, Global};
 use walrus_ir::{
@@ -45,7 +45,7 @@ fn instr(made: Made) -> Instr {
 /// An instruction, with the slot of its sequence before it and its location after it.
 pub(crate) type Item = (usize, Made, u16);
 
-// Appends an instruction to its sequence, where there is one.
+// Appends an instruction to its sequence, if there is one.
 fn put(builder: &mut FunctionBuilder, (slot, made, location): Item) -> Result<(), AllocError> {
     let seq = InstrSeqId::new(slot);
     if builder.has(seq) {
@@ -55,7 +55,7 @@ fn put(builder: &mut FunctionBuilder, (slot, made, location): Item) -> Result<()
     Ok(())
 }
 
-// Appends so many sequences from nothing to nothing, and then these instructions.
+// Appends this many sequences without parameters and results, and then these instructions.
 fn put_all(builder: &mut FunctionBuilder, count: usize, instrs: &[Item]) -> Result<(), AllocError> {
     for _ in 0..count {
         builder.alloc(InstrSeqType::Simple(None))?;
@@ -66,7 +66,7 @@ fn put_all(builder: &mut FunctionBuilder, count: usize, instrs: &[Item]) -> Resu
     Ok(())
 }
 
-/// So many sequences, with these instructions, of which this one is the entry.
+/// A function with this many sequences, these instructions, and this entry.
 pub(crate) fn function(
     alloc: Global,
     count: usize,

@@ -1,5 +1,5 @@
-//! The module over which the program runs, with locals of more types, and old indices of a function
-//! without a new index and of a local that isn't there.
+//! The program's demo module with locals of more types, with an old index for a function without a
+//! new index, and with one for a local that isn't in the module.
 ghost use Rattle.std.specs.Prelude.{◌≡◌, IfOk};
 
 use std::alloc::{AllocError, Global};
@@ -12,7 +12,7 @@ use walrus_run::demo;
 /// How many locals there are.
 const LOCALS: usize = 16;
 
-/// An id of a local that the module doesn't hold.
+/// An id of a local that isn't in the module.
 const UNKNOWN: usize = 99;
 
 /// A module and the ids of its old indices.
@@ -29,8 +29,8 @@ fn reference(nullable: bool, heap_type: HeapType) -> ValType {
     })
 }
 
-// The type of a local after the first four, which are those of the program's module. The type 4 has
-// no new index.
+// The type of a local. The first four have the types that they have in the program's module. The
+// type 4 has no new index.
 fn local_type(local: usize) -> ValType {
     let function = HeapType::Abstract(AbstractHeapType::Func);
     match local {
@@ -42,7 +42,7 @@ fn local_type(local: usize) -> ValType {
     }
 }
 
-/// The program's module with the other locals, whose code begins at this place.
+/// The program's module with the other locals. Its code begins at this place.
 pub(crate) fn module(alloc: Global, code_section_offset: usize) -> Result<Module, AllocError>
     ensures { IfOk result (λ m. m.code_section_offset ≡ code_section_offset) }
 {
@@ -54,8 +54,7 @@ pub(crate) fn module(alloc: Global, code_section_offset: usize) -> Result<Module
     Ok(module)
 }
 
-// The function 2 has no new index, and after the locals of the function 0 comes one that isn't in
-// the module.
+// The function 2 has no new index, and the local after those of the function 0 isn't in the module.
 fn push_others(indices: &mut IndicesToIds) -> Result<(), IndexError> {
     indices.push_func(FunctionId::new(2))?;
     let function = FunctionId::new(0);
@@ -91,20 +90,20 @@ pub(crate) fn arguments(alloc: Global) -> Result<Vec<LocalId>, AllocError> {
     Ok(vec![in alloc; LocalId::new(0)]?)
 }
 
-/// Where a body of the function 0 stands, which has the type 1, and how it is parsed.
+/// Where a body of the function 0 is, whose type is 1, and how it is parsed.
 #[derive(Clone, Copy)]
 pub(crate) struct Setting {
-    /// Where the module's code begins.
+    /// The place where the module's code begins.
     pub offset: u32,
-    /// The number of bytes between that and the body.
+    /// The number of bytes between that place and the body.
     pub before: u32,
-    /// The position of the first operator.
+    /// The position of the first operator in the body.
     pub ops: usize,
-    /// Whether locations are asked for, which are then twice the places.
+    /// Whether there is a location function. It returns twice the place.
     pub located: bool,
 }
 
-/// Operators that stand at the place 0.
+/// Operators at the place 0.
 pub(crate) const AT_ZERO: Setting = Setting {
     offset: 0,
     before: 0,
@@ -112,8 +111,8 @@ pub(crate) const AT_ZERO: Setting = Setting {
     located: false,
 };
 
-/// A body that begins 10 bytes after the code, which begins at 90, and whose operators begin one
-/// byte further.
+/// A body that begins 10 bytes after the code, which begins at the place 90. Its operators begin
+/// one byte after that.
 pub(crate) const AT_A_HUNDRED: Setting = Setting {
     offset: 90,
     before: 10,

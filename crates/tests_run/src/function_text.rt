@@ -1,4 +1,4 @@
-//! Functions, faults and what is written, as text, to be compared with the text that is wanted.
+//! Functions, faults and output as text, to be compared with the expected text.
 
 use std::alloc::AllocError;
 use std::fmt;
@@ -32,7 +32,7 @@ fn push_instr(text: &mut String, instr: &Instr) -> Result<(), AllocError> {
     }
 }
 
-// Appends a sequence: its type, its instructions, each with its location, and where it ends.
+// Appends a sequence: its type, its instructions with their locations, and the location of its end.
 fn push_sequence(text: &mut String, seq: &InstrSeq) -> Result<(), AllocError> {
     match seq.ty {
         InstrSeqType::MultiValue(ty) => write!(text, " type{}[", ty.index())?,
@@ -60,8 +60,8 @@ pub(crate) fn push_sequences(
     Ok(())
 }
 
-/// Appends the places of a function's body, the pairs of its mapping, each as a place and its
-/// location, and all its sequences by their slots.
+/// Appends the places of a function's body, its mapping as pairs of a place and a location, and all
+/// its sequences by their slots.
 pub(crate) fn push_function(text: &mut String, function: &LocalFunction) -> Result<(), AllocError> {
     if let Some(range) = &function.original_range {
         write!(text, "{}..{}", range.start, range.end)?;
@@ -72,7 +72,7 @@ pub(crate) fn push_function(text: &mut String, function: &LocalFunction) -> Resu
     push_sequences(text, function.builder())
 }
 
-/// Why a body isn't parsed: the name of the fault, with what it holds.
+/// Why a body isn't parsed: the name of the fault, with its values.
 #[derive(Clone, Copy)]
 pub(crate) struct Fault(pub ParseError);
 
@@ -91,7 +91,7 @@ impl fmt::Display for Fault {
     }
 }
 
-/// Appends why a body isn't rewritten: the fault, and at which place where it isn't parsed.
+/// Appends why a body isn't rewritten: the fault, and its place if the body isn't parsed.
 pub(crate) fn push_refusal(text: &mut String, error: RewriteError) -> Result<(), AllocError> {
     match error {
         RewriteError::Parse(ParseFailure { error, at }) => write!(text, "{} at {at}", Fault(error)),

@@ -1,8 +1,7 @@
-//! Tests of rewriting and running bodies, of what no contract says: worked cases from outside,
-//! printed texts, and that each call that takes memory succeeds where memory is left. A function
-//! here owns one large value and lends it to the next: one that holds several over calls that may
-//! fail takes minutes to prove. What the program `wbody` prints is tested by the rows of
-//! `wbody_rows`.
+//! Tests of rewriting and running bodies, for what no contract says: worked cases from outside,
+//! printed texts, and that each call that allocates succeeds if there is memory. A function here
+//! owns one large value and lends it to the next: one that owns several over calls that may fail
+//! takes minutes to prove. The output of the program `wbody` is tested by the rows of `wbody_rows`.
 #![tactic(auto)]
 
 #[cfg(test)]

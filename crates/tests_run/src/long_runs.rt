@@ -1,4 +1,4 @@
-//! Runs of many turns, over deep nesting.
+//! Runs of many turns, and of deeply nested constructs.
 ghost use Rattle.std.specs.Prelude.{◌≡◌};
 
 use crate::nesting::nested;
@@ -8,7 +8,7 @@ use walrus_body::{FunctionBody, IndicesToIds, ParseFailure};
 use walrus_ir::{FunctionId, Module, TypeId};
 use walrus_run::{Ending, NamedBody, demo, execute};
 
-// Operators of the function 0 of a module, as it names them.
+// The operators of the function 0 of a module, with their names.
 fn named_in(
     alloc: Global,
     module: &Module,
@@ -32,7 +32,7 @@ fn named_in(
     )
 }
 
-// The same of the demo module.
+// The same with the demo module.
 fn named_by(alloc: Global, indices: &IndicesToIds, ops: &[u8]) -> Result<NamedBody, Fail> {
     let module = demo::module(alloc)?;
     Ok(named_in(alloc, &module, indices, ops)?)
@@ -43,13 +43,13 @@ fn named(alloc: Global, ops: &[u8]) -> Result<NamedBody, Fail> {
     named_by(alloc, &indices, ops)
 }
 
-// Nested blocks around a loop that always goes back.
+// Nested blocks around a loop that always branches back.
 fn blocks_around_a_loop(alloc: Global) -> Result<NamedBody, Fail> {
     let ops = nested(alloc, &[0x02, 0x40], &[0x03, 0x40, 0x0c, 0x00, 0x0b])?;
     named(alloc, &ops)
 }
 
-// How many events a run of so many turns has, and whether it ends since there are no more turns.
+// How many events a run with this many turns has, and whether it ends because no turns remain.
 fn run(alloc: Global, turns: u64) -> Result<(usize, bool), Fail> {
     let body = blocks_around_a_loop(alloc)?;
     let run = execute(&body, &[], turns)?;

@@ -1,4 +1,5 @@
-//! Bodies as their module names them: operators with ids, their places, and refusals.
+//! Bodies with the names that their module gives them: operators with ids, their places, and
+//! refusals.
 ghost use Rattle.std.specs.Prelude.{◌≡◌, IfOk};
 
 use crate::function_text::Fault;
@@ -14,7 +15,7 @@ use walrus_ir::{
 use walrus_run::{NamedBody, NamedCatch, NamedImmediates, NamedIndex, NamedOp};
 use wasm_ops::Opcode;
 
-/// An id, after the name of its space.
+/// An id, with the name of its space before it.
 #[derive(Clone, Copy)]
 struct Index(NamedIndex);
 
@@ -46,7 +47,7 @@ impl fmt::Display for Clause {
     }
 }
 
-/// An operator: its opcode, and what follows it.
+/// An operator: its opcode and its immediates.
 #[derive(Clone, Copy)]
 struct Shown<'a>(&'a NamedOp);
 
@@ -89,8 +90,8 @@ impl fmt::Display for Shown<'_> {
     }
 }
 
-// The type 0 is from nothing to nothing, 1 and 2 are from an `i32` to an `i32`, and 3 is the entry
-// type for nothing.
+// The type 0 has no parameters and results, 1 and 2 have an `i32` parameter and an `i32` result,
+// and 3 is the entry type without results.
 fn types(alloc: Global) -> Result<ModuleTypes, AllocError> {
     let mut types = ModuleTypes::new(alloc);
     types.add_func(&[], &[])?;
@@ -124,8 +125,8 @@ fn module(alloc: Global) -> Result<Module, AllocError>
     }
 }
 
-// The old types 0 and 1 have the ids 0 and 2; of functions, tables and data segments there are two,
-// and of memories and tags one.
+// The old types 0 and 1 have the ids 0 and 2. There are two functions, tables and data segments,
+// and one memory and tag.
 fn push_ids(indices: &mut IndicesToIds) -> Result<(), IndexError> {
     for ty in [0, 2] {
         indices.push_type(TypeId::new(ty))?;
@@ -146,17 +147,17 @@ fn indices(alloc: Global) -> Result<IndicesToIds, IndexError> {
     Ok(indices)
 }
 
-// Where a body stands, and the position of its first operator.
+// The place of a body, and the position of its first operator.
 #[derive(Clone, Copy)]
 struct Place {
     start: u32,
     ops: usize,
 }
 
-// Operators that stand at the place 0.
+// Operators at the place 0.
 const AT_ZERO: Place = Place { start: 0, ops: 0 };
 
-// A body as a module names it.
+// A body with the names that a module gives it.
 fn named_in(
     alloc: Global,
     module: &Module,
@@ -180,7 +181,7 @@ const OUT_OF_MEMORY: ParseFailure = ParseFailure {
     at: 0,
 };
 
-// The same over the module of these tests.
+// The same with the module of these tests.
 fn named_by(
     alloc: Global,
     indices: &IndicesToIds,
@@ -208,7 +209,7 @@ fn push_body(text: &mut String, body: &NamedBody) -> Result<(), AllocError> {
     write!(text, "{:?}", body.place(body.ops().len()))
 }
 
-// Appends the same of the body that these bytes are; or the fault and its place.
+// Appends the same for the body with these bytes; or the fault and its place.
 fn push_named(text: &mut String, place: Place, bytes: &[u8]) -> Result<(), AllocError> {
     match named(*text.allocator(), place, bytes) {
         Ok(body) => push_body(text, &body),
@@ -223,7 +224,7 @@ fn answer(alloc: Global, place: Place, body: &str) -> Result<String, Fail> {
     Ok(text)
 }
 
-// Names bodies, each of which comes before what is wanted.
+// Checks the names of bodies, each of which comes before its expected text.
 fn check(rt: &impl Abort, alloc: Global, place: Place, cases: &[(&str, &str)]) -> Result<(), Fail> {
     for (body, want) in cases {
         let found = answer(alloc, place, body)?;
@@ -260,8 +261,8 @@ const NAMED: [(&str, &str); 12] = [
     ),
 ];
 
-/// Operators with the ids of their old indices, dead ones too, and their places; after the last
-/// there is none.
+/// Operators with the ids of their old indices, dead ones too, and their places; there is none
+/// after the last.
 #[test]
 fn names_operators(rt: HostRuntime) -> Result<(), Fail> {
     check(&rt, rt.alloc(), AT_ZERO, &NAMED)
@@ -318,7 +319,7 @@ fn refuses_as_a_parse_does(rt: HostRuntime) -> Result<(), Fail> {
     check(&rt, rt.alloc(), AT_ZERO, &REFUSED)
 }
 
-/// Places have no limit, and begin where the body's operators do.
+/// Places have no limit, and begin at the body's first operator.
 #[test]
 fn places_have_no_limit(rt: HostRuntime) -> Result<(), Fail> {
     let late = Place {
@@ -338,13 +339,13 @@ fn compared(one: &NamedBody, other: &NamedBody) -> (bool, bool) {
     (one.ops() == other.ops(), one.place(2) == other.place(2))
 }
 
-// The same of a body and of the one that these bytes are.
+// The same for a body and the one with these bytes.
 fn compared_with(alloc: Global, one: &NamedBody, other: &[u8]) -> Result<(bool, bool), Fail> {
     let other = named(alloc, AT_ZERO, other)?;
     Ok(compared(one, &other))
 }
 
-/// Operators are the same where only spellings and numbers of block types differ.
+/// Operators are the same if only their spellings and the numbers of their block types differ.
 #[test]
 fn compares_operators(rt: HostRuntime) -> Result<(), Fail> {
     // block [ i32.const 1, drop ], with the shortest spellings.
@@ -353,7 +354,8 @@ fn compares_operators(rt: HostRuntime) -> Result<(), Fail> {
         AT_ZERO,
         &[0x02, 0x40, 0x41, 0x01, 0x1a, 0x0b, 0x0b],
     )?;
-    // The type 0 in the place of the empty one and a longer constant; and another constant.
+    // The same with the type 0 in place of the empty one and a longer constant; and one with
+    // another constant.
     let longer = [0x02, 0x00, 0x41, 0x81, 0x00, 0x1a, 0x0b, 0x0b];
     let changed = [0x02, 0x40, 0x41, 0x02, 0x1a, 0x0b, 0x0b];
     for (other, want) in [

@@ -2,10 +2,10 @@
 
 use std::alloc::{AllocError, Global};
 
-/// How many constructs stand in one another.
+/// How many constructs are nested.
 const DEPTH: usize = 100_000;
 
-/// A body of nested constructs that begin with these bytes, around others.
+/// A body of nested constructs that begin with these bytes, with others inside.
 pub(crate) fn nested(alloc: Global, opening: &[u8], inside: &[u8]) -> Result<Vec<u8>, AllocError> {
     let mut ops = Vec::new(alloc);
     push_nested(&mut ops, opening, inside)?;

@@ -1,4 +1,4 @@
-//! The program `wbody` where a write fails.
+//! The program `wbody` when a write fails.
 
 use std::alloc::{AllocError, Global};
 use std::io;
@@ -6,7 +6,7 @@ use std::io::Write;
 use std::test::Fail;
 use walrus_run::run_words;
 
-/// Takes nothing.
+/// A writer that refuses every write.
 #[derive(Drop)]
 struct Broken;
 
@@ -28,7 +28,7 @@ fn words(alloc: Global) -> Result<Vec<String>, AllocError> {
     Ok(words)
 }
 
-// The status where nothing can be written to standard output, and the length of standard error.
+// The status when every write to standard output fails, and the length of standard error.
 fn with_broken_output(alloc: Global) -> Result<(u8, usize), AllocError> {
     let words = words(alloc)?;
     let mut err = Vec::new(alloc);
@@ -36,7 +36,7 @@ fn with_broken_output(alloc: Global) -> Result<(u8, usize), AllocError> {
     Ok((status, err.len()))
 }
 
-// The status where nothing can be written to standard error, and the length of standard output.
+// The status when every write to standard error fails, and the length of standard output.
 fn with_broken_errors(alloc: Global) -> (u8, usize) {
     let mut out = Vec::new(alloc);
     let status = run_words(alloc, &[], &mut out, &mut Broken);

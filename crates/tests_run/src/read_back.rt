@@ -1,5 +1,5 @@
-//! What is written of a body is read again, and written unchanged: by the contracts of parsing and
-//! of writing, the laws of reading back, and that a function has one tree.
+//! The bytes written for a body are read again and written unchanged: by the contracts of parsing
+//! and writing, by the laws of reading back, and because a function has one tree.
 ghost use Rattle.std.specs.Prelude.{◌≡◌, ◌⊎◌, ◌≤◌, ℕ, List, drop, length, IfOk, IfErr, IsErr};
 ghost use Rattle.wasm_body.specs.declared.error.ParseError.TheVariants as parse;
 ghost use Rattle.wasm_body.specs.declared.error.ParseFailure.{ParseFailure as Failure};
@@ -26,7 +26,7 @@ use walrus_ir::{FunctionId, IdHashMap, InstrLocId, LocalId, Module, TypeId};
 use walrus_run::{RewriteError, law_accepted_again, law_inverse_undoes};
 use wasm_encode::FunctionEncoder;
 
-/// Reads operators that stand at place 0 as the body of a function of this type.
+/// Reads operators at place 0 as the body of a function of this type.
 pub fn read(
     alloc: Global,
     module: &Module,
@@ -38,10 +38,10 @@ pub fn read(
     requires begins { «module».now.code_section_offset ≡ 0 }
     ensures accepted { IfOk result (λ made. IsReadAs (environment_of «module».now indices.now id ty)
         ops.now made.builder) }
-    // What is refused is so for the first fault.
+    // A refusal is for the first fault.
     ensures refused { IfErr result (λ f. (f.error ≡ parse.Memory)
         ⊎ IsFirstFault (environment_of «module».now indices.now id ty) ops.now f) }
-    // Want of memory aside, each accepted body is answered, and each first fault is.
+    // Unless memory runs out, each accepted body is returned and each first fault is reported.
     ensures each_body { (locate : ℕ → ℕ) (b : Body Occurrence)
         → Accepted (reading_by (environment_of «module».now indices.now id ty) locate) ops.now b
         → IfErr result (λ f. f.error ≡ parse.Memory) }
@@ -69,7 +69,7 @@ pub fn read(
     )
 }
 
-/// What is in an encoder after so many bytes.
+/// The bytes in an encoder after the first `count`.
 fn behind(alloc: Global, encoder: &FunctionEncoder, count: usize) -> Result<Vec<u8>, AllocError>
     requires { count ≤ length encoder.now }
     ensures { IfOk result (λ out. out.items ≡ drop count encoder.now) }
@@ -79,7 +79,7 @@ fn behind(alloc: Global, encoder: &FunctionEncoder, count: usize) -> Result<Vec<
     Ok(bytes)
 }
 
-/// The bytes of a function's operators under these numbers.
+/// The bytes of a function's operators, with these numbers.
 pub fn written(
     alloc: Global,
     function: &LocalFunction,
@@ -106,7 +106,7 @@ pub fn written(
     }
 }
 
-/// The bytes of operators that are read and written.
+/// Reads operators and writes them. Returns the bytes.
 pub fn rewritten(
     alloc: Global,
     module: &Module,
@@ -121,12 +121,12 @@ pub fn rewritten(
     ensures written { IfOk result (λ bytes. IsWrittenAs
         (environment_of «module».now indices.now id ty) (numbers_by out.now locals.now.entries)
         ops.now bytes.items) }
-    // What is refused is so for the first fault of reading, or else of writing.
+    // A refusal is for the first fault of reading, or else of writing.
     ensures refused { IfErr result (λ e. WantsMemory e
         ⊎ IsRefusedAs (environment_of «module».now indices.now id ty)
         (numbers_by out.now locals.now.entries) ops.now e) }
-    // Want of memory aside, operators of an accepted body that has bytes are written by them, and
-    // each fault is answered.
+    // Unless memory runs out, the operators of an accepted body that has bytes are written with
+    // these bytes, and each fault is reported.
     ensures each_body { (bytes : List ℕ) → HasBytes (environment_of «module».now indices.now id ty)
         (numbers_by out.now locals.now.entries) ops.now bytes
         → IfErr result WantsMemory × IfOk result (λ made. made.items ≡ bytes) }
@@ -143,8 +143,8 @@ pub fn rewritten(
     }
 }
 
-/// Operators are read and written, and what is written is read through maps that undo the numbers,
-/// and written again: both texts, which are the same.
+/// Reads operators and writes them, reads the written bytes with maps that undo the numbers, and
+/// writes them again. Returns the bytes of both, which are the same.
 pub fn rewritten_twice(
     alloc: Global,
     module: &Module,
@@ -162,11 +162,11 @@ pub fn rewritten_twice(
     ensures written { IfOk result (λ both. IsWrittenAs
         (environment_of «module».now indices.now id ty) (numbers_by out.now locals.now.entries)
         ops.now both.0.items) }
-    // What is written is read again and written unchanged.
+    // The written bytes are read again and written unchanged.
     ensures unchanged { IfOk result (λ both. both.1.items ≡ both.0.items) }
-    // And it isn't refused: what is refused is so for the first fault of the operators that were
-    // handed in. Want of memory aside, operators of an accepted body that has bytes are written
-    // twice, and each fault is answered.
+    // And they aren't refused: a refusal is for the first fault of the operators that were passed.
+    // Unless memory runs out, the operators of an accepted body that has bytes are written twice,
+    // and each fault is reported.
     ensures refused { IfErr result (λ e. WantsMemory e
         ⊎ IsRefusedAs (environment_of «module».now indices.now id ty)
         (numbers_by out.now locals.now.entries) ops.now e) }

@@ -1,4 +1,4 @@
-//! Bodies rewritten over the demo module: faults with what they hold, which the program doesn't
+//! Bodies rewritten with the demo module: faults with their values, which the program doesn't
 //! print, and deep nesting.
 use crate::function_text::{push_hexadecimal, push_refusal};
 use crate::nesting::nested;
@@ -7,7 +7,7 @@ use std::process::Abort;
 use std::test::Fail;
 use walrus_run::rewrite_demo;
 
-// Appends the operators that are written of these, or the fault and its place.
+// Appends the bytes that are written for these operators, or the fault and its place.
 fn push_rewritten(text: &mut String, ops: &[u8]) -> Result<(), AllocError> {
     match rewrite_demo(*text.allocator(), ops) {
         Ok(written) => push_hexadecimal(text, &written),
@@ -22,7 +22,7 @@ fn rewritten(alloc: Global, ops: &str) -> Result<String, Fail> {
     Ok(text)
 }
 
-// Rewrites bodies, each of which comes before what is wanted.
+// Rewrites bodies, each of which comes before its expected text.
 fn check(rt: &impl Abort, alloc: Global, cases: &[(&str, &str)]) -> Result<(), Fail> {
     for (ops, want) in cases {
         let found = rewritten(alloc, ops)?;
@@ -54,26 +54,26 @@ const REFUSED: [(&str, &str); 19] = [
     ("1f40010005090b0b", "Tags 5 at 0"),
 ];
 
-/// Worked bodies that are refused, for a fault that holds more than its name.
+/// Worked bodies that are refused, for a fault with more than its name.
 #[test]
 fn refuses_bodies(rt: HostRuntime) -> Result<(), Fail> {
     check(&rt, rt.alloc(), &REFUSED)
 }
 
-// Whether nested constructs that begin with these bytes are written as they are.
+// Whether nested constructs that begin with these bytes are written unchanged.
 fn is_unchanged(alloc: Global, opening: &[u8]) -> Result<bool, Fail> {
     let ops = nested(alloc, opening, &[])?;
     Ok(rewrite_demo(alloc, &ops)? == ops)
 }
 
-/// A rewriting takes no stack for each level.
+/// Rewriting uses no stack for each level.
 #[test]
 fn rewrites_deeply_nested_blocks(rt: HostRuntime) -> Result<(), Fail> {
     assert!(rt; is_unchanged(rt.alloc(), &[0x02, 0x40])?);
     Ok(())
 }
 
-/// A rewriting takes no stack for each `try`.
+/// Rewriting uses no stack for each `try`.
 #[test]
 fn rewrites_deeply_nested_tries(rt: HostRuntime) -> Result<(), Fail> {
     assert!(rt; is_unchanged(rt.alloc(), &[0x06, 0x40])?);

@@ -1,4 +1,4 @@
-//! Operators that are read and written, read again through maps that undo the numbers, and written
+//! Operators that are read and written, read again with maps that undo the numbers, and written
 //! unchanged.
 ghost use Rattle.std.specs.Prelude.{◌≡◌};
 
@@ -17,7 +17,7 @@ struct Order {
     locals: &'static [usize],
 }
 
-// Gives ids the numbers that they have in this order.
+// Gives ids old indices, which are their numbers in this order.
 fn push_ids(ids: &mut IndicesToIds, order: Order) -> Result<(), IndexError> {
     for id in order.functions {
         ids.push_func(FunctionId::new(*id))?;
@@ -28,14 +28,14 @@ fn push_ids(ids: &mut IndicesToIds, order: Order) -> Result<(), IndexError> {
     Ok(())
 }
 
-// The ids that stand for these numbers.
+// The ids of these old indices.
 fn ids(alloc: Global, order: Order) -> Result<IndicesToIds, IndexError> {
     let mut ids = IndicesToIds::new(alloc);
     push_ids(&mut ids, order)?;
     Ok(ids)
 }
 
-// Gives a function the next number, if it has none.
+// Gives a function the next number if it has none.
 fn give(numbers: &mut IdsToIndices, function: FunctionId) -> Result<(), IndexError> {
     match numbers.get_func_index(function) {
         Ok(_) => Ok(()),
@@ -61,20 +61,20 @@ fn local_numbers(alloc: Global, locals: &[usize]) -> Result<IdHashMap<LocalId, u
     Ok(numbers)
 }
 
-/// What is written for ids.
+/// The numbers that are written for ids.
 #[derive(Clone, Copy)]
 struct Numbers<'a> {
     out: &'a IdsToIndices,
     locals: &'a IdHashMap<LocalId, u32>,
 }
 
-// Appends bytes and the sequences of a function.
+// Appends bytes, and the sequences of a function.
 fn push_texts(text: &mut String, bytes: &[u8], function: &LocalFunction) -> Result<(), AllocError> {
     push_hexadecimal(text, bytes)?;
     push_sequences(text, function.builder())
 }
 
-// Appends what is written of a function, and its sequences; and gives the bytes.
+// Appends the bytes that are written for a function, and its sequences. Returns the bytes.
 fn push_function(
     text: &mut String,
     function: &LocalFunction,
@@ -89,7 +89,7 @@ fn push_function(
     Ok(bytes)
 }
 
-// The same of the function 0 of a module, where indices stand for these ids.
+// The same for the function 0 of a module, with these ids of old indices.
 fn push_read(
     text: &mut String,
     module: &Module,
@@ -104,7 +104,7 @@ fn push_read(
     push_function(text, &function, numbers)
 }
 
-// The same where indices stand for ids in this order.
+// The same with the ids in this order.
 fn push_written(
     text: &mut String,
     module: &Module,
@@ -118,14 +118,15 @@ fn push_written(
     push_read(text, module, &ids, ops, numbers)
 }
 
-/// In which order indices stand for ids before operators are written, and after that.
+/// The order of the ids when operators are read first, and when they are read again.
 #[derive(Clone, Copy)]
 struct Orders {
     before: Order,
     after: Order,
 }
 
-// Appends what is written of operators, and their sequences; and the same of what is written.
+// Appends the bytes that are written for operators, and the sequences; and the same for these
+// bytes.
 fn push_both(
     text: &mut String,
     module: &Module,
@@ -141,7 +142,7 @@ fn push_both(
     Ok(())
 }
 
-// The same over the demo module.
+// The same with the demo module.
 fn push_over_demo(
     text: &mut String,
     orders: Orders,
@@ -152,7 +153,7 @@ fn push_over_demo(
     push_both(text, &module, orders, ops, numbers)
 }
 
-// The same where ids have numbers in the second order.
+// The same with the ids numbered in the second order.
 fn push_numbered(
     text: &mut String,
     orders: Orders,
@@ -184,7 +185,7 @@ const NONE: Order = Order {
     locals: &[],
 };
 
-/// Functions that change places, locals of which one isn't used, and dropped code.
+/// Functions in another order, a local that isn't used, and dropped code.
 #[test]
 fn writes_unchanged_what_was_written(rt: HostRuntime) -> Result<(), Fail> {
     let (functions, others) = (&[0, 1], &[1, 0]);
@@ -223,7 +224,7 @@ fn writes_unchanged_what_was_written(rt: HostRuntime) -> Result<(), Fail> {
     Ok(())
 }
 
-// Rewrites operators twice over a module, where no number has to be undone since there is no id.
+// Rewrites operators twice with a module; there are no ids, so no number has to be undone.
 fn twice_over(
     alloc: Global,
     module: &Module,
@@ -237,7 +238,7 @@ fn twice_over(
     rewritten_twice(alloc, module, &ids, &ids, id, ty, ops, &out, &locals)
 }
 
-// The same over the demo module.
+// The same with the demo module.
 fn twice_without_ids(alloc: Global, ops: &[u8]) -> Result<(Vec<u8>, Vec<u8>), RewriteError> {
     let module = demo::module(alloc)?;
     twice_over(alloc, &module, ops)
@@ -248,7 +249,7 @@ fn without_ids(alloc: Global, ops: &[u8]) -> Result<String, Fail> {
     Ok(format!(in alloc; "{first:?} {second:?}")?)
 }
 
-/// The proved chain of calls, where the premise holds since there is no id.
+/// The proved chain of calls; its premise holds since there are no ids.
 #[test]
 fn rewrites_twice(rt: HostRuntime) -> Result<(), Fail> {
     let found = without_ids(

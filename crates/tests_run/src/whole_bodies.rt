@@ -1,4 +1,4 @@
-//! Whole bodies: declarations and operators, after bytes and a pair of others.
+//! Whole bodies, declarations and operators, appended to other bytes and another pair.
 ghost use Rattle.std.specs.Prelude.{◌≡◌};
 
 use crate::demo_module::{AT_A_HUNDRED, AT_ZERO, Demo, Setting, arguments};
@@ -10,7 +10,7 @@ use walrus_body::{AcceptAll, FunctionBody, IdsToIndices, LocalFunction};
 use walrus_ir::{FunctionId, InstrLocId, TypeId};
 use walrus_run::{RewriteError, demo, rewrite_body};
 
-/// Bytes that are written, and the location and the place of each operator.
+/// Bytes, and the location and the place of each operator.
 #[derive(Drop)]
 pub(crate) struct Output {
     pub bytes: Vec<u8>,
@@ -18,7 +18,7 @@ pub(crate) struct Output {
 }
 
 impl Output {
-    /// Two bytes and a pair of others.
+    /// An output that has two other bytes and another pair.
     pub(crate) fn of_others(alloc: Global) -> Result<Output, AllocError> {
         Ok(Output {
             bytes: vec![in alloc; 0xaa, 0xbb]?,
@@ -27,12 +27,12 @@ impl Output {
     }
 }
 
-// Twice the place, where that fits.
+// Twice the place modulo 10^9, so that it fits.
 fn doubled(place: usize) -> InstrLocId {
     InstrLocId::new((place % 1_000_000_000) as u32 * 2)
 }
 
-// Rewrites the body of the function 0, with a list of pairs where one is given.
+// Rewrites the body of the function 0, with a list of pairs if one is passed.
 fn rewrite_into(
     demo: &Demo,
     out: &IdsToIndices,
@@ -67,18 +67,18 @@ fn rewrite_into(
     )
 }
 
-/// What is asked about a body that is rewritten.
+/// What is checked about a rewritten body.
 #[derive(Clone, Copy, PartialEq, Eq)]
 enum Asked {
     /// The fault, if there is one, and the bytes and pairs.
     Output,
     /// The same without a list of pairs.
     Bytes,
-    /// The function that is the answer.
+    /// The function that is returned.
     Function,
 }
 
-// Rewrites after what is in the output, with its list of pairs but where the bytes are asked for.
+// Appends a rewritten body to the output, with its list of pairs unless only the bytes are checked.
 fn rewrite(
     demo: &Demo,
     out: &IdsToIndices,
@@ -96,7 +96,7 @@ fn rewrite(
     }
 }
 
-// Appends the function where it is asked for, or the fault.
+// Appends the function if it is checked, or the fault.
 fn push_answer(
     text: &mut String,
     asked: Asked,
@@ -117,8 +117,8 @@ fn push_answer(
     }
 }
 
-// Appends what is asked about a body that is rewritten under these numbers, after bytes and a pair
-// of others.
+// Appends the result for a body that is rewritten with these numbers and appended to other bytes
+// and another pair.
 fn push_rewritten(
     text: &mut String,
     demo: &Demo,
@@ -138,7 +138,7 @@ fn push_rewritten(
     }
 }
 
-// The same under the numbers of the demo module.
+// The same with the numbers of the demo module.
 fn push_numbered(
     text: &mut String,
     demo: &Demo,
@@ -152,7 +152,7 @@ fn push_numbered(
     push_rewritten(text, demo, &out, setting, asked, bytes)
 }
 
-// The same over that module.
+// The same with that module.
 fn push_over_demo(
     text: &mut String,
     setting: Setting,
@@ -170,7 +170,7 @@ fn answer(alloc: Global, setting: Setting, asked: Asked, body: &str) -> Result<S
     Ok(text)
 }
 
-// Asks about bodies, each of which comes before what is wanted.
+// Checks bodies, each of which comes before its expected text.
 fn check(
     rt: &impl Abort,
     alloc: Global,
@@ -185,7 +185,8 @@ fn check(
     Ok(())
 }
 
-// Where a body stands whose operators begin at this position, of code that begins at 0.
+// A body that is `before` bytes after the beginning of the code, at place 0, and whose operators
+// begin at this position.
 fn at(before: u32, ops: usize, located: bool) -> Setting {
     Setting {
         offset: 0,
@@ -195,7 +196,7 @@ fn at(before: u32, ops: usize, located: bool) -> Setting {
     }
 }
 
-/// Worked bodies with their pairs, which count from the first byte that is appended.
+/// Worked bodies with their pairs, whose places count from the first byte that is appended.
 #[test]
 fn rewrites_whole_bodies(rt: HostRuntime) -> Result<(), Fail> {
     for (setting, body, want) in [
@@ -215,7 +216,7 @@ fn rewrites_whole_bodies(rt: HostRuntime) -> Result<(), Fail> {
             "20011a20031a0b",
             "aabb01027e20011a20021a0b 9@9 0@3 2@5 3@6 5@8 6@9",
         ),
-        // A location function is asked, also where the place would be too great.
+        // With a location function, also at a place that would be too great without it.
         (
             at(20, 1, true),
             "00410104400b0b",
@@ -232,10 +233,10 @@ fn rewrites_whole_bodies(rt: HostRuntime) -> Result<(), Fail> {
     Ok(())
 }
 
-// Locals of several types are used.
+// A body that uses locals of several types.
 const SEVERAL: &str = "20061a20011a20041a20051a20071a20031a200e1a0b";
 
-/// Bodies that use locals, of one type and of several: declarations, operators and pairs.
+/// Bodies that use locals of one type and of several: declarations, operators and pairs.
 #[test]
 fn declares_the_locals_of_bodies(rt: HostRuntime) -> Result<(), Fail> {
     let cases = [
@@ -251,7 +252,7 @@ fn declares_the_locals_of_bodies(rt: HostRuntime) -> Result<(), Fail> {
             9@9 0@12 2@14 3@15 5@17 6@18 8@20 9@21 11@23 12@24 14@26 15@27 17@29 18@30 20@32 \
             21@33",
         ),
-        // What is dropped is neither declared nor written.
+        // Dropped code is neither declared nor written.
         (
             "20031a0f20011a0b",
             "aabb01017e20011a0f0b 9@9 0@3 2@5 3@6 7@7",
@@ -260,8 +261,8 @@ fn declares_the_locals_of_bodies(rt: HostRuntime) -> Result<(), Fail> {
     check(&rt, rt.alloc(), AT_ZERO, Asked::Output, &cases)
 }
 
-/// A refusal of the parse, of the numbering and of the writing, in this order, leaves bytes and
-/// pairs as they were.
+/// A refusal of the parse, the numbering or the writing, in this order, leaves bytes and pairs
+/// unchanged.
 #[test]
 fn refuses_whole_bodies(rt: HostRuntime) -> Result<(), Fail> {
     let cases = [
@@ -289,7 +290,7 @@ fn refuses_whole_bodies(rt: HostRuntime) -> Result<(), Fail> {
     )
 }
 
-/// A body that is rewritten without a list of pairs has the same bytes.
+/// A body rewritten without a list of pairs has the same bytes.
 #[test]
 fn rewrites_without_pairs(rt: HostRuntime) -> Result<(), Fail> {
     let cases = [
@@ -302,8 +303,8 @@ fn rewrites_without_pairs(rt: HostRuntime) -> Result<(), Fail> {
     check(&rt, rt.alloc(), AT_ZERO, Asked::Bytes, &cases)
 }
 
-/// The function that rewriting returns is the one that was parsed: places of operators and of the
-/// body, less where the code begins, and its tree.
+/// The function that `rewrite_body` returns is the parsed one: places of operators and of the body,
+/// less the code offset, and its tree.
 #[test]
 fn answers_the_function(rt: HostRuntime) -> Result<(), Fail> {
     let cases = [("00010b", "10..13 11:101 12:102 type4[ ]102")];
