@@ -1,4 +1,4 @@
--- The locals of bodies over the demo module: those that are used are there, can be declared, and have numbers.
+-- The locals of bodies in the demo module: the used ones are in the module, can be declared, and have numbers.
 use Rattle.std.specs.Prelude.{◌≡◌, ◌⊎◌, ◌≤◌, ◌<◌, ◌+◌, ◌^◌, ◌==◌, ℕ, zero, suc, List, [], ◌∷◌, ◌++◌, length, map, Bool, true, false, not, ◌&&◌, ◌||◌, nat_lt, nat_le, if◌then◌else◌, Option, Some, None, slice_get, IsOk, Result, Ok, Err}
 use Rattle.std.specs.List.{AllByRecursion}
 use Rattle.std.specs.Option.{option_map, option_or}
@@ -81,7 +81,7 @@ some_place (x ∷ xs) id h =
 
 -- ---- which locals are used
 
--- a local that an old index stands for
+-- the local of an old index
 old_local : (id : ℕ) → IsOfLocal demo_environment id → id ≤ 3
 old_local id at =
     let named = ap (λ o. some_or o (NoLocals 0) >>= λ locals. some_or (slice_get locals at.0) (LocalOutOfRange 0 at.0)) locals_are in
@@ -194,7 +194,7 @@ module _ (others : List ℕ) (few_others : length others ≤ 3) where
 none_fit : (let none : List ℕ = [] in length none) ≤ 3
 none_fit = omega arith
 
--- ---- a body that is accepted
+-- ---- an accepted body
 
 module _ (xs : List Occurrence) (b : Body Occurrence) (texts : AllByRecursion HasText xs) (lawful : Lawful demo_environment xs b) where
   abbrev tree : FunctionTree
@@ -238,7 +238,7 @@ module _ (xs : List Occurrence) (b : Body Occurrence) (texts : AllByRecursion Ha
     few_ids : length (ids_of others) ≤ 3
     few_ids = omega (arith, few_others, length-map others (λ (l : Local). l.1))
 
-    -- each local of the tree is an argument or declared
+    -- each local of the tree is an argument or is declared
     is_numbered : (id : ℕ) → among id (locals_of tree) ≡ true → among id (demo_args ++ ids_of others) ≡ true
     is_numbered id used =
         elim (id == 0) as (λ b. (id == 0) ≡ b → (b || among id (ids_of others)) ≡ true) [

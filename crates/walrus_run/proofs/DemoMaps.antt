@@ -24,7 +24,7 @@ use Rattle.walrus_run.specs.Demo.{demo_indices, demo_numbers}
 pub locals_in-with_locals : (function : ℕ) (ids : List ℕ) (m : IndicesToIds) → locals_in (with_locals function ids m) function ≡ ids
 locals_in-with_locals function ids m = grind (gets, rules)
 
--- a key's later value is the one that counts
+-- the later of two values of a key counts
 insert-again : {X : Type 0} (m : FinMap nat_cmp X) (k : ℕ) (x y : X) → insert (insert m k x) k y ≡ insert m k y
 insert-again m k x y = same_map nat_cmp_total nat_cmp-IsAntisymmetric (insert (insert m k x) k y) (insert m k y) (λ q. grind (gets, rules))
 
@@ -37,12 +37,12 @@ pub ruleset numbering = (gets, rules)
 
 -- ---- numbers that are given in turn
 
--- the numbers after so many ids, from 0 on, got the next one
+-- the numbers after the ids from 0 on, this many, each got the next number
 abbrev in_turn : FinMap nat_cmp ℕ → ℕ → FinMap nat_cmp ℕ
 in_turn m zero = m
 in_turn m (suc n) = numbered (in_turn m n) n
 
--- each has itself as its number
+-- each id is its own number
 record IsItself (m : FinMap nat_cmp ℕ) (count : ℕ) : Type 0 where
   gets_itself : (id : ℕ) → get m id ≡ (if nat_lt id count then Some id else None)
   counts : len m ≡ count

@@ -1,4 +1,4 @@
--- The demo module's numbers: there is one for each id that an old index stands for, and for the type of each sequence.
+-- The demo module's numbers: each id of an old index has one, and so has the type of each sequence.
 use Rattle.std.specs.Prelude.{◌≡◌, ℕ, suc, zero, List, [], ◌∷◌, Bool, Option, Some, None, slice_get, IsOk, is_ok, Result, Ok, Err}
 use Rattle.std.specs.List.{AllByRecursion}
 use Rattle.std.specs.FinMap.{get, gets}
@@ -29,7 +29,7 @@ within P [] n id all at = absurd cc
 within P (i ∷ ids) zero id all at = let e : i ≡ id = cc in subst P e all.0
 within P (i ∷ ids) (suc n) id all at = within P ids n id all.1 at
 
--- the number of an id is its own
+-- the id is its own number
 abbrev IsNumbered : Space → ℕ → Type 0
 IsNumbered space id = (numbers_in_32_bits demo_numbers).number_of space id ≡ Ok id
 
@@ -91,7 +91,7 @@ has_value (Ref r) u e =
 abbrev BlockNumbered : InstrSeqType → Type 0
 BlockNumbered t = IsOk (numbered_block demo_numbers t)
 
--- whatever is picked for it has a number
+-- if a type is picked for it, that type has a number
 abbrev PickNumbered : Signature → Type 0
 PickNumbered s = (t : InstrSeqType) → pick demo_types s ≡ Some t → BlockNumbered t
 

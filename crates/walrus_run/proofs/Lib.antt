@@ -2,12 +2,12 @@
 mod DemoMaps
 mod DemoNumbers
 mod DemoLocals
--- what is parsed, and what is written of it
+-- what is parsed, and the bytes written for it
 mod RewritingLemmas
 -- the operators of an accepted body are read and named
 mod NamesAnywhere
 mod Reading
 mod ReadBodies
--- the trace machine: what stands ahead of a place; labels, exceptions and steps
+-- the trace machine: what is ahead of a place; labels, exceptions and steps
 mod Tables
 mod Tracing

@@ -1,4 +1,4 @@
--- The operators of an accepted body have their names wherever they stand.
+-- The operators of an accepted body have the same names in any frames.
 use Rattle.std.proofs.Common.{◌≡◌, ℕ, List, [], ◌∷◌, length, map, Result, Ok, refl, sym, ap, ◌∙◌}
 use Rattle.std.specs.Prelude.{nat_lt}
 use Rattle.std.specs.List.{AllByRecursion}
@@ -22,7 +22,7 @@ use Rattle.wasm_body.proofs.Bytes.LawfulTyped.{named_somewhere}
 use Rattle.walrus_parser.specs.Settings.{operators_of}
 use Rattle.walrus_run.specs.Namers.{anywhere, HasName}
 
--- ---- a label that is open stays as it is
+-- ---- the label of an open construct is unchanged
 
 open_stays : {A : Type 0} (fs : List (Frame A)) (n l : ℕ) → open_label fs n ≡ Ok l → (let r : Result ℕ ParseError = Ok n in r) ≡ Ok l
 open_stays fs n l e = (bind_ok (unless (nat_lt n (length fs)) NoSuchLabel) (λ u. Ok n) l e).2
@@ -32,7 +32,7 @@ handler_stays fs n l e =
     let opened = bind_ok (open_label fs n) (λ m. unless (handler_at fs n) RethrowOutsideHandler >>= λ u. Ok n) l e in
     (bind_ok (unless (handler_at fs n) RethrowOutsideHandler) (λ u. Ok n) l opened.2).2
 
--- ---- so an operator that has its name somewhere has it anywhere
+-- ---- so an operator that has a name in some frames has it in any
 
 module _ (env : Environment) where
   leads : (fs : List (Frame Occurrence)) → LeadAll (naming env fs) same (anywhere env)
@@ -62,7 +62,7 @@ module _ (env : Environment) where
   pub lawful_names : (xs : List Occurrence) (b : Body Occurrence) → Lawful env xs b → AllByRecursion (HasName env) xs
   lawful_names xs b lawful = have_names xs (named_somewhere env xs b lawful)
 
--- the labels of a table are none that is looked up
+-- the labels of a table are not looked up
 pub labels_stay : (env : Environment) (targets : List ℕ) (default : ℕ) → translate_immediates (anywhere env) (branch_table targets default ∷ []) ≡ Ok (branch_table targets default ∷ [])
 labels_stay env targets default =
     let stay : each (anywhere env).label targets ≡ Ok targets = each-ok (anywhere env).label (λ l. refl) targets in

@@ -1,4 +1,4 @@
--- What is read of a body: what is answered is what is accepted, and what is refused is so for the first fault.
+-- Reading a body: a result is that of an accepted body, and a refusal is for the first fault.
 use Rattle.std.proofs.Common.{◌≡◌, ◌⊎◌, inl, inr, ℕ, List, Result, Ok, Err, refl, sym, subst}
 use Rattle.std.specs.Prelude.{IfOk, IfErr, IsErr}
 use Rattle.wasm_operators.specs.Laws.{AreBytes}
@@ -21,7 +21,7 @@ accepted_without_fault given ops bytes none = elim (accepted_or_fault reading_ag
   | inr fault ↦ absurd (none fault.0 fault.1)
 ]
 
--- the operators of an accepted body are those that stand there
+-- the operators of an accepted body are those that remain at its start
 pub left_of : (given : Setting (Unit {0})) (ops : List ℕ) (b : Body Occurrence) → Accepted given ops b → AreLeft given.environment (record { rest = ops; place = given.start }) (operators_of b)
 left_of given ops b a =
     subst (AreLeft given.environment (record { rest = ops; place = given.start })) (sym (operators_are given.environment a.operators b a.lawful))
@@ -40,7 +40,7 @@ module _ (given : (ℕ → ℕ) → Setting (Unit {0})) (ops : List ℕ) where
   abbrev pub RefusesEachFault : Result BodyNames ParseFailure → Type 0
   RefusesEachFault r = (locate : ℕ → ℕ) (f : ParseFailure) → FirstFault (given locate) ops f → IsErr r × IfErr r (λ e. (e.error ≡ Memory) ⊎ (e ≡ f))
 
-  -- ---- where the body is accepted, and its operators are named
+  -- ---- if the body is accepted and its operators are named
 
   module _ (accepts : (locate : ℕ → ℕ) → (b : Body Occurrence) × Accepted (given locate) ops b) where
     pub is_named : (r : Result BodyNames ParseFailure) → NamesEachBody r → IfOk r IsNamed
@@ -54,7 +54,7 @@ module _ (given : (ℕ → ℕ) → Setting (Unit {0})) (ops : List ℕ) where
     pub has_no_fault : (r : Result BodyNames ParseFailure) → RefusesEachFault r
     has_no_fault r locate f fault = let b = accepts locate in absurd (accepted_has_no_fault reading_agrees (Unit {0}) (given locate) ops b.0 f b.1 fault)
 
-  -- ---- where it is refused
+  -- ---- if it is refused
 
   pub refused_body : (f : ParseFailure) → IsRefused f → NamesEachBody (Err f)
   refused_body f (inl memory) locate b accepted = (memory, tt)

@@ -1,4 +1,4 @@
--- Bodies over the demo module: what is parsed is written, and what is answered is what is accepted.
+-- Bodies in the demo module: what is parsed can be written, and a result is that of an accepted body.
 use Rattle.std.specs.Prelude.{◌≡◌, ◌⊎◌, ℕ, List, [], ◌∷◌, length, drop, map, Option, None, Ok}
 use Rattle.std.specs.Borrow.{Bor}
 use Rattle.std.specs.Fn.{Shared}
@@ -54,9 +54,9 @@ use Rattle.walrus_rewrite.proofs.SameAnswers.{same_answer, same_refusal, not_bot
 abbrev pub demo_tree : Body Occurrence → FunctionTree
 demo_tree b = body_tree demo_environment b
 
--- ---- what is accepted can be written
+-- ---- an accepted body can be written
 
--- operators that bytes list have spellings
+-- the operators that bytes list have spellings
 listed_texts : (xs : List Occurrence) (place : ℕ) (bytes rest : List ℕ) → Lists (map placed xs) place bytes rest → AllByRecursion HasText xs
 listed_texts [] place bytes rest l = tt
 listed_texts (x ∷ xs) place bytes rest l = ((l.1, l.4), listed_texts xs _ l.2 rest l.5)
@@ -64,7 +64,7 @@ listed_texts (x ∷ xs) place bytes rest l = ((l.1, l.4), listed_texts xs _ l.2 
 pub accepted_texts : (ops : List ℕ) (b : Body Occurrence) (a : Accepted demo ops b) → AllByRecursion HasText a.operators
 accepted_texts ops b a = listed_texts a.operators _ ops [] a.all.spelt
 
--- ---- a function that a parse over the demo module made
+-- ---- a function that a parse in the demo module made
 
 abbrev pub demo_given : Given
 demo_given = record { to = demo_numbers; types = demo_locals; args = demo_args }
@@ -79,7 +79,7 @@ module _ (f : Function) (p : IsParsed f) where
   pub parsed_begins : HasEntry f
   parsed_begins = begins f tree p.is_function
 
-  -- its facts are gathered, want of memory aside
+  -- its facts are gathered unless memory runs out
   pub no_walk : (w : WalkError) → HasNoWalk f.sequences (first_slot f) w ⊎ IsTooLarge f.sequences (first_slot f) w → w ≡ walk.Memory
   no_walk w (inl (inl memory)) = memory
   no_walk w (inl (inr fault)) = absurd (tree_has_no_fault f.sequences (first_slot f) its_tree.unfolded w its_tree.is_tree fault)
@@ -97,7 +97,7 @@ module _ (f : Function) (p : IsParsed f) where
       let same = only_tree f tree p.is_function h.0 h.1 in
       absurd (has_raw_body p.accepted.operators p.body (accepted_texts p.ops p.body p.accepted) p.accepted.lawful e (subst (λ t. HasNoRawBody demo_given t e) same h.2))
 
-  -- of which the bytes behind the declarations are those of the normal form
+  -- whose bytes after the declarations are those of the normal form
   pub normal_bytes : (g : Given) → g ≡ demo_given → (raw : List ℕ) (pairs : List Pair) (r : IsRawBodyOf g f raw pairs) (out : List ℕ)
       → out ≡ drop (length (encoded.declarations r.is_raw_body.declarations)) raw → (b : Body Occurrence) → IsFunction f (demo_tree b) → IsNormalBytes b out
   normal_bytes g same raw pairs r out is b has =
@@ -114,11 +114,11 @@ module _ (f : Function) (p : IsParsed f) where
             ∙ ap Ok (sym written);
       }
 
--- what the demo module's functions are written with
+-- the numbers, types and arguments of the demo module's functions
 pub same_given : (out : IdsToIndices) (m : Module) (f : FunctionParts) → numbers_by out [] ≡ demo_numbers → m ≡ demo_module → f.args ≡ demo_args → given out m f ≡ demo_given
 same_given out m f numbers module_is args = λ k. record { to = numbers k; types = (module_is k).locals; args = args k }
 
--- ---- over the demo module
+-- ---- in the demo module
 
 abbrev pub demo_input : {F : Type 0} → Module → IndicesToIds → (function type : ℕ) → List ℕ → ParseInput (Unit {0}) F
 demo_input m i function type ops = input_of m i function type 0 ops None (λ s x. Ok s) tt
@@ -132,7 +132,7 @@ module _ {F : Type 0} (g : Shared F (Bor ℕ × Unit {0}) ℕ) (m : Module) (i :
       let b = subst (λ j. AcceptsBody g j f mapping) same_input a in
       (b.body, b.accepted, b.is_function)
 
--- its refusal speaks of no location function
+-- a refusal doesn't depend on a location function
 pub demo_refuses : (m : Module) (i : IndicesToIds) (function type : ℕ) → m ≡ demo_module → i ≡ demo_indices → function ≡ 0 → type ≡ 1 → (ops : List ℕ) (f : ParseFailure) →
     (f.error ≡ parse.Memory) ⊎ ((locations : Option (ℕ → ℕ)) → (let none : Option (Bor ℕ) = None in BothOrNone none locations) → FirstFault (setting_with (demo_input {F = ℕ} m i function type ops) locations) ops f) →
     WantsMemory (Parse f) ⊎ IsFaulty ops (Parse f)
@@ -143,7 +143,7 @@ demo_refuses m i function type m_is i_is function_is type_is ops f (inr fault) =
 
 -- ---- each body and each fault
 
--- an accepted body's bytes are answered, and it is refused for want of memory only
+-- the bytes of an accepted body are returned; it is refused only if memory runs out
 pub body_answered : (ops out : List ℕ) (b : Body Occurrence) → Accepted demo ops b → IsRewritten ops out → IsNormalBytes b out
 body_answered ops out b a w =
     subst (λ (c : Body Occurrence). IsNormalBytes c out)
@@ -153,7 +153,7 @@ pub body_not_refused : (ops : List ℕ) (e : RewriteError) (b : Body Occurrence)
 body_not_refused ops e b a (inl memory) = memory
 body_not_refused ops e b a (inr f) = absurd (not_both (parsed demo ops) b f.0 (accepted_parsed demo reading_agrees ops b a) (fault_parsed demo reading_agrees ops f.0 f.1))
 
--- what has a first fault is refused for it
+-- a body with a first fault is refused for it
 pub fault_not_written : (ops out : List ℕ) (f : ParseFailure) → FirstFault demo ops f → IsRewritten ops out → ⊥
 fault_not_written ops out f fault w = not_both (parsed demo ops) w.0 f (accepted_parsed demo reading_agrees ops w.0 w.1) (fault_parsed demo reading_agrees ops f fault)
 

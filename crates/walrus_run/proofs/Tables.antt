@@ -1,4 +1,4 @@
--- Places in a list of operators, what stands ahead of them, and how that changes where one operator is passed back over.
+-- Places in a list of operators, what is ahead of them, and how that changes when going back over one operator.
 use Rattle.std.proofs.Common.{Ordering, ◌≡◌, ℕ, zero, suc, ◌+◌, ◌-◌, ◌<◌, ◌≤◌, List, [], ◌∷◌, ◌++◌, length, take, drop, map, get_or, length-drop, Bool, true, false, Some, None, refl, sym, ap, subst, ◌∙◌, arith, reverse, inl, inr}
 use Rattle.std.specs.Prelude.{slice_get, ◌||◌, ◌&&◌, not, cond, eqb}
 use Rattle.std.specs.List.{list_any}
@@ -16,7 +16,7 @@ use Rattle.walrus_run.specs.Tables.{place_at, IsAhead, nothing_ahead, StandAhead
 
 -- ---- lists
 
--- what is left where the last items are taken away, from the last on
+-- the rest of the reversed list after removing the last items
 pub reverse_take : {A : Type 0} → (n : ℕ) (xs : List A) → n ≤ length xs → reverse (take (length xs - n) xs) ≡ drop n (reverse xs)
 reverse_take n xs le =
     let m = length xs - n in
@@ -62,7 +62,7 @@ placed_get k (x ∷ cs) (suc i) c h =
     let n : suc k + i ≡ k + suc i = omega arith in
     placed_get (suc k) cs i c h ∙ ap (λ m. with_control m c ∷ drop (suc i) (placed_from (suc k) cs)) n
 
--- the operator at a place, and the place behind it
+-- the operator at a place, and the place after it
 pub here : (cs : List Control) (i : ℕ) (c : Control) → slice_get cs i ≡ Some c → place_at cs i ≡ with_control i c ∷ place_at cs (i + 1)
 here cs i c h =
     let z : 0 + i ≡ i = omega arith in
@@ -81,7 +81,7 @@ nothing_here cs i h = drop_all i (placed_from 0 cs) (omega (arith, length_placed
 
 -- ---- searches
 
--- how many parts were passed over before changes nothing
+-- the number of parts passed before makes no difference
 count_at : {A : Type 0} → (s : Shape) (d : ℕ) (b : Bool) (i j : ℕ) (xs : List (Marked A)) (on : ℕ → ℕ → Found A) →
     ((d i j : ℕ) → (on d i).rest ≡ (on d j).rest) → (seek_at s d b i xs on).rest ≡ (seek_at s d b j xs on).rest
 count_at Opener d b i j xs on same = same (suc d) i j
@@ -96,7 +96,7 @@ pub any_count : {A : Type 0} → (test : Control → Bool) (d i j : ℕ) (xs : L
 any_count test d i j [] = refl
 any_count test d i j (x ∷ xs) = count_at (shape_of x.control) d (test x.control) i j (x ∷ xs) _ (λ d i j. any_count test d i j xs)
 
--- what is found stands no further out
+-- the list at which a search ends is not longer than the one at which it began
 shorter_at : {A : Type 0} → (s : Shape) (d : ℕ) (b : Bool) (i : ℕ) (x : Marked A) (xs : List (Marked A)) (on : ℕ → ℕ → Found A) →
     ((d i : ℕ) → length (on d i).rest ≤ length xs) → length (seek_at s d b i (x ∷ xs) on).rest ≤ suc (length xs)
 shorter_at Opener d b i x xs on le = omega (arith, le (suc d) i)
@@ -111,7 +111,7 @@ pub no_longer : {A : Type 0} → (test : Control → Bool) (d i : ℕ) (xs : Lis
 no_longer test d i [] = omega arith
 no_longer test d i (x ∷ xs) = shorter_at (shape_of x.control) d (test x.control) i x xs _ (λ d i. no_longer test d i xs)
 
--- A search for any part goes on, from one part to the next, as a search for one that passes a test.
+-- A search for any part continues, from one part to the next, as a search for a part that passes a test.
 abbrev pub choose : {A : Type 0} → Shape → Bool → ℕ → List (Marked A) → Found A → Found A
 choose Part false i xs on = on
 choose _ _ i xs on = found i xs
@@ -158,7 +158,7 @@ module _ (test : Control → Bool) (cs : List Control) (i : ℕ) (c : Control) (
       ∙ (stop_chosen (shape_of c) (test c) n (with_control i c ∷ place_at cs (i + 1)) (seek test 0 (suc n) (place_at cs (i + 1))) (sym h)
       ∙ ap (found n) (sym (here cs i c at)))
 
-  -- the search goes on from the next part
+  -- the search continues from the next part
   pub passes_here : (n : ℕ) → true ≡ passes test c → (next : ℕ) → place_at cs next ≡ (seek (λ c. true) 0 0 (place_at cs (i + 1))).rest → from_part test n (place_at cs i) ≡ from_part test (n + 1) (place_at cs next)
   passes_here n h next e =
       let more : suc n ≡ n + 1 = omega arith in
@@ -188,7 +188,7 @@ nothing_at cs i h = nothing_here cs i (none_left cs i h)
 pub ends_here : (test : Control → Bool) (cs : List Control) (i : ℕ) (n : ℕ) → slice_get cs i ≡ None → from_part test n (place_at cs i) ≡ found n (place_at cs i)
 ends_here test cs i n h = ap (from_part test n) (nothing_at cs i h) ∙ ap (found n) (sym (nothing_at cs i h))
 
--- ---- passing back over an operator
+-- ---- going back over an operator
 
 module _ (cs : List Control) (i : ℕ) (c : Control) (at : slice_get cs i ≡ Some c) where
   walk : (s : Shape) → s ≡ shape_of c → (test : Control → Bool) (d : ℕ) →
@@ -198,7 +198,7 @@ module _ (cs : List Control) (i : ℕ) (c : Control) (at : slice_get cs i ≡ So
       ∙ (ap (λ l. seek_at (shape_of c) d (test c) 0 l (λ d j. seek test d j (place_at cs (i + 1)))) (sym (here cs i c at))
       ∙ ap (λ s. seek_at s d (test c) 0 (place_at cs i) (λ d j. seek test d j (place_at cs (i + 1)))) (sym h))
 
-  -- where the searches from the two places find the same, what stands ahead is the same
+  -- if the searches from both places find the same, the same is ahead of them
   same_ahead : (d e : ℕ) (a : Ahead) → ((test : Control → Bool) → (seek test e 0 (place_at cs i)).rest ≡ (seek test d 0 (place_at cs (i + 1))).rest) →
       IsAhead cs d (i + 1) a → IsAhead cs e i a
   same_ahead d e a same h = record { part = h.part ∙ sym (same (λ c. true)); behind = h.behind ∙ ap tail (sym (same (λ c. false))) }
@@ -248,7 +248,7 @@ module _ (cs : List Control) (i : ℕ) (c : Control) (at : slice_get cs i ≡ So
   part_stands h end [] a first stand (suc depth) = outer_ahead h depth _ (stand (suc depth))
   part_stands h end (b ∷ ls) a first stand (suc depth) = outer_ahead h depth _ (stand (suc depth))
 
--- ---- what stands ahead, in a list for all operators
+-- ---- what is ahead, in a list for all operators
 
 pub ahead_at : (cs : List Control) (k : ℕ) (as' : List Ahead) (i : ℕ) (a : Ahead) → AreAhead cs k as' → slice_get as' i ≡ Some a → IsAhead cs 0 (k + i + 1) a
 ahead_at cs k [] i a all h = absurd (cc h)
@@ -287,14 +287,14 @@ read_ahead cs ds as' ws i a view all same lt is =
     let at = ap (λ l. slice_get l i) (sym same) ∙ slice_get_read ws (length ws) i a refl lt is in
     subst (λ l. IsAhead l 0 (i + 1) a) view (subst (λ m. IsAhead ds 0 m a) z (ahead_at ds 0 as' i a all at))
 
--- behind the last operator nothing stands ahead
+-- nothing is ahead after the last operator
 pub past_all : (cs : List Control) (i : ℕ) → length cs ≤ i → (test : Control → Bool) → place_at cs i ≡ (seek test 0 0 (place_at cs (i + 1))).rest
 past_all cs i h test = nothing_here cs i h ∙ sym (ap (λ xs. (seek test 0 0 xs).rest) (nothing_here cs (i + 1) (omega arith)))
 
 pub past_closer : (cs : List Control) (i : ℕ) → length cs ≤ i → place_at cs i ≡ behind_closer (place_at cs (i + 1))
 past_closer cs i h = nothing_here cs i h ∙ sym (ap behind_closer (nothing_here cs (i + 1) (omega arith)))
 
--- how many operators a table has, by how much it keeps
+-- the number of operators in a table, from the length of its lists
 pub as_many : (A : Type 0) (cs : List Control) (f : A → Control) (xs : List A) (as' ws : List Ahead) (i : ℕ) → map f xs ≡ cs → length as' ≡ length xs → ws ≡ as' → length ws ≤ i → length cs ≤ i
 as_many A cs f xs as' ws i view count same le = omega (arith, ap length view, length-map xs f, count, ap length same)
 

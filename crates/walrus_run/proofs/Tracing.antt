@@ -1,4 +1,4 @@
--- What the machine keeps while it runs: labels, and what a construct answers an exception.
+-- The state of the machine while it runs: labels, and how a construct responds to an exception.
 use Rattle.std.proofs.Common.{Bool, false, cond, ◌≡◌, ℕ, zero, suc, ◌+◌, ◌-◌, ◌<◌, ◌≤◌, get_or, List, [], ◌∷◌, ◌++◌, map, drop, take, length, reverse, Option, Some, None, refl, sym, ap, ◌∙◌, arith}
 use Rattle.std.specs.Prelude.{slice_get}
 use Rattle.std.proofs.lemmas.List.{drop_all, length-map, length-reverse, map-append, take-map, take_more}
@@ -34,7 +34,7 @@ no_clause _ n rest a b c = refl
 
 -- ---- labels
 
--- what is left where so many labels are closed
+-- the labels that are left after closing this many
 pub closed : (cs : List C.Control) (n len left : ℕ) (ls ms : List Label) → len ≡ length ls → left ≡ len - n → ms ≡ take left ls → drop n (opens cs ls) ≡ opens cs ms
 closed cs n len left ls ms count rest h =
     let ks = map (label_of cs) ls in
@@ -72,7 +72,7 @@ module _ (again go : M.From ℕ) where
   inner_branch (suc n) [] o = refl
   inner_branch (suc n) (l ∷ ls) o = inner_branch n ls o
 
-  -- the branch to a construct that is no loop
+  -- a branch to a construct other than a loop
   pub arrive_out : (x : Construct) → (x ≡ Construct.Loop → ⊥) → (l : M.Label ℕ) (ls : List (M.Label ℕ)) (o : List M.Outcome) →
       M.arrive again go (construct_meaning x) l ls o ≡ go (M.behind_closer l.behind) ls o
   arrive_out Construct.Block h l ls o = refl
@@ -86,11 +86,11 @@ module _ (again go : M.From ℕ) where
   inner_raise tags (suc n) [] o = refl
   inner_raise tags (suc n) (l ∷ ls) o = inner_raise tags n ls o
 
--- an outcome that was asked for
+-- an outcome that was taken
 pub asked : (cs : List C.Control) (old new : State) (k : Onwards) (x y : Outcome) → Finds old new (λ cs k ls o. k ls (outcome_of x ∷ o)) → x ≡ y → run_on cs old k ≡ run_on cs new (λ ls o. k ls (outcome_of y ∷ o))
 asked cs old new k x y found e = found cs k ∙ ap (λ z. run_on cs new (λ ls o. k ls (outcome_of z ∷ o))) e
 
--- what a `rethrow` raises again: what its handler caught
+-- what a `rethrow` raises again: the tags that its handler caught
 pub rethrown : (again go : M.From ℕ) (cs : List C.Control) (s : State) (n : ℕ) (caught : Option M.Tags) → M.caught_at (opens cs s.labels.items) n ≡ caught →
     run_on cs s (λ ls o. M.rethrow (λ tags. M.raise again go tags ls o 0) (M.caught_at ls n)) ≡ run_on cs s (λ ls o. M.rethrow (λ tags. M.raise again go tags ls o 0) caught)
 rethrown again go cs s n caught e =
@@ -98,7 +98,7 @@ rethrown again go cs s n caught e =
     let o = map outcome_of s.outcomes.now in
     ap (λ c. seen s.events.items (M.rethrow (λ tags. M.raise again go tags ls o 0) c)) e
 
--- ---- the way of an `if` that is not taken
+-- ---- the other way of an `if`
 
 module _ (go : M.From ℕ) (cs : List C.Control) (l : M.Label ℕ) (f : M.Found ℕ) (n i : ℕ) (e : f ≡ M.found n (place_at cs i)) (ls : List (M.Label ℕ)) (o : List M.Outcome) where
   pub other_here : (c : C.Control) (b : Bool) → slice_get cs i ≡ Some c → M.is_else c ≡ b → M.other_way go l ls o f ≡ cond b (go (place_at cs (i + 1)) (l ∷ ls) o) (go (place_at cs (i + 1)) ls o)
@@ -113,7 +113,7 @@ pub not_else : (x : Control) → (x ≡ Control.Else → ⊥) → M.is_else (con
 not_else Control.Else h = absurd (h refl)
 not_else _ h = refl
 
--- ---- openers that ask for nothing
+-- ---- openers that take no outcome
 
 pub entered : (go : M.From ℕ) (x : Construct) → (x ≡ Construct.If → ⊥) → (i : ℕ) (place : List (C.Marked ℕ)) (ls : List (M.Label ℕ)) (o : List M.Outcome) →
     M.enter go (construct_meaning x) i place ls o ≡ M.then (M.Executed i) (go place (M.label i (construct_meaning x) place ∷ ls) o)
@@ -136,7 +136,7 @@ module _ (again : M.From ℕ) (cs : List C.Control) (i : ℕ) (ls : List (M.Labe
   no_step zero at = refl
   no_step (suc n) at = ap (λ place. M.straight again (suc n) place ls o) (nothing_at cs i at)
 
--- what goes on behind a turn that is to be paid, where so many are left
+-- how a run continues after a branch to a loop, with this many turns left
 abbrev pub behind_turn : ℕ → M.From ℕ
 behind_turn zero place ls o = M.ends M.TurnsOut
 behind_turn (suc t) place ls o = M.bounded_run length t place ls o

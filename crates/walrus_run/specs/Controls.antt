@@ -1,4 +1,4 @@
--- What the code's controls mean: the same, with lists for slices.
+-- The meanings of the code's controls: the same, with lists for slices.
 use Rattle.std.specs.Prelude.{map}
 use Rattle.walrus_run.specs.declared.named_op.NamedCatch.{NamedCatch}
 use Rattle.walrus_run.specs.declared.machine.control.Action.{Action}

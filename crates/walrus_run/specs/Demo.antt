@@ -1,4 +1,4 @@
--- The demo module, over which the program parses and writes bodies.
+-- The demo module, in which the program parses and writes bodies.
 use Rattle.std.specs.Prelude.{ℕ, nat_lt, List, [], ◌∷◌, length, Ok, Err, if◌then◌else◌}
 use Rattle.std.specs.FinMap.{empty, insert}
 use Rattle.walrus_ir.specs.declared.val_type.ValType.{ValType}
@@ -14,7 +14,7 @@ use Rattle.wasm_body.specs.Naming.{Environment}
 use Rattle.wasm_body.specs.Parsing.Accepted.{Setting, accepting}
 use Rattle.wasm_body.specs.Bytes.{Numbers}
 
--- The last type is that of the entry of a function without results.
+-- The last type is the entry type of functions without results.
 abbrev pub demo_types : List ModuleType
 demo_types = Func [] [] ∷ Func (I32 ∷ []) [] ∷ Func (I32 ∷ I32 ∷ []) (I32 ∷ []) ∷ Func (I32 ∷ []) [] ∷ Entry [] ∷ []
 
@@ -27,7 +27,7 @@ demo_locals = I32 ∷ I64 ∷ I64 ∷ I64 ∷ []
 abbrev pub demo_module : Module
 demo_module = record { types = demo_types; tags = demo_tags; locals = demo_locals; code_section_offset = 0 }
 
--- Every old index is that of its id. The entry type has none.
+-- Each id is its own old index. The entry type has none.
 abbrev pub demo_indices : IndicesToIds
 demo_indices = record {
   tables = 0 ∷ [];
@@ -41,7 +41,7 @@ demo_indices = record {
   locals = insert empty 0 (0 ∷ 1 ∷ 2 ∷ 3 ∷ []);
 }
 
--- the same without those of locals
+-- the same without the locals
 abbrev pub demo_items : IndicesToIds
 demo_items = record demo_indices { locals = empty }
 
@@ -49,7 +49,7 @@ demo_items = record demo_indices { locals = empty }
 abbrev pub demo_environment : Environment
 demo_environment = environment_of demo_module demo_indices 0 1
 
--- Its first operator stands at place 0; no location function, and every operator passes.
+-- Its first operator is at place 0. There is no location function, and the validator accepts every operator.
 abbrev pub demo : Setting (Unit {0})
 demo = accepting demo_environment 0
 
@@ -57,7 +57,7 @@ demo = accepting demo_environment 0
 abbrev pub demo_args : List ℕ
 demo_args = 0 ∷ []
 
--- The number of an id is its old index. Locals have the numbers that their use gives them.
+-- An id is its own number. Locals are numbered by their use.
 abbrev pub demo_numbers : Numbers
 demo_numbers = record {
   number_of = λ space id. if nat_lt id (length (ids_in demo_indices space)) then Ok id else Err (Index (Unnumbered space));

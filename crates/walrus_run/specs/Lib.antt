@@ -1,11 +1,11 @@
--- the module that the program parses over, and what is written of a body
+-- the module in which the program parses, and the bytes written for a body
 pub mod Demo
 pub mod Rewriting
--- operators and bodies as they are named
+-- operators and bodies with their names
 pub mod NamedOperators
 pub mod NamedBodies
 pub mod Namers
--- the trace machine: what outcomes and runs mean, what operators do to the control, and what the machine keeps
+-- the trace machine: the meanings of outcomes and runs, what operators do to the control, and the machine's state
 pub mod Runs
 pub mod Controls
 pub mod Tables

@@ -1,4 +1,4 @@
--- What a named operator of the code means: its opcode and its immediates, with ids, as the definition of naming has them.
+-- The meaning of a named operator of the code: its opcode and its immediates, with ids, as in the definition of naming.
 use Rattle.std.specs.Prelude.{ℕ, List, [], ◌∷◌, map}
 use Rattle.walrus_ir.specs.Types.{Signature, signature}
 use Rattle.wasm_operators.specs.declared.types.Space.TheVariants.{Tables, Types, Funcs, Globals, Memories, Elements, Data, Tags}

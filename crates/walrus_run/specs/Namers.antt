@@ -1,4 +1,4 @@
--- Naming operators one by one, wherever they stand: an operator of an accepted body has the name that it has there.
+-- Naming operators one by one, in any frames: an operator of an accepted body has the same name as in the body.
 use Rattle.std.specs.Prelude.{◌≡◌, ℕ, List, [], ◌∷◌, ◌++◌, map, Ok}
 use Rattle.std.specs.List.{AllByRecursion}
 use Rattle.walrus_ir.specs.Results.{with_fault}
@@ -35,11 +35,11 @@ anywhere env = record {
 abbrev pub HasName : Environment → Occurrence → Type 0
 HasName env x = translate (anywhere env) x.spelt ≡ Ok x.named
 
--- These operators, each with its name, are all that is left.
+-- These operators, each with its name, are all that remain.
 pub record AreLeft (env : Environment) (at : Position) (xs : List Occurrence) : Type 0 where
   pub spelt : Lists (map placed xs) at.place at.rest []
   pub named : AllByRecursion (HasName env) xs
 
--- one operator more is read, of this name and at this place
+-- one more operator is read, with this name and at this place
 abbrev pub with_next : BodyNames → NamedOperation → (place : ℕ) → BodyNames
 with_next b named place = record { operators = b.operators ++ named ∷ []; places = b.places ++ place ∷ [] }

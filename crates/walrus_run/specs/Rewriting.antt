@@ -1,4 +1,4 @@
--- Rewriting a body over the demo module.
+-- Rewriting a body in the demo module.
 use Rattle.std.specs.Prelude.{◌≡◌, ◌<◌, ◌^◌, ℕ, List, length, Ok}
 use Rattle.walrus_ir.specs.Function.{Function}
 use Rattle.wasm_body.specs.declared.error.ParseFailure.{ParseFailure}
@@ -13,7 +13,7 @@ use Rattle.walrus_rewrite.specs.declared.error.RewriteError.{RewriteError}
 use Rattle.walrus_rewrite.specs.declared.error.RewriteError.TheVariants.{Parse}
 use Rattle.walrus_run.specs.Demo.{demo_locals, demo_args, demo_environment, demo, demo_numbers}
 
--- The bytes are those of the body's normal form, with its locals numbered by their use.
+-- The bytes are those of the body's normal form, with the locals numbered by their use.
 pub record IsNormalBytes (b : Body Occurrence) (out : List ℕ) : Type 0 where
   pub others : List Local
   pub are_declared : AreDeclared demo_locals demo_args (uses_local (body_tree demo_environment b)) others
@@ -23,7 +23,7 @@ pub record IsNormalBytes (b : Body Occurrence) (out : List ℕ) : Type 0 where
 abbrev pub IsRewritten : List ℕ → List ℕ → Type 0
 IsRewritten ops out = (b : Body Occurrence) × Accepted demo ops b × IsNormalBytes b out
 
--- The function is one that a parse over the demo module makes of some operators.
+-- The function is the result of a parse of some operators in the demo module.
 pub record IsParsed (f : Function) : Type 0 where
   pub ops : List ℕ
   pub few : length ops < 2 ^ 64
@@ -31,6 +31,6 @@ pub record IsParsed (f : Function) : Type 0 where
   pub accepted : Accepted demo ops body
   pub is_function : IsFunction f (body_tree demo_environment body)
 
--- The operators have this first fault.
+-- This is the first fault of the operators.
 abbrev pub IsFaulty : List ℕ → RewriteError → Type 0
 IsFaulty ops e = (f : ParseFailure) × FirstFault demo ops f × (e ≡ Parse f)

@@ -1,4 +1,5 @@
--- What the code's outcomes, events and runs mean: those of the trace machine. A set of tags is seen as the list of its keys.
+-- The meanings of the code's outcomes, events and runs: those of the trace machine. A set of tags is seen as the list of its
+-- keys.
 use Rattle.std.specs.Prelude.{ℕ, map}
 use Rattle.walrus_run.specs.declared.machine.run.Outcome.{Outcome}
 use Rattle.walrus_run.specs.declared.machine.run.Event.{Event}

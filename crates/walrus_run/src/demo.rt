@@ -1,4 +1,4 @@
-//! The demo module, over which the program parses and writes bodies, and its index maps.
+//! The demo module, in which the program parses and writes bodies, and its index maps.
 ghost use Rattle.std.specs.Prelude.{◌≡◌, [], ◌∷◌, None, IfOk, IfErr, OnOk};
 ghost use Rattle.std.specs.FinMap as map;
 ghost use Rattle.wasm_body.specs.declared.error.IndexError.TheVariants.{Memory};
@@ -15,12 +15,12 @@ use walrus_ir::{
     ModuleTypes, TableId, TagId, TypeId, ValType,
 };
 
-/// The demo module: four types of functions and one of an entry, two tags, and the four locals of its
+/// The demo module: four function types and an entry type, two tags, and the four locals of its
 /// function 0. Its code begins at place 0.
 ///
 /// # Errors
 ///
-/// That memory ran out.
+/// `AllocError` if memory runs out.
 pub fn module(alloc: Global) -> Result<Module, AllocError>
     ensures { IfOk result (λ m. m ≡ demo_module) }
 {
@@ -109,12 +109,12 @@ fn push_locals(indices: &mut IndicesToIds) -> Result<(), IndexError>
     Ok(())
 }
 
-/// The ids that the old indices of the module's items stand for: each stands for the id that it is.
-/// Locals have none.
+/// The ids of the old indices of the module's items: each id is its own old index. Locals have
+/// none.
 ///
 /// # Errors
 ///
-/// `Memory`.
+/// `Memory` if memory runs out.
 pub fn indices_of_items(alloc: Global) -> Result<IndicesToIds, IndexError>
     ensures ok { IfOk result (λ m. m ≡ demo_items) }
     ensures err { IfErr result (λ e. e ≡ Memory) }
@@ -126,11 +126,11 @@ pub fn indices_of_items(alloc: Global) -> Result<IndicesToIds, IndexError>
     Ok(indices)
 }
 
-/// The same with the old indices of the module's locals, which are those of its function 0.
+/// The same, and the old indices of the module's locals, which are those of its function 0.
 ///
 /// # Errors
 ///
-/// `Memory`.
+/// `Memory` if memory runs out.
 #[tactic(auto, using(crate::proofs::DemoMaps::local_maps))]
 pub fn indices(alloc: Global) -> Result<IndicesToIds, IndexError>
     ensures ok { IfOk result (λ m. m ≡ demo_indices) }
@@ -196,7 +196,7 @@ fn number_storage(numbers: &mut IdsToIndices) -> Result<(), IndexError>
 ///
 /// # Errors
 ///
-/// `Memory`.
+/// `Memory` if memory runs out.
 pub fn numbers(alloc: Global) -> Result<IdsToIndices, IndexError>
     ensures ok { IfOk result (λ m. numbers_by m [] ≡ demo_numbers) }
     ensures err { IfErr result (λ e. e ≡ Memory) }

@@ -1,4 +1,4 @@
-//! Rewriting function bodies: the program over bytes, and the trace machine.
+//! Rewriting function bodies: the program `wbody` from words to bytes, and the trace machine.
 #![tactic(auto)]
 
 pub mod demo;

@@ -1,4 +1,5 @@
-//! The trace machine: which operators of a body run, for given outcomes and a bound on loop turns.
+//! The trace machine: which operators of a body are executed, for given outcomes and a bound on the
+//! turns of loops.
 
 mod control;
 mod execution;

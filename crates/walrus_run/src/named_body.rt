@@ -1,4 +1,4 @@
-//! Bodies as their modules name them.
+//! Bodies with the names that their modules give them.
 ghost use Rattle.std.specs.Prelude.{◌≡◌, ◌⊎◌, ◌≤◌, ◌<◌, ◌+◌, ◌∷◌, ◌^◌, ℕ, List, length, map, slice_get, IsSome, ◌↔◌, IfOk, IfErr, IsErr, OnOk};
 ghost use Rattle.wasm_operators.specs.Laws.{AreBytes};
 ghost use Rattle.wasm_body.specs.declared.error.ParseError.{ParseError as ParseFault};
@@ -20,8 +20,8 @@ use walrus_body::{AcceptAll, FunctionBody, IndicesToIds, LocalFunction, ParseErr
 use walrus_ir::{FunctionId, InstrLocId, Module, TypeId};
 use wasm_ops::Reader;
 
-/// The operators of an accepted body as its module names them, and the place of each. A contract
-/// sees what they mean, and their places.
+/// The operators of an accepted body with the names that its module gives them, and the place of
+/// each. A contract sees their meanings and their places.
 #[derive(Debug, Drop)]
 pub struct NamedBody {
     operators: Vec<NamedOp>,
@@ -49,8 +49,8 @@ fn law_bytes(bytes: &[u8])
     ensures { AreBytes bytes.now }
 {}
 
-/// Whether a function's body is accepted, or its first fault. Places have no limit, since there is
-/// a location function.
+/// Checks that a function's body is accepted; else the error is its first fault. Places have no
+/// limit, since there is a location function.
 fn check(namer: &Namer<'_>, body: FunctionBody<'_>) -> Result<(), ParseFailure>
     requires offset { namer.now.«module».now.code_section_offset ≤ body.start }
     requires ops { body.ops ≤ length body.bytes.now }
@@ -83,12 +83,13 @@ fn check(namer: &Namer<'_>, body: FunctionBody<'_>) -> Result<(), ParseFailure>
 }
 
 impl NamedBody {
-    /// Reads the operators of a function's body, as its module names them.
+    /// Reads the operators of a function's body, with the names that its module gives them.
     ///
     /// # Errors
     ///
-    /// The body's first fault, with its place: that which `LocalFunction::parse` answers for a
-    /// validator that takes every operator and any location function. Or `Memory`.
+    /// The body's first fault and its place: the one that `LocalFunction::parse` returns for a
+    /// validator that accepts every operator and for any location function. Or `Memory` if memory
+    /// runs out.
     pub fn read(
         alloc: Global,
         module: &Module,
@@ -100,15 +101,15 @@ impl NamedBody {
         requires offset { «module».now.code_section_offset ≤ body.start }
         requires ops { body.ops ≤ length body.bytes.now }
         requires fits { body.start + length body.bytes.now < 2 ^ 64 }
-        // What is answered has the names of the accepted body's operators, and what is refused is
-        // so for the first fault.
+        // The result has the names of the accepted body's operators, and a refusal is for the first
+        // fault.
         ensures accepted { IfOk result (λ made. (locate : ℕ → ℕ) → (b : Body Occurrence)
             × Accepted (reading «module».now indices.now id ty body.entry locate)
             (body_operators body.entry) b × (made ≡ names_of (operators_of b))) }
         ensures refused { IfErr result (λ f. (f.error ≡ ParseFault.Memory)
             ⊎ ((locate : ℕ → ℕ) → FirstFault (reading «module».now indices.now id ty body.entry
             locate) (body_operators body.entry) f)) }
-        // Want of memory aside, each accepted body is answered, and each first fault is.
+        // Unless memory runs out, each accepted body is returned and each first fault is reported.
         ensures each_body { (locate : ℕ → ℕ) (b : Body Occurrence)
             → Accepted (reading «module».now indices.now id ty body.entry locate)
             (body_operators body.entry) b → IfErr result (λ f. f.error ≡ ParseFault.Memory)
@@ -133,7 +134,7 @@ impl NamedBody {
         }
     }
 
-    /// Names all operators that a reader has before it.
+    /// Names all operators that remain in a reader.
     fn named(namer: &Namer<'_>, reader: &mut Reader<'_>) -> Result<NamedBody, ParseFailure>
         ensures { (xs : List Occurrence) → AreLeft (env_of namer.now) reader.old xs
             → IfErr result (λ f. f.error ≡ ParseFault.Memory)
@@ -153,7 +154,7 @@ impl NamedBody {
         Ok(body)
     }
 
-    /// Takes the next operator that a reader has before it.
+    /// Takes the next operator of a reader.
     fn take(&mut self, namer: &Namer<'_>, reader: &mut Reader<'_>) -> Result<(), ParseError>
         ensures takes { (x : Occurrence) (xs : List Occurrence)
             → AreLeft (env_of namer.now) reader.old (x ∷ xs)
@@ -187,20 +188,20 @@ impl NamedBody {
         }
     }
 
-    /// What its lists take their memory from.
+    /// The allocator of its lists.
     pub(crate) fn allocator(&self) -> Global {
         *self.operators.allocator()
     }
 
-    /// Its operators, in order. It takes no memory.
+    /// Its operators, in order. Allocates nothing.
     pub fn ops(&self) -> &[NamedOp]
         ensures { map named_operation result.now ≡ self.now.operators }
     {
         self.operators.as_slice()
     }
 
-    /// The place of the operator with this number, or none where there is no such operator. It
-    /// takes no memory.
+    /// The place of the operator with this number, the byte offset of its first byte; none if there
+    /// is no such operator. Allocates nothing.
     pub fn place(&self, i: usize) -> Option<usize>
         ensures place { result ≡ slice_get self.now.places i }
         ensures there { IsSome result ↔ (i < length self.now.operators) }

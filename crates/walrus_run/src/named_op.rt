@@ -1,4 +1,5 @@
-//! Operators as a module names them: with ids for indices, and with what blocks take and give.
+//! Operators with the names that a module gives them: with ids in place of indices, and with the
+//! parameters and results of block types.
 
 use walrus_ir::{
     DataId, ElementId, FunctionId, GlobalId, HeapType, LocalId, MemoryId, TableId, TagId, TypeId,
@@ -6,17 +7,17 @@ use walrus_ir::{
 };
 use wasm_ops::Opcode;
 
-/// An operator as it is named. Operators of two bodies are the same where these are, whatever the
-/// old indices, the numbers of block types and the spellings are.
+/// A named operator. Two operators of different bodies are the same if these are, whatever their
+/// old indices, the numbers of their block types and their spellings.
 #[derive(Debug, Drop, PartialEq, Eq)]
 pub struct NamedOp {
-    /// What it begins with.
+    /// Its opcode.
     pub opcode: Opcode,
-    /// What follows, with ids.
+    /// Its immediates, with ids.
     pub immediates: NamedImmediates,
 }
 
-/// The id that an index stands for, by the space of the index.
+/// The id of an index, by the space of the index.
 #[derive(Clone, Copy, Debug, PartialEq, Eq)]
 pub enum NamedIndex {
     Table(TableId),
@@ -29,68 +30,68 @@ pub enum NamedIndex {
     Tag(TagId),
 }
 
-/// What an access to memory says of itself.
+/// A memory argument (WebAssembly core specification 3.0, binary format, memory instructions).
 #[derive(Clone, Copy, Debug, PartialEq, Eq)]
 pub struct NamedMemArg {
-    /// The exponent of the alignment, a power of two; at most 31.
+    /// The exponent of two of the alignment in bytes; at most 31.
     pub exponent: u32,
     /// The memory.
     pub memory: MemoryId,
-    /// A number of bytes, which is added to the address.
+    /// The number of bytes that is added to the address.
     pub offset: u64,
 }
 
-/// What a block takes and gives.
+/// The type of a block.
 #[derive(Debug, Drop, PartialEq, Eq)]
 pub struct NamedBlockType {
-    /// What it takes.
+    /// The types of its parameters.
     pub params: Vec<ValType>,
-    /// What it gives.
+    /// The types of its results.
     pub results: Vec<ValType>,
 }
 
 /// A clause of `try_table`.
 #[derive(Clone, Copy, Debug, PartialEq, Eq)]
 pub struct NamedCatch {
-    /// Whether it hands on a reference to the exception.
+    /// Whether it passes a reference to the exception, as `catch_ref` and `catch_all_ref` do.
     pub by_reference: bool,
-    /// Its tag; none where it catches all.
+    /// Its tag; none if it catches all.
     pub tag: Option<TagId>,
     /// Its label, as a depth from outside the `try_table`.
     pub label: u32,
 }
 
-/// What follows the opcode of a branch on a cast.
+/// The immediates of a branch on a cast.
 #[derive(Clone, Copy, Debug, PartialEq, Eq)]
 pub struct NamedCast {
-    /// Whether the operand may be null.
+    /// Whether the source type of the cast is nullable.
     pub from_nullable: bool,
-    /// Whether what it is cast to may be null.
+    /// Whether the target type of the cast is nullable.
     pub to_nullable: bool,
     /// The label, as a depth.
     pub label: u32,
-    /// What the operand refers to.
+    /// The heap type of the source.
     pub source: HeapType,
-    /// What it is cast to.
+    /// The heap type of the target.
     pub target: HeapType,
 }
 
-/// What follows an opcode.
+/// The immediates after an opcode.
 #[derive(Debug, Drop, PartialEq, Eq)]
 pub enum NamedImmediates {
     /// Nothing.
     Nothing,
-    /// What an index stands for.
+    /// The id of an index.
     Index(NamedIndex),
-    /// What two indices stand for.
+    /// The ids of two indices.
     Pair(NamedIndex, NamedIndex),
-    /// What an index stands for, and a number: a field of a struct, or the length of an array.
+    /// The id of an index, and a number: a field of a struct, or the length of an array.
     IndexNumber(NamedIndex, u32),
     /// A local.
     Local(LocalId),
     /// A label, as a depth.
     Label(u32),
-    /// Which of the handlers around, of a `rethrow`, as a depth.
+    /// The depth of an enclosing handler, of a `rethrow`.
     Handler(u32),
     /// A label of a `delegate`, as a depth from outside its construct.
     Outer(u32),
@@ -100,15 +101,15 @@ pub enum NamedImmediates {
     Access(NamedMemArg),
     /// A memory argument, and a lane.
     LaneAccess(NamedMemArg, u8),
-    /// What a block takes and gives.
+    /// The type of a block.
     Block(NamedBlockType),
-    /// What a `try_table` takes and gives, and its clauses.
+    /// The type of a `try_table`, and its clauses.
     Clauses(NamedBlockType, Vec<NamedCatch>),
     /// A heap type.
     Heap(HeapType),
     /// The type of a `select`.
     Value(ValType),
-    /// What follows the opcode of a branch on a cast.
+    /// The immediates of a branch on a cast.
     Cast(NamedCast),
     /// A constant.
     I32(i32),
@@ -124,6 +125,6 @@ pub enum NamedImmediates {
     Lane(u8),
     /// The lanes of a shuffle.
     Lanes([u8; 16]),
-    /// The byte behind a fence.
+    /// The byte after `atomic.fence`, which is 0.
     ZeroByte,
 }

@@ -1,4 +1,4 @@
-//! The names of faults: of each the name of its innermost variant.
+//! The names of faults: the name of the innermost variant of each.
 
 use walrus_body::{EmitError, IndexError, ParseError};
 use walrus_ir::WalkError;

@@ -22,8 +22,8 @@ use walrus_body::{IndicesToIds, ParseError, heap_type_of, value_type};
 use walrus_ir::{FunctionId, Module, TagId, TypeId, ValType};
 use wasm_ops::{BlockType, BrTable, CatchList, Immediates, Operator, RawCast, RawMemArg, Space};
 
-/// What names the operators of a function's body: the function, its type, and old indices and types
-/// of its module.
+/// What operators of a function's body are named with: the function, its type, and the old indices
+/// and the types of its module.
 #[derive(Clone, Copy)]
 pub(crate) struct Namer<'a> {
     pub alloc: Global,
@@ -33,7 +33,7 @@ pub(crate) struct Namer<'a> {
     pub ty: TypeId,
 }
 
-/// What a block takes and gives.
+/// A block type with these parameters and results.
 fn block_type(
     alloc: Global,
     params: &[ValType],
@@ -87,7 +87,7 @@ impl Namer<'_> {
         })
     }
 
-    /// What a branch on a cast names: both types.
+    /// The immediates of a branch on a cast, with both types.
     fn cast(&self, cast: RawCast) -> Result<NamedCast, ParseError>
         ensures { Gives named_cast result
             (translate_cast (anywhere (env_of self.now)) (cast_of cast)) }
@@ -108,7 +108,7 @@ impl Namer<'_> {
         }
     }
 
-    /// What a block takes and gives.
+    /// A block type with its parameters and results.
     fn block(&self, ty: BlockType) -> Result<NamedBlockType, ParseError>
         ensures { GivesOrMemory named_block result (name_block (env_of self.now) ty) }
     {
@@ -130,7 +130,7 @@ impl Namer<'_> {
         }
     }
 
-    /// The id of a tag, where there is one.
+    /// The id of a tag, if there is one.
     fn tag(&self, index: Option<u32>) -> Result<Option<TagId>, ParseError>
         ensures { result ≡ translate_tag (anywhere (env_of self.now)).index index }
     {
@@ -178,7 +178,7 @@ impl Namer<'_> {
         }
     }
 
-    /// What follows an opcode.
+    /// The immediates after an opcode.
     fn immediates(
         &self,
         immediates: Immediates<BrTable<'_>, CatchList<'_>>,
@@ -233,8 +233,8 @@ impl Namer<'_> {
         }
     }
 
-    /// The name of an operator. Its labels stay as they are: they are open where a parse accepts
-    /// the operator.
+    /// The name of an operator. Its labels are not looked up: they are labels of open constructs if
+    /// a parse accepts the operator.
     pub fn name(&self, operator: &Operator<'_>) -> Result<NamedOp, ParseError>
         ensures { GivesOrMemory named_operation result
             (translate (anywhere (env_of self.now)) (meaning operator.now)) }

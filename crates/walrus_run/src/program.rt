@@ -1,4 +1,4 @@
-//! The program `wbody`, over its words and two writers.
+//! The program `wbody`, with its words and two writers as arguments.
 
 use crate::demo;
 use crate::machine::execute;
@@ -14,7 +14,7 @@ use walrus_body::{FunctionBody, ParseError, ParseFailure};
 use walrus_ir::{FunctionId, TypeId};
 use walrus_rewrite::RewriteError;
 
-/// Why nothing is printed to standard output; its text is the line that is printed to standard
+/// Why nothing is printed to standard output. Its text is the line that is printed to standard
 /// error instead.
 #[derive(Debug, Drop, Error)]
 enum Stop {
@@ -74,7 +74,7 @@ fn rewritten(alloc: Global, body: &str) -> Result<String, Stop> {
     Ok(hex::encode(alloc, written)?)
 }
 
-/// Reads the operators of a body over the demo module, as those of its function 0.
+/// Reads the operators of a body in the demo module, as those of its function 0.
 fn read_demo(alloc: Global, ops: &[u8]) -> Result<NamedBody, RewriteError> {
     let module = demo::module(alloc)?;
     let indices = match demo::indices(alloc) {
@@ -109,7 +109,7 @@ fn traced(
     Ok(run_text(alloc, &body, &bytes, &run)?)
 }
 
-/// The lines that the words ask for, without the last line end.
+/// The lines that these words ask for, without the last line end.
 fn answer(alloc: Global, words: &[String]) -> Result<String, Stop> {
     match words {
         [command, body] if command.as_str() == "rewrite" => rewritten(alloc, body.as_str()),
@@ -123,19 +123,19 @@ fn answer(alloc: Global, words: &[String]) -> Result<String, Stop> {
     }
 }
 
-/// Runs the program with these words, without its own name, and answers its status.
+/// Runs the program with these words, which don't include its own name, and returns its status.
 ///
-/// `rewrite HEX` prints the written operators of the body that HEX spells, in lower case, and a
-/// line end to `out`, with status 0. `trace TURNS OUTCOMES HEX` prints the run of the body: a line
-/// for each event, which is the operator's place and its bytes, or the place of a construct's
-/// opener, `taken` and the number of the clause that took an exception; and then how it ended. A
-/// body that is refused prints `refused: ` with the fault's name and its place to `err`, with
-/// status 1; any other words print how the program is used to `err`, with status 2. Where a write
-/// fails the status is 1.
+/// `rewrite HEX` prints the operators that are written for the body that HEX spells, in lower case,
+/// and a line end to `out`; the status is 0. `trace TURNS OUTCOMES HEX` prints the run of the body:
+/// a line for each event, and then how it ended. The line of an event has the place of the operator
+/// and its bytes; or the place of a construct's opener, `taken`, and the number of the clause that
+/// caught an exception. If the body is refused, `refused: ` with the fault's name and its place is
+/// printed to `err`, and the status is 1. For any other words the usage is printed to `err`, and
+/// the status is 2. If a write fails, the status is 1.
 ///
-/// TURNS is a decimal number. OUTCOMES is `-` for none, or items with commas between them: `g`
-/// goes on, `t` traps, `1` and `0` say whether a branch or a condition is taken, `e` and a number
-/// is an entry of a branch table, and `r` with tags, which have a `+` between them, raises.
+/// TURNS is a decimal number. OUTCOMES is `-` for none, or items with commas between them: `g` goes
+/// on, `t` traps, `1` and `0` say whether a branch is taken or a condition holds, `e` with a number
+/// is the operand of a `br_table`, and `r` with tags, which have a `+` between them, raises.
 pub fn run_words<W: Write, E: Write>(
     alloc: Global,
     words: &[String],

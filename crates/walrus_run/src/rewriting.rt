@@ -19,7 +19,7 @@ use walrus_ir::{FunctionId, InstrLocId, LocalId, Module, TypeId};
 use walrus_rewrite::{RewriteError, begin_body};
 use wasm_encode::FunctionEncoder;
 
-/// What stands behind the first bytes of an encoder.
+/// The bytes of an encoder after the first `count`.
 fn behind(alloc: Global, encoder: &FunctionEncoder, count: usize) -> Result<Vec<u8>, AllocError>
     requires { count ≤ length encoder.now }
     ensures { IfOk result (λ out. out.items ≡ drop count encoder.now) }
@@ -29,7 +29,7 @@ fn behind(alloc: Global, encoder: &FunctionEncoder, count: usize) -> Result<Vec<
     Ok(bytes)
 }
 
-/// The operators of a function that a parse over the demo module made, with its locals numbered by
+/// The operators of a function that a parse in the demo module made, with the locals numbered by
 /// their use.
 fn written_operators(
     alloc: Global,
@@ -62,7 +62,7 @@ fn written_operators(
     }
 }
 
-/// Rewrites operators over a module and its index maps, which are those of the demo module.
+/// Rewrites operators with a module and index maps, which must be those of the demo module.
 fn rewrite(
     alloc: Global,
     module: &Module,
@@ -103,22 +103,21 @@ fn rewrite(
     }
 }
 
-/// Rewrites the operators of a body over the demo module: they are parsed as the body of its
-/// function 0, which begins at place 0, and the tree is written again with the same indices, and
-/// with the locals numbered by their use. The answer is that of `rewrite_body` without the
-/// declarations of locals.
+/// Rewrites the operators of a body in the demo module: they are parsed as the body of its function
+/// 0, which begins at place 0, and the tree is written with the same indices and with the locals
+/// numbered by their use. Returns the bytes of `rewrite_body` without the declarations of locals.
 ///
 /// # Errors
 ///
-/// `Parse` where the operators are not accepted, with the first fault and its place, and every
-/// variant's `Memory`.
+/// `Parse` with the first fault and its place if the operators are not accepted; the `Memory` of
+/// any variant if memory runs out.
 pub fn rewrite_demo(alloc: Global, ops: &[u8]) -> Result<Vec<u8>, RewriteError>
-    // What is answered are the bytes of an accepted body's normal form, and what is refused is so
-    // for the first fault.
+    // The result is the bytes of an accepted body's normal form, and a refusal is for the first
+    // fault.
     ensures written { IfOk result (λ out. IsRewritten ops.now out.items) }
     ensures refused { IfErr result (λ e. WantsMemory e ⊎ IsFaulty ops.now e) }
 
-    // Want of memory aside, each accepted body is answered, and each first fault is.
+    // Unless memory runs out, each accepted body is rewritten and each first fault is reported.
     ensures each_body { (b : Body Occurrence) → Accepted demo ops.now b → IfErr result WantsMemory × IfOk result (λ out. IsNormalBytes b out.items) }
     ensures each_fault { (f : Failure) → FirstFault demo ops.now f → IsErr result × IfErr result (λ e. WantsMemory e ⊎ (e ≡ Parse f)) }
 {

@@ -14,7 +14,7 @@ fn operator_bytes<'a>(body: &NamedBody, bytes: &'a [u8], i: usize) -> &'a [u8] {
 }
 
 /// The line of an event: the operator's place and its bytes, or the place of a construct's opener
-/// and which clause took an exception.
+/// and which of its clauses caught an exception.
 fn push_event(
     alloc: Global,
     text: &mut String,
@@ -51,8 +51,8 @@ fn push_tags(alloc: Global, text: &mut String, tags: &BTreeSet<TagId>) -> Result
     Ok(())
 }
 
-/// The lines of a run of a body whose operators are these bytes: one for each event, and then its
-/// ending, without a line end.
+/// The lines of a run of a body with these bytes as its operators: one for each event, and then its
+/// ending, without the last line end.
 pub(crate) fn run_text(
     alloc: Global,
     body: &NamedBody,

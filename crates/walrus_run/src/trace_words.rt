@@ -15,12 +15,12 @@ fn digits(text: &str) -> Option<u64> {
     text.parse().ok()
 }
 
-/// The number of turns that a word spells, or none where it spells none.
+/// The number of turns that a word spells; none if it spells none.
 pub(crate) fn turns(word: &str) -> Option<u64> {
     digits(word)
 }
 
-/// The tags that stand behind an `r`, with a `+` between them, or none where no tags stand there.
+/// The tags that follow an `r`, with a `+` between them; none if the text isn't tags.
 fn tags(alloc: Global, text: &str) -> Result<Option<BTreeSet<TagId>>, AllocError> {
     let mut tags = BTreeSet::new(alloc);
     if text.is_empty() {
@@ -37,7 +37,7 @@ fn tags(alloc: Global, text: &str) -> Result<Option<BTreeSet<TagId>>, AllocError
     Ok(Some(tags))
 }
 
-/// The outcome that an item spells, or none where it spells none.
+/// The outcome that an item spells; none if it spells none.
 fn outcome(alloc: Global, item: &str) -> Result<Option<Outcome>, AllocError> {
     let outcome = match item {
         "g" => Some(Outcome::Go),
@@ -59,8 +59,8 @@ fn outcome(alloc: Global, item: &str) -> Result<Option<Outcome>, AllocError> {
     Ok(outcome)
 }
 
-/// The outcomes that a word spells: `-` where there are none, else items with a comma between them.
-/// The answer is none where the word spells no outcomes.
+/// The outcomes that a word spells: `-` for no outcomes, otherwise items with a comma between them.
+/// None if the word doesn't spell outcomes.
 pub(crate) fn outcomes(alloc: Global, word: &str) -> Result<Option<Vec<Outcome>>, AllocError> {
     let mut outcomes = Vec::new(alloc);
     if word == "-" {

@@ -3,12 +3,12 @@
 use crate::named_op::NamedCatch;
 use walrus_ir::TagId;
 
-/// What an operator does that neither opens, parts nor closes a construct. Labels are depths.
+/// What an operator that neither opens, parts nor closes a construct does. Labels are depths.
 #[derive(Clone, Copy)]
 pub enum Action<'a> {
-    /// Nothing at all.
+    /// Does nothing.
     Nop,
-    /// What any operator does that isn't named here.
+    /// Does what any other operator does: it goes on, traps or raises.
     Plain,
     /// Branches to a label.
     Branch(u32),
@@ -18,7 +18,7 @@ pub enum Action<'a> {
     TableBranch {
         /// The labels of the table's entries.
         targets: &'a [u32],
-        /// The label where the table has no such entry.
+        /// The label for every operand that is not below the number of `targets`.
         default: u32,
     },
     /// Returns from the function.
@@ -27,15 +27,15 @@ pub enum Action<'a> {
     Unreachable,
     /// Raises an exception of a tag.
     Throw(TagId),
-    /// Raises an exception that it is handed.
+    /// Raises the exception that is its operand.
     ThrowRef,
-    /// Raises the exception again that the handler of a label caught.
+    /// Raises again the exception that the handler of this label caught.
     Rethrow(u32),
-    /// Leaves the function by a call.
+    /// Leaves the function with a tail call.
     TailCall,
 }
 
-/// What an opener opens.
+/// The construct that an opener opens.
 #[derive(Clone, Copy)]
 pub enum Construct<'a> {
     /// A `block`.
@@ -50,7 +50,8 @@ pub enum Construct<'a> {
     TryTable(&'a [NamedCatch]),
 }
 
-/// What an operator does to the control.
+/// What an operator does to the control (WebAssembly core specification 3.0, execution,
+/// instructions).
 #[derive(Clone, Copy)]
 pub enum Control<'a> {
     /// An operator that neither opens, parts nor closes a construct.
@@ -65,7 +66,7 @@ pub enum Control<'a> {
     CatchAll,
     /// An `end`.
     End,
-    /// A `delegate`, with its label, as a depth that is counted from outside the construct.
+    /// A `delegate` with its label, a depth that is counted from outside the construct.
     Delegate(u32),
 }
 
@@ -74,7 +75,7 @@ impl Control<'_> {
     ghost use Rattle.walrus_run.specs.Controls.{control_meaning};
     ghost use Rattle.walrus_run.specs.Tables.{is_part};
 
-    /// Whether it parts a construct.
+    /// Whether it parts a construct: `else`, `catch` or `catch_all`.
     pub fn is_part(&self) -> bool
         ensures { result ≡ is_part (control_meaning self.now) }
     {

@@ -17,15 +17,15 @@ use std::alloc::{AllocError, Global};
 /// Where the steps of a turn lead.
 #[derive(Drop)]
 pub enum Stop {
-    /// To a place, by its position, behind a turn that is to be paid.
+    /// To a place, by its position, with a branch to a loop, which uses up a turn.
     Turn(usize),
     /// To the end of the run.
     Over(Ending),
 }
 
 impl<'a> State<'a> {
-    /// The steps from a place on, until a turn is to be paid or the run is over: at most as many as
-    /// there are operators from the place on, since no step within a turn goes back.
+    /// The steps from a place on, until a branch to a loop or the end of the run. There are at most
+    /// as many as operators from the place on, since only a branch to a loop goes back.
     fn turn(&mut self, table: &Table<'a>, from: usize) -> Result<Stop, AllocError>
         ensures { IfOk result (λ stop.
             Stops table.now (place_at table.now from) self.old stop self.new) }
@@ -46,7 +46,7 @@ impl<'a> State<'a> {
         Ok(Stop::Over(Ending::Returned))
     }
 
-    /// The run from the first operator on, with so many turns.
+    /// The run from the first operator on, with this many turns.
     fn run(&mut self, table: &Table<'a>, turns: u64) -> Result<Ending, AllocError>
         ensures { IfOk result (λ ending.
             run_on table.now self.old (M.bounded_run length turns (place_at table.now 0))
@@ -69,7 +69,7 @@ impl<'a> State<'a> {
     }
 }
 
-/// Runs the operators of a table for these outcomes and so many turns.
+/// Runs the operators of a table with these outcomes and this many turns.
 fn run_table<'a>(
     alloc: Global,
     table: &Table<'a>,
@@ -91,12 +91,13 @@ fn run_table<'a>(
     })
 }
 
-/// Runs a body for these outcomes, which its operators ask for one after the other, and so many
-/// turns of its loops. Outcomes that are left over mean nothing.
+/// Runs a body (WebAssembly core specification 3.0, execution, instructions). Its operators take
+/// these outcomes one after the other, and its loops have `turns` turns in all. Outcomes that
+/// remain at the end make no difference.
 ///
 /// # Errors
 ///
-/// Only that memory ran out: a run keeps its events.
+/// `AllocError` if memory runs out: a run records its events.
 pub fn execute(body: &NamedBody, outcomes: &[Outcome], turns: u64) -> Result<Run, AllocError>
     ensures { IfOk result (λ run. run_of run
         ≡ run_by_place (map control_of body.now.operators) (map outcome_of outcomes.now) turns) }

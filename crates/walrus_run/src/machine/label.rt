@@ -1,4 +1,4 @@
-//! Open labels, and what a construct answers an exception.
+//! Open labels, and how a construct responds to an exception.
 ghost use Rattle.std.specs.Prelude.{◌+◌, ◌^◌, ◌<◌};
 
 use crate::machine::control::Construct;
@@ -10,9 +10,9 @@ use walrus_ir::TagId;
 pub struct Label<'a> {
     /// The position of its opener.
     pub opener: usize,
-    /// What its opener opens.
+    /// The construct that its opener opened.
     pub construct: Construct<'a>,
-    /// The tags that it caught, where it is a handler.
+    /// The tags that it caught, if it is a handler.
     pub caught: Option<&'a BTreeSet<TagId>>,
     ghost fits: { opener + 1 < 2 ^ 64 },
 }
@@ -20,24 +20,26 @@ pub struct Label<'a> {
 /// What a construct does with an exception that leaves it.
 #[derive(Clone, Copy)]
 pub enum Response {
-    /// It passes it on.
+    /// It passes the exception outwards.
     Passes,
-    /// It hands it to the construct of a label, as a depth that is counted from outside.
+    /// It passes the exception to the construct of this label, a depth that is counted from outside
+    /// (`delegate`).
     Hands(u32),
-    /// A clause takes it, and branches to a label, as a depth that is counted from outside.
+    /// A clause catches it and branches to a label, a depth that is counted from outside
+    /// (`try_table`).
     Jumps {
         /// The clause's number.
         clause: usize,
-        /// The clause's tag, or none where it catches all.
+        /// The clause's tag; none if it catches all.
         tag: Option<TagId>,
         /// The label.
         label: u32,
     },
-    /// A clause takes it, and its handler is entered.
+    /// A clause catches it, and its handler is entered (legacy `try`).
     Enters {
         /// The clause's number.
         clause: usize,
-        /// The clause's tag, or none where it catches all.
+        /// The clause's tag; none if it catches all.
         tag: Option<TagId>,
         /// The place where the handler begins.
         place: usize,

@@ -13,7 +13,7 @@ use std::alloc::{AllocError, Global};
 use walrus_ir::TagId;
 use wasm_ops::Opcode;
 
-/// What an operator is to the control, by its opcode.
+/// The kind of an operator with respect to the control, from its opcode.
 #[derive(Clone, Copy)]
 pub enum Role {
     Unreachable,
@@ -73,7 +73,7 @@ fn byte_role(byte: u8) -> Role
     }
 }
 
-/// The role of an opcode behind the prefix 0xfb.
+/// The role of an opcode with the prefix 0xfb.
 fn aggregate_role(number: u32) -> Role
     ensures { role_meaning result ≡ unwrap_or (row_at C.aggregate_roles number) C.a_plain }
 {
@@ -101,7 +101,7 @@ fn opcode_role(opcode: Opcode) -> Role
 }
 
 impl NamedIndex {
-    /// The id's number.
+    /// The number of the id.
     fn number(&self) -> usize
         ensures { (is : List NamedImmediate)
             → result ≡ C.first_index (named_index self.now ∷ is) }
@@ -120,7 +120,7 @@ impl NamedIndex {
 }
 
 impl NamedImmediates {
-    /// The label, where there is one.
+    /// The label, or 0 if there is none.
     fn label(&self) -> u32
         ensures { result ≡ C.first_label (named_immediates self.now) }
     {
@@ -131,7 +131,7 @@ impl NamedImmediates {
         }
     }
 
-    /// The depth of a `rethrow` or a `delegate`, where there is one.
+    /// The depth of a `rethrow` or a `delegate`, or 0 if there is none.
     fn depth(&self) -> u32
         ensures { result ≡ C.first_depth (named_immediates self.now) }
     {

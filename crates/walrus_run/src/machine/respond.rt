@@ -13,7 +13,8 @@ use crate::named_op::NamedCatch;
 use std::collections::BTreeSet;
 use walrus_ir::TagId;
 
-/// What a `try_table` with these clauses does: the first that takes the exception is taken.
+/// What a `try_table` with these clauses does: the first clause that catches the exception
+/// branches.
 fn jump(clauses: &[NamedCatch], tags: &BTreeSet<TagId>) -> Response
     ensures { (cs : List Meaning) → response_of cs result
         ≡ M.jump tags.now.keys 0 (map clause_meaning clauses.now) }
@@ -34,8 +35,8 @@ fn jump(clauses: &[NamedCatch], tags: &BTreeSet<TagId>) -> Response
     Response::Passes
 }
 
-/// What a legacy `try` does that is left from its body: the first clause that takes the exception
-/// is entered, and one that `delegate` closes hands it on.
+/// What a legacy `try` does when an exception leaves its body: the handler of the first clause that
+/// catches it is entered; `delegate` passes it on.
 fn catch(table: &Table<'_>, opener: usize, tags: &BTreeSet<TagId>) -> Response
     ensures { response_of table.now result ≡ M.try_responds tags.now.keys
         (M.seek (M.catches tags.now.keys) 0 0 (place_at table.now (opener + 1))) }
@@ -62,7 +63,7 @@ fn catch(table: &Table<'_>, opener: usize, tags: &BTreeSet<TagId>) -> Response
 }
 
 impl<'a> Label<'a> {
-    /// The label as that of a handler, which caught these tags.
+    /// The label as that of a handler that caught these tags.
     pub fn handler(&self, tags: &'a BTreeSet<TagId>) -> Label<'a>
         ensures { (cs : List Meaning) → label_of cs result
             ≡ M.handler (label_of cs self.now) tags.now.keys }

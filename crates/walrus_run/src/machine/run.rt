@@ -1,35 +1,37 @@
-//! What the world answers a run, and what is told of it.
+//! The outcomes that a run takes, and the events that it records.
 
 use std::collections::BTreeSet;
 use walrus_ir::TagId;
 
-/// What the world answers an operator that asks for it.
+/// What happens at an operator as far as the control doesn't decide it: by its operands, the store,
+/// a callee or the host.
 #[derive(Drop)]
 pub enum Outcome {
     /// The operator goes on.
     Go,
     /// The operator traps.
     Trap,
-    /// The operator raises an exception, which a clause of each of these tags catches.
+    /// The operator raises an exception that a clause with any of these tags catches.
     Raise(BTreeSet<TagId>),
-    /// Whether the condition holds, or the branch is taken.
+    /// Whether the condition holds or the branch is taken.
     Way(bool),
-    /// The entry of a branch table, counted from 0; the default where the table has no such entry.
+    /// The operand of a `br_table`, counted from 0. It means the default if the table has no such
+    /// entry.
     Entry(u32),
 }
 
-/// What happened in a run. Operators are named by their positions in the list that runs.
+/// What happened in a run. Operators are given by their positions in the list that runs.
 #[derive(Clone, Copy, Debug, PartialEq, Eq)]
 pub enum Event {
     /// The operator at this position was executed.
     Op(usize),
-    /// A construct took an exception.
+    /// A construct caught an exception.
     Taken {
         /// The position of the construct's opener.
         i: usize,
-        /// The number of the clause that took it, counted from 0 among the construct's clauses.
+        /// The number of the clause that caught it, counted from 0 among the construct's clauses.
         clause: usize,
-        /// The clause's tag, or none where it catches all.
+        /// The clause's tag; none if it catches all.
         tag: Option<TagId>,
     },
 }
@@ -45,11 +47,11 @@ pub enum Ending {
     Trapped,
     /// An exception with these tags left the function.
     Escaped(BTreeSet<TagId>),
-    /// An operator asked for an outcome, and none was left.
+    /// An operator needed an outcome, and none was left.
     OutcomesOut,
     /// A branch went to a loop, and no turn was left.
     TurnsOut,
-    /// An operator got an outcome that it doesn't ask for.
+    /// An operator got an outcome of a kind that it can't have.
     Mismatch,
 }
 

@@ -1,4 +1,4 @@
-//! What the machine keeps while it runs, and branches, exceptions and ends of sequences.
+//! The state of the machine while it runs; branches, exceptions and ends of sequences.
 ghost use Rattle.std.specs.Prelude.{◌≡◌, ◌<◌, ◌≤◌, ◌∷◌, [], List, length, drop};
 ghost use Rattle.std.specs.Prelude.{IfOk, IfNone, IfSome, OnSome};
 ghost use Rattle.wasm_body.specs.Control.{Control as Meaning};
@@ -17,9 +17,9 @@ use walrus_ir::TagId;
 /// The state of a run.
 #[derive(Drop)]
 pub struct State<'a> {
-    /// The labels that are open, the innermost last.
+    /// The open labels, the innermost last.
     pub labels: Vec<Label<'a>>,
-    /// The outcomes that are left.
+    /// The outcomes that remain.
     pub outcomes: &'a [Outcome],
     /// What happened so far.
     pub events: Vec<Event>,
@@ -30,14 +30,14 @@ pub struct State<'a> {
 pub enum Next {
     /// To a place, by its position.
     On(usize),
-    /// To a place, by its position, behind a turn that is to be paid.
+    /// To a place, by its position, with a branch to a loop, which uses up a turn.
     Turn(usize),
     /// To the end of the run.
     Over(Ending),
 }
 
 impl<'a> State<'a> {
-    /// Tells that the operator at a position was executed.
+    /// Records that the operator at a position was executed.
     pub fn executed(&mut self, position: usize) -> Result<(), AllocError>
         ensures { IfOk result (λ _. Does self.old self.new (λ _ k ls o.
             M.then (M.Executed position) (k ls o))) }
@@ -46,7 +46,7 @@ impl<'a> State<'a> {
         self.events.extend_from_slice(&[Event::Op(position)])
     }
 
-    /// Tells that a clause of the construct that is opened at a position took an exception.
+    /// Records that a clause of the construct that was opened at a position caught an exception.
     fn taken(&mut self, i: usize, clause: usize, tag: Option<TagId>) -> Result<(), AllocError>
         ensures { IfOk result (λ _. Does self.old self.new (λ _ k ls o.
             M.then (M.Taken i clause tag) (k ls o))) }
@@ -55,7 +55,7 @@ impl<'a> State<'a> {
         Ok(())
     }
 
-    /// The next outcome, which is used up, or none where none is left.
+    /// Takes the next outcome; none if none remains.
     pub fn ask(&mut self) -> Option<&'a Outcome>
         ensures none { IfNone result (Finds self.old self.new (λ _ k ls o. k ls [])) }
         ensures some { IfSome result (λ x. Finds self.old self.new (λ _ k ls o.
@@ -79,7 +79,7 @@ impl<'a> State<'a> {
         Ok(())
     }
 
-    /// The innermost label, which is closed, or none where none is open.
+    /// Closes the innermost label and returns it; none if no label is open.
     fn leave_label(&mut self) -> Option<Label<'a>>
         ensures none { IfNone result (Finds self.old self.new (λ _ k ls o. k [] o)) }
         ensures some { IfSome result (λ l. Finds self.old self.new (λ cs k ls o.
@@ -90,7 +90,7 @@ impl<'a> State<'a> {
         self.labels.pop()
     }
 
-    /// Closes so many labels, the innermost first, as far as they are open.
+    /// Closes `n` labels, the innermost first, or all if fewer are open.
     fn close(&mut self, n: u32)
         ensures closed { Does self.old self.new (λ _ k ls o. k (drop n ls) o) }
         ensures no_more { length self.new.labels.items ≤ length self.old.labels.items }
@@ -99,8 +99,8 @@ impl<'a> State<'a> {
         self.labels.truncate(left);
     }
 
-    /// A branch to a label: to the operator behind a `loop`, behind the closer of another
-    /// construct, or out of the function.
+    /// A branch to a label: to the operator after a `loop`, past the closer of another construct,
+    /// or out of the function.
     pub fn branch(&mut self, table: &Table<'_>, n: u32) -> Result<Next, AllocError>
         ensures { IfOk result (λ next.
             Leads table.now (λ again go. M.branch again go n) self.old next self.new) }
@@ -118,7 +118,7 @@ impl<'a> State<'a> {
         }
     }
 
-    /// The end of a sequence, behind the closer of its construct, or out of the function.
+    /// The end of a sequence: leads past the closer of its construct, or out of the function.
     pub fn leave(&mut self, table: &Table<'_>) -> Next
         ensures { Leads table.now (λ again go. M.leave go) self.old result self.new }
     {
@@ -128,7 +128,7 @@ impl<'a> State<'a> {
         }
     }
 
-    /// An exception, which looks outwards from the innermost label.
+    /// An exception, which is passed outwards from the innermost label.
     pub fn raise(
         &mut self,
         table: &Table<'_>,
@@ -161,7 +161,7 @@ impl<'a> State<'a> {
         Ok(Next::Over(Ending::Escaped(tags)))
     }
 
-    /// The tags that the handler of a label caught, or none where the label is no handler.
+    /// The tags that the handler of a label caught; none if the label isn't that of a handler.
     pub fn caught_at(&self, n: u32) -> Option<&'a BTreeSet<TagId>>
         ensures { (cs : List Meaning)
             → M.caught_at (opens cs self.now.labels.items) n ≡ caught_in result }

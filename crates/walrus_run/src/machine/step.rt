@@ -15,7 +15,7 @@ use std::alloc::AllocError;
 use walrus_ir::TagId;
 
 impl<'a> State<'a> {
-    /// An operator that asks for `Go`, `Trap` or `Raise`.
+    /// An operator that takes the outcome `Go`, `Trap` or `Raise`.
     fn plain(&mut self, table: &Table<'_>, position: usize) -> Result<Next, AllocError>
         requires { position + 1 < 2 ^ 64 }
         ensures { IfOk result (λ next.
@@ -42,7 +42,7 @@ impl<'a> State<'a> {
         }
     }
 
-    /// A `throw`, which asks for `Raise` with its tag.
+    /// A `throw`, which takes the outcome `Raise` with its tag.
     fn throw(&mut self, table: &Table<'_>, position: usize, tag: TagId) -> Result<Next, AllocError>
         ensures { IfOk result (λ next.
             Steps table.now (C.Does (C.Throw tag)) position self.old next self.new) }
@@ -65,7 +65,7 @@ impl<'a> State<'a> {
         }
     }
 
-    /// A `throw_ref`, which asks for `Raise` or `Trap`.
+    /// A `throw_ref`, which takes the outcome `Raise` or `Trap`.
     fn throw_ref(&mut self, table: &Table<'_>, position: usize) -> Result<Next, AllocError>
         ensures { IfOk result (λ next.
             Steps table.now (C.Does C.ThrowRef) position self.old next self.new) }
@@ -87,7 +87,7 @@ impl<'a> State<'a> {
         }
     }
 
-    /// A tail call, which asks for `Go` or `Trap`.
+    /// A tail call, which takes the outcome `Go` or `Trap`.
     fn tail_call(&mut self, table: &Table<'_>, position: usize) -> Result<Next, AllocError>
         ensures { IfOk result (λ next.
             Steps table.now (C.Does C.TailCall) position self.old next self.new) }
@@ -110,7 +110,7 @@ impl<'a> State<'a> {
         }
     }
 
-    /// A branch that is taken or not, which asks for `Way`.
+    /// A conditional branch, which takes the outcome `Way`.
     fn conditional_branch(
         &mut self,
         table: &Table<'_>,
@@ -140,7 +140,7 @@ impl<'a> State<'a> {
         }
     }
 
-    /// A branch by a table, which asks for `Entry`.
+    /// A `br_table`, which takes the outcome `Entry`.
     fn table_branch(
         &mut self,
         table: &Table<'_>,
@@ -167,7 +167,7 @@ impl<'a> State<'a> {
         }
     }
 
-    /// A `rethrow`, which raises what the handler of a label caught.
+    /// A `rethrow`, which raises the tags that the handler of a label caught.
     fn rethrow(&mut self, table: &Table<'_>, position: usize, n: u32) -> Result<Next, AllocError>
         ensures { IfOk result (λ next.
             Steps table.now (C.Does (C.Rethrow n)) position self.old next self.new) }
@@ -201,8 +201,8 @@ impl<'a> State<'a> {
         Ok(())
     }
 
-    /// The way of an `if` that is not taken: behind its `else`, or behind its `end` where there is
-    /// none.
+    /// The way of an `if` whose condition doesn't hold: past its `else`, or past its `end` if there
+    /// is no `else`.
     fn other_way(&mut self, table: &Table<'_>, position: usize) -> Result<Next, AllocError>
         requires { position + 1 < 2 ^ 64 }
         ensures { IfOk result (λ next. Leads table.now (λ _ go ls o.
@@ -223,7 +223,7 @@ impl<'a> State<'a> {
         }
     }
 
-    /// An `if`, which asks for `Way`.
+    /// An `if`, which takes the outcome `Way`.
     fn enter_if(&mut self, table: &Table<'_>, position: usize) -> Result<Next, AllocError>
         requires { position + 1 < 2 ^ 64 }
         ensures { IfOk result (λ next.
@@ -359,7 +359,7 @@ impl<'a> State<'a> {
     }
 }
 
-/// The label of a table's entry: the default where there is no such entry.
+/// The label for an operand of a `br_table`: the default if the table has no such entry.
 fn target(targets: &[u32], default: u32, k: u32) -> u32
     ensures { result ≡ M.target targets.now default k }
 {

@@ -1,5 +1,5 @@
-//! The operators of a body as the machine runs them. Where each construct's parts and closer stand
-//! is found once, from the last operator back to the first.
+//! The operators of a body as the machine runs them. The parts and the closer of each construct are
+//! found once, from the last operator back to the first.
 ghost use Rattle.std.specs.Prelude.{◌≡◌, ◌+◌, ◌<◌, ◌≤◌, ℕ, List, length, map, slice_get};
 ghost use Rattle.std.specs.Prelude.{Some, true, IfOk};
 ghost use Rattle.wasm_body.specs.Control.{Control as Meaning};
@@ -15,26 +15,26 @@ use std::collections::BTreeSet;
 use std::marker::Model;
 use walrus_ir::{TagId, kind, law_ids};
 
-/// What stands ahead of a place in a construct around it, by positions.
+/// What is ahead of a place in a construct around it, as positions.
 #[derive(Clone, Copy)]
 pub struct Ahead {
     /// The next part of the construct, or its closer.
     pub part: usize,
-    /// The place behind the construct's closer.
+    /// The place after the construct's closer.
     pub behind: usize,
 }
 
-/// What stands ahead of a place in each construct around it, the innermost last.
+/// What is ahead of a place in each construct around it, the innermost last.
 #[derive(Drop)]
 pub struct Levels {
-    /// What stands ahead in each construct.
+    /// What is ahead in each construct.
     pub levels: Vec<Ahead>,
-    /// How many operators there are: the place where nothing stands.
+    /// How many operators there are: the place after the last.
     pub end: usize,
 }
 
 impl Levels {
-    /// What stands ahead in the innermost construct.
+    /// What is ahead in the innermost construct.
     fn innermost(&self) -> Ahead
         ensures { (cs : List Meaning) → (place : ℕ) → StandAhead cs place self.now
             → IsAhead cs 0 place result }
@@ -48,7 +48,7 @@ impl Levels {
         }
     }
 
-    /// Goes back over the operator at a position, from the place behind it to the place before it.
+    /// Goes back over the operator at a position, from the place after it to the place before it.
     fn go_back(&mut self, control: &Control<'_>, position: usize) -> Result<(), AllocError>
         requires { position < self.old.end }
         ensures end { self.new.end ≡ self.old.end }
@@ -81,7 +81,7 @@ impl Levels {
     }
 }
 
-/// The part of a construct that is wanted.
+/// Which part of a construct is wanted.
 #[derive(Clone, Copy)]
 pub enum Wanted<'a> {
     /// An `else`.
@@ -90,7 +90,7 @@ pub enum Wanted<'a> {
     Clause(&'a BTreeSet<TagId>),
 }
 
-/// Whether one of the tags is this one.
+/// Whether the tags contain this one.
 pub fn has_tag(tags: &BTreeSet<TagId>, tag: TagId) -> bool
     ensures { result ≡ has tags.now.keys tag }
 {
@@ -99,7 +99,7 @@ pub fn has_tag(tags: &BTreeSet<TagId>, tag: TagId) -> bool
 }
 
 impl Wanted<'_> {
-    /// Whether this operator is the part that is wanted.
+    /// Whether this operator is the wanted part.
     fn is(self, control: &Control<'_>) -> bool
         ensures { result ≡ test_of self.entry (control_meaning control.now) }
     {
@@ -111,7 +111,7 @@ impl Wanted<'_> {
         }
     }
 
-    /// Whether a search passes over this operator, which parts or closes the construct.
+    /// Whether a search continues past this operator, which parts or closes the construct.
     fn passes(self, control: &Control<'_>) -> bool
         ensures { result ≡ passes (test_of self.entry) (control_meaning control.now) }
     {
@@ -119,21 +119,20 @@ impl Wanted<'_> {
     }
 }
 
-/// Where a search among the parts of a construct ended: at the part that was wanted, or at the
-/// closer.
+/// Where a search among the parts of a construct ended: at the wanted part, or at the closer.
 #[derive(Clone, Copy)]
 pub struct Found {
-    /// How many parts it passed over.
+    /// How many parts the search passed.
     pub passed: usize,
-    /// Its position; the number of operators where the construct has no closer.
+    /// Its position; the number of operators if the construct has no closer.
     pub position: usize,
 }
 
-/// The operators of a body, by what each does to the control.
+/// The operators of a body, in terms of what each does to the control.
 #[derive(Drop)]
 pub struct Table<'a> {
     controls: Vec<Control<'a>>,
-    /// What stands ahead of the place behind each operator.
+    /// What is ahead of the place after each operator.
     ahead: Vec<Ahead>,
 }
 
@@ -178,7 +177,7 @@ impl<'a> Table<'a> {
         self.controls.len()
     }
 
-    /// What the operator at a position does to the control, or none where there is no operator.
+    /// What the operator at a position does to the control; none if there is no operator.
     pub fn control(&self, position: usize) -> Option<&Control<'a>>
         ensures control { control_at result ≡ slice_get self.now position }
         ensures fits { length self.now ≤ usize.MAX }
@@ -186,8 +185,8 @@ impl<'a> Table<'a> {
         self.controls.get(position)
     }
 
-    /// From behind the operator at a position: the next part of the construct around, or its
-    /// closer.
+    /// The next part, or else the closer, of the construct around the place after the operator at a
+    /// position.
     fn part(&self, position: usize) -> usize
         ensures { place_at self.now result
             ≡ (M.seek (λ _. true) 0 0 (place_at self.now (position + 1))).rest }
@@ -198,7 +197,7 @@ impl<'a> Table<'a> {
         }
     }
 
-    /// The place behind the closer of the construct that is opened at a position.
+    /// The place after the closer of the construct that is opened at a position.
     pub fn behind_closer(&self, opener: usize) -> usize
         ensures { place_at self.now result ≡ behind_closer (place_at self.now (opener + 1)) }
     {
@@ -208,8 +207,7 @@ impl<'a> Table<'a> {
         }
     }
 
-    /// Among the parts of the construct that is opened at a position: the first that is wanted, or
-    /// else the closer.
+    /// The first wanted part, or else the closer, of the construct that is opened at a position.
     pub fn seek(&self, wanted: Wanted<'_>, opener: usize) -> Found
         ensures { M.seek (test_of wanted.entry) 0 0 (place_at self.now (opener + 1))
             ≡ found result.passed (place_at self.now result.position) }

@@ -1,4 +1,4 @@
--- No clause so far takes the exception.
+-- No clause so far catches the exception.
 use Rattle.std.proofs.Common.{◌≡◌, ℕ, drop, map}
 use Rattle.wasm_body.specs.Machine as M
 use Rattle.walrus_run.specs.Controls.{clause_meaning}

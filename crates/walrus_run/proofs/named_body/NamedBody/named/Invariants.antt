@@ -1,4 +1,4 @@
--- What is taken stands before what is left.
+-- The operators taken come before the remaining ones.
 use Rattle.std.proofs.Common.{◌≡◌, List, length}
 use Rattle.wasm_body.specs.Naming.{Occurrence}
 use Rattle.walrus_run.specs.NamedBodies.{names_of}

@@ -1,4 +1,4 @@
--- What is named stands before the clauses that are left.
+-- The named clauses come before the remaining ones.
 use Rattle.std.proofs.Common.{◌≡◌, map}
 use Rattle.walrus_ir.specs.Results.{each}
 use Rattle.wasm_body.specs.Translation.{translate_clause}

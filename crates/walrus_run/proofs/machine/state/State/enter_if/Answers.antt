@@ -9,7 +9,7 @@ use Rattle.walrus_run.proofs.machine.state.State.enter_if.Goals as goal
 abbrev step : (again go : M.From ℕ) → List C.Control → (position : ℕ) → Onwards
 step again go cs i = M.enter go C.If i (place_at cs (i + 1))
 
--- the label that is opened, and the two ways
+-- the label that is opened, and both ways
 abbrev opened : List C.Control → (position : ℕ) → M.Label ℕ
 opened cs i = M.label i C.If (place_at cs (i + 1))
 

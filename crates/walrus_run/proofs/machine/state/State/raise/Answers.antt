@@ -9,7 +9,7 @@ use Rattle.walrus_run.specs.Tracing.{label_of, run_on}
 use Rattle.walrus_run.proofs.Tracing.{same_on, inner_raise}
 use Rattle.walrus_run.proofs.machine.state.State.raise.Goals as goal
 
--- how the run goes on with what the construct of the label answers
+-- how the run continues with the response of the label's construct
 answered : (again go : M.From ℕ) (cs : List C.Control) (tags : M.Tags) (l : Label) (s : State) {x y : M.Response ℕ} → x ≡ y →
     run_on cs s (λ ls o. M.react again go (M.raise again go tags ls o) tags (label_of cs l) ls o y) ≡ run_on cs s (λ ls o. M.react again go (M.raise again go tags ls o) tags (label_of cs l) ls o x)
 answered again go cs tags l s e = ap (λ r. run_on cs s (λ ls o. M.react again go (M.raise again go tags ls o) tags (label_of cs l) ls o r)) (sym e)

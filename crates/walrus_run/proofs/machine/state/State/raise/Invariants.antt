@@ -1,4 +1,4 @@
--- The exception looks outwards from the labels that are left.
+-- The exception is passed outwards, starting at the remaining labels.
 use Rattle.std.proofs.Common.{◌≡◌, ℕ, length}
 use Rattle.wasm_body.specs.Machine as M
 use Rattle.walrus_run.specs.Tracing.{run_on}

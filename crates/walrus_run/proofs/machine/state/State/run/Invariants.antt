@@ -1,4 +1,4 @@
--- The turns that are left come to what all come to.
+-- The remaining turns lead to the same run as all of them.
 use Rattle.std.proofs.Common.{◌≡◌, length}
 use Rattle.wasm_body.specs.Machine as M
 use Rattle.walrus_run.specs.Tables.{place_at}

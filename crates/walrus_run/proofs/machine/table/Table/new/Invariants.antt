@@ -1,4 +1,4 @@
--- What stands ahead is found of the operators from the position on, and of the place there.
+-- It is known what is ahead for the operators from the position on, and for the place at the position.
 use Rattle.std.proofs.Common.{◌≡◌, ◌+◌, length, map, reverse}
 use Rattle.walrus_run.specs.Controls.{control_meaning}
 use Rattle.walrus_run.specs.Tables.{StandAhead, AreAhead}

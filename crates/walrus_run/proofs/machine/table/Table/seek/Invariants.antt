@@ -1,4 +1,4 @@
--- A search for any part goes on as one for the wanted part.
+-- A search for any part continues as a search for the wanted part.
 use Rattle.std.proofs.Common.{◌≡◌, ◌+◌, ◌≤◌, length}
 use Rattle.wasm_body.specs.Machine.{seek}
 use Rattle.walrus_run.specs.Tables.{place_at, test_of}
