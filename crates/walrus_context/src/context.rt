@@ -141,8 +141,8 @@ impl<'a> ValidationContext<'a> {
         }
     }
 
-    /// The kind of the sequence of the n-th frame from the innermost, 0. The error is `NoSuchLabel`
-    /// if there are not so many frames.
+    /// The kind of the sequence of the n-th frame. Frames count from the innermost, which is 0. The
+    /// error is `NoSuchLabel` if at most `n` frames are open.
     pub fn kind_at(&self, n: usize) -> Result<BlockKind, ParseError>
         ensures { result ≡ kind_at self.now.frames n }
     {
@@ -308,7 +308,8 @@ impl<'a> ValidationContext<'a> {
         self.stack.kill()
     }
 
-    /// The n-th frame from the innermost, 0. The error is `NoSuchLabel` if there are not so many.
+    /// The n-th frame. Frames count from the innermost, which is 0. The error is `NoSuchLabel` if
+    /// at most `n` frames are open.
     pub fn control(&self, n: usize) -> Result<&ControlFrame, ParseError>
         ensures { MatchResult result (λ f. ShowsAt self.now.frames n f.now)
             (HasNoFrameAt self.now.frames n) }
@@ -319,12 +320,13 @@ impl<'a> ValidationContext<'a> {
         }
     }
 
-    /// Appends an instruction to the n-th frame from the innermost, 0, or drops it if that frame is
-    /// dead.
+    /// Appends an instruction to the n-th frame, or drops it if that frame is dead. Frames count
+    /// from the innermost, which is 0. Requires that the frames inside the n-th have no
+    /// instructions.
     ///
     /// # Errors
     ///
-    /// `NoSuchLabel` if there are not so many frames; `Memory` if memory runs out. Nothing is
+    /// `NoSuchLabel` if at most `n` frames are open; `Memory` if memory runs out. Nothing is
     /// changed then.
     pub fn alloc_instr_in_control(
         &mut self,

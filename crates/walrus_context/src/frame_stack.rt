@@ -22,7 +22,7 @@ pub fn pushed<T: Drop>(list: &mut Vec<T>, item: T) -> Result<(), ParseError>
     }
 }
 
-/// The index of the n-th frame from the innermost, if there are so many.
+/// The index of the n-th frame from the innermost, if more than `n` frames are open.
 #[inline(always)]
 fn index_of(controls: &ControlStack, n: usize) -> Option<usize>
     ensures { MatchOption result (length controls.now.items ≤ n)
@@ -93,7 +93,7 @@ impl FrameStack {
         }
     }
 
-    /// The n-th frame from the innermost.
+    /// The n-th frame. Frames count from the innermost, which is 0.
     pub fn get(&self, n: usize) -> Option<&ControlFrame>
         ensures { MatchOption result (length self.now ≤ n) (λ f. ShowsAt self.now n f.now) }
     {
@@ -171,7 +171,7 @@ impl FrameStack {
     }
 
     /// Appends an instruction to the n-th frame from the innermost, or drops it if that frame is
-    /// dead.
+    /// dead. Requires that the frames inside the n-th have no instructions.
     #[inline(always)]
     pub fn append(&mut self, n: usize, instr: Instr, location: InstrLocId) -> Result<(), ParseError>
         requires { InnerAreEmpty n self.old }

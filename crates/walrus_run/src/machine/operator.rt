@@ -142,7 +142,7 @@ impl NamedImmediates {
         }
     }
 
-    /// The tag, where there is one.
+    /// The tag, or the tag 0 if there is none.
     fn tag(&self) -> TagId
         ensures { result ≡ C.first_index (named_immediates self.now) }
     {
@@ -154,7 +154,7 @@ impl NamedImmediates {
         }
     }
 
-    /// The branch of a table, where there is one.
+    /// The branch of a table, or one to the label 0 if there is none.
     fn branches(&self) -> Action<'_>
         ensures { action_meaning result ≡ C.branches (named_immediates self.now) }
     {
@@ -170,7 +170,7 @@ impl NamedImmediates {
         }
     }
 
-    /// The clauses of a `try_table`, where there are any.
+    /// The clauses of a `try_table`, or none if it is another operator.
     fn clauses(&self) -> &[NamedCatch]
         ensures { map clause_meaning result.now ≡ C.catches (named_immediates self.now) }
     {
