@@ -8,7 +8,8 @@ use crate::types::Opcode::{Byte, Prefixed};
 use walrus_ir::ExtendedLoad::{SignExtend, ZeroExtend, ZeroExtendAtomic};
 use walrus_ir::{LoadKind, StoreKind};
 
-/// The opcode of a load.
+/// The opcode of a load (WebAssembly core specification 3.0, binary format, memory instructions;
+/// the proposal for threads).
 pub fn load_opcode(kind: LoadKind) -> Opcode
     ensures { result ≡ the_load_opcode kind }
 {
@@ -48,7 +49,8 @@ pub fn load_opcode(kind: LoadKind) -> Opcode
     }
 }
 
-/// The opcode of a store.
+/// The opcode of a store (WebAssembly core specification 3.0, binary format, memory instructions;
+/// the proposal for threads).
 pub fn store_opcode(kind: StoreKind) -> Opcode
     ensures { result ≡ the_store_opcode kind }
 {

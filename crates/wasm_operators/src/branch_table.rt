@@ -182,7 +182,8 @@ fn skip_labels(count: u32, bytes: &[u8]) -> Result<&[u8], ReadFault>
     Ok(rest)
 }
 
-/// Reads the labels of a `br_table` at the front. Returns them and the bytes that follow.
+/// Reads the labels of a `br_table` at the front (WebAssembly core specification 3.0, binary
+/// format, control instructions). Returns them and the bytes that follow.
 #[tactic(auto, unfolding(crate::specs::Immediates::label_table))]
 pub fn read_table(bytes: &[u8]) -> Result<(BrTable<'_>, &[u8]), ReadFault>
     ensures { Gives (λ x. (x.0, x.1.now)) result (label_table bytes.now) }

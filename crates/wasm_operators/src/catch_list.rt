@@ -181,7 +181,8 @@ fn skip_clauses(count: u32, bytes: &[u8]) -> Result<&[u8], ReadFault>
     Ok(rest)
 }
 
-/// Reads the clauses of a `try_table` at the front. Returns them and the bytes that follow.
+/// Reads the clauses of a `try_table` at the front (WebAssembly core specification 3.0, binary
+/// format, control instructions). Returns them and the bytes that follow.
 #[tactic(auto, unfolding(crate::specs::Immediates::catch_clauses))]
 pub fn read_clauses(bytes: &[u8]) -> Result<(CatchList<'_>, &[u8]), ReadFault>
     ensures { Gives (λ x. (x.0, x.1.now)) result (catch_clauses bytes.now) }

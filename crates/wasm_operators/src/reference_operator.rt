@@ -2,7 +2,8 @@
 
 use crate::types::{RawCast, RawHeapType};
 
-/// An operator on references, structs or arrays, as it is spelt.
+/// An operator on references, structs or arrays, as it is spelt (WebAssembly core specification
+/// 3.0, binary format, instructions): with raw indices, and labels as depths.
 #[derive(Clone, Copy)]
 pub enum ReferenceOp {
     /// `ref.null`

@@ -4,9 +4,9 @@ use std::fmt;
 use std::marker::Model;
 use walrus_ir::{AtomicOp, AtomicWidth, HeapType, ValType};
 
-/// The type of a value, with raw type indices.
+/// A value type, with raw type indices (WebAssembly core specification 3.0, binary format, types).
 pub type RawValType = ValType<u32>;
-/// What a reference refers to, with raw type indices.
+/// A heap type, with raw type indices (WebAssembly core specification 3.0, binary format, types).
 pub type RawHeapType = HeapType<u32>;
 
 /// The type of a block, as it is spelt (WebAssembly core specification 3.0, binary format, control
@@ -21,7 +21,8 @@ pub enum BlockType {
     FuncType(u32),
 }
 
-/// A memory argument, as it is spelt.
+/// A memory argument, as it is spelt (WebAssembly core specification 3.0, binary format, memory
+/// instructions).
 #[derive(Clone, Copy, Debug, PartialEq, Eq)]
 pub struct RawMemArg {
     /// The exponent of two of the alignment in bytes; at most 31.
@@ -32,7 +33,8 @@ pub struct RawMemArg {
     pub offset: u64,
 }
 
-/// The immediates of a branch on a cast, as they are spelt.
+/// The immediates of `br_on_cast` and `br_on_cast_fail`, as they are spelt (WebAssembly core
+/// specification 3.0, binary format, control instructions).
 #[derive(Clone, Copy, Debug, PartialEq, Eq)]
 pub struct RawCast {
     /// Whether the source type of the cast is nullable.
@@ -47,7 +49,7 @@ pub struct RawCast {
     pub target: RawHeapType,
 }
 
-/// What an atomic access other than a plain load or store does.
+/// What an atomic access other than a plain load or store does (the proposal for threads).
 #[derive(Clone, Copy, Debug)]
 pub enum AtomicKind {
     /// `memory.atomic.notify`
@@ -62,7 +64,7 @@ pub enum AtomicKind {
     Cmpxchg(AtomicWidth),
 }
 
-/// The index spaces of a module.
+/// The index spaces of a module (WebAssembly core specification 3.0, structure, modules, indices).
 #[derive(Clone, Copy, Debug, PartialEq, Eq, Hash)]
 pub enum Space {
     Tables,
@@ -90,16 +92,17 @@ impl fmt::Display for Space {
     }
 }
 
-/// What an operator begins with.
+/// The opcode of an operator (WebAssembly core specification 3.0, binary format, instructions).
 #[derive(Clone, Copy, Debug, PartialEq, Eq, Hash)]
 pub enum Opcode {
-    /// One byte.
+    /// An opcode of one byte.
     Byte(u8),
-    /// A prefix byte, and a number after it.
+    /// A prefix byte and the number after it.
     Prefixed(u8, u32),
 }
 
-/// A clause of `try_table`, as it is spelt. A contract sees the clause.
+/// A clause of `try_table`, as it is spelt (WebAssembly core specification 3.0, binary format,
+/// control instructions). A contract sees the clause.
 #[derive(Clone, Copy, Debug, PartialEq, Eq)]
 pub struct RawCatch {
     /// Whether it passes a reference to the exception, as `catch_ref` and `catch_all_ref` do.
