@@ -233,8 +233,8 @@ pub fn read_s64(bytes: &[u8]) -> Result<(i64, &[u8]), ReadFault>
     read_s64_of_any_length(bytes)
 }
 
-/// Reads an unsigned number of up to three bytes at the front, if there is one. Returns it and the
-/// bytes that follow.
+/// Reads an unsigned number of up to three bytes at the front, if there is one (WebAssembly core
+/// specification 3.0, binary format, values). Returns it and the bytes that follow.
 #[inline(always)]
 #[tactic(auto, using(crate::proofs::Powers::powers), unfolding(crate::specs::Numbers::integer))]
 pub fn read_short_unsigned(bytes: &[u8]) -> Option<(u32, &[u8])>
@@ -312,8 +312,8 @@ fn read_short_signed(bytes: &[u8]) -> Option<(i64, &[u8])>
     None
 }
 
-/// Reads an `s32` of up to three bytes at the front, if there is one. Returns it and the bytes that
-/// follow.
+/// Reads an `s32` of up to three bytes at the front, if there is one (WebAssembly core
+/// specification 3.0, binary format, values). Returns it and the bytes that follow.
 #[inline(always)]
 pub fn read_short_s32(bytes: &[u8]) -> Option<(i32, &[u8])>
     ensures { IfSome result (λ x. an_s32 bytes.now ≡ Ok (x.0, x.1.now)) }
@@ -322,8 +322,8 @@ pub fn read_short_s32(bytes: &[u8]) -> Option<(i32, &[u8])>
     Some((value as i32, rest))
 }
 
-/// Reads an `s64` of up to three bytes at the front, if there is one. Returns it and the bytes that
-/// follow.
+/// Reads an `s64` of up to three bytes at the front, if there is one (WebAssembly core
+/// specification 3.0, binary format, values). Returns it and the bytes that follow.
 #[inline(always)]
 pub fn read_short_s64(bytes: &[u8]) -> Option<(i64, &[u8])>
     ensures { IfSome result (λ x. an_s64 bytes.now ≡ Ok (x.0, x.1.now)) }
@@ -331,7 +331,8 @@ pub fn read_short_s64(bytes: &[u8]) -> Option<(i64, &[u8])>
     read_short_signed(bytes)
 }
 
-/// Reads a byte at the front. Returns it and the bytes that follow.
+/// Reads a byte at the front. Returns it and the bytes that follow. The error is `Truncated` if
+/// there is no byte.
 pub fn read_byte(bytes: &[u8]) -> Result<(u8, &[u8]), ReadFault>
     ensures { Gives (λ x. (x.0, x.1.now)) result (byte_at bytes.now) }
 {
@@ -368,7 +369,8 @@ fn read_bits(count: u32, bytes: &[u8]) -> Result<(u128, &[u8]), ReadFault>
     Ok((join_bytes(count, low, high), rest))
 }
 
-/// Reads the bits of an `f32` at the front. Returns them and the bytes that follow.
+/// Reads the bits of an `f32` at the front (WebAssembly core specification 3.0, binary format,
+/// values). Returns them and the bytes that follow.
 pub fn read_f32(bytes: &[u8]) -> Result<(u32, &[u8]), ReadFault>
     ensures { Gives (λ x. (x.0, x.1.now)) result (some_bits 4 bytes.now) }
 {
@@ -376,7 +378,8 @@ pub fn read_f32(bytes: &[u8]) -> Result<(u32, &[u8]), ReadFault>
     Ok((bits as u32, rest))
 }
 
-/// Reads the bits of an `f64` at the front. Returns them and the bytes that follow.
+/// Reads the bits of an `f64` at the front (WebAssembly core specification 3.0, binary format,
+/// values). Returns them and the bytes that follow.
 pub fn read_f64(bytes: &[u8]) -> Result<(u64, &[u8]), ReadFault>
     ensures { Gives (λ x. (x.0, x.1.now)) result (some_bits 8 bytes.now) }
 {
