@@ -5,8 +5,8 @@ ghost use Rattle.walrus_parser.specs.Ranges.{range_at};
 use std::ops::Range;
 
 /// The bytes of a function's body (WebAssembly core specification 3.0, binary format, code
-/// section): its operators begin at `bytes[ops]`, and the place of `bytes[i]`, its offset in the
-/// module, is `start + i`.
+/// section). Its operators begin at `bytes[ops]`. The place of `bytes[i]`, a byte offset, is `start
+/// + i`.
 #[derive(Clone, Copy, Debug)]
 pub struct FunctionBody<'a> {
     pub bytes: &'a [u8],
