@@ -218,7 +218,7 @@ impl<'a> ValidationContext<'a> {
     ///
     /// # Errors
     ///
-    /// `NotAFunctionType` if the id is that of another type; `Memory` if memory runs out.
+    /// `NotAFunctionType` if the id isn't that of a function type; `Memory` if memory runs out.
     pub fn push_control_with_ty(
         &mut self,
         kind: BlockKind,
