@@ -1,4 +1,4 @@
--- The first fault doesn't depend on the location function.
+-- Which fault is the first doesn't depend on what the location function answers.
 use Rattle.std.specs.Prelude.{◌≡◌, ℕ, zero, suc, ◌+◌, ◌-◌, List, [], ◌∷◌, length, Bool, true, false, Option, Some, None, Result, Ok, Err}
 use Rattle.std.proofs.Common.{refl, ap, sym, ◌∙◌}
 use Rattle.wasm_numbers.specs.declared.fault.ReadFault.{ReadFault}
@@ -11,45 +11,16 @@ use Rattle.wasm_body.specs.declared.error.ParseFailure.{ParseFailure}
 use Rattle.walrus_ir.specs.Results.{◌>>=◌, unless, with_fault}
 use Rattle.wasm_body.specs.Control.{control_of}
 use Rattle.wasm_body.specs.SourceTree.{Sequence, Body}
-use Rattle.wasm_body.specs.Frames.{Frame, moves, may_stand}
-use Rattle.wasm_body.specs.Translation.{translate}
-use Rattle.wasm_body.specs.Naming.{Environment, NamedOperation, Occurrence, position_fault, naming, named_in}
+use Rattle.wasm_body.specs.Frames.{Frame, moves}
+use Rattle.wasm_body.specs.Naming.{Environment, NamedOperation, Occurrence, named_in}
 use Rattle.wasm_body.specs.Parsing.Accepted.{mark, has_location, location_at, Setting, Handled, handled}
 use Rattle.wasm_body.specs.Parsing.Lists.{behind, parsed_from}
 use Rattle.wasm_body.specs.Parsing.Progress.{Layer, Progress, Within, Whole, NoBody, nothing_read, frames_of, further}
 use Rattle.wasm_body.proofs.Structure.ReadFrames.{progress_frames, further_frames}
-use Rattle.wasm_body.proofs.ReadBack.FrameNames.{map_frames, behind_frames, moves_frames, stand_frames, open_frames, handler_label_frames, outer_frames, named_of, results_at, types_in, types_named}
+use Rattle.wasm_body.proofs.ReadBack.FrameNames.{behind_frames, moves_frames, named_of, shapes, named_same}
 use Rattle.walrus_parser.specs.Checking.{placed_at}
 use Rattle.walrus_parser.specs.Settings.{Taken, taken, given_with, BothOrNone}
 use Rattle.walrus_parser.proofs.SoFars.{occurrence}
-
--- ---- what the naming of an operator depends on in the frames
-
-abbrev shapes : List (Frame Occurrence) → List (Frame NamedOperation)
-shapes = map_frames named_of
-
-module _ (env : Environment) where
-  abbrev named_by : List (Frame NamedOperation) → RawOperation → Result NamedOperation ParseError
-  named_by gs o =
-      unless (may_stand gs (control_of o)) (position_fault (control_of o)) >>= λ _.
-      translate (naming env gs) o >>= λ named.
-      types_in env (results_at gs) (control_of named) named >>= λ _.
-      Ok named
-
-  naming_is : (fs : List (Frame Occurrence)) → naming env fs ≡ naming env (shapes fs)
-  naming_is fs = λ i. record (naming env fs) {
-    label = λ n. (sym (open_frames named_of fs n)) i;
-    handler = λ n. (sym (handler_label_frames named_of fs n)) i;
-    outer = λ n. (sym (outer_frames named_of fs n)) i;
-  }
-
-  named_is : (fs : List (Frame Occurrence)) (o : RawOperation) → named_in env fs o ≡ named_by (shapes fs) o
-  named_is fs o =
-      (λ i. unless ((sym (stand_frames named_of fs (control_of o))) i) (position_fault (control_of o)) >>= λ _. translate (naming_is fs i) o >>= λ named. types_named env fs (control_of named) named i >>= λ _. Ok named)
-
-  -- an operator has the same name in frames that were opened by operators with the same names
-  pub named_same : (fs gs : List (Frame Occurrence)) (o : RawOperation) → shapes fs ≡ shapes gs → named_in env fs o ≡ named_in env gs o
-  named_same fs gs o e = named_is fs o ∙ ap (λ hs. named_by hs o) e ∙ sym (named_is gs o)
 
 -- ---- one fault
 
@@ -72,7 +43,7 @@ module _ {S : Type 0} (env : Environment) (start : ℕ) (check : S → Placed �
   abbrev given : Option (ℕ → ℕ) → Setting S
   given = given_with env start check first
 
-  -- an operator that was taken, and its name
+  -- an operator that was taken, with its name
   abbrev stepped : (ℕ → Bool) → S → List (Frame Occurrence) → ℕ → List ℕ → Result (NamedOperation × Taken S) ParseError
   stepped fits v fs place bytes = taken fits check v place bytes >>= λ t. named_in env fs t.spelt >>= λ named. Ok (named, t)
 

@@ -7,5 +7,6 @@ pub mod WritableTexts
 pub mod ClauseKinds
 pub mod Fitting
 pub mod NumberedBodies
+pub mod Faults
 pub mod OtherLocals
 pub mod EveryInstruction

@@ -6,7 +6,6 @@ pub mod KeptNames
 pub mod Rewritten
 pub mod WrittenTexts
 pub mod NamedTexts
-pub mod StandingFor
 pub mod NormalAgain
 pub mod ByNames
 pub mod SameTexts

@@ -8,3 +8,4 @@ pub mod NamedAgain
 pub mod PlacedBodies
 pub mod ReadingBack
 pub mod Undoing
+pub mod OtherLocations

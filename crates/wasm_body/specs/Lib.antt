@@ -12,6 +12,7 @@ pub mod FunctionTree
 pub mod InstructionTable
 pub mod TreeOfFunction
 pub mod NormalForm
+pub mod RewrittenTree
 pub mod Keeping
 pub mod Typed
 pub mod Intervals
@@ -21,8 +22,9 @@ pub mod Bytes
 pub mod Pairs
 pub mod TextLaws
 pub mod ReadBack
--- the numbers of a function's locals, and their declarations
+-- the numbers of a function's locals, and their declarations; why what a parse made can't be written
 pub mod LocalNumbers
+pub mod EmissionFaults
 -- the trace machine, and the laws that executions are kept, and that locations are honest along them
 pub mod Machine
 pub mod Places

@@ -1,15 +1,15 @@
 -- The laws of locations: the pairs that are written for a body's normal form say of each event of a run where in the source
 -- its operator stood.
-use Rattle.std.specs.Prelude.{◌≡◌, ℕ, List, [], ◌∷◌, map, Option, option_and_then, Ok}
+use Rattle.std.specs.Prelude.{◌≡◌, ℕ, List, map, Option, option_and_then, Ok}
 use Rattle.std.specs.List.{AllByRecursion}
 use Rattle.std.specs.List.Sorted.{IsStrictlyIncreasing}
-use Rattle.wasm_body.specs.Control.{Control, Else, Catch, CatchAll, End, Delegate, control_of, end_operation, else_operation, delegate_operation}
 use Rattle.wasm_body.specs.SourceTree.{Body}
-use Rattle.wasm_body.specs.Translation.{Located, at_location}
+use Rattle.wasm_body.specs.Translation.{Located}
 use Rattle.wasm_body.specs.Naming.{Environment, NamedOperation, Occurrence}
 use Rattle.wasm_body.specs.Parsing.Accepted.{HasSpelling, Lawful}
-use Rattle.wasm_body.specs.FunctionTree.{FunctionTree, default_location}
+use Rattle.wasm_body.specs.FunctionTree.{FunctionTree}
 use Rattle.wasm_body.specs.NormalForm.{Typing, typing_of, normal_form, name_at, body_tree}
+use Rattle.wasm_body.specs.RewrittenTree.{rewritten_text}
 use Rattle.wasm_body.specs.Bytes.{Numbers}
 use Rattle.wasm_body.specs.Typed.{AreTyped}
 use Rattle.wasm_body.specs.TextLaws.{IsNamedBody, IsTextOf}
@@ -32,35 +32,12 @@ PairsMatchText =
     (to : Numbers) (before : ℕ) (ps : List Pair) → tree_pairs to (normal_form m b) before ≡ Ok ps →
     map (λ (p : Pair). p.0) ps ≡ map (λ y. y.location) ys
 
--- ---- what the operators of a text stand for
-
--- an operator that parts or closes a construct
-abbrev pub IsMarker : Control → Type 0
-IsMarker Else = Unit {0}
-IsMarker (Catch tag) = Unit {0}
-IsMarker CatchAll = Unit {0}
-IsMarker End = Unit {0}
-IsMarker _ = ⊥
-
--- The operators of a text, in order, stand for those of a source, and hold their locations. An operator of the source is left
--- out; or the same one stands there; or one that parts or closes a construct as it does. An `end` stands there with an `else`
--- that is added before it: the `else` has the location of the source's `end`, and the `end` the default. So has a `delegate`.
-pub data StandFor : (source text : List (Located NamedOperation)) → Type 0 where
-  nothing : StandFor [] []
-  left_out : {x : Located NamedOperation} {xs ys : List (Located NamedOperation)} → StandFor xs ys → StandFor (x ∷ xs) ys
-  same : {x : Located NamedOperation} {xs ys : List (Located NamedOperation)} → StandFor xs ys → StandFor (x ∷ xs) (x ∷ ys)
-  marker : {x y : Located NamedOperation} {xs ys : List (Located NamedOperation)} → IsMarker (control_of y.op) →
-      control_of y.op ≡ control_of x.op → y.location ≡ x.location → StandFor xs ys → StandFor (x ∷ xs) (y ∷ ys)
-  added_else : {x : Located NamedOperation} {xs ys : List (Located NamedOperation)} → control_of x.op ≡ End → StandFor xs ys →
-      StandFor (x ∷ xs) (at_location else_operation x.location ∷ at_location end_operation default_location ∷ ys)
-  delegate : {x : Located NamedOperation} {xs ys : List (Located NamedOperation)} → (n : ℕ) → control_of x.op ≡ Delegate n → StandFor xs ys →
-      StandFor (x ∷ xs) (at_location (delegate_operation n) default_location ∷ ys)
-
--- The text of the normal form of a body of named operators stands for them.
-abbrev pub TextStandsFor : Type 0
-TextStandsFor =
+-- The text of the normal form of a body of named operators is that of the rewritten tree: which operator is written of which,
+-- and with which location, is said there.
+abbrev pub TextIsRewritten : Type 0
+TextIsRewritten =
     (m : Typing) (xs : List (Located NamedOperation)) (b : Body (Located NamedOperation)) → IsNamedBody xs b → AreTyped m xs →
-    (ys : List (Located NamedOperation)) → IsTextOf m (normal_form m b) ys → StandFor xs ys
+    IsTextOf m (normal_form m b) (rewritten_text b)
 
 -- ---- runs of what was written
 

@@ -1,10 +1,11 @@
 //! Laws of trees and texts, each the contract of a function that does nothing.
 ghost use Rattle.wasm_body.specs.ExecutionLaws.{NamedExecutionsKept, ExecutionsKept, RunsShowOperators, CountSuffices};
-ghost use Rattle.wasm_body.specs.LocationLaws.{PlacesIncrease, PairsMatchText, TextStandsFor, NamedLocationsAreHonest, LocationsAreHonest};
+ghost use Rattle.wasm_body.specs.LocationLaws.{PlacesIncrease, PairsMatchText, TextIsRewritten, NamedLocationsAreHonest, LocationsAreHonest};
 ghost use Rattle.wasm_body.specs.ReadBack.{ReadBack, NormalFormAgain, SameBytes, InverseUndoes, AcceptedAgain};
 ghost use Rattle.wasm_body.specs.TextLaws.{LawfulAreTyped, HaveTexts, NormalAgain, OneBody, OneSequence, SameTexts};
 ghost use Rattle.wasm_body.specs.LocalNumbers.{OneDeclared, OneLocalEach, PlacesAreNumbers, RunsAreMaximal};
-ghost use Rattle.wasm_body.specs.Parsing.Laws.{OneBodyAccepted, AcceptedHasNoFault, OneFirstFault, AcceptedOrFault, LongestFront};
+ghost use Rattle.wasm_body.specs.EmissionFaults.{EmissionFaults, DeclarationFaults};
+ghost use Rattle.wasm_body.specs.Parsing.Laws.{OneBodyAccepted, AcceptedHasNoFault, OneFirstFault, AcceptedOrFault, LongestFront, AnyLocations};
 
 /// A list is the text of one body at most, and begins in one way with a sequence and an operator
 /// that ends it.
@@ -21,6 +22,12 @@ pub fn law_one_answer<V>()
     ensures one_fault { OneFirstFault V }
     ensures either { AcceptedOrFault V }
     ensures longest { LongestFront V }
+{}
+
+/// A body that is accepted is accepted with every location function of a caller, as a body whose
+/// normal form is the same tree, locations aside. `V` is what a validator's state is.
+pub fn law_any_locations<V>()
+    ensures { AnyLocations V }
 {}
 
 /// The normal form of a body has a text, and the text is a body again: of each body of named
@@ -58,15 +65,16 @@ pub fn law_executions()
 
 /// Location pairs are honest along every run. The places of the pairs that are written for a tree
 /// strictly increase. Those of a body's normal form are one for each operator of its text, at its
-/// location; each operator of the text stands for one of the body, and has that one's location, but
-/// an `else` that is added has that of the `end` behind it, and this `end` and each `delegate` have
-/// the default. And whatever stands before the bytes, the pair at the place of the operator of an
+/// location. Its text is that of the rewritten body: an operator is left out, or written as it is, at
+/// its location; an `else`, a clause or an `end` is written at the location of the one that stood in
+/// its place; an `else` that is added has the location of the source's `end`; and the `end` after
+/// it, and each `delegate`, have the default location. And whatever stands before the bytes, the pair at the place of the operator of an
 /// event holds the location of the operator of the same event of the source's run (of an exception
 /// that is taken, of the openers).
 pub fn law_locations()
     ensures increase { PlacesIncrease }
     ensures of_text { PairsMatchText }
-    ensures stands_for { TextStandsFor }
+    ensures is_rewritten { TextIsRewritten }
     ensures named { NamedLocationsAreHonest }
     ensures accepted { LocationsAreHonest }
 {}
@@ -102,4 +110,12 @@ pub fn law_local_numbers()
     ensures one_local { OneLocalEach }
     ensures places { PlacesAreNumbers }
     ensures runs { RunsAreMaximal }
+{}
+
+/// Why what a parse made can't be written, by numbers of 32 bits: an id or a local has no number;
+/// or, of the declarations alone, there are too many locals. No other fault is possible: its tree
+/// has no branch outside, no unlawful clauses, and no depth or count that is too large.
+pub fn law_emission_faults()
+    ensures operators { EmissionFaults }
+    ensures declarations { DeclarationFaults }
 {}

@@ -1,6 +1,6 @@
 -- An accepted body's normal form has bytes, under numbers for all ids that its old indices and the types of its sequences
--- stand for.
-use Rattle.std.specs.Prelude.{◌≡◌, ℕ, suc, zero, List, [], ◌∷◌, length, map, Option, Some, None, unwrap_or, IsOk, is_ok, Result, Ok, Err}
+-- stand for; and it has bytes, or a fault of these, under numbers whose faults are these.
+use Rattle.std.specs.Prelude.{◌≡◌, ℕ, suc, zero, List, [], ◌∷◌, length, map, Option, Some, None, unwrap_or, IsOk, is_ok, IfErr, Result, Ok, Err}
 use Rattle.std.specs.List.{AllByRecursion}
 use Rattle.std.proofs.Common.{refl, ap, sym, subst, ◌∙◌}
 use Rattle.wasm_numbers.specs.Reading.{Many}
@@ -31,7 +31,7 @@ use Rattle.wasm_body.specs.Frames.{Frame}
 use Rattle.wasm_body.specs.Translation.{Translation, translate, translate_immediate, translate_immediates, Located}
 use Rattle.wasm_body.specs.Naming.{Environment, NamedOperation, Occurrence, naming, id_at, name_block, block_types, first_signature, stands, has_types, named_in}
 use Rattle.wasm_body.specs.FunctionTree.{Target, Depth}
-use Rattle.wasm_body.specs.NormalForm.{typing_of, construct_type, kept, kept_operation, name_at, named_body, normal_form}
+use Rattle.wasm_body.specs.NormalForm.{typing_of, construct_type, kept, kept_operation, name_at, named_body, body_tree}
 use Rattle.wasm_body.specs.FlatText.{Writing, then_by, typed}
 use Rattle.wasm_body.specs.Bytes.{Numbers, in_32_bits, numbers_in_32_bits, numbered_block, numbering, numbered_text, bytes_of, tree_bytes}
 use Rattle.wasm_body.specs.SourceTree.{Body}
@@ -42,7 +42,7 @@ use Rattle.wasm_body.proofs.Translation.Steps.{Leads, bound, all_of}
 use Rattle.wasm_body.proofs.Translation.Translations.{LeadAll, lead_all, translate_leads}
 use Rattle.wasm_body.proofs.NormalForm.Kept.{exponent_of-pow}
 use Rattle.wasm_body.proofs.NormalForm.KeptNames.{sure_number, kept_raw, kept_of}
-use Rattle.wasm_body.proofs.Translation.Answering.{AnswersWhere, OthersOk, first_ok, last_ok, all_ok, immediates_answer}
+use Rattle.wasm_body.proofs.Translation.Answering.{no_fault_ok, ok_no_fault, first_within, last_within, AnswersWhere, OthersWithin, immediates_answer}
 use Rattle.wasm_body.proofs.Translation.Kinds.{kind_in, raw_kinds, kinds_kept, only_tag, only_outer}
 
 -- ---- what is spelt fits 32 bits
@@ -134,13 +134,24 @@ HasText x = (text : List ℕ) × Spells x.spelt text
 
 -- ---- numbers
 
--- There are numbers of 32 bits for the ids that old indices and old locals stand for, and for the types of sequences.
-pub record HasNumbers (env : Environment) (to : Numbers) : Type 0 where
-  pub indices : (space : Space) (n id : ℕ) → env.id_of space n ≡ Ok id → IsOk ((numbers_in_32_bits to).number_of space id)
-  pub locals : (n id : ℕ) → env.local_of n ≡ Ok id → IsOk ((numbers_in_32_bits to).local_number id)
-  pub blocks : (b : BlockType) (s : Signature) (t : InstrSeqType) → name_block env b ≡ Ok s → pick env.types s ≡ Some t → IsOk (numbered_block to t)
+-- There are numbers of 32 bits, or faults of Q, for the ids that old indices and old locals stand for, and for the types of
+-- sequences.
+pub record AreNumbered (Q : EmitError → Type 0) (env : Environment) (to : Numbers) : Type 0 where
+  pub indices : (space : Space) (n id : ℕ) → env.id_of space n ≡ Ok id → IfErr ((numbers_in_32_bits to).number_of space id) Q
+  pub locals : (n id : ℕ) → env.local_of n ≡ Ok id → IfErr ((numbers_in_32_bits to).local_number id) Q
+  pub blocks : (b : BlockType) (s : Signature) (t : InstrSeqType) → name_block env b ≡ Ok s → pick env.types s ≡ Some t → IfErr (numbered_block to t) Q
 
-module _ (env : Environment) (to : Numbers) (has : HasNumbers env to) where
+-- what naming an operator in its place answers is its translation
+pub translated : (env : Environment) (fs : List (Frame Occurrence)) (o : RawOperation) (named : NamedOperation) → named_in env fs o ≡ Ok named → translate (naming env fs) o ≡ Ok named
+translated env fs o named e =
+    let types : NamedOperation → Result (Unit {0}) ParseError = λ n. has_types env fs (control_of n) n in
+    let stood = bound (stands fs (control_of o)) (λ u. translate (naming env fs) o >>= λ n. types n >>= λ v. Ok n) named e in
+    let found = bound (translate (naming env fs) o) (λ n. types n >>= λ v. Ok n) named stood.2 in
+    let typed = bound (types found.0) (λ v. Ok found.0) named found.2 in
+    let same : found.0 ≡ named = cc typed.2 in
+    found.1 ∙ ap Ok same
+
+module _ (Q : EmitError → Type 0) (env : Environment) (to : Numbers) (has : AreNumbered Q env to) where
   abbrev pub writing : Writing ℕ BlockType
   writing = then_by (numbering to)
 
@@ -176,127 +187,122 @@ module _ (env : Environment) (to : Numbers) (has : HasNumbers env to) where
     counts = λ n u e. refl;
   }
 
-  answers : {A : Type 0} (fs : List (Frame A)) (t : InstrSeqType) → IsOk (numbered_block to t) → AnswersWhere (naming env fs) (renumbered t)
+  answers : {A : Type 0} (fs : List (Frame A)) (t : InstrSeqType) → IfErr (numbered_block to t) Q → AnswersWhere Q (naming env fs) (renumbered t)
   answers fs t typed = record {
     indices = λ space n h. numbered space n (env.id_of space n) refl h;
     locals = λ n h. numbered_local n (env.local_of n) refl h;
     blocks = λ b h. typed;
   }
     where
-      numbered : (space : Space) (n : ℕ) (r : Result ℕ IndexError) → env.id_of space n ≡ r → IsOk (with_fault Index r) → IsOk ((numbers_in_32_bits to).number_of space (sure_number (id_at env space n)))
-      numbered space n (Ok id) e h = subst (λ r. IsOk ((numbers_in_32_bits to).number_of space (sure_number (with_fault Index r)))) (sym e) (has.indices space n id e)
+      numbered : (space : Space) (n : ℕ) (r : Result ℕ IndexError) → env.id_of space n ≡ r → IsOk (with_fault Index r) → IfErr ((numbers_in_32_bits to).number_of space (sure_number (id_at env space n))) Q
+      numbered space n (Ok id) e h = subst (λ r. IfErr ((numbers_in_32_bits to).number_of space (sure_number (with_fault Index r))) Q) (sym e) (has.indices space n id e)
       numbered space n (Err f) e h = absurd cc
 
-      numbered_local : (n : ℕ) (r : Result ℕ IndexError) → env.local_of n ≡ r → IsOk (with_fault Index r) → IsOk ((numbers_in_32_bits to).local_number (sure_number (with_fault Index (env.local_of n))))
-      numbered_local n (Ok id) e h = subst (λ r. IsOk ((numbers_in_32_bits to).local_number (sure_number (with_fault Index r)))) (sym e) (has.locals n id e)
+      numbered_local : (n : ℕ) (r : Result ℕ IndexError) → env.local_of n ≡ r → IsOk (with_fault Index r) → IfErr ((numbers_in_32_bits to).local_number (sure_number (with_fault Index (env.local_of n)))) Q
+      numbered_local n (Ok id) e h = subst (λ r. IfErr ((numbers_in_32_bits to).local_number (sure_number (with_fault Index r))) Q) (sym e) (has.locals n id e)
       numbered_local n (Err f) e h = absurd cc
 
-  others_ok : {A : Type 0} (fs : List (Frame A)) (t : InstrSeqType) (i : RawImmediate) → Fits i → OthersOk (naming env fs) (renumbered t) i
-  others_ok fs t (label l) f = f
-  others_ok fs t (handler n) f = f
-  others_ok fs t (outer n) f = f
-  others_ok fs t (number n) f = f
-  others_ok fs t (branch_table ts d) f = f
-  others_ok fs t (clauses cs) f = f
-  others_ok fs t (cast c) f = f
-  others_ok fs t _ f = tt
+  all_within : {A : Type 0} (f : A → Result ℕ EmitError) (xs : List A) → AllByRecursion (λ x. IsOk (f x)) xs → AllByRecursion (λ x. IfErr (f x) Q) xs
+  all_within f [] h = tt
+  all_within f (x ∷ xs) h = (ok_no_fault Q (f x) h.0, all_within f xs h.1)
 
-  all_others_ok : {A : Type 0} (fs : List (Frame A)) (t : InstrSeqType) (is : List RawImmediate) → AllByRecursion Fits is → AllByRecursion (OthersOk (naming env fs) (renumbered t)) is
-  all_others_ok fs t [] f = tt
-  all_others_ok fs t (i ∷ is) f = (others_ok fs t i f.0, all_others_ok fs t is f.1)
+  -- what fits has no fault
+  others_within : {A : Type 0} (fs : List (Frame A)) (t : InstrSeqType) (i : RawImmediate) → Fits i → OthersWithin Q (naming env fs) (renumbered t) i
+  others_within fs t (label l) f = ok_no_fault Q (in_32_bits l) f
+  others_within fs t (handler n) f = ok_no_fault Q (in_32_bits n) f
+  others_within fs t (outer n) f = ok_no_fault Q (in_32_bits n) f
+  others_within fs t (number n) f = ok_no_fault Q (in_32_bits n) f
+  others_within fs t (branch_table ts d) f = (ok_no_fault Q (counted (length ts)) f.0, all_within in_32_bits ts f.1, ok_no_fault Q (in_32_bits d) f.2)
+  others_within fs t (clauses cs) f = (ok_no_fault Q (counted (length cs)) f.0, all_within (λ (c : CatchClause ℕ). in_32_bits c.label) cs f.1)
+  others_within fs t (cast c) f = ok_no_fault Q (in_32_bits c.label) f
+  others_within fs t _ f = tt
+
+  all_others : {A : Type 0} (fs : List (Frame A)) (t : InstrSeqType) (is : List RawImmediate) → AllByRecursion Fits is → AllByRecursion (OthersWithin Q (naming env fs) (renumbered t)) is
+  all_others fs t [] f = tt
+  all_others fs t (i ∷ is) f = (others_within fs t i f.0, all_others fs t is f.1)
 
   ok_of : {A E : Type 0} (r : Result A E) (x : A) → r ≡ Ok x → IsOk r
   ok_of r x e = ap is_ok e
 
-  -- an operator that is read and named can be written
+  -- of an operator that is read and named the faults of writing are of Q
   written_operation : {A : Type 0} (fs : List (Frame A)) (t : InstrSeqType) (o : RawOperation) (text : List ℕ) (named : NamedOperation) →
-      Spells o text → translate (naming env fs) o ≡ Ok named → IsOk (numbered_block to t) → IsOk (translate (typed writing t) (kept_operation named))
+      Spells o text → translate (naming env fs) o ≡ Ok named → IfErr (numbered_block to t) Q → IfErr (translate (typed writing t) (kept_operation named)) Q
   written_operation fs t o text named spelt is type =
       let kept = kept_of env fs o named is in
       let lead = translate_leads (kept_raw env) (typed writing t) (renumbered t) o.immediates
       (lead_all (kept_raw env) (typed writing t) (renumbered t) (written_lead t) o.immediates (all_of (Leads (kept_raw env).block (typed writing t).block (renumbered t).block) (λ b d h. refl) (block_types o.immediates)))
       (kept_operation named).immediates kept.kept in
       let first = bound (translate_immediates (naming env fs) o.immediates) (λ js. Ok (record { opcode = o.opcode; immediates = js })) named is in
-      let h = immediates_answer (naming env fs) (renumbered t) (answers fs t type) o.immediates
-      (all_others_ok fs t o.immediates (all_spelt o.immediates spelt.others spelt.immediates)) (ok_of (translate_immediates (naming env fs) o.immediates) first.0 first.1) in
-      last_ok (translate_immediates (typed writing t) (kept_operation named).immediates) (λ js. record { opcode = named.opcode; immediates = js }) (subst (λ r. IsOk r) (sym lead) h)
+      let h = immediates_answer Q (naming env fs) (renumbered t) (answers fs t type) o.immediates
+      (all_others fs t o.immediates (all_spelt o.immediates spelt.others spelt.immediates)) (ok_of (translate_immediates (naming env fs) o.immediates) first.0 first.1) in
+      last_within Q (translate_immediates (typed writing t) (kept_operation named).immediates) (λ js. record { opcode = named.opcode; immediates = js }) (subst (λ r. IfErr r Q) (sym lead) h)
 
   -- ---- an operator of a body
 
   -- the type of the sequences in a construct is that of a block type, or of none
-  type_ok : (fs : List (Frame Occurrence)) (o : RawOperation) (named : NamedOperation) → translate (naming env fs) o ≡ Ok named → IsOk (numbered_block to (construct_type (typing_of env) named))
-  type_ok fs o named is =
+  type_within : (fs : List (Frame Occurrence)) (o : RawOperation) (named : NamedOperation) → translate (naming env fs) o ≡ Ok named → IfErr (numbered_block to (construct_type (typing_of env) named)) Q
+  type_within fs o named is =
       let first = bound (translate_immediates (naming env fs) o.immediates) (λ js. Ok (record { opcode = o.opcode; immediates = js })) named is in
       let same : named ≡ record { opcode = o.opcode; immediates = first.0 } = cc first.2 in
-      subst (λ (n : NamedOperation). IsOk (numbered_block to (construct_type (typing_of env) n))) (sym same) (by_blocks (block_types first.0) (blocks_from (naming env fs) o.immediates first.0 first.1))
+      subst (λ (n : NamedOperation). IfErr (numbered_block to (construct_type (typing_of env) n)) Q) (sym same) (by_blocks (block_types first.0) (blocks_from (naming env fs) o.immediates first.0 first.1))
     where
-      by_pick : (s : Signature) (b : BlockType) → name_block env b ≡ Ok s → (picked : Option InstrSeqType) → pick env.types s ≡ picked → IsOk (numbered_block to (unwrap_or (pick env.types s) (Simple None)))
-      by_pick s b e (Some t) p = subst (λ r. IsOk (numbered_block to (unwrap_or r (Simple None)))) (sym p) (has.blocks b s t e p)
-      by_pick s b e None p = subst (λ r. IsOk (numbered_block to (unwrap_or r (Simple None)))) (sym p) refl
+      by_pick : (s : Signature) (b : BlockType) → name_block env b ≡ Ok s → (picked : Option InstrSeqType) → pick env.types s ≡ picked → IfErr (numbered_block to (unwrap_or (pick env.types s) (Simple None))) Q
+      by_pick s b e (Some t) p = subst (λ r. IfErr (numbered_block to (unwrap_or r (Simple None))) Q) (sym p) (has.blocks b s t e p)
+      by_pick s b e None p = subst (λ r. IfErr (numbered_block to (unwrap_or r (Simple None))) Q) (sym p) tt
 
-      by_blocks : (ss : List Signature) → AllByRecursion (FromBlock (naming env fs)) ss → IsOk (numbered_block to (unwrap_or (pick env.types (first_signature ss)) (Simple None)))
-      by_blocks [] h = refl
+      by_blocks : (ss : List Signature) → AllByRecursion (FromBlock (naming env fs)) ss → IfErr (numbered_block to (unwrap_or (pick env.types (first_signature ss)) (Simple None))) Q
+      by_blocks [] h = tt
       by_blocks (s ∷ ss) h = by_pick s h.0.0 h.0.1 (pick env.types s) refl
 
-  -- what naming an operator in its place answers is its translation
-  pub translated : (fs : List (Frame Occurrence)) (o : RawOperation) (named : NamedOperation) → named_in env fs o ≡ Ok named → translate (naming env fs) o ≡ Ok named
-  translated fs o named e =
-      let types : NamedOperation → Result (Unit {0}) ParseError = λ n. has_types env fs (control_of n) n in
-      let stood = bound (stands fs (control_of o)) (λ u. translate (naming env fs) o >>= λ n. types n >>= λ v. Ok n) named e in
-      let found = bound (translate (naming env fs) o) (λ n. types n >>= λ v. Ok n) named stood.2 in
-      let typed = bound (types found.0) (λ v. Ok found.0) named found.2 in
-      let same : found.0 ≡ named = cc typed.2 in
-      found.1 ∙ ap Ok same
-
   -- what is written of an operator's one immediate
-  alone_ok : (o : NamedOperation) (i : Immediate ℕ Signature) (k : Immediate Target (Unit {0})) → o.immediates ≡ i ∷ [] → sure (translate_immediates kept (i ∷ [])) ≡ k ∷ [] →
-      IsOk (translate (typed writing (Simple None)) (kept_operation o)) → IsOk (translate_immediate (typed writing (Simple None)) k)
-  alone_ok o i k e kept_so h =
+  alone_within : (o : NamedOperation) (i : Immediate ℕ Signature) (k : Immediate Target (Unit {0})) → o.immediates ≡ i ∷ [] → sure (translate_immediates kept (i ∷ [])) ≡ k ∷ [] →
+      IfErr (translate (typed writing (Simple None)) (kept_operation o)) Q → IfErr (translate_immediate (typed writing (Simple None)) k) Q
+  alone_within o i k e kept_so h =
       let t = typed writing (Simple None) in
-      let all = first_ok (translate_immediates t (kept_operation o).immediates) (λ is. Ok (operation o.opcode is)) h in
+      let all = first_within Q (translate_immediates t (kept_operation o).immediates) (λ is. Ok (operation o.opcode is)) h in
       let alone : (kept_operation o).immediates ≡ k ∷ [] = ap (λ is. sure (translate_immediates kept is)) e ∙ kept_so in
-      (all_ok (translate_immediate t) (k ∷ []) (subst (λ is. IsOk (translate_immediates t is)) alone all)).0
+      first_within Q (translate_immediate t k) (λ j. Ok (j ∷ [])) (subst (λ is. IfErr (translate_immediates t is) Q) alone all)
 
-  tag_ok : (o : NamedOperation) → map kind_in o.immediates ≡ an_index Tags ∷ [] → IsOk (translate (typed writing (Simple None)) (kept_operation o)) → IsOk (writing.index Tags (first_index o.immediates))
-  tag_ok o p h =
+  tag_within : (o : NamedOperation) → map kind_in o.immediates ≡ an_index Tags ∷ [] → IfErr (translate (typed writing (Simple None)) (kept_operation o)) Q → IfErr (writing.index Tags (first_index o.immediates)) Q
+  tag_within o p h =
       let t = only_tag o.immediates p in
       let made : ℕ → Immediate ℕ BlockType = λ m. index Tags m in
-      subst (λ is. IsOk (writing.index Tags (first_index is))) (sym t.1)
-      (first_ok (writing.index Tags t.0) (λ m. Ok (made m)) (alone_ok o (index Tags t.0) (index Tags t.0) t.1 refl h))
+      subst (λ is. IfErr (writing.index Tags (first_index is)) Q) (sym t.1)
+      (first_within Q (writing.index Tags t.0) (λ m. Ok (made m)) (alone_within o (index Tags t.0) (index Tags t.0) t.1 refl h))
 
-  outer_ok : (o : NamedOperation) → map kind_in o.immediates ≡ an_outer ∷ [] → IsOk (translate (typed writing (Simple None)) (kept_operation o)) → IsOk (writing.outer (first_depth o.immediates))
-  outer_ok o p h =
+  outer_within : (o : NamedOperation) → map kind_in o.immediates ≡ an_outer ∷ [] → IfErr (translate (typed writing (Simple None)) (kept_operation o)) Q → IfErr (writing.outer (first_depth o.immediates)) Q
+  outer_within o p h =
       let d = only_outer o.immediates p in
       let made : ℕ → Immediate ℕ BlockType = λ m. outer m in
-      subst (λ is. IsOk (writing.outer (first_depth is))) (sym d.1)
-      (first_ok (writing.outer d.0) (λ m. Ok (made m)) (alone_ok o (outer d.0) (outer d.0) d.1 refl h))
+      subst (λ is. IfErr (writing.outer (first_depth is)) Q) (sym d.1)
+      (first_within Q (writing.outer d.0) (λ m. Ok (made m)) (alone_within o (outer d.0) (outer d.0) d.1 refl h))
 
   by_role : (r : Role) (a : Located NamedOperation) → Asks r (map kind_in a.op.immediates) →
-      IsOk (translate (typed writing (Simple None)) (kept_operation a.op)) → IsOk (translate (typed writing (construct_type (typing_of env) a.op)) (kept_operation a.op)) →
-      Writes writing (typing_of env) a (control_by r a.op.immediates)
+      IfErr (translate (typed writing (Simple None)) (kept_operation a.op)) Q → IfErr (translate (typed writing (construct_type (typing_of env) a.op)) (kept_operation a.op)) Q →
+      Writes Q writing (typing_of env) a (control_by r a.op.immediates)
   by_role a_block a p single opener = opener
   by_role a_loop a p single opener = opener
   by_role an_if a p single opener = opener
   by_role a_try a p single opener = opener
   by_role a_try_table a p single opener = opener
-  by_role a_catch a p single opener = tag_ok a.op p single
+  by_role a_catch a p single opener = tag_within a.op p single
   by_role a_catch_all a p single opener = tt
-  by_role a_delegate a p single opener = outer_ok a.op p single
+  by_role a_delegate a p single opener = outer_within a.op p single
   by_role an_else a p single opener = tt
   by_role an_end a p single opener = tt
   by_role _ a p single opener = single
 
   abbrev Written : Occurrence → Control → Type 0
-  Written x c = CanWrite writing (typing_of env) (name_at x) c
+  Written x c = CanWrite Q writing (typing_of env) (name_at x) c
 
   writes_occurrence : (x : Occurrence) (fs : List (Frame Occurrence)) → named_in env fs x.spelt ≡ Ok x.named → HasText x → Written x (control_of x.named)
   writes_occurrence x fs is has_text =
       let spelt = has_text.1 in
-      let named = translated fs x.spelt x.named is in
+      let named = translated env fs x.spelt x.named is in
       let asked = asks x.named.opcode (map kind_in x.named.immediates) (named_kinds env fs x.spelt x.named named spelt.kinds) (role_of x.named.opcode) refl in (
         refl,
-        by_role (role_of x.named.opcode) (name_at x) asked (written_operation fs (Simple None) x.spelt has_text.0 x.named spelt named refl)
-            (written_operation fs (construct_type (typing_of env) x.named) x.spelt has_text.0 x.named spelt named (type_ok fs x.spelt x.named named)),
+        by_role (role_of x.named.opcode) (name_at x) asked (written_operation fs (Simple None) x.spelt has_text.0 x.named spelt named tt)
+            (written_operation fs (construct_type (typing_of env) x.named) x.spelt has_text.0 x.named spelt named (type_within fs x.spelt x.named named)),
       )
 
   -- ---- a body
@@ -308,13 +314,34 @@ module _ (env : Environment) (to : Numbers) (has : HasNumbers env to) where
   all_written [] t h = tt
   all_written (x ∷ xs) t h = (writes_occurrence x h.0.0 h.0.1 t.0, all_written xs t.1 h.1)
 
-  pub body_text_ok : (xs : List Occurrence) (b : Body Occurrence) → AllByRecursion HasText xs → Lawful env xs b → IsOk (numbered_text to (normal_form (typing_of env) (named_body b)))
-  body_text_ok xs b texts lawful =
+  text_within : (xs : List Occurrence) (b : Body Occurrence) → AllByRecursion HasText xs → Lawful env xs b → IfErr (numbered_text to (body_tree env b)) Q
+  text_within xs b texts lawful =
       let named = named_somewhere env xs b lawful in
       let marks = subst (AllMarked Written) lawful.is_body (all_written xs texts named) in
       let each = (each_of Written b.sequence (with_control b.close End ∷ []) marks).0 in
-      normal_text writing (typing_of env) (named_body b) (each_reshown (CanWrite writing (typing_of env)) name_at b.sequence each)
+      normal_text Q writing (typing_of env) (named_body b) (each_reshown (CanWrite Q writing (typing_of env)) name_at b.sequence each)
 
-  -- Of an accepted body the normal form has bytes.
-  pub body_bytes_ok : (xs : List Occurrence) (b : Body Occurrence) → AllByRecursion HasText xs → Lawful env xs b → IsOk (tree_bytes to (normal_form (typing_of env) (named_body b)))
-  body_bytes_ok xs b texts lawful = last_ok (numbered_text to (normal_form (typing_of env) (named_body b))) bytes_of (body_text_ok xs b texts lawful)
+  -- Of an accepted body the normal form has bytes, or a fault of Q.
+  pub bytes_within : (xs : List Occurrence) (b : Body Occurrence) → AllByRecursion HasText xs → Lawful env xs b → IfErr (tree_bytes to (body_tree env b)) Q
+  bytes_within xs b texts lawful = last_within Q (numbered_text to (body_tree env b)) bytes_of (text_within xs b texts lawful)
+
+-- ---- with numbers for all
+
+-- There are numbers of 32 bits for the ids that old indices and old locals stand for, and for the types of sequences.
+pub record HasNumbers (env : Environment) (to : Numbers) : Type 0 where
+  pub indices : (space : Space) (n id : ℕ) → env.id_of space n ≡ Ok id → IsOk ((numbers_in_32_bits to).number_of space id)
+  pub locals : (n id : ℕ) → env.local_of n ≡ Ok id → IsOk ((numbers_in_32_bits to).local_number id)
+  pub blocks : (b : BlockType) (s : Signature) (t : InstrSeqType) → name_block env b ≡ Ok s → pick env.types s ≡ Some t → IsOk (numbered_block to t)
+
+abbrev no_fault : EmitError → Type 0
+no_fault e = ⊥
+
+-- Of an accepted body the normal form has bytes.
+pub body_bytes_ok : (env : Environment) (to : Numbers) → HasNumbers env to → (xs : List Occurrence) (b : Body Occurrence) → AllByRecursion HasText xs → Lawful env xs b → IsOk (tree_bytes to (body_tree env b))
+body_bytes_ok env to has xs b texts lawful =
+    let numbered : AreNumbered no_fault env to = record {
+      indices = λ space n id e. ok_no_fault no_fault ((numbers_in_32_bits to).number_of space id) (has.indices space n id e);
+      locals = λ n id e. ok_no_fault no_fault ((numbers_in_32_bits to).local_number id) (has.locals n id e);
+      blocks = λ b s t e p. ok_no_fault no_fault (numbered_block to t) (has.blocks b s t e p);
+    } in
+    no_fault_ok (tree_bytes to (body_tree env b)) (bytes_within no_fault env to numbered xs b texts lawful)

@@ -1,19 +1,18 @@
 -- The bytes of a tree are the same under numbers that agree at the locals that it names; and of a normal form these are
 -- among those that naming gave.
-use Rattle.std.specs.Prelude.{◌≡◌, ℕ, List, [], ◌∷◌, ◌++◌, Some, None, IsOk, Result, Ok, Err, if◌then◌else◌}
+use Rattle.std.specs.Prelude.{◌≡◌, ℕ, List, [], ◌∷◌, ◌++◌, Some, None, Result, Ok, Err, if◌then◌else◌}
 use Rattle.std.specs.List.{AllByRecursion}
 use Rattle.std.proofs.Common.{refl, ap, sym, subst, ◌∙◌}
 use Rattle.walrus_ir.specs.declared.val_type.InstrSeqType.{InstrSeqType}
 use Rattle.walrus_ir.specs.declared.val_type.InstrSeqType.TheVariants.{Simple, MultiValue}
 use Rattle.walrus_ir.specs.Results.{◌>>=◌, each, gather, with_fault}
-use Rattle.walrus_ir.specs.Tree.{Items, no_items, item, Sequences, no_sequences, sequence, alone}
-use Rattle.wasm_operators.specs.declared.types.BlockType.{BlockType}
+use Rattle.walrus_ir.specs.Tree.{Items, no_items, item, Sequences, no_sequences, sequence}
 use Rattle.wasm_operators.specs.Operations.{Immediate, local, Operation, operation, RawOperation}
 use Rattle.wasm_body.specs.declared.error.EmitError.{EmitError}
 use Rattle.wasm_body.specs.declared.error.EmitError.TheVariants.{BadClauses}
 use Rattle.wasm_body.specs.declared.error.IndexError.{IndexError}
 use Rattle.wasm_body.specs.declared.error.ParseError.TheVariants.{Index}
-use Rattle.wasm_body.specs.Control.{Role, a_block, a_loop, an_if, a_try, a_try_table, role_of, end_operation, Control, Action, control_of}
+use Rattle.wasm_body.specs.Control.{Role, a_block, a_loop, an_if, a_try, a_try_table, role_of, end_operation, Control}
 use Rattle.wasm_body.specs.SourceTree.{Sequence, Empty, Single, Wrapped, IfThen, IfElse, TryCatch, TryDelegate, Clauses, Ended, Catches, CatchesAll}
 use Rattle.wasm_body.specs.Frames.{Frame}
 use Rattle.wasm_body.specs.Translation.{Translation, translate, translate_immediate, translate_immediates, Located, at_location}
@@ -23,8 +22,8 @@ use Rattle.wasm_body.specs.NormalForm.{Typing, kept, kept_operation, Fate, Drops
 use Rattle.wasm_body.specs.FlatText.{TextOperation, Writing, then_by, typed, are_lawful, try_closers, if_closers, closers, written, opened, first_type, text, texts, tree_text}
 use Rattle.wasm_body.specs.LocalNumbers.{locals_among, locals_in, locals_inside, locals_of}
 use Rattle.wasm_body.specs.Bytes.{Numbers, in_32_bits, numbered_block, numbering, bytes_of, tree_bytes}
-use Rattle.wasm_body.proofs.Translation.Steps.{bound, after_one, after_two, ok-sure}
-use Rattle.wasm_body.proofs.Translation.Kinds.{kind_kept, kind_in, through, at_once}
+use Rattle.wasm_body.proofs.Translation.Steps.{bound, after_two, ok-sure}
+use Rattle.wasm_body.proofs.Translation.Kinds.{kind_kept, through, at_once}
 use Rattle.wasm_body.proofs.Translation.LocalsKept.{before, first_local, IsNoLocal, no_local, locals_kept}
 use Rattle.wasm_body.proofs.Structure.Along.{Each, EachIn}
 

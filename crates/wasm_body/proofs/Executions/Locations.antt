@@ -23,7 +23,8 @@ use Rattle.wasm_body.specs.ExecutionLaws.{controls, locations_of}
 use Rattle.wasm_body.specs.LocationLaws.{PlacesIncrease, written_run, locations_along, SayLocations, LocationsAreHonest}
 use Rattle.wasm_body.proofs.Translation.Steps.{bound}
 use Rattle.wasm_body.proofs.Structure.Along.{Each, Tells}
-use Rattle.wasm_body.proofs.NormalForm.Rewritten.{Named, rewritten_body}
+use Rattle.wasm_body.specs.RewrittenTree.{rewritten_body}
+use Rattle.wasm_body.proofs.NormalForm.Rewritten.{Named}
 use Rattle.wasm_body.proofs.NormalForm.WrittenTexts.{named_by, type_at, answer, tree_text_by}
 use Rattle.wasm_body.proofs.NormalForm.NamedTexts.{source_tells}
 use Rattle.wasm_body.proofs.Bytes.LawfulTyped.{lawful_named}

@@ -4,7 +4,8 @@ use Rattle.wasm_body.specs.Control.{Action, Nop, Plain, Branch, ConditionalBranc
 use Rattle.wasm_body.specs.SourceTree.{Sequence, Empty, Single, Wrapped, IfThen, IfElse, TryCatch, TryDelegate, Clauses, Ended, Catches, CatchesAll, Body}
 use Rattle.wasm_body.specs.NormalForm.{fate, typing_of, name_at, named_body}
 use Rattle.wasm_body.specs.TextLaws.{IsNamedBody}
-use Rattle.wasm_body.proofs.NormalForm.Rewritten.{Named, single_with_fate, rewritten, rewritten_clauses, rewritten_body, rewritten_list}
+use Rattle.wasm_body.specs.RewrittenTree.{single_with_fate, rewritten, rewritten_clauses, rewritten_body, rewritten_text}
+use Rattle.wasm_body.proofs.NormalForm.Rewritten.{Named}
 use Rattle.wasm_body.proofs.NormalForm.NamedTexts.{has_text, text_body}
 use Rattle.wasm_body.proofs.Bytes.LawfulTyped.{lawful_named}
 use Rattle.wasm_body.specs.Machine.{Outcome, run}
@@ -63,7 +64,7 @@ shown_alike v b c f xs ys hx hy o t =
 
 pub named_executions_kept : NamedExecutionsKept
 named_executions_kept m xs b hx h =
-    let ys = rewritten_list b in
+    let ys = rewritten_text b in
     let c = rewritten_body b in
     let rewrites = rewritten_rewrites b.sequence in
     let hy = text_body m xs b hx h in

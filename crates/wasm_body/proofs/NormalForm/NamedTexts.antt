@@ -13,7 +13,8 @@ use Rattle.wasm_body.specs.TextLaws.{IsNamedBody, IsTextOf, HaveTexts, mark_name
 use Rattle.wasm_body.proofs.NormalForm.Kept.{kept_written}
 use Rattle.wasm_body.proofs.Translation.Steps.{after_one, after_two}
 use Rattle.wasm_body.proofs.Structure.Along.{Each, AllMarked, Tells, weaker, along, all_of_each, is_body}
-use Rattle.wasm_body.proofs.NormalForm.Rewritten.{Named, IsTypedBy, typed_told, Sourced, end_at, rewritten, each_rewritten, rewritten_body, rewritten_list}
+use Rattle.wasm_body.specs.RewrittenTree.{end_at, rewritten, rewritten_body, rewritten_text}
+use Rattle.wasm_body.proofs.NormalForm.Rewritten.{Named, IsTypedBy, typed_told, Sourced, each_rewritten}
 use Rattle.wasm_body.proofs.NormalForm.WrittenTexts.{type_at, answer, named_by, named_written, tree_text_by}
 
 -- the type that an operator is written with stands for its block type
@@ -55,19 +56,19 @@ module _ (m : Typing) (xs : List Named) (b : Body Named) (hx : IsNamedBody xs b)
       each_rewritten (Sourced m) (IsTold m) (λ a action g. told m a (Does action) g) (λ a construct g. told m a (Opens construct) g)
       (λ l. (refl, tt)) (λ l. (refl, tt)) (λ a t l g. (refl, tt)) (λ l. (refl, tt)) (λ e n l g. (refl, tt)) b.sequence sourced
 
-  pub has_text : IsTextOf m (normal_form m b) (rewritten_list b)
+  pub has_text : IsTextOf m (normal_form m b) (rewritten_text b)
   has_text =
       tree_text_by (with_names m) m b source_tells
       ∙ all_answered m (body_text (rewritten_body b)) (all_of_each (IsTold m) (rewritten b.sequence) (with_control (end_at b.close.location) End ∷ []) rewritten_told ((refl, tt), tt))
 
-  pub text_body : IsNamedBody (rewritten_list b) (rewritten_body b)
+  pub text_body : IsNamedBody (rewritten_text b) (rewritten_body b)
   text_body = is_body (rewritten_body b) (weaker (IsTold m) Tells (λ a c g. g.0) (rewritten b.sequence) rewritten_told) refl
 
   -- the text of the normal form is the rewritten body
   pub text_is_body : (ys : List Named) → IsTextOf m (normal_form m b) ys → IsNamedBody ys (rewritten_body b)
   text_is_body ys hy =
-      let same : Ok (rewritten_list b) ≡ Ok ys = sym has_text ∙ hy in
-      let e : rewritten_list b ≡ ys = cc in ap (map mark_named) (sym e) ∙ text_body
+      let same : Ok (rewritten_text b) ≡ Ok ys = sym has_text ∙ hy in
+      let e : rewritten_text b ≡ ys = cc in ap (map mark_named) (sym e) ∙ text_body
 
 pub have_texts : HaveTexts
-have_texts m xs b hx h = record { text = rewritten_list b; body = rewritten_body b; is_text = has_text m xs b hx h; is_body = text_body m xs b hx h }
+have_texts m xs b hx h = record { text = rewritten_text b; body = rewritten_body b; is_text = has_text m xs b hx h; is_body = text_body m xs b hx h }

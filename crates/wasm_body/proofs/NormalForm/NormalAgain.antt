@@ -8,7 +8,8 @@ use Rattle.wasm_body.specs.Naming.{NamedOperation}
 use Rattle.wasm_body.specs.FunctionTree.{handles, delegates, Bare, bare, bare_items, bare_sequences}
 use Rattle.wasm_body.specs.NormalForm.{Typing, Fate, Drops, Stays, Cuts, fate, instruction, kept_operation, with_fate, construct_type, handler_type, legacy_clauses, normal, handlers}
 use Rattle.wasm_body.specs.TextLaws.{NormalAgain}
-use Rattle.wasm_body.proofs.NormalForm.Rewritten.{Named, single_with_fate, rewritten, rewritten_clauses, rewritten_body}
+use Rattle.wasm_body.specs.RewrittenTree.{single_with_fate, rewritten, rewritten_clauses, rewritten_body}
+use Rattle.wasm_body.proofs.NormalForm.Rewritten.{Named}
 use Rattle.wasm_body.proofs.NormalForm.NamedTexts.{text_is_body}
 use Rattle.wasm_body.proofs.Structure.ReadingTrees.{one_body}
 

@@ -1,14 +1,14 @@
--- The rewritten tree, of which the text is that of the normal form.
-use Rattle.std.proofs.Common.{◌≡◌, ℕ, List, [], ◌∷◌, map, true, refl, ap, ◌∙◌, subst}
+-- What holds of each operator of the rewritten tree.
+use Rattle.std.proofs.Common.{◌≡◌, ℕ, List, [], ◌∷◌, true, refl, ap, ◌∙◌, subst}
 use Rattle.walrus_ir.specs.Tree.{Items, Sequences, no_sequences, sequence}
-use Rattle.wasm_operators.specs.declared.types.Space.TheVariants.{Tags}
-use Rattle.wasm_operators.specs.Operations.{Immediate, index, operation}
-use Rattle.wasm_body.specs.Control.{Role, a_block, role_of, Action, Construct, Block, Loop, If, Try, TryTable, Control, Does, Opens, Else, Catch, CatchAll, End, Delegate, control_by, end_operation, else_operation, catch_opcode, catch_all_operation, delegate_operation}
-use Rattle.wasm_body.specs.SourceTree.{Sequence, Empty, Single, Wrapped, IfThen, IfElse, TryCatch, TryDelegate, Clauses, Ended, Catches, CatchesAll, Wrapper, OfBlock, OfLoop, OfTryTable, construct_of, Body, body_text}
-use Rattle.wasm_body.specs.Translation.{Located, at_location}
+use Rattle.wasm_operators.specs.Operations.{Immediate}
+use Rattle.wasm_body.specs.Control.{Role, a_block, role_of, Action, Construct, Block, Loop, If, Try, TryTable, Control, Does, Opens, Else, Catch, CatchAll, End, Delegate, control_by, end_operation}
+use Rattle.wasm_body.specs.SourceTree.{Sequence, Empty, Single, Wrapped, IfThen, IfElse, TryCatch, TryDelegate, Clauses, Ended, Catches, CatchesAll, Wrapper, OfBlock, OfLoop, OfTryTable, construct_of}
+use Rattle.wasm_body.specs.Translation.{Located}
 use Rattle.wasm_body.specs.Naming.{NamedOperation, block_types}
 use Rattle.wasm_body.specs.FunctionTree.{Head, LegacyClause, Instruction, default_location}
 use Rattle.wasm_body.specs.NormalForm.{Typing, Fate, Drops, Stays, Cuts, fate, legacy_clauses}
+use Rattle.wasm_body.specs.RewrittenTree.{end_at, else_at, catch_at, catch_all_at, delegate_at, single_with_fate, rewritten, rewritten_clauses}
 use Rattle.wasm_body.specs.FlatText.{TextOperation, are_lawful, are_handlers, if_closers, try_closers, closers}
 use Rattle.wasm_body.specs.Typed.{IsOpener, IsTypedAs}
 use Rattle.wasm_body.proofs.Structure.Along.{Each, EachIn, Tells}
@@ -16,57 +16,12 @@ use Rattle.wasm_body.proofs.Structure.Along.{Each, EachIn, Tells}
 abbrev pub Named : Type 0
 Named = Located NamedOperation
 
--- ---- The rewritten tree: the operators that part and close constructs are written anew, at the end locations of the
--- sequences before them.
-
-abbrev pub end_at : ℕ → Named
-end_at l = at_location end_operation l
-
-abbrev pub else_at : ℕ → Named
-else_at l = at_location else_operation l
-
-abbrev pub catch_at : ℕ → ℕ → Named
-catch_at t l = at_location (operation catch_opcode (index Tags t ∷ [])) l
-
-abbrev pub catch_all_at : ℕ → Named
-catch_all_at l = at_location catch_all_operation l
-
-abbrev pub delegate_at : ℕ → ℕ → Named
-delegate_at n l = at_location (delegate_operation n) l
-
--- an operator by itself, before what follows
-abbrev pub single_with_fate : Fate → Named → Action → Sequence Named → Sequence Named
-single_with_fate Drops a action rest = rest
-single_with_fate Stays a action rest = Single a action rest
-single_with_fate Cuts a action rest = Single a action Empty
-
-abbrev mutual
-  pub rewritten : Sequence Named → Sequence Named
-  rewritten Empty = Empty
-  rewritten (Single a action r) = single_with_fate (fate action) a action (rewritten r)
-  rewritten (Wrapped a w b e r) = Wrapped a w (rewritten b) (end_at e.location) (rewritten r)
-  rewritten (IfThen a b e r) = IfElse a (rewritten b) (else_at e.location) Empty (end_at default_location) (rewritten r)
-  rewritten (IfElse a b l c e r) = IfElse a (rewritten b) (else_at l.location) (rewritten c) (end_at e.location) (rewritten r)
-  rewritten (TryCatch a b cs r) = TryCatch a (rewritten b) (rewritten_clauses cs) (rewritten r)
-  rewritten (TryDelegate a b e n r) = TryDelegate a (rewritten b) (delegate_at n default_location) n (rewritten r)
-
-  pub rewritten_clauses : Clauses Named → Clauses Named
-  rewritten_clauses (Ended e) = Ended (end_at e.location)
-  rewritten_clauses (Catches a t b cs) = Catches (catch_at t a.location) t (rewritten b) (rewritten_clauses cs)
-  rewritten_clauses (CatchesAll a b e) = CatchesAll (catch_all_at a.location) (rewritten b) (end_at e.location)
-
-abbrev pub rewritten_body : Body Named → Body Named
-rewritten_body b = record { sequence = rewritten b.sequence; close = end_at b.close.location }
-
-abbrev pub rewritten_list : Body Named → List Named
-rewritten_list b = map (λ x. x.shown) (body_text (rewritten_body b))
-
 -- an operator of the source: it tells its control and is typed
 abbrev pub Sourced : Typing → Named → Control → Type 0
 Sourced m a c = Tells a c × IsTypedAs m (role_of a.op.opcode) a.op
 
 -- ---- What holds of each of its operators: an operator by itself and an opener are as they were, those that part and close
--- constructs stand for others.
+-- constructs are written anew.
 
 module _ (P Q : Named → Control → Type 0)
     (kept : (a : Named) (action : Action) → P a (Does action) → Q a (Does action))

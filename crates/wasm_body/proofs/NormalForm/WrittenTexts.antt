@@ -28,7 +28,8 @@ use Rattle.wasm_body.proofs.NormalForm.Kept.{exponent_of-pow}
 use Rattle.wasm_body.proofs.Structure.Along.{Each, EachIn, Tells}
 use Rattle.wasm_body.proofs.Translation.Steps.{Leads, after_one, after_two, all_of, each-ok, ok-sure, bound}
 use Rattle.wasm_body.proofs.Translation.Translations.{LeadAll, lead_all, translate_leads}
-use Rattle.wasm_body.proofs.NormalForm.Rewritten.{Named, closers_by, closers_told, wrapper_closers, clauses_lawful, end_at, else_at, catch_at, catch_all_at, delegate_at, single_with_fate, rewritten, rewritten_clauses, rewritten_body}
+use Rattle.wasm_body.specs.RewrittenTree.{end_at, else_at, catch_at, catch_all_at, delegate_at, single_with_fate, rewritten, rewritten_clauses, rewritten_body}
+use Rattle.wasm_body.proofs.NormalForm.Rewritten.{Named, closers_by, closers_told, wrapper_closers, clauses_lawful}
 
 -- ---- what is written of a named operator that the tree keeps
 

@@ -226,3 +226,31 @@ module _ (env : Environment) (fs : List (Frame Occurrence)) where
       ap (λ b. unless b (position_fault (control_of o)) >>= λ _. next (translate (naming env fs) o)) may
       ∙ (ap next e
       ∙ ap (λ (t : Result (Unit {0}) ParseError). t >>= λ _. Ok named) (types_named env fs (control_of named) named ∙ r.typed))
+
+-- ---- frames that were opened by operators of the same names
+
+abbrev pub shapes : List (Frame Occurrence) → List (Frame NamedOperation)
+shapes = map_frames named_of
+
+module _ (env : Environment) where
+  abbrev named_by : List (Frame NamedOperation) → RawOperation → Result NamedOperation ParseError
+  named_by gs o =
+      unless (may_stand gs (control_of o)) (position_fault (control_of o)) >>= λ _.
+      translate (naming env gs) o >>= λ named.
+      types_in env (results_at gs) (control_of named) named >>= λ _.
+      Ok named
+
+  naming_is : (fs : List (Frame Occurrence)) → naming env fs ≡ naming env (shapes fs)
+  naming_is fs = λ i. record (naming env fs) {
+    label = λ n. (sym (open_frames named_of fs n)) i;
+    handler = λ n. (sym (handler_label_frames named_of fs n)) i;
+    outer = λ n. (sym (outer_frames named_of fs n)) i;
+  }
+
+  named_is : (fs : List (Frame Occurrence)) (o : RawOperation) → named_in env fs o ≡ named_by (shapes fs) o
+  named_is fs o =
+      (λ i. unless ((sym (stand_frames named_of fs (control_of o))) i) (position_fault (control_of o)) >>= λ _. translate (naming_is fs i) o >>= λ named. types_named env fs (control_of named) named i >>= λ _. Ok named)
+
+  -- they name an operator alike
+  pub named_same : (fs gs : List (Frame Occurrence)) (o : RawOperation) → shapes fs ≡ shapes gs → named_in env fs o ≡ named_in env gs o
+  named_same fs gs o e = named_is fs o ∙ ap (λ hs. named_by hs o) e ∙ sym (named_is gs o)

@@ -30,7 +30,8 @@ use Rattle.wasm_body.proofs.Structure.ReadFrames.{Goes, body_goes, goes_body}
 use Rattle.wasm_body.proofs.Structure.Reshown.{remarked, text_reshown, is_named_body}
 use Rattle.wasm_body.proofs.Structure.Lifted.{lifted_body}
 use Rattle.wasm_body.proofs.NormalForm.ByNames.{op_of, same_by_names}
-use Rattle.wasm_body.proofs.NormalForm.Rewritten.{Named, end_at, rewritten, rewritten_body}
+use Rattle.wasm_body.specs.RewrittenTree.{end_at, rewritten, rewritten_body}
+use Rattle.wasm_body.proofs.NormalForm.Rewritten.{Named}
 use Rattle.wasm_body.proofs.NormalForm.NamedTexts.{have_texts}
 use Rattle.wasm_body.proofs.NormalForm.NormalAgain.{again as rewritten_again, normal_again}
 use Rattle.wasm_body.proofs.NormalForm.SameTexts.{same_bytes}

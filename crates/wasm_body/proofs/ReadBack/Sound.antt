@@ -20,7 +20,8 @@ use Rattle.wasm_body.proofs.Structure.Along.{Tells}
 use Rattle.wasm_body.proofs.Parsing.NamingLemmas.{same_opcode, named_parts}
 use Rattle.wasm_body.proofs.Bytes.NumberedBodies.{HasText, named_kinds}
 use Rattle.wasm_body.proofs.Bytes.LawfulTyped.{named_typed}
-use Rattle.wasm_body.proofs.NormalForm.Rewritten.{Named, typed_told, end_at, else_at, catch_at, catch_all_at, delegate_at, single_with_fate, rewritten, rewritten_clauses}
+use Rattle.wasm_body.specs.RewrittenTree.{end_at, else_at, catch_at, catch_all_at, delegate_at, single_with_fate, rewritten, rewritten_clauses}
+use Rattle.wasm_body.proofs.NormalForm.Rewritten.{Named, typed_told}
 use Rattle.wasm_body.proofs.NormalForm.WrittenTexts.{type_at}
 use Rattle.wasm_body.proofs.NormalForm.ByNames.{op_of}
 use Rattle.wasm_body.proofs.NormalForm.NamedTexts.{stands_at}

@@ -20,7 +20,8 @@ use Rattle.wasm_body.specs.FlatText.{tree_text, with_ids}
 use Rattle.wasm_body.specs.Bytes.{Numbers}
 use Rattle.wasm_body.specs.ReadBack.{EachInHeap, EachInValue, EachInTag, EachIn, IsUndone, IsUndoneLocal, IsUndoneType, AreUndone, IsInverse, InverseUndoes}
 use Rattle.wasm_body.proofs.Structure.Along.{Each, AllMarked, Tells, each_of, all_of_each, each_reshown, weaker}
-use Rattle.wasm_body.proofs.NormalForm.Rewritten.{Named, end_at, rewritten, each_rewritten, rewritten_body}
+use Rattle.wasm_body.specs.RewrittenTree.{end_at, rewritten, rewritten_body}
+use Rattle.wasm_body.proofs.NormalForm.Rewritten.{Named, each_rewritten}
 use Rattle.wasm_body.proofs.NormalForm.WrittenTexts.{type_at, with_type, ids_at, ids_text}
 use Rattle.wasm_body.proofs.Translation.Kinds.{at_once}
 

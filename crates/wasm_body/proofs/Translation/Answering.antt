@@ -1,5 +1,5 @@
--- A translation that has an answer wherever another has one, labels, numbers and counts apart.
-use Rattle.std.specs.Prelude.{ℕ, List, [], ◌∷◌, length, Option, Some, None, IsOk, Result, Ok, Err}
+-- A translation that has an answer wherever another has one, or a fault of these, labels, numbers and counts apart.
+use Rattle.std.specs.Prelude.{ℕ, List, [], ◌∷◌, length, Option, Some, None, IsOk, IfErr, Result, Ok, Err}
 use Rattle.std.specs.List.{AllByRecursion}
 use Rattle.std.proofs.Common.{refl}
 use Rattle.walrus_ir.specs.declared.val_type.HeapType.{HeapType}
@@ -23,122 +23,136 @@ pub rest_ok : {A B E : Type 0} → (r : Result A E) (k : A → Result B E) → I
 rest_ok (Ok x) k h = (x, h)
 rest_ok (Err e) k h = absurd cc
 
--- and where each step has one, so has the whole
-pub steps_ok : {A B E : Type 0} → (r : Result A E) (k : A → Result B E) → IsOk r → ((x : A) → IsOk (k x)) → IsOk (r >>= k)
-steps_ok (Ok x) k h g = g x
-steps_ok (Err e) k h g = absurd cc
-
-pub last_ok : {A B E : Type 0} → (r : Result A E) (k : A → B) → IsOk r → IsOk (r >>= λ x. Ok (k x))
-last_ok (Ok x) k h = refl
-last_ok (Err e) k h = absurd cc
-
-pub each_ok : {A B E : Type 0} → (f : A → Result B E) (xs : List A) → AllByRecursion (λ x. IsOk (f x)) xs → IsOk (each f xs)
-each_ok f [] h = refl
-each_ok f (x ∷ xs) h = steps_ok (f x) (λ y. each f xs >>= λ ys. Ok (y ∷ ys)) h.0 (λ y. last_ok (each f xs) (λ ys. y ∷ ys) (each_ok f xs h.1))
-
 pub all_ok : {A B E : Type 0} → (f : A → Result B E) (xs : List A) → IsOk (each f xs) → AllByRecursion (λ x. IsOk (f x)) xs
 all_ok f [] h = tt
 all_ok f (x ∷ xs) h =
     let r = rest_ok (f x) (λ y. each f xs >>= λ ys. Ok (y ∷ ys)) h in
     (first_ok (f x) (λ y. each f xs >>= λ ys. Ok (y ∷ ys)) h, all_ok f xs (first_ok (each f xs) (λ ys. Ok (r.0 ∷ ys)) r.1))
 
+-- where no fault is possible, there is an answer
+pub no_fault_ok : {A E : Type 0} → (r : Result A E) → IfErr r (λ e. ⊥) → IsOk r
+no_fault_ok (Ok x) h = refl
+no_fault_ok (Err e) h = absurd h
+
+pub ok_no_fault : {A E : Type 0} → (Q : E → Type 0) (r : Result A E) → IsOk r → IfErr r Q
+ok_no_fault Q (Ok x) h = tt
+ok_no_fault Q (Err e) h = absurd cc
+
+-- Where the faults of each step are of Q, so are those of the whole.
+module _ {E : Type 0} (Q : E → Type 0) where
+  pub steps_within : {A B : Type 0} → (r : Result A E) (k : A → Result B E) → IfErr r Q → ((x : A) → IfErr (k x) Q) → IfErr (r >>= k) Q
+  steps_within (Ok x) k h g = g x
+  steps_within (Err e) k h g = h
+
+  pub last_within : {A B : Type 0} → (r : Result A E) (k : A → B) → IfErr r Q → IfErr (r >>= λ x. Ok (k x)) Q
+  last_within (Ok x) k h = tt
+  last_within (Err e) k h = h
+
+  pub first_within : {A B : Type 0} → (r : Result A E) (k : A → Result B E) → IfErr (r >>= k) Q → IfErr r Q
+  first_within (Ok x) k h = tt
+  first_within (Err e) k h = h
+
+  pub each_within : {A B : Type 0} → (f : A → Result B E) (xs : List A) → AllByRecursion (λ x. IfErr (f x) Q) xs → IfErr (each f xs) Q
+  each_within f [] h = tt
+  each_within f (x ∷ xs) h = steps_within (f x) (λ y. each f xs >>= λ ys. Ok (y ∷ ys)) h.0 (λ y. last_within (each f xs) (λ ys. y ∷ ys) (each_within f xs h.1))
+
 -- ---- translations
 
-module _ {L B M C N D E F : Type 0} (f : Translation L B M C E) (h : Translation L B N D F) where
+module _ {L B M C N D E F : Type 0} (Q : F → Type 0) (f : Translation L B M C E) (h : Translation L B N D F) where
   pub record AnswersWhere : Type 0 where
-    pub indices : (space : Space) (n : ℕ) → IsOk (f.index space n) → IsOk (h.index space n)
-    pub locals : (n : ℕ) → IsOk (f.local n) → IsOk (h.local n)
-    pub blocks : (b : B) → IsOk (f.block b) → IsOk (h.block b)
+    pub indices : (space : Space) (n : ℕ) → IsOk (f.index space n) → IfErr (h.index space n) Q
+    pub locals : (n : ℕ) → IsOk (f.local n) → IfErr (h.local n) Q
+    pub blocks : (b : B) → IsOk (f.block b) → IfErr (h.block b) Q
 
-  -- the labels, numbers and counts of an immediate have answers
-  abbrev pub OthersOk : Immediate L B → Type 0
-  OthersOk (label l) = IsOk (h.label l)
-  OthersOk (handler n) = IsOk (h.handler n)
-  OthersOk (outer n) = IsOk (h.outer n)
-  OthersOk (number n) = IsOk (h.number n)
-  OthersOk (branch_table ts d) = IsOk (h.count (length ts)) × AllByRecursion (λ l. IsOk (h.label l)) ts × IsOk (h.label d)
-  OthersOk (clauses cs) = IsOk (h.count (length cs)) × AllByRecursion (λ (c : CatchClause L). IsOk (h.label c.label)) cs
-  OthersOk (cast c) = IsOk (h.label c.label)
-  OthersOk _ = Unit {0}
+  -- the same of the labels, numbers and counts of an immediate
+  abbrev pub OthersWithin : Immediate L B → Type 0
+  OthersWithin (label l) = IfErr (h.label l) Q
+  OthersWithin (handler n) = IfErr (h.handler n) Q
+  OthersWithin (outer n) = IfErr (h.outer n) Q
+  OthersWithin (number n) = IfErr (h.number n) Q
+  OthersWithin (branch_table ts d) = IfErr (h.count (length ts)) Q × AllByRecursion (λ l. IfErr (h.label l) Q) ts × IfErr (h.label d) Q
+  OthersWithin (clauses cs) = IfErr (h.count (length cs)) Q × AllByRecursion (λ (c : CatchClause L). IfErr (h.label c.label) Q) cs
+  OthersWithin (cast c) = IfErr (h.label c.label) Q
+  OthersWithin _ = Unit {0}
 
-  heap_answers : AnswersWhere → (t : HeapType ℕ) → IsOk (translate_heap f.index t) → IsOk (translate_heap h.index t)
-  heap_answers a (Abstract x) g = refl
-  heap_answers a (Concrete n) g = last_ok (h.index Types n) Concrete (a.indices Types n (first_ok (f.index Types n) (λ m. Ok (Concrete m)) g))
+  heap_answers : AnswersWhere → (t : HeapType ℕ) → IsOk (translate_heap f.index t) → IfErr (translate_heap h.index t) Q
+  heap_answers a (Abstract x) g = tt
+  heap_answers a (Concrete n) g = last_within Q (h.index Types n) Concrete (a.indices Types n (first_ok (f.index Types n) (λ m. Ok (Concrete m)) g))
 
-  value_answers : AnswersWhere → (t : ValType ℕ) → IsOk (translate_value f.index t) → IsOk (translate_value h.index t)
+  value_answers : AnswersWhere → (t : ValType ℕ) → IsOk (translate_value f.index t) → IfErr (translate_value h.index t) Q
   value_answers a (Ref r) g =
       let made : HeapType ℕ → ValType ℕ = λ x. Ref (record { nullable = r.nullable; heap_type = x }) in
-      last_ok (translate_heap h.index r.heap_type) made (heap_answers a r.heap_type (first_ok (translate_heap f.index r.heap_type) (λ x. Ok (made x)) g))
-  value_answers a I32 g = refl
-  value_answers a I64 g = refl
-  value_answers a F32 g = refl
-  value_answers a F64 g = refl
-  value_answers a V128 g = refl
+      last_within Q (translate_heap h.index r.heap_type) made (heap_answers a r.heap_type (first_ok (translate_heap f.index r.heap_type) (λ x. Ok (made x)) g))
+  value_answers a I32 g = tt
+  value_answers a I64 g = tt
+  value_answers a F32 g = tt
+  value_answers a F64 g = tt
+  value_answers a V128 g = tt
 
-  tag_answers : AnswersWhere → (t : Option ℕ) → IsOk (translate_tag f.index t) → IsOk (translate_tag h.index t)
-  tag_answers a None g = refl
-  tag_answers a (Some n) g = last_ok (h.index Tags n) Some (a.indices Tags n (first_ok (f.index Tags n) (λ m. Ok (Some m)) g))
+  tag_answers : AnswersWhere → (t : Option ℕ) → IsOk (translate_tag f.index t) → IfErr (translate_tag h.index t) Q
+  tag_answers a None g = tt
+  tag_answers a (Some n) g = last_within Q (h.index Tags n) Some (a.indices Tags n (first_ok (f.index Tags n) (λ m. Ok (Some m)) g))
 
-  clause_answers : AnswersWhere → (c : CatchClause L) → IsOk (h.label c.label) → IsOk (translate_clause f c) → IsOk (translate_clause h c)
+  clause_answers : AnswersWhere → (c : CatchClause L) → IfErr (h.label c.label) Q → IsOk (translate_clause f c) → IfErr (translate_clause h c) Q
   clause_answers a c l g =
-      steps_ok (translate_tag h.index c.tag) (λ t. h.label c.label >>= λ k. Ok (record { by_reference = c.by_reference; tag = t; label = k }))
+      steps_within Q (translate_tag h.index c.tag) (λ t. h.label c.label >>= λ k. Ok (record { by_reference = c.by_reference; tag = t; label = k }))
       (tag_answers a c.tag (first_ok (translate_tag f.index c.tag) (λ t. f.label c.label >>= λ k. Ok (record { by_reference = c.by_reference; tag = t; label = k })) g))
-      (λ t. last_ok (h.label c.label) (λ k. record { by_reference = c.by_reference; tag = t; label = k }) l)
+      (λ t. last_within Q (h.label c.label) (λ k. record { by_reference = c.by_reference; tag = t; label = k }) l)
 
-  clauses_answer : AnswersWhere → (cs : List (CatchClause L)) → AllByRecursion (λ (c : CatchClause L). IsOk (h.label c.label)) cs → AllByRecursion (λ c. IsOk (translate_clause f c)) cs → AllByRecursion (λ c. IsOk (translate_clause h c)) cs
+  clauses_answer : AnswersWhere → (cs : List (CatchClause L)) → AllByRecursion (λ (c : CatchClause L). IfErr (h.label c.label) Q) cs → AllByRecursion (λ c. IsOk (translate_clause f c)) cs → AllByRecursion (λ c. IfErr (translate_clause h c) Q) cs
   clauses_answer a [] l g = tt
   clauses_answer a (c ∷ cs) l g = (clause_answers a c l.0 g.0, clauses_answer a cs l.1 g.1)
 
-  cast_answers : AnswersWhere → (c : Cast L) → IsOk (h.label c.label) → IsOk (translate_cast f c) → IsOk (translate_cast h c)
+  cast_answers : AnswersWhere → (c : Cast L) → IfErr (h.label c.label) Q → IsOk (translate_cast f c) → IfErr (translate_cast h c) Q
   cast_answers a c l g =
       let from : M → HeapType ℕ → HeapType ℕ → Cast M = λ k s t. record { from_nullable = c.from_nullable; to_nullable = c.to_nullable; label = k; source = s; target = t } in
       let to : N → HeapType ℕ → HeapType ℕ → Cast N = λ k s t. record { from_nullable = c.from_nullable; to_nullable = c.to_nullable; label = k; source = s; target = t } in
       let first = rest_ok (f.label c.label) (λ k. translate_heap f.index c.source >>= λ s. translate_heap f.index c.target >>= λ t. Ok (from k s t)) g in
       let second = rest_ok (translate_heap f.index c.source) (λ s. translate_heap f.index c.target >>= λ t. Ok (from first.0 s t)) first.1 in
-      steps_ok (h.label c.label) (λ k. translate_heap h.index c.source >>= λ s. translate_heap h.index c.target >>= λ t. Ok (to k s t)) l
-      (λ k. steps_ok (translate_heap h.index c.source) (λ s. translate_heap h.index c.target >>= λ t. Ok (to k s t))
+      steps_within Q (h.label c.label) (λ k. translate_heap h.index c.source >>= λ s. translate_heap h.index c.target >>= λ t. Ok (to k s t)) l
+      (λ k. steps_within Q (translate_heap h.index c.source) (λ s. translate_heap h.index c.target >>= λ t. Ok (to k s t))
       (heap_answers a c.source (first_ok (translate_heap f.index c.source) (λ s. translate_heap f.index c.target >>= λ t. Ok (from first.0 s t)) first.1))
-      (λ s. last_ok (translate_heap h.index c.target) (λ t. to k s t) (heap_answers a c.target (first_ok (translate_heap f.index c.target) (λ t. Ok (from first.0 second.0 t)) second.1))))
+      (λ s. last_within Q (translate_heap h.index c.target) (λ t. to k s t) (heap_answers a c.target (first_ok (translate_heap f.index c.target) (λ t. Ok (from first.0 second.0 t)) second.1))))
 
-  access_answers : AnswersWhere → (x : Access) → IsOk (translate_access f x) → IsOk (translate_access h x)
+  access_answers : AnswersWhere → (x : Access) → IsOk (translate_access f x) → IfErr (translate_access h x) Q
   access_answers a x g =
-      last_ok (h.index Memories x.memory) (λ m. record { alignment = h.alignment x.alignment; memory = m; offset = x.offset })
+      last_within Q (h.index Memories x.memory) (λ m. record { alignment = h.alignment x.alignment; memory = m; offset = x.offset })
       (a.indices Memories x.memory (first_ok (f.index Memories x.memory) (λ m. Ok (record { alignment = f.alignment x.alignment; memory = m; offset = x.offset })) g))
 
-  immediate_answers : AnswersWhere → (i : Immediate L B) → OthersOk i → IsOk (translate_immediate f i) → IsOk (translate_immediate h i)
-  immediate_answers a (index space n) l g = last_ok (h.index space n) (index space) (a.indices space n (first_ok (f.index space n) (λ m. Ok (index space m)) g))
-  immediate_answers a (local n) l g = last_ok (h.local n) local (a.locals n (first_ok (f.local n) (λ m. Ok (local m)) g))
-  immediate_answers a (label x) l g = last_ok (h.label x) label l
-  immediate_answers a (handler n) l g = last_ok (h.handler n) handler l
-  immediate_answers a (outer n) l g = last_ok (h.outer n) outer l
-  immediate_answers a (number n) l g = last_ok (h.number n) number l
-  immediate_answers a (access x) l g = last_ok (translate_access h x) access (access_answers a x (first_ok (translate_access f x) (λ b. Ok (access b)) g))
+  immediate_answers : AnswersWhere → (i : Immediate L B) → OthersWithin i → IsOk (translate_immediate f i) → IfErr (translate_immediate h i) Q
+  immediate_answers a (index space n) l g = last_within Q (h.index space n) (index space) (a.indices space n (first_ok (f.index space n) (λ m. Ok (index space m)) g))
+  immediate_answers a (local n) l g = last_within Q (h.local n) local (a.locals n (first_ok (f.local n) (λ m. Ok (local m)) g))
+  immediate_answers a (label x) l g = last_within Q (h.label x) label l
+  immediate_answers a (handler n) l g = last_within Q (h.handler n) handler l
+  immediate_answers a (outer n) l g = last_within Q (h.outer n) outer l
+  immediate_answers a (number n) l g = last_within Q (h.number n) number l
+  immediate_answers a (access x) l g = last_within Q (translate_access h x) access (access_answers a x (first_ok (translate_access f x) (λ b. Ok (access b)) g))
   immediate_answers a (branch_table ts d) l g =
-      steps_ok (h.count (length ts)) (λ u. each h.label ts >>= λ us. h.label d >>= λ e. Ok (branch_table us e)) l.0
-      (λ u. steps_ok (each h.label ts) (λ us. h.label d >>= λ e. Ok (branch_table us e)) (each_ok h.label ts l.1)
-      (λ us. last_ok (h.label d) (λ e. branch_table us e) l.2))
+      steps_within Q (h.count (length ts)) (λ u. each h.label ts >>= λ us. h.label d >>= λ e. Ok (branch_table us e)) l.0
+      (λ u. steps_within Q (each h.label ts) (λ us. h.label d >>= λ e. Ok (branch_table us e)) (each_within Q h.label ts l.1)
+      (λ us. last_within Q (h.label d) (λ e. branch_table us e) l.2))
   immediate_answers a (clauses cs) l g =
       let inner = rest_ok (f.count (length cs)) (λ u. each (translate_clause f) cs >>= λ ds. Ok (clauses ds)) g in
       let all = all_ok (translate_clause f) cs (first_ok (each (translate_clause f) cs) (λ ds. Ok (clauses ds)) inner.1) in
-      steps_ok (h.count (length cs)) (λ u. each (translate_clause h) cs >>= λ ds. Ok (clauses ds)) l.0
-      (λ u. last_ok (each (translate_clause h) cs) clauses (each_ok (translate_clause h) cs (clauses_answer a cs l.1 all)))
-  immediate_answers a (block b) l g = last_ok (h.block b) block (a.blocks b (first_ok (f.block b) (λ c. Ok (block c)) g))
-  immediate_answers a (heap t) l g = last_ok (translate_heap h.index t) heap (heap_answers a t (first_ok (translate_heap f.index t) (λ x. Ok (heap x)) g))
-  immediate_answers a (value v) l g = last_ok (translate_value h.index v) value (value_answers a v (first_ok (translate_value f.index v) (λ x. Ok (value x)) g))
-  immediate_answers a (cast c) l g = last_ok (translate_cast h c) cast (cast_answers a c l (first_ok (translate_cast f c) (λ x. Ok (cast x)) g))
-  immediate_answers a (i32 z) l g = refl
-  immediate_answers a (i64 z) l g = refl
-  immediate_answers a (f32 bits) l g = refl
-  immediate_answers a (f64 bits) l g = refl
-  immediate_answers a (v128 bits) l g = refl
-  immediate_answers a (lane n) l g = refl
-  immediate_answers a (lanes ns) l g = refl
-  immediate_answers a zero_byte l g = refl
+      steps_within Q (h.count (length cs)) (λ u. each (translate_clause h) cs >>= λ ds. Ok (clauses ds)) l.0
+      (λ u. last_within Q (each (translate_clause h) cs) clauses (each_within Q (translate_clause h) cs (clauses_answer a cs l.1 all)))
+  immediate_answers a (block b) l g = last_within Q (h.block b) block (a.blocks b (first_ok (f.block b) (λ c. Ok (block c)) g))
+  immediate_answers a (heap t) l g = last_within Q (translate_heap h.index t) heap (heap_answers a t (first_ok (translate_heap f.index t) (λ x. Ok (heap x)) g))
+  immediate_answers a (value v) l g = last_within Q (translate_value h.index v) value (value_answers a v (first_ok (translate_value f.index v) (λ x. Ok (value x)) g))
+  immediate_answers a (cast c) l g = last_within Q (translate_cast h c) cast (cast_answers a c l (first_ok (translate_cast f c) (λ x. Ok (cast x)) g))
+  immediate_answers a (i32 z) l g = tt
+  immediate_answers a (i64 z) l g = tt
+  immediate_answers a (f32 bits) l g = tt
+  immediate_answers a (f64 bits) l g = tt
+  immediate_answers a (v128 bits) l g = tt
+  immediate_answers a (lane n) l g = tt
+  immediate_answers a (lanes ns) l g = tt
+  immediate_answers a zero_byte l g = tt
 
-  immediates_all : AnswersWhere → (is : List (Immediate L B)) → AllByRecursion OthersOk is → AllByRecursion (λ i. IsOk (translate_immediate f i)) is → AllByRecursion (λ i. IsOk (translate_immediate h i)) is
+  immediates_all : AnswersWhere → (is : List (Immediate L B)) → AllByRecursion OthersWithin is → AllByRecursion (λ i. IsOk (translate_immediate f i)) is → AllByRecursion (λ i. IfErr (translate_immediate h i) Q) is
   immediates_all a [] l g = tt
   immediates_all a (i ∷ is) l g = (immediate_answers a i l.0 g.0, immediates_all a is l.1 g.1)
 
-  -- it answers where the other does, and has answers for labels, numbers and counts
-  pub immediates_answer : AnswersWhere → (is : List (Immediate L B)) → AllByRecursion OthersOk is → IsOk (translate_immediates f is) → IsOk (translate_immediates h is)
-  immediates_answer a is l g = each_ok (translate_immediate h) is (immediates_all a is l (all_ok (translate_immediate f) is g))
+  -- its faults are of Q where the other answers, and those of labels, numbers and counts are
+  pub immediates_answer : AnswersWhere → (is : List (Immediate L B)) → AllByRecursion OthersWithin is → IsOk (translate_immediates f is) → IfErr (translate_immediates h is) Q
+  immediates_answer a is l g = each_within Q (translate_immediate h) is (immediates_all a is l (all_ok (translate_immediate f) is g))

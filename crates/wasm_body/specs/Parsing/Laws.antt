@@ -1,10 +1,12 @@
--- Laws of accepted bodies and first faults: every input has one of both, and one only; and the front before a first fault is
--- the longest that stands.
-use Rattle.std.specs.Prelude.{◌≡◌, ℕ, ◌<◌, ◌⊎◌, List, ◌++◌}
+-- Laws of accepted bodies and first faults: every input has one of both, and one only; the front before a first fault is the
+-- longest that stands; and which locations a caller gives makes no difference to what is accepted.
+use Rattle.std.specs.Prelude.{◌≡◌, ℕ, ◌<◌, ◌⊎◌, List, ◌++◌, Some}
 use Rattle.std.specs.List.{AllByRecursion}
 use Rattle.wasm_body.specs.declared.error.ParseFailure.{ParseFailure}
 use Rattle.wasm_body.specs.SourceTree.{Body}
 use Rattle.wasm_body.specs.Naming.{Occurrence}
+use Rattle.wasm_body.specs.FunctionTree.{IsSameTree}
+use Rattle.wasm_body.specs.NormalForm.{body_tree}
 use Rattle.wasm_body.specs.Parsing.Accepted.{Setting, IsFront, Accepted, Stands, FaultAfterFront, FirstFault}
 
 abbrev pub OneBodyAccepted : Type 0 → Type 0
@@ -28,3 +30,11 @@ LongestFront V =
     (given : Setting V) (bytes : List ℕ) (f : ParseFailure) (fault : FaultAfterFront given bytes f) →
     (xs : List Occurrence) (rest : List ℕ) (count : ℕ) → IsFront given xs bytes rest → Stands given.environment xs count →
     (more : List Occurrence) × (fault.front ≡ xs ++ more)
+
+-- A body that is accepted is accepted with every location function, as a body of the same tree, locations aside.
+abbrev pub AnyLocations : Type 0 → Type 0
+AnyLocations V =
+    (given : Setting V) (bytes : List ℕ) (b : Body Occurrence) → Accepted given bytes b → (locate : ℕ → ℕ) →
+    (c : Body Occurrence)
+    × Accepted (record given { locations = Some locate }) bytes c
+    × IsSameTree (body_tree given.environment c) (body_tree given.environment b)
