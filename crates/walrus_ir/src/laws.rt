@@ -8,12 +8,15 @@ ghost use Rattle.walrus_ir.specs.WalkLaws.{TreeIsWalked, WalkMakesTree};
 
 use crate::id::Id;
 use crate::val_type::ValType;
+use std::hash::Hash;
 
-/// Ids are equal and are ordered as their numbers.
+/// Ids are equal and are ordered as their numbers, and equal ids hash alike.
 pub fn law_ids<K>()
     ensures equality { (m n : ℕ) → IsTrue (⟦<Id<K> as PartialEq>⟧.eq m n) ↔ (m ≡ n) }
     ensures order { (m n : ℕ) → ⟦<Id<K> as Ord>⟧.cmp m n ≡ nat_cmp m n }
     ensures comparison { (m n : ℕ) → ⟦<Id<K> as PartialOrd>⟧.partial_cmp m n ≡ Some (nat_cmp m n) }
+    ensures hash { (m n : ℕ) → IsTrue (⟦<Id<K> as PartialEq>⟧.eq m n)
+        → ⟦<Id<K> as Hash>⟧.hash_input m ≡ ⟦<Id<K> as Hash>⟧.hash_input n }
 {}
 
 /// The comparisons of value types: `==` is true exactly of a type and itself, and the order is that
