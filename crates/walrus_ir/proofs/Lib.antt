@@ -1,4 +1,4 @@
--- answers that may be faults, in every crate
+-- results that may be faults, in every crate
 pub mod ResultLemmas
 -- types: equality, and the first position that passes
 pub mod SameTypes

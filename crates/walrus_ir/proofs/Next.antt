@@ -1,4 +1,4 @@
--- The work of a walk, and the stack of open sequences, one more at a time.
+-- The steps of a walk, and the stack of open sequences, one more at a time.
 use Rattle.std.proofs.Common.{◌≡◌, ◌<◌, ◌-◌, ℕ, zero, suc, List, [], ◌∷◌, ◌++◌, Some, length, subst, arith}
 use Rattle.std.proofs.lemmas.Grind.{common_steps}
 use Rattle.std.specs.Prelude.{slice_get}
@@ -19,7 +19,7 @@ next_starts b seq next rest (suc n) p coming left lt e known =
     let less : suc n - 1 ≡ n = omega arith in
     rw (less, e) (starts known)
 
--- a stretch that ends with an instruction that holds sequences is what comes next
+-- a stretch that ends with an instruction that contains sequences is what comes next
 pub next_visits : {b : List InstrSeq} (seq : InstrSeq) {rest left : List LocatedInstr} {es : List WalkEvent} (inside n : ℕ) (coming : List ℕ) → inside ≡ 0 → IsStretch rest left n es → 0 < n
     → Next b (record { seq = seq; rest = rest; inside = inside }) coming es (record { seq = seq; rest = left; inside = n } ∷ []) coming
 next_visits seq inside n coming none no_stretch some = absurd (omega arith)

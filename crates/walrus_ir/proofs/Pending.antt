@@ -1,4 +1,4 @@
--- What the open sequences and the slots to come stand for: what is left of a tree.
+-- The part of a tree that the open sequences and the slots to come represent.
 use Rattle.std.proofs.Common.{◌≡◌, ◌<◌, ◌≤◌, ◌+◌, ℕ, suc, List, [], ◌∷◌, ◌++◌, Option, Some, None, length, reverse, slice_index, refl, sym, ap, ◌∙◌, subst, append_assoc, arith}
 use Rattle.std.proofs.lemmas.List.{reverse-append, append-nil}
 use Rattle.std.proofs.lemmas.Option.{slice_get_within}
@@ -36,7 +36,7 @@ mutual
 pub slots_in_order : (ss : Sequences SequenceAt LocatedInstr) → reverse (slots_reached_each ss []) ≡ sequence_slots ss []
 slots_in_order ss = sym (append-nil (reverse (slots_reached_each ss []))) ∙ sequences_reached ss [] []
 
--- the innermost open sequence, with the trees that are left in it, and what is left below it
+-- the innermost open sequence, with the trees that are left in it, and the rest of the stack below it
 pub record Top (b : List InstrSeq) (f : Frame) (Below : List ℕ → List WalkEvent → Type 0) (coming : List ℕ) (left : List WalkEvent) : Type 0 where
   pub slots : List ℕ
   pub inside : Sequences SequenceAt LocatedInstr
@@ -72,7 +72,7 @@ just_started b seq fs items later after a below = record {
   left_is = refl;
 }
 
--- some of the events that are left, and what is left behind them
+-- the first of the events that are left, and the events after them
 pub record Behind (b : List InstrSeq) (fs : List Frame) (coming : List ℕ) (es left : List WalkEvent) : Type 0 where
   pub more : List WalkEvent
   pub left_is : left ≡ es ++ more
@@ -208,7 +208,7 @@ some_first ss (are_sequences k a r) = omega arith
 pub some_order : {b : List InstrSeq} {start : ℕ} {order : List ℕ} → IsOrder b start order → 0 < length order
 some_order h = rw (order_slots h) (some_first (alone h.tree) h.is_tree.unfolds)
 
--- the work that the slots to come take, and those that the open sequences take
+-- a bound of the steps for the slots to come, and one for the open sequences
 abbrev pub work_in : Option InstrSeq → ℕ
 work_in None = 0
 work_in (Some seq) = 2 + length seq.instrs

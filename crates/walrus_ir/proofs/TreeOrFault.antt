@@ -1,4 +1,4 @@
--- Every function has a tree or a first fault: the walk comes to its end, since each step reaches one sequence more.
+-- Every function has a tree or a first fault: the walk ends, since each step reaches one sequence more.
 use Rattle.std.proofs.Common.{◌≡◌, ◌⊎◌, ◌≤◌, ℕ, zero, suc, List, [], ◌∷◌, Bool, true, false, Option, Some, None, length, replicate, get_or, set, refl, inl, inr, arith}
 use Rattle.std.proofs.lemmas.List.{length-replicate}
 use Rattle.std.specs.Prelude.{slice_get}
@@ -24,7 +24,7 @@ ends_at p next h None mark known seen on = inr (UnknownSequence, refused_fault p
 ends_at p next h (Some seq) true known seen on = inr (SharedSequence, refused_fault p SharedSequence h seen)
 ends_at p next h (Some seq) false known seen on = on seq known seen
 
--- the walk ends from where it stands, since the sequences that are not reached are no more than these
+-- the walk ends from this state on, since each step lowers the bound for the sequences that are not reached
 ends : {b : List InstrSeq} {start : ℕ} {marks : List Bool} {order : List ℕ} (n : ℕ) (next : List ℕ) → Stands b start marks order next → unreached marks b ≤ n → Ends b start
 ends n [] h few = let whole = stands_last h in inl (whole.tree, whole.is_tree)
 ends {b = b} {marks = marks} zero (p ∷ next) h few =

@@ -66,7 +66,7 @@ tree_is_walked b start t h = sequences_walked [] [] h.unfolds h.apart begun
 
 -- ---- a walk that ends is a tree's
 
--- Q holds of the slots that are reached, whatever unfolds at these
+-- Q holds for the slots that are reached, whatever unfolds at these
 abbrev Completes : List InstrSeq → List ℕ → (List ℕ → Type 0) → List ℕ → Type 0
 Completes b [] Q seen = Q seen
 Completes b (p ∷ ps) Q seen = (seq : InstrSeq) (items : Items SequenceAt LocatedInstr) → slice_get b p ≡ Some seq → AreItems b seq.instrs items → Completes b ps Q (slots_reached items (p ∷ seen))
@@ -84,7 +84,7 @@ items_complete b (x ∷ xs) qs Q seen h =
     subst P (sym (append_assoc (slots_in x.0) (slots_in_all xs) qs))
     (sequences_complete b (slots_in x.0) (slots_in_all xs ++ qs) Q seen (λ ss a. items_complete b xs qs Q (slots_reached_each ss seen) (λ rest r. h (item x ss rest) (are_items a r))))
 
--- what unfolds from the start, and reaches these slots
+-- the sequences that unfold from the start and reach these slots
 record Unfolds (b : List InstrSeq) (start : ℕ) (seen : List ℕ) : Type 0 where
   pub tree : Tree SequenceAt LocatedInstr
   pub unfolds : AreSequences b (start ∷ []) (alone tree)
@@ -107,13 +107,13 @@ walk_makes_tree b start seen w =
 
 -- ---- one end
 
--- how the walk ends at a state: it has nothing left, or a fault
+-- how the walk ends at a state: it has no slot left, or a fault
 data Ends (b : List InstrSeq) : (seen next : List ℕ) → Option WalkError → Type 0 where
   ended : {seen : List ℕ} → Ends b seen [] None
   is_unknown : {seen next : List ℕ} {p : ℕ} → slice_get b p ≡ None → Ends b seen (p ∷ next) (Some UnknownSequence)
   is_shared : {seen next : List ℕ} {p : ℕ} → among p seen ≡ true → Ends b seen (p ∷ next) (Some SharedSequence)
 
--- the walk has one way: from the first state it comes to the second
+-- the walk has only one way: from the first state it comes to the second
 data Leads (b : List InstrSeq) : (seen next seen' next' : List ℕ) → Type 0 where
   stays : {seen next : List ℕ} → Leads b seen next seen next
   goes : {seen next seen' next' : List ℕ} {p : ℕ} {seq : InstrSeq} → slice_get b p ≡ Some seq → among p seen ≡ false

@@ -1,4 +1,4 @@
--- The events of a walk, and what it means that a visitor is told of them.
+-- The events of a walk, and what it means to tell a visitor of them.
 use Rattle.std.specs.Prelude.{ℕ, List, [], ◌∷◌, ◌++◌, Result, MatchResult}
 use Rattle.walrus_ir.specs.declared.seq.InstrSeq.{InstrSeq}
 use Rattle.walrus_ir.specs.declared.instr.Instr.{Instr}
@@ -15,7 +15,7 @@ pub data WalkEvent : Type 0 where
   NameLocal : ℕ → WalkEvent
   NameData : ℕ → WalkEvent
 
--- what an instruction names: the function of a `ref.func`, a local or a data segment
+-- the item that an instruction names: the function of a `ref.func`, a local or a data segment
 abbrev pub names : Instr → List WalkEvent
 names (RefFunc x) = NameFunction x.func ∷ []
 names (LocalGet x) = NameLocal x.local ∷ []
@@ -27,7 +27,8 @@ names (ArrayNewData x) = NameData x.data_id ∷ []
 names (ArrayInitData x) = NameData x.data_id ∷ []
 names _ = []
 
--- the events, and then these: an instruction is visited before what it names, and that before what is inside it
+-- the events, followed by `later`: an instruction is visited before the item that it names, and that item before the
+-- sequences inside the instruction
 abbrev mutual
   pub item_events : Items SequenceAt LocatedInstr → List WalkEvent → List WalkEvent
   item_events no_items later = later
@@ -42,8 +43,8 @@ abbrev mutual
 abbrev pub events : Tree SequenceAt LocatedInstr → List WalkEvent
 events t = sequence_events (alone t) []
 
--- What a visitor means: `steps s e t`, at the state s it may take the event e, and is then at t; `refuses s e f`, at s it
--- may refuse e with the fault f; `same s t`, at t it is as it was at s.
+-- The meaning of a visitor: `steps s e t`, in the state s it may take the event e and is then in the state t;
+-- `refuses s e f`, in s it may refuse e with the fault f; `same s t`, in t it is as it was in s.
 
 -- states that are the same take the same steps, and refuse the same events with the same faults
 abbrev pub AreStepsAlike : {V : Type 0} → (V → V → Type 0) → (V → WalkEvent → V → Type 0) → Type 0
@@ -57,19 +58,19 @@ pub data Folds {V : Type 0} (steps : V → WalkEvent → V → Type 0) : V → L
   through : {v : V} → Folds steps v [] v
   after : {v w x : V} {e : WalkEvent} {es : List WalkEvent} → steps v e w → Folds steps w es x → Folds steps v (e ∷ es) x
 
--- from one state to another through some of these events, where the next one is refused with a fault
+-- from one state to another through the first of these events; the event after those is refused with a fault
 pub data Stops {V F : Type 0} (steps : V → WalkEvent → V → Type 0) (refuses : V → WalkEvent → F → Type 0) (same : V → V → Type 0)
     : V → List WalkEvent → V → F → Type 0 where
   refused : {v w : V} {e : WalkEvent} {es : List WalkEvent} {f : F} → refuses v e f → same v w → Stops steps refuses same v (e ∷ es) w f
   later : {v w x : V} {e : WalkEvent} {es : List WalkEvent} {f : F}
       → steps v e w → Stops steps refuses same w es x f → Stops steps refuses same v (e ∷ es) x f
 
--- a visitor's answer to one event: it took it, or it refused it and is as it was
+-- the result of one event: the visitor took it, or it refused it and is as it was
 abbrev pub Hears : {V F U : Type 0} → (V → WalkEvent → V → Type 0) → (V → WalkEvent → F → Type 0) → (V → V → Type 0)
     → V → WalkEvent → Result U F → V → Type 0
 Hears steps refuses same v e r w = MatchResult r (λ _. steps v e w) (λ f. refuses v e f × same v w)
 
--- a visitor's answer to some events
+-- the result of some events: the visitor took them all, or it took the first ones and refused the next
 abbrev pub Tells : {V F U : Type 0} → (V → WalkEvent → V → Type 0) → (V → WalkEvent → F → Type 0) → (V → V → Type 0)
     → V → List WalkEvent → Result U F → V → Type 0
 Tells steps refuses same v es r w = MatchResult r (λ _. Folds steps v es w) (λ f. Stops steps refuses same v es w f)

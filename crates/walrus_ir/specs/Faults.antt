@@ -5,15 +5,15 @@ use Rattle.walrus_ir.specs.declared.error.WalkError.{WalkError}
 use Rattle.walrus_ir.specs.declared.error.WalkError.TheVariants.{UnknownSequence, SharedSequence}
 use Rattle.walrus_ir.specs.Unfolding.{slots_in_all, among}
 
--- The walk in its order, without a tree: it has reached the sequences `seen`, the last first, which are all known and
--- apart, and goes on to the slots `next`. Those in a sequence come behind it, before what stood behind it.
+-- The walk in its order, where there need not be a tree: it has reached the sequences `seen`, the last first, which are all
+-- known and apart, and goes on to the slots `next`. The slots in a sequence come after its own, before those that followed it.
 pub data Walks (b : List InstrSeq) (start : ℕ) : (seen next : List ℕ) → Type 0 where
   begun : Walks b start [] (start ∷ [])
   onward : {seen : List ℕ} {p : ℕ} {next : List ℕ} {seq : InstrSeq}
       → Walks b start seen (p ∷ next) → slice_get b p ≡ Some seq → among p seen ≡ false
       → Walks b start (p ∷ seen) (slots_in_all seq.instrs ++ next)
 
--- the first slot in walk order that isn't known or was reached before, and which of both it is
+-- the first slot in walk order that isn't known or was reached before, and which of the two it is
 pub data FirstWalkFault (b : List InstrSeq) (start : ℕ) : WalkError → Type 0 where
   unknown : {seen : List ℕ} {p : ℕ} {next : List ℕ}
       → Walks b start seen (p ∷ next) → slice_get b p ≡ None → FirstWalkFault b start UnknownSequence

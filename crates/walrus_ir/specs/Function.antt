@@ -14,7 +14,7 @@ pub record Function : Type 0 where
 abbrev pub empty_function : (type : ℕ) → Function
 empty_function type = record { type = type; sequences = []; entry = None }
 
--- one more sequence, which is empty, behind all others
+-- one more sequence, which is empty, after all others
 abbrev pub with_new_sequence : Function → InstrSeqType → Function
 with_new_sequence b ty =
     record b { sequences = b.sequences ++ empty_sequence (length b.sequences) ty ∷ [] }

@@ -4,14 +4,13 @@ use Rattle.walrus_ir.specs.declared.instr.Instr.{Instr}
 use Rattle.walrus_ir.specs.declared.val_type.InstrSeqType.{InstrSeqType}
 use Rattle.walrus_ir.specs.Locations.{default_location}
 
--- the number that it was given when it was made, its type, its instructions with their locations,
--- and the location of its end
+-- its id, its type, its instructions with their locations, and the location of its end
 pub record InstructionSequence : Type 0 where
   pub id : ℕ
   pub ty : InstrSeqType
   pub instrs : List (Instr × ℕ)
   pub end : ℕ
 
--- a new sequence
+-- a new sequence, without instructions
 abbrev pub empty_sequence : ℕ → InstrSeqType → InstructionSequence
 empty_sequence id ty = record { id = id; ty = ty; instrs = []; end = default_location }

@@ -1,4 +1,4 @@
--- answers that may be faults, in every crate
+-- results that may be faults, in every crate
 pub mod Results
 -- types: of values and of a module, and the pick
 pub mod Types
@@ -19,6 +19,6 @@ pub mod Events
 pub mod Sameness
 pub mod Walk
 pub mod WalkLaws
--- what is kept while a walk is planned and told
+-- the state of a walk while it is planned and told
 pub mod Planning
 pub mod Telling

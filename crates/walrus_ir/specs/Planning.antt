@@ -1,4 +1,4 @@
--- What the plan of a walk keeps: the sequences that it has reached, and the tasks that are left.
+-- The state of the plan of a walk: the sequences that it has reached, and the tasks that are left.
 use Rattle.std.specs.Prelude.{◌≡◌, ℕ, ◌+◌, ◌*◌, ◌≤◌, List, [], ◌∷◌, ◌++◌, Bool, true, false, Some, None}
 use Rattle.std.specs.Prelude.{length, reverse, slice_get, slice_index_or, slice_set}
 use Rattle.std.specs.List.{flat_map, sum_by}
@@ -22,8 +22,8 @@ goes_to (Clauses rest) = handlers rest.now
 abbrev pub agenda : List Task → List ℕ
 agenda tasks = flat_map goes_to (reverse tasks)
 
--- how many work an instruction, some instructions, a task and the tasks on a stack take at most, but for those inside
--- the sequences
+-- a bound of the steps that an instruction, some instructions, a task and the tasks on a stack take, without the steps for
+-- the instructions inside the sequences
 abbrev pub work_of : Instr → ℕ
 work_of (Block x) = 1
 work_of (Loop x) = 1
@@ -44,12 +44,12 @@ work_of_task (Clauses rest) = 1 + 2 * length rest.now
 abbrev pub work : List Task → ℕ
 work tasks = sum_by work_of_task tasks
 
--- the tasks on a stack go on to these slots first, and take no more work than these more
+-- the tasks on a stack go on to these slots first, and take at most this many more steps
 pub record Adds (old new : List Task) (slots : List ℕ) (more : ℕ) : Type 0 where
   pub goes : agenda new ≡ slots ++ agenda old
   pub falls : work new ≤ more + work old
 
--- the first of the instructions that holds sequences, and those behind it
+-- the first of the instructions that contains sequences, and the instructions after it
 pub record IsNextHolder (all : List LocatedInstr) (holder : Instr) (behind : List LocatedInstr) : Type 0 where
   pub goes : slots_in_all all ≡ slots_in holder ++ slots_in_all behind
   pub falls : 1 + (work_of holder + work_of_all behind) ≤ work_of_all all
@@ -66,7 +66,7 @@ pub record IsReached (b : List InstrSeq) (p : ℕ) (seq : InstrSeq) (old new : L
   pub fresh : slice_index_or old p false ≡ false
   pub marked : new ≡ slice_set old p true
 
--- a sequence is entered: it is reached, and stands next in the order
+-- a sequence is entered: it is reached, and is the next in the order
 pub record IsEntered (b : List InstrSeq) (p : ℕ) (old new : Plan) : Type 0 where
   pub seq : InstrSeq
   pub reached : IsReached b p seq old.reached.items new.reached.items

@@ -1,11 +1,12 @@
--- What is kept while a walk is told: the sequences that are open, and the slots of those that are to come.
+-- The state of a walk while a visitor is told of it: the sequences that are open, and the slots of those that are to come.
 use Rattle.std.specs.Prelude.{◌≡◌, ℕ, suc, List, [], ◌∷◌, ◌++◌, Some, length, map, reverse, slice_get}
 use Rattle.walrus_ir.specs.declared.seq.InstrSeq.{InstrSeq}
 use Rattle.walrus_ir.specs.declared.walk.Open.{Open}
 use Rattle.walrus_ir.specs.Unfolding.{LocatedInstr, slots_in}
 use Rattle.walrus_ir.specs.Events.{WalkEvent, StartSequence, EndSequence, VisitInstruction, names}
 
--- an open sequence: the instructions that are left of it, and how many of the sequences inside the last one are to come
+-- an open sequence: its instructions that are still to be visited, and the number of sequences inside the last visited one
+-- that are still to come
 pub record Frame : Type 0 where
   pub seq : InstrSeq
   pub rest : List LocatedInstr
@@ -21,16 +22,16 @@ frames stack = map frame (reverse stack)
 abbrev pub started : InstrSeq → Frame
 started seq = record { seq = seq; rest = seq.instrs; inside = 0 }
 
--- A stretch of instructions, from the front of these to those that are left: the events that visit them. Only the last may
--- hold sequences, this many.
+-- A stretch of instructions at the front of `all`, with `left` after it: the events that visit it. Only its last instruction
+-- may contain sequences; `inside` is their number.
 pub data IsStretch (all : List LocatedInstr) : (left : List LocatedInstr) (inside : ℕ) → List WalkEvent → Type 0 where
   no_stretch : IsStretch all all 0 []
   goes_on : {x : LocatedInstr} {left : List LocatedInstr} {es : List WalkEvent} → IsStretch all (x ∷ left) 0 es
       → IsStretch all left (length (slots_in x.0)) (es ++ VisitInstruction x.0 x.1 ∷ names x.0)
 
--- What comes next at the innermost open sequence: the events that are told, the sequences that are open in its slot then,
--- and the slots that are to come then. A sequence inside the last instruction starts; else a stretch of instructions is
--- visited, behind which the sequence ends if none is left.
+-- What comes next in the innermost open sequence: the events that are told, the sequences that are then open in its place,
+-- and the slots that are then to come. If a sequence inside the last instruction is to come, it starts. Otherwise a stretch
+-- of instructions is visited, and the sequence ends if no instruction is left after it.
 pub data Next (b : List InstrSeq) : Frame → (coming : List ℕ) → List WalkEvent → (opened : List Frame) → (coming' : List ℕ) → Type 0 where
   starts : {seq inner : InstrSeq} {rest : List LocatedInstr} {n p : ℕ} {coming : List ℕ} → slice_get b p ≡ Some inner
       → Next b (record { seq = seq; rest = rest; inside = suc n }) (p ∷ coming)
@@ -47,7 +48,7 @@ pub record IsToldStretch (all left : List LocatedInstr) (inside : ℕ) (Told : L
   pub stretch : IsStretch all left inside events
   pub told : Told events
 
--- a stretch was told up to an event that was refused, which is of its last instruction
+-- a stretch was told up to an event that was refused, which belongs to its last instruction
 pub record IsRefusedStretch (all : List LocatedInstr) (Stopped : List WalkEvent → Type 0) : Type 0 where
   pub before : List WalkEvent
   pub last : LocatedInstr

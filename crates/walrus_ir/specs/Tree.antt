@@ -1,4 +1,4 @@
--- Trees of sequences. `S` is what is kept of a sequence, `I` what is kept of an instruction.
+-- Trees of sequences. A value of `S` is given for each sequence, and a value of `I` for each instruction.
 
 mutual
   -- the items of a sequence: the first and the rest; an item is an instruction and the sequences in it
@@ -15,7 +15,7 @@ pub record Tree (S I : Type 0) : Type 0 where
   pub head : S
   pub items : Items S I
 
--- the tree, where sequences beside each other stand
+-- a tree, as a list of one sequence
 abbrev pub alone : {S I : Type 0} → Tree S I → Sequences S I
 alone t = sequence t.head t.items no_sequences
 

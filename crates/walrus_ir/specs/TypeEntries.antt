@@ -1,4 +1,4 @@
--- What the table of a module's types holds, as types of the module.
+-- The entries of the table of a module's types, as types of the module.
 use Rattle.walrus_ir.specs.declared.module_types.TypeEntry.{TypeEntry}
 use Rattle.walrus_ir.specs.declared.module_types.TypeEntry.TheVariants as entries
 use Rattle.walrus_ir.specs.Types.{ModuleType, Func, Entry, Other}

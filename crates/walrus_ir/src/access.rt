@@ -3,7 +3,7 @@
 use crate::id::{DataId, MemoryId};
 use crate::memory::{AtomicOp, AtomicWidth, LoadKind, LoadSimdKind, MemArg, StoreKind};
 
-/// A load, narrow and atomic ones too.
+/// A load; narrow and atomic loads too.
 #[derive(Clone, Copy)]
 pub struct Load {
     pub memory: MemoryId,
@@ -11,7 +11,7 @@ pub struct Load {
     pub arg: MemArg,
 }
 
-/// A store, narrow and atomic ones too.
+/// A store; narrow and atomic stores too.
 #[derive(Clone, Copy)]
 pub struct Store {
     pub memory: MemoryId,
@@ -19,7 +19,7 @@ pub struct Store {
     pub arg: MemArg,
 }
 
-/// A vector access that is no plain load or store; those that store a lane too.
+/// A vector access that is not a plain load or store, such as the load or store of one lane.
 #[derive(Clone, Copy)]
 pub struct LoadSimd {
     pub memory: MemoryId,
@@ -51,7 +51,7 @@ pub struct AtomicNotify {
     pub arg: MemArg,
 }
 
-/// `memory.atomic.wait32`, or `wait64` where it is marked so.
+/// `memory.atomic.wait32`, or `memory.atomic.wait64` if `sixty_four` is set.
 #[derive(Clone, Copy)]
 pub struct AtomicWait {
     pub memory: MemoryId,

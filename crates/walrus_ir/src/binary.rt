@@ -1,9 +1,9 @@
 //! Operators of two operands.
 
-/// A numeric or vector operator of two operands, among them the shifts and the replacing of a lane.
+/// A numeric or vector operator of two operands, among them shifts and the replacement of a lane.
 /// The names are those of the WebAssembly core specification in camel case (`i32.div_s` is
 /// `I32DivS`); `PMin`, `PMax`, `AndNot`, `ExtMul` and `Q15Mulr` have capitals inside. `idx` is the
-/// number of a lane.
+/// index of a lane.
 #[derive(Clone, Copy)]
 pub enum BinaryOp {
     I32Eq,

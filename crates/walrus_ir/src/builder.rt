@@ -1,4 +1,4 @@
-//! The arena of a function's sequences.
+//! The builder of a function, which holds its sequences.
 ghost use Rattle.std.specs.Prelude.{◌≡◌, ◌<◌, ◌↔◌, length, IsTrue, IfOk, OnErr, slice_get, Some};
 ghost use Rattle.std.specs.Borrow.{sem};
 ghost use Rattle.walrus_ir.specs.Lending.{LendsSequence};
@@ -11,8 +11,8 @@ use crate::val_type::InstrSeqType;
 use std::alloc::{AllocError, Global};
 use std::marker::Model;
 
-/// The sequences of a function. Instructions name them by their slots here. A contract sees the
-/// function's type, the list of sequences, and the entry.
+/// The sequences of a function. Instructions refer to them by their slots, which are numbered from
+/// 0. A contract sees the function's type, the list of sequences, and the entry.
 #[derive(Drop)]
 pub struct FunctionBuilder {
     ty: TypeId,
@@ -29,7 +29,7 @@ impl Model for FunctionBuilder {
 }
 
 impl FunctionBuilder {
-    /// A function of this type, without sequences. It takes no memory.
+    /// A function of this type, without sequences. This allocates nothing.
     pub fn without_entry(alloc: Global, ty: TypeId) -> FunctionBuilder
         ensures { result ≡ empty_function ty }
     {
@@ -47,7 +47,12 @@ impl FunctionBuilder {
         self.ty
     }
 
-    /// A new empty sequence of this type, behind all others. Its end has the default location.
+    /// Adds an empty sequence of this type after all others, and returns its slot. Its end has the
+    /// default location.
+    ///
+    /// # Errors
+    ///
+    /// Out of memory; the builder is unchanged.
     pub fn alloc(&mut self, ty: InstrSeqType) -> Result<InstrSeqId, AllocError>
         ensures id { IfOk result (λ id. id ≡ length self.old.sequences) }
         ensures ok { IfOk result (λ _. self.new ≡ with_new_sequence self.old ty) }
@@ -64,7 +69,8 @@ impl FunctionBuilder {
         Ok(id)
     }
 
-    /// The sequence that the function begins with, if one was set. It need not be there.
+    /// The slot of the sequence that the function begins with, if one was set. The builder need not
+    /// have that sequence.
     pub fn entry(&self) -> Option<InstrSeqId>
         ensures { result ≡ self.now.entry }
     {
@@ -78,7 +84,7 @@ impl FunctionBuilder {
         self.entry = Some(id);
     }
 
-    /// Whether a sequence stands at this slot.
+    /// Whether there is a sequence at this slot.
     pub fn has(&self, id: InstrSeqId) -> bool
         ensures { IsTrue result ↔ (id < length self.now.sequences) }
     {
@@ -94,7 +100,7 @@ impl FunctionBuilder {
         &self.seqs[index]
     }
 
-    /// The sequence at this slot, to be changed. Every other sequence stays.
+    /// The sequence at this slot, to be changed. All other sequences stay as they are.
     pub fn seq_mut(&mut self, id: InstrSeqId) -> &mut InstrSeq
         requires { id < length self.old.sequences }
         ensures* writes_back { sem 𝓛 (LendsSequence self.entry id result) }
@@ -111,7 +117,7 @@ impl FunctionBuilder {
         self.seqs.len()
     }
 
-    /// What the sequences' memory comes from, for what is to be kept beside them.
+    /// The allocator of the sequences.
     pub fn allocator(&self) -> Global {
         *self.seqs.allocator()
     }

@@ -41,8 +41,9 @@ pub struct IfElse {
     pub alternative: InstrSeqId,
 }
 
-/// A clause of a `try_table`: which exceptions it takes, and where it goes with them. A clause with
-/// `Ref` hands the exception on too.
+/// A catch clause of a `try_table` (WebAssembly core specification 3.0, control instructions): the
+/// exceptions that it catches, and the sequence that it branches to. A clause with `Ref` passes a
+/// reference to the exception too.
 #[derive(Clone, Copy)]
 pub enum TryTableCatch {
     Catch { tag: TagId, label: InstrSeqId },
@@ -51,7 +52,7 @@ pub enum TryTableCatch {
     CatchAllRef { label: InstrSeqId },
 }
 
-/// `try_table`: a sequence with clauses that take exceptions raised in it.
+/// `try_table`: a sequence with clauses that catch exceptions thrown in it.
 #[derive(Drop)]
 pub struct TryTable {
     pub seq: InstrSeqId,
@@ -67,9 +68,9 @@ impl Model for TryTable {
     ghost view = { λ x. record { seq = x.seq; catches = x.catches.items } };
 }
 
-/// A clause of a legacy `try`: which exceptions it takes, and the sequence that handles them; or,
-/// for `Delegate`, the number of constructs between the `try` and the one that the exception is
-/// handed to.
+/// A clause of a legacy `try`: the exceptions that it catches, and the sequence that handles them.
+/// `Delegate` has the number of constructs between the `try` and the one that the exception is
+/// delegated to.
 #[derive(Clone, Copy)]
 pub enum LegacyCatch {
     Catch { tag: TagId, handler: InstrSeqId },
@@ -93,19 +94,20 @@ impl Model for Try {
     ghost view = { λ x. record { seq = x.seq; catches = x.catches.items } };
 }
 
-/// `br`: goes to a sequence around it.
+/// `br`: branches to a sequence around it.
 #[derive(Clone, Copy)]
 pub struct Br {
     pub block: InstrSeqId,
 }
 
-/// `br_if`: goes to a sequence around it, if its operand isn't zero.
+/// `br_if`: branches to a sequence around it, if its operand isn't zero.
 #[derive(Clone, Copy)]
 pub struct BrIf {
     pub block: InstrSeqId,
 }
 
-/// `br_table`: goes to one of the sequences, by the number that it is given, or to the default.
+/// `br_table`: branches to one of the sequences, by the index that is its operand, or to the
+/// default.
 #[derive(Drop)]
 pub struct BrTable {
     pub blocks: Vec<InstrSeqId>,
@@ -120,19 +122,20 @@ impl Model for BrTable {
     ghost view = { λ x. record { blocks = x.blocks.items; default = x.default } };
 }
 
-/// `br_on_null`: goes to a sequence around it, if its operand is null.
+/// `br_on_null`: branches to a sequence around it, if its operand is null.
 #[derive(Clone, Copy)]
 pub struct BrOnNull {
     pub block: InstrSeqId,
 }
 
-/// `br_on_non_null`: goes to a sequence around it, if its operand isn't null.
+/// `br_on_non_null`: branches to a sequence around it, if its operand isn't null.
 #[derive(Clone, Copy)]
 pub struct BrOnNonNull {
     pub block: InstrSeqId,
 }
 
-/// `br_on_cast`: goes to a sequence around it, if its operand, of the first type, is of the second.
+/// `br_on_cast`: branches to a sequence around it, if its operand, of the first type, is of the
+/// second.
 #[derive(Clone, Copy)]
 pub struct BrOnCast {
     pub block: InstrSeqId,
@@ -142,8 +145,8 @@ pub struct BrOnCast {
     pub to_heap_type: HeapType,
 }
 
-/// `br_on_cast_fail`: goes to a sequence around it, if its operand, of the first type, isn't of the
-/// second.
+/// `br_on_cast_fail`: branches to a sequence around it, if its operand, of the first type, isn't of
+/// the second.
 #[derive(Clone, Copy)]
 pub struct BrOnCastFail {
     pub block: InstrSeqId,
@@ -153,14 +156,14 @@ pub struct BrOnCastFail {
     pub to_heap_type: HeapType,
 }
 
-/// `throw`: raises an exception.
+/// `throw`: throws an exception.
 #[derive(Clone, Copy)]
 pub struct Throw {
     pub tag: TagId,
 }
 
-/// `rethrow` of the legacy proposal: raises what the handler took that stands this many constructs
-/// outwards.
+/// `rethrow` of the legacy exception handling proposal: throws again the exception that a handler
+/// around it caught. Between the two are `relative_depth` constructs.
 #[derive(Clone, Copy)]
 pub struct Rethrow {
     pub relative_depth: u32,

@@ -1,4 +1,4 @@
-//! Why a walk is not made.
+//! The errors of a walk.
 ghost use Rattle.std.specs.Prelude.{◌≡◌};
 ghost use Rattle.walrus_ir.specs.declared.error.WalkError.TheVariants.{Memory};
 
@@ -8,15 +8,15 @@ use thiserror::Error;
 /// Why a walk over a function's sequences was not made, or not finished.
 #[derive(Clone, Copy, Debug, PartialEq, Eq, Error)]
 pub enum WalkError {
-    /// An instruction names a sequence that the function's builder doesn't hold.
+    /// An instruction names a sequence that the function's builder doesn't have.
     #[error("an instruction names a sequence that is not there")]
     UnknownSequence,
-    /// A sequence would be walked twice.
+    /// A sequence would be entered twice.
     #[error("a sequence is reached twice")]
     SharedSequence,
     #[error("out of memory")]
     Memory,
-    /// A count of a visitor doesn't fit its type. The walk itself never answers it.
+    /// A count of a visitor doesn't fit its type. The walk itself never returns this error.
     #[error("a count is too large")]
     TooLarge,
 }

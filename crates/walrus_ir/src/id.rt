@@ -4,7 +4,7 @@ ghost use Rattle.std.specs.Prelude.{◌≡◌, ℕ};
 use std::collections::{HashMap, HashSet};
 use std::marker::{Model, PhantomData};
 
-/// The number of an item of the kind `K` in its arena. An id of another arena isn't told apart.
+/// The number of an item of the kind `K` in its arena. Ids of different arenas aren't told apart.
 #[derive_where(Clone, Copy, Debug, PartialEq, Eq, PartialOrd, Ord, Hash)]
 pub struct Id<K> {
     index: usize,
@@ -30,7 +30,7 @@ impl<K> Id<K> {
         }
     }
 
-    /// The number, from 0 on.
+    /// The number, counted from 0.
     pub fn index(self) -> usize
         ensures { result ≡ self }
     {

@@ -24,8 +24,8 @@ use crate::table::{
 };
 
 /// An instruction of the WebAssembly core specification 3.0, or of its proposals of legacy
-/// exception handling, threads and wide arithmetic. Those that hold sequences name them by their
-/// slots in the function's builder.
+/// exception handling, threads and wide arithmetic. Instructions that contain sequences refer to
+/// them by their slots in the function's builder.
 #[derive(Drop)]
 pub enum Instr {
     // Structured control, branches and exceptions.

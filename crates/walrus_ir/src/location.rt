@@ -4,8 +4,8 @@ ghost use Rattle.walrus_ir.specs.Locations.{default_location};
 
 use std::marker::Model;
 
-/// Where an instruction stands in its source, as a number that whoever reads the source chooses. A
-/// contract sees the number.
+/// The place of an instruction in its source, as a number whose meaning the reader of the source
+/// chooses. A contract sees the number.
 #[derive(Clone, Copy, Debug, PartialEq, Eq, PartialOrd, Ord, Hash)]
 pub struct InstrLocId {
     number: u32,
@@ -20,7 +20,7 @@ impl Model for InstrLocId {
 }
 
 impl InstrLocId {
-    /// The location with this number, which is not that of the default.
+    /// The location with this number, which is not that of the default location.
     pub fn new(number: u32) -> InstrLocId
         requires { number ≢ default_location }
         ensures { result ≡ number }
@@ -28,14 +28,14 @@ impl InstrLocId {
         InstrLocId { number }
     }
 
-    /// The number, that of the default too.
+    /// The number; the default location has one too.
     pub fn data(self) -> u32
         ensures { result ≡ self }
     {
         self.number
     }
 
-    /// Whether it says nothing.
+    /// Whether it is the default location, which says nothing.
     pub fn is_default(self) -> bool
         ensures { IsTrue result ↔ (self ≡ default_location) }
     {
@@ -43,7 +43,7 @@ impl InstrLocId {
     }
 }
 
-/// The location that says nothing: it has the greatest number.
+/// The location that says nothing. Its number is the greatest.
 impl Default for InstrLocId {
     ghost is_default = { λ location. location ≡ default_location };
 

@@ -1,15 +1,16 @@
-//! What accesses of memory say of themselves.
+//! The immediates and kinds of memory instructions.
 
-/// The alignment and the offset of an access.
+/// The alignment and the offset of an access (WebAssembly core specification 3.0, memory
+/// instructions).
 #[derive(Clone, Copy)]
 pub struct MemArg {
-    /// A number of bytes, a power of two where it was read.
+    /// The alignment in bytes: a power of two where it comes from a module.
     pub align: u32,
-    /// A number of bytes, which is added to the address.
+    /// The number of bytes that is added to the address.
     pub offset: u64,
 }
 
-/// How a narrow load becomes a whole value.
+/// How the value of a narrow load is extended.
 #[derive(Clone, Copy, Debug, PartialEq, Eq)]
 pub enum ExtendedLoad {
     SignExtend,
@@ -17,7 +18,7 @@ pub enum ExtendedLoad {
     ZeroExtendAtomic,
 }
 
-/// What a load reads: the type that it gives, and for a narrow one the number of bits that it
+/// What a load reads: the type of its result, and for a narrow load the number of bits that it
 /// reads.
 #[derive(Clone, Copy, Debug, PartialEq, Eq)]
 pub enum LoadKind {
@@ -33,7 +34,7 @@ pub enum LoadKind {
     I64_32 { kind: ExtendedLoad },
 }
 
-/// What a store writes: the type that it takes, and for a narrow one the number of bits that it
+/// What a store writes: the type of its operand, and for a narrow store the number of bits that it
 /// writes.
 #[derive(Clone, Copy, Debug, PartialEq, Eq)]
 pub enum StoreKind {
@@ -49,8 +50,8 @@ pub enum StoreKind {
     I64_32 { atomic: bool },
 }
 
-/// A vector access that is no plain load or store of a `v128`: a load that splats, widens or
-/// zeroes, or a load or store of one lane, whose number the variant holds.
+/// A vector access that is not a plain load or store of a `v128`: a load that splats, extends or
+/// pads with zeros, or a load or store of one lane, whose index the variant has.
 #[derive(Clone, Copy, Debug)]
 pub enum LoadSimdKind {
     Splat8,
@@ -87,7 +88,7 @@ pub enum AtomicOp {
 }
 
 /// The type of an atomic read-modify-write, and for a narrow one the number of bits that it
-/// accesses.
+/// accesses in memory.
 #[derive(Clone, Copy, Debug)]
 pub enum AtomicWidth {
     I32,

@@ -31,13 +31,13 @@ pub struct TernOp {
     pub op: TernaryOp,
 }
 
-/// `i8x16.shuffle`: the lanes of two vectors that each lane of the result is taken from.
+/// `i8x16.shuffle`: for each lane of the result, the lane of the two operands that it comes from.
 #[derive(Clone, Copy)]
 pub struct I8x16Shuffle {
     pub indices: [u8; 16],
 }
 
-/// `select`, with the type of its operands where it is written.
+/// `select`, with the type of its operands if that is given.
 #[derive(Clone, Copy)]
 pub struct Select {
     pub ty: Option<ValType>,

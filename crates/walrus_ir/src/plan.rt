@@ -1,4 +1,4 @@
-//! The plan of a walk: which sequences it enters, one after the other, if they are a tree.
+//! The plan of a walk: the sequences that it enters, in order, if they are a tree.
 ghost use Rattle.std.specs.Prelude.{◌≡◌, ◌⊎◌, ◌+◌, ◌*◌, [], length, OnOk, MatchOption, MatchResult, vec_len};
 ghost use Rattle.walrus_ir.specs.Unfolding.{handlers, slots_in, slots_in_all};
 ghost use Rattle.walrus_ir.specs.Walk.{HasNoWalk};
@@ -15,7 +15,7 @@ use crate::location::InstrLocId;
 use crate::seq::InstrSeq;
 use std::alloc::AllocError;
 
-/// What is left to be looked at.
+/// A part of a function that is still to be looked at.
 #[derive(Clone, Copy)]
 pub(crate) enum Task<'a> {
     /// The sequence at this slot.
@@ -26,18 +26,18 @@ pub(crate) enum Task<'a> {
     Clauses(&'a [LegacyCatch]),
 }
 
-/// What is kept while the plan is made.
+/// A plan that is being made.
 #[derive(Drop)]
 pub(crate) struct Plan<'a> {
     /// Whether a sequence was reached, by its slot.
     reached: Vec<bool>,
     /// The sequences that were reached, in walk order.
     order: Vec<InstrSeqId>,
-    /// What is left to be looked at, the next last.
+    /// The parts that are still to be looked at, the next last.
     tasks: Vec<Task<'a>>,
 }
 
-// How many clauses of a legacy `try` have a handler.
+// The number of clauses of a legacy `try` that have a handler.
 fn count_handlers(clauses: &[LegacyCatch]) -> usize
     ensures { result ≡ length (handlers clauses.now) }
 {
@@ -47,7 +47,7 @@ fn count_handlers(clauses: &[LegacyCatch]) -> usize
         .count()
 }
 
-/// How many sequences are inside an instruction.
+/// The number of sequences inside an instruction.
 pub(crate) fn count_inside(instr: &Instr) -> usize
     ensures { result ≡ length (slots_in instr.now) }
 {
@@ -59,7 +59,7 @@ pub(crate) fn count_inside(instr: &Instr) -> usize
     }
 }
 
-// The first instruction that sequences are in, and the instructions behind it.
+// The first instruction that contains sequences, and the instructions after it.
 fn next_holder(instrs: &[(Instr, InstrLocId)]) -> Option<(&Instr, &[(Instr, InstrLocId)])>
     ensures { MatchOption result (slots_in_all instrs.now ≡ [])
         (λ found. IsNextHolder instrs.now found.0.now found.1.now) }
@@ -74,7 +74,7 @@ fn next_holder(instrs: &[(Instr, InstrLocId)]) -> Option<(&Instr, &[(Instr, Inst
     None
 }
 
-// Puts what is inside an instruction on the stack, the first on top.
+// Pushes tasks for the sequences inside an instruction, the first on top.
 fn push_inside<'a>(tasks: &mut Vec<Task<'a>>, instr: &'a Instr) -> Result<(), AllocError>
     ensures { OnOk result
         (Adds tasks.old.items tasks.new.items (slots_in instr.now) (work_of instr.now)) }
@@ -96,7 +96,7 @@ fn push_inside<'a>(tasks: &mut Vec<Task<'a>>, instr: &'a Instr) -> Result<(), Al
     Ok(())
 }
 
-// Goes on with a sequence of which these instructions are left.
+// Goes on with a sequence from these instructions on.
 fn resume<'a>(
     tasks: &mut Vec<Task<'a>>,
     instrs: &'a [(Instr, InstrLocId)],
@@ -111,7 +111,7 @@ fn resume<'a>(
     Ok(())
 }
 
-// Goes on with a legacy `try` of which these clauses are left.
+// Goes on with a legacy `try` from these clauses on.
 fn handle<'a>(tasks: &mut Vec<Task<'a>>, clauses: &'a [LegacyCatch]) -> Result<(), AllocError>
     ensures { OnOk result
         (Adds tasks.old.items tasks.new.items (handlers clauses.now) (2 * length clauses.now)) }
@@ -127,7 +127,7 @@ fn handle<'a>(tasks: &mut Vec<Task<'a>>, clauses: &'a [LegacyCatch]) -> Result<(
     Ok(())
 }
 
-// The sequence at a slot, which is marked, if it is known and was not reached before.
+// Marks the sequence at a slot and returns it, if the builder has it and it was not reached before.
 fn reach<'a>(
     reached: &mut Vec<bool>,
     builder: &'a FunctionBuilder,
@@ -150,7 +150,7 @@ fn reach<'a>(
 }
 
 impl<'a> Plan<'a> {
-    // Enters a sequence.
+    // Enters the sequence at a slot.
     fn enter(&mut self, builder: &'a FunctionBuilder, slot: usize) -> Result<(), WalkError>
         requires { vec_len self.old.reached ≡ length builder.now.sequences }
         ensures { MatchResult result
@@ -163,7 +163,7 @@ impl<'a> Plan<'a> {
         Ok(())
     }
 
-    // Does one task, which was taken off the stack.
+    // Does one task, which was popped from the stack.
     fn advance(&mut self, builder: &'a FunctionBuilder, task: Task<'a>) -> Result<(), WalkError>
         requires { vec_len self.old.reached ≡ length builder.now.sequences }
         ensures { MatchResult result
@@ -180,8 +180,8 @@ impl<'a> Plan<'a> {
     }
 }
 
-/// The sequences from one on, each by its slot, in the order in which a walk enters them, if they
-/// are a tree. Beside the result it takes memory for a mark a sequence of the builder, and for the
+/// The slots of the sequences that a walk from `start` enters, in order, if they are a tree.
+/// Besides the result it allocates one mark for each sequence of the builder, and space for the
 /// sequences that are open at once.
 pub(crate) fn walk_order(
     builder: &FunctionBuilder,

@@ -3,7 +3,7 @@
 use crate::id::FunctionId;
 use crate::val_type::{HeapType, RefType};
 
-/// `ref.null`. Of its type only the heap type is written.
+/// `ref.null`. Only the heap type of its type is written to a module.
 #[derive(Clone, Copy)]
 pub struct RefNull {
     pub ty: RefType,

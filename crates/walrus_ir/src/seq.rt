@@ -7,16 +7,16 @@ use crate::location::InstrLocId;
 use crate::val_type::InstrSeqType;
 use std::marker::Model;
 
-/// A sequence of instructions. It is known by its slot in its function's builder. A contract sees
-/// its instructions as a list.
+/// A sequence of instructions. Instructions refer to it by its slot in its function's builder. A
+/// contract sees its instructions as a list.
 #[derive(Drop)]
 pub struct InstrSeq {
     pub(crate) id: InstrSeqId,
-    /// What it takes and gives.
+    /// The types of its operands and results.
     pub ty: InstrSeqType,
     /// Its instructions, each with its location.
     pub instrs: Vec<(Instr, InstrLocId)>,
-    /// The location of what ends it.
+    /// The location of its `end`, or of the `else` or legacy clause that ends it.
     pub end: InstrLocId,
 }
 
@@ -34,8 +34,8 @@ impl Model for InstrSeq {
 }
 
 impl InstrSeq {
-    /// The id that `FunctionBuilder::alloc` gave it. It moves with the sequence where two are
-    /// swapped, so it need not be the slot where the sequence stands.
+    /// The id that `FunctionBuilder::alloc` gave it. The id moves with the sequence when two are
+    /// swapped, so it need not be the sequence's slot.
     pub fn id(&self) -> InstrSeqId
         ensures { result ≡ self.now.id }
     {

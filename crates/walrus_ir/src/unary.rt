@@ -1,10 +1,10 @@
 //! Operators of one operand.
 
-/// A numeric or vector operator of one operand: a test, a conversion, a splat or the reading of a
-/// lane. The names are those of the WebAssembly core specification in camel case (`i32.clz` is
-/// `I32Clz`), but that the sign of a conversion stands before its source type (`I32TruncSF32`,
-/// `I32TruncSSatF32`), and that an extension of vectors to `i16x8` or `i32x4` is called `Widen`.
-/// `idx` is the number of a lane.
+/// A numeric or vector operator of one operand: among them tests, conversions, splats and the
+/// extraction of a lane. The names are those of the WebAssembly core specification in camel case
+/// (`i32.clz` is `I32Clz`), with two exceptions: the sign of a conversion comes before its source
+/// type (`I32TruncSF32`, `I32TruncSSatF32`), and the extension of a vector to `i16x8` or `i32x4` is
+/// called `Widen`. `idx` is the index of a lane.
 #[derive(Clone, Copy)]
 pub enum UnaryOp {
     I32Eqz,

@@ -21,23 +21,25 @@ pub enum AbstractHeapType {
     Exn,
 }
 
-/// What a reference refers to. `T` is how a type of the module is named: by its id, or where an
-/// operator is spelt by its raw index.
+/// What a reference refers to (WebAssembly core specification 3.0, heap types). `T` identifies a
+/// type of the module: it is an id, or a raw index in operators as the binary format has them.
 #[derive(Clone, Copy, Debug, PartialEq, Eq, PartialOrd, Ord, Hash)]
 pub enum HeapType<T = TypeId> {
     Abstract(AbstractHeapType),
     Concrete(T),
 }
 
-/// The type of a reference. Those that aren't nullable come first in the order, then abstract
-/// before concrete.
+/// The type of a reference (WebAssembly core specification 3.0, reference types). In the order, the
+/// types that aren't nullable come first; among them, and among the others, abstract heap types
+/// come before concrete ones.
 #[derive(Clone, Copy, Debug, PartialEq, Eq, PartialOrd, Ord, Hash)]
 pub struct RefType<T = TypeId> {
     pub nullable: bool,
     pub heap_type: HeapType<T>,
 }
 
-/// The type of a value, in the order in which locals are grouped.
+/// The type of a value (WebAssembly core specification 3.0, value types), in the order in which
+/// locals are grouped.
 #[derive(Clone, Copy, Debug, PartialEq, Eq, PartialOrd, Ord, Hash)]
 pub enum ValType<T = TypeId> {
     I32,
@@ -48,12 +50,13 @@ pub enum ValType<T = TypeId> {
     Ref(RefType<T>),
 }
 
-/// The type of a sequence of instructions: what it takes and gives.
+/// The type of a sequence of instructions: the types of its operands and results (WebAssembly core
+/// specification 3.0, block types).
 #[derive(Clone, Copy, Debug, PartialEq, Eq, Hash)]
 pub enum InstrSeqType {
-    /// It takes nothing, and gives nothing or one value.
+    /// It has no operands, and no result or one.
     Simple(Option<ValType>),
-    /// It takes and gives what a function type of the module does.
+    /// It has the parameters and results of a function type of the module.
     MultiValue(TypeId),
 }
 
@@ -61,9 +64,9 @@ impl InstrSeqType {
     ghost use Rattle.std.specs.Prelude.{◌≡◌};
     ghost use Rattle.walrus_ir.specs.Types.{existing};
 
-    /// The type of a sequence that takes and gives these values. Where it takes nothing and gives
-    /// at most one value it is simple; else it is the first function type of the module with these
-    /// lists, by id, if there is one. It takes no memory.
+    /// The type of a sequence with these parameters and results. Without parameters and with at
+    /// most one result it is simple; otherwise it is the first function type of the module with
+    /// these lists, by id, if there is one. This allocates nothing.
     pub fn existing(
         types: &ModuleTypes,
         params: &[ValType],

@@ -1,6 +1,6 @@
 //! Constants.
 
-/// A constant; a float by its bits.
+/// A constant. A float is given by its bits.
 #[derive(Clone, Copy)]
 pub enum Value {
     I32(i32),

@@ -7,14 +7,14 @@ use crate::location::InstrLocId;
 use crate::reference::RefFunc;
 use crate::seq::InstrSeq;
 
-/// What is told of the events of a walk. Each call may refuse, which ends the walk, and then leaves
-/// the visitor as it was.
+/// A receiver of the events of a walk. Each call may fail, which ends the walk; it then leaves the
+/// visitor as it was.
 ///
-/// A visitor says what it means: `steps s e t`, at the state `s` it may take the event `e`, and is
-/// then at `t`; `refuses s e f`, at `s` it may refuse `e` with the fault `f`; `same s t`, at `t` it
-/// is as it was at `s`.
+/// A visitor defines its meaning: `steps s e t`, in the state `s` it may take the event `e` and is
+/// then in the state `t`; `refuses s e f`, in `s` it may refuse `e` with the fault `f`; `same s t`,
+/// in `t` it is as it was in `s`.
 pub trait Visitor {
-    /// Why a call is refused, or the walk not made.
+    /// The error of a call, or of a walk that isn't made.
     type Fault: From<WalkError>;
 
     ghost use Rattle.std.specs.Prelude.{◌≡◌};
@@ -36,7 +36,7 @@ pub trait Visitor {
     fn end_instr_seq(&mut self, seq: &InstrSeq) -> Result<(), Self::Fault>
         ensures { Hears steps refuses same self.old (EndSequence seq.now) result self.new };
 
-    /// An instruction, before what it names and the sequences in it.
+    /// An instruction, before the item that it names and the sequences in it.
     fn visit_instr(&mut self, instr: &Instr, loc: &InstrLocId) -> Result<(), Self::Fault>
         ensures { Hears steps refuses same self.old
             (VisitInstruction instr.now loc.now) result self.new };

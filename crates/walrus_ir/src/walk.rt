@@ -23,13 +23,13 @@ use crate::visitor::Visitor;
 #[derive(Clone, Copy)]
 pub(crate) struct Open<'a> {
     seq: &'a InstrSeq,
-    /// The instructions that are left.
+    /// The instructions that are still to be visited.
     rest: &'a [(Instr, InstrLocId)],
-    /// How many sequences inside the last instruction are still to come.
+    /// The number of sequences inside the last instruction that are still to come.
     inside: usize,
 }
 
-// Tells a visitor what an instruction names.
+// Tells a visitor the item that an instruction names, if any.
 fn tell_names<V: Visitor>(visitor: &mut V, instr: &Instr) -> Result<(), V::Fault>
     ensures { Tells V.steps V.refuses V.same visitor.old (names instr.now) result visitor.new }
 {
@@ -46,7 +46,7 @@ fn tell_names<V: Visitor>(visitor: &mut V, instr: &Instr) -> Result<(), V::Fault
     }
 }
 
-// Tells a visitor an instruction, and then what it names.
+// Tells a visitor an instruction, and then the item that it names, if any.
 fn tell_instr<V: Visitor>(visitor: &mut V, located: &(Instr, InstrLocId)) -> Result<(), V::Fault>
     ensures { Tells V.steps V.refuses V.same visitor.old
         (VisitInstruction located.now.0 located.now.1 ∷ names located.now.0) result visitor.new }
@@ -80,8 +80,8 @@ fn start_seq<'a, V: Visitor>(
     Ok(())
 }
 
-// Tells a visitor instructions, up to the first that holds sequences, and answers those behind it
-// and how many it holds: none where no instruction is left.
+// Tells a visitor instructions, up to the first that contains sequences. Returns the instructions
+// after it and the number of sequences in it, which is 0 where no instruction is left.
 fn tell_stretch<'a, V: Visitor>(
     visitor: &mut V,
     instrs: &'a [(Instr, InstrLocId)],
@@ -105,8 +105,8 @@ fn tell_stretch<'a, V: Visitor>(
     Ok((left, 0))
 }
 
-// Starts the next sequence inside the last instruction of an open one, which is taken off the
-// stack, and answers what is then to come.
+// Starts the next sequence inside the last instruction of an open one, which was popped from the
+// stack. Returns the slots that are to come after it.
 fn start_inside<'a, 'b, V: Visitor>(
     visitor: &mut V,
     builder: &'a FunctionBuilder,
@@ -139,8 +139,8 @@ fn start_inside<'a, 'b, V: Visitor>(
     Ok(left)
 }
 
-// Tells what comes next at the innermost open sequence, which is taken off the stack, and answers
-// what is then to come.
+// Tells what comes next in the innermost open sequence, which was popped from the stack. Returns
+// the slots that are to come after that.
 fn tell_next<'a, 'b, V: Visitor>(
     visitor: &mut V,
     builder: &'a FunctionBuilder,
@@ -178,7 +178,7 @@ fn tell_next<'a, 'b, V: Visitor>(
     Ok(coming)
 }
 
-// The sequences that a walk enters, and room for those that are open at once.
+// The slots of the sequences that a walk enters, and room for those that are open at once.
 fn plan<'a>(
     builder: &'a FunctionBuilder,
     start: InstrSeqId,
@@ -194,14 +194,15 @@ fn plan<'a>(
     Ok((order, stack))
 }
 
-/// Walks over the sequences from one on, in order. Whether they are a tree is found out before the
-/// visitor is called, and all memory that the walk itself needs is taken before: a slot and a mark
-/// a sequence, and what is kept of those that are open.
+/// Walks over the sequences of a function from `start` on, in order. Before the first call of the
+/// visitor it is known that the sequences are a tree, and all memory that the walk itself needs is
+/// allocated: a slot and a mark for each sequence, and room for those that are open at once.
 ///
 /// # Errors
 ///
-/// Where there is no tree, the first fault in walk order, or `WalkError::Memory`, turned into the
-/// visitor's fault; the visitor was not called. Else the visitor's own fault, which ends the walk.
+/// If there is no tree, the first fault in walk order; if memory runs out, `WalkError::Memory`.
+/// Both are turned into the visitor's fault, and the visitor was not called. Otherwise the fault of
+/// the visitor's call that failed, which ends the walk.
 pub fn dfs_in_order<V: Visitor>(
     visitor: &mut V,
     builder: &FunctionBuilder,

@@ -1,4 +1,4 @@
--- The instructions that were passed hold no sequences.
+-- The instructions so far contain no sequences.
 use Rattle.std.proofs.Common.{◌≡◌, ◌≤◌, length}
 use Rattle.walrus_ir.specs.Unfolding.{slots_in_all}
 use Rattle.walrus_ir.specs.Planning.{work_of_all}

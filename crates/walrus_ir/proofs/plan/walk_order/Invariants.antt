@@ -1,4 +1,4 @@
--- The walk stands where the tasks go on; each task takes from the work that is left.
+-- The walk goes on to the slots of the tasks; each task lowers the bound of the steps that are left.
 use Rattle.std.proofs.Common.{◌+◌}
 use Rattle.walrus_ir.specs.Planning.{agenda, work}
 use Rattle.walrus_ir.proofs.Marks.{unreached}

@@ -1,4 +1,5 @@
--- What was told, and what is open and to come, make up the tree; for what is to come there is room.
+-- The events told so far and those of the open sequences and the slots to come make up the tree's events; the stack has room
+-- for the sequences to come.
 use Rattle.std.proofs.Common.{◌+◌, ◌≤◌, length, vec_len, vec_capacity}
 use Rattle.walrus_ir.specs.Telling.{frames}
 use Rattle.walrus_ir.proofs.Pending.{work_to_come, work_open}
