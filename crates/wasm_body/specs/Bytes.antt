@@ -1,4 +1,4 @@
--- The bytes of a tree.
+-- The bytes of a tree (WebAssembly core specification 3.0, binary format, instructions and indices).
 use Rattle.std.specs.Prelude.{ℕ, ◌^◌, nat_lt, List, Some, None, Result, Ok}
 use Rattle.std.specs.List.{flat_map}
 use Rattle.walrus_ir.specs.declared.val_type.InstrSeqType.{InstrSeqType}
@@ -21,11 +21,11 @@ pub record Numbers : Type 0 where
   pub number_of : Space → ℕ → Result ℕ EmitError
   pub local_number : ℕ → Result ℕ EmitError
 
--- what is written in 32 bits
+-- a number, if it fits 32 bits
 abbrev pub in_32_bits : ℕ → Result ℕ EmitError
 in_32_bits n = unless (nat_lt n (2 ^ 32)) TooLarge >>= λ _. Ok n
 
--- numbers that are written: those of 32 bits
+-- the numbers that can be written: those that fit 32 bits
 abbrev pub numbers_in_32_bits : Numbers → Numbers
 numbers_in_32_bits to = record { number_of = λ space id. to.number_of space id >>= in_32_bits; local_number = λ id. to.local_number id >>= in_32_bits }
 
@@ -34,7 +34,7 @@ numbered_block to (Simple None) = Ok Empty
 numbered_block to (Simple (Some t)) = translate_value (numbers_in_32_bits to).number_of t >>= λ u. Ok (Value u)
 numbered_block to (MultiValue id) = (numbers_in_32_bits to).number_of Types id >>= λ n. Ok (FuncType n)
 
--- Numbering: a number for each id, and the number of its type for a block type. Each number, depth and count is one of 32
+-- Numbering: a number for each id, and for a block type the number of the type. Each number, depth and count has to fit 32
 -- bits.
 abbrev pub numbering : Numbers → Translation ℕ InstrSeqType ℕ BlockType EmitError
 numbering to = record {
@@ -49,14 +49,14 @@ numbering to = record {
   count = λ n. in_32_bits n >>= λ _. Ok tt;
 }
 
--- the operators of a tree as they are spelt, each at its location
+-- the operators of a tree as they are encoded, each at its location
 abbrev pub numbered_text : Numbers → FunctionTree → Result (List (Located RawOperation)) EmitError
 numbered_text to t = tree_text (then_by (numbering to)) t
 
--- the shortest spelling of each, one behind the other
+-- the shortest encodings of the operators, one after the other
 abbrev pub bytes_of : List (Located RawOperation) → List ℕ
 bytes_of xs = flat_map (λ x. short x.op) xs
 
--- The bytes of a tree under the numbers, or the first fault in order of writing.
+-- The bytes of a tree with these numbers, or the first fault in the order of writing.
 abbrev pub tree_bytes : Numbers → FunctionTree → Result (List ℕ) EmitError
 tree_bytes to t = numbered_text to t >>= λ xs. Ok (bytes_of xs)

@@ -1,5 +1,5 @@
--- What an operator does to the control (WebAssembly core specification 3.0, control instructions; legacy exception
--- handling). Trees, label rules and the trace machine know an operator by this alone.
+-- What an operator does to the control flow (WebAssembly core specification 3.0, control instructions; legacy exception
+-- handling). Trees, rules on labels and the trace machine use nothing else of an operator.
 use Rattle.std.specs.Prelude.{ℕ, List, [], ◌∷◌, map, Option, unwrap_or, ◌==◌, if◌then◌else◌}
 use Rattle.wasm_operators.specs.declared.types.Opcode.{Opcode}
 use Rattle.wasm_operators.specs.declared.types.Opcode.TheVariants.{Byte, Prefixed}
@@ -59,7 +59,7 @@ byte_roles =
     (0xd6, a_conditional_branch) ∷  -- br_on_non_null
     []
 
--- behind the prefix 0xfb
+-- after the prefix 0xfb
 abbrev pub aggregate_roles : List (ℕ × Role)
 aggregate_roles =
     (24, a_conditional_branch) ∷  -- br_on_cast
@@ -91,7 +91,7 @@ pub record Clause : Type 0 where
   pub tag : Option ℕ
   pub label : ℕ
 
--- what an opener opens
+-- the construct that an operator opens
 pub data Construct : Type 0 where
   Block : Construct
   Loop : Construct
@@ -163,7 +163,7 @@ control_by a_plain is = Does Plain
 abbrev pub control_of : {B : Type 0} → Operation ℕ B → Control
 control_of o = control_by (role_of o.opcode) o.immediates
 
--- an operator as trees and runs know it: what is shown of it, and what it does to the control
+-- an operator as trees and runs see it: a value that is shown for it, and what it does to the control flow
 pub record Marked (A : Type 0) : Type 0 where
   pub shown : A
   pub control : Control

@@ -1,5 +1,5 @@
--- Why what a parse made can't be written: an id or a local has no number, and of its operators that is all; of the declarations
--- of its locals a count may be too large besides (WebAssembly core specification 3.0, binary format, code section).
+-- Why the result of a parse can't be written. Its operators: only because an id or a local has no number. The declarations of
+-- its locals: also because a count is too large (WebAssembly core specification 3.0, binary format, code section).
 use Rattle.std.specs.Prelude.{◌≡◌, ◌⊎◌, ℕ, ◌<◌, ◌^◌, List, Result, Ok, Err}
 use Rattle.std.specs.List.{AllByRecursion}
 use Rattle.wasm_operators.specs.declared.types.Space.{Space}
@@ -19,7 +19,7 @@ IsUnnumbered (Index (Unnumbered space)) = Unit {0}
 IsUnnumbered UnnumberedLocal = Unit {0}
 IsUnnumbered _ = ⊥
 
--- This is a number of 32 bits, or there is none.
+-- The result is a number that fits 32 bits, or there is no number.
 abbrev pub IsNumber : Result ℕ EmitError → Type 0
 IsNumber (Ok n) = n < 2 ^ 32
 IsNumber (Err e) = IsUnnumbered e
@@ -27,18 +27,18 @@ IsNumber (Err e) = IsUnnumbered e
 abbrev pub AreIdNumbers : Numbers → Type 0
 AreIdNumbers to = (space : Space) (id : ℕ) → IsNumber (to.number_of space id)
 
--- Each number that is given is one of 32 bits.
+-- Each id and each local has a number that fits 32 bits, or none.
 pub record AreNumbers (to : Numbers) : Type 0 where
   pub ids : AreIdNumbers to
   pub locals : (id : ℕ) → IsNumber (to.local_number id)
 
--- The operators of an accepted body's normal form have bytes, but for ids and locals without numbers.
+-- The operators of an accepted body's normal form have bytes, unless an id or a local has no number.
 abbrev pub EmissionFaults : Type 0
 EmissionFaults =
     (env : Environment) (xs : List Occurrence) (b : Body Occurrence) → AllByRecursion HasSpelling xs → Lawful env xs b →
     (to : Numbers) → AreNumbers to → (e : EmitError) → tree_bytes to (body_tree env b) ≡ Err e → IsUnnumbered e
 
--- Locals can be declared, but for too many of them, and for ids without numbers in their types.
+-- Locals can be declared, unless there are too many, or an id in their types has no number.
 abbrev pub DeclarationFaults : Type 0
 DeclarationFaults =
     (to : Numbers) → AreIdNumbers to → (arguments : ℕ) (locals : List Local) (e : EmitError) → declared to arguments locals ≡ Err e →

@@ -1,5 +1,5 @@
 -- The law of executions: a body and the text of its normal form execute the same operators, at the same locations, and end
--- alike.
+-- in the same way (WebAssembly core specification 3.0, execution, control instructions).
 use Rattle.std.specs.Prelude.{◌≡◌, ℕ, ◌≤◌, List, [], length, map, Option, Some}
 use Rattle.std.specs.List.{AllByRecursion}
 use Rattle.wasm_body.specs.Control.{Control, control_of, Marked}
@@ -17,15 +17,15 @@ use Rattle.wasm_body.specs.Places.{show_run, placed_from, run_by_place, shown_by
 abbrev pub controls : List (Located NamedOperation) → List Control
 controls xs = map (λ x. control_of x.op) xs
 
--- which operators a list executes
+-- the operators that a list executes
 abbrev pub operators_of : List (Located NamedOperation) → List Outcome → (turns : ℕ) → Run (Option NamedOperation)
 operators_of xs outcomes turns = shown_by (map (λ x. x.op) xs) (run_by_place (controls xs) outcomes turns)
 
--- at which locations
+-- the locations of the operators that a list executes
 abbrev pub locations_of : List (Located NamedOperation) → List Outcome → (turns : ℕ) → Run (Option ℕ)
 locations_of xs outcomes turns = shown_by (map (λ x. x.location) xs) (run_by_place (controls xs) outcomes turns)
 
--- The two lists execute the same operators, at the same locations, and end alike: for all outcomes and turns.
+-- The two lists execute the same operators, at the same locations, and end in the same way: for all outcomes and turns.
 pub record ExecuteAlike (xs ys : List (Located NamedOperation)) : Type 0 where
   pub operators : (outcomes : List Outcome) (turns : ℕ) → operators_of xs outcomes turns ≡ operators_of ys outcomes turns
   pub locations : (outcomes : List Outcome) (turns : ℕ) → locations_of xs outcomes turns ≡ locations_of ys outcomes turns
@@ -36,20 +36,20 @@ pub record HasTextAlike (m : Typing) (tree : FunctionTree) (xs : List (Located N
   pub is_text : IsTextOf m tree text
   pub alike : ExecuteAlike xs text
 
--- The normal form of a body of named operators has a text, and the two execute alike: of every construct.
+-- The normal form of a body of named operators has a text, and the two execute alike. The body may have any construct.
 abbrev pub NamedExecutionsKept : Type 0
 NamedExecutionsKept =
     (m : Typing) (xs : List (Located NamedOperation)) (b : Body (Located NamedOperation)) → IsNamedBody xs b → AreTyped m xs →
     HasTextAlike m (normal_form m b) xs
 
--- Of every accepted body the normal form has a text, and the two execute alike.
+-- The normal form of an accepted body has a text, and the two execute alike.
 abbrev pub ExecutionsKept : Type 0
 ExecutionsKept =
     (env : Environment) (xs : List Occurrence) (b : Body Occurrence) → AllByRecursion HasSpelling xs → Lawful env xs b →
     HasTextAlike (typing_of env) (body_tree env b) (map name_at xs)
 
--- Each event of a run by place has its operator: what stands at the places is what the machine shows of the operators
--- themselves.
+-- Each event of a run by place has its operator: the operators at the places of the run are those that the machine shows when
+-- it runs on the operators themselves.
 pub record ShowsOperators (xs : List (Located NamedOperation)) (outcomes : List Outcome) (turns : ℕ) : Type 0 where
   pub operators : operators_of xs outcomes turns ≡ show_run (λ x. Some x.op) (run (map mark_named xs) outcomes turns)
   pub locations : locations_of xs outcomes turns ≡ show_run (λ x. Some x.location) (run (map mark_named xs) outcomes turns)
@@ -57,8 +57,8 @@ pub record ShowsOperators (xs : List (Located NamedOperation)) (outcomes : List 
 abbrev pub RunsShowOperators : Type 0
 RunsShowOperators = (xs : List (Located NamedOperation)) (outcomes : List Outcome) (turns : ℕ) → ShowsOperators xs outcomes turns
 
--- A body runs alike with whatever bounds on the operators of its turns that are no less than their count. So the count
--- never runs out, and a run that ends Returned has returned.
+-- A body has the same run with every bound on the operators of a turn that is not less than their count. So the count never
+-- runs out, and a run that ends with Returned has returned.
 abbrev pub CountSuffices : Type 0
 CountSuffices =
     (xs : List (Located NamedOperation)) (b : Body (Located NamedOperation)) → IsNamedBody xs b →

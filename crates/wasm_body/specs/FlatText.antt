@@ -1,5 +1,5 @@
--- The flat text: the operators of a function's tree as a list, in the order of writing, each at its location. How they are
--- written is a translation: with ids, with numbers, or with names.
+-- The flat text: the operators of a function's tree as a list, in the order of writing, each at its location. A translation
+-- says how they are written: with ids, with numbers, or with names.
 use Rattle.std.specs.Prelude.{ℕ, zero, suc, ◌/◌, nat_lt, if◌then◌else◌, List, [], ◌∷◌, Bool, true, false, None, Result, Ok, Err}
 use Rattle.walrus_ir.specs.declared.val_type.InstrSeqType.{InstrSeqType}
 use Rattle.walrus_ir.specs.declared.val_type.InstrSeqType.TheVariants.{Simple}
@@ -16,7 +16,7 @@ use Rattle.wasm_body.specs.Translation.{Translation, translate, Located, at_loca
 use Rattle.wasm_body.specs.FunctionTree.{Target, Depth, Outside, Head, LegacyClause, handles, handles_all, delegates, Instruction, FunctionTree}
 use Rattle.wasm_body.specs.NormalForm.{Typing}
 
--- an operator of the text, before it is written: an opener carries the type of its first sequence
+-- an operator of the text, before it is written: an operator that opens a construct has the type of its first sequence
 abbrev pub TextOperation : Type 0
 TextOperation = Operation Target InstrSeqType
 
@@ -24,9 +24,9 @@ TextOperation = Operation Target InstrSeqType
 abbrev pub Writing : Type 0 → Type 0 → Type 0
 Writing M C = Translation Target InstrSeqType M C EmitError
 
--- ---- which operators close the sequences of an instruction
+-- ---- the operators that close the sequences of an instruction
 
--- any number of handlers by tag, then at most one of all; or one delegate alone
+-- lawful clauses of a `try`: any number of handlers by tag, then at most one of all tags; or one delegate alone
 abbrev pub is_empty : List LegacyClause → Bool
 is_empty [] = true
 is_empty (c ∷ cs) = false
@@ -43,14 +43,14 @@ are_lawful (handles t ∷ cs) = are_handlers cs
 are_lawful (handles_all ∷ cs) = is_empty cs
 are_lawful (delegates n ∷ cs) = is_empty cs
 
--- a try's body and each handler end where the next clause begins, and the last at the `end`
+-- the body of a `try` and each handler end where the next clause begins, and the last one ends at the `end`
 abbrev pub try_closers : List LegacyClause → List TextOperation
 try_closers [] = end_operation ∷ []
 try_closers (handles t ∷ cs) = operation catch_opcode (index Tags t ∷ []) ∷ try_closers cs
 try_closers (handles_all ∷ cs) = catch_all_operation ∷ try_closers cs
 try_closers (delegates n ∷ cs) = delegate_operation n ∷ []
 
--- a consequent alone ends at the `end`
+-- a consequent without an alternative ends at the `end`
 abbrev pub if_closers : {S I : Type 0} → Sequences S I → List TextOperation
 if_closers no_sequences = []
 if_closers (sequence h is no_sequences) = end_operation ∷ []
@@ -69,7 +69,7 @@ closers _ cs ss = []
 abbrev pub written : {M C : Type 0} → Writing M C → TextOperation → ℕ → Result (Located (Operation M C)) EmitError
 written w o l = translate w o >>= λ x. Ok (at_location x l)
 
--- where each block type is this one
+-- the same way of writing, where each block type is this one
 abbrev pub typed : {M C : Type 0} → Writing M C → InstrSeqType → Translation Target (Unit {0}) M C EmitError
 typed w t = record {
   index = w.index;
@@ -91,7 +91,7 @@ first_type (sequence h is r) = h.type
 abbrev pub opened : {M C : Type 0} → Writing M C → Instruction → InstrSeqType → Result (Located (Operation M C)) EmitError
 opened w i t = if are_lawful i.clauses then (translate (typed w t) i.op >>= λ x. Ok (at_location x i.location)) else Err BadClauses
 
--- each sequence, and the operator that closes it at its end location
+-- each sequence, and after it the operator that closes it, at the location of its end
 abbrev mutual
   pub text : {M C : Type 0} → Writing M C → Items Head Instruction → List (Result (Located (Operation M C)) EmitError) → List (Result (Located (Operation M C)) EmitError)
   text w no_items k = k
@@ -102,7 +102,7 @@ abbrev mutual
   texts w [] (sequence h is r) k = k
   texts w (c ∷ cs) (sequence h is r) k = text w is (written w c h.end_location ∷ texts w cs r k)
 
--- the operators of the tree, or the first fault in order of writing
+-- the operators of the tree, or the first fault in the order of writing
 abbrev pub tree_text : {M C : Type 0} → Writing M C → FunctionTree → Result (List (Located (Operation M C))) EmitError
 tree_text w t = gather (texts w (end_operation ∷ []) (alone t) [])
 
@@ -112,7 +112,7 @@ abbrev pub halvings : ℕ → ℕ → ℕ
 halvings zero n = zero
 halvings (suc f) n = if nat_lt n 2 then zero else suc (halvings f (n / 2))
 
--- of the greatest power of two that is at most the alignment
+-- the exponent of the greatest power of two that is at most the alignment
 abbrev pub exponent_of : ℕ → ℕ
 exponent_of n = halvings n n
 
@@ -134,7 +134,7 @@ with_ids = record {
   count = λ n. Ok tt;
 }
 
--- from ids and types of sequences onwards
+-- first to ids and types of sequences, and then by another translation
 abbrev pub then_by : {M C : Type 0} → Translation ℕ InstrSeqType M C EmitError → Writing M C
 then_by f = record {
   index = f.index;
@@ -148,7 +148,7 @@ then_by f = record {
   count = f.count;
 }
 
--- from ids and types of sequences to names, where the module holds the types
+-- from ids and types of sequences to names, where the module has the types
 abbrev pub names : Typing → Translation ℕ InstrSeqType ℕ Signature EmitError
 names m = record {
   index = λ space n. Ok n;

@@ -3,7 +3,7 @@ use Rattle.std.specs.Prelude.{ℕ, zero, suc, List, [], ◌∷◌, Bool, true, f
 use Rattle.wasm_body.specs.Control.{Construct, Block, Loop, TryTable, If, Try, Control, Does, Opens, Else, Catch, CatchAll, End, Delegate, Marked, with_control}
 use Rattle.wasm_body.specs.SourceTree.{construct_of, Sequence, Empty, Single, Wrapped, IfThen, IfElse, TryCatch, TryDelegate, Clauses, Ended, Catches, CatchesAll, Body}
 
--- an open sequence, with what is shown of the operator that opened its construct
+-- an open sequence, with the value that is shown for the operator that opened its construct
 pub data Frame (A : Type 0) : Type 0 where
   OfFunction : Frame A
   OfWrapper : (a : A) → Frame A
@@ -13,13 +13,13 @@ pub data Frame (A : Type 0) : Type 0 where
   Handler : (a : A) → Frame A
   HandlerOfAll : (a : A) → Frame A
 
--- what must hold at an operator, by the frames around it
+-- a condition on an operator and the frames around it
 abbrev pub Rule : Type 0 → Type 1
 Rule A = List (Frame A) → Marked A → Type 0
 
 -- ---- a rule along a tree
 
--- The rule holds at each operator of a sequence around which these frames are, its own included.
+-- The rule holds at each operator of a sequence, where these are the frames around the operators, the sequence's own included.
 abbrev mutual
   pub Follows : {A : Type 0} → Rule A → List (Frame A) → Sequence A → Type 0
   Follows R fs Empty = Unit {0}
@@ -40,7 +40,7 @@ abbrev mutual
   Follows R fs (TryDelegate a b e n r) =
       R fs (with_control a (Opens Try)) × Follows R (TryBody a ∷ fs) b × R (TryBody a ∷ fs) (with_control e (Delegate n)) × Follows R fs r
 
-  -- the clauses behind the sequence f of the `try` that a opens
+  -- the clauses after the sequence f of the `try` that a opens
   pub FollowsIn : {A : Type 0} → Rule A → List (Frame A) → A → Frame A → Clauses A → Type 0
   FollowsIn R fs a f (Ended e) = R (f ∷ fs) (with_control e End)
   FollowsIn R fs a f (Catches h t b cs) = R (f ∷ fs) (with_control h (Catch t)) × Follows R (Handler a ∷ fs) b × FollowsIn R fs a (Handler a) cs
@@ -54,7 +54,7 @@ function_frames = OfFunction ∷ []
 abbrev pub BodyFollows : {A : Type 0} → Rule A → Body A → Type 0
 BodyFollows R b = Follows R function_frames b.sequence × R function_frames (with_control b.close End)
 
--- ---- the frames behind an operator
+-- ---- the frames after an operator
 
 abbrev pub frame_opened : {A : Type 0} → A → Construct → Frame A
 frame_opened a Block = OfWrapper a
@@ -85,8 +85,8 @@ abbrev pub delegate_moves : {A : Type 0} → List (Frame A) → Frame A → Opti
 delegate_moves fs (TryBody a) = Some fs
 delegate_moves fs _ = None
 
--- The frames behind an operator, or none where it may not stand: an opener adds one, an operator that parts a construct
--- changes the innermost, one that closes a construct removes it.
+-- The frames after an operator, or none where the operator is not allowed. An operator that opens a construct adds a frame;
+-- `else`, `catch` and `catch_all` change the innermost frame; an operator that closes a construct removes it.
 abbrev pub moves : {A : Type 0} → Control → A → List (Frame A) → Option (List (Frame A))
 moves c a [] = None
 moves (Does action) a (f ∷ fs) = Some (f ∷ fs)
@@ -101,14 +101,14 @@ abbrev pub moved : {A : Type 0} → Option (List (Frame A)) → Marked A → Opt
 moved None x = None
 moved (Some fs) x = moves x.control x.shown fs
 
--- the frames behind so many operators
+-- the frames after these operators
 abbrev pub frames_behind : {A : Type 0} → Option (List (Frame A)) → List (Marked A) → Option (List (Frame A))
 frames_behind frames [] = frames
 frames_behind frames (x ∷ xs) = frames_behind (moved frames x) xs
 
--- ---- what the rules ask of frames
+-- ---- conditions of the rules on frames
 
--- whether an operator may stand in the innermost sequence
+-- whether an operator is allowed in the innermost sequence
 abbrev pub may_stand : {A : Type 0} → List (Frame A) → Control → Bool
 may_stand [] c = false
 may_stand (f ∷ fs) (Does action) = true
@@ -135,7 +135,7 @@ abbrev pub outside : {A : Type 0} → List (Frame A) → List (Frame A)
 outside [] = []
 outside (f ∷ fs) = fs
 
--- what is shown of the opener of the innermost sequence
+-- the value that is shown for the operator that opened the construct of the innermost sequence
 abbrev pub opener_of : {A : Type 0} → Frame A → Option A
 opener_of OfFunction = None
 opener_of (OfWrapper a) = Some a

@@ -5,28 +5,28 @@ use Rattle.walrus_ir.specs.declared.val_type.InstrSeqType.{InstrSeqType}
 use Rattle.walrus_ir.specs.Tree.{Items, Sequences, Tree, alone, map_items, map_sequences}
 use Rattle.wasm_operators.specs.Operations.{Operation}
 
--- what a branch goes to: a sequence around it, by the number of sequences between, or none of them
+-- the target of a branch: a sequence around it, given by the number of sequences between them, or a sequence outside
 pub data Target : Type 0 where
   Depth : (n : ℕ) → Target
   Outside : Target
 
--- An operator as the tree holds it. Of its block type only the place among the immediates is left: the type is that of its
--- first sequence. The alignment of an access is a number of bytes.
+-- An operator in the tree. Its block type is only a placeholder among the immediates: the type is that of its first sequence.
+-- The alignment of an access is a number of bytes.
 abbrev pub TreeOperation : Type 0
 TreeOperation = Operation Target (Unit {0})
 
--- what is kept of a sequence
+-- the data of a sequence in the tree, its instructions apart
 pub record Head : Type 0 where
   pub type : InstrSeqType
   pub end_location : ℕ
 
--- a clause of a legacy `try`; its handlers are the sequences behind the body, in order
+-- a clause of a legacy `try`; the handlers are the sequences after the body, in order
 pub data LegacyClause : Type 0 where
   handles : (tag : ℕ) → LegacyClause
   handles_all : LegacyClause
   delegates : (n : ℕ) → LegacyClause
 
--- what is kept of an instruction
+-- the data of an instruction in the tree, the sequences in it apart
 pub record Instruction : Type 0 where
   pub op : TreeOperation
   pub clauses : List LegacyClause
@@ -39,7 +39,7 @@ FunctionTree = Tree Head Instruction
 abbrev pub default_location : ℕ
 default_location = 4294967295
 
--- ---- the same tree: equal with all locations left away
+-- ---- the same tree: equal apart from all locations
 
 abbrev pub Bare : Type 0
 Bare = TreeOperation × List LegacyClause

@@ -1,5 +1,6 @@
--- Which operator an instruction of the tree is: its opcode, and its immediates in the order in which they are written.
--- Labels are the places of the sequences that they name, and of a block type only the place among the immediates is left.
+-- The operator of each instruction of the tree: its opcode, and its immediates in the order in which they are written
+-- (WebAssembly core specification 3.0, binary format, instructions). A label is the place of the sequence that it names in
+-- the function's builder, and a block type is only a placeholder.
 use Rattle.std.specs.Prelude.{ℕ, List, [], ◌∷◌, map, Bool, true, false, Option, Some, None}
 use Rattle.walrus_ir.specs.declared.instr.Instr.{Instr}
 use Rattle.walrus_ir.specs.declared.instr.Instr.TheVariants as instr
@@ -65,7 +66,7 @@ wait_kind true = Wait64
 
 -- ---- the table
 
--- a row an instruction
+-- one row for each instruction
 abbrev pub operation_of : Instr → PlacedOperation
 -- control, calls, operands, locals, globals and vectors
 operation_of instr.Unreachable = operation (Byte 0x00) []

@@ -1,4 +1,4 @@
--- Where the sequences of items stand: their places rise, in walk order, within an interval.
+-- The places of the sequences in items: they rise, in walk order, within an interval.
 use Rattle.std.specs.Prelude.{ℕ, suc, ◌≤◌}
 use Rattle.walrus_ir.specs.Tree.{Items, no_items, item, Sequences, no_sequences, sequence}
 use Rattle.walrus_ir.specs.Unfolding.{SequenceAt, LocatedInstr}

@@ -1,4 +1,4 @@
--- What is kept of a sequence while it is read: whether an operator in it has cut off what follows.
+-- While a sequence is read: whether an operator in it has cut off the rest of the sequence.
 use Rattle.std.specs.Prelude.{Bool, true, false}
 use Rattle.walrus_ir.specs.Tree.{Items, no_items, item}
 use Rattle.wasm_body.specs.SourceTree.{Sequence, Empty, Single, Wrapped, IfThen, IfElse, TryCatch, TryDelegate}
@@ -9,7 +9,7 @@ dead_behind Drops rest = rest
 dead_behind Stays rest = rest
 dead_behind Cuts rest = true
 
--- whether what follows the sequence is dropped
+-- whether the operators that follow the sequence are dropped
 abbrev pub is_dead : {A : Type 0} → Sequence A → Bool
 is_dead Empty = false
 is_dead (Single a action r) = dead_behind (fate action) (is_dead r)
@@ -19,12 +19,12 @@ is_dead (IfElse a b l c e r) = is_dead r
 is_dead (TryCatch a b cs r) = is_dead r
 is_dead (TryDelegate a b e n r) = is_dead r
 
--- items behind others
+-- items after others
 abbrev pub joined : {S I : Type 0} → Items S I → Items S I → Items S I
 joined no_items js = js
 joined (item i ss r) js = item i ss (joined r js)
 
--- items behind those of a sequence, which drops them where it is dead
+-- items after those of a sequence, which drops them if it is dead
 abbrev pub joined_alive : {S I : Type 0} → Bool → Items S I → Items S I → Items S I
 joined_alive true is js = is
 joined_alive false is js = joined is js

@@ -1,4 +1,4 @@
--- operators between bytes and trees: what they do to the control, their names, and carrying them from level to level
+-- operators between bytes and trees: what they do to the control flow, their names, and translations between levels
 pub mod Control
 pub mod Translation
 pub mod Naming
@@ -7,7 +7,7 @@ pub mod SourceTree
 pub mod Frames
 -- accepted bodies and first faults
 pub mod Parsing
--- the tree of a function, what is in a builder, and the normal form of a body
+-- the tree of a function, the tree in a builder, and the normal form of a body
 pub mod FunctionTree
 pub mod InstructionTable
 pub mod TreeOfFunction
@@ -22,10 +22,10 @@ pub mod Bytes
 pub mod Pairs
 pub mod TextLaws
 pub mod ReadBack
--- the numbers of a function's locals, and their declarations; why what a parse made can't be written
+-- the numbers of a function's locals, and their declarations; why the result of a parse can't be written
 pub mod LocalNumbers
 pub mod EmissionFaults
--- the trace machine, and the laws that executions are kept, and that locations are honest along them
+-- the trace machine, and the laws that executions are kept, and that locations are right along them
 pub mod Machine
 pub mod Places
 pub mod ExecutionLaws

@@ -1,5 +1,5 @@
--- The laws of locations: the pairs that are written for a body's normal form say of each event of a run where in the source
--- its operator stood.
+-- The laws of locations: the pairs that are written for a body's normal form give, for each event of a run, the location of its
+-- operator in the source.
 use Rattle.std.specs.Prelude.{◌≡◌, ℕ, List, map, Option, option_and_then, Ok}
 use Rattle.std.specs.List.{AllByRecursion}
 use Rattle.std.specs.List.Sorted.{IsStrictlyIncreasing}
@@ -24,7 +24,7 @@ PlacesIncrease =
     (to : Numbers) (t : FunctionTree) (before : ℕ) (ps : List Pair) → tree_pairs to t before ≡ Ok ps →
     IsStrictlyIncreasing (map (λ (p : Pair). p.1) ps)
 
--- The pairs of the normal form of a body of named operators are those of its text's operators: one for each, at its location.
+-- The pairs of the normal form of a body of named operators belong to its text's operators: one for each, with its location.
 abbrev pub PairsMatchText : Type 0
 PairsMatchText =
     (m : Typing) (xs : List (Located NamedOperation)) (b : Body (Located NamedOperation)) → IsNamedBody xs b → AreTyped m xs →
@@ -32,37 +32,37 @@ PairsMatchText =
     (to : Numbers) (before : ℕ) (ps : List Pair) → tree_pairs to (normal_form m b) before ≡ Ok ps →
     map (λ (p : Pair). p.0) ps ≡ map (λ y. y.location) ys
 
--- The text of the normal form of a body of named operators is that of the rewritten tree: which operator is written of which,
--- and with which location, is said there.
+-- The text of the normal form of a body of named operators is the text of the rewritten tree, whose definition says which
+-- operator is written for which one of the source, and with which location.
 abbrev pub TextIsRewritten : Type 0
 TextIsRewritten =
     (m : Typing) (xs : List (Located NamedOperation)) (b : Body (Located NamedOperation)) → IsNamedBody xs b → AreTyped m xs →
     IsTextOf m (normal_form m b) (rewritten_text b)
 
--- ---- runs of what was written
+-- ---- runs of the written operators
 
 -- a run of named operators, each event at the place where its operator was written
 abbrev pub written_run : List (Located NamedOperation) → List Pair → List Outcome → (turns : ℕ) → Run (Option ℕ)
 written_run ys ps outcomes turns = shown_by (map (λ (p : Pair). p.1) ps) (run_by_place (controls ys) outcomes turns)
 
--- a run by places, each looked up in the pairs
+-- a run of places, each looked up in the pairs
 abbrev pub locations_along : List Pair → Run (Option ℕ) → Run (Option ℕ)
 locations_along ps r = show_run (option_and_then (location_in ps)) r
 
--- Looked up in the pairs, the run of the text that is written is the run of these operators at their locations: event by
--- event, for all outcomes and turns.
+-- The run of the written text, looked up in the pairs, is the run of these operators at their locations: event by event, for
+-- all outcomes and turns.
 abbrev pub SayLocations : List Pair → (ys xs : List (Located NamedOperation)) → Type 0
 SayLocations ps ys xs = (outcomes : List Outcome) (turns : ℕ) → locations_along ps (written_run ys ps outcomes turns) ≡ locations_of xs outcomes turns
 
--- The pairs of the normal form of a body of named operators say the locations of its operators: of every construct, and
--- whatever stands before the bytes.
+-- The pairs of the normal form of a body of named operators give the locations of its operators. The body may have any
+-- construct, and there may be any number of bytes before its own.
 abbrev pub NamedLocationsAreHonest : Type 0
 NamedLocationsAreHonest =
     (m : Typing) (xs : List (Located NamedOperation)) (b : Body (Located NamedOperation)) → IsNamedBody xs b → AreTyped m xs →
     (ys : List (Located NamedOperation)) → IsTextOf m (normal_form m b) ys →
     (to : Numbers) (before : ℕ) (ps : List Pair) → tree_pairs to (normal_form m b) before ≡ Ok ps → SayLocations ps ys xs
 
--- The pairs of the normal form of an accepted body say the locations of its operators.
+-- The pairs of the normal form of an accepted body give the locations of its operators.
 abbrev pub LocationsAreHonest : Type 0
 LocationsAreHonest =
     (env : Environment) (xs : List Occurrence) (b : Body Occurrence) → AllByRecursion HasSpelling xs → Lawful env xs b →

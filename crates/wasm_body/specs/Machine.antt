@@ -1,9 +1,9 @@
--- The trace machine: which operators a flat list executes, for given outcomes and a bound on loop turns (WebAssembly core
--- specification 3.0, execution, control instructions; legacy exception handling). It runs on a list of operators by what
--- each does to the control, and knows no tree. What the world answers an operator (which way a condition goes, whether it
--- traps or raises) is a list of outcomes; operand values and memories are not there.
+-- The trace machine: the operators that a flat list executes, for given outcomes and a bound on loop turns (WebAssembly core
+-- specification 3.0, execution, control instructions; legacy exception handling). It runs on a list of operators, of which it
+-- uses only what each does to the control flow; it uses no tree. The outcomes of operators (which way a condition goes, whether
+-- an operator traps or throws) are given as a list; there are no operand values and no memories.
 --
--- A place is the list of the operators from it on. A run is at a place, with the labels that are open there, the outcomes
+-- A place is the list of the operators from there on. A run is at a place, with the labels that are open there, the outcomes
 -- that are left and the turns that are left.
 use Rattle.std.specs.Prelude.{ℕ, zero, suc, List, [], ◌∷◌, Bool, true, false, cond, eqb, Option, Some, None, length, slice_index_or}
 use Rattle.wasm_body.specs.Control.{Action, Nop, Plain, Branch, ConditionalBranch, TableBranch, Return, Unreachable, Throw, ThrowRef, Rethrow, TailCall, Clause, Construct, Block, Loop, TryTable, If, Try, Control, Does, Opens, Else, Catch, CatchAll, End, Delegate, Marked}
@@ -18,16 +18,16 @@ abbrev pub has : Tags → ℕ → Bool
 has [] t = false
 has (x ∷ xs) t = cond (eqb x t) true (has xs t)
 
--- what the world answers an operator
+-- the outcome of an operator
 pub data Outcome : Type 0 where
   Go : Outcome  -- it goes on
   Trap : Outcome  -- it traps
-  Raise : (tags : Tags) → Outcome  -- it raises an exception, which each of these tags catches
+  Raise : (tags : Tags) → Outcome  -- it throws an exception, which each of these tags catches
   Way : (taken : Bool) → Outcome  -- the condition, or the branch, is taken or not
   Entry : (k : ℕ) → Outcome  -- the entry of a branch table
 
--- an operator was executed; or the construct of an opener took an exception, by the clause of this number, from 0 on, and
--- with this tag, or none where it catches all
+-- an operator was executed; or the construct that an operator opened caught an exception, by its clause with this number,
+-- counted from 0, and with this tag, or none where the clause catches all
 pub data Event (A : Type 0) : Type 0 where
   Executed : (shown : A) → Event A
   Taken : (opener : A) (clause : ℕ) (tag : Option ℕ) → Event A
@@ -48,7 +48,7 @@ pub record Run (A : Type 0) : Type 0 where
 abbrev pub ends : {A : Type 0} → Ending → Run A
 ends e = record { events = []; ending = e }
 
--- an event, and then a run
+-- an event, followed by a run
 abbrev pub then : {A : Type 0} → Event A → Run A → Run A
 then e r = record { events = e ∷ r.events; ending = r.ending }
 
@@ -70,9 +70,9 @@ shape_of CatchAll = Part
 shape_of End = Closer
 shape_of (Delegate n) = Closer
 
--- From behind an opener, with `depth` more openers than closers since: the closer of an opener is the next place at which
--- openers less closers come back to zero, and its parts are those that stand at one. What is sought is the first part that
--- passes the test, or else the closer: the place, and how many parts were passed over.
+-- The search starts after an opener; since then there were `depth` more openers than closers. The closer of the opener is the
+-- next closer at depth zero, and its parts are the parts at depth zero before that. The search finds the first part that passes
+-- the test, or else the closer: the place of it, and the number of parts that were passed over.
 pub record Found (A : Type 0) : Type 0 where
   pub passed : ℕ
   pub rest : List (Marked A)
@@ -97,13 +97,13 @@ abbrev pub tail : {A : Type 0} → List A → List A
 tail [] = []
 tail (x ∷ xs) = xs
 
--- the place behind the closer, from behind the opener
+-- the place after the closer, where the search starts after the opener
 abbrev pub behind_closer : {A : Type 0} → List (Marked A) → List (Marked A)
 behind_closer xs = tail (seek (λ c. false) 0 0 xs).rest
 
 -- ---- labels
 
--- an open label: its opener, the place behind that, and for a handler the tags that it caught
+-- an open label: its opener, the place after that, and for a handler the tags that it caught
 pub record Label (A : Type 0) : Type 0 where
   pub opener : A
   pub construct : Construct
@@ -120,12 +120,12 @@ handler l tags = record { opener = l.opener; construct = l.construct; behind = l
 abbrev pub From : Type 0 → Type 0
 From A = List (Marked A) → List (Label A) → List Outcome → Run A
 
--- In what follows `go` goes on within the turn, and `again` goes on behind a turn that is paid.
+-- In what follows `go` goes on within the turn, and `again` goes on after a turn was paid.
 
 -- ---- branches
 
--- A branch to a loop goes to the operator behind the `loop`, and costs a turn. One to another construct goes behind its
--- closer.
+-- A branch to a loop goes to the operator after the `loop`, and costs a turn. A branch to another construct goes to the
+-- operator after its closer.
 abbrev pub arrive : {A : Type 0} → (again go : From A) → Construct → Label A → List (Label A) → List Outcome → Run A
 arrive again go Block l ls outcomes = go (behind_closer l.behind) ls outcomes
 arrive again go Loop l ls outcomes = again l.behind (l ∷ ls) outcomes
@@ -139,31 +139,31 @@ branch again go n [] outcomes = ends Returned
 branch again go zero (l ∷ ls) outcomes = arrive again go l.construct l ls outcomes
 branch again go (suc n) (l ∷ ls) outcomes = branch again go n ls outcomes
 
--- the label of a table's entry: the default where there is no such entry
+-- the label of an entry of a branch table: the default where there is no such entry
 abbrev pub target : List ℕ → ℕ → ℕ → ℕ
 target targets default k = slice_index_or targets k default
 
--- The end of a sequence is reached: the run goes on behind the closer of its construct. At the function's end it returns.
+-- The end of a sequence is reached: the run goes on after the closer of its construct. At the function's end it returns.
 abbrev pub leave : {A : Type 0} → (go : From A) → List (Label A) → List Outcome → Run A
 leave go [] outcomes = ends Returned
 leave go (l ∷ ls) outcomes = go (behind_closer l.behind) ls outcomes
 
 -- ---- exceptions
 
--- What a construct does with an exception that leaves it: it passes it on; it hands it to the construct of a label, from
--- outside; by a clause it branches to a label, or enters a handler.
+-- What a construct does with an exception that leaves it: it lets it pass outwards; it delegates it to the construct of a
+-- label, counted from outside; a clause catches it, and branches to a label or enters a handler.
 pub data Response (A : Type 0) : Type 0 where
   Passes : Response A
   Hands : (n : ℕ) → Response A
   Jumps : (clause : ℕ) (tag : Option ℕ) (n : ℕ) → Response A
   Enters : (clause : ℕ) (tag : Option ℕ) (rest : List (Marked A)) → Response A
 
--- whether a clause takes an exception with these tags
+-- whether a clause catches an exception with these tags
 abbrev pub takes : Tags → Option ℕ → Bool
 takes tags None = true
 takes tags (Some t) = has tags t
 
--- the first clause of a `try_table` that takes the exception
+-- the first clause of a `try_table` that catches the exception
 abbrev pub jump : {A : Type 0} → Tags → ℕ → List Clause → Response A
 jump tags i [] = Passes
 jump tags i (c ∷ cs) = cond (takes tags c.tag) (Jumps i c.tag c.label) (jump tags (suc i) cs)
@@ -174,7 +174,7 @@ catches tags (Catch t) = has tags t
 catches tags CatchAll = true
 catches tags _ = false
 
--- what was found from a legacy `try` on: a clause that takes the exception, or its closer
+-- the result of the search from a legacy `try` on: a clause that catches the exception, or the closer of the `try`
 abbrev pub clause_at : {A : Type 0} → ℕ → Control → List (Marked A) → Response A
 clause_at i (Catch t) rest = Enters i (Some t) rest
 clause_at i CatchAll rest = Enters i None rest
@@ -188,8 +188,8 @@ clause_found i (x ∷ xs) = clause_at i x.control xs
 abbrev pub try_responds : {A : Type 0} → Tags → Found A → Response A
 try_responds tags f = clause_found f.passed f.rest
 
--- A `try_table` asks its clauses in order. So does a legacy `try` that is left from its body, and one that `delegate`
--- closes hands the exception on. A `try` that is left from a handler passes it, as every other construct does.
+-- A `try_table` tries its clauses in order. So does a legacy `try` whose body the exception leaves; if `delegate` closes it, it
+-- delegates the exception. A `try` of which the exception leaves a handler lets it pass, as every other construct does.
 abbrev pub responds_as : {A : Type 0} → Tags → Construct → (caught : Option Tags) → List (Marked A) → Response A
 responds_as tags Block caught behind = Passes
 responds_as tags Loop caught behind = Passes
@@ -201,15 +201,15 @@ responds_as tags Try None behind = try_responds tags (seek (catches tags) 0 0 be
 abbrev pub responds : {A : Type 0} → Tags → Label A → Response A
 responds tags l = responds_as tags l.construct l.caught l.behind
 
--- A taken clause is an event, also where no turn is left for its branch. A handler remembers the tags. `outward n` looks
--- further outwards, from label n on as counted from outside the construct.
+-- A clause that catches is an event, also where no turn is left for its branch. A handler remembers the tags. `outward n` goes
+-- on outwards, from label n on, counted from outside the construct.
 abbrev pub react : {A : Type 0} → (again go : From A) → (outward : ℕ → Run A) → Tags → Label A → List (Label A) → List Outcome → Response A → Run A
 react again go outward tags l ls outcomes Passes = outward 0
 react again go outward tags l ls outcomes (Hands n) = outward n
 react again go outward tags l ls outcomes (Jumps i t n) = then (Taken l.opener i t) (branch again go n ls outcomes)
 react again go outward tags l ls outcomes (Enters i t rest) = then (Taken l.opener i t) (go rest (handler l tags ∷ ls) outcomes)
 
--- An exception looks outwards, from label n on. Past the function it escapes.
+-- An exception goes outwards, from label n on. Past the function it escapes.
 abbrev pub raise : {A : Type 0} → (again go : From A) → Tags → List (Label A) → List Outcome → ℕ → Run A
 raise again go tags [] outcomes n = ends (Escaped tags)
 raise again go tags (l ∷ ls) outcomes zero = react again go (raise again go tags ls outcomes) tags l ls outcomes (responds tags l)
@@ -221,14 +221,14 @@ caught_at [] n = None
 caught_at (l ∷ ls) zero = l.caught
 caught_at (l ∷ ls) (suc n) = caught_at ls n
 
--- A `rethrow` raises the tags of the handler that it names.
+-- A `rethrow` throws an exception with the tags of the handler that it names.
 abbrev pub rethrow : {A : Type 0} → (Tags → Run A) → Option Tags → Run A
 rethrow raised None = ends Mismatch
 rethrow raised (Some tags) = raised tags
 
 -- ---- asking for an outcome: a missing one, or one of another kind, ends the run before the operator is executed
 
--- Go, Trap where it may trap, or Raise of tags that it may raise
+-- Go, Trap where the operator may trap, or Raise of tags that it may throw
 abbrev pub ask : {A : Type 0} → (may_raise : Tags → Bool) → (may_trap : Bool) → A → (List Outcome → Run A) → (Tags → List Outcome → Run A) → List Outcome → Run A
 ask may_raise may_trap a on raised [] = ends OutcomesOut
 ask may_raise may_trap a on raised (Go ∷ outcomes) = on outcomes
@@ -255,32 +255,32 @@ ask_entry a on (Way w ∷ outcomes) = ends Mismatch
 
 -- ---- the step
 
--- One operator by itself; `rest` stands behind it. Two families of operators can't go on: what they would go on with is
--- handed in as a mismatch.
+-- One operator by itself; `rest` is the place after it. Operators that can't go on, or can't throw, end with a mismatch on such
+-- an outcome.
 abbrev pub act : {A : Type 0} → (again go : From A) → Action → A → List (Marked A) → List (Label A) → List Outcome → Run A
--- `nop` asks for nothing and is no event.
+-- `nop` asks for no outcome and gives no event.
 act again go Nop a rest ls outcomes = go rest ls outcomes
 -- A plain operator asks for Go, Trap or Raise.
 act again go Plain a rest ls outcomes = ask (λ s. true) true a (λ o. then (Executed a) (go rest ls o)) (λ s o. raise again go s ls o 0) outcomes
--- `br` asks for nothing.
+-- `br` asks for no outcome.
 act again go (Branch n) a rest ls outcomes = then (Executed a) (branch again go n ls outcomes)
--- `br_if` and its kind ask for Way: true branches.
+-- `br_if` and other conditional branches ask for Way: they branch on true.
 act again go (ConditionalBranch n) a rest ls outcomes = ask_way a (λ w o. cond w (branch again go n ls o) (go rest ls o)) outcomes
 -- `br_table` asks for Entry.
 act again go (TableBranch targets default) a rest ls outcomes = ask_entry a (λ k o. branch again go (target targets default k) ls o) outcomes
--- `return` and `unreachable` ask for nothing.
+-- `return` and `unreachable` ask for no outcome.
 act again go Return a rest ls outcomes = then (Executed a) (ends Returned)
 act again go Unreachable a rest ls outcomes = then (Executed a) (ends Trapped)
 -- `throw` asks for Raise with its tag.
 act again go (Throw t) a rest ls outcomes = ask (λ s. has s t) false a (λ o. ends Mismatch) (λ s o. raise again go s ls o 0) outcomes
 -- `throw_ref` asks for Raise or Trap.
 act again go ThrowRef a rest ls outcomes = ask (λ s. true) true a (λ o. ends Mismatch) (λ s o. raise again go s ls o 0) outcomes
--- `rethrow` asks for nothing, and looks outwards from its own place.
+-- `rethrow` asks for no outcome; its exception goes outwards from the place of the `rethrow`.
 act again go (Rethrow n) a rest ls outcomes = then (Executed a) (rethrow (λ s. raise again go s ls outcomes 0) (caught_at ls n))
 -- A tail call asks for Go or Trap.
 act again go TailCall a rest ls outcomes = ask (λ s. false) true a (λ o. then (Executed a) (ends TailCalled)) (λ s o. ends Mismatch) outcomes
 
--- the way of an `if` that isn't taken: behind its `else`, or behind its `end` where there is none
+-- the way of an `if` whose condition is false: to the place after its `else`, or after its `end` if it has no `else`
 abbrev pub is_else : Control → Bool
 is_else Else = true
 is_else _ = false
@@ -292,7 +292,7 @@ other_at go l ls outcomes (x ∷ xs) = cond (is_else x.control) (go xs (l ∷ ls
 abbrev pub other_way : {A : Type 0} → (go : From A) → Label A → List (Label A) → List Outcome → Found A → Run A
 other_way go l ls outcomes f = other_at go l ls outcomes f.rest
 
--- An opener opens a label. Only `if` asks for an outcome: Way, of which true enters the consequent.
+-- An opener opens a label. Only `if` asks for an outcome: Way, where true enters the consequent.
 abbrev pub enter : {A : Type 0} → (go : From A) → Construct → A → List (Marked A) → List (Label A) → List Outcome → Run A
 enter go Block a rest ls outcomes = then (Executed a) (go rest (label a Block rest ∷ ls) outcomes)
 enter go Loop a rest ls outcomes = then (Executed a) (go rest (label a Loop rest ∷ ls) outcomes)
@@ -301,7 +301,7 @@ enter go Try a rest ls outcomes = then (Executed a) (go rest (label a Try rest �
 enter go If a rest ls outcomes =
     ask_way a (λ w o. cond w (go rest (label a If rest ∷ ls) o) (other_way go (label a If rest) ls o (seek is_else 0 0 rest))) outcomes
 
--- The operators that part and close constructs ask for nothing and are no events: there the sequence ends.
+-- The operators that part and close constructs ask for no outcome and give no event: the sequence ends there.
 abbrev pub step : {A : Type 0} → (again go : From A) → Control → A → List (Marked A) → List (Label A) → List Outcome → Run A
 step again go (Does action) a rest ls outcomes = act again go action a rest ls outcomes
 step again go (Opens construct) a rest ls outcomes = enter go construct a rest ls outcomes
@@ -313,18 +313,18 @@ step again go (Delegate n) a rest ls outcomes = leave go ls outcomes
 
 -- ---- the run
 
--- At most so many operators, until a turn is paid. A step that pays no turn leaves fewer operators behind the place, so a
--- count of those is enough.
+-- At most this many operators, until a turn is paid. After a step that pays no turn fewer operators are left from the place on,
+-- so their count is enough.
 abbrev pub straight : {A : Type 0} → (again : From A) → ℕ → From A
 straight again zero rest ls outcomes = ends Returned
 straight again (suc n) [] ls outcomes = ends Returned
 straight again (suc n) (x ∷ xs) ls outcomes = step again (straight again n) x.control x.shown xs ls outcomes
 
--- with so many turns left, where `bound` bounds the operators of a turn by the place where it begins
+-- a run with this many turns left, where `bound` gives a bound of the operators of a turn from the place where the turn begins
 abbrev pub bounded_run : {A : Type 0} → (bound : List (Marked A) → ℕ) → (turns : ℕ) → From A
 bounded_run bound zero rest ls outcomes = straight (λ r l o. ends TurnsOut) (bound rest) rest ls outcomes
 bounded_run bound (suc turns) rest ls outcomes = straight (bounded_run bound turns) (bound rest) rest ls outcomes
 
--- The run of a list of operators. Outcomes that are left over mean nothing.
+-- The run of a list of operators. Outcomes that are left over have no effect.
 abbrev pub run : {A : Type 0} → List (Marked A) → List Outcome → (turns : ℕ) → Run A
 run ops outcomes turns = bounded_run length turns ops [] outcomes

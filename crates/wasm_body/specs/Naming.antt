@@ -1,6 +1,6 @@
--- Naming: what an operator is called in its module, and which rules it keeps where it stands. The rules of an operator are
--- its immediates, tried in the order in which they are written; before them comes where it may stand, behind them the
--- types that the module must hold. The first that fails is the fault.
+-- Naming: the name of an operator in its module, and the rules that it keeps in its place. The rules are tried in this order:
+-- whether the operator is allowed there; its immediates, in the order in which they are written; the types that the module
+-- must have. The first rule that fails is the fault.
 use Rattle.std.specs.Prelude.{ℕ, List, [], ◌∷◌, length, nat_lt, Option, Some, None, is_some, slice_get, Result, Ok}
 use Rattle.walrus_ir.specs.declared.val_type.ValType.{ValType}
 use Rattle.walrus_ir.specs.Types.{Signature, signature, ModuleType, signature_of, pick, find_entry}
@@ -17,19 +17,19 @@ use Rattle.wasm_body.specs.Control.{Control, Does, Opens, Else, Catch, CatchAll,
 use Rattle.wasm_body.specs.Frames.{Frame, handler_at, outside, opener_of, may_stand}
 use Rattle.wasm_body.specs.Translation.{Translation, translate, translate_value}
 
--- An operator as it is named: ids for indices, parameters and results for a block type. Depths stay.
+-- An operator by its name: with ids for indices, and with parameters and results for a block type. Depths stay as they are.
 abbrev pub NamedOperation : Type 0
 NamedOperation = Operation ℕ Signature
 
--- An operator as it occurs in a body: how it is spelt, the place of its first byte, its location, and its name.
+-- An operator as it occurs in a body: the operator as it is encoded, the place of its first byte, its location, and its name.
 pub record Occurrence : Type 0 where
   pub spelt : RawOperation
   pub place : ℕ
   pub location : ℕ
   pub named : NamedOperation
 
--- What a body is named by: the types and tags of its module, by id, the maps from old indices to ids, and the function's
--- own type.
+-- The data by which a body is named: the types and tags of its module, by id, the maps from old indices to ids, and the
+-- function's own type.
 pub record Environment : Type 0 where
   pub types : List ModuleType
   pub tags : List ℕ  -- the type of each tag
@@ -37,7 +37,7 @@ pub record Environment : Type 0 where
   pub local_of : ℕ → Result ℕ IndexError
   pub type : ℕ
 
--- ---- 1: where an operator may stand
+-- ---- 1: where an operator is allowed
 
 abbrev pub position_fault : Control → ParseError
 position_fault Else = ElseOutsideIf
@@ -61,7 +61,7 @@ name_block env Empty = Ok (signature [] [])
 name_block env (Value t) = translate_value (id_at env) t >>= λ u. Ok (signature [] (u ∷ []))
 name_block env (FuncType n) = id_at env Types n >>= λ id. function_type env id
 
--- a label is open where it counts no more than the sequences around, the function's own included
+-- a label is open if it is less than the number of sequences around the operator, the function's own included
 abbrev pub open_label : {A : Type 0} → List (Frame A) → ℕ → Result ℕ ParseError
 open_label fs n = unless (nat_lt n (length fs)) NoSuchLabel >>= λ u. Ok n
 
@@ -81,7 +81,7 @@ naming env fs = record {
   count = λ n. Ok tt;
 }
 
--- ---- 3 and 4: the types that the module must hold
+-- ---- 3 and 4: the types that the module must have
 
 abbrev pub block_types : {L B : Type 0} → List (Immediate L B) → List B
 block_types [] = []
@@ -104,15 +104,15 @@ abbrev pub construct_results : List (Frame Occurrence) → List (ValType ℕ)
 construct_results [] = []
 construct_results (f ∷ fs) = results_of (opener_of f)
 
--- the module holds the pick
+-- the module has a type of a sequence with this signature
 abbrev pub has_pick : Environment → Signature → Result (Unit {0}) ParseError
 has_pick env s = unless (is_some (pick env.types s)) TypeMissing
 
 abbrev pub tag_type : Environment → ℕ → Result Signature ParseError
 tag_type env tag = some_or (slice_get env.tags tag) UnknownId >>= λ type. function_type env type
 
--- of a sequence that an operator opens: a construct's takes and gives what its block type does, a handler takes the
--- parameters of its tag, or nothing where it catches all, and gives what its `try` does
+-- The module has the type of the sequence that an operator opens. The sequence of a construct has the parameters and results
+-- of its block type. A handler has the parameters of its tag, or none where it catches all, and the results of its `try`.
 abbrev pub has_types : Environment → List (Frame Occurrence) → Control → NamedOperation → Result (Unit {0}) ParseError
 has_types env fs (Opens construct) o = has_pick env (block_signature o)
 has_types env fs (Catch tag) o = tag_type env tag >>= λ s. has_pick env (signature s.parameters (construct_results fs))
@@ -122,9 +122,9 @@ has_types env fs Else o = Ok tt
 has_types env fs End o = Ok tt
 has_types env fs (Delegate n) o = Ok tt
 
--- ---- an operator where it stands
+-- ---- an operator in its place
 
--- The name of an operator around which these frames are, or the first rule that it breaks.
+-- The name of an operator inside these frames, or the fault of the first rule that it breaks.
 abbrev pub named_in : Environment → List (Frame Occurrence) → RawOperation → Result NamedOperation ParseError
 named_in env fs o =
     stands fs (control_of o) >>= λ _.
@@ -134,6 +134,6 @@ named_in env fs o =
 
 -- ---- the function's own type
 
--- it is a function type, and the module holds an entry type for its results
+-- it is a function type, and the module has an entry type for its results: this is the id of the entry type
 abbrev pub entry_type_id : Environment → Result ℕ ParseError
 entry_type_id env = function_type env env.type >>= λ s. some_or (find_entry env.types s.results) EntryTypeMissing

@@ -1,4 +1,4 @@
--- The normal form of a body: the tree of the function that a parse makes of it.
+-- The normal form of a body: the tree of the function that a parse makes of the body.
 use Rattle.std.specs.Prelude.{ℕ, List, [], ◌∷◌, ◌^◌, Option, Some, None, unwrap_or, option_and_then, slice_get, Result, Ok, Err}
 use Rattle.walrus_ir.specs.declared.val_type.ValType.{ValType}
 use Rattle.walrus_ir.specs.declared.val_type.InstrSeqType.{InstrSeqType}
@@ -15,12 +15,12 @@ use Rattle.wasm_body.specs.FunctionTree.{Target, Depth, TreeOperation, Head, Leg
 
 -- ---- types of sequences
 
--- What a module says of the types of sequences.
+-- The types of sequences in a module.
 pub record Typing : Type 0 where
-  pub picked : Signature → InstrSeqType  -- the type of a sequence that takes and gives these
-  pub signature_of : InstrSeqType → Option Signature  -- what a sequence of the type takes and gives, where the module has it
+  pub picked : Signature → InstrSeqType  -- the type of a sequence with these parameters and results
+  pub signature_of : InstrSeqType → Option Signature  -- the parameters and results of the type, if the module has it
   pub tag_parameters : ℕ → List (ValType ℕ)
-  pub entry : InstrSeqType  -- of the function's own sequence
+  pub entry : InstrSeqType  -- the type of the function's own sequence
 
 abbrev pub parameters_of : Option Signature → List (ValType ℕ)
 parameters_of (Some s) = s.parameters
@@ -30,7 +30,7 @@ abbrev pub entry_type : Result ℕ ParseError → InstrSeqType
 entry_type (Ok id) = MultiValue id
 entry_type (Err e) = Simple None
 
--- Of an accepted body each type that is asked for is there.
+-- The types of sequences in this environment. For an accepted body the module has each type that is needed.
 abbrev pub typing_of : Environment → Typing
 typing_of env = record {
   picked = λ s. unwrap_or (pick env.types s) (Simple None);
@@ -42,13 +42,14 @@ typing_of env = record {
 abbrev pub construct_type : Typing → NamedOperation → InstrSeqType
 construct_type m o = m.picked (block_signature o)
 
--- a handler gives what its `try` does
+-- a handler has the results of its `try`
 abbrev pub handler_type : Typing → NamedOperation → List (ValType ℕ) → InstrSeqType
 handler_type m o parameters = m.picked (signature parameters (block_signature o).results)
 
 -- ---- instructions
 
--- The tree keeps the ids. A depth is a target, a block type moves to the sequence, an exponent becomes a number of bytes.
+-- An operator in the tree: ids stay as they are, a depth becomes a target, a block type moves to the sequence, and the exponent
+-- of an alignment becomes a number of bytes.
 abbrev pub kept : Translation ℕ Signature Target (Unit {0}) ⊥
 kept = record {
   index = λ space n. Ok n;
@@ -68,8 +69,8 @@ kept_operation o = record { opcode = o.opcode; immediates = sure (translate_imme
 abbrev pub instruction : Located NamedOperation → List LegacyClause → Instruction
 instruction a cs = record { op = kept_operation a.op; clauses = cs; location = a.location }
 
--- What becomes of an operator by itself: it is dropped, it is kept, or it is kept and what follows it is dropped. A tail
--- call is taken as one that goes on.
+-- What becomes of an operator that is not a construct: it is dropped; it is kept; or it is kept and the rest of its sequence is
+-- dropped. A tail call counts as an operator that goes on.
 pub data Fate : Type 0 where
   Drops : Fate
   Stays : Fate
@@ -88,7 +89,7 @@ fate ThrowRef = Cuts
 fate (Rethrow n) = Cuts
 fate TailCall = Stays
 
--- an operator by itself, before the normal form of what follows
+-- an operator that is not a construct, before the normal form of the rest of its sequence
 abbrev pub with_fate : Fate → Instruction → Items Head Instruction → Items Head Instruction
 with_fate Drops i rest = rest
 with_fate Stays i rest = item i no_sequences rest
@@ -104,15 +105,15 @@ legacy_clauses (Ended e) = []
 legacy_clauses (Catches a t b cs) = handles t ∷ legacy_clauses cs
 legacy_clauses (CatchesAll a b e) = handles_all ∷ []
 
--- where the sequence before these clauses is closed
+-- the location of the operator that closes the sequence before these clauses
 abbrev pub closed_at : Clauses (Located NamedOperation) → ℕ
 closed_at (Ended e) = e.location
 closed_at (Catches a t b cs) = a.location
 closed_at (CatchesAll a b e) = a.location
 
--- In each sequence by itself: `nop` is dropped, and what follows the first operator that cuts. An `if` without `else` gets
--- an empty alternative, whose end has the default location. A sequence ends at the location of the operator that closes
--- it, but one that `delegate` closes at the default.
+-- In each sequence by itself: `nop` is dropped, and so are all operators after the first one that cuts. An `if` without `else`
+-- gets an empty alternative, whose end has the default location. The end of a sequence has the location of the operator that
+-- closes it; if that is `delegate`, it has the default location.
 abbrev mutual
   pub normal : Typing → Sequence (Located NamedOperation) → Items Head Instruction
   normal m Empty = no_items
@@ -142,7 +143,7 @@ abbrev mutual
 abbrev pub normal_form : Typing → Body (Located NamedOperation) → FunctionTree
 normal_form m b = record { head = head m.entry b.close.location; items = normal m b.sequence }
 
--- an operator as it occurs, by its name and its location
+-- the name of an operator that occurs, at its location
 abbrev pub name_at : Occurrence → Located NamedOperation
 name_at x = at_location x.named x.location
 

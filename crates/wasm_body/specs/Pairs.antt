@@ -1,4 +1,4 @@
--- Location pairs: for each operator that is written its location, and the place of its first byte.
+-- Location pairs: for each operator that is written, its location and the place of its first byte.
 use Rattle.std.specs.Prelude.{ℕ, ◌+◌, ◌==◌, if◌then◌else◌, List, [], ◌∷◌, length, Option, Some, None, Result, Ok}
 use Rattle.wasm_operators.specs.Operations.{RawOperation}
 use Rattle.wasm_operators.specs.Shortest.{short}
@@ -12,12 +12,12 @@ use Rattle.wasm_body.specs.Bytes.{Numbers, numbered_text}
 abbrev pub Pair : Type 0
 Pair = ℕ × ℕ
 
--- the pairs of operators whose shortest spellings stand one behind the other, the first at this place
+-- the pairs of operators whose shortest encodings follow one another, the first at this place
 abbrev pub pairs_from : (place : ℕ) → List (Located RawOperation) → List Pair
 pairs_from place [] = []
 pairs_from place (x ∷ xs) = (x.location, place) ∷ pairs_from (place + length (short x.op)) xs
 
--- The location pairs of a tree under the numbers, where so many bytes stand before its own; or the first fault in order of
+-- The location pairs of a tree with these numbers, where `before` bytes come before its own; or the first fault in the order of
 -- writing.
 abbrev pub tree_pairs : Numbers → FunctionTree → (before : ℕ) → Result (List Pair) EmitError
 tree_pairs to t before = numbered_text to t >>= λ xs. Ok (pairs_from before xs)

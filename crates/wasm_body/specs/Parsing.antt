@@ -1,4 +1,4 @@
--- Which bytes are accepted as a body, and the first fault of all others.
+-- The bytes that are accepted as a body, and the first fault of all others.
 pub mod Accepted
 pub mod Progress
 pub mod Lists

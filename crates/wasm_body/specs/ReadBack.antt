@@ -1,4 +1,4 @@
--- Reading back: the bytes of a normal form are accepted again, as a body whose normal form is the same tree.
+-- Reading back: the bytes of a normal form are accepted again, as a body whose normal form is the same tree, locations aside.
 use Rattle.std.specs.Prelude.{◌≡◌, ℕ, List, [], map, Option, Some, None, IsOk, Ok, true}
 use Rattle.std.specs.List.{AllByRecursion}
 use Rattle.walrus_ir.specs.declared.val_type.HeapType.{HeapType}
@@ -21,7 +21,7 @@ use Rattle.wasm_body.specs.FlatText.{tree_text, with_ids}
 use Rattle.wasm_body.specs.Bytes.{Numbers, tree_bytes}
 use Rattle.wasm_body.specs.TextLaws.{HasBodyText}
 
--- ---- what holds of each id in an immediate: of P those of spaces, of Q locals, of S block types
+-- ---- conditions on the parts of an immediate: P on ids of index spaces, Q on locals, S on block types
 
 abbrev pub EachInHeap : (Space → ℕ → Type 0) → HeapType ℕ → Type 0
 EachInHeap P (Abstract a) = Unit {0}
@@ -48,14 +48,14 @@ EachIn P Q S _ = Unit {0}
 
 -- ---- maps that undo numbers
 
--- The id's number, where it has one, stands for the id.
+-- If the id has a number, the environment maps this number to the id.
 abbrev pub IsUndone : Numbers → Environment → Space → ℕ → Type 0
 IsUndone to env space id = (n : ℕ) → to.number_of space id ≡ Ok n → env.id_of space n ≡ Ok id
 
 abbrev pub IsUndoneLocal : Numbers → Environment → ℕ → Type 0
 IsUndoneLocal to env id = (n : ℕ) → to.local_number id ≡ Ok n → env.local_of n ≡ Ok id
 
--- of the type of a sequence, as it is written
+-- the same for the ids in the type of a sequence, as it is written
 abbrev pub IsUndoneType : Numbers → Environment → InstrSeqType → Type 0
 IsUndoneType to env (Simple None) = Unit {0}
 IsUndoneType to env (Simple (Some t)) = EachInValue (IsUndone to env) t
@@ -64,7 +64,8 @@ IsUndoneType to env (MultiValue id) = IsUndone to env Types id
 abbrev pub AreUndone : Numbers → Environment → List (Immediate ℕ InstrSeqType) → Type 0
 AreUndone to env is = AllByRecursion (EachIn (IsUndone to env) (IsUndoneLocal to env) (IsUndoneType to env)) is
 
--- In the same module and for the same type of the function each id of the tree's text is what its number stands for.
+-- The types and tags of the module and the function's own type are the same, and the number of each id in the tree's text is
+-- mapped to the id.
 pub record Undoes (to : Numbers) (tree : FunctionTree) (env again : Environment) : Type 0 where
   pub types : again.types ≡ env.types
   pub tags : again.tags ≡ env.tags
@@ -74,14 +75,14 @@ pub record Undoes (to : Numbers) (tree : FunctionTree) (env again : Environment)
 
 -- ---- maps that undo all numbers
 
--- Each number stands for its id.
+-- Each number is mapped to its id.
 pub record IsInverse (to : Numbers) (again : Environment) : Type 0 where
   pub indices : (space : Space) (id : ℕ) → IsUndone to again space id
   pub locals : (id : ℕ) → IsUndoneLocal to again id
 
 -- ---- the law
 
--- From this place on the bytes are spellings of operators that lawfully are a body, of which the normal form is this tree,
+-- From this place on the bytes are encodings of operators that form a lawful body; the normal form of the body is this tree,
 -- locations aside, and has the same bytes.
 pub record IsReadBack (again : Environment) (start : ℕ) (locate : ℕ → ℕ) (to : Numbers) (tree : FunctionTree) (bytes : List ℕ) : Type 0 where
   pub operators : List Occurrence
@@ -92,7 +93,7 @@ pub record IsReadBack (again : Environment) (start : ℕ) (locate : ℕ → ℕ)
   pub same : IsSameTree (body_tree again body) tree
   pub unchanged : tree_bytes to (body_tree again body) ≡ Ok bytes
 
--- The bytes of the normal form of a lawful body are read back, from any place on and with any locations, by all maps that
+-- The bytes of the normal form of a lawful body are read back, from any place on and with any locations, with all maps that
 -- undo the numbers.
 abbrev pub ReadBack : Type 0
 ReadBack =
@@ -108,12 +109,12 @@ InverseUndoes =
     (to : Numbers) (again : Environment) → again.types ≡ env.types → again.tags ≡ env.tags → again.type ≡ env.type →
     IsInverse to again → Undoes to (body_tree env body) env again
 
--- The tree has a text with names, which is a body again, and the normal form of that body is the same tree.
+-- The tree has a text with names, which forms a body again, and the normal form of that body is the same tree.
 pub record IsReadByNames (m : Typing) (tree : FunctionTree) : Type 0 where
   pub read : HasBodyText m tree
   pub same : IsSameTree (normal_form m read.body) tree
 
--- The normal form of a lawful body is read again by the text with names.
+-- This holds for the normal form of every lawful body.
 abbrev pub NormalFormAgain : Type 0
 NormalFormAgain =
     (env : Environment) (xs : List Occurrence) (body : Body Occurrence) → AllByRecursion HasSpelling xs → Lawful env xs body →
@@ -123,15 +124,15 @@ NormalFormAgain =
 abbrev pub SameBytes : Type 0
 SameBytes = (to : Numbers) (t u : FunctionTree) → IsSameTree t u → tree_bytes to t ≡ tree_bytes to u
 
--- ---- the same of accepted bodies
+-- ---- the same for accepted bodies
 
--- The operators that the bytes spell have locations where they stand, and the validator accepts them.
+-- The operators that the bytes encode have locations, and the validator accepts them.
 pub record AreReadable {W : Type 0} (again : Setting W) (bytes : List ℕ) : Type 0 where
   pub have_locations : (xs : List Placed) → Lists xs again.start bytes []
       → AllByRecursion (λ x. has_location again.locations x.place ≡ true) xs
   pub passes : (xs : List Placed) → Lists xs again.start bytes [] → IsOk (validated again.check again.first xs)
 
--- The bytes are accepted as a body, and of each body as which they are the normal form is this tree, locations aside, and
+-- The bytes are accepted as a body; and whatever body they are accepted as, its normal form is this tree, locations aside, and
 -- has the same bytes.
 pub record IsAcceptedAgain {W : Type 0} (again : Setting W) (to : Numbers) (tree : FunctionTree) (bytes : List ℕ) : Type 0 where
   pub body : Body Occurrence
@@ -139,8 +140,8 @@ pub record IsAcceptedAgain {W : Type 0} (again : Setting W) (to : Numbers) (tree
   pub same : (c : Body Occurrence) → Accepted again bytes c → IsSameTree (body_tree again.environment c) tree
   pub unchanged : (c : Body Occurrence) → Accepted again bytes c → tree_bytes to (body_tree again.environment c) ≡ Ok bytes
 
--- The bytes of the normal form of an accepted body are accepted again where they are readable, by all maps that undo the
--- numbers. `V` and `W` are what the states of the two validators are.
+-- The bytes of the normal form of an accepted body are accepted again, if they are readable, with all maps that undo the
+-- numbers. `V` and `W` are the types of the states of the two validators.
 abbrev pub AcceptedAgain : (V W : Type 0) → Type 0
 AcceptedAgain V W =
     (given : Setting V) (source : List ℕ) (body : Body Occurrence) → Accepted given source body →

@@ -1,6 +1,6 @@
--- What is written of a body, operator by operator: the source tree again, rewritten sequence by sequence, and its text
--- (WebAssembly core specification 3.0, control instructions; legacy exception handling). The tree says of each operator
--- that is written which one of the source it is, or in the place of which one it is written, and so which location it has.
+-- The operators that are written for a body: the source tree, rewritten sequence by sequence, and the text of the result
+-- (WebAssembly core specification 3.0, control instructions; legacy exception handling). For each operator that is written, the
+-- tree shows which operator of the source it is, or takes the place of, and so which location it has.
 use Rattle.std.specs.Prelude.{ℕ, List, [], ◌∷◌, map}
 use Rattle.wasm_operators.specs.declared.types.Space.TheVariants.{Tags}
 use Rattle.wasm_operators.specs.Operations.{index, operation}
@@ -11,7 +11,7 @@ use Rattle.wasm_body.specs.Naming.{NamedOperation}
 use Rattle.wasm_body.specs.FunctionTree.{default_location}
 use Rattle.wasm_body.specs.NormalForm.{Fate, Drops, Stays, Cuts, fate}
 
--- ---- the operators that part and close constructs, which are written anew, each at this location
+-- ---- the operators that part and close constructs, each made anew, with this location
 
 abbrev pub end_at : (location : ℕ) → Located NamedOperation
 end_at l = at_location end_operation l
@@ -30,8 +30,8 @@ delegate_at n l = at_location (delegate_operation n) l
 
 -- ---- the tree
 
--- An instruction that is no construct, before the rest of its sequence. A `nop` isn't written. After an instruction that
--- never goes on to the next one nothing more of its sequence is written. Every other is written as it is, at its location.
+-- An instruction that is not a construct, before the rest of its sequence. A `nop` isn't written. After an instruction that
+-- never goes on to the next one, nothing more of its sequence is written. Every other is written as it is, at its location.
 abbrev pub single_with_fate : Fate → Located NamedOperation → Action → Sequence (Located NamedOperation) → Sequence (Located NamedOperation)
 single_with_fate Drops a action rest = rest
 single_with_fate Stays a action rest = Single a action rest
@@ -39,10 +39,10 @@ single_with_fate Cuts a action rest = Single a action Empty
 
 -- Sequence by sequence, in this order of clauses:
 -- An empty sequence stays empty.
--- An instruction that is no construct is written, or isn't, as above.
+-- An instruction that is not a construct is written, or isn't, as above.
 -- A `block`, `loop` or `try_table` is written as it is, and its `end` at the location of the source's `end`.
 -- An `if` without `else` is written as it is, and gets an empty `else`: that has the location of the source's `end`, and the
--- `end` behind it has the default location.
+-- `end` after it has the default location.
 -- An `if` with `else` is written as it is, its `else` and its `end` at the locations of the source's.
 -- A `try` with handlers is written as it is, and then its clauses.
 -- A `try` with `delegate` is written as it is, and its `delegate`, of the same depth, at the default location.

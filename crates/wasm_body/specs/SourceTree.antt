@@ -1,6 +1,6 @@
 -- The source tree: structured control as a grammar over whole lists of operators (WebAssembly core specification 3.0,
--- control instructions; legacy exception handling). A tree is a value, and its text a list of operators: a list is a body
--- where it is the text of one.
+-- control instructions; legacy exception handling). A tree is a value, and its text is a list of operators; a list forms a body
+-- if it is the text of one.
 use Rattle.std.specs.Prelude.{ℕ, List, [], ◌∷◌}
 use Rattle.wasm_body.specs.Control.{Action, Clause, Construct, Block, Loop, TryTable, If, Try, Does, Opens, Else, Catch, CatchAll, End, Delegate, Marked, with_control}
 
@@ -15,8 +15,8 @@ construct_of OfBlock = Block
 construct_of OfLoop = Loop
 construct_of (OfTryTable cs) = TryTable cs
 
--- A sequence is nothing, or an item and the rest. `a` is what is shown of an operator by itself or of an opener, `e` of
--- the operator that closes a construct, `l` of an `else`.
+-- A sequence is empty, or an item and the rest. The values that are shown for operators are `a` for an operator that is not
+-- part of a construct and for an opener, `e` for the operator that closes a construct, and `l` for an `else`.
 mutual
   pub data Sequence (A : Type 0) : Type 0 where
     Empty : Sequence A
@@ -27,13 +27,13 @@ mutual
     TryCatch : (a : A) (body : Sequence A) (clauses : Clauses A) (rest : Sequence A) → Sequence A
     TryDelegate : (a : A) (body : Sequence A) (e : A) (n : ℕ) (rest : Sequence A) → Sequence A
 
-  -- any number of handlers by tag, then at most one of all, then the `end`
+  -- any number of handlers by tag, then at most one of all tags, then the `end`
   pub data Clauses (A : Type 0) : Type 0 where
     Ended : (e : A) → Clauses A
     Catches : (a : A) (tag : ℕ) (body : Sequence A) (rest : Clauses A) → Clauses A
     CatchesAll : (a : A) (body : Sequence A) (e : A) → Clauses A
 
--- the operators of a sequence, and then these
+-- the operators of a sequence, followed by the operators k
 abbrev mutual
   pub text : {A : Type 0} → Sequence A → List (Marked A) → List (Marked A)
   text Empty k = k

@@ -15,7 +15,7 @@ use Rattle.wasm_body.specs.Typed.{AreTyped}
 
 -- ---- reading a tree is unique
 
--- an operator that ends the sequence that it stands in
+-- an operator that ends the sequence before it
 abbrev pub EndsSequence : Control → Type 0
 EndsSequence Else = Unit {0}
 EndsSequence (Catch t) = Unit {0}
@@ -24,11 +24,11 @@ EndsSequence End = Unit {0}
 EndsSequence (Delegate n) = Unit {0}
 EndsSequence _ = ⊥
 
--- A list is the text of one body at most.
+-- A list is the text of at most one body.
 abbrev pub OneBody : Type 0 → Type 0
 OneBody A = (b c : Body A) → body_text b ≡ body_text c → b ≡ c
 
--- A list begins in one way with a sequence and an operator that ends it.
+-- There is at most one way in which a list begins with a sequence and an operator that ends it.
 abbrev pub OneSequence : Type 0 → Type 0
 OneSequence A =
     (s t : Sequence A) (x y : Marked A) (k l : List (Marked A)) → EndsSequence x.control → EndsSequence y.control →
@@ -39,7 +39,7 @@ OneSequence A =
 abbrev pub mark_named : Located NamedOperation → Marked (Located NamedOperation)
 mark_named x = with_control x (control_of x.op)
 
--- Named operators are this body.
+-- The named operators form this body.
 abbrev pub IsNamedBody : List (Located NamedOperation) → Body (Located NamedOperation) → Type 0
 IsNamedBody xs b = map mark_named xs ≡ body_text b
 
@@ -47,21 +47,21 @@ IsNamedBody xs b = map mark_named xs ≡ body_text b
 abbrev pub IsTextOf : Typing → FunctionTree → List (Located NamedOperation) → Type 0
 IsTextOf m t ys = tree_text (with_names m) t ≡ Ok ys
 
--- Operators that have spellings and lawfully are a body are that body by their names too, and typed: what the laws below
--- ask of a body holds of every accepted one.
+-- Operators that have encodings and form a lawful body also form this body by their names, and they are typed. So the laws
+-- below hold for every accepted body.
 abbrev pub LawfulAreTyped : Type 0
 LawfulAreTyped =
     (env : Environment) (xs : List Occurrence) (b : Body Occurrence) → AllByRecursion HasSpelling xs → Lawful env xs b →
     IsNamedBody (map name_at xs) (named_body b) × AreTyped (typing_of env) (map name_at xs)
 
--- The tree has a text, and the text is a body again.
+-- The tree has a text, and the text forms a body again.
 pub record HasBodyText (m : Typing) (tree : FunctionTree) : Type 0 where
   pub text : List (Located NamedOperation)
   pub body : Body (Located NamedOperation)
   pub is_text : IsTextOf m tree text
   pub is_body : IsNamedBody text body
 
--- The normal form of a typed body has a text, and the text is a body again.
+-- The normal form of a typed body has a text, and the text forms a body again.
 abbrev pub HaveTexts : Type 0
 HaveTexts =
     (m : Typing) (xs : List (Located NamedOperation)) (b : Body (Located NamedOperation)) → IsNamedBody xs b → AreTyped m xs →
@@ -78,8 +78,8 @@ NormalAgain =
 abbrev pub without_locations : {X : Type 0} → Result (List (Located X)) EmitError → Result (List X) EmitError
 without_locations r = r >>= λ xs. Ok (map (λ x. x.op) xs)
 
--- In every way of writing they are written by the same operators, or refused for the same fault. `M` and `C` are what is
--- written for a label and for a block type.
+-- In every way of writing they have the same operators, locations aside, or the same fault. `M` and `C` are the types of a
+-- written label and a written block type.
 abbrev pub SameTexts : (M C : Type 0) → Type 0
 SameTexts M C =
     (w : Writing M C) (t u : FunctionTree) → IsSameTree t u → without_locations (tree_text w t) ≡ without_locations (tree_text w u)

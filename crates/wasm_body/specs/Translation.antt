@@ -1,4 +1,4 @@
--- From one level of operators to another: each immediate in the order of writing, and the first fault is the answer.
+-- From one level of operators to another: each immediate in the order of writing, and the first fault is the result.
 -- Naming, numbering, the operators of a tree and the ways of writing its text are translations.
 use Rattle.std.specs.Prelude.{ℕ, List, length, Option, Some, None, Result, Ok}
 use Rattle.walrus_ir.specs.declared.val_type.HeapType.{HeapType}
@@ -10,7 +10,7 @@ use Rattle.wasm_operators.specs.declared.types.Space.TheVariants.{Types, Memorie
 use Rattle.wasm_operators.specs.Operations.{Access, CatchClause, Cast, Immediate, index, local, label, handler, outer, number, access, branch_table, clauses, block, heap, value, cast, i32, i64, f32, f64, v128, lane, lanes, zero_byte, Operation}
 use Rattle.walrus_ir.specs.Results.{◌>>=◌, each}
 
--- What becomes of each part; labels go from L to M, block types from B to C.
+-- What each part becomes: labels go from L to M, and block types from B to C.
 pub record Translation (L B M C E : Type 0) : Type 0 where
   pub index : Space → ℕ → Result ℕ E
   pub local : ℕ → Result ℕ E
@@ -20,7 +20,7 @@ pub record Translation (L B M C E : Type 0) : Type 0 where
   pub number : ℕ → Result ℕ E
   pub block : B → Result C E
   pub alignment : ℕ → ℕ
-  pub count : ℕ → Result (Unit {0}) E  -- whether a list of so many may be written
+  pub count : ℕ → Result (Unit {0}) E  -- whether a list of this length may be written
 
 abbrev pub translate_heap : {E : Type 0} → (Space → ℕ → Result ℕ E) → HeapType ℕ → Result (HeapType ℕ) E
 translate_heap f (Abstract a) = Ok (Abstract a)
@@ -78,7 +78,7 @@ translate_immediates t is = each (translate_immediate t) is
 abbrev pub translate : {L B M C E : Type 0} → Translation L B M C E → Operation L B → Result (Operation M C) E
 translate t o = translate_immediates t o.immediates >>= λ is. Ok (record { opcode = o.opcode; immediates = is })
 
--- anything, at a location
+-- a value at a location
 pub record Located (X : Type 0) : Type 0 where
   pub op : X
   pub location : ℕ

@@ -1,5 +1,5 @@
--- The tree of a function as this crate's definitions speak of it: the builder's sequences unfolded, without their places. A
--- branch goes to the number of sequences between.
+-- The tree of a function as this crate defines it: the builder's sequences unfolded, without their places. The target of a
+-- branch is the number of sequences between.
 use Rattle.std.specs.Prelude.{◌≡◌, ℕ, suc, List, [], ◌∷◌, ◌==◌, if◌then◌else◌, Ok}
 use Rattle.walrus_ir.specs.declared.seq.InstrSeq.{InstrSeq}
 use Rattle.walrus_ir.specs.declared.error.WalkError.{WalkError}
@@ -17,7 +17,7 @@ abbrev pub deeper : Target → Target
 deeper (Depth n) = Depth (suc n)
 deeper Outside = Outside
 
--- the target that a place is where the sequences at these places are open, innermost first
+-- the target that a place becomes, where the sequences at these places are open, innermost first
 abbrev pub target_in : List ℕ → ℕ → Target
 target_in [] place = Outside
 target_in (p ∷ ps) place = if place == p then Depth 0 else deeper (target_in ps place)
@@ -58,13 +58,13 @@ abbrev mutual
 abbrev pub tree_of : Tree SequenceAt LocatedInstr → FunctionTree
 tree_of t = record { head = head_of t.head.seq; items = items_in (t.head.slot ∷ []) t.items }
 
--- From this sequence on the builder holds this tree.
+-- From this sequence on, the builder's sequences are this tree.
 pub record HasTree (sequences : List InstrSeq) (start : ℕ) (tree : FunctionTree) : Type 0 where
   pub unfolded : Tree SequenceAt LocatedInstr
   pub is_tree : IsTree sequences start unfolded
   pub is : tree_of unfolded ≡ tree
 
--- what it means for writing that the sequences are no tree, or that a walk of them isn't made
+-- the fault of writing that an error of a walk becomes
 abbrev pub fault_of_walk : WalkError → EmitError
 fault_of_walk walk.UnknownSequence = emit.UnknownSequence
 fault_of_walk walk.SharedSequence = emit.SharedSequence

@@ -1,4 +1,4 @@
--- Operators whose types a module holds.
+-- Operators whose types the module has.
 use Rattle.std.specs.Prelude.{◌≡◌, List, [], Some}
 use Rattle.std.specs.List.{AllByRecursion}
 use Rattle.walrus_ir.specs.declared.val_type.InstrSeqType.{InstrSeqType}
@@ -8,14 +8,15 @@ use Rattle.wasm_body.specs.Translation.{Located}
 use Rattle.wasm_body.specs.Naming.{NamedOperation, block_types, block_signature}
 use Rattle.wasm_body.specs.NormalForm.{Typing}
 
--- The type stands for each of these.
+-- Each of these is the signature of the type of a sequence.
 abbrev pub StandsFor : Typing → InstrSeqType → List Signature → Type 0
 StandsFor m t ss = AllByRecursion (λ s. m.signature_of t ≡ Some s) ss
 
 abbrev pub IsOpener : Typing → NamedOperation → Type 0
 IsOpener m o = StandsFor m (m.picked (block_signature o)) (block_types o.immediates)
 
--- Of an operator that opens a construct the pick stands for its block type; another has none.
+-- If the operator opens a construct, the picked type of a sequence has its block type as signature; another operator has no
+-- block type.
 abbrev pub IsTypedAs : Typing → Role → NamedOperation → Type 0
 IsTypedAs m a_block o = IsOpener m o
 IsTypedAs m a_loop o = IsOpener m o

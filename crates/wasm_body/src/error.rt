@@ -1,4 +1,4 @@
-//! Why a body isn't parsed, or a tree isn't written.
+//! The errors of index maps, of parsing a body, and of writing a tree.
 
 use std::alloc::{AllocError, AllocFailed};
 use thiserror::Error;
@@ -6,7 +6,8 @@ use walrus_ir::{FunctionId, WalkError};
 use wasm_numbers::ReadError;
 use wasm_operators::Space;
 
-/// Why an index map has no answer, or can't grow.
+/// The errors of an index map: a look-up fails, or the map can't grow. Indices are those of the
+/// index spaces of a module (WebAssembly core specification 3.0, indices).
 #[derive(Clone, Copy, Debug, PartialEq, Eq, Error)]
 pub enum IndexError {
     /// No id has this old index.
@@ -18,10 +19,10 @@ pub enum IndexError {
     /// The id has no new index.
     #[error("an id has no index among {space}")]
     Unnumbered { space: Space },
-    /// 2^32 ids are there.
+    /// There are already 2^32 ids.
     #[error("there are too many ids for another index")]
     TooMany,
-    /// No memory was left.
+    /// Out of memory.
     #[error("out of memory")]
     Memory,
     /// The function has no local with this old index.
@@ -40,63 +41,63 @@ impl<T: Drop> From<AllocFailed<T>> for IndexError {
     }
 }
 
-/// Why a body isn't parsed.
+/// The errors of parsing a body (WebAssembly core specification 3.0, control instructions and
+/// binary format; legacy exception handling).
 #[derive(Clone, Copy, Debug, PartialEq, Eq, Error)]
 pub enum ParseError {
-    /// An operator can't be read.
+    /// An operator can't be decoded.
     #[error(transparent)]
     Read(ReadError),
-    /// No location stands for the place of an operator.
+    /// The place of an operator is too great to be a location.
     #[error("the place of an operator is too great")]
     PlaceTooGreat,
-    /// The validator refused an operator.
+    /// The validator refused an operator, with this number.
     #[error("the validator refused an operator: {0}")]
     Checked(u32),
     /// An index has no id.
     #[error(transparent)]
     Index(IndexError),
-    /// A label isn't open.
+    /// A label names no sequence around the operator.
     #[error("a label is not open")]
     NoSuchLabel,
-    /// A type isn't a function type.
+    /// A type is not a function type.
     #[error("a type is not a function type")]
     NotAFunctionType,
-    /// The module has no type for a sequence.
+    /// The module has no type for a sequence with these parameters and results.
     #[error("the module has no type with these parameters and results")]
     TypeMissing,
     /// The module has no entry type for the function's results.
     #[error("the module has no entry type with these results")]
     EntryTypeMissing,
-    /// An `else` stands elsewhere than behind the consequent of an `if`.
+    /// An `else` that isn't after the consequent of an `if`.
     #[error("`else` outside of `if`")]
     ElseOutsideIf,
-    /// A `catch` or `catch_all` stands elsewhere than behind the body of a `try` or a `catch`
-    /// handler.
+    /// A `catch` or `catch_all` that isn't after the body of a `try` or the handler of a `catch`.
     #[error("`catch` outside of `try`")]
     CatchOutsideTry,
-    /// A `delegate` stands elsewhere than behind the body of a `try`.
+    /// A `delegate` that isn't after the body of a `try`.
     #[error("`delegate` outside of `try`")]
     DelegateOutsideTry,
-    /// The label of a `rethrow` isn't a handler.
+    /// The label of a `rethrow` is not that of a handler.
     #[error("`rethrow` does not name a handler")]
     RethrowOutsideHandler,
-    /// Bytes stand behind the last `end`.
+    /// There are bytes after the last `end`.
     #[error("bytes stand behind the last `end`")]
     Trailing,
     /// The bytes end before the last `end`.
     #[error("an `end` is missing")]
     MissingEnd,
-    /// No legacy `try` stands at the end of the sequence around the innermost one. No parse answers
-    /// it.
+    /// The sequence around the innermost one doesn't end with a legacy `try`. No parse returns this
+    /// error.
     #[error("no `try` stands at the end of the sequence around")]
     NoTry,
-    /// No sequence is open. No parse answers it.
+    /// No sequence is open. No parse returns this error.
     #[error("no sequence is open")]
     NoFrame,
-    /// The module doesn't hold a tag.
+    /// The module doesn't have a tag with this id.
     #[error("the module does not hold a tag")]
     UnknownId,
-    /// No memory was left.
+    /// Out of memory.
     #[error("out of memory")]
     Memory,
 }
@@ -134,7 +135,8 @@ impl From<IndexError> for ParseError {
     }
 }
 
-/// A body that isn't parsed: why, and at which place. The place is open for `Memory`.
+/// The error of parsing a body, and the place where it is: a byte offset. For `Memory` the place is
+/// not specified.
 #[derive(Clone, Copy, Debug, PartialEq, Eq, Error)]
 #[error("{error} at {at}")]
 pub struct ParseFailure {
@@ -142,7 +144,7 @@ pub struct ParseFailure {
     pub at: usize,
 }
 
-/// Why a tree isn't written.
+/// The errors of writing a tree.
 #[derive(Clone, Copy, Debug, PartialEq, Eq, Error)]
 pub enum EmitError {
     /// An id has no new index.
@@ -151,25 +153,26 @@ pub enum EmitError {
     /// A local has no number.
     #[error("a local has no number")]
     UnnumberedLocal,
-    /// A sequence isn't in the builder.
+    /// The builder doesn't have a sequence.
     #[error("a sequence is not in the builder")]
     UnknownSequence,
     /// A sequence is reached twice.
     #[error("a sequence is reached twice")]
     SharedSequence,
-    /// The target of a branch isn't a sequence around it.
+    /// The target of a branch is not a sequence around it.
     #[error("a branch goes outside of the sequences around it")]
     BranchOutside,
-    /// The clauses of a legacy `try` are in no lawful order.
+    /// The clauses of a legacy `try` are not in an allowed order: any number of `catch`, then at
+    /// most one `catch_all`; or one `delegate` alone.
     #[error("the clauses of a `try` are not lawful")]
     BadClauses,
-    /// A used local isn't in the module.
+    /// The module doesn't have a local that is used.
     #[error("the module does not hold a local")]
     UnknownLocal,
     /// A count or a depth doesn't fit 32 bits.
     #[error("a count or a depth is too large")]
     TooLarge,
-    /// No memory was left.
+    /// Out of memory.
     #[error("out of memory")]
     Memory,
 }

@@ -1,6 +1,6 @@
-//! What the body of a function is: which bytes are accepted as one, the tree that stands for it,
-//! the text and the bytes of a tree, and what a body executes. This crate holds definitions and
-//! laws, and the errors that the definitions name.
+//! What the body of a function is (WebAssembly core specification 3.0): the bytes that are accepted
+//! as one, the tree that represents it, the text and the bytes of a tree, and what a body executes.
+//! This crate has definitions and laws, and the errors that the definitions name.
 #![tactic(auto)]
 
 mod error;

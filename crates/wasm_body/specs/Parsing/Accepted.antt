@@ -1,4 +1,5 @@
--- Which bytes are accepted as a body, and which fault is the first otherwise.
+-- The bytes that are accepted as a body, and the first fault of all others (WebAssembly core specification 3.0, binary format,
+-- instructions; legacy exception handling).
 use Rattle.std.specs.Prelude.{◌≡◌, ℕ, ◌+◌, List, [], ◌∷◌, ◌++◌, length, map, replicate, nat_lt, Bool, true, Option, None, Some, IsOk, Result, Ok, Err}
 use Rattle.std.specs.List.{AllByRecursion}
 use Rattle.wasm_operators.specs.OperatorList.{Placed, Lists}
@@ -17,28 +18,28 @@ use Rattle.wasm_body.specs.Naming.{Environment, Occurrence, named_in, entry_type
 abbrev pub placed : Occurrence → Placed
 placed x = record { spelt = x.spelt; place = x.place }
 
--- The operator has a spelling.
+-- The operator has an encoding.
 abbrev pub HasSpelling : Occurrence → Type 0
 HasSpelling x = (text : List ℕ) × Spells x.spelt text
 
 abbrev pub mark : Occurrence → Marked Occurrence
 mark x = with_control x (control_of x.named)
 
--- The operators are this body.
+-- The operators form this body.
 abbrev pub IsBody : List Occurrence → Body Occurrence → Type 0
 IsBody xs b = map mark xs ≡ body_text b
 
--- The operator has this name where it stands, and so keeps the rules.
+-- The operator has this name in its place, and so keeps the rules.
 abbrev pub IsNamed : Environment → Rule Occurrence
 IsNamed env fs x = named_in env fs x.shown.spelt ≡ Ok x.shown.named
 
--- The operators are this body, they have their names in it, and the function's own type is in order.
+-- The operators form this body, each has its name in it, and the function's own type is a function type with an entry type.
 pub record Lawful (env : Environment) (xs : List Occurrence) (body : Body Occurrence) : Type 0 where
   pub entry : IsOk (entry_type_id env)
   pub is_body : IsBody xs body
   pub named : BodyFollows (IsNamed env) body
 
--- ---- the validator's run: each operator with its place is a step to the next state, or is refused with a number
+-- ---- the validator's run: each operator, with its place, leads to the next state, or is refused with a number
 
 abbrev pub validated : {V : Type 0} → (V → Placed → Result V ℕ) → V → List Placed → Result V ℕ
 validated check v [] = Ok v
@@ -46,8 +47,8 @@ validated check v (x ∷ xs) = check v x >>= λ w. validated check w xs
 
 -- ---- places and locations
 
--- Locations are what the caller's location function answers for a place. Where there is none, the place is the location,
--- and has to be below the number that stands for no location.
+-- The location of an operator is the value of the caller's location function at the operator's place. Without such a function
+-- the place is the location; it has to be less than the number of the default location.
 abbrev pub location_at : Option (ℕ → ℕ) → ℕ → ℕ
 location_at None place = place
 location_at (Some locate) place = locate place
@@ -59,8 +60,8 @@ abbrev pub has_location : Option (ℕ → ℕ) → ℕ → Bool
 has_location None place = nat_lt place location_limit
 has_location (Some locate) place = true
 
--- What a parse is given beside the bytes: what bodies are named by, the place of the first operator, the location function,
--- if there is one, and the validator, which begins in the state `first`.
+-- The arguments of a parse besides the bytes: the environment by which bodies are named, the place of the first operator, the
+-- location function, if there is one, and the validator, which begins in the state `first`.
 pub record Setting (V : Type 0) : Type 0 where
   pub environment : Environment
   pub start : ℕ
@@ -68,13 +69,13 @@ pub record Setting (V : Type 0) : Type 0 where
   pub check : V → Placed → Result V ℕ
   pub first : V
 
--- without a location function, and with a validator of one state that accepts everything
+-- the arguments without a location function, and with a validator of one state that accepts everything
 abbrev pub accepting : Environment → (start : ℕ) → Setting (Unit {0})
 accepting env start = record { environment = env; start = start; locations = None; check = λ v x. Ok v; first = tt }
 
 -- ---- accepted bodies
 
--- The operators stand at the front of the bytes, have locations, and pass the validator; then the rest follows.
+-- The bytes begin with encodings of these operators, which have locations and pass the validator; after them comes the rest.
 pub record IsFront {V : Type 0} (given : Setting V) (xs : List Occurrence) (bytes rest : List ℕ) : Type 0 where
   pub spelt : Lists (map placed xs) given.start bytes rest
   pub have_locations : AllByRecursion (λ x. has_location given.locations x.place ≡ true) xs
@@ -89,14 +90,14 @@ pub record Accepted {V : Type 0} (given : Setting V) (bytes : List ℕ) (body : 
 
 -- ---- the first fault
 
--- an operator that was handled, the bytes behind it, and the validator's next state
+-- an operator that was handled, the bytes after it, and the validator's next state
 pub record Handled (V : Type 0) : Type 0 where
   pub operator : Occurrence
   pub rest : List ℕ
   pub state : V
 
--- The operator at the front of the bytes is read; then its place is looked at, then the validator is asked, and then its
--- rules are tried. The first that fails is its fault.
+-- The operator at the front of the bytes is read; then it is checked that its place has a location; then the validator gets it;
+-- and then its rules are tried. The first of these that fails gives its fault.
 abbrev pub handled : {V : Type 0} → Setting V → V → List (Frame Occurrence) → ℕ → List ℕ → Result (Handled V) ParseError
 handled given v fs place bytes =
     with_fault (λ fault. Read (record { fault = fault; at = place })) (read_operation bytes) >>= λ x.
@@ -109,23 +110,23 @@ handled given v fs place bytes =
       state = w;
     })
 
--- an `end` that is not there
+-- an `end` that the bytes don't have
 abbrev pub added_end : Occurrence
 added_end = record { spelt = end_operation; place = 0; location = 0; named = end_operation }
 
--- So many more `end`s make a body of the operators.
+-- The operators, with this many more `end`s, form a lawful body.
 pub record Stands (env : Environment) (xs : List Occurrence) (count : ℕ) : Type 0 where
   pub body : Body Occurrence
   pub lawful : Lawful env (xs ++ replicate count added_end) body
 
--- what is wrong with the rest, where these sequences are open
+-- the error is the fault of the rest of the bytes, where these sequences are open
 abbrev pub FaultBehind : {V : Type 0} → Setting V → V → List (Frame Occurrence) → ℕ → List ℕ → ParseError → Type 0
 FaultBehind given v [] place [] error = ⊥
 FaultBehind given v [] place (b ∷ rest) error = error ≡ Trailing
 FaultBehind given v (f ∷ fs) place [] error = error ≡ MissingEnd
 FaultBehind given v (f ∷ fs) place (b ∷ rest) error = handled given v (f ∷ fs) place (b ∷ rest) ≡ Err error
 
--- A front of the operators stands, and the fault lies behind it.
+-- The bytes begin with operators that some more `end`s complete to a lawful body, and the fault comes after them.
 pub record FaultAfterFront {V : Type 0} (given : Setting V) (bytes : List ℕ) (failure : ParseFailure) : Type 0 where
   pub front : List Occurrence
   pub rest : List ℕ
@@ -138,7 +139,7 @@ pub record FaultAfterFront {V : Type 0} (given : Setting V) (bytes : List ℕ) (
   pub place : failure.at + length rest ≡ given.start + length bytes
   pub fault : FaultBehind given state frames failure.at rest failure.error
 
--- The first fault of the bytes, and its place: the function's type is at fault, or what lies behind a front that stands.
+-- The first fault of the bytes, and its place: the fault of the function's own type, or one after a front as above.
 pub data FirstFault {V : Type 0} (given : Setting V) (bytes : List ℕ) (failure : ParseFailure) : Type 0 where
   of_entry : entry_type_id given.environment ≡ Err failure.error → failure.at ≡ given.start → FirstFault given bytes failure
   of_operators : FaultAfterFront given bytes failure → FirstFault given bytes failure

@@ -1,5 +1,5 @@
--- Laws of accepted bodies and first faults: every input has one of both, and one only; the front before a first fault is the
--- longest that stands; and which locations a caller gives makes no difference to what is accepted.
+-- Laws of accepted bodies and first faults: every input has exactly one of the two; the front before a first fault is the
+-- longest that can be completed to a lawful body; and the location function makes no difference to what is accepted.
 use Rattle.std.specs.Prelude.{◌≡◌, ℕ, ◌<◌, ◌⊎◌, List, ◌++◌, Some}
 use Rattle.std.specs.List.{AllByRecursion}
 use Rattle.wasm_body.specs.declared.error.ParseFailure.{ParseFailure}
@@ -18,13 +18,13 @@ AcceptedHasNoFault V = (given : Setting V) (bytes : List ℕ) (b : Body Occurren
 abbrev pub OneFirstFault : Type 0 → Type 0
 OneFirstFault V = (given : Setting V) (bytes : List ℕ) (f g : ParseFailure) → FirstFault given bytes f → FirstFault given bytes g → f ≡ g
 
--- Bytes are accepted as a body, or have a first fault.
+-- All bytes are accepted as a body, or have a first fault.
 abbrev pub AcceptedOrFault : Type 0 → Type 0
 AcceptedOrFault V =
     (given : Setting V) (bytes : List ℕ) → AllByRecursion (λ b. b < 256) bytes →
     ((b : Body Occurrence) × Accepted given bytes b) ⊎ ((f : ParseFailure) × FirstFault given bytes f)
 
--- Every front that stands is a front of the one before the first fault.
+-- Every front that can be completed to a lawful body is a front of the one before the first fault.
 abbrev pub LongestFront : Type 0 → Type 0
 LongestFront V =
     (given : Setting V) (bytes : List ℕ) (f : ParseFailure) (fault : FaultAfterFront given bytes f) →

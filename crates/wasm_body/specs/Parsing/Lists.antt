@@ -1,5 +1,6 @@
--- Parsing on lists: the body that bytes are, or the first fault, found operator by operator. It is what a parse computes;
--- which bytes are accepted and which fault is the first is said by relations, and that both agree is a law.
+-- Parsing on lists: the body that the bytes are accepted as, or the first fault, computed operator by operator as a parse does.
+-- The relations `Accepted` and `FirstFault` define which bytes are accepted and which fault is the first; it is a law that the
+-- two agree.
 use Rattle.std.specs.Prelude.{ℕ, zero, suc, ◌+◌, ◌-◌, List, [], ◌∷◌, length, Result, Ok, Err}
 use Rattle.wasm_body.specs.declared.error.ParseError.{ParseError}
 use Rattle.wasm_body.specs.declared.error.ParseError.TheVariants.{Trailing, MissingEnd, Memory}
@@ -16,7 +17,7 @@ abbrev pub behind : {V : Type 0} → ℕ → Result (Handled V) ParseError → (
 behind place (Err error) go = Err (failure error place)
 behind place (Ok h) go = go h
 
--- Where so much has been read. An operator is a byte at least, so as many turns as bytes are enough.
+-- The result from this progress on. An operator has at least one byte, so as many turns as bytes are enough.
 abbrev pub parsed_from : {V : Type 0} → Setting V → (turns : ℕ) → Progress Occurrence → V → ℕ → List ℕ → Result (Body Occurrence) ParseFailure
 parsed_from given turns (Whole b) v place [] = Ok b
 parsed_from given turns (Whole b) v place (x ∷ bytes) = Err (failure Trailing place)

@@ -1,11 +1,11 @@
--- How far a body has been read: the constructs that are open behind a front of its operators, and the innermost sequence so
--- far. This says how a parse goes; what a body is, is said by the source tree alone.
+-- How far a body has been read: the constructs that are open after a front of its operators, and the innermost sequence so far.
+-- This is the state of a parse; only the source tree defines what a body is.
 use Rattle.std.specs.Prelude.{ℕ, List, [], ◌∷◌, Option, Some, None}
 use Rattle.wasm_body.specs.Control.{Construct, Block, Loop, TryTable, If, Try, Control, Does, Opens, Else, Catch, CatchAll, End, Delegate, Marked}
 use Rattle.wasm_body.specs.SourceTree.{Wrapper, OfBlock, OfLoop, OfTryTable, Sequence, Empty, Single, Wrapped, IfThen, IfElse, TryCatch, TryDelegate, Clauses, Ended, Catches, CatchesAll, Body}
 use Rattle.wasm_body.specs.Frames.{Frame, OfFunction, OfWrapper, Consequent, Alternative, TryBody, Handler, HandlerOfAll}
 
--- a sequence behind another
+-- a sequence after another
 abbrev pub append : {A : Type 0} → Sequence A → Sequence A → Sequence A
 append Empty t = t
 append (Single a action r) t = Single a action (append r t)
@@ -24,7 +24,7 @@ pub record ClosedClause (A : Type 0) : Type 0 where
 abbrev pub closed_clause : {A : Type 0} → A → ℕ → Sequence A → ClosedClause A
 closed_clause h t b = record { mark = h; tag = t; body = b }
 
--- clauses behind closed ones, of which the last comes first
+-- clauses after closed ones, of which the last comes first
 abbrev pub behind_closed : {A : Type 0} → List (ClosedClause A) → Clauses A → Clauses A
 behind_closed [] cs = cs
 behind_closed (g ∷ gs) cs = behind_closed gs (Catches g.mark g.tag g.body cs)
@@ -38,7 +38,7 @@ pub data OpenConstruct (A : Type 0) : Type 0 where
   InCatch : (a : A) (b : Sequence A) (gs : List (ClosedClause A)) (h : A) (t : ℕ) → OpenConstruct A
   InCatchAll : (a : A) (b : Sequence A) (gs : List (ClosedClause A)) (h : A) → OpenConstruct A
 
--- an open construct, and what stands before it in its sequence
+-- an open construct, and the items before it in its sequence
 pub record Layer (A : Type 0) : Type 0 where
   pub before : Sequence A
   pub construct : OpenConstruct A
@@ -46,8 +46,8 @@ pub record Layer (A : Type 0) : Type 0 where
 abbrev pub layer : {A : Type 0} → Sequence A → OpenConstruct A → Layer A
 layer s p = record { before = s; construct = p }
 
--- Behind a front: within open constructs, innermost first, with the innermost sequence so far; or a whole body is read; or
--- what is read is no front of a body.
+-- After a front: within open constructs, innermost first, with the innermost sequence so far; or a whole body was read; or the
+-- operators that were read are not the front of a body.
 pub data Progress (A : Type 0) : Type 0 where
   Within : (ls : List (Layer A)) (s : Sequence A) → Progress A
   Whole : (b : Body A) → Progress A
@@ -78,7 +78,7 @@ opened a (TryTable cs) = InWrapper a (OfTryTable cs)
 opened a If = InThen a
 opened a Try = InTry a
 
--- the construct as an item, its open sequence being closed by `end`
+-- the construct as an item, with its open sequence closed by `end`
 abbrev pub closed : {A : Type 0} → OpenConstruct A → Sequence A → A → Sequence A
 closed (InWrapper a w) s e = Wrapped a w s e Empty
 closed (InThen a) s e = IfThen a s e Empty
@@ -87,7 +87,7 @@ closed (InTry a) s e = TryCatch a s (Ended e) Empty
 closed (InCatch a b gs h t) s e = TryCatch a b (behind_closed gs (Catches h t s (Ended e))) Empty
 closed (InCatchAll a b gs h) s e = TryCatch a b (behind_closed gs (CatchesAll h s e)) Empty
 
--- the same construct with its next sequence open, behind `else`, `catch` or `catch_all`
+-- the same construct with its next sequence open, after `else`, `catch` or `catch_all`
 abbrev pub parted_by_else : {A : Type 0} → OpenConstruct A → Sequence A → A → Option (OpenConstruct A)
 parted_by_else (InThen a) s l = Some (InElse a s l)
 parted_by_else _ s l = None
@@ -133,7 +133,7 @@ further (Within ls s) x = further_within x.control x.shown ls s
 further (Whole b) x = NoBody
 further NoBody x = NoBody
 
--- behind so many operators more
+-- after these operators more
 abbrev pub progress_behind : {A : Type 0} → Progress A → List (Marked A) → Progress A
 progress_behind p [] = p
 progress_behind p (x ∷ xs) = progress_behind (further p x) xs
