@@ -42,7 +42,7 @@ single_with_fate Cuts a action rest = Single a action Empty
 -- An instruction that is no construct is written, or isn't, as above.
 -- A `block`, `loop` or `try_table` is written as it is, and its `end` at the location of the source's `end`.
 -- An `if` without `else` is written as it is, and gets an empty `else`: that has the location of the source's `end`, and the
--- `end` behind it has the default location.
+-- `end` after it has the default location.
 -- An `if` with `else` is written as it is, its `else` and its `end` at the locations of the source's.
 -- A `try` with handlers is written as it is, and then its clauses.
 -- A `try` with `delegate` is written as it is, and its `delegate`, of the same depth, at the default location.
