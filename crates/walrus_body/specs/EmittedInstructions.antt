@@ -1,5 +1,5 @@
--- What a call promises that writes a function's tree, and its location pairs into a list if it is
--- lent one.
+-- The contract of a call that writes a function's tree, and its location pairs if a list is lent for
+-- them.
 use Rattle.std.specs.Prelude.{◌≡◌, ◌⊎◌, ℕ, List, Option, Some, None}
 use Rattle.std.specs.Borrow.{MutBor}
 use Rattle.std.specs.declared.vec.Vec.{Vec}
@@ -15,12 +15,12 @@ use Rattle.walrus_emitter.specs.TreeWriting.Trees.{Appends, AppendsBytes, IsUnwr
 abbrev pub LentPairs : Type 0 → Type 0
 LentPairs Z = MutBor (Vec Pair Z)
 
--- how an `Option` is left: without a value, or with one
+-- an `Option` after the call: without a value, or with one
 abbrev pub Left : Type 0 → Type 0
 Left A = Unit {0} ⊎ ((A × Unit {0}) ⊎ ⊥)
 
--- The bytes of the function's tree stand behind what stood in the encoder, and its pairs behind what
--- stood in the list, if there is one.
+-- The bytes of the function's tree were appended to the encoder, and its pairs to the list, if there
+-- is one.
 abbrev pub Emits : {Z : Type 0} → Function → Numbers → (old new : List ℕ)
     → (entry : Option (LentPairs Z)) → (exit : Left (LentPairs Z)) → Type 0
 Emits f to old new None (inl none) = AppendsBytes f.sequences (first_slot f) to old new
@@ -28,13 +28,14 @@ Emits f to old new (Some list) (inr (inl left)) = Appends f.sequences (first_slo
     list.now.items left.0.now.items
 Emits f to old new _ _ = ⊥
 
--- the list is as it was, if there is one
+-- the list is unchanged, if there is one
 abbrev pub KeepsPairs : {Z : Type 0} → (entry : Option (LentPairs Z))
     → (exit : Left (LentPairs Z)) → Type 0
 KeepsPairs None (inl none) = Unit {0}
 KeepsPairs (Some list) (inr (inl left)) = left.0.now.items ≡ list.now.items
 KeepsPairs _ _ = ⊥
 
--- Memory ran out, the builder has no tree, or the fault is the first of the tree in order of writing.
+-- Memory ran out, the builder has no tree, or this is the first fault of the tree in the order of
+-- writing.
 abbrev pub IsUnemitted : Function → Numbers → EmitError → Type 0
 IsUnemitted f to e = IsUnwritten f.sequences (first_slot f) to e

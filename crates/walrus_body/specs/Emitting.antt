@@ -1,13 +1,13 @@
--- What an emission does to its context.
+-- What writing a part of a module does to the context.
 use Rattle.std.specs.Prelude.{◌≡◌, ℕ, List, ◌++◌}
 use Rattle.walrus_body.specs.declared.emit.EmitContext.{EmitContext}
 
--- What an emission writes: bytes, and pairs of a location and a place.
+-- The data that is written: bytes, and pairs of a location and a place.
 pub record Written : Type 0 where
   pub bytes : List ℕ
   pub code_transform : List (ℕ × ℕ)
 
--- The context holds what it held, its lists the same items.
+-- The context has the same values as before, and its lists the same items.
 pub record IsUnchanged (old new : EmitContext) : Type 0 where
   pub «module» : new.module.now ≡ old.module.now
   pub indices : new.indices.now ≡ old.indices.now
@@ -15,17 +15,17 @@ pub record IsUnchanged (old new : EmitContext) : Type 0 where
   pub func_facts : new.func_facts ≡ old.func_facts
   pub code_transform : new.code_transform.items ≡ old.code_transform.items
 
--- What is written stands behind what was there, in the context of the same module.
+-- The data was appended to the context, whose module is the same.
 pub record Appends (written : Written) (old new : EmitContext) : Type 0 where
   pub «module» : new.module.now ≡ old.module.now
   pub bytes : new.bytes.items ≡ old.bytes.items ++ written.bytes
   pub code_transform : new.code_transform.items ≡ old.code_transform.items ++ written.code_transform
 
--- Something of this kind is written.
+-- Some data of this kind was appended.
 abbrev pub AppendsSome : (Written → Type 0) → (old new : EmitContext) → Type 0
 AppendsSome Is old new = (written : Written) × Is written × Appends written old new
 
--- Beside what is written nothing changes.
+-- Apart from the appended data nothing changes.
 pub record ChangesNothingElse (old new : EmitContext) : Type 0 where
   pub indices : new.indices.now ≡ old.indices.now
   pub func_facts : new.func_facts ≡ old.func_facts

@@ -11,16 +11,16 @@ use Rattle.walrus_ir.specs.Unfolding.{LocatedInstr}
 use Rattle.walrus_body.specs.declared.local_function.LocalFunction.{LocalFunction}
 use Rattle.walrus_body.specs.contracts.local_function.LocalFunction.{the_row}
 
--- the slot of the sequence that it begins with
+-- the slot of the sequence that the function begins with
 abbrev pub first_slot : Function → ℕ
 first_slot f = unwrap_or f.entry 0
 
--- It begins with a sequence of its builder.
+-- The function has an entry, which is a sequence of its builder.
 pub record HasEntry (f : Function) : Type 0 where
   pub is : f.entry ≡ Some (first_slot f)
   pub stands : first_slot f < length f.sequences
 
--- the instructions that it begins with
+-- the instructions of the sequence that the function begins with
 abbrev pub first_instrs : Function → List LocatedInstr
 first_instrs f = instrs_at (option_and_then (slice_get f.sequences) f.entry)
   where
@@ -32,10 +32,10 @@ abbrev pub is_const : LocatedInstr → Bool
 is_const (instr.Const x, location) = true
 is_const _ = false
 
--- the function ends with its builder as it is left
+-- at the end of the loan, the function has the builder as the borrower leaves it
 abbrev pub LendsBuilder : MutBor LocalFunction → MutBor FunctionBuilder → Fml
 LendsBuilder f b = Lends the_row builder_row f b (λ left. record f.now { builder = left })
 
--- the function ends with the sequence at a slot as it is left
+-- at the end of the loan, the function has at this slot the sequence as the borrower leaves it
 abbrev pub LendsBlock : MutBor LocalFunction → ℕ → MutBor InstrSeq → Fml
 LendsBlock f slot seq = Lends the_row sequence_row f seq (λ left. record f.now { builder = with_sequence f.now.builder slot left })

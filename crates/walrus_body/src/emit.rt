@@ -1,22 +1,23 @@
-//! Writing of parts of a module.
+//! Writing the parts of a module.
 
 use walrus_facts::EmitFacts;
 use walrus_ir::{FunctionId, IdHashMap, InstrLocId, Module};
 use walrus_maps::IdsToIndices;
 use wasm_body::EmitError;
 
-/// What the parts of a module are written into.
+/// The context that the parts of a module are written into.
 #[derive(Drop)]
 pub struct EmitContext<'a> {
     /// The module that is written.
     pub module: &'a Module,
-    /// The new indices of ids. A section that is written gives those of its items.
+    /// The new indices of ids. Writing a section adds those of its items.
     pub indices: &'a mut IdsToIndices,
-    /// The bytes so far.
+    /// The bytes that have been written so far.
     pub bytes: Vec<u8>,
     /// The facts of the functions' bodies.
     pub func_facts: IdHashMap<FunctionId, EmitFacts>,
-    /// The location and the place among the bytes of each operator that has been written.
+    /// For each operator that has been written, its location and its place, which is the offset of
+    /// its first byte in `bytes`.
     pub code_transform: Vec<(InstrLocId, usize)>,
 }
 
@@ -27,16 +28,20 @@ pub trait Emit {
     ghost use Rattle.walrus_body.specs.declared.emit.EmitContext.{EmitContext};
     ghost use Rattle.walrus_body.specs.Emitting.{Written, AppendsSome, IsUnchanged};
 
-    /// What is written into a context, behind what stands there.
+    /// The data that this part appends to a context.
     ghost writes: { Self → EmitContext → Written → Type 0 };
 
-    /// What else holds between the context before and after.
+    /// Another relation between the context before and after the call.
     ghost changes: { Self → EmitContext → EmitContext → Type 0 };
 
-    /// Why it may be refused.
+    /// The errors that are possible.
     ghost refuses: { Self → EmitContext → EmitError → Type 0 };
 
-    /// Writes it. A refusal leaves the context as it was.
+    /// Appends this part to the context.
+    ///
+    /// # Errors
+    ///
+    /// Those of the part. The context is then unchanged.
     fn emit(&self, cx: &mut EmitContext<'_>) -> Result<(), EmitError>
         ensures ok { OnOk result (AppendsSome (writes self.now cx.old) cx.old cx.new) }
         ensures changes { OnOk result (changes self.now cx.old cx.new) }
@@ -45,7 +50,7 @@ pub trait Emit {
         ensures same_indices { cx.new.indices.ghost_name ≡ cx.old.indices.ghost_name };
 }
 
-/// A reference is written as its value is.
+/// A reference is written as its value.
 impl<T: Emit> Emit for &T {
     ghost writes = { λ part. T.writes part.now };
 

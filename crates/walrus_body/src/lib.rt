@@ -1,5 +1,5 @@
-//! Functions with a body: parsing, facts and writing. The parts that it is made of stand in the crates
-//! below, whose public names this one gives too.
+//! Functions with a body: parsing, facts and writing. The parts are in the crates below, whose
+//! public names this crate re-exports.
 #![tactic(auto)]
 
 mod emit;

@@ -1,4 +1,4 @@
-//! Functions of a module: their bodies, read and written.
+//! Functions of a module that have a body: parsing and writing the body.
 ghost use Rattle.std.specs.Prelude.{◌≡◌, ◌⊎◌, ◌≤◌, ◌<◌, ◌+◌, ◌^◌, ◌==◌, ◌↔◌, IsTrue, ℕ, [], length, drop, slice_get, Some, None, Option, IfOk, IfErr, IsErr, OnOk, OnErr};
 ghost use Rattle.std.specs.Borrow.{sem};
 ghost use Rattle.std.specs.HashSet.{contains};
@@ -35,16 +35,17 @@ use wasm_body::{EmitError, ParseFailure};
 use wasm_encode::FunctionEncoder;
 use wasm_ops::RawValType;
 
-/// A function of a module that has a body. A contract sees its lists and its builder by their
-/// values.
+/// A function of a module that has a body (WebAssembly core specification 3.0, functions). A
+/// contract sees the values of its lists and of its builder.
 #[derive(Drop)]
 pub struct LocalFunction {
     builder: FunctionBuilder,
     /// The function's arguments, in order.
     pub args: Vec<LocalId>,
-    /// The location of each operator that was read, by its place less the code offset, in order.
+    /// For each operator that was read, in order: its place, which is a byte offset, minus the
+    /// module's `code_section_offset`; and its location.
     pub instruction_mapping: Vec<(usize, InstrLocId)>,
-    /// The places of the body that was read, less the code offset.
+    /// The range of places of the body that was read, minus the module's `code_section_offset`.
     pub original_range: Option<Range<usize>>,
 }
 
@@ -62,7 +63,7 @@ impl Model for LocalFunction {
 }
 
 impl LocalFunction {
-    /// The function of these parts, of which nothing was read.
+    /// The function with these arguments and sequences, which was not read from a module.
     pub fn new(args: Vec<LocalId>, builder: FunctionBuilder) -> LocalFunction
         ensures { result ≡ record {
           builder = builder;
@@ -80,16 +81,18 @@ impl LocalFunction {
         }
     }
 
-    /// Parses a function's body. Each operator's location is what `on_instr_pos` answers for its
-    /// place, or where there is none the place itself; the validator is asked about each operator.
-    /// The list `instrs` holds the instructions of open sequences meanwhile; what it held makes no
-    /// difference. It is empty in the end, and keeps its memory where the body is accepted.
+    /// Parses a function's body (WebAssembly core specification 3.0, binary format, code section).
+    /// The location of an operator is the result of `on_instr_pos` for its place, which is a byte
+    /// offset; without such a function it is the place itself. The validator is called for each
+    /// operator. The list `instrs` is used for the instructions of open sequences; its items before
+    /// the call make no difference. After the call it is empty, and if the body was accepted it
+    /// keeps its memory.
     ///
     /// # Errors
     ///
-    /// The body's first fault, with its place. Of an operator it is that of reading it, then
+    /// The body's first fault, with its place. For an operator it is the fault of decoding it, then
     /// `PlaceTooGreat`, then the validator's refusal, then the first rule that it breaks. Or
-    /// `Memory`, where a list can't grow or the validator says so.
+    /// `Memory`, if a list can't grow or the validator returns that.
     pub fn parse<V: OpCheck, F: Fn(&usize) -> InstrLocId>(
         module: &Module,
         indices: &IndicesToIds,
@@ -106,14 +109,14 @@ impl LocalFunction {
         requires fits { body.start + length body.bytes.now < 2 ^ 64 }
         requires may_ask { MayAsk F.pre on_instr_pos (body.start + body.ops)
             (body.start + length body.bytes.now) }
-        // What is answered has the normal form of the accepted body, and what is refused is so for
-        // the first fault.
+        // A function that is returned has the normal form of the accepted body, and an error is the
+        // first fault.
         ensures accepted { IfOk result (λ made. AcceptsBody F.Fn (body_input «module».now
             indices.now id ty body.entry on_instr_pos.entry V.check (V.state validator))
             made.builder made.instruction_mapping) }
         ensures refused { IfErr result (RefusesBody F.Fn (body_input «module».now indices.now
             id ty body.entry on_instr_pos.entry V.check (V.state validator))) }
-        // Want of memory aside, each accepted body is answered, and each first fault is.
+        // Unless memory runs out, each accepted body and each first fault is returned.
         ensures each_body { (locations : Option (ℕ → ℕ)) (b : Body Occurrence)
             → BothOrNone on_instr_pos.entry locations
             → Accepted (body_setting «module».now indices.now id ty body.entry V.check
@@ -124,7 +127,7 @@ impl LocalFunction {
             → FirstFault (body_setting «module».now indices.now id ty body.entry V.check
             (V.state validator) locations) (body_operators body.entry) f
             → IsErr result × IfErr result (λ e. (e.error ≡ ParseFault.Memory) ⊎ (e ≡ f)) }
-        // The arguments are those that were handed in, and the body stood where it says.
+        // The arguments are those that were passed, and the range is that of the body.
         ensures args { IfOk result (λ made. made.args ≡ args.items) }
         ensures range { IfOk result (λ made. made.original_range
             ≡ Some (range_at body.entry.start (length body.entry.bytes.now)
@@ -179,7 +182,7 @@ impl LocalFunction {
         &mut self.builder
     }
 
-    /// Whether an entry is set, and stands in the builder.
+    /// Whether an entry is set, and the builder has that sequence.
     pub fn has_entry(&self) -> bool
         ensures { IsTrue result ↔ HasEntry self.now.builder }
     {
@@ -189,14 +192,14 @@ impl LocalFunction {
         }
     }
 
-    /// Whether a sequence stands at this slot.
+    /// Whether there is a sequence at this slot.
     pub fn has_block(&self, id: InstrSeqId) -> bool
         ensures { IsTrue result ↔ (id < length self.now.builder.sequences) }
     {
         self.builder.has(id)
     }
 
-    /// The sequence that the function begins with.
+    /// The slot of the sequence that the function begins with.
     pub fn entry_block(&self) -> InstrSeqId
         requires { HasEntry self.now.builder }
         ensures { self.now.builder.entry ≡ Some result }
@@ -212,7 +215,7 @@ impl LocalFunction {
         self.builder.seq(id)
     }
 
-    /// The sequence at this slot, to be changed. No other sequence changes with it.
+    /// The sequence at this slot, to be changed. All other sequences stay as they are.
     pub fn block_mut(&mut self, id: InstrSeqId) -> &mut InstrSeq
         requires { id < length self.old.builder.sequences }
         ensures* writes_back { sem 𝓛 (LendsBlock self.entry id result) }
@@ -221,8 +224,8 @@ impl LocalFunction {
         self.builder.seq_mut(id)
     }
 
-    /// Whether each instruction that the function begins with is a `Const`. Sequences inside of
-    /// others aren't looked at.
+    /// Whether each instruction of the sequence that the function begins with is a `Const`.
+    /// Sequences inside that one aren't looked at.
     pub fn is_const(&self) -> bool
         requires { HasEntry self.now.builder }
         ensures { result ≡ list_all is_const (first_instrs self.now.builder) }
@@ -233,16 +236,16 @@ impl LocalFunction {
             .all(|(instr, _)| matches!(instr, Instr::Const(_)))
     }
 
-    /// Appends the operators of the function's tree to an encoder, each as its shortest spelling,
-    /// and to the list, if there is one, each operator's location with its place in the encoder.
-    /// Ids are written as the numbers that `indices` gives them, and locals as those of
-    /// `local_indices`.
+    /// Appends the operators of the function's tree to an encoder, each in its shortest encoding
+    /// (WebAssembly core specification 3.0, binary format, instructions). If there is a list, each
+    /// operator's location and its place, a byte offset in the encoder, are appended to it. Ids are
+    /// written as their indices in `indices`, and locals as their numbers in `local_indices`.
     ///
     /// # Errors
     ///
-    /// `UnknownSequence` or `SharedSequence` where the sequences are no tree, the first in walk
-    /// order; else the first fault in order of writing; or `Memory`. The encoder and the list are
-    /// then as before.
+    /// `UnknownSequence` or `SharedSequence` if the sequences are not a tree, the first in walk
+    /// order; otherwise the first fault in the order of writing; or `Memory`. The encoder and the
+    /// list are then unchanged.
     pub fn emit_instructions(
         &self,
         indices: &IdsToIndices,
@@ -269,16 +272,17 @@ impl LocalFunction {
         }
     }
 
-    /// The declarations of the function's locals, and the number of each local. Arguments have the
-    /// numbers from 0 on; one that is named twice has that of its last place. The used locals that
-    /// are no arguments follow, by type, and by id among those of one type; a declaration is how
-    /// many of one type stand in a row, and the type with the new indices of `indices`.
+    /// The declarations of the function's locals (WebAssembly core specification 3.0, binary
+    /// format, code section), and the number of each local. Arguments have the numbers from 0 on;
+    /// one that is named twice has the number of its last place. The used locals that are not
+    /// arguments follow, by type, and by id among those of one type. A declaration is the length of
+    /// a run of locals of one type, and that type with the new indices of `indices`.
     ///
     /// # Errors
     ///
-    /// `UnknownLocal` where the module doesn't hold a used local that is no argument; else
-    /// `TooLarge` where a number, a count or the number of declarations doesn't fit 32 bits; else
-    /// `Index` of the first type in the declarations that has no new index; or `Memory`.
+    /// `UnknownLocal` if the module doesn't have a used local that is not an argument; otherwise
+    /// `TooLarge` if a number, a count or the number of declarations doesn't fit 32 bits; otherwise
+    /// `Index` for the first type in the declarations that has no new index; or `Memory`.
     pub fn emit_locals(
         &self,
         module: &Module,
@@ -304,8 +308,8 @@ impl LocalFunction {
     ///
     /// # Errors
     ///
-    /// `UnknownSequence` or `SharedSequence` where the sequences are no tree, the first in walk
-    /// order; `TooLarge` where the number doesn't fit 64 bits; `Memory`.
+    /// `UnknownSequence` or `SharedSequence` if the sequences are not a tree, the first in walk
+    /// order; `TooLarge` if the number doesn't fit 64 bits; `Memory`.
     pub fn size(&self) -> Result<u64, WalkError>
         requires { HasEntry self.now.builder }
         ensures ok { IfOk result (λ n. TreeHas self.now.builder.sequences
@@ -321,7 +325,7 @@ impl LocalFunction {
     ///
     /// # Errors
     ///
-    /// `UnknownSequence` or `SharedSequence` where the sequences are no tree, the first in walk
+    /// `UnknownSequence` or `SharedSequence` if the sequences are not a tree, the first in walk
     /// order; `Memory`.
     pub fn used_data_segments(&self) -> Result<IdHashSet<DataId>, WalkError>
         requires { HasEntry self.now.builder }
@@ -338,8 +342,8 @@ impl LocalFunction {
     ///
     /// # Errors
     ///
-    /// `UnknownSequence` or `SharedSequence` where the sequences are no tree, the first in walk
-    /// order; `TooLarge` where the number of instructions doesn't fit 64 bits; `Memory`.
+    /// `UnknownSequence` or `SharedSequence` if the sequences are not a tree, the first in walk
+    /// order; `TooLarge` if the number of instructions doesn't fit 64 bits; `Memory`.
     pub fn emit_facts(&self) -> Result<EmitFacts, WalkError>
         requires { HasEntry self.now.builder }
         ensures ok { IfOk result (λ f. TreeHas self.now.builder.sequences

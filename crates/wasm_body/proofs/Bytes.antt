@@ -1,4 +1,4 @@
--- Normal forms have bytes: the types that their operators name, and the numbers.
+-- Normal forms have bytes: the types that their operators name, and their numbers.
 pub mod Openers
 pub mod BlockTypes
 pub mod Picks

@@ -1,4 +1,4 @@
--- Examples that pin the definitions: what they answer for bodies that are given by hand, computed.
+-- Examples that fix the definitions: their values for bodies that are given by hand, computed.
 pub mod Operators
 pub mod Reading
 pub mod PrefixedReading

@@ -1,8 +1,8 @@
--- reading a tree, its text, and the frames behind a front
+-- reading a tree, its text, and the frames after a front
 pub mod Structure
--- translations of operators, one after the other and refused alike
+-- translations of operators: one after the other, and those that fail alike
 pub mod Translation
--- accepted bodies and first faults are what parsing on lists answers
+-- accepted bodies and first faults are the results of parsing on lists
 pub mod Parsing
 -- normal forms and their texts
 pub mod NormalForm

@@ -36,7 +36,7 @@ abbrev pub Stands : Local → List Local → Type 0
 Stands x [] = ⊥
 Stands x (l ∷ ls) = (x ≡ l) ⊎ Stands x ls
 
--- each is below all that follow
+-- each local is below all that follow it
 abbrev pub Ascends : List Local → Type 0
 Ascends [] = Unit {0}
 Ascends (l ∷ ls) = AllByRecursion (Below l) ls × Ascends ls
@@ -50,7 +50,7 @@ all_below : (l m : Local) (ls : List Local) → Below l m → AllByRecursion (Be
 all_below l m [] h a = tt
 all_below l m (k ∷ ls) h a = (local_order-total.trans l m k h a.0, all_below l m ls h a.1)
 
--- what holds of neighbours holds of those behind the first
+-- a relation of neighbours in a list is one of neighbours in its tail
 behind_first : {A : Type 0} (R : A → A → Type 0) (x : A) (xs : List A) → AllAdjacentBelow R (x ∷ xs) (length (x ∷ xs)) → AllAdjacentBelow R xs (length xs)
 behind_first R x xs h = λ k d within.
     let next : suc k + 1 ≡ suc (k + 1) = omega arith in
@@ -67,7 +67,7 @@ ascends (l ∷ m ∷ ls) h =
     let first = first_two Below l m ls h in
     ((first, all_below l m ls first rest.0), rest)
 
--- two ascending lists of the same locals are one
+-- two ascending lists of the same locals are equal
 abbrev Within : List Local → List Local → Type 0
 Within ls ms = (x : Local) → Stands x ls → Stands x ms
 

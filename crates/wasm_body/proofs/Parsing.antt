@@ -1,4 +1,4 @@
--- Accepted bodies and first faults are what parsing on lists answers.
+-- Accepted bodies and first faults are the results of parsing on lists.
 pub mod NamingLemmas
 pub mod Parses
 pub mod Stops

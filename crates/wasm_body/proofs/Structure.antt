@@ -1,4 +1,4 @@
--- Reading a tree, its text, and the frames behind a front.
+-- Reading a tree, its text, and the frames after a front.
 pub mod ReadingTrees
 pub mod ReadTexts
 pub mod ReadFrames

@@ -1,4 +1,4 @@
--- Translations of operators, one after the other and refused alike.
+-- Translations of operators: one after the other, and those that fail alike.
 pub mod Steps
 pub mod Kinds
 pub mod LocalsKept

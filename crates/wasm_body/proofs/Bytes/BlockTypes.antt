@@ -1,4 +1,4 @@
--- The block types among the immediates of an operator: as many as its kinds say, and as many as of its translation.
+-- The block types among the immediates of an operator: as many as its kinds say, and as many as in its translation.
 use Rattle.std.proofs.Common.{◌≡◌, ℕ, suc, length, List, [], ◌∷◌, map, Bool, true, false, cond, Result, Ok, refl, sym, ap, subst, ◌∙◌}
 use Rattle.std.specs.List.{AllByRecursion}
 use Rattle.wasm_operators.specs.Operations.{Immediate, index, local, label, handler, outer, number, access, branch_table, clauses, block, heap, value, cast, i32, i64, f32, f64, v128, lane, lanes, zero_byte, RawImmediate}
@@ -36,7 +36,7 @@ cons_same : {L B M C : Type 0} → (j : Immediate M C) (js : List (Immediate M C
 cons_same j js i is e d = block_types_cons j js ∙ (counts_same (is_block j) (is_block i) _ _ e d ∙ sym (block_types_cons i is))
 
 module _ {L B M C E : Type 0} (t : Translation L B M C E) where
-  -- an immediate that is made by steps, of which the last makes it so
+  -- an immediate that is made in steps, of which the last determines whether it is a block type
   part_kept : {Y : Type 0} → (r : Result Y E) (from : Y → Immediate M C) (b : Bool) → ((y : Y) → is_block (from y) ≡ b)
       → (j : Immediate M C) → (r >>= λ y. Ok (from y)) ≡ Ok j → is_block j ≡ b
   part_kept r from b h j e =
@@ -84,7 +84,7 @@ module _ {L B M C E : Type 0} (t : Translation L B M C E) where
       ap (λ ks. length (block_types ks)) (sym made)
       ∙ cons_same first.0 others.0 i is (block_kept i first.0 first.1) (block_types-translate is others.0 others.1)
 
-  -- each block type comes from one
+  -- each block type comes from a block type
   abbrev pub FromBlock : C → Type 0
   FromBlock c = (b : B) × (t.block b ≡ Ok c)
 

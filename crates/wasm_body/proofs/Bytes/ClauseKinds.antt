@@ -1,4 +1,4 @@
--- What an operator asks for that begins a handler by a tag, or delegates: each of these roles has one opcode.
+-- The immediates of an operator that begins a handler by a tag, or delegates: each of these roles has one opcode.
 use Rattle.std.specs.Prelude.{◌≡◌, ℕ, List, [], ◌∷◌, Bool, true, false, ◌==◌, Some}
 use Rattle.std.proofs.lemmas.Bool.{eqb-true}
 use Rattle.std.proofs.Common.{refl, ap, sym, ◌∙◌}
@@ -32,7 +32,7 @@ abbrev is_delegate : Role → Bool
 is_delegate a_delegate = true
 is_delegate _ = false
 
--- ---- what they ask for
+-- ---- their immediates
 
 abbrev pub Asks : Role → List Kind → Type 0
 Asks a_catch ks = ks ≡ an_index Tags ∷ []

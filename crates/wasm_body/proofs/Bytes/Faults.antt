@@ -1,4 +1,4 @@
--- The faults of writing what a parse made.
+-- The faults of writing the result of a parse.
 use Rattle.std.specs.Prelude.{◌≡◌, ◌⊎◌, ◌+◌, ◌^◌, ◌&&◌, ℕ, nat_lt, nat_le, length, List, [], ◌∷◌, Bool, true, false, Some, None, IfErr, Result, Ok, Err}
 use Rattle.std.specs.List.{AllByRecursion, list_all}
 use Rattle.std.proofs.Common.{inl, inr, refl, subst}

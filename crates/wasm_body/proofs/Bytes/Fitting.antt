@@ -12,7 +12,7 @@ use Rattle.wasm_body.proofs.Translation.Steps.{bound}
 pub fits : (n : ℕ) → n < 2 ^ 32 → IsOk (in_32_bits n)
 fits n l = ap (λ b. is_ok (unless b TooLarge >>= λ _. Ok n)) (lt-ltb n (2 ^ 32) l)
 
--- what fits is the number itself
+-- a number that fits stays the same
 pub record IsFit (n q : ℕ) : Type 0 where
   pub same : q ≡ n
   pub below : q < 2 ^ 32
@@ -23,7 +23,7 @@ fitting_is n q e =
     let same : n ≡ q = cc u.2 in
     record { same = sym same; below = subst (λ k. k < 2 ^ 32) same (ltb-true n (2 ^ 32) (unless_ok (nat_lt n (2 ^ 32)) TooLarge u.0 u.1)) }
 
--- an answer that fits
+-- a result that fits
 pub record IsFitAnswer (r : Result ℕ EmitError) (q : ℕ) : Type 0 where
   pub answer : r ≡ Ok q
   pub below : q < 2 ^ 32

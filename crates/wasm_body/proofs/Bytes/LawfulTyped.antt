@@ -1,5 +1,5 @@
--- Of a lawful body each operator is typed: what is picked for an opener stands for its block type, and no other operator
--- has a block type.
+-- Each operator of a lawful body is typed: the type that is picked for an opener has its block type as signature, and no other
+-- operator has a block type.
 use Rattle.std.proofs.Common.{◌≡◌, ℕ, length, List, [], ◌∷◌, map, Bool, true, false, cond, Some, None, Result, Ok, refl, sym, ap, ◌∙◌, subst}
 use Rattle.std.specs.Prelude.{is_some}
 use Rattle.std.specs.List.{AllByRecursion}
@@ -48,7 +48,7 @@ typed_as m a_try o n h = stands_for_one m (block_types o.immediates) n (h refl)
 typed_as m a_try_table o n h = stands_for_one m (block_types o.immediates) n (h refl)
 typed_as m _ o n h = none_left (block_types o.immediates) n
 
--- of an opener the module holds the pick
+-- the module has a type of a sequence for an opener
 opener_has_pick : (env : Environment) (frames : List (Frame Occurrence)) (r : Role) (is : List (Immediate ℕ Signature))
     → (o : NamedOperation) (u : Unit {0})
     → has_types env frames (control_by r is) o ≡ Ok u → opens r ≡ true → has_pick env (block_signature o) ≡ Ok u
@@ -63,7 +63,7 @@ test_passed : {E : Type 0} → (b : Bool) (f : E) (u : Unit {0}) → unless b f 
 test_passed true f u e = refl
 test_passed false f u e = absurd cc
 
--- Its opcode asks for its immediates.
+-- Its immediates are of the kinds that its opcode has.
 abbrev pub HasKinds : Occurrence → Type 0
 HasKinds x = kinds_of x.spelt.opcode ≡ Some (map kind_of x.spelt.immediates)
 
@@ -126,7 +126,7 @@ module _ {A : Type 0} (R : Rule A) (P : A → Control → Type 0)
 
 -- ---- a body
 
--- the operator has its name somewhere
+-- the operator has its name in some place
 abbrev pub NamedSomewhere : Environment → Occurrence → Control → Type 0
 NamedSomewhere env x c = (frames : List (Frame Occurrence)) × (named_in env frames x.spelt ≡ Ok x.named)
 
@@ -135,7 +135,7 @@ all_typed : (env : Environment) (xs : List Occurrence) → AllByRecursion HasKin
 all_typed env [] k h = tt
 all_typed env (x ∷ xs) k h = (named_typed env h.0.0 x.spelt x.named k.0 h.0.1, all_typed env xs k.1 h.1)
 
--- each operator of a lawful body has its name somewhere
+-- each operator of a lawful body has its name in some place
 pub named_somewhere : (env : Environment) (xs : List Occurrence) (b : Body Occurrence) → Lawful env xs b → AllMarked (NamedSomewhere env) (map mark xs)
 named_somewhere env xs b lawful =
     subst (AllMarked (NamedSomewhere env)) (sym lawful.is_body)

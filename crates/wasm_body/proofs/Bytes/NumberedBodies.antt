@@ -1,5 +1,5 @@
--- An accepted body's normal form has bytes, under numbers for all ids that its old indices and the types of its sequences
--- stand for; and it has bytes, or a fault of these, under numbers whose faults are these.
+-- An accepted body's normal form has bytes, with numbers for all ids to which its old indices map and those in the types of its
+-- sequences; and it has bytes, or a fault of these, with numbers whose faults are these.
 use Rattle.std.specs.Prelude.{◌≡◌, ℕ, suc, zero, List, [], ◌∷◌, length, map, Option, Some, None, unwrap_or, IsOk, is_ok, IfErr, Result, Ok, Err}
 use Rattle.std.specs.List.{AllByRecursion}
 use Rattle.std.proofs.Common.{refl, ap, sym, subst, ◌∙◌}
@@ -45,7 +45,7 @@ use Rattle.wasm_body.proofs.NormalForm.KeptNames.{sure_number, kept_raw, kept_of
 use Rattle.wasm_body.proofs.Translation.Answering.{no_fault_ok, ok_no_fault, first_within, last_within, AnswersWhere, OthersWithin, immediates_answer}
 use Rattle.wasm_body.proofs.Translation.Kinds.{kind_in, raw_kinds, kinds_kept, only_tag, only_outer}
 
--- ---- what is spelt fits 32 bits
+-- ---- encoded immediates fit 32 bits
 
 pub u32_fits : (n : ℕ) (text : List ℕ) → IsU32 n text → IsOk (in_32_bits n)
 u32_fits n text s = fits n (unsigned_below 32 n text s)
@@ -118,7 +118,7 @@ all_spelt : (is : List RawImmediate) (text : List ℕ) → SpellsImmediates is t
 all_spelt [] text s = tt
 all_spelt (i ∷ is) text s = (spelt_fits i s.0 s.3, all_spelt is s.1 s.4)
 
--- an operator that is named asks for as much as it did
+-- an operator has the same kinds of immediates after naming
 pub named_kinds : {A : Type 0} (env : Environment) (fs : List (Frame A)) (o : RawOperation) (named : NamedOperation) → translate (naming env fs) o ≡ Ok named
     → kinds_of o.opcode ≡ Some (map kind_of o.immediates) → kinds_of named.opcode ≡ Some (map kind_in named.immediates)
 named_kinds env fs o named is kinds =
@@ -128,20 +128,20 @@ named_kinds env fs o named is kinds =
     subst (λ (n : NamedOperation). kinds_of n.opcode ≡ Some (map kind_in n.immediates)) made
     (kinds ∙ ap (λ ks. Some ks) (sym (raw_kinds o.immediates) ∙ sym kept))
 
--- it has a spelling
+-- it has an encoding
 abbrev pub HasText : Occurrence → Type 0
 HasText x = (text : List ℕ) × Spells x.spelt text
 
 -- ---- numbers
 
--- There are numbers of 32 bits, or faults of Q, for the ids that old indices and old locals stand for, and for the types of
+-- There are numbers of 32 bits, or faults of Q, for the ids to which old indices and old locals map, and for the types of
 -- sequences.
 pub record AreNumbered (Q : EmitError → Type 0) (env : Environment) (to : Numbers) : Type 0 where
   pub indices : (space : Space) (n id : ℕ) → env.id_of space n ≡ Ok id → IfErr ((numbers_in_32_bits to).number_of space id) Q
   pub locals : (n id : ℕ) → env.local_of n ≡ Ok id → IfErr ((numbers_in_32_bits to).local_number id) Q
   pub blocks : (b : BlockType) (s : Signature) (t : InstrSeqType) → name_block env b ≡ Ok s → pick env.types s ≡ Some t → IfErr (numbered_block to t) Q
 
--- what naming an operator in its place answers is its translation
+-- the result of naming an operator in its place is its translation
 pub translated : (env : Environment) (fs : List (Frame Occurrence)) (o : RawOperation) (named : NamedOperation) → named_in env fs o ≡ Ok named → translate (naming env fs) o ≡ Ok named
 translated env fs o named e =
     let types : NamedOperation → Result (Unit {0}) ParseError = λ n. has_types env fs (control_of n) n in
@@ -155,7 +155,7 @@ module _ (Q : EmitError → Type 0) (env : Environment) (to : Numbers) (has : Ar
   abbrev pub writing : Writing ℕ BlockType
   writing = then_by (numbering to)
 
-  -- what is written of an operator as it is read, in a sequence of the type
+  -- what is written for an operator as it is read, in a sequence of the type
   abbrev renumbered : InstrSeqType → Translation ℕ BlockType ℕ BlockType EmitError
   renumbered t = record {
     index = λ space n. (numbers_in_32_bits to).number_of space (sure_number (id_at env space n));
@@ -206,7 +206,7 @@ module _ (Q : EmitError → Type 0) (env : Environment) (to : Numbers) (has : Ar
   all_within f [] h = tt
   all_within f (x ∷ xs) h = (ok_no_fault Q (f x) h.0, all_within f xs h.1)
 
-  -- what fits has no fault
+  -- an immediate that fits has no fault
   others_within : {A : Type 0} (fs : List (Frame A)) (t : InstrSeqType) (i : RawImmediate) → Fits i → OthersWithin Q (naming env fs) (renumbered t) i
   others_within fs t (label l) f = ok_no_fault Q (in_32_bits l) f
   others_within fs t (handler n) f = ok_no_fault Q (in_32_bits n) f
@@ -224,7 +224,7 @@ module _ (Q : EmitError → Type 0) (env : Environment) (to : Numbers) (has : Ar
   ok_of : {A E : Type 0} (r : Result A E) (x : A) → r ≡ Ok x → IsOk r
   ok_of r x e = ap is_ok e
 
-  -- of an operator that is read and named the faults of writing are of Q
+  -- the faults of writing an operator that was read and named are of Q
   written_operation : {A : Type 0} (fs : List (Frame A)) (t : InstrSeqType) (o : RawOperation) (text : List ℕ) (named : NamedOperation) →
       Spells o text → translate (naming env fs) o ≡ Ok named → IfErr (numbered_block to t) Q → IfErr (translate (typed writing t) (kept_operation named)) Q
   written_operation fs t o text named spelt is type =
@@ -239,7 +239,7 @@ module _ (Q : EmitError → Type 0) (env : Environment) (to : Numbers) (has : Ar
 
   -- ---- an operator of a body
 
-  -- the type of the sequences in a construct is that of a block type, or of none
+  -- the type of the sequences in a construct is that of its block type, or that of none
   type_within : (fs : List (Frame Occurrence)) (o : RawOperation) (named : NamedOperation) → translate (naming env fs) o ≡ Ok named → IfErr (numbered_block to (construct_type (typing_of env) named)) Q
   type_within fs o named is =
       let first = bound (translate_immediates (naming env fs) o.immediates) (λ js. Ok (record { opcode = o.opcode; immediates = js })) named is in
@@ -254,7 +254,7 @@ module _ (Q : EmitError → Type 0) (env : Environment) (to : Numbers) (has : Ar
       by_blocks [] h = tt
       by_blocks (s ∷ ss) h = by_pick s h.0.0 h.0.1 (pick env.types s) refl
 
-  -- what is written of an operator's one immediate
+  -- what is written for an operator's one immediate
   alone_within : (o : NamedOperation) (i : Immediate ℕ Signature) (k : Immediate Target (Unit {0})) → o.immediates ≡ i ∷ [] → sure (translate_immediates kept (i ∷ [])) ≡ k ∷ [] →
       IfErr (translate (typed writing (Simple None)) (kept_operation o)) Q → IfErr (translate_immediate (typed writing (Simple None)) k) Q
   alone_within o i k e kept_so h =
@@ -321,13 +321,13 @@ module _ (Q : EmitError → Type 0) (env : Environment) (to : Numbers) (has : Ar
       let each = (each_of Written b.sequence (with_control b.close End ∷ []) marks).0 in
       normal_text Q writing (typing_of env) (named_body b) (each_reshown (CanWrite Q writing (typing_of env)) name_at b.sequence each)
 
-  -- Of an accepted body the normal form has bytes, or a fault of Q.
+  -- The normal form of an accepted body has bytes, or a fault of Q.
   pub bytes_within : (xs : List Occurrence) (b : Body Occurrence) → AllByRecursion HasText xs → Lawful env xs b → IfErr (tree_bytes to (body_tree env b)) Q
   bytes_within xs b texts lawful = last_within Q (numbered_text to (body_tree env b)) bytes_of (text_within xs b texts lawful)
 
 -- ---- with numbers for all
 
--- There are numbers of 32 bits for the ids that old indices and old locals stand for, and for the types of sequences.
+-- There are numbers of 32 bits for the ids to which old indices and old locals map, and for the types of sequences.
 pub record HasNumbers (env : Environment) (to : Numbers) : Type 0 where
   pub indices : (space : Space) (n id : ℕ) → env.id_of space n ≡ Ok id → IsOk ((numbers_in_32_bits to).number_of space id)
   pub locals : (n id : ℕ) → env.local_of n ≡ Ok id → IsOk ((numbers_in_32_bits to).local_number id)
@@ -336,7 +336,7 @@ pub record HasNumbers (env : Environment) (to : Numbers) : Type 0 where
 abbrev no_fault : EmitError → Type 0
 no_fault e = ⊥
 
--- Of an accepted body the normal form has bytes.
+-- The normal form of an accepted body has bytes.
 pub body_bytes_ok : (env : Environment) (to : Numbers) → HasNumbers env to → (xs : List Occurrence) (b : Body Occurrence) → AllByRecursion HasText xs → Lawful env xs b → IsOk (tree_bytes to (body_tree env b))
 body_bytes_ok env to has xs b texts lawful =
     let numbered : AreNumbered no_fault env to = record {

@@ -1,4 +1,4 @@
--- An opcode that is carried asks for one block type where it opens a construct, and else for none.
+-- An opcode has one block type among its immediates if it opens a construct, and otherwise none.
 use Rattle.std.proofs.Common.{◌≡◌, ℕ, suc, List, [], ◌∷◌, Bool, true, false, cond, ◌&&◌, ◌||◌, not, Option, Some, None, refl, sym, ap, ◌∙◌, subst}
 use Rattle.std.specs.Prelude.{nat_le, ◌==◌, unwrap_or, if◌then◌else◌}
 use Rattle.std.proofs.lemmas.Bool.{eqb-true, and_parts}
@@ -19,7 +19,7 @@ opens a_try = true
 opens a_try_table = true
 opens _ = false
 
--- how many of the kinds are block types
+-- the number of block types among kinds
 abbrev pub is_block_kind : Kind → Bool
 is_block_kind kinds.a_block = true
 is_block_kind _ = false
@@ -28,11 +28,11 @@ abbrev pub block_count : List Kind → ℕ
 block_count [] = 0
 block_count (k ∷ ks) = cond (is_block_kind k) (suc (block_count ks)) (block_count ks)
 
--- how many an opcode is to ask for
+-- the number of block types that an opcode must have
 abbrev pub wanted : Opcode → ℕ
 wanted o = cond (opens (role_of o)) 1 0
 
--- ---- answers that hold so many block types
+-- ---- results that have this many block types
 
 abbrev Counted : ℕ → Option (List Kind) → Type 0
 Counted n answer = (ks : List Kind) → answer ≡ Some ks → block_count ks ≡ n
@@ -50,7 +50,7 @@ counted_if : (n : ℕ) (test : Bool) (x y : Option (List Kind)) → (test ≡ tr
 counted_if n true x y h k = h refl
 counted_if n false x y h k = k refl
 
--- a table whose rows are tested: by n each number has to have so many
+-- a table whose rows are tested: each number must have this many
 
 abbrev rows_counted : (ℕ → ℕ) → List (ℕ × List Kind) → Bool
 rows_counted n [] = true
@@ -78,7 +78,7 @@ counted_ranges n (row ∷ rows) h m =
     let both = and_parts (is_counted n row.1) (ranges_counted n rows) h in
     counted_if n (nat_le m row.0) row.1 (range_at rows m) (λ t. counted_answer n row.1 both.0) (λ t. counted_ranges n rows both.1 m)
 
--- ---- roles that no opcode past the greatest opener has, and none behind a prefix
+-- ---- roles that no opcode past the greatest opener has, and no opcode with a prefix
 
 module _ (marks : Role → Bool) (plain : marks a_plain ≡ false) where
   abbrev pub roles_pass : (ℕ → Bool) → List (ℕ × Role) → Bool
@@ -118,11 +118,11 @@ past_openers b f = past_marked opens refl refl b f
 prefixed_opens_nothing : (prefix n : ℕ) → opens (role_of (Prefixed prefix n)) ≡ false
 prefixed_opens_nothing prefix n = prefixed_marked opens refl refl prefix n
 
--- there an answer with no block types is right
+-- there a result with no block types is right
 counted_free : (o : Opcode) (answer : Option (List Kind)) → opens (role_of o) ≡ false → Counted 0 answer → Counted (wanted o) answer
 counted_free o answer f h = subst (λ t. Counted (cond t 1 0) answer) (sym f) h
 
--- ---- every opcode: a line for each table, and for each range that has none
+-- ---- every opcode: a line for each table, and for each range without one
 
 counted_byte : (b : ℕ) → Counted (wanted (Byte b)) (kinds_of_byte b)
 unfolding kinds_of_byte

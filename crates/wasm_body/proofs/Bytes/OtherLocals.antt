@@ -1,5 +1,5 @@
--- The bytes of a tree are the same under numbers that agree at the locals that it names; and of a normal form these are
--- among those that naming gave.
+-- The bytes of a tree are the same with numbers that agree on the locals that it names; and the locals that a normal form names
+-- are among those that naming gave.
 use Rattle.std.specs.Prelude.{◌≡◌, ℕ, List, [], ◌∷◌, ◌++◌, Some, None, Result, Ok, Err, if◌then◌else◌}
 use Rattle.std.specs.List.{AllByRecursion}
 use Rattle.std.proofs.Common.{refl, ap, sym, subst, ◌∙◌}
@@ -189,11 +189,11 @@ module _ (P : ℕ → Type 0) where
 
 -- ---- where the names come from
 
--- what naming gives for a local
+-- a local that naming gives
 abbrev pub IsOfLocal : Environment → ℕ → Type 0
 IsOfLocal env id = (n : ℕ) × (env.local_of n ≡ Ok id)
 
--- each local that is made comes from one
+-- each local that is made comes from a local
 abbrev Made : {L B M C E : Type 0} → Translation L B M C E → ℕ → Type 0
 Made t m = (n : ℕ) × (t.local n ≡ Ok m)
 
@@ -209,7 +209,7 @@ module _ {L B M C E : Type 0} (t : Translation L B M C E) where
       through (each (translate_immediate t) is) (λ ks. first.0 ∷ ks) (λ ks. AllByRecursion (Made t) (locals_among ks))
       (λ ks h. subst (AllByRecursion (Made t)) (sym (first_local first.0 ks)) (one_made i first.0 first.1 (locals_among ks) (all_made is ks h))) js first.2
 
--- those of an operator that is named come from what naming gives
+-- the locals of a named operator are locals that naming gives
 pub named_locals : {A : Type 0} → (env : Environment) (fs : List (Frame A)) (o : RawOperation) (named : NamedOperation) → translate (naming env fs) o ≡ Ok named
     → AllByRecursion (IsOfLocal env) (locals_among named.immediates)
 named_locals env fs o named e =

@@ -1,4 +1,4 @@
--- The normal form of a body has a text, or a fault of these, in any way of writing that has an answer, or a fault of these, for
+-- The normal form of a body has a text, or a fault of these, in any way of writing that has a result, or a fault of these, for
 -- each of its operators.
 use Rattle.std.specs.Prelude.{ℕ, List, [], ◌∷◌, map, IfErr, Result, Ok, Err}
 use Rattle.std.specs.List.{AllByRecursion}
@@ -25,13 +25,13 @@ use Rattle.wasm_body.proofs.NormalForm.WrittenTexts.{named_by, named_written, an
 abbrev pub AllWithin : {A E : Type 0} → (E → Type 0) → List (Result A E) → Type 0
 AllWithin Q rs = AllByRecursion (λ r. IfErr r Q) rs
 
--- the faults of all together are those of each
+-- the faults of a list of results are those of its elements
 pub all_gathered : {A E : Type 0} → (Q : E → Type 0) (rs : List (Result A E)) → AllWithin Q rs → IfErr (gather rs) Q
 all_gathered Q [] h = tt
 all_gathered Q (r ∷ rs) h = steps_within Q r (λ x. gather rs >>= λ xs. Ok (x ∷ xs)) h.0 (λ x. last_within Q (gather rs) (λ xs. x ∷ xs) (all_gathered Q rs h.1))
 
 module _ {M C : Type 0} (Q : EmitError → Type 0) (w : Writing M C) (m : Typing) where
-  -- what has to have an answer, or a fault of Q, of an operator of the source
+  -- for an operator of the source: its writing has a result, or a fault of Q
   abbrev pub Writes : Named → Control → Type 0
   Writes a (Does action) = IfErr (translate (typed w (Simple None)) (kept_operation a.op)) Q
   Writes a (Opens construct) = IfErr (translate (typed w (construct_type m a.op)) (kept_operation a.op)) Q

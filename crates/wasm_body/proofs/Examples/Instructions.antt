@@ -1,4 +1,4 @@
--- Instructions of the tree as operators: clauses, targets, and operators that differ in one thing.
+-- Instructions of the tree as operators: clauses, targets, and operators that differ in one respect.
 use Rattle.std.specs.Prelude.{◌≡◌, [], ◌∷◌, true, false, refl}
 use Rattle.walrus_ir.specs.declared.control.TryTableCatch.TheVariants as table_catch
 use Rattle.walrus_ir.specs.declared.control.LegacyCatch.TheVariants as legacy_catch
@@ -78,7 +78,7 @@ test = refl
 test_with_null : operation_of (instr.RefTest (record { nullable = true; heap_type = Abstract Eq })) ≡ operation (Prefixed 0xfb 21) (heap (Abstract Eq) ∷ [])
 test_with_null = refl
 
--- operands that are written in another order than the fields' names might say: the target of a copy first, and the part
+-- immediates that are written in another order than the fields' names suggest: the destination of a copy first, and the segment
 -- before the memory that it is copied into
 memory_copy : operation_of (instr.MemoryCopy (record { src = 1; dst = 2 })) ≡ operation (Prefixed 0xfc 10) (index Memories 2 ∷ index Memories 1 ∷ [])
 memory_copy = refl

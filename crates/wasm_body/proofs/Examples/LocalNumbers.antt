@@ -32,7 +32,7 @@ one_local = refl
 references_last : local_order (to_type 0, 0) (V128, 7) ≡ Greater
 references_last = refl
 
--- references that may be null come behind those that may not
+-- references that may be null come after those that may not
 nullable_last : local_order (to_type 7, 7) (nullable, 0) ≡ Less
 nullable_last = refl
 

@@ -18,7 +18,7 @@ number = signature [] (I32 ∷ [])
 abbrev pub number_to_number : Signature
 number_to_number = signature (I32 ∷ []) (I32 ∷ [])
 
--- Of function 0, where these ids and locals stand for the old indices from 0 on.
+-- Of function 0, where the old indices, from 0 on, map to these ids and locals.
 abbrev pub environment : List ModuleType → (tags : List ℕ) → (Space → List ℕ) → (locals : List ℕ) → (type : ℕ) → Environment
 environment types tags ids locals type = record {
   types = types;
@@ -28,7 +28,7 @@ environment types tags ids locals type = record {
   type = type;
 }
 
--- ---- the module over which the worked rows go: the old index of each id is its number, and the entry type has none
+-- ---- the module of the worked rows: the old index of each id is its number, and the entry type has no old index
 
 abbrev demo_ids : Space → List ℕ
 demo_ids Types = 0 ∷ 1 ∷ 2 ∷ 3 ∷ []
@@ -46,14 +46,14 @@ demo = environment demo_types (0 ∷ 1 ∷ []) demo_ids (0 ∷ 1 ∷ 2 ∷ 3 ∷
 abbrev pub demo_numbers : Numbers
 demo_numbers = record { number_of = λ space id. Ok id; local_number = λ id. Ok id }
 
--- the same, but that the third local has number 2
+-- the same, but the third local has number 2
 abbrev pub numbers_of_locals : Numbers
 numbers_of_locals = record { number_of = λ space id. Ok id; local_number = λ id. if id == 3 then Ok 2 else Ok id }
 
--- ---- A module with all that can go wrong at a type. Old indices are not ids. Of the old indices of types 4 is an entry type,
--- 5 no function's type, 6 none that the module holds; 7 and 8 are an entry type and a function type that give what no
--- function type gives out of nothing. Of those of tags 1 takes a number, 2 has a type that is no function's, and 3 is none
--- that the module holds.
+-- ---- A module with all that can be wrong with a type. Old indices are not ids. Of the old indices of types, 4 is an entry
+-- type, 5 is not a function's type, and 6 is not in the module; 7 and 8 are an entry type and a function type with results that
+-- no function type without parameters has. Of the old indices of tags, 1 takes a number, 2 has a type that is not a function's,
+-- and 3 is not in the module.
 
 abbrev odd_ids : Space → List ℕ
 odd_ids Types = 2 ∷ 1 ∷ 0 ∷ 3 ∷ 4 ∷ 5 ∷ 9 ∷ 6 ∷ 7 ∷ []

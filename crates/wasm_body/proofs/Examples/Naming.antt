@@ -33,20 +33,20 @@ by_ids_in_types : names odd (block (Value (reference 0)) ∷ br_on_cast 0 (Concr
     ≡ Is (block (signature [] (reference 2 ∷ [])) ∷ br_on_cast 0 (Concrete 0) (Concrete 2) ∷ end ∷ end ∷ [])
 by_ids_in_types = refl
 
--- and whether the references of a cast may be null stays
+-- whether the references of a cast may be null stays as it is
 by_ids_in_casts : names odd (br_on_null_cast 0 (Concrete 2) (Concrete 0) ∷ end ∷ []) ≡ Is (br_on_null_cast 0 (Concrete 0) (Concrete 2) ∷ end ∷ [])
 by_ids_in_casts = refl
 
--- 02 04 0b 0b: an entry type is a block type where an old index stands for it
+-- 02 04 0b 0b: an entry type is a block type where it has an old index
 entry_as_block_type : names odd (block (FuncType 4) ∷ end ∷ end ∷ []) ≡ Is (block nothing ∷ end ∷ end ∷ [])
 entry_as_block_type = refl
 
--- a tag that the module doesn't hold, where only its old index is asked for
+-- a tag that the module doesn't have, where only its old index is needed
 unheld_tag : names odd (try_table Empty (catches 3 0 ∷ []) ∷ throw 3 ∷ end ∷ end ∷ [])
     ≡ Is (try_table nothing (catches 8 0 ∷ []) ∷ throw 8 ∷ end ∷ end ∷ [])
 unheld_tag = refl
 
--- ---- where an operator may stand
+-- ---- where an operator is allowed
 
 -- 05 0b
 else_alone : the_names (else ∷ end ∷ []) ≡ Refused ElseOutsideIf 0
@@ -185,14 +185,14 @@ type_in_type_out_of_range = refl
 
 -- ---- types
 
--- a block type that is no function's, and one that the module doesn't hold
+-- a block type that is not a function's, and one that the module doesn't have
 other_block_type : names odd (block (FuncType 5) ∷ end ∷ end ∷ []) ≡ Refused NotAFunctionType 0
 other_block_type = refl
 
 unheld_block_type : names odd (block (FuncType 6) ∷ end ∷ end ∷ []) ≡ Refused NotAFunctionType 0
 unheld_block_type = refl
 
--- an entry type that gives what no function type does
+-- an entry type with results that no function type has
 no_pick : names odd (block (FuncType 7) ∷ end ∷ end ∷ []) ≡ Refused TypeMissing 0
 no_pick = refl
 
@@ -204,11 +204,11 @@ no_type_of_handler = refl
 no_type_of_dead_handler : the_names (unreachable ∷ try (Value I32) ∷ const 1 ∷ catch 1 ∷ end ∷ drop ∷ end ∷ []) ≡ Refused TypeMissing 3
 no_type_of_dead_handler = refl
 
--- the handler of all takes nothing, and gives what the `try` does
+-- the handler of all has no parameters, and the results of the `try`
 no_type_of_handler_of_all : names odd (try (FuncType 8) ∷ catch_all ∷ end ∷ end ∷ []) ≡ Refused TypeMissing 1
 no_type_of_handler_of_all = refl
 
--- a tag that the module doesn't hold, and one whose type is no function's
+-- a tag that the module doesn't have, and one whose type is not a function's
 unknown_tag : names odd (try Empty ∷ catch 3 ∷ end ∷ end ∷ []) ≡ Refused UnknownId 1
 unknown_tag = refl
 
@@ -217,7 +217,7 @@ tag_of_other_type = refl
 
 -- ---- the order of faults in one operator
 
--- 07 09 0b and 18 09 0b: where it may stand comes first
+-- 07 09 0b and 18 09 0b: whether the operator is allowed there comes first
 position_before_tag : the_names (catch 9 ∷ end ∷ []) ≡ Refused CatchOutsideTry 0
 position_before_tag = refl
 

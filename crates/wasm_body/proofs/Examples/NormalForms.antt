@@ -35,7 +35,7 @@ ends_of_if : tree demo (const 1 ∷ if Empty ∷ unreachable ∷ else ∷ nop �
     no_items))
 ends_of_if = refl
 
--- 41 01 04 40 00 0b 0b: an `if` without `else` gets an alternative, which ends at no location
+-- 41 01 04 40 00 0b 0b: an `if` without `else` gets an alternative, whose end has the default location
 ends_of_if_alone : tree demo (const 1 ∷ if Empty ∷ unreachable ∷ end ∷ end ∷ [])
     ≡ of_demo 4
     (alone (const 1) 0
@@ -61,7 +61,7 @@ ends_of_try : tree demo (try Empty ∷ const 5 ∷ throw 1 ∷ catch 1 ∷ drop 
     no_items)
 ends_of_try = refl
 
--- a handler gives what its `try` does: the first takes and gives a number, the second only gives one
+-- a handler has the results of its `try`: the first takes and gives a number, the second only gives one
 results_of_handlers : tree odd (try (Value I32) ∷ const 5 ∷ catch 1 ∷ catch_all ∷ const 7 ∷ end ∷ drop ∷ end ∷ [])
     ≡ Is (record {
       head = head (MultiValue 4) 7;
@@ -73,7 +73,7 @@ results_of_handlers : tree odd (try (Value I32) ∷ const 5 ∷ catch 1 ∷ catc
     })
 results_of_handlers = refl
 
--- 06 40 10 00 18 00 0b: a body that `delegate` closes ends at no location
+-- 06 40 10 00 18 00 0b: the end of a body that `delegate` closes has the default location
 ends_of_delegate : tree demo (try Empty ∷ call 0 ∷ delegate 0 ∷ end ∷ [])
     ≡ of_demo 3
     (an_item (try tt) (delegates 0 ∷ []) 0 (sequence (head (Simple None) default_location) (alone (call 0) 1 no_items) no_sequences) no_items)
@@ -104,13 +104,13 @@ load alignment = operation (Byte 0x28) (access (record { alignment = alignment; 
 alignments : tree demo (const 0 ∷ load 2 ∷ drop ∷ end ∷ []) ≡ of_demo 3 (alone (const 0) 0 (alone (load 4) 1 (alone drop 2 no_items)))
 alignments = refl
 
--- ---- the same tree: equal but for locations
+-- ---- the same tree: equal apart from locations
 
 -- an `if` alone, and the same with an empty `else`
 same_but_for_ends : IsSameTree (tree_or_empty (tree demo (if Empty ∷ unreachable ∷ end ∷ end ∷ []))) (tree_or_empty (tree demo (if Empty ∷ unreachable ∷ else ∷ end ∷ end ∷ [])))
 same_but_for_ends = refl
 
--- 41 07 06 40 07 00 0b 0b: what is compared are operators, clauses and types
+-- 41 07 06 40 07 00 0b 0b: operators, clauses and types are compared
 without_locations : bare_sequences (all_of (tree_or_empty (tree demo (const 7 ∷ try Empty ∷ catch 0 ∷ end ∷ end ∷ []))))
     ≡ sequence (MultiValue 4)
     (item (const 7, []) no_sequences
@@ -120,12 +120,12 @@ without_locations = refl
 
 -- ---- texts, with the locations
 
--- 41 07 04 40 0b 0b: the added `else` stands where the `end` stood, and its `end` nowhere
+-- 41 07 04 40 0b 0b: the added `else` has the location of the source's `end`, and its `end` the default location
 added_else : text demo (const 7 ∷ if Empty ∷ end ∷ end ∷ [])
     ≡ Is (at_location (const 7) 0 ∷ at_location (if nothing) 1 ∷ at_location else 2 ∷ at_location end default_location ∷ at_location end 3 ∷ [])
 added_else = refl
 
--- 06 40 18 00 0b: the `delegate` stands nowhere
+-- 06 40 18 00 0b: the `delegate` has the default location
 moved_delegate : text demo (try Empty ∷ delegate 0 ∷ end ∷ [])
     ≡ Is (at_location (try nothing) 0 ∷ at_location (delegate 0) default_location ∷ at_location end 2 ∷ [])
 moved_delegate = refl
@@ -140,11 +140,11 @@ kept_locations = refl
 abbrev IsWrittenAs : List RawOperation → List RawOperation → Type 0
 IsWrittenAs source target = written_operators demo demo_numbers source ≡ Is target
 
--- The operators are written as they stand.
+-- The operators are written as they are.
 abbrev IsKept : List RawOperation → Type 0
 IsKept os = IsWrittenAs os os
 
--- what follows an operator in its sequence, where that is dropped
+-- the rest of the sequence after this operator is dropped
 abbrev CutsBehind : RawOperation → Type 0
 CutsBehind o = IsWrittenAs (block Empty ∷ o ∷ const 7 ∷ drop ∷ end ∷ const 5 ∷ drop ∷ end ∷ []) (block Empty ∷ o ∷ end ∷ const 5 ∷ drop ∷ end ∷ [])
 

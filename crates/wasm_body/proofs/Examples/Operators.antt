@@ -1,4 +1,4 @@
--- Operators, written shortly: of what is written L is a label and B a block type.
+-- Operators, in short notation: L is the type of a label and B that of a block type.
 use Rattle.std.specs.Prelude.{ℕ, List, [], ◌∷◌, Bool, true, false, Option, Some, None, pos}
 use Rattle.walrus_ir.specs.declared.val_type.HeapType.{HeapType}
 use Rattle.wasm_operators.specs.declared.types.Opcode.TheVariants.{Byte, Prefixed}

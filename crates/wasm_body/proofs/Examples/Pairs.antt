@@ -19,7 +19,7 @@ use Rattle.wasm_body.proofs.Examples.Modules.{demo, demo_numbers}
 use Rattle.wasm_body.proofs.Examples.Rows.{tree, tree_or_empty}
 use Rattle.wasm_body.proofs.Examples.Parses.{setting_from}
 
--- ---- of operators that are given by hand, where a location is the number in the list, behind a byte of declarations
+-- ---- of operators that are given by hand, where a location is the number in the list, after a byte of declarations
 
 abbrev pairs : List RawOperation → Result (List Pair) EmitError
 pairs os = tree_pairs demo_numbers (tree_or_empty (tree demo os)) 1

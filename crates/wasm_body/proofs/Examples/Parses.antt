@@ -1,4 +1,4 @@
--- Bodies as bytes: which are accepted, the first faults, and the locations of operators.
+-- Bodies as bytes: accepted bodies, first faults, and the locations of operators.
 use Rattle.std.specs.Prelude.{◌≡◌, ℕ, suc, ◌+◌, ◌==◌, if◌then◌else◌, List, [], ◌∷◌, map, Option, Some, None, Result, Ok, Err, refl}
 use Rattle.wasm_numbers.specs.declared.fault.ReadFault.TheVariants.{Truncated, UnknownOperator}
 use Rattle.wasm_numbers.specs.Numbers.{integer}
@@ -13,7 +13,7 @@ use Rattle.wasm_body.specs.Parsing.Accepted.{Setting}
 use Rattle.wasm_body.specs.Parsing.Lists.{failure, parsed}
 use Rattle.wasm_body.proofs.Examples.Modules.{demo}
 
--- over the module of the worked rows, from a place on; the validator refuses an operator with 7 behind so many
+-- over the module of the worked rows, from a place on; the validator refuses with 7 the operator after this many
 abbrev setting_by : Environment → (accepted start : ℕ) → Option (ℕ → ℕ) → Setting ℕ
 setting_by env accepted start locations = record {
   environment = env;
@@ -88,7 +88,7 @@ read_before_check : locations (setting_by demo 2 0 None) (0x01 ∷ 0x01 ∷ 0xff
 unfolding read_operation opcode kinds_of_byte
 read_before_check = refl
 
--- the place before the validator, and that before the rules
+-- the place comes before the validator, and the validator before the rules
 place_before_check : locations (setting_by demo 0 4294967295 None) (0x0b ∷ []) ≡ Err (failure PlaceTooGreat 4294967295)
 unfolding read_operation opcode kinds_of_byte
 place_before_check = refl
@@ -97,6 +97,6 @@ check_before_rules : locations (setting_by demo 0 0 None) (0x0c ∷ 0x05 ∷ 0x0
 unfolding read_operation opcode kinds_of_byte integer
 check_before_rules = refl
 
--- the function's own type before all, at the place of the first operator
+-- the function's own type comes first, at the place of the first operator
 entry_before_all : locations (setting_by (record demo { type = 2 }) 0 101 None) (0xff ∷ []) ≡ Err (failure EntryTypeMissing 101)
 entry_before_all = refl

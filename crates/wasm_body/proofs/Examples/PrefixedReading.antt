@@ -1,4 +1,4 @@
--- Operators behind a prefix byte, as they are read from bytes and written.
+-- Operators with a prefix byte, as they are read from bytes and written.
 use Rattle.std.specs.Prelude.{◌≡◌, ℕ, List, [], ◌∷◌, Ok, Err, refl}
 use Rattle.wasm_numbers.specs.declared.fault.ReadFault.TheVariants.{Truncated, UnknownOperator, BadMemArg, BadFence}
 use Rattle.wasm_operators.specs.declared.types.Opcode.TheVariants.{Prefixed}
@@ -13,7 +13,7 @@ use Rattle.wasm_operators.specs.Spelling.{read_operation}
 abbrev behind : ℕ → ℕ → RawOperation
 behind prefix n = operation (Prefixed prefix n) []
 
--- ---- wide arithmetic, behind fc
+-- ---- wide arithmetic, after fc
 
 -- fc 13: i64.add128
 of_add128 : read_operation (0xfc ∷ 0x13 ∷ 0x0b ∷ []) ≡ Ok (behind 0xfc 19, 0x0b ∷ [])
@@ -25,7 +25,7 @@ no_operator : read_operation (0xfc ∷ 0x12 ∷ 0x00 ∷ []) ≡ Err UnknownOper
 unfolding read_operation opcode kinds_behind integer
 no_operator = refl
 
--- ---- vectors, behind fd
+-- ---- vectors, after fd
 
 -- fd 80 82 00: a number may be longer than needed, and is written shortest
 of_relaxed_swizzle : read_operation (0xfd ∷ 0x80 ∷ 0x82 ∷ 0x00 ∷ 0x0b ∷ []) ≡ Ok (behind 0xfd 256, 0x0b ∷ [])
@@ -87,7 +87,7 @@ number_missing : read_operation (0xfd ∷ []) ≡ Err Truncated
 unfolding read_operation opcode integer
 number_missing = refl
 
--- ---- atomic operators, behind fe
+-- ---- atomic operators, after fe
 
 -- fe 10 02 00: i32.atomic.load
 of_atomic_load : read_operation (0xfe ∷ 0x10 ∷ 0x02 ∷ 0x00 ∷ 0x1a ∷ []) ≡ Ok (operation (Prefixed 0xfe 16) (access (record { alignment = 2; memory = 0; offset = 0 }) ∷ []), 0x1a ∷ [])

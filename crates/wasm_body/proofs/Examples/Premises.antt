@@ -1,4 +1,4 @@
--- The premises of the laws hold of real bodies.
+-- The premises of the laws hold for real bodies.
 use Rattle.std.specs.Prelude.{◌≡◌, ℕ, ◌<◌, List, [], ◌∷◌, map, false, Some, pos, refl}
 use Rattle.std.proofs.Common.{lit<, inl, inr}
 use Rattle.std.specs.List.{AllByRecursion}
@@ -21,7 +21,7 @@ use Rattle.wasm_body.proofs.Examples.Operators.{unreachable, nop, block, loop, i
 use Rattle.wasm_body.proofs.Examples.Modules.{nothing, number_to_number, demo, odd}
 use Rattle.wasm_body.proofs.Examples.Rows.{located_names, body_of_names}
 
--- ---- operators that have spellings, each at its place, which is its location
+-- ---- operators that have encodings, each at its place, which is its location
 
 abbrev occurs : ℕ → RawOperation → NamedOperation → Occurrence
 occurs p spelt named = record { spelt = spelt; place = p; location = p; named = named }
@@ -137,7 +137,7 @@ typed_lawful = record { entry = refl; is_body = refl; named = ((refl, (refl, (re
 
 -- ---- typed bodies of named operators, with constructs of all kinds
 
--- Operators that are given by hand are a body, and typed.
+-- Operators that are given by hand form a body, and are typed.
 record IsTypedBody (os : List RawOperation) : Type 0 where
   is_body : IsNamedBody (located_names demo os) (body_of_names demo os)
   are_typed : AreTyped (typing_of demo) (located_names demo os)

@@ -56,7 +56,7 @@ local_get_written : short (operation (Byte 0x20) (local 128 ∷ [])) ≡ 0x20 �
 unfolding short_unsigned
 local_get_written = refl
 
--- ---- references where a value type stands
+-- ---- references in the place of a value type
 
 -- 02 70 and 02 63 70: a nullable reference to a function, by one byte and by two
 of_nullable_block : read_operation (0x02 ∷ 0x70 ∷ []) ≡ Ok (operation (Byte 0x02) (block (Value (Ref (record { nullable = true; heap_type = Abstract abstract.Func }))) ∷ []), [])
@@ -130,7 +130,7 @@ before_references : read_operation (0xc5 ∷ 0x00 ∷ []) ≡ Err UnknownOperato
 unfolding read_operation opcode kinds_of_byte integer
 before_references = refl
 
--- ---- structs and arrays, behind fb
+-- ---- structs and arrays, after fb
 
 -- fb 00 to fb 05: a type, and a field
 of_struct_new : read_operation (0xfb ∷ 0x00 ∷ 0x07 ∷ []) ≡ Ok (aggregate 0 (index Types 7 ∷ []), [])
@@ -203,7 +203,7 @@ array_copy_written : short (aggregate 17 (index Types 3 ∷ index Types 4 ∷ []
 unfolding short_unsigned
 array_copy_written = refl
 
--- ---- tests, casts and conversions, behind fb
+-- ---- tests, casts and conversions, after fb
 
 -- fb 14 6b; fb 15 01, where it may be null; fb 16 6b; fb 17 01
 of_test : read_operation (0xfb ∷ 0x14 ∷ 0x6b ∷ []) ≡ Ok (aggregate 20 (heap (Abstract abstract.Struct) ∷ []), [])

@@ -32,7 +32,7 @@ abbrev bytes_of_body : Environment → Numbers → Result (Body Occurrence) Pars
 bytes_of_body env to (Ok b) = Some (tree_bytes to (normal_form (typing_of env) (named_body b)))
 bytes_of_body env to (Err f) = None
 
--- what is written for bytes, where they are accepted
+-- the bytes that are written for bytes, if these are accepted
 abbrev rewriting : Environment → Numbers → List ℕ → Option (Result (List ℕ) EmitError)
 rewriting env to bytes = bytes_of_body env to (parsed (anything env) bytes)
 
@@ -129,7 +129,7 @@ is_undone _ id n e = absurd (cc e)
 inverse : IsInverse swapped back
 inverse = record { indices = is_undone; locals = λ id n e. absurd (cc e) }
 
--- 23 00 24 01 0b is written as 23 01 24 00 0b, and that, read by them, as it stands
+-- 23 00 24 01 0b is written as 23 01 24 00 0b, and that, read with these maps, as itself
 exchanged : rewriting with_globals swapped (0x23 ∷ 0x00 ∷ 0x24 ∷ 0x01 ∷ 0x0b ∷ []) ≡ Some (Ok (0x23 ∷ 0x01 ∷ 0x24 ∷ 0x00 ∷ 0x0b ∷ []))
 unfolding read_operation opcode kinds_of_byte integer short_unsigned
 exchanged = refl

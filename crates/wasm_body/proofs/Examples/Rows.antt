@@ -1,4 +1,4 @@
--- What the definitions answer for a list of operators that is given by hand. An operator's place and location are its number
+-- The values of the definitions for a list of operators that is given by hand. An operator's place and location are its number
 -- in the list.
 use Rattle.std.specs.Prelude.{ℕ, suc, List, [], ◌∷◌, map, Option, Some, None, Result, Ok, Err}
 use Rattle.walrus_ir.specs.declared.val_type.InstrSeqType.TheVariants.{Simple}
@@ -21,7 +21,7 @@ use Rattle.wasm_body.specs.Bytes.{Numbers, numbered_text}
 use Rattle.wasm_body.specs.Machine.{Event, Ending, Outcome, Run}
 use Rattle.wasm_body.specs.Places.{run_by_place}
 
--- the answer, the fault of an operator with its number, or the fault of a text
+-- the value, the fault of an operator with its number, or the fault of a text
 pub data Answer (X : Type 0) : Type 0 where
   Is : X → Answer X
   Refused : ParseError → ℕ → Answer X
@@ -92,7 +92,7 @@ a_run events ending = Is (record { events = events; ending = ending })
 abbrev pub trace : Environment → List RawOperation → List Outcome → (turns : ℕ) → Answer (Run ℕ)
 trace env os outcomes turns = after_answer (names env os) (λ ns. Is (run_by_place (map control_of ns) outcomes turns))
 
--- ---- what the laws speak of: the operators and the body, where there is no fault
+-- ---- the subjects of the laws: the operators and the body, where there is no fault
 
 abbrev named_operators : Answer (List Occurrence) → List (Located NamedOperation)
 named_operators (Is xs) = map name_at xs

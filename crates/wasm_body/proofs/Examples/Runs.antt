@@ -13,7 +13,7 @@ use Rattle.wasm_body.proofs.Examples.Rows.{Answer, trace, a_run}
 abbrev runs : List RawOperation → List Outcome → (turns : ℕ) → Answer (Run ℕ)
 runs os outcomes turns = trace demo os outcomes turns
 
--- these operators are executed, and nothing is taken
+-- these operators are executed, and no exception is caught
 abbrev executions : List ℕ → List (Event ℕ)
 executions [] = []
 executions (i ∷ is) = Executed i ∷ executions is
@@ -51,7 +51,7 @@ out_of_consequent = refl
 abbrev conditional_run : RawOperation → Answer (Run ℕ)
 conditional_run o = runs (block Empty ∷ block Empty ∷ o ∷ end ∷ const 7 ∷ end ∷ end ∷ []) (Way true ∷ []) 0
 
--- it goes behind the outer block
+-- it goes to the place after the outer block
 abbrev branched_run : Answer (Run ℕ)
 branched_run = a_run (executions (0 ∷ 1 ∷ 2 ∷ [])) Returned
 
@@ -87,7 +87,7 @@ first_entry = refl
 default_entry : runs with_table (Go ∷ Entry 9 ∷ []) 0 ≡ a_run (executions (0 ∷ 1 ∷ 2 ∷ 3 ∷ [])) Returned
 default_entry = refl
 
--- the entry just behind the last
+-- the entry just after the last
 entry_behind : runs with_table (Go ∷ Entry 1 ∷ []) 0 ≡ a_run (executions (0 ∷ 1 ∷ 2 ∷ 3 ∷ [])) Returned
 entry_behind = refl
 
@@ -110,7 +110,7 @@ no_alternative : runs (const 0 ∷ if Empty ∷ const 5 ∷ drop ∷ end ∷ nop
     ≡ a_run (executions (0 ∷ 1 ∷ 6 ∷ [])) Returned
 no_alternative = refl
 
--- behind the `end` of such an `if` its label is left
+-- after the `end` of such an `if` its label is gone
 behind_if_alone : runs (block Empty ∷ if Empty ∷ const 5 ∷ end ∷ br 0 ∷ const 7 ∷ end ∷ end ∷ []) (Way false ∷ []) 0 ≡ a_run (executions (0 ∷ 1 ∷ 4 ∷ [])) Returned
 behind_if_alone = refl
 
@@ -156,7 +156,7 @@ out_of_block_by_clause : runs (block Empty ∷ try_table Empty (catches_all 0 �
     ≡ a_run (Executed 0 ∷ Executed 1 ∷ Executed 2 ∷ Taken 1 0 None ∷ []) Returned
 out_of_block_by_clause = refl
 
--- no clause takes it
+-- no clause catches it
 not_caught : runs (try_table Empty (catches_ref 1 0 ∷ []) ∷ call 0 ∷ end ∷ end ∷ []) (raise_0 ∷ []) 0
     ≡ a_run (executions (0 ∷ 1 ∷ [])) (Escaped (0 ∷ []))
 not_caught = refl
@@ -202,18 +202,18 @@ outer_second_handler : runs (try Empty ∷ try Empty ∷ catch 0 ∷ catch_all �
     ≡ a_run (Executed 0 ∷ Executed 1 ∷ Executed 5 ∷ Taken 0 1 (Some 0) ∷ []) Returned
 outer_second_handler = refl
 
--- the innermost `try` that takes it is the one that does; an exception in its handler goes on outwards
+-- the innermost `try` that can catch it does; an exception in its handler goes on outwards
 nested_handlers : runs (try Empty ∷ try Empty ∷ throw 0 ∷ catch 0 ∷ throw 1 ∷ catch_all ∷ end ∷ catch_all ∷ const 7 ∷ end ∷ end ∷ [])
     (raise_0 ∷ Raise (1 ∷ []) ∷ Go ∷ []) 0
     ≡ a_run (Executed 0 ∷ Executed 1 ∷ Executed 2 ∷ Taken 1 0 (Some 0) ∷ Executed 4 ∷ Taken 0 0 None ∷ Executed 8 ∷ []) Returned
 nested_handlers = refl
 
--- 06 40 08 00 07 00 09 00 0b 0b: a handler that rethrows; its own `try` doesn't take it
+-- 06 40 08 00 07 00 09 00 0b 0b: a handler that rethrows; its own `try` doesn't catch that
 rethrown : runs (try Empty ∷ throw 0 ∷ catch 0 ∷ rethrow 0 ∷ end ∷ end ∷ []) (raise_0 ∷ []) 0
     ≡ a_run (Executed 0 ∷ Executed 1 ∷ Taken 0 0 (Some 0) ∷ Executed 3 ∷ []) (Escaped (0 ∷ []))
 rethrown = refl
 
--- 06 40 08 00 07 00 06 40 09 01 19 0b 0b 0b: a `try` inside the handler takes what is rethrown
+-- 06 40 08 00 07 00 06 40 09 01 19 0b 0b 0b: a `try` inside the handler catches the rethrown exception
 rethrown_inside : runs (try Empty ∷ throw 0 ∷ catch 0 ∷ try Empty ∷ rethrow 1 ∷ catch_all ∷ end ∷ end ∷ end ∷ []) (raise_0 ∷ []) 0
     ≡ a_run (Executed 0 ∷ Executed 1 ∷ Taken 0 0 (Some 0) ∷ Executed 3 ∷ Executed 4 ∷ Taken 3 0 None ∷ []) Returned
 rethrown_inside = refl
@@ -250,7 +250,7 @@ delegated_in_handler : runs (try Empty ∷ throw 0 ∷ catch 0 ∷ try Empty ∷
     ≡ a_run (Executed 0 ∷ Executed 1 ∷ Taken 0 0 (Some 0) ∷ Executed 3 ∷ Executed 4 ∷ []) (Escaped (0 ∷ []))
 delegated_in_handler = refl
 
--- a body that ends without an exception goes on behind the `delegate`
+-- a body that ends without an exception goes on after the `delegate`
 delegate_reached : runs (try Empty ∷ call 0 ∷ delegate 0 ∷ return ∷ end ∷ []) (Go ∷ []) 0 ≡ a_run (executions (0 ∷ 1 ∷ 3 ∷ [])) Returned
 delegate_reached = refl
 
@@ -310,7 +310,7 @@ other_kind = refl
 no_outcome : runs (const 0 ∷ drop ∷ end ∷ []) [] 0 ≡ a_run [] OutcomesOut
 no_outcome = refl
 
--- an operator that gets an outcome of a kind that it doesn't ask for is no event
+-- an operator that gets an outcome of a kind that it doesn't ask for gives no event
 abbrev Mismatches : RawOperation → Outcome → Type 0
 Mismatches o outcome = runs (block Empty ∷ o ∷ end ∷ end ∷ []) (outcome ∷ []) 0 ≡ a_run (executions (0 ∷ [])) Mismatch
 
@@ -335,7 +335,7 @@ tail_call_asks = (refl, refl)
 if_asks : runs (if Empty ∷ end ∷ end ∷ []) (Go ∷ []) 0 ≡ a_run [] Mismatch
 if_asks = refl
 
--- and one that gets none isn't either
+-- nor does one that gets none
 unanswered : runs (block Empty ∷ br_if 0 ∷ end ∷ end ∷ []) [] 0 ≡ a_run (executions (0 ∷ [])) OutcomesOut
 unanswered = refl
 
@@ -348,11 +348,11 @@ if_unanswered = refl
 throw_unanswered : runs (throw 0 ∷ end ∷ []) [] 0 ≡ a_run [] OutcomesOut
 throw_unanswered = refl
 
--- a trap is no exception
+-- a trap is not an exception
 trap_not_caught : runs (try Empty ∷ call 0 ∷ catch_all ∷ end ∷ end ∷ []) (Trap ∷ []) 0 ≡ a_run (executions (0 ∷ 1 ∷ [])) Trapped
 trap_not_caught = refl
 
--- 01 0b: a `nop` asks for nothing and is no event
+-- 01 0b: a `nop` asks for no outcome and gives no event
 nop_takes_none : runs (nop ∷ const 7 ∷ end ∷ []) (Go ∷ []) 0 ≡ a_run (executions (1 ∷ [])) Returned
 nop_takes_none = refl
 

@@ -1,4 +1,4 @@
--- Texts of trees that are given by hand: which clauses are lawful, exponents, and what isn't written.
+-- Texts of trees that are given by hand: lawful clauses, exponents, and what can't be written.
 use Rattle.std.specs.Prelude.{◌≡◌, ℕ, ◌^◌, List, [], ◌∷◌, true, false, None, Result, Ok, Err, refl}
 use Rattle.walrus_ir.specs.declared.val_type.InstrSeqType.{InstrSeqType}
 use Rattle.walrus_ir.specs.declared.val_type.InstrSeqType.TheVariants.{Simple, MultiValue}
@@ -75,7 +75,7 @@ exponent_of_one = refl
 exponent_of_none : exponent_of 0 ≡ 0
 exponent_of_none = refl
 
--- ---- what is written, and what isn't
+-- ---- what is written, and what can't be written
 
 -- a tree of one instruction, with these sequences in it
 abbrev of_one : TreeOperation → List LegacyClause → Sequences Head Instruction → FunctionTree
@@ -166,7 +166,7 @@ unnumbered = refl
 unnumbered_local : writes no_numbers (of_one (local_get 0) [] no_sequences) ≡ Err UnnumberedLocal
 unnumbered_local = refl
 
--- in one operator the type, then of a clause the tag and the target; then what stands in its sequences, and their closers
+-- in one operator the type, then the tag and the target of a clause; then the sequences in it, and their closers
 type_before_tag : writes no_numbers (of_one (try_table tt (catches 0 Outside ∷ [])) [] (empty_sequence (MultiValue 3) no_sequences)) ≡ Err (Index (Unnumbered Types))
 type_before_tag = refl
 

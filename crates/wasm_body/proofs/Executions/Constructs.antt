@@ -6,7 +6,7 @@ use Rattle.wasm_body.specs.Machine.{Outcome, Executed, Taken, then, Tags, seek, 
 use Rattle.wasm_body.proofs.Executions.Same.{Bound, the_count, again, go, bounded_run-go, Same, SameOutside, Agree}
 use Rattle.wasm_body.proofs.Executions.Steps.{weaken, step_same, way_same, cond_same, reacts, push}
 
--- Of a construct whose inside begins at x and whose first part or closer stands at c: r is behind its closer.
+-- A construct whose inside begins at x, and whose first part or closer is at c: r is the place after its closer.
 pub record Closes {A : Type 0} (x c r : List (Marked A)) : Type 0 where
   pub behind : behind_closer x ≡ r
   pub shorter : length r ≤ length c
@@ -16,7 +16,7 @@ pub record Closes {A : Type 0} (x c r : List (Marked A)) : Type 0 where
 abbrev label_of : {A : Type 0} → A → Construct → Option Tags → List (Marked A) → Label A
 label_of a k caught x = record { opener = a; construct = k; behind = x; caught = caught }
 
--- A branch to a label of the construct goes behind the closer.
+-- A branch to a label of the construct goes to the place after the closer.
 abbrev Exits : Type 0 → Construct → Type 0
 Exits A k = (next on : From A) (l : Label A) (labels : List (Label A)) (outcomes : List Outcome)
     → arrive next on k l labels outcomes ≡ on (behind_closer l.behind) labels outcomes
@@ -69,7 +69,7 @@ jump_same {A = A} (c ∷ cs) i s l l' β t u n m b b' o ls ls' a e hu hn hm =
         ∙ ap (λ x. then (Taken x i c.tag) (branch (again the_count u) (go the_count u m) c.label ls' o)) a
     by_clause false q q' h = h
 
--- ---- openers that ask for nothing
+-- ---- openers that ask for no outcome
 
 abbrev AsksNothing : Construct → Type 0
 AsksNothing If = ⊥
@@ -81,7 +81,7 @@ enters : {A : Type 0} → (k : Construct) → AsksNothing k
 enters If h β u n a x ls o = absurd h
 enters _ h β u n a x ls o = refl
 
--- the same from behind an opener
+-- the same from the place after an opener
 abbrev SameInside : {A : Type 0} → A → Construct → ℕ → List (Marked A) → List (Label A) → List (Marked A) → List (Label A) → Type 0
 SameInside a k t x ls x' ls' = Same t x (label a k x ∷ ls) x' (label a k x' ∷ ls')
 
@@ -108,7 +108,7 @@ loop_outside a t v b b' x x' ls ls' hv e h =
     push v b b' (label a Loop x) (label a Loop x') ls ls' (weaken t v b b' b b' ls ls' hv (omega arith) (omega arith) e)
     (λ β u n m o hu hn hm. h β u o hu) (λ β u n m s o hu hn hm. e.raises β u n m s o 0 (omega arith) hn hm) refl
 
--- the turns of a loop that are paid: by what its inside does with fewer turns left
+-- the turns of a loop that are paid: its inside does the same with fewer turns left
 turns_same : {A : Type 0} → (a : A) (t b b' : ℕ) (x x' : List (Marked A)) (labels labels' : List (Label A))
     → SameOutside t b b' labels labels'
     → ((v : ℕ) → v ≤ t → SameOutside v b b' (label a Loop x ∷ labels) (label a Loop x' ∷ labels') → SameInside a Loop v x labels x' labels')

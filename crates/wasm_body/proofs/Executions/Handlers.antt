@@ -6,11 +6,11 @@ use Rattle.wasm_body.proofs.Executions.Same.{Bound, the_count, Same, SameOutside
 use Rattle.wasm_body.proofs.Executions.Steps.{reacts}
 use Rattle.wasm_body.proofs.Executions.Constructs.{Closes, exit_outside, passing_outside}
 
--- what a `try` that is left from its body does with an exception, by the clause that was found
+-- what a `try` does with an exception that leaves its body, by the clause that was found
 abbrev try_reacts : {A : Type 0} → Bound A → (turns count : ℕ) → Tags → List Outcome → A → List (Marked A) → List (Label A) → Found A → Run A
 try_reacts β u n tags outcomes a x ls f = reacts β u n tags (label a Try x) ls outcomes (try_responds tags f)
 
--- The clauses from c on, behind i others, do the same with an exception as those from c' on.
+-- The clauses from c on, after i others, do the same with an exception as those from c' on.
 abbrev pub Handled : {A : Type 0} → A → (t i : ℕ) → (x c : List (Marked A)) → List (Label A) → (x' c' : List (Marked A)) → List (Label A) → Type 0
 Handled {A = A} a t i x c ls x' c' ls' = (β : Bound A) (u n m : ℕ) (tags : Tags) (outcomes : List Outcome) → u ≤ t → length c ≤ n → length c' ≤ m
     → try_reacts β u n tags outcomes a x ls (seek (catches tags) 0 i c) ≡ try_reacts the_count u m tags outcomes a x' ls' (seek (catches tags) 0 i c')
@@ -46,7 +46,7 @@ pub delegate_handled : {A : Type 0} → (a e e' : A) (k t i : ℕ) (x x' r r' : 
     → Handled a t i x (with_control e (Delegate k) ∷ r) labels x' (with_control e' (Delegate k) ∷ r') labels'
 delegate_handled a e e' k t i x x' r r' ls ls' env β u n m g o hu hn hm = env.raises β u n m g o k hu (omega arith) (omega arith)
 
--- a `catch`, whose handler begins at c, with the clauses from d on behind it
+-- a `catch`, whose handler begins at c, with the clauses from d on after it
 pub catch_handled : {A : Type 0} → (a h h' : A) (tag t i : ℕ) (x x' c c' d d' : List (Marked A)) (labels labels' : List (Label A))
     → length d ≤ length c → length d' ≤ length c'
     → ((tags : Tags) (j : ℕ) → seek (catches tags) 0 j c ≡ seek (catches tags) 0 j d)

@@ -32,7 +32,7 @@ use Rattle.wasm_body.proofs.Executions.NormalForms.{named_executions_kept}
 
 -- ---- places increase
 
--- an operator takes a byte at least
+-- an operator has at least one byte
 some_byte : (o : RawOperation) → 0 < length (short o)
 some_byte o = by_opcode o.opcode
   where
@@ -60,7 +60,7 @@ places_increase to t before ps e =
 
 -- ---- a pair is found by its place
 
--- what is looked up is no place before
+-- the place that is looked up is not before this one
 abbrev IsFrom : ℕ → Option ℕ → Type 0
 IsFrom q None = Unit {0}
 IsFrom q (Some p) = q ≤ p
@@ -135,7 +135,7 @@ locations_of_pairs (x ∷ xs) q = ap (λ l. x.location ∷ l) (locations_of_pair
 module _ (m : Typing) (xs : List Named) (b : Body Named) (hx : IsNamedBody xs b) (h : AreTyped m xs)
     (ys : List Named) (text : IsTextOf m (normal_form m b) ys)
     (to : Numbers) (before : ℕ) (ps : List Pair) (e : tree_pairs to (normal_form m b) before ≡ Ok ps) where
-  -- the operators as they are spelt, at the locations of the text
+  -- the operators as they are encoded, at the locations of the text
   numbered : (zs : List (Located RawOperation)) × (numbered_text to (normal_form m b) ≡ Ok zs) × (pairs_from before zs ≡ ps)
   numbered = let zs = bound (numbered_text to (normal_form m b)) (λ zs. Ok (pairs_from before zs)) ps e in (zs.0, zs.1, cc zs.2)
 

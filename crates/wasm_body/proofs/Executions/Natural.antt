@@ -1,5 +1,5 @@
--- What is shown of operators changes nothing else of a run. So what is shown at the places of a run is what is shown of the
--- operators that stand there.
+-- Other values that are shown for operators change nothing else of a run. So the values at the places of a run are those of the
+-- operators in these places.
 use Rattle.std.proofs.Common.{◌≡◌, ℕ, zero, suc, ◌+◌, List, [], ◌∷◌, length, map, Bool, true, false, cond, Option, Some, None, refl, sym, ap, ◌∙◌, arith}
 use Rattle.std.specs.Prelude.{slice_get}
 use Rattle.wasm_body.specs.Control.{Action, Nop, Plain, Branch, ConditionalBranch, TableBranch, Return, Unreachable, Throw, ThrowRef, Rethrow, TailCall, Clause, Construct, Block, Loop, TryTable, If, Try, Control, Does, Opens, Catch, Marked, with_control}
@@ -7,7 +7,7 @@ use Rattle.wasm_body.proofs.Structure.Reshown.{remarked}
 use Rattle.wasm_body.specs.Machine.{Shape, Opener, Part, Closer, Other, shape_of, Found, found, seek_at, seek, tail, behind_closer, Tags, has, Outcome, Go, Trap, Raise, Way, Entry, Executed, Taken, TailCalled, TurnsOut, Mismatch, Run, ends, then, Label, label, handler, From, Response, Passes, Hands, Jumps, Enters, takes, jump, catches, clause_at, clause_found, try_responds, responds_as, responds, arrive, branch, react, raise, caught_at, rethrow, target, ask, ask_way, ask_entry, act, is_else, other_at, other_way, enter, leave, step, straight, bounded_run, run}
 use Rattle.wasm_body.specs.Places.{show_run, placed_from, run_by_place, shown_by}
 
--- ---- operators, labels and the rest with something else shown
+-- ---- operators, labels and the rest with other values shown
 
 abbrev moved : {A B : Type 0} → (A → B) → List (Marked A) → List (Marked B)
 moved f xs = map (remarked f) xs
@@ -226,7 +226,7 @@ module _ (A B : Type 0) (f : A → B) where
       ap (λ n. straight (bounded_run length t) n (moved f r) (relabels f ls) o) (length_moved r)
       ∙ straight_moved (bounded_run length t) (bounded_run length t) (from_moved t) (length r) r ls o
 
--- the run of operators that are shown in another way
+-- the run of operators with other values shown
 run_moved : {A B : Type 0} → (f : A → B) (xs : List (Marked A)) (outcomes : List Outcome) (turns : ℕ)
     → run (map (remarked f) xs) outcomes turns ≡ show_run f (run xs outcomes turns)
 run_moved f xs o t = from_moved _ _ f t xs [] o
@@ -248,7 +248,7 @@ shown_some : {X B : Type 0} → (c : X → Control) (v : X → B) (xs : List X)
 shown_some c v [] = refl
 shown_some c v (x ∷ xs) = ap (λ l. with_control (Some (v x)) (c x) ∷ l) (shown_some c v xs)
 
--- what is shown at the places is what is shown of the operators themselves
+-- the values at the places are those that are shown for the operators themselves
 pub shown_by-run : {X B : Type 0} → (c : X → Control) (v : X → B) (xs : List X) (outcomes : List Outcome) (turns : ℕ)
     → shown_by (map v xs) (run_by_place (map c xs) outcomes turns)
     ≡ show_run (λ a. Some (v a)) (run (map (λ x. with_control x (c x)) xs) outcomes turns)

@@ -1,4 +1,4 @@
--- The law of executions: the text of a normal form is that of a right rewriting of the body.
+-- The law of executions: the text of a normal form is the text of a right rewriting of the body.
 use Rattle.std.proofs.Common.{◌≡◌, ℕ, List, map, Some, refl, sym, ap, ◌∙◌}
 use Rattle.wasm_body.specs.Control.{Action, Nop, Plain, Branch, ConditionalBranch, TableBranch, Return, Unreachable, Throw, ThrowRef, Rethrow, TailCall, Control, control_of}
 use Rattle.wasm_body.specs.SourceTree.{Sequence, Empty, Single, Wrapped, IfThen, IfElse, TryCatch, TryDelegate, Clauses, Ended, Catches, CatchesAll, Body}
@@ -15,7 +15,7 @@ use Rattle.wasm_body.proofs.Executions.RewritesTo.{RewritesTo, empty, drop_nop, 
 use Rattle.wasm_body.proofs.Executions.Same.{the_count}
 use Rattle.wasm_body.proofs.Executions.Natural.{shown_by-run}
 
--- ---- what the normal form does is right
+-- ---- the rewriting of the normal form is right
 
 single_rewrites : (a : Named) (action : Action) (r r' : Sequence Named) → RewritesTo r r'
     → RewritesTo (Single a action r) (single_with_fate (fate action) a action r')
@@ -46,7 +46,7 @@ mutual
   clauses_rewrite (Catches a t b cs) = catches_one (rewritten_rewrites b) (clauses_rewrite cs)
   clauses_rewrite (CatchesAll a b e) = catches_all (rewritten_rewrites b)
 
--- ---- whatever is shown of the operators of two bodies
+-- ---- whatever values are shown for the operators of two bodies
 
 shown_alike : {B : Type 0} → (v : Named → B) (b c : Body Named) → RewritesTo b.sequence c.sequence → (xs ys : List Named)
     → IsNamedBody xs b → IsNamedBody ys c

@@ -1,4 +1,4 @@
--- The rewritings of a sequence that are right: the machine does the same from it as from the sequence.
+-- The rewritings of a sequence that are right: the machine does the same from the rewriting as from the sequence.
 use Rattle.std.proofs.Common.{◌≡◌, ℕ, zero, suc, ◌≤◌, List, [], ◌∷◌, length, false, refl, sym, ap, ◌∙◌, arith}
 use Rattle.wasm_body.specs.Control.{Action, Nop, Control, Construct, If, Try, Opens, Else, Catch, CatchAll, End, Delegate, Marked, with_control}
 use Rattle.wasm_body.specs.SourceTree.{Sequence, Empty, Single, Wrapped, IfThen, IfElse, TryCatch, TryDelegate, Clauses, Ended, Catches, CatchesAll, Wrapper, construct_of, text, clauses_text, Body, body_text}
@@ -10,8 +10,8 @@ use Rattle.wasm_body.proofs.Executions.Steps.{weaken, nop_same, kept_same, last_
 use Rattle.wasm_body.proofs.Executions.Constructs.{Closes, wrapped_same, if_outside, if_same, try_same}
 use Rattle.wasm_body.proofs.Executions.Handlers.{Handled, try_outside, handler_outside, ended_handled, delegate_handled, catch_handled, catch_all_handled}
 
--- A `nop` is dropped, and what follows an operator that cuts; an alternative that holds nothing is added. What is shown of
--- operators that part and close constructs is free.
+-- A `nop` may be dropped, and so may the operators after one that cuts; an empty alternative may be added. The values that are
+-- shown for operators that part and close constructs may be any.
 mutual
   pub data RewritesTo {A : Type 0} : Sequence A → Sequence A → Type 0 where
     empty : RewritesTo Empty Empty
@@ -38,7 +38,7 @@ mutual
 
 -- ---- the closers of constructs
 
--- behind a sequence comes the closer
+-- after a sequence comes the closer
 closes : {A : Type 0} → (s : Sequence A) (e : A) (c : Control) (r : List (Marked A)) → shape_of c ≡ Closer
     → Closes (text s (with_control e c ∷ r)) (with_control e c ∷ r) r
 closes s e c r h = record {
@@ -48,7 +48,7 @@ closes s e c r h = record {
   shorter = omega arith;
 }
 
--- behind the first of two sequences comes an `else`
+-- after the first of two sequences comes an `else`
 closes_else : {A : Type 0} → (s t : Sequence A) (l e : A) (r : List (Marked A))
     → Closes (text s (with_control l Else ∷ text t (with_control e End ∷ r))) (with_control l Else ∷ text t (with_control e End ∷ r)) r
 closes_else s t l e r = record {
@@ -78,7 +78,7 @@ Alike {A} s s' =
     (t : ℕ) (k k' : List (Marked A)) (labels labels' : List (Label A)) → Agree t k labels k' labels'
     → Same t (text s k) labels (text s' k') labels'
 
--- what stands behind an item agrees, where it agrees behind the sequence
+-- the places after an item agree, where the places after the sequence agree
 rest_agrees : {A : Type 0} → (s s' : Sequence A) → Alike s s' → (t : ℕ) (k k' : List (Marked A)) (labels labels' : List (Label A))
     → Agree t k labels k' labels' → Agree t (text s k) labels (text s' k') labels'
 rest_agrees s s' alike t k k' ls ls' agree = record {
@@ -86,7 +86,7 @@ rest_agrees s s' alike t k k' ls ls' agree = record {
   same = alike t k k' ls ls' agree;
 }
 
--- In what follows r and r' stand behind a construct, and agree.
+-- In what follows r and r' are the places after a construct, and agree.
 module _ {A : Type 0} (t : ℕ) (r r' : List (Marked A)) (labels labels' : List (Label A)) (agree : Agree t r labels r' labels') where
   -- the same from an opener on
   abbrev SameOpened : Construct → A → (x x' : List (Marked A)) → Type 0
@@ -146,7 +146,7 @@ module _ {A : Type 0} (t : ℕ) (r r' : List (Marked A)) (labels labels' : List 
       if_alike a e e' End End tt tt b b' body r r' (closes b e End r refl) (closes b' e' End r' refl) (omega arith) (omega arith) refl refl
       (λ β u n m o hu hn hm. agree.same β u n m o hu hn hm)
 
-  -- an `end` on one side alone
+  -- an `end` on one side only
   end_alone : (e : A) (l : Label A) → behind_closer l.behind ≡ r' → Same t r labels (with_control e End ∷ r') (l ∷ labels')
   end_alone e l h β u n zero o hu hn hm = absurd (omega arith)
   end_alone e l h β u n (suc m) o hu hn hm = agree.same β u n m o hu hn (omega arith) ∙ ap (λ k. go the_count u m k labels' o) (sym h)

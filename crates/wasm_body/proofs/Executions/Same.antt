@@ -13,7 +13,7 @@ pub record Bound (A : Type 0) : Type 0 where
 abbrev pub the_count : {A : Type 0} → Bound A
 the_count = record { of = length; suffices = λ rest. omega arith }
 
--- how a run goes on behind a turn, with so many turns left
+-- how a run goes on after a turn, with this many turns left
 abbrev pub again : {A : Type 0} → Bound A → (turns : ℕ) → From A
 again bound zero = λ rest labels outcomes. ends TurnsOut
 again bound (suc turns) = bounded_run bound.of turns
@@ -32,7 +32,7 @@ bounded_run-go bound (suc u) r ls o = refl
 abbrev pub Same : {A : Type 0} → (t : ℕ) → List (Marked A) → List (Label A) → List (Marked A) → List (Label A) → Type 0
 Same {A = A} t r ls r' ls' = (β : Bound A) (u n m : ℕ) (outcomes : List Outcome) → u ≤ t → length r ≤ n → length r' ≤ m → go β u n r ls outcomes ≡ go the_count u m r' ls' outcomes
 
--- It does the same with whatever leaves outwards, where counts of b and b' operators are enough.
+-- It does the same with all branches and exceptions that go outwards, where counts of b and b' operators are enough.
 pub record SameOutside {A : Type 0} (t b b' : ℕ) (labels labels' : List (Label A)) : Type 0 where
   pub branches : (β : Bound A) (u n m j : ℕ) (outcomes : List Outcome) → u ≤ t → b ≤ n → b' ≤ m
       → branch (again β u) (go β u n) j labels outcomes ≡ branch (again the_count u) (go the_count u m) j labels' outcomes
@@ -40,7 +40,7 @@ pub record SameOutside {A : Type 0} (t b b' : ℕ) (labels labels' : List (Label
       → raise (again β u) (go β u n) tags labels outcomes j ≡ raise (again the_count u) (go the_count u m) tags labels' outcomes j
   pub handlers : (j : ℕ) → caught_at labels j ≡ caught_at labels' j
 
--- both of what stands behind a construct or an item
+-- both conditions, for the places after a construct or an item
 pub record Agree {A : Type 0} (t : ℕ) (r : List (Marked A)) (labels : List (Label A)) (r' : List (Marked A)) (labels' : List (Label A)) : Type 0 where
   pub outside : SameOutside t (length r) (length r') labels labels'
   pub same : Same t r labels r' labels'

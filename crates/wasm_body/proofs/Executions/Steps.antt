@@ -67,7 +67,7 @@ rethrow_same f f' (Some s) h = h s
 
 -- ---- operators by themselves
 
--- one that cuts, whatever stands behind it
+-- an operator that cuts, whatever comes after it
 cut_same : {A : Type 0} → (action : Action) (a : A) (t : ℕ) (r r' : List (Marked A)) (labels labels' : List (Label A))
     → SameOutside t (length r) (length r') labels labels' → fate action ≡ Cuts
     → (β : Bound A) (u n m : ℕ) (outcomes : List Outcome) → u ≤ t → length r ≤ n → length r' ≤ m
@@ -86,7 +86,7 @@ cut_same (Rethrow j) a t r r' ls ls' e c β u n m o hu hn hm =
     (λ s. e.raises β u n m s o 0 hu hn hm))
 cut_same _ a t r r' ls ls' e c β u n m o hu hn hm = absurd (cc c)
 
--- one behind which the same follows
+-- an operator after which the same follows
 act_same : {A : Type 0} → (action : Action) (a : A) (t : ℕ) (r r' : List (Marked A)) (labels labels' : List (Label A))
     → SameOutside t (length r) (length r') labels labels' → Same t r labels r' labels'
     → (β : Bound A) (u n m : ℕ) (outcomes : List Outcome) → u ≤ t → length r ≤ n → length r' ≤ m

@@ -1,4 +1,4 @@
--- Items in an arena of sequences: one list behind another, the same items in another arena, and that places which rise are
+-- Items in an arena of sequences: one list after another, the same items in another arena, and that places which rise are
 -- apart.
 use Rattle.std.specs.Prelude.{◌≡◌, ℕ, suc, ◌<◌, ◌≤◌, ◌==◌, List, [], ◌∷◌, ◌++◌, false, ◌||◌, slice_get}
 use Rattle.std.specs.List.{AllByRecursion}
@@ -38,7 +38,7 @@ pub rise-joined : (low : ℕ) (is js : Items SequenceAt LocatedInstr) (middle hi
 rise-joined low no_items js middle high r s = rise-wider middle low js high high r (omega arith) s
 rise-joined low (item x ss rest) js middle high r s = (r.0, r.1, rise-joined r.0 rest js middle high r.2 s)
 
--- ---- one list of items behind another
+-- ---- one list of items after another
 
 pub items-joined : {b : List InstrSeq} {xs ys : List LocatedInstr} {is js : Items SequenceAt LocatedInstr} → AreItems b xs is → AreItems b ys js → AreItems b (xs ++ ys) (joined is js)
 items-joined are_no_items t = t
@@ -48,7 +48,7 @@ pub in-joined : (around : List ℕ) (is js : Items SequenceAt LocatedInstr) → 
 in-joined around no_items js = refl
 in-joined around (item x ss r) js = ap (item (instruction_in around x) (sequences_in around ss)) (in-joined around r js)
 
--- ---- the same items in another arena, which is as before where they stand
+-- ---- the same items in another arena, which is unchanged in their places
 
 abbrev pub SameIn : (b c : List InstrSeq) (low high : ℕ) → Type 0
 SameIn b c low high = (p : ℕ) → low ≤ p → p < high → slice_get c p ≡ slice_get b p

@@ -1,4 +1,4 @@
--- The normal form of a body, locations aside, goes by its operators' names.
+-- The normal form of a body, locations aside, depends only on its operators' names and what they do to the control flow.
 use Rattle.std.proofs.Common.{◌≡◌, List, [], ◌∷◌, map, refl, sym, ap, ◌∙◌}
 use Rattle.walrus_ir.specs.Tree.{Items, item, no_sequences, sequence}
 use Rattle.wasm_body.specs.Control.{End, Marked, with_control}
@@ -15,7 +15,7 @@ use Rattle.wasm_body.proofs.NormalForm.NormalAgain.{item_again}
 abbrev pub op_of : Named → NamedOperation
 op_of a = a.op
 
--- the same operator at no location of its own
+-- the same operator, with location 0
 abbrev nowhere : Named → Named
 nowhere a = at_location a.op 0
 

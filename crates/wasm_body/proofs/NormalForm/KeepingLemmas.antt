@@ -1,4 +1,4 @@
--- The normal form of a sequence behind another, and whether they are dead.
+-- The normal form of a sequence after another, and whether they are dead.
 use Rattle.std.specs.Prelude.{◌≡◌, [], Bool, true, false, ◌||◌}
 use Rattle.std.proofs.Common.{refl, ap, ◌∙◌}
 use Rattle.walrus_ir.specs.Tree.{Items, item, Sequences, no_sequences}
@@ -10,7 +10,7 @@ use Rattle.wasm_body.specs.NormalForm.{Typing, Fate, Drops, Stays, Cuts, fate, w
 use Rattle.wasm_body.specs.Keeping.{dead_behind, is_dead, joined_alive}
 use Rattle.wasm_body.specs.Parsing.Progress.{append}
 
--- ---- whether a sequence behind another is dead
+-- ---- whether a sequence after another is dead
 
 dead_or : (f : Fate) (x y : Bool) → dead_behind f (x || y) ≡ dead_behind f x || y
 dead_or Drops x y = refl
@@ -26,7 +26,7 @@ dead_append (IfElse a b l c e r) t = dead_append r t
 dead_append (TryCatch a b cs r) t = dead_append r t
 dead_append (TryDelegate a b e n r) t = dead_append r t
 
--- ---- the same with something else shown
+-- ---- the same with other values shown
 
 pub reshown_append : {A B : Type 0} → (g : A → B) (s t : Sequence A) → map_sequence g (append s t) ≡ append (map_sequence g s) (map_sequence g t)
 reshown_append g Empty t = refl
@@ -46,7 +46,7 @@ dead_reshown g (IfElse a b l c e r) = dead_reshown g r
 dead_reshown g (TryCatch a b cs r) = dead_reshown g r
 dead_reshown g (TryDelegate a b e n r) = dead_reshown g r
 
--- ---- the normal form of a sequence behind another
+-- ---- the normal form of a sequence after another
 
 abbrev Kept : Type 0
 Kept = Items Head Instruction

@@ -66,7 +66,7 @@ all_lead m t = record {
   counts = λ n u e. refl;
 }
 
--- at a sequence whose type stands for its block type
+-- at a sequence whose type has the operator's block type as signature
 pub kept_written : (m : Typing) (t : InstrSeqType) (o : NamedOperation) → StandsFor m t (block_types o.immediates)
     → translate (typed (with_names m) t) (kept_operation o) ≡ Ok o
 kept_written m t o h =

@@ -1,4 +1,4 @@
--- What the tree keeps of a named operator, made of it as it was read.
+-- A named operator in the tree, computed from the operator as it was read.
 use Rattle.std.specs.Prelude.{◌≡◌, ℕ, ◌^◌, nat_lt, List, length, Result, Ok, Err}
 use Rattle.std.proofs.Common.{refl, ap, sym, ◌∙◌}
 use Rattle.wasm_operators.specs.declared.types.BlockType.{BlockType}
@@ -14,12 +14,12 @@ use Rattle.wasm_body.specs.NormalForm.{kept, kept_operation}
 use Rattle.wasm_body.proofs.Translation.Steps.{Leads, bound, all_of, ok-sure}
 use Rattle.wasm_body.proofs.Translation.Translations.{LeadAll, lead_all, translate_leads}
 
--- an answer, or any number
+-- the value, or any number where there is a fault
 abbrev pub sure_number : Result ℕ ParseError → ℕ
 sure_number (Ok n) = n
 sure_number (Err e) = 0
 
--- what is kept of an operator as it is read, whether its indices have ids or not
+-- an operator as it is read, in the tree, whether its indices have ids or not
 abbrev pub kept_raw : Environment → Translation ℕ BlockType Target (Unit {0}) ⊥
 kept_raw env = record {
   index = λ space n. Ok (sure_number (id_at env space n));

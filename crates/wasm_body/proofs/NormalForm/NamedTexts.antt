@@ -17,7 +17,7 @@ use Rattle.wasm_body.specs.RewrittenTree.{end_at, rewritten, rewritten_body, rew
 use Rattle.wasm_body.proofs.NormalForm.Rewritten.{Named, IsTypedBy, typed_told, Sourced, each_rewritten}
 use Rattle.wasm_body.proofs.NormalForm.WrittenTexts.{type_at, answer, named_by, named_written, tree_text_by}
 
--- the type that an operator is written with stands for its block type
+-- the type that an operator is written with has its block type as signature
 pub stands_at : (m : Typing) (c : Control) (o : NamedOperation) → IsTypedBy m c o → StandsFor m (type_at m c o) (block_types o.immediates)
 stands_at m (Opens construct) o h = h
 stands_at m (Does action) o h = subst (λ bs. StandsFor m (type_at m (Does action) o) bs) (sym h) tt

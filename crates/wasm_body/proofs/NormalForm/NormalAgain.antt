@@ -26,7 +26,7 @@ clauses_again (Ended e) = refl
 clauses_again (Catches a t b cs) = ap (λ l. handles t ∷ l) (clauses_again cs)
 clauses_again (CatchesAll a b e) = refl
 
--- an item, by its first sequence, those beside it, and what follows
+-- an item: its first sequence, the sequences next to it, and the items after it
 pub item_again : (i : Bare) (t : InstrSeqType) {b b' r r' : Items InstrSeqType Bare} {k k' : Sequences InstrSeqType Bare} → b ≡ b'
     → k ≡ k' → r ≡ r'
     → item i (sequence t b k) r ≡ item i (sequence t b' k') r'

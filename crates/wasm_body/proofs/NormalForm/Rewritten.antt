@@ -1,4 +1,4 @@
--- What holds of each operator of the rewritten tree.
+-- Conditions on each operator of the rewritten tree.
 use Rattle.std.proofs.Common.{◌≡◌, ℕ, List, [], ◌∷◌, true, refl, ap, ◌∙◌, subst}
 use Rattle.walrus_ir.specs.Tree.{Items, Sequences, no_sequences, sequence}
 use Rattle.wasm_operators.specs.Operations.{Immediate}
@@ -16,12 +16,12 @@ use Rattle.wasm_body.proofs.Structure.Along.{Each, EachIn, Tells}
 abbrev pub Named : Type 0
 Named = Located NamedOperation
 
--- an operator of the source: it tells its control and is typed
+-- an operator of the source: its control is the one that the tree gives, and it is typed
 abbrev pub Sourced : Typing → Named → Control → Type 0
 Sourced m a c = Tells a c × IsTypedAs m (role_of a.op.opcode) a.op
 
--- ---- What holds of each of its operators: an operator by itself and an opener are as they were, those that part and close
--- constructs are written anew.
+-- ---- Conditions on each of its operators: one that is not part of a construct and an opener are as they were; those that part
+-- and close constructs are made anew.
 
 module _ (P Q : Named → Control → Type 0)
     (kept : (a : Named) (action : Action) → P a (Does action) → Q a (Does action))
@@ -49,7 +49,7 @@ module _ (P Q : Named → Control → Type 0)
     each_clause (Catches a t b cs) h = (catches a t a.location h.0, each_rewritten b h.1, each_clause cs h.2)
     each_clause (CatchesAll a b e) h = (catches_all a.location, each_rewritten b h.1, ends e.location)
 
--- ---- what goes by the role of an operator goes by its control
+-- ---- what depends on the role of an operator depends on its control
 
 abbrev pub closers_by : {S I : Type 0} → Control → List LegacyClause → Sequences S I → List TextOperation
 closers_by (Opens Block) cs ss = end_operation ∷ []

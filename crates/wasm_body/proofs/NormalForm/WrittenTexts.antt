@@ -31,7 +31,7 @@ use Rattle.wasm_body.proofs.Translation.Translations.{LeadAll, lead_all, transla
 use Rattle.wasm_body.specs.RewrittenTree.{end_at, else_at, catch_at, catch_all_at, delegate_at, single_with_fate, rewritten, rewritten_clauses, rewritten_body}
 use Rattle.wasm_body.proofs.NormalForm.Rewritten.{Named, closers_by, closers_told, wrapper_closers, clauses_lawful}
 
--- ---- what is written of a named operator that the tree keeps
+-- ---- what is written for a named operator in the tree
 
 module _ {M C : Type 0} (w : Writing M C) where
   -- in a sequence of the type
@@ -112,7 +112,7 @@ module _ {M C : Type 0} (w : Writing M C) (m : Typing) where
   fate_by Stays a action n r k h e = item_by a [] (Does action) no_sequences n (map answer k) refl h ∙ ap (λ l. answer_at (Simple None) a ∷ l) e
   fate_by Cuts a action n r k h e = item_by a [] (Does action) no_sequences no_items (map answer k) refl h
 
-  -- what is written of an opener
+  -- what is written for an opener
   abbrev first_of : Named → Answer
   first_of a = answer_at (construct_type m a.op) a
 
@@ -252,7 +252,7 @@ module _ (m : Typing) where
   pub ids_text : (b : Body Named) → Each Tells b.sequence → tree_text with_ids (normal_form m b) ≡ Ok (map ids_at (body_text (rewritten_body b)))
   ids_text b h = tree_text_by with_ids m b h ∙ gathered_ids (body_text (rewritten_body b))
 
--- ---- written with numbers, an operator is spelt
+-- ---- written with numbers, an operator has an encoding
 
 abbrev op_or : Result RawOperation EmitError → RawOperation
 op_or (Ok o) = o
@@ -262,7 +262,7 @@ module _ (to : Numbers) (m : Typing) where
   abbrev pub numbering_at : Marked Named → Translation ℕ Signature ℕ BlockType EmitError
   numbering_at x = named_by (then_by (numbering to)) (type_at m x.control x.shown.op)
 
-  -- how an operator of the rewritten body is spelt
+  -- the encoded form of an operator of the rewritten body
   abbrev pub spelt_as : Marked Named → RawOperation
   spelt_as x = op_or (translate (numbering_at x) x.shown.op)
 

@@ -1,4 +1,4 @@
--- Accepted bodies and first faults are what parsing on lists answers: so there is one of both, and one only.
+-- Accepted bodies and first faults are the results of parsing on lists: so there is one of the two, and only one.
 use Rattle.std.proofs.Common.{◌≡◌, ℕ, zero, suc, ◌+◌, ◌≤◌, ◌⊎◌, inl, inr, List, [], ◌∷◌, ◌++◌, length, map, replicate, Some, Result, Ok, Err, refl, sym, ap, subst, ◌∙◌, arith}
 use Rattle.std.proofs.lemmas.List.{append-nil}
 use Rattle.std.specs.Prelude.{IsOk}
@@ -52,7 +52,7 @@ goes_lawful env xs b entry g e =
 
 -- ---- added ends
 
--- where so much has been read, so many ends make a body
+-- where n sequences are open, n `end`s complete the body
 abbrev ends_of : ℕ → List Occurrence
 ends_of n = replicate n added_end
 
@@ -60,12 +60,12 @@ ends_close : (ls : List (Layer Occurrence)) (s : Sequence Occurrence) → (b : B
 ends_close [] s = (record { sequence = s; close = added_end }, refl)
 ends_close (l ∷ ls) s = ends_close ls (append l.before (closed l.construct s added_end))
 
--- an end breaks no rule
+-- an `end` breaks no rule
 ends_go : (env : Environment) (ls : List (Layer Occurrence)) → Goes (IsNamed env) (Some (frames_of ls)) (map mark (ends_of (suc (length ls))))
 ends_go env [] = (refl, tt)
 ends_go env (l ∷ ls) = (refl, ends_go env ls)
 
--- a front stands, with an end for each open sequence
+-- a front can be completed to a lawful body, with an `end` for each open sequence
 within_stands : (env : Environment) (xs : List Occurrence) (ls : List (Layer Occurrence)) (s : Sequence Occurrence) → IsOk (entry_type_id env)
     → Goes (IsNamed env) (Some function_frames) (map mark xs) → progress_behind nothing_read (map mark xs) ≡ Within ls s → Stands env xs (length (frames_of ls))
 within_stands env xs ls s entry g e =
@@ -93,7 +93,7 @@ stands_goes env xs n h =
     (goes_front (IsNamed env) (map mark xs) (map mark (ends_of n)) (Some function_frames)
     (subst (Goes (IsNamed env) (Some function_frames)) (map-append mark xs (ends_of n)) (lawful_goes env (xs ++ ends_of n) h.body h.lawful))).0
 
--- ---- what is accepted is answered
+-- ---- an accepted body is the result
 
 module _ {V : Type 0} (given : Setting V) (agrees : ReadingAgrees) where
   pub front_over : (xs : List Occurrence) (bytes rest : List ℕ) (w : V) (at : ℕ) → IsFront given xs bytes rest → validated given.check given.first (map placed xs) ≡ Ok w
@@ -120,7 +120,7 @@ module _ {V : Type 0} (given : Setting V) (agrees : ReadingAgrees) where
   within_stops [] s w at (x ∷ rest) (suc left) error enough f = rw f refl
   within_stops (l ∷ ls) s w at (x ∷ rest) (suc left) error enough f = rw f refl
 
-  -- where a front was gone over, what is wrong behind it is where parsing stops
+  -- where a front was gone over, the fault after it is where parsing stops
   fault_stops : (q : Progress Occurrence) (frames : List (Frame Occurrence)) (w : V) (at : ℕ) (rest : List ℕ) (left : ℕ) (error : ParseError) → progress_frames q ≡ Some frames → length rest ≤ left
       → FaultBehind given w frames at rest error → parsed_from given left q w at rest ≡ Err (failure error at)
   fault_stops NoBody frames w at rest left error e enough f = absurd (cc)
@@ -138,7 +138,7 @@ module _ {V : Type 0} (given : Setting V) (agrees : ReadingAgrees) where
       let frames : progress_frames (progress_behind nothing_read (map mark h.front)) ≡ Some h.frames = behind_frames (map mark h.front) nothing_read ∙ h.frames_are in
       entered bytes h.stands.lawful.entry ∙ (g.same ∙ fault_stops (progress_behind nothing_read (map mark h.front)) h.frames h.state f.at h.rest g.left f.error frames g.enough h.fault)
 
-  -- ---- what is answered is accepted, or the first fault
+  -- ---- the result is an accepted body, or the first fault
 
   stop_of : (bytes : List ℕ) → AreBytes bytes → Stopped given nothing_read given.first given.start bytes (parsed_from given (length bytes) nothing_read given.first given.start bytes)
   stop_of bytes fits = stopped given agrees (length bytes) nothing_read given.first given.start bytes tt fits (omega arith)
@@ -163,7 +163,7 @@ module _ {V : Type 0} (given : Setting V) (agrees : ReadingAgrees) where
     fault = f;
   })
 
-  -- either is answered
+  -- either is the result
   abbrev pub Answers : List ℕ → Result (Body Occurrence) ParseFailure → Type 0
   Answers bytes (Ok b) = Accepted given bytes b
   Answers bytes (Err f) = FirstFault given bytes f

@@ -1,4 +1,4 @@
--- Every front that stands is a front of the one before the first fault.
+-- Every front that can be completed to a lawful body is a front of the one before the first fault.
 use Rattle.std.proofs.Common.{◌≡◌, ℕ, ◌+◌, ◌-◌, ◌<◌, ◌≤◌, List, [], ◌∷◌, ◌++◌, length, map, Some, Result, Ok, Err, refl, sym, ap, subst, ◌∙◌, arith, length-append}
 use Rattle.wasm_operators.specs.OperatorList.{Placed, Lists}
 use Rattle.wasm_operators.specs.Laws.{ReadingAgrees}

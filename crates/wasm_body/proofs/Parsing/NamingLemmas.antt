@@ -1,4 +1,4 @@
--- An operator that has its name may stand where it does.
+-- An operator that has its name in a place is allowed in that place.
 use Rattle.std.proofs.Common.{◌≡◌, ℕ, List, [], ◌∷◌, true, Some, Ok, refl, sym, ap, subst, ◌∙◌}
 use Rattle.wasm_operators.specs.Operations.{Immediate, Operation, RawOperation}
 use Rattle.wasm_body.specs.declared.error.ParseError.{ParseError}
@@ -10,7 +10,7 @@ use Rattle.wasm_body.specs.Naming.{Environment, NamedOperation, Occurrence, name
 use Rattle.wasm_body.proofs.Structure.ReadFrames.{may_move}
 use Rattle.walrus_ir.proofs.ResultLemmas.{bind_ok, unless_ok, ok_same}
 
--- whether an operator may stand somewhere is said by its opcode alone
+-- whether an operator is allowed somewhere depends only on its opcode
 pub same_stand : {A B C : Type 0} (fs : List (Frame A)) (r : Role) (is : List (Immediate ℕ B)) (js : List (Immediate ℕ C)) → may_stand fs (control_by r is) ≡ may_stand fs (control_by r js)
 same_stand [] r is js = refl
 same_stand (f ∷ fs) a_plain is js = refl
@@ -39,7 +39,7 @@ named_parts env fs o n e =
       typed = subst (λ (z : NamedOperation). has_types env fs (control_of z) z ≡ Ok tt) same c.1;
     }
 
--- the name may stand where the operator may
+-- where the operator is allowed, its name is too
 pub named_stands : (env : Environment) (fs : List (Frame Occurrence)) (o : RawOperation) (n : NamedOperation) → named_in env fs o ≡ Ok n → may_stand fs (control_of n) ≡ true
 named_stands env fs o n e =
     let p = named_parts env fs o n e in

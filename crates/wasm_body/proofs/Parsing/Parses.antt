@@ -26,7 +26,7 @@ pub record Over {V : Type 0} (given : Setting V) (p : Progress Occurrence) (v : 
   pub ends : progress_behind p (map mark xs) ≡ q
   pub place_is : at + length rest ≡ place + length bytes
 
--- a spelling begins with a byte
+-- an encoding begins with a byte
 pub record Begins (text : List ℕ) : Type 0 where
   pub first : ℕ
   pub others : List ℕ
@@ -44,7 +44,7 @@ spelling_begins o text h =
     let b = opcode_begins o h.first h.opcode in
     record { first = b.first; others = b.others ++ h.others; is = h.parts ∙ ap (λ (t : List ℕ). t ++ h.others) b.is }
 
--- what an operator that passes is handled as
+-- the result of handling an operator that passes
 handles : {V : Type 0} (given : Setting V) (v w : V) (fs : List (Frame Occurrence)) (place : ℕ) (bytes rest : List ℕ) (x : Occurrence)
     → x.place ≡ place → read_operation bytes ≡ Ok (x.spelt, rest) → has_location given.locations x.place ≡ true → x.location ≡ location_at given.locations x.place
     → given.check v (placed x) ≡ Ok w → named_in given.environment fs x.spelt ≡ Ok x.named
@@ -56,7 +56,7 @@ handles {V} given v w fs place bytes rest x at r l m c n =
 -- ---- over a front
 
 module _ {V : Type 0} (given : Setting V) (agrees : ReadingAgrees) where
-  -- parsing goes on behind the front as it would from there
+  -- parsing goes on after the front as it would from there
   pub record GoesOn (turns : ℕ) (p : Progress Occurrence) (v : V) (place : ℕ) (bytes : List ℕ) (q : Progress Occurrence) (w : V) (at : ℕ) (rest : List ℕ) : Type 0 where
     pub left : ℕ
     pub enough : length rest ≤ left

@@ -1,4 +1,4 @@
--- Where parsing on lists stops: behind a front of operators, at the end of the body or at the first fault.
+-- Where parsing on lists stops: after a front of operators, at the end of the body or at the first fault.
 use Rattle.std.proofs.Common.{◌≡◌, ℕ, zero, suc, ◌+◌, ◌-◌, ◌≤◌, List, [], ◌∷◌, ◌++◌, length, map, true, Some, Result, Ok, Err, refl, sym, ap, subst, ◌∙◌, arith, length-append}
 use Rattle.wasm_operators.specs.Operations.{RawOperation}
 use Rattle.wasm_operators.specs.Spelling.{Spells, read_operation}
@@ -19,7 +19,7 @@ use Rattle.walrus_ir.proofs.ResultLemmas.{bind_ok, with_fault_ok, unless_ok, ok_
 use Rattle.wasm_body.proofs.Parsing.NamingLemmas.{named_moves}
 use Rattle.wasm_body.proofs.Parsing.Parses.{Over, spelling_begins}
 
--- what a handled operator has passed
+-- the conditions that a handled operator has passed
 pub record Passed {V : Type 0} (given : Setting V) (v : V) (fs : List (Frame Occurrence)) (place : ℕ) (bytes : List ℕ) (h : Handled V) : Type 0 where
   pub read : read_operation bytes ≡ Ok (h.operator.spelt, h.rest)
   pub place_is : h.operator.place ≡ place
@@ -55,7 +55,7 @@ StopsAt given (Within ls s) v place [] r = r ≡ Err (failure MissingEnd place)
 StopsAt given (Within ls s) v place (x ∷ bytes) r = (e : ParseError) × (handled given v (frames_of ls) place (x ∷ bytes) ≡ Err e) × (r ≡ Err (failure e place))
 StopsAt given NoBody v place bytes r = ⊥
 
--- a front that was gone over, and a stop behind it
+-- a front that was gone over, and a stop after it
 pub record Stopped {V : Type 0} (given : Setting V) (p : Progress Occurrence) (v : V) (place : ℕ) (bytes : List ℕ) (r : Result (Body Occurrence) ParseFailure) : Type 0 where
   pub operators : List Occurrence
   pub reached : Progress Occurrence
@@ -120,7 +120,7 @@ module _ {V : Type 0} (given : Setting V) (agrees : ReadingAgrees) where
       let m = named_moves given.environment (frames_of ls) x.spelt x.named x n in
       frames_read (further (Within ls s) (mark x)) m.0 (further_frames (Within ls s) (mark x) ∙ m.1)
 
-  -- parsing stops, with so many turns
+  -- parsing stops, with this many turns
   abbrev pub Stopping : ℕ → Type 0
   Stopping turns = (p : Progress Occurrence) (v : V) (place : ℕ) (bytes : List ℕ) → IsRead p → AreBytes bytes → length bytes ≤ turns → Stopped given p v place bytes (parsed_from given turns p v place bytes)
 

@@ -1,4 +1,4 @@
--- Rules by names: what an operator's rules ask of the frames, where only the names of openers are shown.
+-- Rules by names: the conditions of an operator's rules on the frames, where only the names of openers are shown.
 use Rattle.std.proofs.Common.{◌≡◌, ℕ, zero, suc, List, [], ◌∷◌, length, true, Option, Some, None, Result, Ok, refl, sym, ap, ◌∙◌}
 use Rattle.std.specs.Prelude.{nat_lt, is_some}
 use Rattle.walrus_ir.specs.declared.val_type.ValType.{ValType}
@@ -16,7 +16,7 @@ use Rattle.wasm_body.proofs.Translation.Translations.{LeadAll, lead_all, transla
 use Rattle.wasm_body.proofs.NormalForm.KeptNames.{open_same, handler_same}
 use Rattle.wasm_body.proofs.Parsing.NamingLemmas.{same_stand, same_opcode, named_parts, named_stands}
 
--- ---- frames with something else shown
+-- ---- frames with other values shown
 
 abbrev pub map_frame : {A B : Type 0} → (A → B) → Frame A → Frame B
 map_frame g OfFunction = OfFunction
@@ -89,7 +89,7 @@ module _ {A B : Type 0} (g : A → B) where
   pub outer_frames : (fs : List (Frame A)) (n : ℕ) → open_label (outside (map_frames g fs)) n ≡ open_label (outside fs) n
   outer_frames fs n = ap (λ gs. open_label gs n) (outside_frames fs) ∙ open_frames (outside fs) n
 
-  -- ---- the frames behind an operator
+  -- ---- the frames after an operator
 
   opened_frame : (a : A) (k : Construct) → map_frame g (frame_opened a k) ≡ frame_opened (g a) k
   opened_frame a Block = refl
@@ -128,7 +128,7 @@ abbrev pub results_at : List (Frame NamedOperation) → List (ValType ℕ)
 results_at [] = []
 results_at (f ∷ fs) = named_results (opener_of f)
 
--- the types that the module must hold, where the innermost construct gives these
+-- the types that the module must have, where the innermost construct has these results
 abbrev pub types_in : Environment → List (ValType ℕ) → Control → NamedOperation → Result (Unit {0}) ParseError
 types_in env rs (Opens construct) o = has_pick env (block_signature o)
 types_in env rs (Catch tag) o = tag_type env tag >>= λ s. has_pick env (signature s.parameters rs)
@@ -251,6 +251,6 @@ module _ (env : Environment) where
   named_is fs o =
       (λ i. unless ((sym (stand_frames named_of fs (control_of o))) i) (position_fault (control_of o)) >>= λ _. translate (naming_is fs i) o >>= λ named. types_named env fs (control_of named) named i >>= λ _. Ok named)
 
-  -- they name an operator alike
+  -- they give an operator the same name, or the same fault
   pub named_same : (fs gs : List (Frame Occurrence)) (o : RawOperation) → shapes fs ≡ shapes gs → named_in env fs o ≡ named_in env gs o
   named_same fs gs o e = named_is fs o ∙ ap (λ hs. named_by hs o) e ∙ sym (named_is gs o)

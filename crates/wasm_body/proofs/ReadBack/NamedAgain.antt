@@ -74,7 +74,7 @@ module _ {A B : Type 0} (env : Environment) (to : Numbers) (t : InstrSeqType) (g
   clauses_back [] u = tt
   clauses_back (c ∷ cs) u = ((tag_back c.tag u.0, label_back c.label), clauses_back cs u.1)
 
-  -- a type is read as what it stands for
+  -- the number of a type is read as the type
   heap_named : (h g : HeapType ℕ) → EachInHeap (IsUndone to env) h → translate_heap (numbers_in_32_bits to).number_of h ≡ Ok g → translate_heap (id_at env) g ≡ Ok h
   heap_named (Abstract a) q u e = let same : Abstract a ≡ q = cc e in ap (translate_heap (id_at env)) (sym same)
   heap_named (Concrete n) q u e =

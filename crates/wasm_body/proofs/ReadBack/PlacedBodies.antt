@@ -1,4 +1,4 @@
--- Named operators as operators that occur, one behind the other from a place on.
+-- Named operators as operators that occur, one after the other from a place on.
 use Rattle.std.proofs.Common.{◌≡◌, ℕ, ◌+◌, List, [], ◌∷◌, length, map, refl, ap, ◌∙◌}
 use Rattle.wasm_operators.specs.Operations.{RawOperation}
 use Rattle.wasm_operators.specs.Shortest.{short}
@@ -44,7 +44,7 @@ module _ (spelt : Marked Named → RawOperation) (locate : ℕ → ℕ) where
   names_at p [] = refl
   names_at p (x ∷ xs) = ap (λ l. remarked op_of x ∷ l) (names_at (behind p x) xs)
 
-  -- what is known of a named operator that occurs there
+  -- a condition on a named operator, for an operator that occurs there
   abbrev pub IsMadeOf : (Named → Control → Type 0) → Marked Named → Marked Occurrence → Type 0
   IsMadeOf P x y = (p : ℕ) × (with_control (make p x) x.control ≡ y) × P x.shown x.control
 

@@ -1,4 +1,4 @@
--- What was spelt, once it is named, has a spelling again with numbers for its ids.
+-- An operator that was encoded and then named has an encoding again, with numbers for its ids.
 use Rattle.std.proofs.Common.{◌≡◌, ℕ, ◌<◌, List, [], ◌∷◌, length, Option, Some, None, Result, Ok, refl, sym, subst}
 use Rattle.std.specs.Prelude.{◌^◌, ◌++◌}
 use Rattle.std.specs.List.{AllByRecursion}
@@ -34,7 +34,7 @@ use Rattle.wasm_body.proofs.Translation.Kinds.{through, at_once}
 use Rattle.wasm_body.proofs.NormalForm.WrittenTexts.{named_by}
 use Rattle.wasm_body.proofs.ReadBack.Spellings.{IsSpellable, u32_spelt, heap_spelt, empty_block_spelt, value_block_spelt, index_block_spelt, access_spelt, table_spelt, clause_spelt, clauses_spelt, cast_spelt, selected_spelt}
 
--- ---- what has to be known of a named immediate, its ids, labels and numbers aside
+-- ---- conditions on a named immediate, its ids, labels and numbers aside
 
 abbrev pub IsRanged : {L B : Type 0} → Immediate L B → Type 0
 IsRanged (access a) = (a.alignment < 32) × IsSpellable IsU64 a.offset
@@ -47,7 +47,7 @@ IsRanged (lane n) = IsSpellable IsByte n
 IsRanged (lanes ns) = IsSpellable (Many IsByte 16) ns
 IsRanged _ = Unit {0}
 
--- what was spelt is in range
+-- an immediate that was encoded is in range
 
 access_ranged : (a : Access) (text : List ℕ) → IsAccess a text → (a.alignment < 32) × IsSpellable IsU64 a.offset
 access_ranged a text s =
@@ -99,7 +99,7 @@ module _ {A : Type 0} (env : Environment) (fs : List (Frame A)) where
       through (each (translate_immediate (naming env fs)) is) (λ ks. first.0 ∷ ks) (AllByRecursion Ranged)
       (λ ks h. (ranged i s.0 s.3 first.0 first.1, all_ranged is s.1 s.4 ks h)) js first.2
 
--- ---- with numbers for its ids it is spelt
+-- ---- with numbers for its ids it has an encoding
 
 each_made : {X Y E : Type 0} → (f : X → Result Y E) (P : X → Type 0) (Q : Y → Type 0) → ((x : X) (y : Y) → P x → f x ≡ Ok y → Q y) →
     (xs : List X) (ys : List Y) → AllByRecursion P xs → each f xs ≡ Ok ys → AllByRecursion Q ys

@@ -1,12 +1,12 @@
--- A rule that holds at each operator of a list holds, in another form, at each of a list whose operators have the same names
--- and do the same.
+-- A rule that holds at each operator of a list holds, in another form, at each operator of a list whose operators have the same
+-- names and do the same to the control flow.
 use Rattle.std.proofs.Common.{◌≡◌, List, [], ◌∷◌, Option, Some, None, sym, ap, ◌∙◌}
 use Rattle.wasm_body.specs.Control.{Marked}
 use Rattle.wasm_body.specs.Frames.{Frame, Rule, moves}
 use Rattle.wasm_body.proofs.Structure.ReadFrames.{Goes}
 use Rattle.wasm_body.proofs.ReadBack.FrameNames.{map_frames, behind_frames, moves_frames}
 
--- what else has to be known of the two is P
+-- P is another condition on the two
 pub record AreRelated {A B C : Type 0} (g : A → C) (h : B → C) (P : Marked A → Marked B → Type 0) (x : Marked A) (y : Marked B) : Type 0 where
   pub control : y.control ≡ x.control
   pub name : h y.shown ≡ g x.shown
@@ -20,7 +20,7 @@ AllRelated g h P (x ∷ xs) (y ∷ ys) = AreRelated g h P x y × AllRelated g h 
 
 module _ {A B C : Type 0} (g : A → C) (h : B → C) (P : Marked A → Marked B → Type 0) (R : Rule A) (Q : Rule B)
     (given : (fs : List (Frame A)) (gs : List (Frame B)) (x : Marked A) (y : Marked B) → map_frames g fs ≡ map_frames h gs → R fs x → P x y → Q gs y) where
-  -- the frames behind the two have the same names
+  -- the frames after the two have the same names
   frames_related : (fs : List (Frame A)) (gs : List (Frame B)) (x : Marked A) (y : Marked B) → map_frames g fs ≡ map_frames h gs → AreRelated g h P x y
       → behind_frames g (moves x.control x.shown fs) ≡ behind_frames h (moves y.control y.shown gs)
   frames_related fs gs x y e r =

@@ -1,5 +1,5 @@
--- Operators that keep the rules where they stand, by their names, and that can be spelt: those of a lawful body that has
--- been spelt, and those of the rewritten body.
+-- Operators that keep the rules in their places, by their names, and that have encodings: those of a lawful body that was
+-- encoded, and those of the rewritten body.
 use Rattle.std.proofs.Common.{◌≡◌, ℕ, List, [], ◌∷◌, map, true, Some, Ok, refl, sym, ap, ◌∙◌, subst, arith}
 use Rattle.std.specs.List.{AllByRecursion}
 use Rattle.walrus_ir.specs.Types.{Signature}
@@ -31,13 +31,13 @@ use Rattle.wasm_body.proofs.Translation.Kinds.{kind_in, only_outer}
 use Rattle.wasm_body.proofs.ReadBack.Spellings.{IsSpellable}
 use Rattle.wasm_body.proofs.ReadBack.Ranged.{IsRanged, all_ranged}
 
--- What has to be known of a named operator for it to be spelt, its ids and labels aside.
+-- The conditions under which a named operator has an encoding, its ids and labels aside.
 pub record CanSpell (o : NamedOperation) : Type 0 where
   pub opcode : IsSpellable IsOpcode o.opcode
   pub kinds : kinds_of o.opcode ≡ Some (map kind_in o.immediates)
   pub ranged : AllByRecursion (λ (i : Immediate ℕ Signature). IsRanged i) o.immediates
 
--- What holds of each operator where it stands.
+-- The conditions on each operator in its place.
 pub record IsSound (env : Environment) (fs : List (Frame Named)) (x : Marked Named) : Type 0 where
   pub ruled : IsRuled env (map_frames op_of fs) x.shown.op
   pub tells : Tells x.shown x.control
@@ -56,7 +56,7 @@ can_spell env fs o named text s e =
       ranged = all_ranged env fs o.immediates s.others s.immediates named.immediates immediates;
     }
 
--- what is known of it beside its name
+-- the conditions on it besides its name
 abbrev pub IsSpeltThere : Occurrence → Control → Type 0
 IsSpeltThere x c = (control_of x.named ≡ c) × HasText x
 
@@ -126,7 +126,7 @@ module _ (env : Environment) where
     spellable = record { opcode = one_byte 0x19 (refl, omega arith, refl); kinds = refl; ranged = tt };
   }
 
-  -- a `delegate` has its depth alone
+  -- the depth of a `delegate` is its only immediate
   delegate_depth : (fs : List (Frame Named)) (e : Named) (n : ℕ) → IsSound env fs (with_control e (Delegate n)) → e.op.immediates ≡ outer n ∷ []
   delegate_depth fs e n s =
       let role = delegate_role (role_of e.op.opcode) e.op.immediates n s.tells in

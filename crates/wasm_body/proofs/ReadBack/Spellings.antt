@@ -1,4 +1,4 @@
--- What has a spelling: numbers that fit, types whose indices fit, and immediates of both.
+-- Encodings: numbers that fit have one, and so do types whose indices fit, and immediates of both.
 use Rattle.std.proofs.Common.{◌≡◌, ℕ, ◌+◌, ◌<◌, ◌++◌, List, [], ◌∷◌, length, Bool, true, false, eqb, Option, Some, None, Ok, refl, arith, pos, inl, inr}
 use Rattle.std.specs.Prelude.{◌^◌}
 use Rattle.std.specs.List.{AllByRecursion}
@@ -17,7 +17,7 @@ use Rattle.wasm_operators.proofs.ShortestImmediates.{indexed_access}
 use Rattle.wasm_operators.specs.Fitting.{FitsHeap, FitsValue, FitsTag}
 use Rattle.wasm_operators.proofs.Written.{heap_spelt as short_heap_spelt, value_spelt as short_value_spelt}
 
--- it has a spelling
+-- it has an encoding
 abbrev pub IsSpellable : {V : Type 0} → Spelling V → V → Type 0
 IsSpellable Spells v = (text : List ℕ) × Spells v text
 

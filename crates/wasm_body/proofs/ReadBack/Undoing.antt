@@ -1,4 +1,4 @@
--- Maps that give each numbered id at its number undo the numbers of every lawful body's normal form.
+-- Maps that map the number of each id that has one to the id undo the numbers of every lawful body's normal form.
 use Rattle.std.proofs.Common.{◌≡◌, ℕ, List, [], ◌∷◌, map, Option, Some, None, Ok, refl, sym, ◌∙◌, subst}
 use Rattle.std.specs.List.{AllByRecursion}
 use Rattle.walrus_ir.specs.declared.val_type.HeapType.{HeapType}

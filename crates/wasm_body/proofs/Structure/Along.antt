@@ -1,4 +1,4 @@
--- What holds of each operator of a source tree, with what it does to the control: the same as of each of its text.
+-- A condition on each operator of a source tree and on what it does to the control flow: it is the same on each of its text.
 use Rattle.std.proofs.Common.{◌≡◌, List, [], ◌∷◌, map, refl, ap, ◌∙◌, subst}
 use Rattle.std.specs.List.{AllByRecursion}
 use Rattle.wasm_body.specs.Control.{Control, Does, Opens, Else, Catch, CatchAll, End, Delegate, If, Try, Marked, with_control, control_of}
@@ -90,7 +90,7 @@ mutual
   weaker_in P Q f (Catches a t b cs) h = (f a _ h.0, weaker P Q f b h.1, weaker_in P Q f cs h.2)
   weaker_in P Q f (CatchesAll a b e) h = (f a _ h.0, weaker P Q f b h.1, f e _ h.2)
 
--- ---- the same of a tree with something else shown
+-- ---- the same of a tree with other values shown
 
 mutual
   pub each_reshown : {A B : Type 0} → (P : B → Control → Type 0) (g : A → B) (s : Sequence A) → Each (λ a c. P (g a) c) s → Each P (map_sequence g s)
@@ -107,7 +107,7 @@ mutual
   each_in_reshown P g (Catches a t b cs) h = (h.0, each_reshown P g b h.1, each_in_reshown P g cs h.2)
   each_in_reshown P g (CatchesAll a b e) h = (h.0, each_reshown P g b h.1, h.2)
 
--- ---- operators of which the control is what the tree says
+-- ---- operators whose control is the one that the tree gives
 
 abbrev pub Tells : Located NamedOperation → Control → Type 0
 Tells a c = control_of a.op ≡ c
@@ -116,7 +116,7 @@ told : (xs : List (Marked (Located NamedOperation))) → AllMarked Tells xs → 
 told [] h = refl
 told (x ∷ xs) h = ap (λ c. with_control x.shown c ∷ map mark_named (map (λ y. y.shown) xs)) h.0 ∙ ap (λ l. x ∷ l) (told xs h.1)
 
--- a body whose operators tell their control is the body of its text
+-- a body of such operators is the body of its text
 pub is_body : (b : Body (Located NamedOperation)) → Each Tells b.sequence → Tells b.close End
     → IsNamedBody (map (λ x. x.shown) (body_text b)) b
 is_body b h e = told (body_text b) (all_of_each Tells b.sequence (with_control b.close End ∷ []) h (e, tt))
@@ -126,7 +126,7 @@ tells : (P : Located NamedOperation → Type 0) (xs : List (Located NamedOperati
 tells P [] h = tt
 tells P (x ∷ xs) h = ((refl, h.0), tells P xs h.1)
 
--- along the tree of a body each operator tells its control, and has what each of the list has
+-- along the tree of a body each operator is such an operator, and fulfils the condition that each operator of the list does
 pub along : (P : Located NamedOperation → Type 0) (xs : List (Located NamedOperation)) (b : Body (Located NamedOperation))
     → IsNamedBody xs b → AllByRecursion P xs
     → Each (λ a c. Tells a c × P a) b.sequence

@@ -1,13 +1,13 @@
--- Operators that do the same to the control, one by one, as those of a tree are a tree of the same form.
+-- Operators that do the same to the control flow, one by one, as those of a tree form a tree of the same shape.
 use Rattle.std.proofs.Common.{◌≡◌, ℕ, List, [], ◌∷◌, map, refl, sym, ap, ◌∙◌}
 use Rattle.wasm_body.specs.Control.{Action, Construct, Control, Does, Opens, Else, Catch, CatchAll, End, Delegate, If, Try, Marked, with_control}
 use Rattle.wasm_body.specs.SourceTree.{Sequence, Empty, Single, Wrapped, IfThen, IfElse, TryCatch, TryDelegate, Clauses, Ended, Catches, CatchesAll, construct_of, text, clauses_text, Body, body_text}
 
--- what each operator does to the control
+-- what each operator does to the control flow
 abbrev pub controls_of : {A : Type 0} → List (Marked A) → List Control
 controls_of xs = map (λ x. x.control) xs
 
--- the first operator, which does this to the control, and the others
+-- the first operator, which does this to the control flow, and the others
 record Split {B : Type 0} (c : Control) (cs : List Control) (ys : List (Marked B)) : Type 0 where
   first : B
   others : List (Marked B)
@@ -20,7 +20,7 @@ split (y ∷ ys) c cs e =
     let here : y.control ≡ c = cc in
     record { first = y.shown; others = ys; is = ap (λ d. with_control y.shown d ∷ ys) (sym here); controls = cc }
 
--- a tree whose text is the front of these operators; the rest does what these controls say
+-- a tree whose text is the front of these operators; the rest has these controls
 record LiftedTree {B : Type 0} (cs : List Control) (ys : List (Marked B)) : Type 0 where
   tree : Sequence B
   rest : List (Marked B)
@@ -34,7 +34,7 @@ record LiftedClauses {B : Type 0} (cs : List Control) (ys : List (Marked B)) : T
   is : clauses_text clauses rest ≡ ys
   controls : controls_of rest ≡ cs
 
--- ---- an item, by what its parts are lifted to
+-- ---- an item, from its lifted parts
 
 -- a construct of one sequence, by the tree that it is and its closer
 abbrev IsOneSequence : {B : Type 0} → Construct → Control → (B → Sequence B → B → Sequence B → Sequence B) → Type 0
@@ -156,7 +156,7 @@ none_left : {B : Type 0} → (ys : List (Marked B)) → controls_of ys ≡ [] �
 none_left [] e = refl
 none_left (y ∷ ys) e = absurd cc
 
--- Operators that do what those of a body do are a body.
+-- Operators that have the same controls as those of a body form a body.
 pub lifted_body : {A B : Type 0} → (b : Body A) (ys : List (Marked B)) → controls_of ys ≡ controls_of (body_text b)
     → (c : Body B) × (body_text c ≡ ys)
 lifted_body b ys e =

@@ -1,4 +1,4 @@
--- The frames behind a front are those of what was read; a rule along a tree is the same rule at each operator of its text.
+-- The frames after a front are those of what was read; a rule along a tree is the same rule at each operator of its text.
 use Rattle.std.proofs.Common.{◌≡◌, ℕ, suc, List, [], ◌∷◌, ◌++◌, length, Option, Some, None, true, refl, sym, ap, subst, ◌∙◌}
 use Rattle.wasm_body.specs.Control.{Construct, Block, Loop, TryTable, If, Try, Control, Does, Opens, Else, Catch, CatchAll, End, Delegate, Marked, with_control}
 use Rattle.wasm_body.specs.SourceTree.{Wrapper, OfBlock, OfLoop, OfTryTable, construct_of, Sequence, Empty, Single, Wrapped, IfThen, IfElse, TryCatch, TryDelegate, Clauses, Ended, Catches, CatchesAll, text, clauses_text, Body, body_text}
@@ -64,7 +64,7 @@ pub frames_length : {A : Type 0} → (ls : List (Layer A)) → length (frames_of
 frames_length [] = refl
 frames_length (l ∷ ls) = ap suc (frames_length ls)
 
--- an operator that may stand somewhere leaves frames behind it
+-- an operator that is allowed somewhere has frames after it
 pub may_move : {A : Type 0} → (c : Control) (a : A) (fs : List (Frame A)) → may_stand fs c ≡ true → (gs : List (Frame A)) × (moves c a fs ≡ Some gs)
 may_move c a [] h = absurd (cc)
 may_move (Does action) a (f ∷ fs) h = (f ∷ fs, refl)
@@ -159,7 +159,7 @@ body_goes R b h = goes_by R b.sequence OfFunction [] (with_control b.close End �
 pub goes_body : {A : Type 0} → (R : Rule A) (b : Body A) → Goes R (Some function_frames) (body_text b) → BodyFollows R b
 goes_body R b h = let i = goes_in R b.sequence OfFunction [] (with_control b.close End ∷ []) h in (i.0, i.1.0)
 
--- ---- one list behind another
+-- ---- one list after another
 
 pub frames_append : {A : Type 0} → (xs ys : List (Marked A)) (o : Option (List (Frame A))) → frames_behind o (xs ++ ys) ≡ frames_behind (frames_behind o xs) ys
 frames_append [] ys o = refl

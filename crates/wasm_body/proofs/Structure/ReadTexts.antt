@@ -102,13 +102,13 @@ pub no_body_stays : {A : Type 0} → (xs : List (Marked A)) → progress_behind 
 no_body_stays [] = refl
 no_body_stays (x ∷ xs) = no_body_stays xs
 
--- what goes on as a front was one
+-- if operators more give a front, there was a front before them
 pub was_front : {A : Type 0} → (xs : List (Marked A)) (st : Progress A) → IsRead (progress_behind st xs) → IsRead st
 was_front xs (Within ls s) h = tt
 was_front xs (Whole b) h = tt
 was_front xs NoBody h = subst IsRead (no_body_stays xs) h
 
--- the operators read are the text of what is open behind them
+-- the operators that were read are the text of what is open after them
 pub text_read : {A : Type 0} → (xs : List (Marked A)) (st : Progress A) (k : List (Marked A)) → IsRead (progress_behind st xs) → read_text (progress_behind st xs) k ≡ read_text st (xs ++ k)
 text_read [] st k h = refl
 text_read (x ∷ xs) st k h = text_read xs (further st x) k h ∙ further_text st x (xs ++ k) (was_front xs (further st x) h)

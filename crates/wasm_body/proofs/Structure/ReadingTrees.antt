@@ -23,7 +23,7 @@ append_twice (IfElse a b l c e r) t u = ap (IfElse a b l c e) (append_twice r t 
 append_twice (TryCatch a b cs r) t u = ap (TryCatch a b cs) (append_twice r t u)
 append_twice (TryDelegate a b e n r) t u = ap (TryDelegate a b e n) (append_twice r t u)
 
--- what is read behind an item is behind it
+-- an item that is read after another is after it in the tree
 joined : {A : Type 0} → (ls : List (Layer A)) (p q r : Sequence A) (k : List (Marked A)) → progress_behind (Within ls (append (append p q) r)) k ≡ progress_behind (Within ls (append p (append q r))) k
 joined ls p q r k = ap (λ s. progress_behind (Within ls s) k) (append_twice p q r)
 
@@ -32,7 +32,7 @@ wrap_closed a e OfBlock s = refl
 wrap_closed a e OfLoop s = refl
 wrap_closed a e (OfTryTable cs) s = refl
 
--- behind a try's body, or behind the last of these handlers
+-- after the body of a `try`, or after the last of these handlers
 abbrev pub trying : {A : Type 0} → List (Layer A) → Sequence A → A → Sequence A → List (ClosedClause A) → Progress A
 trying ls d a b [] = Within (layer d (InTry a) ∷ ls) b
 trying ls d a b (g ∷ gs) = Within (layer d (InCatch a b gs g.mark g.tag) ∷ ls) g.body
@@ -49,7 +49,7 @@ try_catches_all : {A : Type 0} → (ls : List (Layer A)) (d : Sequence A) (a h :
 try_catches_all ls d a h b [] = refl
 try_catches_all ls d a h b (g ∷ gs) = refl
 
--- a sequence is read, and stands behind what was there
+-- a sequence is read, and comes after the items before it
 mutual
   pub reads : {A : Type 0} → (s : Sequence A) (ls : List (Layer A)) (p : Sequence A) (k : List (Marked A)) → progress_behind (Within ls p) (text s k) ≡ progress_behind (Within ls (append p s)) k
   reads Empty ls p k = ap (λ q. progress_behind (Within ls q) k) (sym (append_nil p))

@@ -1,4 +1,4 @@
--- The text of a tree with something else shown is its text with something else shown.
+-- The text of a tree with other values shown is its text with these values shown.
 use Rattle.std.proofs.Common.{◌≡◌, List, [], ◌∷◌, map, refl, sym, ap, ◌∙◌}
 use Rattle.wasm_body.specs.Control.{Does, Opens, Else, Catch, CatchAll, End, Delegate, If, Try, Marked, with_control}
 use Rattle.wasm_body.specs.SourceTree.{Sequence, Empty, Single, Wrapped, IfThen, IfElse, TryCatch, TryDelegate, Clauses, Ended, Catches, CatchesAll, construct_of, text, clauses_text, Body, map_sequence, map_clauses}
@@ -45,6 +45,6 @@ marks_named : (xs : List Occurrence) → map mark_named (map name_at xs) ≡ map
 marks_named [] = refl
 marks_named (x ∷ xs) = ap (λ l. mark_named (name_at x) ∷ l) (marks_named xs)
 
--- operators that are a body are it also by their names
+-- operators that form a body also form it by their names
 pub is_named_body : (xs : List Occurrence) (b : Body Occurrence) → IsBody xs b → IsNamedBody (map name_at xs) (named_body b)
 is_named_body xs b h = marks_named xs ∙ (ap (map (remarked name_at)) h ∙ sym (text_reshown name_at b.sequence (with_control b.close End ∷ [])))

@@ -1,4 +1,4 @@
--- A translation that has an answer wherever another has one, or a fault of these, labels, numbers and counts apart.
+-- A translation that has a result wherever another has one, or a fault of these, apart from labels, numbers and counts.
 use Rattle.std.specs.Prelude.{ℕ, List, [], ◌∷◌, length, Option, Some, None, IsOk, IfErr, Result, Ok, Err}
 use Rattle.std.specs.List.{AllByRecursion}
 use Rattle.std.proofs.Common.{refl}
@@ -14,7 +14,7 @@ use Rattle.wasm_body.specs.Translation.{Translation, translate_heap, translate_v
 
 -- ---- steps
 
--- where there is an answer, each step had one
+-- where there is a result, each step had one
 pub first_ok : {A B E : Type 0} → (r : Result A E) (k : A → Result B E) → IsOk (r >>= k) → IsOk r
 first_ok (Ok x) k h = refl
 first_ok (Err e) k h = absurd cc
@@ -29,7 +29,7 @@ all_ok f (x ∷ xs) h =
     let r = rest_ok (f x) (λ y. each f xs >>= λ ys. Ok (y ∷ ys)) h in
     (first_ok (f x) (λ y. each f xs >>= λ ys. Ok (y ∷ ys)) h, all_ok f xs (first_ok (each f xs) (λ ys. Ok (r.0 ∷ ys)) r.1))
 
--- where no fault is possible, there is an answer
+-- where no fault is possible, there is a result
 pub no_fault_ok : {A E : Type 0} → (r : Result A E) → IfErr r (λ e. ⊥) → IsOk r
 no_fault_ok (Ok x) h = refl
 no_fault_ok (Err e) h = absurd h
@@ -38,7 +38,7 @@ pub ok_no_fault : {A E : Type 0} → (Q : E → Type 0) (r : Result A E) → IsO
 ok_no_fault Q (Ok x) h = tt
 ok_no_fault Q (Err e) h = absurd cc
 
--- Where the faults of each step are of Q, so are those of the whole.
+-- If the faults of each step are of Q, so are those of all steps together.
 module _ {E : Type 0} (Q : E → Type 0) where
   pub steps_within : {A B : Type 0} → (r : Result A E) (k : A → Result B E) → IfErr r Q → ((x : A) → IfErr (k x) Q) → IfErr (r >>= k) Q
   steps_within (Ok x) k h g = g x
@@ -153,6 +153,6 @@ module _ {L B M C N D E F : Type 0} (Q : F → Type 0) (f : Translation L B M C 
   immediates_all a [] l g = tt
   immediates_all a (i ∷ is) l g = (immediate_answers a i l.0 g.0, immediates_all a is l.1 g.1)
 
-  -- its faults are of Q where the other answers, and those of labels, numbers and counts are
+  -- its faults are of Q where the other translation has a result and the faults of labels, numbers and counts are of Q
   pub immediates_answer : AnswersWhere → (is : List (Immediate L B)) → AllByRecursion OthersWithin is → IsOk (translate_immediates f is) → IfErr (translate_immediates h is) Q
   immediates_answer a is l g = each_within Q (translate_immediate h) is (immediates_all a is l (all_ok (translate_immediate f) is g))

@@ -1,5 +1,5 @@
--- Translations that are refused alike: what they make of an operator may differ, but not whether they make something, nor
--- which fault is the first.
+-- Translations that fail alike: their results for an operator may differ, but not whether there is a result, nor which fault is
+-- the first.
 use Rattle.std.specs.Prelude.{◌≡◌, ℕ, length, List, [], ◌∷◌, Option, Some, None, Result, Ok, Err}
 use Rattle.std.proofs.Common.{refl}
 use Rattle.walrus_ir.specs.declared.val_type.HeapType.{HeapType}
@@ -14,7 +14,7 @@ use Rattle.wasm_body.specs.Translation.{Translation, translate_heap, translate_v
 
 -- ---- outcomes
 
--- that there is an answer, or the fault
+-- whether there is a result, or which fault
 abbrev pub outcome : {A E : Type 0} → Result A E → Result (Unit {0}) E
 outcome (Ok x) = Ok tt
 outcome (Err e) = Err e
@@ -29,7 +29,7 @@ alike_then (Ok x) (Err d) k l e f = absurd cc
 alike_then (Err c) (Ok y) k l e f = absurd cc
 alike_then (Err c) (Err d) k l e f = e
 
--- the last step makes something in any case
+-- the last step never fails
 pub alike_last : {A B C D E : Type 0} → (r : Result A E) (s : Result B E) (k : A → C) (l : B → D) → Alike r s → Alike (r >>= λ x. Ok (k x)) (s >>= λ y. Ok (l y))
 alike_last r s k l e = alike_then r s (λ x. Ok (k x)) (λ y. Ok (l y)) e (λ x y. refl)
 

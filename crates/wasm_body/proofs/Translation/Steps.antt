@@ -1,14 +1,14 @@
--- Answers of several steps: what an answer came from, and steps that answer the same.
+-- Results of several steps: what a result came from, and steps with equal results.
 use Rattle.std.proofs.Common.{◌≡◌, suc, length, List, [], ◌∷◌, Result, Ok, Err, refl, sym, ap, ◌∙◌}
 use Rattle.std.specs.List.{AllByRecursion}
 use Rattle.walrus_ir.specs.Results.{◌>>=◌, each, sure}
 
--- What the first step answered, and that the others answered q.
+-- The value of the first step, and that the other steps gave q.
 pub bound : {A P E : Type 0} → (r : Result A E) (next : A → Result P E) (q : P) → (r >>= next) ≡ Ok q → (x : A) × (r ≡ Ok x) × (next x ≡ Ok q)
 bound (Ok x) next q e = (x, refl, e)
 bound (Err f) next q e = absurd (cc)
 
--- the same, after one, two and three steps that answer the same
+-- the same, after one, two and three steps with equal results
 
 pub after_one : {A C E : Type 0} → (r s : Result A E) (next : A → Result C E) → r ≡ s → (r >>= next) ≡ (s >>= next)
 after_one r s next e = ap (λ t. t >>= next) e
@@ -24,9 +24,9 @@ after_three r s t u v w next e d c =
     ap (λ x. x >>= λ a. t >>= λ b. v >>= λ c. next a b c) e
     ∙ (ap (λ x. s >>= λ a. x >>= λ b. v >>= λ c. next a b c) d ∙ ap (λ x. s >>= λ a. u >>= λ b. x >>= λ c. next a b c) c)
 
--- ---- lists of answers
+-- ---- lists of results
 
--- what f makes of a, g reads as h reads a
+-- g has the same result for the value of f at a as h has for a
 abbrev pub Leads : {A B C E F : Type 0} → (A → Result B E) → (B → Result C F) → (A → Result C F) → A → Type 0
 Leads {B = B} f g h a = (b : B) → f a ≡ Ok b → g b ≡ h a
 
@@ -56,7 +56,7 @@ pub all_of : {A : Type 0} → (P : A → Type 0) → ((x : A) → P x) → (xs :
 all_of P h [] = tt
 all_of P h (x ∷ xs) = (h x, all_of P h xs)
 
--- an answer that can be no fault
+-- a result that can't be a fault
 pub ok-sure : {A : Type 0} → (r : Result A ⊥) → r ≡ Ok (sure r)
 ok-sure (Ok x) = refl
 ok-sure (Err e) = absurd e

@@ -13,7 +13,7 @@ use Rattle.wasm_body.specs.Translation.{Translation, translate_heap, translate_v
 use Rattle.wasm_body.specs.Naming.{block_types}
 use Rattle.wasm_body.proofs.Translation.Steps.{bound, after_one, after_two, after_three, Leads, each_leads, length-each, each-ok, all_of}
 
--- ---- types and tags, which hold indices
+-- ---- types and tags, which contain indices
 
 module _ {E F : Type 0} (f : Space → ℕ → Result ℕ E) (g h : Space → ℕ → Result ℕ F) where
   abbrev pub LeadsHeap : HeapType ℕ → Type 0
@@ -69,7 +69,7 @@ module _ {L B M C N D E F : Type 0} (f : Translation L B M C E) (g : Translation
   abbrev pub LeadsClause : CatchClause L → Type 0
   LeadsClause c = LeadsTag f.index g.index h.index c.tag × LeadsLabel c.label
 
-  -- What f makes of the parts of the immediate, g reads as h reads them.
+  -- For each part of the immediate, g has the same result for the value of f as h has for the part.
   abbrev pub LeadsAt : Immediate L B → Type 0
   LeadsAt (index space n) = LeadsIndex space n
   LeadsAt (local n) = Leads f.local g.local h.local n
@@ -130,7 +130,7 @@ module _ {L B M C N D E F : Type 0} (f : Translation L B M C E) (g : Translation
   abbrev pub LeadsOn : Immediate L B → Type 0
   LeadsOn i = Leads (translate_immediate f) (translate_immediate g) (translate_immediate h) i
 
-  -- an immediate of one part, and one that stays
+  -- an immediate of one part, and one that stays as it is
   part_leads : {X Y Z : Type 0} → (first : X → Result Y E) (second : Y → Result Z F) (both : X → Result Z F) (x : X) (i : Immediate L B)
       → (from : Y → Immediate M C) (to : Z → Immediate N D)
       → translate_immediate f i ≡ (first x >>= λ y. Ok (from y))
@@ -197,12 +197,12 @@ module _ {L B M C N D E F : Type 0} (f : Translation L B M C E) (g : Translation
   immediates_lead [] l = tt
   immediates_lead (i ∷ is) l = (immediate_leads i l.0, immediates_lead is l.1)
 
-  -- what f makes of immediates, g reads as h reads them, where that is so of each part of each
+  -- g has the same result for the immediates that f gives as h has for the immediates, if this is so for each part of each
   pub translate_leads : (is : List (Immediate L B)) → AllByRecursion LeadsAt is
       → Leads (translate_immediates f) (translate_immediates g) (translate_immediates h) is
   translate_leads is l = each_leads (translate_immediate f) (translate_immediate g) (translate_immediate h) is (immediates_lead is l)
 
-  -- ---- where it is so of all parts but block types
+  -- ---- where it is so for all parts except block types
 
   pub record LeadAll : Type 0 where
     pub indices : (space : Space) (n : ℕ) → LeadsIndex space n
