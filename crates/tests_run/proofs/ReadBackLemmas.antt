@@ -12,13 +12,13 @@ use Rattle.wasm_body.specs.declared.error.IndexError.TheVariants.{Unnumbered}
 use Rattle.wasm_body.specs.declared.error.ParseError.TheVariants as parse
 use Rattle.wasm_body.specs.declared.error.ParseFailure.{ParseFailure}
 use Rattle.wasm_body.specs.SourceTree.{Body}
-use Rattle.walrus_ir.specs.Results.{some_or, with_fault}
+use Rattle.walrus_ir.specs.Results.{◌>>=◌, some_or, with_fault}
 use Rattle.std.specs.Ordering.{nat_cmp}
 use Rattle.std.specs.FinMap.{empty, get, from_entries, get-empty}
 use Rattle.wasm_operators.specs.declared.types.Space.{Space}
 use Rattle.walrus_maps.specs.declared.ids_to_indices.IdsToIndices.{IdsToIndices}
 use Rattle.walrus_maps.specs.IndexMaps.{numbers_in}
-use Rattle.walrus_emitter.specs.TreeWriting.Operators.{numbers_by}
+use Rattle.walrus_emitter.specs.TreeWriting.Operators.{fitting, numbers_by}
 use Rattle.wasm_body.specs.Naming.{Environment, Occurrence}
 use Rattle.wasm_body.specs.FunctionTree.{FunctionTree}
 use Rattle.wasm_body.specs.TreeOfFunction.{HasTree}
@@ -167,7 +167,8 @@ module _ (m : Module) (from again : IndicesToIds) (id type : ℕ) (to : Numbers)
 pub none_undone : (out : IdsToIndices) (locals : List (ℕ × ℕ)) (again : Environment) → ((space : Space) → numbers_in out space ≡ empty) → locals ≡ [] → IsInverse (numbers_by out locals) again
 none_undone out locals again none no_locals = record {
   indices = λ space id n h. absurd (not_both ((numbers_by out locals).number_of space id) n (Index (Unnumbered space)) h
-      (ap (λ m. with_fault Index (some_or (get m id) (Unnumbered space))) (none space) ∙ ap (λ o. with_fault Index (some_or o (Unnumbered space))) (get-empty nat_cmp id)));
+      (ap (λ m. with_fault Index (some_or (get m id) (Unnumbered space) >>= fitting (Unnumbered space))) (none space)
+      ∙ ap (λ o. with_fault Index (some_or o (Unnumbered space) >>= fitting (Unnumbered space))) (get-empty nat_cmp id)));
   locals = λ id n h. absurd (not_both ((numbers_by out locals).local_number id) n UnnumberedLocal h
       (ap (λ l. some_or (get (from_entries {R = nat_cmp} l) id) UnnumberedLocal) no_locals ∙ ap (λ o. some_or o UnnumberedLocal) (get-empty nat_cmp id)));
 }

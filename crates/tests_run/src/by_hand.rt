@@ -66,6 +66,17 @@ fn put_all(builder: &mut FunctionBuilder, count: usize, instrs: &[Item]) -> Resu
     Ok(())
 }
 
+/// A function with this many sequences and these instructions, whose entry was never set.
+pub(crate) fn without_entry(
+    alloc: Global,
+    count: usize,
+    instrs: &[Item],
+) -> Result<FunctionBuilder, AllocError> {
+    let mut builder = FunctionBuilder::without_entry(alloc, TypeId::new(0));
+    put_all(&mut builder, count, instrs)?;
+    Ok(builder)
+}
+
 /// A function with this many sequences, these instructions, and this entry.
 pub(crate) fn function(
     alloc: Global,
@@ -73,8 +84,7 @@ pub(crate) fn function(
     entry: usize,
     instrs: &[Item],
 ) -> Result<FunctionBuilder, AllocError> {
-    let mut builder = FunctionBuilder::without_entry(alloc, TypeId::new(0));
-    put_all(&mut builder, count, instrs)?;
+    let mut builder = without_entry(alloc, count, instrs)?;
     builder.set_entry(InstrSeqId::new(entry));
     Ok(builder)
 }

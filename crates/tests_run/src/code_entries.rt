@@ -2,7 +2,7 @@
 //! are made by hand.
 ghost use Rattle.std.specs.Prelude.{◌≡◌};
 
-use crate::by_hand::{Item, Made, function};
+use crate::by_hand::{Item, Made, function, without_entry};
 use crate::demo_module::{AT_A_HUNDRED, AT_ZERO, Demo, Setting, arguments, module};
 use crate::function_text::push_output;
 use crate::whole_bodies::Output;
@@ -221,5 +221,22 @@ fn refuses_a_function_without_an_entry(rt: HostRuntime) -> Result<(), Fail> {
     ] {
         check_by_hand(&rt, rt.alloc(), entry, &[(instrs.as_slice(), want)])?;
     }
+    Ok(())
+}
+
+// What is in a context after a function is written whose entry was never set.
+fn written_without_entry(alloc: Global, instrs: &[Item]) -> Result<String, Fail> {
+    let builder = without_entry(alloc, 1, instrs)?;
+    let function = LocalFunction::new(Vec::new(alloc), builder);
+    let mut text = String::new(alloc);
+    push_by_hand(&mut text, &function)?;
+    Ok(text)
+}
+
+/// Nor is one whose entry was never set.
+#[test]
+fn refuses_a_function_whose_entry_was_never_set(rt: HostRuntime) -> Result<(), Fail> {
+    let found = written_without_entry(rt.alloc(), &[(0, Made::Drop, 1)])?;
+    assert_eq!(rt; found.as_str(), "UnknownSequence aabb 9@9");
     Ok(())
 }

@@ -12,6 +12,7 @@ mod code_entries;
 mod demo_module;
 #[cfg(test)]
 mod function_text;
+mod locating;
 #[cfg(test)]
 mod long_runs;
 #[cfg(test)]

@@ -15,7 +15,7 @@ pub enum CheckError {
 ///
 /// A validator says what it means: `state` is what its answers depend on, and `check` takes a state
 /// and an operator with its place to the next state, or refuses the operator with a number. Besides
-/// it may want memory.
+/// it may run out of memory.
 pub trait OpCheck: Drop {
     ghost use Rattle.std.specs.Prelude.{ℕ, Result};
     ghost use Rattle.wasm_operators.specs.OperatorList.{Placed};
@@ -39,7 +39,7 @@ pub trait OpCheck: Drop {
 pub struct AcceptAll;
 
 impl OpCheck for AcceptAll {
-    ghost use Rattle.std.specs.Prelude.{Ok};
+    ghost use Rattle.std.specs.Prelude.{Ok, IsOk};
 
     ghost State = { Unit {0} };
 
@@ -47,7 +47,9 @@ impl OpCheck for AcceptAll {
 
     ghost check = { λ s _. Ok s };
 
-    fn op(&mut self, _pos: usize, _op: &Operator<'_>) -> Result<(), CheckError> {
+    fn op(&mut self, _pos: usize, _op: &Operator<'_>) -> Result<(), CheckError>
+        ensures accepts { IsOk result }
+    {
         Ok(())
     }
 }

@@ -33,7 +33,7 @@ use Rattle.walrus_rewrite.specs.RawBodies.{Given, HasNoRawBody, unknown, undecla
 
 -- ---- declarations
 
-passed : {A E : Type 0} (b : Bool) (e : E) (r : Result A E) (x : A) → (unless b e >>= λ u. r) ≡ Ok x → (b ≡ true) × (r ≡ Ok x)
+pub passed : {A E : Type 0} (b : Bool) (e : E) (r : Result A E) (x : A) → (unless b e >>= λ u. r) ≡ Ok x → (b ≡ true) × (r ≡ Ok x)
 passed true e r x h = (refl, h)
 passed false e r x h = absurd cc
 

@@ -17,6 +17,8 @@ use Rattle.wasm_body.specs.Naming.{Environment, Occurrence}
 use Rattle.wasm_body.specs.FunctionTree.{FunctionTree}
 use Rattle.wasm_body.specs.TreeOfFunction.{HasTree, tree_of}
 use Rattle.wasm_body.specs.NormalForm.{typing_of, name_at, named_body, body_tree}
+use Rattle.wasm_body.specs.RewrittenTree.{rewritten_text}
+use Rattle.wasm_body.specs.EmissionFaults.{AreIdNumbers}
 use Rattle.wasm_body.specs.Bytes.{Numbers}
 use Rattle.wasm_body.specs.LocalNumbers.{ids_of, with_locals}
 use Rattle.wasm_body.specs.Pairs.{Pair, tree_pairs}
@@ -24,7 +26,7 @@ use Rattle.wasm_body.specs.Parsing.Accepted.{HasSpelling, Lawful, placed}
 use Rattle.wasm_body.proofs.Bytes.LawfulTyped.{lawful_named}
 use Rattle.wasm_body.proofs.Executions.Locations.{places_increase, pairs_located, say_locations}
 use Rattle.wasm_body.proofs.Executions.NormalForms.{named_executions_kept}
-use Rattle.wasm_body.proofs.NormalForm.StandingFor.{text_stands_for}
+use Rattle.wasm_body.proofs.NormalForm.NamedTexts.{has_text}
 use Rattle.walrus_facts.specs.Facts.{count}
 use Rattle.walrus_maps.specs.declared.ids_to_indices.IdsToIndices.{IdsToIndices}
 use Rattle.walrus_body.specs.FunctionParts.{FunctionParts}
@@ -39,6 +41,7 @@ use Rattle.walrus_rewrite.specs.declared.error.RewriteError.{RewriteError}
 use Rattle.walrus_rewrite.specs.declared.error.RewriteError.TheVariants.{Parse, Walk, Emit}
 use Rattle.walrus_rewrite.specs.RawBodies.{Given, IsRawBody, HasNoRawBody, IsRawBodyOf, AppendsPairs, AppendsBytes, AppendsBoth, IsUnappended, IsUnfinished, given}
 use Rattle.walrus_rewrite.proofs.Counts.{few_instructions}
+use Rattle.walrus_rewrite.proofs.ParsedBodies.{are_id_numbers, no_parsed_body}
 use Rattle.walrus_rewrite.specs.RewrittenBodies.{KeepsSource, Rewrites, IsAcceptedAs, RefusesRewriting, IsOfWriting}
 use Rattle.walrus_rewrite.specs.Errors.{WantsMemory}
 use Rattle.walrus_rewrite.proofs.OneTree.{from_slot, only_tree, begins}
@@ -51,16 +54,17 @@ listed_spelt (x ∷ xs) place bytes rest l = ((l.1, l.4), listed_spelt xs _ l.2 
 -- ---- what is kept of the source
 
 pub keeps_source : (env : Environment) (xs : List Occurrence) (b : Body Occurrence) → AllByRecursion HasSpelling xs → Lawful env xs b →
-    (to : Numbers) (before : ℕ) (ps : List Pair) → tree_pairs to (body_tree env b) before ≡ Ok ps → KeepsSource env xs (body_tree env b) ps
+    (to : Numbers) (before : ℕ) (ps : List Pair) → tree_pairs to (body_tree env b) before ≡ Ok ps → KeepsSource env xs b ps
 keeps_source env xs b spelt lawful to before ps e =
     let m = typing_of env in
     let named = lawful_named env xs b spelt lawful in
     let kept = named_executions_kept m (map name_at xs) (named_body b) named.0 named.1 in
+    let both : Ok kept.text ≡ Ok (rewritten_text (named_body b)) = sym kept.is_text ∙ has_text m (map name_at xs) (named_body b) named.0 named.1 in
     record {
       text = kept.text;
       is_text = kept.is_text;
+      is_rewritten = cc both;
       executes = kept.alike;
-      stands_for = text_stands_for m (map name_at xs) (named_body b) named.0 named.1 kept.text kept.is_text;
       locations = pairs_located m (map name_at xs) (named_body b) named.0 named.1 kept.text kept.is_text to before ps e;
       places = places_increase to (body_tree env b) before ps e;
       honest = say_locations m (map name_at xs) (named_body b) named.0 named.1 kept.text kept.is_text to before ps e;
@@ -75,6 +79,9 @@ module _ {S F : Type 0} (asks : Shared F (Bor ℕ × Unit {0}) ℕ) (i : ParseIn
   its_tree : HasTree f.sequences (first_slot f) tree
   its_tree = from_slot f tree a.is_function
 
+  its_spellings : AllByRecursion HasSpelling a.accepted.operators
+  its_spellings = listed_spelt a.accepted.operators _ i.bytes [] a.accepted.all.spelt
+
   pub rewrites : {Z : Type 0} (old new : List ℕ) (entry : Option (LentPairs Z)) (exit : Left (LentPairs Z)) (bytes : List ℕ) (pairs : List Pair) → IsRawBodyOf by f bytes pairs
       → new ≡ old ++ bytes → AppendsPairs pairs entry exit → Rewrites asks i by f mapping old new entry exit
   rewrites old new entry exit bytes pairs h appends appends_pairs =
@@ -84,7 +91,7 @@ module _ {S F : Type 0} (asks : Shared F (Bor ℕ × Unit {0}) ℕ) (i : ParseIn
         raw = bytes;
         pairs = pairs;
         is_raw_body = raw;
-        keeps = keeps_source i.environment a.accepted.operators a.body (listed_spelt a.accepted.operators _ i.bytes [] a.accepted.all.spelt) a.accepted.lawful (with_locals by.to by.args (ids_of raw.others)) (length (encoded.declarations raw.declarations)) pairs raw.pairs_are;
+        keeps = keeps_source i.environment a.accepted.operators a.body its_spellings a.accepted.lawful (with_locals by.to by.args (ids_of raw.others)) (length (encoded.declarations raw.declarations)) pairs raw.pairs_are;
         bytes = appends;
         appends_pairs = appends_pairs;
       }
@@ -97,18 +104,20 @@ module _ {S F : Type 0} (asks : Shared F (Bor ℕ × Unit {0}) ℕ) (i : ParseIn
   is_accepted = record { locations = mapped_by asks i mapping; are_given = given_both i.on_instr_pos; accepted = a.accepted }
 
   -- its instructions can be counted: they are no more than the bytes
-  pub refuses : length i.bytes < 2 ^ 64 → (e : RewriteError) → IsUnappended by f e → RefusesRewriting asks i by e
-  refuses few (Parse p) h = absurd h
-  refuses few (Walk w) (inl (inl memory)) = memory
-  refuses few (Walk w) (inl (inr fault)) = absurd (tree_has_no_fault f.sequences (first_slot f) its_tree.unfolded w its_tree.is_tree fault)
-  refuses few (Walk w) (inr large) =
+  pub refuses : AreIdNumbers by.to → length i.bytes < 2 ^ 64 → (e : RewriteError) → IsUnappended by f e → RefusesRewriting asks i by e
+  refuses ids few (Parse p) h = absurd h
+  refuses ids few (Walk w) (inl (inl memory)) = memory
+  refuses ids few (Walk w) (inl (inr fault)) = absurd (tree_has_no_fault f.sequences (first_slot f) its_tree.unfolded w its_tree.is_tree fault)
+  refuses ids few (Walk w) (inr large) =
       let t = large.1 in
       let same = only_tree f tree a.is_function (tree_of t.tree) (record { unfolded = t.tree; is_tree = t.is_tree; is = refl }) in
       let counted = sym (count_of_tree t.tree) ∙ ap (λ (u : FunctionTree). count u.items) same in
       let bounded = few_instructions i.environment a.accepted.operators a.body _ i.bytes a.accepted.all.spelt a.accepted.lawful.is_body in
       absurd (omega (arith, t.holds, counted, bounded, few))
-  refuses few (Emit e) (inl memory) = inl memory
-  refuses few (Emit e) (inr h) = inr (a.body, is_accepted, subst (λ t. HasNoRawBody by t e) (only_tree f tree a.is_function h.0 h.1) h.2)
+  refuses ids few (Emit e) (inl memory) = inl memory
+  refuses ids few (Emit e) (inr h) =
+      let none = subst (λ t. HasNoRawBody by t e) (only_tree f tree a.is_function h.0 h.1) h.2 in
+      inr (a.body, is_accepted, no_parsed_body i.environment a.accepted.operators a.body its_spellings a.accepted.lawful by ids e none)
 
 -- the operators of a body are no more bytes than it has
 pub few_operators : (body : FunctionBody) → body.start + length body.bytes.now < 2 ^ 64 → length (body_operators body) < 2 ^ 64
@@ -159,7 +168,7 @@ module _ {S F : Type 0} (asks : Shared F (Bor ℕ × Unit {0}) ℕ) (i : ParseIn
 
   refuses_all : (r : Result FunctionParts ParseFailure) → IfOk r Accepts → IfErr r (RefusesBody asks i) → IfOk r (λ p. p.args ≡ args) → length i.bytes < 2 ^ 64 → (e : RewriteError)
       → IsUnfinished (given out m) r e → RefusesRewriting asks i by e
-  refuses_all (Ok p) a f g few e h = refuses asks i by p.builder p.instruction_mapping a few e (subst (λ b. IsUnappended b p.builder e) (by_is p g) h)
+  refuses_all (Ok p) a f g few e h = refuses asks i by p.builder p.instruction_mapping a (are_id_numbers out) few e (subst (λ b. IsUnappended b p.builder e) (by_is p g) h)
   refuses_all (Err p) a f g few e h = subst (RefusesRewriting asks i by) (sym h) f
 
   pub refused_all : (r : Result FunctionParts ParseFailure) → IfOk r Accepts → IfErr r (RefusesBody asks i) → IfOk r (λ p. p.args ≡ args) → length i.bytes < 2 ^ 64

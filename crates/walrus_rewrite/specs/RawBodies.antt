@@ -9,9 +9,10 @@ use Rattle.walrus_ir.specs.Walk.{HasNoWalk}
 use Rattle.std.proofs.Common.{inl, inr}
 use Rattle.wasm_encode.specs.Declarations as encoded
 use Rattle.wasm_body.specs.declared.error.EmitError.{EmitError}
-use Rattle.wasm_body.specs.declared.error.EmitError.TheVariants.{Memory, UnknownLocal, UnknownSequence}
+use Rattle.wasm_body.specs.declared.error.EmitError.TheVariants.{Memory, TooLarge, UnknownLocal, UnknownSequence}
 use Rattle.wasm_body.specs.declared.error.ParseFailure.{ParseFailure}
 use Rattle.wasm_body.specs.Bytes.{Numbers, tree_bytes}
+use Rattle.wasm_body.specs.EmissionFaults.{IsUnnumbered}
 use Rattle.wasm_body.specs.FunctionTree.{FunctionTree}
 use Rattle.wasm_body.specs.LocalNumbers.{Local, ids_of, AreDeclared, declared, uses_local, with_locals}
 use Rattle.wasm_body.specs.Pairs.{Pair, tree_pairs}
@@ -60,6 +61,18 @@ pub data HasNoRawBody (by : Given) (t : FunctionTree) (e : EmitError) : Type 0 w
       (others : List Local) (declarations : List (ℕ × ValType ℕ)) → AreDeclared by.types by.args (uses_local t) others →
       declared by.to (length by.args) others ≡ Ok declarations → tree_bytes (with_locals by.to by.args (ids_of others)) t ≡ Err e →
       HasNoRawBody by t e
+
+-- The reason is one that a tree which a parse made can have: a used local isn't known; or the declarations count too many
+-- locals, or name a type without a number; or an operator names an id or a local without a number.
+abbrev pub IsOfParsed : (by : Given) (t : FunctionTree) (e : EmitError) → HasNoRawBody by t e → Type 0
+IsOfParsed by t e (unknown is missing) = Unit {0}
+IsOfParsed by t e (undeclared others are_declared fault) = (e ≡ TooLarge) ⊎ IsUnnumbered e
+IsOfParsed by t e (unwritten others declarations are_declared declarations_are fault) = IsUnnumbered e
+
+-- This is why a tree that a parse made has no raw body.
+pub record HasNoParsedBody (by : Given) (t : FunctionTree) (e : EmitError) : Type 0 where
+  pub has_none : HasNoRawBody by t e
+  pub is_of_parsed : IsOfParsed by t e has_none
 
 -- ---- of a function
 
@@ -141,8 +154,9 @@ IsUnfinished by (Err f) e = e ≡ Parse f
 
 -- ---- the entry of a function in the code section
 
--- The bytes are the function's raw body, and the pairs are its own behind so many bytes.
+-- The function has an entry, the bytes are its raw body, and the pairs are its own after so many bytes.
 pub record WritesEntry (by : Given) (f : Function) (before : ℕ) (written : Written) : Type 0 where
+  pub has_entry : HasEntry f
   pub pairs : List Pair
   pub is_raw_body : IsRawBodyOf by f written.bytes pairs
   pub are_moved : written.code_transform ≡ map (moved before) pairs
@@ -160,5 +174,6 @@ RefusesEntry by f e =
     (e ≡ Memory) ⊎ (((w : WalkError) × (HasNoWalk f.sequences (first_slot f) w ⊎ IsTooLarge f.sequences (first_slot f) w) × (e ≡ fault_of_walk w))
     ⊎ ((t : FunctionTree) × HasTree f.sequences (first_slot f) t × HasNoRawBody by t e))
 
+-- And of a function that has none: its entry is no sequence.
 abbrev pub RefusesAnyEntry : Given → Function → EmitError → Type 0
-RefusesAnyEntry by f e = ((e ≡ UnknownSequence) × (HasEntry f → ⊥)) ⊎ RefusesEntry by f e
+RefusesAnyEntry by f e = (HasEntry f × RefusesEntry by f e) ⊎ ((HasEntry f → ⊥) × (e ≡ UnknownSequence))

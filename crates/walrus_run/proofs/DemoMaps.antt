@@ -1,7 +1,8 @@
 -- The index maps of the demo module: locals that are put in one after the other, and numbers that are given in turn.
-use Rattle.std.specs.Prelude.{◌≡◌, ℕ, zero, suc, nat_lt, List, [], ◌∷◌, length, Bool, true, false, Option, Some, None, if◌then◌else◌, Result, Ok, Err}
+use Rattle.std.specs.Prelude.{◌≡◌, ◌<◌, ◌≤◌, ◌^◌, ℕ, zero, suc, nat_lt, List, [], ◌∷◌, length, Bool, true, false, Option, Some, None, if◌then◌else◌, Result, Ok, Err}
 use Rattle.std.proofs.Common.{refl, ap, sym, ◌∙◌, rules, arith}
 use Rattle.std.proofs.Math.Path.{fun_ext}
+use Rattle.std.proofs.lemmas.Bool.{lt-ltb, ltb-true}
 use Rattle.std.proofs.lemmas.Bool.Decides.{nat_tests}
 use Rattle.std.specs.Ordering.{nat_cmp}
 use Rattle.std.specs.Cmp.{nat_cmp_total}
@@ -13,11 +14,11 @@ use Rattle.wasm_body.specs.declared.error.EmitError.TheVariants.{Index, Unnumber
 use Rattle.wasm_body.specs.declared.error.IndexError.TheVariants.{Unnumbered}
 use Rattle.walrus_maps.specs.declared.indices_to_ids.IndicesToIds.{IndicesToIds}
 use Rattle.walrus_maps.specs.declared.ids_to_indices.IdsToIndices.{IdsToIndices}
-use Rattle.walrus_ir.specs.Results.{with_fault, some_or}
-use Rattle.walrus_maps.specs.IndexMaps.{ids_in, locals_in, with_locals, numbers_in, with_numbers, numbered, number_of}
+use Rattle.walrus_ir.specs.Results.{◌>>=◌, unless, with_fault, some_or}
+use Rattle.walrus_maps.specs.IndexMaps.{ids_in, locals_in, with_locals, numbers_in, with_numbers, numbered}
 use Rattle.walrus_maps.specs.Numbering.{pushed}
 use Rattle.walrus_maps.proofs.NumberingLemmas.{get-numbered}
-use Rattle.walrus_emitter.specs.TreeWriting.Operators.{numbers_by}
+use Rattle.walrus_emitter.specs.TreeWriting.Operators.{fitting, numbers_by}
 use Rattle.walrus_run.specs.Demo.{demo_indices, demo_numbers}
 
 -- what was put into a map is in it
@@ -85,15 +86,32 @@ space_numbered m h Elements = ap (λ e. in_turn e 1) (h Elements)
 space_numbered m h Data = ap (λ e. insert e 0 0) (h Data) ∙ ap (λ n. insert empty 0 n) (sym (len-empty nat_cmp ℕ))
 space_numbered m h Tags = ap (λ e. in_turn e 2) (h Tags)
 
-by_test : (space : Space) (id : ℕ) (below : Bool) → with_fault Index (some_or (if below then Some id else None) (Unnumbered space)) ≡ (if below then Ok id else Err (Index (Unnumbered space)))
-by_test space id true = refl
-by_test space id false = refl
+-- what is given for an id that has this number in its space
+abbrev given_as : Space → Option ℕ → Result ℕ EmitError
+given_as space o = with_fault Index (some_or o (Unnumbered space) >>= fitting (Unnumbered space))
 
-number_is : (m : IdsToIndices) → IsEmptyMap m → (space : Space) (id : ℕ) → with_fault Index (number_of (all_numbered m) space id) ≡ demo_numbers.number_of space id
+few_ids : (space : Space) → length (ids_in demo_indices space) ≤ 4
+few_ids Tables = omega arith
+few_ids Types = omega arith
+few_ids Funcs = omega arith
+few_ids Globals = omega arith
+few_ids Memories = omega arith
+few_ids Elements = omega arith
+few_ids Data = omega arith
+few_ids Tags = omega arith
+
+by_test : (space : Space) (id count : ℕ) (below : Bool) → count ≤ 4 → nat_lt id count ≡ below →
+    given_as space (if below then Some id else None) ≡ (if below then Ok id else Err (Index (Unnumbered space)))
+by_test space id count true few e =
+    let small : id < 2 ^ 32 = omega (arith, ltb-true id count e) in
+    ap (λ b. with_fault Index (unless b (Unnumbered space) >>= λ u. Ok id)) (lt-ltb id (2 ^ 32) small)
+by_test space id count false few e = refl
+
+number_is : (m : IdsToIndices) → IsEmptyMap m → (space : Space) (id : ℕ) → given_as space (get (numbers_in (all_numbered m) space) id) ≡ demo_numbers.number_of space id
 number_is m h space id =
     let count = length (ids_in demo_indices space) in
-    ap (λ e. with_fault Index (some_or (get e id) (Unnumbered space))) (space_numbered m h space)
-    ∙ (ap (λ o. with_fault Index (some_or o (Unnumbered space))) ((itself count).gets_itself id) ∙ by_test space id (nat_lt id count))
+    ap (λ e. given_as space (get e id)) (space_numbered m h space)
+    ∙ (ap (given_as space) ((itself count).gets_itself id) ∙ by_test space id count (nat_lt id count) (few_ids space) refl)
 
 same_numbers : (f g : Space → ℕ → Result ℕ EmitError) → ((space : Space) (id : ℕ) → f space id ≡ g space id) → f ≡ g
 same_numbers f g h = fun_ext (λ space. fun_ext (λ id. h space id))

@@ -23,5 +23,5 @@ pub use walrus_body::{
     law_accepted_again, law_executions, law_inverse_undoes, law_locations, law_read_back,
 };
 pub use walrus_rewrite::{
-    CodeEntry, RewriteError, append_raw_body, append_raw_body_with_map, rewrite_body,
+    CodeEntry, RewriteError, append_raw_body, append_raw_body_with_map, locate, rewrite_body,
 };

@@ -40,6 +40,11 @@ extends_types a added types e = record {
   imported = refl;
 }
 
+-- none is added
+pub extends_no_types : (a : ParsedModule) (types : List ModuleType) → types ≡ a.module.types → Extends a (record a { «module» = record a.module { types = types } })
+extends_no_types a types e =
+    extends_locals a (record a { «module» = record a.module { types = types } }) (record { bytes = refl; tags = refl; func_types = refl; imported = refl }) e (others_same a.spaces)
+
 pub extends_then : (a b c : ParsedModule) → Extends a b → Extends b c → Extends a c
 extends_then a b c p q = record {
   bytes = q.bytes ∙ p.bytes;

@@ -14,7 +14,7 @@ use Rattle.walrus_parser.specs.Bodies.{body_setting, body_operators}
 use Rattle.walrus_emitter.specs.TreeWriting.Operators.{numbers_by}
 use Rattle.walrus_rewrite.specs.declared.error.RewriteError.{RewriteError}
 use Rattle.walrus_rewrite.specs.declared.error.RewriteError.TheVariants.{Parse, Walk, Emit}
-use Rattle.walrus_rewrite.specs.RawBodies.{HasNoRawBody}
+use Rattle.walrus_rewrite.specs.RawBodies.{HasNoParsedBody}
 use Rattle.wasm_module.specs.declared.fault.ModuleError.{ModuleError}
 use Rattle.wasm_module.specs.declared.fault.ModuleFault.TheVariants.{Memory}
 use Rattle.wasm_module.specs.declared.parsed.ParsedModule.{ParsedModule}
@@ -50,7 +50,7 @@ pub record HasFaultAt (source : ParsedModule) (function : ℕ) (b : BodyAt) (now
 abbrev pub IsRefused : ParsedModule → ℕ → BodyAt → ParsedModule → ModuleError → Type 0
 IsRefused source function b now e = (e.fault ≡ Memory) ⊎ (HasNoFront now function b.bytes ⊎ HasFaultAt source function b now e.at)
 
--- The operators are accepted, and what is written of them has no bytes.
+-- The operators are accepted, and what is written of them has no bytes, for a reason for which a parsed body has none.
 pub record HasNoBytes (source : ParsedModule) (function : ℕ) (b : BodyAt) (now : ParsedModule) : Type 0 where
   pub type : ℕ
   pub args : List ℕ
@@ -61,7 +61,7 @@ pub record HasNoBytes (source : ParsedModule) (function : ℕ) (b : BodyAt) (now
   pub accepted : Accepted (body_setting now.module now.spaces.indices 0 type body locals_below count None) (body_operators body) tree
   pub error : EmitError
   pub has_none :
-      HasNoRawBody (record { to = numbers_by now.spaces.numbers []; types = now.module.locals; args = args })
+      HasNoParsedBody (record { to = numbers_by now.spaces.numbers []; types = now.module.locals; args = args })
       (body_tree (environment_of now.module now.spaces.indices 0 type) tree) error
 
 -- The body of this function of the source isn't rewritten.

@@ -64,8 +64,7 @@ pub record IsRewrittenAs (now : ParsedModule) (type : ℕ) (args : List ℕ) (co
       IsRawBody (record { to = numbers_by now.spaces.numbers []; types = now.module.locals; args = args })
       (body_tree (environment_of now.module now.spaces.indices 0 type) body) raw pairs
   pub keeps :
-      KeepsSource (environment_of now.module now.spaces.indices 0 type) accepted.operators
-      (body_tree (environment_of now.module now.spaces.indices 0 type) body) pairs
+      KeepsSource (environment_of now.module now.spaces.indices 0 type) accepted.operators body pairs
 
 -- The body of this function of the source is rewritten as these bytes.
 pub record IsRewritten (source : ParsedModule) (function : ℕ) (b : BodyAt) (raw : List ℕ) : Type 0 where

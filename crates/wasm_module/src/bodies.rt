@@ -111,19 +111,20 @@ impl<'a> ParsedModule<'a> {
     }
 
     /// Rewrites a body: its declarations of locals and its operators, as `walrus_run::rewrite_body`
-    /// does. Types that only a handler of it needs, and the module lacks, are added behind the
-    /// others; they are in no bytes.
+    /// does. Types that only a handler of it needs, and the module lacks, are added after the others;
+    /// they are in no bytes.
     ///
     /// # Errors
     ///
     /// The first fault of its declarations or of its operators, or why it can't be written, or
-    /// `Memory`.
+    /// `Memory`. The module is then as before, but for added types and the locals, which are those of
+    /// one body at a time.
     pub fn rewrite(
         &mut self,
         body: Body<'a>,
         scratch: &mut Scratch,
     ) -> Result<LocalFunction, ModuleError>
-        ensures extends { OnOk result (Extends self.old self.new) }
+        ensures extends { Extends self.old self.new }
         ensures rewritten { OnOk result
             (IsRewritten self.old body.entry.func (body_at body.entry) scratch.new.raw.items) }
         ensures refused { IfErr result
@@ -148,7 +149,7 @@ impl<'a> ParsedModule<'a> {
         body: Body<'a>,
         scratch: &mut Scratch,
     ) -> Result<LocalFunction, ModuleError>
-        ensures extends { OnOk result (Extends self.old self.new) }
+        ensures extends { Extends self.old self.new }
         ensures rewritten { OnOk result
             (IsRewritten self.old body.entry.func (body_at body.entry) scratch.new.raw.items) }
         ensures refused { IfErr result
@@ -204,13 +205,14 @@ impl<'a> ParsedModule<'a> {
     ///
     /// # Errors
     ///
-    /// The first fault of its declarations or of its operators, or `Memory`.
+    /// The first fault of its declarations or of its operators, or `Memory`. The module is then as
+    /// before, but for added types and the locals, which are those of one body at a time.
     pub fn parse(
         &mut self,
         body: Body<'a>,
         scratch: &mut Scratch,
     ) -> Result<LocalFunction, ModuleError>
-        ensures extends { OnOk result (Extends self.old self.new) }
+        ensures extends { Extends self.old self.new }
         ensures parsed { IfOk result
             (IsParsed self.old body.entry.func (body_at body.entry) self.new) }
         ensures refused { IfErr result

@@ -1,6 +1,6 @@
 //! Types that handlers of legacy `try` constructs need, and the module lacks.
 
-ghost use Rattle.std.specs.Prelude.{◌≡◌, OnOk, IfErr};
+ghost use Rattle.std.specs.Prelude.{◌≡◌, IfErr};
 ghost use Rattle.wasm_module.specs.declared.fault.ModuleFault.TheVariants.{Memory};
 ghost use Rattle.wasm_module.specs.Declarations.{parameters_of};
 ghost use Rattle.wasm_module.specs.RewrittenCode.{Extends};
@@ -63,7 +63,7 @@ impl<'a> ParsedModule<'a> {
 
     /// Adds a function type, where the module has none with these lists and a sequence needs one.
     fn add_type_for(&mut self, params: &[ValType], results: &[ValType]) -> Result<(), ModuleError>
-        ensures extends { OnOk result (Extends self.old self.new) }
+        ensures extends { Extends self.old self.new }
         ensures refused { IfErr result (λ e. e.fault ≡ Memory) }
     {
         if InstrSeqType::existing(&self.module.types, params, results).is_none() {
@@ -74,7 +74,7 @@ impl<'a> ParsedModule<'a> {
 
     /// Adds the type of a handler that takes this, in a construct of this type.
     fn add_handler_type(&mut self, caught: &[ValType], ty: BlockType) -> Result<(), ModuleError>
-        ensures extends { OnOk result (Extends self.old self.new) }
+        ensures extends { Extends self.old self.new }
         ensures refused { IfErr result (λ e. e.fault ≡ Memory) }
     {
         let results = self.results_of(ty)?;
@@ -83,7 +83,7 @@ impl<'a> ParsedModule<'a> {
 
     /// Adds the type of the handler of a `catch`, in a construct of this type.
     fn add_catch_type(&mut self, tag: u32, ty: BlockType) -> Result<(), ModuleError>
-        ensures extends { OnOk result (Extends self.old self.new) }
+        ensures extends { Extends self.old self.new }
         ensures refused { IfErr result (λ e. e.fault ≡ Memory) }
     {
         let caught = self.caught(tag)?;
@@ -97,7 +97,7 @@ impl<'a> ParsedModule<'a> {
         operator: &Operator<'_>,
         open: &mut Vec<BlockType>,
     ) -> Result<(), ModuleError>
-        ensures extends { OnOk result (Extends self.old self.new) }
+        ensures extends { Extends self.old self.new }
         ensures refused { IfErr result (λ e. e.fault ≡ Memory) }
     {
         if let Some(ty) = opened(operator) {
@@ -121,7 +121,7 @@ impl<'a> ParsedModule<'a> {
     /// Adds the types that the handlers of a body's `try` constructs need: what the tag carries, to
     /// the results of the construct. No handler's type is written, so that they have no index.
     pub(crate) fn add_missing_types(&mut self, body: Body<'a>) -> Result<(), ModuleError>
-        ensures extends { OnOk result (Extends self.old self.new) }
+        ensures extends { Extends self.old self.new }
         ensures refused { IfErr result (λ e. e.fault ≡ Memory) }
     {
         let mut declarations = body.input;

@@ -44,6 +44,7 @@ returns-clause-ok c =
     record {
       written = record { bytes = bytes; code_transform = c.in_ok-pairs.pairs.items };
       writes = record {
+        has_entry = c.requires;
         pairs = pairs;
         is_raw_body = raw;
         are_moved = c.in_ok-pairs.ensures ∙ (ap (map (moved c.len-2.result)) c.deref.ensures.value ∙ ap (λ n. map (moved n) pairs) base);

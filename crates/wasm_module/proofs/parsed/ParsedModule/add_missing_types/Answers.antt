@@ -1,5 +1,4 @@
-use Rattle.wasm_module.proofs.ModuleLemmas.{extends_same}
-use Rattle.wasm_module.proofs.ModuleLemmas.{extends_then}
+use Rattle.wasm_module.proofs.ModuleLemmas.{extends_same, extends_then}
 use Rattle.wasm_module.proofs.parsed.ParsedModule.add_missing_types.Goals as goal
 
 pub operators-init : goal.operators-init
@@ -9,4 +8,7 @@ pub returns-then-is_err-clause-extends : goal.returns-then-is_err-clause-extends
 returns-then-is_err-clause-extends c = extends_same c.args.self.now
 
 pub operators-preserved : goal.operators-preserved
-operators-preserved c = extends_then c.args.self.now c.operators.self c.add_type_at.new.self c.operators.invariant c.in_ok-add_type_at.ensures.extends
+operators-preserved c = extends_then c.args.self.now c.operators.self c.add_type_at.new.self c.operators.invariant c.add_type_at.ensures.extends
+
+pub returns-in_err-add_type_at-clause-extends : goal.returns-in_err-add_type_at-clause-extends
+returns-in_err-add_type_at-clause-extends c = extends_then c.args.self.now c.operators.self c.add_type_at.new.self c.operators.invariant c.add_type_at.ensures.extends

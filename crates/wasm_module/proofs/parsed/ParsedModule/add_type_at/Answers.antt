@@ -12,3 +12,6 @@ returns-in_default-operator-clause-extends c = extends_same c.args.self.now
 
 pub returns-in-End-clause-extends : goal.returns-in-End-clause-extends
 returns-in-End-clause-extends c = extends_same c.args.self.now
+
+pub returns-in_err-push-clause-extends : goal.returns-in_err-push-clause-extends
+returns-in_err-push-clause-extends c = extends_same c.args.self.now

@@ -1,23 +1,26 @@
 use Rattle.wasm_module.specs.CodeSections.{body_at}
-use Rattle.wasm_module.proofs.ModuleLemmas.{extends_then, then_ok}
+use Rattle.wasm_module.proofs.ModuleLemmas.{extends_then}
 use Rattle.wasm_module.proofs.RefusalLemmas.{if_refused_then}
 use Rattle.wasm_module.proofs.RewritingLemmas.{parsed_ok}
 use Rattle.wasm_module.proofs.parsed.ParsedModule.parse.Goals as goal
 
 pub returns-in_ok-add_missing_types-in-Err-clause-extends : goal.returns-in_ok-add_missing_types-in-Err-clause-extends
 returns-in_ok-add_missing_types-in-Err-clause-extends c =
-    let before = extends_then c.args.self.now c.parse_once.new.self c.add_missing_types.new.self c.parse_once.ensures.extends c.in_ok-add_missing_types-in-Err.ensures.extends in
-    then_ok c.parse_once-in-Err.result
-    (extends_then c.args.self.now c.add_missing_types.new.self c.parse_once-in-Err.new.self before c.parse_once-in-Err.ensures.extends)
+    let before = extends_then c.args.self.now c.parse_once.new.self c.add_missing_types.new.self c.parse_once.ensures.extends c.add_missing_types.ensures.extends in
+    extends_then c.args.self.now c.add_missing_types.new.self c.parse_once-in-Err.new.self before c.parse_once-in-Err.ensures.extends
 
 pub returns-in_ok-add_missing_types-in-Err-clause-parsed : goal.returns-in_ok-add_missing_types-in-Err-clause-parsed
 returns-in_ok-add_missing_types-in-Err-clause-parsed c =
-    let before = extends_then c.args.self.now c.parse_once.new.self c.add_missing_types.new.self c.parse_once.ensures.extends c.in_ok-add_missing_types-in-Err.ensures.extends in
+    let before = extends_then c.args.self.now c.parse_once.new.self c.add_missing_types.new.self c.parse_once.ensures.extends c.add_missing_types.ensures.extends in
     parsed_ok c.args.self.now c.add_missing_types.new.self c.parse_once-in-Err.new.self c.args.body.func (body_at c.args.body) c.parse_once-in-Err.result before
     c.parse_once-in-Err.ensures.parsed
 
 pub returns-in_ok-add_missing_types-in-Err-clause-refused : goal.returns-in_ok-add_missing_types-in-Err-clause-refused
 returns-in_ok-add_missing_types-in-Err-clause-refused c =
-    let first = extends_then c.args.self.now c.parse_once.new.self c.add_missing_types.new.self c.parse_once.ensures.extends c.in_ok-add_missing_types-in-Err.ensures.extends in
+    let first = extends_then c.args.self.now c.parse_once.new.self c.add_missing_types.new.self c.parse_once.ensures.extends c.add_missing_types.ensures.extends in
     if_refused_then c.args.self.now c.add_missing_types.new.self c.parse_once-in-Err.new.self c.args.body.func (body_at c.args.body) c.parse_once-in-Err.result first
     c.parse_once-in-Err.ensures.refused
+
+pub returns-in_err-add_missing_types-in-Err-clause-extends : goal.returns-in_err-add_missing_types-in-Err-clause-extends
+returns-in_err-add_missing_types-in-Err-clause-extends c =
+    extends_then c.args.self.now c.parse_once.new.self c.add_missing_types.new.self c.parse_once.ensures.extends c.add_missing_types.ensures.extends
