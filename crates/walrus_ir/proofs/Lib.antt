@@ -1,8 +1,10 @@
 -- results that may be faults, in every crate
 pub mod ResultLemmas
--- types: equality, and the first position that passes
+-- types: equality, the first position that passes, and the index
 pub mod SameTypes
 pub mod Positions
+pub mod TypeKeys
+pub mod TypeIndex
 -- the laws of trees, faults and walks
 pub mod WalkLaws
 pub mod TreeOrFault

@@ -52,7 +52,7 @@ type_decides (Ref a) (Ref b) =
     (λ h i. Ref (record { nullable = (both.0 h).0 i; heap_type = (both.0 h).1 i }), λ e. let same : a ≡ b = cc in both.1 (ap (λ (r : RefType ℕ). r.nullable) same, ap (λ (r : RefType ℕ). r.heap_type) same))
 type_decides _ _ = (λ h. cc, λ e. cc)
 
-same_pointwise : (ts us : List (ValType ℕ)) → same_types ts us ≡ pointwise same_type ts us
+pub same_pointwise : (ts us : List (ValType ℕ)) → same_types ts us ≡ pointwise same_type ts us
 same_pointwise [] [] = refl
 same_pointwise [] (u ∷ us) = refl
 same_pointwise (t ∷ ts) [] = refl

@@ -4,6 +4,7 @@ pub mod Results
 pub mod Types
 pub mod TypeOrder
 pub mod TypeEntries
+pub mod TypeIndex
 -- locations, and what contracts see of instructions with lists, of a sequence and of a builder
 pub mod Locations
 pub mod Clauses

@@ -22,6 +22,7 @@ mod reference;
 mod seq;
 mod table;
 mod ternary;
+mod type_index;
 mod unary;
 mod val_type;
 mod value;

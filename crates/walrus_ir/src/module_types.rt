@@ -1,10 +1,11 @@
 //! The types of a module.
 ghost use Rattle.std.specs.Prelude.{◌≡◌, [], ◌∷◌, ◌++◌, length, is_some, IsSome, IsSomeAnd, IfOk, OnErr, Some};
 ghost use Rattle.walrus_ir.specs.Types.{ModuleType, Func, Entry, Other, signature, signature_of};
-ghost use Rattle.walrus_ir.specs.Types.{find, find_entry, is_function, is_entry, same_types};
+ghost use Rattle.walrus_ir.specs.Types.{find, find_entry};
 ghost use Rattle.walrus_ir.specs.TypeEntries.{module_type};
 
 use crate::id::TypeId;
+use crate::type_index::{FuncIds, ListIds};
 use crate::val_type::ValType;
 use std::alloc::{AllocError, Global};
 use std::marker::Model;
@@ -25,42 +26,27 @@ enum TypeEntry {
     Other,
 }
 
-// Whether the lists hold the same types.
-fn are_same(a: &[ValType], b: &[ValType]) -> bool
-    ensures { result ≡ same_types a.now b.now }
+// The entry of a type of functions.
+fn func_entry(
+    alloc: Global,
+    params: &[ValType],
+    results: &[ValType],
+) -> Result<TypeEntry, AllocError>
+    ensures { IfOk result (λ entry. module_type entry ≡ Func params.now results.now) }
 {
-    a == b
-}
-
-impl TypeEntry {
-    // Whether it is a type of functions with these lists.
-    fn is_func(&self, params: &[ValType], results: &[ValType]) -> bool
-        ensures { result ≡ is_function params.now results.now (module_type self.now) }
-    {
-        match self {
-            TypeEntry::Func {
-                params: takes,
-                results: gives,
-            } => are_same(takes, params) && are_same(gives, results),
-            TypeEntry::Entry { .. } | TypeEntry::Other => false,
-        }
-    }
-
-    // Whether it is the type of entries with these results.
-    fn is_entry(&self, results: &[ValType]) -> bool
-        ensures { result ≡ is_entry results.now (module_type self.now) }
-    {
-        match self {
-            TypeEntry::Entry { results: gives } => are_same(gives, results),
-            TypeEntry::Func { .. } | TypeEntry::Other => false,
-        }
-    }
+    Ok(TypeEntry::Func {
+        params: Vec::from_slice(alloc, params)?,
+        results: Vec::from_slice(alloc, results)?,
+    })
 }
 
 /// The types of a module, by id. A contract sees their list.
 #[derive(Drop)]
 pub struct ModuleTypes {
     types: Vec<TypeEntry>,
+    /// The first type of functions with some lists, and the first type of entries with one.
+    func_ids: FuncIds,
+    entry_ids: ListIds,
 }
 
 impl Model for ModuleTypes {
@@ -70,8 +56,11 @@ impl Model for ModuleTypes {
     ghost Value = { List ModuleType };
 
     ghost use Rattle.walrus_ir.specs.TypeEntries.{module_type};
+    ghost use Rattle.walrus_ir.specs.TypeIndex.{IsIndexOf};
 
     ghost view = { λ m. map module_type m.types.items };
+
+    ghost invariant = { λ m. IsIndexOf (map module_type m.types.items) m.func_ids m.entry_ids };
 }
 
 impl ModuleTypes {
@@ -81,10 +70,12 @@ impl ModuleTypes {
     {
         ModuleTypes {
             types: Vec::new(alloc),
+            func_ids: FuncIds::new(alloc),
+            entry_ids: ListIds::new(alloc),
         }
     }
 
-    /// Adds a type of functions, and answers its id.
+    /// Adds a type of functions, and returns its id.
     pub fn add_func(
         &mut self,
         params: &[ValType],
@@ -95,40 +86,46 @@ impl ModuleTypes {
         ensures err { OnErr result (self.new ≡ self.old) }
     {
         let alloc = *self.types.allocator();
-        self.add(TypeEntry::Func {
-            params: Vec::from_slice(alloc, params)?,
-            results: Vec::from_slice(alloc, results)?,
-        })
+        let id = TypeId::new(self.types.len());
+        self.types.push(func_entry(alloc, params, results)?)?;
+        match self.func_ids.add(params, results, id) {
+            Ok(()) => Ok(id),
+            Err(fault) => {
+                self.types.truncate(id.index());
+                Err(fault)
+            }
+        }
     }
 
-    /// Adds the type of the entry of a function with these results, and answers its id.
+    /// Adds the type of the entry of a function with these results, and returns its id.
     pub fn add_entry(&mut self, results: &[ValType]) -> Result<TypeId, AllocError>
         ensures id { IfOk result (λ id. id ≡ length self.old) }
         ensures ok { IfOk result (λ _. self.new ≡ self.old ++ Entry results.now ∷ []) }
         ensures err { OnErr result (self.new ≡ self.old) }
     {
         let alloc = *self.types.allocator();
-        self.add(TypeEntry::Entry {
+        let id = TypeId::new(self.types.len());
+        let entry = TypeEntry::Entry {
             results: Vec::from_slice(alloc, results)?,
-        })
+        };
+        self.types.push(entry)?;
+        match self.entry_ids.add(results, id) {
+            Ok(()) => Ok(id),
+            Err(fault) => {
+                self.types.truncate(id.index());
+                Err(fault)
+            }
+        }
     }
 
-    /// Adds a type that is no type of functions, and answers its id.
+    /// Adds a type that is no type of functions, and returns its id.
     pub fn add_other(&mut self) -> Result<TypeId, AllocError>
         ensures id { IfOk result (λ id. id ≡ length self.old) }
         ensures ok { IfOk result (λ _. self.new ≡ self.old ++ Other ∷ []) }
         ensures err { OnErr result (self.new ≡ self.old) }
     {
-        self.add(TypeEntry::Other)
-    }
-
-    fn add(&mut self, entry: TypeEntry) -> Result<TypeId, AllocError>
-        ensures id { IfOk result (λ id. id ≡ length self.old) }
-        ensures ok { IfOk result (λ _. self.new ≡ self.old ++ module_type entry ∷ []) }
-        ensures err { OnErr result (self.new ≡ self.old) }
-    {
         let id = TypeId::new(self.types.len());
-        self.types.push(entry)?;
+        self.types.push(TypeEntry::Other)?;
         Ok(id)
     }
 
@@ -175,19 +172,13 @@ impl ModuleTypes {
     pub fn find(&self, params: &[ValType], results: &[ValType]) -> Option<TypeId>
         ensures { result ≡ find self.now params.now results.now }
     {
-        self.types
-            .iter()
-            .position(|entry| entry.is_func(params, results))
-            .map(TypeId::new)
+        self.func_ids.get(params, results)
     }
 
     /// The first type of entries with these results, by id. It takes no memory.
     pub fn find_for_function_entry(&self, results: &[ValType]) -> Option<TypeId>
         ensures { result ≡ find_entry self.now results.now }
     {
-        self.types
-            .iter()
-            .position(|entry| entry.is_entry(results))
-            .map(TypeId::new)
+        self.entry_ids.get(results)
     }
 }

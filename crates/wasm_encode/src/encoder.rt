@@ -69,9 +69,10 @@ impl FunctionEncoder {
         Ok(FunctionEncoder { bytes })
     }
 
-    /// How many bytes there are.
+    /// How many bytes there are. They are in memory, and so fewer than 2^63.
     pub fn byte_len(&self) -> usize
-        ensures { result ≡ length self.now }
+        ensures len { result ≡ length self.now }
+        ensures fits { result < 2 ^ 63 }
     {
         self.bytes.len()
     }

@@ -1,5 +1,5 @@
 -- Writing an instruction of a tree as an operator.
-use Rattle.std.specs.Prelude.{◌≡◌, ◌⊎◌, ℕ, List, length, Result, Ok, Err}
+use Rattle.std.specs.Prelude.{◌≡◌, ◌⊎◌, ◌^◌, ℕ, nat_lt, List, length, Result, Ok, Err}
 use Rattle.std.specs.Ordering.{nat_cmp}
 use Rattle.std.specs.FinMap.{get, from_entries}
 use Rattle.walrus_ir.specs.declared.val_type.InstrSeqType.{InstrSeqType}
@@ -12,7 +12,8 @@ use Rattle.walrus_ir.specs.Clauses.{Targets}
 use Rattle.wasm_encode.specs.Writable.{IsWritable}
 use Rattle.wasm_body.specs.declared.error.EmitError.{EmitError}
 use Rattle.wasm_body.specs.declared.error.EmitError.TheVariants.{Index, Memory, UnnumberedLocal}
-use Rattle.walrus_ir.specs.Results.{◌>>=◌, with_fault, some_or, each}
+use Rattle.wasm_body.specs.declared.error.IndexError.TheVariants.{Unnumbered}
+use Rattle.walrus_ir.specs.Results.{◌>>=◌, unless, with_fault, some_or, each}
 use Rattle.wasm_body.specs.Translation.{translate, translate_tag}
 use Rattle.wasm_body.specs.Bytes.{Numbers, numbers_in_32_bits, numbering, in_32_bits}
 use Rattle.wasm_body.specs.FlatText.{then_by, typed}
@@ -25,10 +26,15 @@ use Rattle.walrus_maps.specs.IndexMaps.{number_of}
 use Rattle.walrus_emitter.specs.TreeWriting.Closers.{closing}
 use Rattle.walrus_emitter.specs.TreeWriting.ScopeTables.{depth_in}
 
--- the numbers that index maps and a map of the function's locals give
+-- a number of 32 bits, or else this fault
+abbrev pub fitting : {E : Type 0} → E → ℕ → Result ℕ E
+fitting e n = unless (nat_lt n (2 ^ 32)) e >>= λ _. Ok n
+
+-- The numbers that index maps and a map of the function's locals give. A new index is one of 32 bits.
 abbrev pub numbers_by : IdsToIndices → List (ℕ × ℕ) → Numbers
 numbers_by ids locals = record {
-  number_of = λ space id. with_fault Index (number_of ids space id);
+  number_of = λ space id.
+      with_fault Index (number_of ids space id >>= fitting (Unnumbered space));
   local_number = λ id.
       some_or (get (from_entries {R = nat_cmp} locals) id) UnnumberedLocal;
 }

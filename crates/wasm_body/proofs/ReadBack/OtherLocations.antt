@@ -125,8 +125,7 @@ pub any_locations : (V : Type 0) → AnyLocations V
 any_locations V given bytes b a locate =
     let g = relocated locate in
     let xs = a.operators in
-    let same = sym (same_places locate xs) in
-    (
+    let same = sym (same_places locate xs) in (
       map_body g b,
       record {
         operators = map g xs;

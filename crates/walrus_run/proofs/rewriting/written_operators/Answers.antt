@@ -60,4 +60,4 @@ returns-in-Ok-emit_instructions-clause-ok c b has =
     let raw = of_bytes f found.tree found.is_tree used found.holds.used_locals (given a.numbers.now a.module.now a.function.now) bytes written in
     normal_bytes f r.is_parsed (given a.numbers.now a.module.now a.function.now) (same_given a.numbers.now a.module.now a.function.now r.numbers_are r.module_is r.args_are)
     bytes raw.0 raw.1 c.in_ok-behind-in-Ok-emit_instructions.field-0.items
-    (c.in_ok-behind-in-Ok-emit_instructions.ensures ∙ ap (λ n. drop n bytes) (c.byte_len-declared.ensures ∙ ap length begins.encoder_is)) b has
+    (c.in_ok-behind-in-Ok-emit_instructions.ensures ∙ ap (λ n. drop n bytes) (c.byte_len-declared.ensures.len ∙ ap length begins.encoder_is)) b has

@@ -1,0 +1,82 @@
+-- Loops over segments and over mappings.
+use Rattle.std.proofs.Common.{◌≡◌, ℕ, suc, ◌+◌, ◌<◌, ◌≤◌, false, eqb, List, [], ◌∷◌, ◌++◌, length, get_or, take, drop, Result, Ok, Err, refl, sym, ap, ◌∙◌, append_assoc, add-one, drop-cons, arith}
+use Rattle.std.specs.List.{AllByRecursion, join_with_byte, slice_split}
+use Rattle.std.proofs.lemmas.List.{append-nil, take-append-drop, get_or-take, length-take}
+use Rattle.std.proofs.lemmas.List.Elements.{All-from_recursion}
+use Rattle.std.proofs.lemmas.Bool.{eqb-true}
+use Rattle.std.proofs.lemmas.List.Splits.{slice_split_none, slice_split_at}
+use Rattle.source_map.specs.declared.mapping.Mapping.{Mapping}
+use Rattle.source_map.specs.declared.fields.Fields.{Fields}
+use Rattle.source_map.specs.declared.fault.MappingsFault.{MappingsFault}
+use Rattle.source_map.specs.Spelling.{after}
+use Rattle.source_map.specs.Reading.{◌>>=◌, segment_at, segments_at}
+use Rattle.source_map.specs.Shortest.{short_segment, short_segments}
+use Rattle.source_map.proofs.Steps.{test_false}
+
+-- ---- the first comma
+
+abbrev NoComma : (text : List ℕ) → (below : ℕ) → Type 0
+NoComma text below = (k : ℕ) → k < below → get_or text k 0 ≡ 44 → ⊥
+
+lacks : (text : List ℕ) → NoComma text (length text) → AllByRecursion (λ x. eqb x 44 ≡ false) text
+lacks [] h = tt
+lacks (c ∷ cs) h = (test_false (eqb c 44) (λ e. h 0 (omega arith) (eqb-true c 44 e)), lacks cs (λ k lt. h (suc k) (omega arith)))
+
+pub no_comma : (text : List ℕ) (n : ℕ) → length text ≤ n → NoComma text n → slice_split (λ b. eqb b 44) text ≡ text ∷ []
+no_comma text n le h = slice_split_none (λ b. eqb b 44) text (All-from_recursion (λ x. eqb x 44 ≡ false) text (lacks text (λ k lt. h k (omega arith))))
+
+pub first_comma : (text : List ℕ) (at : ℕ) → at < length text → get_or text at 0 ≡ 44 → NoComma text at → slice_split (λ b. eqb b 44) text ≡ take at text ∷ slice_split (λ b. eqb b 44) (drop (at + 1) text)
+first_comma text at lt is h =
+    let len : length (take at text) ≤ at = omega (arith, length-take at text) in
+    let none = lacks (take at text) (λ k below e. h k (omega arith) (sym (get_or-take at text k 0 (omega arith)) ∙ e)) in
+    let parts : text ≡ take at text ++ 44 ∷ drop (at + 1) text = sym (take-append-drop at text) ∙ ap (λ (x : List ℕ). take at text ++ x) (drop-cons text at 0 lt ∙ rw (is, add-one) refl) in
+    ap (slice_split (λ b. eqb b 44)) parts ∙ slice_split_at (λ b. eqb b 44) (take at text) 44 (drop (at + 1) text) (All-from_recursion (λ x. eqb x 44 ≡ false) (take at text) none) refl
+
+-- ---- segments that are read
+
+-- what was read before, and what is still read
+abbrev pub with_front : List Mapping → Result (List Mapping) MappingsFault → Result (List Mapping) MappingsFault
+with_front front read = read >>= λ ms. Ok (front ++ ms)
+
+pub begins : (read : Result (List Mapping) MappingsFault) → with_front [] read ≡ read
+begins (Ok ms) = refl
+begins (Err f) = refl
+
+regroup : (front : List Mapping) (m : Mapping) (read : Result (List Mapping) MappingsFault) → with_front front (read >>= λ ms. Ok (m ∷ ms)) ≡ with_front (front ++ m ∷ []) read
+regroup front m (Ok ms) = ap (λ (x : List Mapping). Ok x) (simp append_assoc)
+regroup front m (Err f) = refl
+
+pub goes_on : (front : List Mapping) (s : Fields) (t : List ℕ) (ts : List (List ℕ)) (m : Mapping) (total : Result (List Mapping) MappingsFault) → segment_at s t ≡ Ok m
+    → with_front front (segments_at s (t ∷ ts)) ≡ total → with_front (front ++ m ∷ []) (segments_at (after s m) ts) ≡ total
+unfolding segments_at
+goes_on front s t ts m total h so_far =
+    let one : with_front front (segments_at s (t ∷ ts)) ≡ with_front (front ++ m ∷ []) (segments_at (after s m) ts) = rw h (regroup front m (segments_at (after s m) ts)) in
+    sym one ∙ so_far
+
+pub ends : (front : List Mapping) (s : Fields) (t : List ℕ) (ts : List (List ℕ)) (f : MappingsFault) (total : Result (List Mapping) MappingsFault) → segment_at s t ≡ Err f
+    → with_front front (segments_at s (t ∷ ts)) ≡ total → total ≡ Err f
+unfolding segments_at
+ends front s t ts f total h so_far =
+    let one : with_front front (segments_at s (t ∷ ts)) ≡ Err f = rw h refl in
+    sym so_far ∙ one
+
+pub is_done : (front : List Mapping) (s : Fields) (total : Result (List Mapping) MappingsFault) → with_front front (segments_at s []) ≡ total → total ≡ Ok front
+unfolding segments_at
+is_done front s total so_far = sym so_far ∙ ap (λ (x : List Mapping). Ok x) (append-nil front)
+
+-- ---- segments that are written
+
+-- each segment behind a comma
+abbrev pub behind : List (List ℕ) → List ℕ
+behind [] = []
+behind (t ∷ ts) = 44 ∷ (t ++ behind ts)
+
+joined_is : (t : List ℕ) (ts : List (List ℕ)) → join_with_byte 44 (t ∷ ts) ≡ t ++ behind ts
+joined_is t [] = sym (append-nil t)
+joined_is t (u ∷ us) = ap (λ (x : List ℕ). t ++ 44 ∷ x) (joined_is u us)
+
+pub first_written : (s : Fields) (m : Mapping) (ms : List Mapping) → short_segment s m ++ behind (short_segments (after s m) ms) ≡ join_with_byte 44 (short_segments s (m ∷ ms))
+first_written s m ms = sym (joined_is (short_segment s m) (short_segments (after s m) ms))
+
+pub one_written : (out : List ℕ) (s : Fields) (m : Mapping) (ms : List Mapping) → ((out ++ 44 ∷ []) ++ short_segment s m) ++ behind (short_segments (after s m) ms) ≡ out ++ behind (short_segments s (m ∷ ms))
+one_written out s m ms = simp append_assoc

@@ -1,0 +1,9 @@
+-- how a mapping is spelt, and lists of them
+pub mod Vlq
+pub mod Spelling
+-- reading a text from left to right, with the first fault
+pub mod Reading
+-- the one text that is written
+pub mod Shortest
+-- mappings of a program whose operators have moved
+pub mod Moving

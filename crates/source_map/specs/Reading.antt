@@ -1,0 +1,108 @@
+-- Reading mappings from left to right: the first part that can't be read is the fault.
+use Rattle.std.specs.Prelude.{◌≡◌, ℕ, ◌+◌, ◌-◌, ◌*◌, ◌/◌, ◌%◌, List, [], ◌∷◌, ◌==◌, nat_lt, nat_le, if◌then◌else◌, Option, Some, None, Result, Ok, Err}
+use Rattle.std.specs.List.{slice_split}
+use Rattle.source_map.specs.declared.mapping.Original.{Original}
+use Rattle.source_map.specs.declared.mapping.Mapping.{Mapping}
+use Rattle.source_map.specs.declared.fields.Fields.{Fields}
+use Rattle.source_map.specs.declared.fault.MappingsFault.{MappingsFault}
+use Rattle.source_map.specs.declared.fault.MappingsFault.TheVariants.{BadDigit, CutNumber, LongNumber, FieldCount, FieldOutOfRange, UnsortedColumn, SecondLine}
+use Rattle.source_map.specs.declared.fault.MappingsError.{MappingsError}
+use Rattle.source_map.specs.declared.fault.MappingsError.TheVariants as errors
+use Rattle.source_map.specs.Vlq.{digit_value, most_digits, within, moved_by}
+use Rattle.source_map.specs.Spelling.{start, after}
+
+infixl 10 ◌>>=◌
+abbrev pub ◌>>=◌ : {A B : Type 0} → Result A MappingsFault → (A → Result B MappingsFault) → Result B MappingsFault
+(Ok x) >>= f = f x
+(Err e) >>= f = Err e
+
+abbrev pub some_or : {A : Type 0} → Option A → MappingsFault → Result A MappingsFault
+some_or (Some x) e = Ok x
+some_or None e = Err e
+
+-- What a function returned, seen by `view`, is what reading gives.
+abbrev pub Gives : {X Y : Type 0} → (X → Y) → Result X MappingsFault → Result Y MappingsFault → Type 0
+Gives view (Ok x) read = read ≡ Ok (view x)
+Gives view (Err e) read = read ≡ Err e
+
+-- The same, unless memory ran out.
+abbrev pub Fails : {Y : Type 0} → MappingsError → Result Y MappingsFault → Type 0
+Fails errors.Memory read = Unit {0}
+Fails (errors.Fault f) read = read ≡ Err f
+
+abbrev pub GivesOrMemory : {X Y : Type 0} → (X → Y) → Result X MappingsError → Result Y MappingsFault → Type 0
+GivesOrMemory view (Ok x) read = read ≡ Ok (view x)
+GivesOrMemory view (Err e) read = Fails e read
+
+-- ---- numbers and fields
+
+-- a semicolon ends a line
+abbrev pub digit_at : ℕ → Result ℕ MappingsFault
+digit_at c = if c == 59 then Err SecondLine else some_or (digit_value c) BadDigit
+
+unfoldable pub number_at : (most : ℕ) → List ℕ → Result (ℕ × List ℕ) MappingsFault
+number_at most [] = Err CutNumber
+number_at most (c ∷ cs) = digit_at c >>= λ d.
+    if nat_lt d 32 then Ok (d, cs)
+    else if nat_le most 1 then Err LongNumber
+    else (number_at (most - 1) cs >>= λ high. Ok (d - 32 + 32 * high.0, high.1))
+
+-- the next number of a segment, if the segment has one
+unfoldable pub next_at : List ℕ → Result (ℕ × List ℕ) MappingsFault
+next_at [] = Err FieldCount
+next_at (c ∷ cs) = number_at most_digits (c ∷ cs)
+
+unfoldable pub field_at : (before : ℕ) → List ℕ → Result (ℕ × List ℕ) MappingsFault
+field_at before text = next_at text >>= λ n. some_or (moved_by n.0 before) FieldOutOfRange >>= λ field. Ok (field, n.1)
+
+abbrev pub column_after : (n before : ℕ) → Result ℕ MappingsFault
+column_after n before = if n % 2 == 0 then some_or (within (before + n / 2)) FieldOutOfRange else Err UnsortedColumn
+
+unfoldable pub column_at : (before : ℕ) → List ℕ → Result (ℕ × List ℕ) MappingsFault
+column_at before text = next_at text >>= λ n. column_after n.0 before >>= λ field. Ok (field, n.1)
+
+-- ---- segments
+
+-- nothing may follow the last field
+abbrev pub last_field : ℕ × List ℕ → Result (Option ℕ) MappingsFault
+last_field (field, []) = Ok (Some field)
+last_field (field, c ∷ cs) = Err FieldCount
+
+unfoldable pub name_at : (before : ℕ) → List ℕ → Result (Option ℕ) MappingsFault
+name_at before [] = Ok None
+name_at before (c ∷ cs) = field_at before (c ∷ cs) >>= last_field
+
+unfoldable pub original_at : Fields → List ℕ → Result Original MappingsFault
+original_at s text = do
+  source ← field_at s.source text
+  line ← field_at s.line source.1
+  column ← field_at s.column line.1
+  name ← name_at s.name column.1
+  Ok (record { source = source.0; line = line.0; column = column.0; name = name })
+
+unfoldable pub original_or_none_at : Fields → List ℕ → Result (Option Original) MappingsFault
+original_or_none_at s [] = Ok None
+original_or_none_at s (c ∷ cs) = original_at s (c ∷ cs) >>= λ o. Ok (Some o)
+
+unfoldable pub segment_at : Fields → List ℕ → Result Mapping MappingsFault
+segment_at s text = do
+  column ← column_at s.generated text
+  original ← original_or_none_at s column.1
+  Ok (record { generated = column.0; original = original })
+
+unfoldable pub segments_at : Fields → List (List ℕ) → Result (List Mapping) MappingsFault
+segments_at s [] = Ok []
+segments_at s (t ∷ ts) = segment_at s t >>= λ m. segments_at (after s m) ts >>= λ ms. Ok (m ∷ ms)
+
+-- the parts of a text between commas
+abbrev pub parts_of : Option (List ℕ) → List (List ℕ)
+parts_of None = []
+parts_of (Some text) = slice_split (λ b. b == 44) text
+
+-- an empty text has none
+abbrev pub some_text : List ℕ → Option (List ℕ)
+some_text [] = None
+some_text (c ∷ cs) = Some (c ∷ cs)
+
+unfoldable pub mappings_at : List ℕ → Result (List Mapping) MappingsFault
+mappings_at text = segments_at start (parts_of (some_text text))

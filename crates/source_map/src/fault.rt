@@ -1,0 +1,60 @@
+//! Why mappings can't be read.
+
+ghost use Rattle.std.specs.Prelude.{◌≡◌};
+ghost use Rattle.source_map.specs.declared.fault.MappingsError.TheVariants.{Memory, Fault};
+
+use std::alloc::{AllocError, AllocFailed};
+use thiserror::Error;
+
+/// What is wrong with the text of mappings: the first part, from left to right, that can't be read.
+#[derive(Clone, Copy, Debug, PartialEq, Eq, Error)]
+pub enum MappingsFault {
+    #[error("a character of the mappings is no digit of base64")]
+    BadDigit,
+    #[error("the mappings end inside a number")]
+    CutNumber,
+    /// A number has more than seven digits.
+    #[error("a number of the mappings is too long")]
+    LongNumber,
+    #[error("a mapping has neither one nor four nor five fields")]
+    FieldCount,
+    /// A field is below 0, or doesn't fit 32 bits.
+    #[error("a field of a mapping is out of range")]
+    FieldOutOfRange,
+    #[error("the mappings are not sorted by their offsets")]
+    UnsortedColumn,
+    /// The generated program has more than one line.
+    #[error("the mappings have more than one line")]
+    SecondLine,
+}
+
+/// Why mappings aren't read.
+#[derive(Clone, Copy, Debug, PartialEq, Eq, Drop)]
+pub enum MappingsError {
+    Memory,
+    Fault(MappingsFault),
+}
+
+impl From<MappingsFault> for MappingsError {
+    ghost from_gives = { λ fault e. e ≡ Fault fault };
+
+    fn from(fault: MappingsFault) -> MappingsError {
+        MappingsError::Fault(fault)
+    }
+}
+
+impl From<AllocError> for MappingsError {
+    ghost from_gives = { λ _ e. e ≡ Memory };
+
+    fn from(_: AllocError) -> MappingsError {
+        MappingsError::Memory
+    }
+}
+
+impl<T: Drop> From<AllocFailed<T>> for MappingsError {
+    ghost from_gives = { λ _ e. e ≡ Memory };
+
+    fn from(_: AllocFailed<T>) -> MappingsError {
+        MappingsError::Memory
+    }
+}

@@ -1,0 +1,17 @@
+//! Laws of the text of mappings.
+
+ghost use Rattle.std.specs.Prelude.{◌≡◌, ℕ, List};
+ghost use Rattle.std.specs.List.{AllByRecursion};
+ghost use Rattle.source_map.specs.Spelling.{Spells, AscendFrom, Fits};
+ghost use Rattle.source_map.specs.Shortest.{spelling};
+ghost use Rattle.source_map.specs.declared.mapping.Mapping.{Mapping};
+
+/// A text spells one list of mappings at most.
+pub fn law_one_reading()
+    ensures { (text : List ℕ) (ms others : List Mapping) → Spells ms text → Spells others text → ms ≡ others }
+{}
+
+/// What `encode` writes of sorted mappings spells them, so that `decode` reads them back.
+pub fn law_spelt()
+    ensures { (ms : List Mapping) → AllByRecursion Fits ms → AscendFrom 0 ms → Spells ms (spelling ms) }
+{}

@@ -1,0 +1,120 @@
+//! Reading mappings.
+
+ghost use Rattle.std.specs.Prelude.{◌≡◌, ◌==◌, ◌∷◌, ◌<◌, List, length, IfOk, IfSome, Ok, option_map};
+ghost use Rattle.std.specs.List.{slice_split};
+ghost use Rattle.source_map.specs.Spelling.{Spells};
+ghost use Rattle.source_map.specs.Reading.{Gives, GivesOrMemory, name_at, original_at, original_or_none_at, segment_at, parts_of, mappings_at};
+ghost use Rattle.source_map.specs.declared.mapping.Mapping.{Mapping as AMapping};
+
+use crate::fault::{MappingsError, MappingsFault};
+use crate::fields::Fields;
+use crate::mapping::{Mapping, Original};
+use crate::number::{read_column, read_field};
+use std::alloc::Global;
+
+/// The name at the end of a segment, if it has one.
+#[tactic(auto, unfolding(crate::specs::Reading::name_at))]
+fn read_name(before: u32, text: &[u8]) -> Result<Option<u32>, MappingsFault>
+    ensures { Gives (λ x. x) result (name_at before text.now) }
+{
+    match text {
+        [] => Ok(None),
+        _ => {
+            let (name, rest) = read_field(before, text)?;
+            match rest {
+                [] => Ok(Some(name)),
+                _ => Err(MappingsFault::FieldCount),
+            }
+        }
+    }
+}
+
+/// The position that the fields of a segment behind the first make.
+#[tactic(auto, unfolding(crate::specs::Reading::original_at))]
+fn read_original(fields: Fields, text: &[u8]) -> Result<Original, MappingsFault>
+    ensures { Gives (λ x. x) result (original_at fields text.now) }
+{
+    let (source, rest) = read_field(fields.source, text)?;
+    let (line, rest) = read_field(fields.line, rest)?;
+    let (column, rest) = read_field(fields.column, rest)?;
+    let name = read_name(fields.name, rest)?;
+    Ok(Original {
+        source,
+        line,
+        column,
+        name,
+    })
+}
+
+/// The same, or none where there are no such fields.
+#[tactic(auto, unfolding(crate::specs::Reading::original_or_none_at))]
+fn read_original_or_none(fields: Fields, text: &[u8]) -> Result<Option<Original>, MappingsFault>
+    ensures { Gives (λ x. x) result (original_or_none_at fields text.now) }
+{
+    match text {
+        [] => Ok(None),
+        _ => {
+            let original = read_original(fields, text)?;
+            Ok(Some(original))
+        }
+    }
+}
+
+/// The mapping of a segment.
+#[tactic(auto, unfolding(crate::specs::Reading::segment_at))]
+fn read_segment(fields: Fields, text: &[u8]) -> Result<Mapping, MappingsFault>
+    ensures { Gives (λ x. x) result (segment_at fields text.now) }
+{
+    let (generated, rest) = read_column(fields.generated, text)?;
+    let original = read_original_or_none(fields, rest)?;
+    Ok(Mapping {
+        generated,
+        original,
+    })
+}
+
+/// The text up to the first comma, and what is behind that.
+fn first_segment(text: &[u8]) -> (&[u8], Option<&[u8]>)
+    ensures parts { slice_split (λ b. b == 44) text.now
+        ≡ result.0.now ∷ parts_of (option_map (λ x. x.now) result.1) }
+    ensures shorter { IfSome result.1 (λ behind. length behind.now < length text.now) }
+{
+    for (at, byte) in text.iter().enumerate() {
+        if *byte == b',' {
+            return (&text[..at], Some(&text[at + 1..]));
+        }
+    }
+    (text, None)
+}
+
+/// The mappings of all segments.
+#[tactic(auto, unfolding(crate::specs::Reading::mappings_at))]
+fn read_all(alloc: Global, text: &[u8]) -> Result<Vec<Mapping>, MappingsError>
+    ensures { GivesOrMemory (λ v. v.items) result (mappings_at text.now) }
+{
+    let mut mappings = Vec::new(alloc);
+    let mut fields = Fields::start();
+    let mut left = if text.is_empty() { None } else { Some(text) };
+    while let Some(part) = left {
+        let (segment, behind) = first_segment(part);
+        let mapping = read_segment(fields, segment)?;
+        mappings.push(mapping)?;
+        fields = fields.after(mapping);
+        left = behind;
+    }
+    Ok(mappings)
+}
+
+/// Reads the text of `mappings`, of a generated program of one line.
+///
+/// # Errors
+///
+/// The first fault, from left to right; or that memory ran out.
+pub fn decode(alloc: Global, text: &[u8]) -> Result<Vec<Mapping>, MappingsError>
+    ensures read { IfOk result (λ v. Spells v.items text.now) }
+    ensures each { (ms : List AMapping) → Spells ms text.now
+        → GivesOrMemory (λ v. v.items) result (Ok ms) }
+    ensures exact { GivesOrMemory (λ v. v.items) result (mappings_at text.now) }
+{
+    read_all(alloc, text)
+}

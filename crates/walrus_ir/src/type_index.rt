@@ -1,0 +1,149 @@
+//! The ids of a module's types, by what the types take and give.
+ghost use Rattle.std.specs.Prelude.{◌≡◌, [], Some, None, cond, ◌&&◌, OnOk, OnErr};
+ghost use Rattle.std.specs.Option.{option_or};
+ghost use Rattle.walrus_ir.specs.Types.{same_types};
+ghost use Rattle.walrus_ir.specs.declared.val_type.ValType.{ValType as ValueType};
+ghost use Rattle.walrus_ir.specs.TypeIndex.{at_list, at_lists};
+
+use crate::id::TypeId;
+use crate::laws::law_type_order;
+use crate::val_type::ValType;
+use std::alloc::{AllocError, Global};
+use std::collections::BTreeMap;
+use std::marker::Model;
+
+/// Ids by list of value types. The lists are kept in an order, so that none of them is slow to
+/// find. A contract sees each list with its id.
+#[derive(Drop)]
+pub(crate) struct ListIds {
+    ids: BTreeMap<Vec<ValType>, TypeId>,
+    alloc: Global,
+}
+
+impl Model for ListIds {
+    ghost use Rattle.std.specs.Prelude.{ℕ};
+    ghost use Rattle.walrus_ir.specs.TypeIndex.{ByList, by_list};
+
+    ghost Value = { ByList ℕ };
+
+    ghost view = { λ m. by_list m.ids.entries };
+}
+
+impl ListIds {
+    ghost use Rattle.std.specs.Prelude.{List, ℕ};
+
+    /// No list has an id. It takes no memory.
+    pub fn new(alloc: Global) -> ListIds
+        ensures { result ≡ [] }
+    {
+        ListIds {
+            ids: BTreeMap::new(alloc),
+            alloc,
+        }
+    }
+
+    /// The id of this list. It takes no memory.
+    pub fn get(&self, list: &[ValType]) -> Option<TypeId>
+        ensures { result ≡ at_list self.now list.now }
+    {
+        // By this law equal lists are those that the order doesn't tell apart.
+        law_type_order();
+        self.ids.get(list).copied()
+    }
+
+    /// Gives this list an id, unless it has one.
+    pub fn add(&mut self, list: &[ValType], id: TypeId) -> Result<(), AllocError>
+        ensures ok { OnOk result ((other : List (ValueType ℕ)) → at_list self.new other
+            ≡ option_or (at_list self.old other) (cond (same_types list.now other) (Some id) None)) }
+        ensures err { OnErr result (self.new ≡ self.old) }
+    {
+        if self.get(list).is_some() {
+            return Ok(());
+        }
+        law_type_order();
+        let list = Vec::from_slice(self.alloc, list)?;
+        self.ids.insert(list, id)?;
+        Ok(())
+    }
+}
+
+/// Ids by two lists of value types, what is taken and what is given. A contract sees each first
+/// list with the second lists, and these with their ids.
+#[derive(Drop)]
+pub(crate) struct FuncIds {
+    ids: BTreeMap<Vec<ValType>, ListIds>,
+    alloc: Global,
+}
+
+impl Model for FuncIds {
+    ghost use Rattle.std.specs.Prelude.{ℕ};
+    ghost use Rattle.walrus_ir.specs.TypeIndex.{ByList, by_list};
+
+    ghost Value = { ByList (ByList ℕ) };
+
+    ghost view = { λ m. by_list m.ids.entries };
+}
+
+impl FuncIds {
+    ghost use Rattle.std.specs.Prelude.{List, ℕ};
+
+    /// No lists have an id. It takes no memory.
+    pub fn new(alloc: Global) -> FuncIds
+        ensures { result ≡ [] }
+    {
+        FuncIds {
+            ids: BTreeMap::new(alloc),
+            alloc,
+        }
+    }
+
+    /// The id of these lists. It takes no memory.
+    pub fn get(&self, params: &[ValType], results: &[ValType]) -> Option<TypeId>
+        ensures { result ≡ at_lists self.now params.now results.now }
+    {
+        law_type_order();
+        match self.ids.get(params) {
+            Some(by_results) => by_results.get(results),
+            None => None,
+        }
+    }
+
+    /// Gives these lists an id, unless they have one.
+    pub fn add(
+        &mut self,
+        params: &[ValType],
+        results: &[ValType],
+        id: TypeId,
+    ) -> Result<(), AllocError>
+        ensures ok { OnOk result ((takes gives : List (ValueType ℕ)) → at_lists self.new takes gives
+            ≡ option_or (at_lists self.old takes gives)
+            (cond (same_types params.now takes && same_types results.now gives) (Some id) None)) }
+        ensures err { OnErr result (self.new ≡ self.old) }
+    {
+        law_type_order();
+        match self.ids.get_mut(params) {
+            Some(by_results) => by_results.add(results, id),
+            None => self.add_first(params, results, id),
+        }
+    }
+
+    // The same where no type takes these. Their entry goes in once it has the id.
+    fn add_first(
+        &mut self,
+        params: &[ValType],
+        results: &[ValType],
+        id: TypeId,
+    ) -> Result<(), AllocError>
+        ensures ok { OnOk result ((takes gives : List (ValueType ℕ)) → at_lists self.new takes gives
+            ≡ cond (same_types params.now takes)
+            (cond (same_types results.now gives) (Some id) None) (at_lists self.old takes gives)) }
+        ensures err { OnErr result (self.new ≡ self.old) }
+    {
+        law_type_order();
+        let mut by_results = ListIds::new(self.alloc);
+        by_results.add(results, id)?;
+        let params = Vec::from_slice(self.alloc, params)?;
+        self.ids.insert(params, by_results)?;
+        Ok(())
+    }
+}
