@@ -82,14 +82,14 @@ pub enum ParseError {
     #[error("`rethrow` does not name a handler")]
     RethrowOutsideHandler,
     /// There are bytes after the last `end`.
-    #[error("bytes stand behind the last `end`")]
+    #[error("there are bytes after the last `end`")]
     Trailing,
     /// The bytes end before the last `end`.
     #[error("an `end` is missing")]
     MissingEnd,
     /// The sequence around the innermost one doesn't end with a legacy `try`. No parse returns this
     /// error.
-    #[error("no `try` stands at the end of the sequence around")]
+    #[error("the sequence around does not end with a `try`")]
     NoTry,
     /// No sequence is open. No parse returns this error.
     #[error("no sequence is open")]
