@@ -7,13 +7,12 @@ ghost use Rattle.wasm_module.specs.RewrittenCode.{Extends, IsRewritten, IsParsed
 ghost use Rattle.wasm_module.specs.Refusals.{IsRefused, IsNotRewritten};
 
 use crate::code::Body;
-use crate::code_fault::CodeFault;
 use crate::entering::Entered;
 use crate::fault::{ModuleError, ModuleFault};
 use crate::locals::LocalsBelow;
 use crate::parsed::ParsedModule;
 use std::alloc::Global;
-use walrus_body::LocalFunction;
+use walrus_body::{EmitError, LocalFunction, ParseError};
 use walrus_ir::{Instr, InstrLocId};
 use walrus_rewrite::{RewriteError, append_raw_body_with_map, rewrite_body};
 
@@ -42,7 +41,7 @@ impl Scratch {
 
 /// Whether a body wants a type that the module doesn't have.
 fn wants_type(error: &ModuleError) -> bool {
-    error.fault == ModuleFault::TypeMissing
+    error.fault == ModuleFault::Parse(ParseError::TypeMissing)
 }
 
 /// Rewrites a body as it is, with a list of location pairs or none.
@@ -131,11 +130,14 @@ impl<'a> ParsedModule<'a> {
             (IsNotRewritten self.old body.entry.func (body_at body.entry) self.new) }
     {
         match self.rewrite_once(body, scratch) {
-            Err(error) if wants_type(&error) => {
+            Ok(function) => Ok(function),
+            Err(error) => {
+                if !wants_type(&error) {
+                    return Err(error);
+                }
                 self.add_missing_types(body)?;
                 self.rewrite_once(body, scratch)
             }
-            answer => answer,
         }
     }
 
@@ -156,11 +158,14 @@ impl<'a> ParsedModule<'a> {
             (IsNotRewritten self.old body.entry.func (body_at body.entry) self.new) }
     {
         match self.rewrite_once_with_pairs(body, scratch) {
-            Err(error) if wants_type(&error) => {
+            Ok(function) => Ok(function),
+            Err(error) => {
+                if !wants_type(&error) {
+                    return Err(error);
+                }
                 self.add_missing_types(body)?;
                 self.rewrite_once_with_pairs(body, scratch)
             }
-            answer => answer,
         }
     }
 
@@ -219,11 +224,14 @@ impl<'a> ParsedModule<'a> {
             (IsRefused self.old body.entry.func (body_at body.entry) self.new) }
     {
         match self.parse_once(body, scratch) {
-            Err(error) if wants_type(&error) => {
+            Ok(function) => Ok(function),
+            Err(error) => {
+                if !wants_type(&error) {
+                    return Err(error);
+                }
                 self.add_missing_types(body)?;
                 self.parse_once(body, scratch)
             }
-            answer => answer,
         }
     }
 
@@ -247,7 +255,7 @@ impl<'a> ParsedModule<'a> {
         pairs.clear();
         if !function.has_entry() {
             return Err(ModuleError {
-                fault: ModuleFault::Code(CodeFault::UnknownSequence),
+                fault: ModuleFault::Emit(EmitError::UnknownSequence),
                 at: start,
             });
         }

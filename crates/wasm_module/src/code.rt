@@ -58,8 +58,10 @@ impl<'a> Bodies<'a> {
         ensures first { IfOk result (λ x. x.1.next ≡ first) }
     {
         let mut left = contents;
-        let count = left.number()?;
-        Ok((count, Bodies { left, next: first }))
+        match left.number() {
+            Ok(count) => Ok((count, Bodies { left, next: first })),
+            Err(error) => Err(error),
+        }
     }
 
     /// `Trailing` where bytes are left.

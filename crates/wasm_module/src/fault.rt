@@ -1,20 +1,22 @@
 //! Why a module isn't read or rewritten.
 ghost use Rattle.std.specs.Prelude.{◌≡◌};
+ghost use Rattle.walrus_ir.specs.declared.error.WalkError.TheVariants as walk;
+ghost use Rattle.wasm_body.specs.declared.error.EmitError.TheVariants as emit;
 ghost use Rattle.wasm_body.specs.declared.error.IndexError.TheVariants as index;
 ghost use Rattle.wasm_body.specs.declared.error.ParseError.TheVariants as parse;
 ghost use Rattle.wasm_module.specs.declared.fault.ModuleFault.TheVariants.{Memory};
-ghost use Rattle.wasm_module.specs.declared.code_fault.CodeFault.TheVariants as code;
 ghost use Rattle.walrus_rewrite.specs.Errors.{WantsMemory};
 ghost use Rattle.wasm_module.specs.Refusals.{place_in_file};
 
-use crate::code_fault::{CodeFault, items_of};
 use std::alloc::{AllocError, AllocFailed};
 use std::error::Error;
 use std::fmt;
+use std::fmt::Write;
 use thiserror::Error as ErrorText;
-use walrus_body::{IndexError, ParseError, ParseFailure, Space};
+use walrus_body::{EmitError, IndexError, ParseError, ParseFailure, Space};
+use walrus_ir::WalkError;
 use walrus_rewrite::RewriteError;
-use wasm_ops::ReadError;
+use wasm_ops::{ReadError, ReadFault};
 
 /// What is wrong with a module.
 #[derive(Clone, Copy, Debug, PartialEq, Eq, ErrorText)]
@@ -37,14 +39,9 @@ pub enum ModuleFault {
     /// Bytes are left after the last item of a section, or of bytes that are handed in.
     #[error("bytes are left after the last item of a section")]
     Trailing,
-    /// A number in LEB128 is too long or too great for its type.
-    #[error("a number is too long or too great for its type")]
-    BadNumber,
     /// A name isn't UTF-8.
     #[error("a name is not UTF-8")]
     BadName,
-    #[error("this is no type that is allowed here")]
-    BadType,
     #[error("no import is of this kind")]
     BadImportKind,
     #[error("no export is of this kind")]
@@ -63,15 +60,12 @@ pub enum ModuleFault {
     #[error("this operator is not allowed in a constant expression")]
     BadConstant,
     /// An index names nothing that the module has.
-    #[error("index {index} is out of bounds for {}", items_of(*space))]
+    #[error("{}", IndexError::OutOfRange {space: *space, index: *index})]
     IndexOutOfRange { space: Space, index: u32 },
-    /// The type of a function or of a tag isn't a function type.
-    #[error("a type is not a function type")]
-    NotAFunctionType,
     /// The code section hasn't as many bodies as the function section has functions.
     #[error("there are not as many bodies as functions")]
     BodyCount,
-    /// The data count section doesn't tell the number of data segments.
+    /// The data count section doesn't have the number of data segments.
     #[error("the data count is not the number of data segments")]
     DataCount,
     /// A function has more than 50,000 locals, its parameters among them.
@@ -80,12 +74,21 @@ pub enum ModuleFault {
     /// An operator names a local that the function doesn't have.
     #[error("an index is out of bounds for the function's locals")]
     LocalOutOfRange,
-    /// The module has no type for a handler. No call of a parsed module answers it.
-    #[error("the module has no type for a handler")]
-    TypeMissing,
-    /// A body or a constant expression isn't accepted, or a body can't be written.
-    #[error("{0}")]
-    Code(CodeFault),
+    /// A number, a type or an operator can't be read. Of a number or a type that the bytes end in,
+    /// outside of code, the fault is `Truncated`.
+    #[error(transparent)]
+    Read(ReadFault),
+    /// Code names an index that nothing has, or an id has no index.
+    #[error(transparent)]
+    Index(IndexError),
+    /// A body isn't accepted; or `NotAFunctionType` where the type of a function or of a tag is none.
+    /// No call of a parsed module is known to return `TypeMissing`: the types that handlers require
+    /// are added.
+    #[error(transparent)]
+    Parse(ParseError),
+    /// A function can't be written.
+    #[error(transparent)]
+    Emit(EmitError),
     /// An export that is to be added has the name of one that is there.
     #[error("an export has this name already")]
     ExportTaken,
@@ -100,6 +103,36 @@ pub enum ModuleFault {
     Memory,
 }
 
+/// Writes the first word of what it is given, and leaves out all else.
+#[derive(Drop)]
+struct FirstWord<'f, W> {
+    out: &'f mut W,
+    has_ended: bool,
+}
+
+impl<W: fmt::Write> fmt::Write for FirstWord<'_, W> {
+    fn write_str(&mut self, text: &str) -> fmt::Result {
+        for c in text.chars() {
+            if !c.is_ascii_alphanumeric() {
+                self.has_ended = true;
+            }
+            if !self.has_ended {
+                self.out.write_char(c)?;
+            }
+        }
+        Ok(())
+    }
+}
+
+/// Writes the name of a fault's variant, which is the first word of its `Debug`.
+fn write_name<W: fmt::Write, F: fmt::Debug>(fault: &F, f: &mut fmt::Formatter<W>) -> fmt::Result {
+    let mut word = FirstWord {
+        out: f,
+        has_ended: false,
+    };
+    write!(word, "{fault:?}")
+}
+
 /// The name of a fault: that of its innermost variant.
 #[derive(Clone, Copy, Debug, PartialEq, Eq)]
 pub struct FaultName(ModuleFault);
@@ -107,36 +140,69 @@ pub struct FaultName(ModuleFault);
 impl fmt::Display for FaultName {
     fn fmt<W: fmt::Write>(&self, f: &mut fmt::Formatter<W>) -> fmt::Result {
         match self.0 {
-            ModuleFault::IndexOutOfRange { .. } => f.write_str("IndexOutOfRange"),
-            ModuleFault::Code(CodeFault::OutOfRange { .. }) => f.write_str("OutOfRange"),
-            ModuleFault::Code(CodeFault::LocalOutOfRange { .. }) => f.write_str("LocalOutOfRange"),
-            ModuleFault::Code(CodeFault::Unnumbered { .. }) => f.write_str("Unnumbered"),
-            ModuleFault::Code(fault) => write!(f, "{fault:?}"),
-            fault => write!(f, "{fault:?}"),
+            ModuleFault::Read(fault) => write_name(&fault, f),
+            ModuleFault::Index(error) => write_name(&error, f),
+            ModuleFault::Parse(error) => write_name(&error, f),
+            ModuleFault::Emit(error) => write_name(&error, f),
+            fault => write_name(&fault, f),
         }
     }
 }
 
 impl ModuleFault {
-    /// What is wrong with code.
-    fn of_code(fault: CodeFault) -> ModuleFault
-        ensures { fault ≡ code.Memory → result ≡ Memory }
+    /// Why code names an index or an id that isn't found.
+    fn of_index(error: IndexError) -> ModuleFault {
+        match error {
+            IndexError::Memory => ModuleFault::Memory,
+            IndexError::LocalOutOfRange { .. } => ModuleFault::LocalOutOfRange,
+            error => ModuleFault::Index(error),
+        }
+    }
+
+    /// Why a body isn't accepted. The validator refuses locals that the function doesn't have.
+    fn of_parse(error: ParseError) -> ModuleFault
+        ensures { error ≡ parse.Memory → result ≡ Memory }
     {
-        match fault {
-            CodeFault::Checked => ModuleFault::LocalOutOfRange,
-            CodeFault::TypeMissing => ModuleFault::TypeMissing,
-            CodeFault::Memory => ModuleFault::Memory,
-            fault => ModuleFault::Code(fault),
+        match error {
+            ParseError::Read(error) => ModuleFault::Read(error.fault),
+            ParseError::Checked(_) => ModuleFault::LocalOutOfRange,
+            ParseError::Index(error) => ModuleFault::of_index(error),
+            ParseError::Memory => ModuleFault::Memory,
+            error => ModuleFault::Parse(error),
+        }
+    }
+
+    /// Why a function isn't walked over.
+    fn of_walk(error: WalkError) -> ModuleFault
+        ensures { error ≡ walk.Memory → result ≡ Memory }
+    {
+        match error {
+            WalkError::Memory => ModuleFault::Memory,
+            error => ModuleFault::Emit(EmitError::from(error)),
+        }
+    }
+
+    /// Why a function can't be written.
+    fn of_emit(error: EmitError) -> ModuleFault
+        ensures { error ≡ emit.Memory → result ≡ Memory }
+    {
+        match error {
+            EmitError::Index(error) => ModuleFault::of_index(error),
+            EmitError::Memory => ModuleFault::Memory,
+            error => ModuleFault::Emit(error),
         }
     }
 
     /// The fault's name.
-    pub fn name(self) -> FaultName {
+    pub fn name(self) -> FaultName
+        ensures { result.0 ≡ self }
+    {
         FaultName(self)
     }
 }
 
-/// A fault of a module, and the place in the file where it stands. The place is open for `Memory`.
+/// A fault of a module, and its place, a byte offset from the start of the file. The place of
+/// `Memory` means nothing.
 #[derive(Clone, Copy, Debug, PartialEq, Eq)]
 pub struct ModuleError {
     pub fault: ModuleFault,
@@ -154,13 +220,13 @@ impl fmt::Display for ModuleError {
 impl Error for ModuleError {}
 
 impl ModuleError {
-    /// No memory was left.
+    /// Memory ran out.
     pub(crate) const MEMORY: ModuleError = ModuleError {
         fault: ModuleFault::Memory,
         at: 0,
     };
 
-    /// Why an index map has no answer, or can't grow, at this place.
+    /// Why a section's index isn't found in an index map, or the map can't grow, at this place.
     pub(crate) fn of_index(error: IndexError, at: usize) -> ModuleError
         ensures { error ≡ index.Memory → result.fault ≡ Memory }
     {
@@ -182,7 +248,7 @@ impl ModuleError {
         match error {
             ParseError::Index(error) => ModuleError::of_index(error, at),
             _ => ModuleError {
-                fault: ModuleFault::BadType,
+                fault: ModuleFault::Read(ReadFault::BadType),
                 at,
             },
         }
@@ -194,7 +260,7 @@ impl ModuleError {
         ensures place { result.at ≡ failure.at }
     {
         ModuleError {
-            fault: ModuleFault::of_code(CodeFault::of_parse(failure.error)),
+            fault: ModuleFault::of_parse(failure.error),
             at: failure.at,
         }
     }
@@ -214,13 +280,10 @@ impl ModuleError {
     {
         let fault = match error {
             RewriteError::Parse(failure) => return ModuleError::of_parse(failure),
-            RewriteError::Walk(error) => CodeFault::of_walk(error),
-            RewriteError::Emit(error) => CodeFault::of_emit(error),
+            RewriteError::Walk(error) => ModuleFault::of_walk(error),
+            RewriteError::Emit(error) => ModuleFault::of_emit(error),
         };
-        ModuleError {
-            fault: ModuleFault::of_code(fault),
-            at: start,
-        }
+        ModuleError { fault, at: start }
     }
 }
 

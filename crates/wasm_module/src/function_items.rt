@@ -29,6 +29,14 @@ fn pass_items(input: &mut Input<'_>) -> Result<(), ModuleError> {
     Ok(())
 }
 
+/// Passes the index of a function, and its items.
+fn pass_function(input: &mut Input<'_>) -> Result<(), ModuleError> {
+    match input.number() {
+        Ok(_) => pass_items(input),
+        Err(error) => Err(error),
+    }
+}
+
 /// The items of one function.
 fn read_items<'a>(alloc: Global, input: &mut Input<'a>) -> Result<Vec<Item<'a>>, ModuleError> {
     let mut items = Vec::new(alloc);
@@ -82,8 +90,10 @@ impl<'a> FunctionItems<'a> {
     /// Carries over the items of the next function, as they are.
     fn carry(&mut self) -> Result<(), ModuleError> {
         let mut input = self.left;
-        input.number()?;
-        pass_items(&mut input)?;
+        match pass_function(&mut input) {
+            Ok(()) => {}
+            Err(error) => return Err(error),
+        }
         self.written.extend_from_slice(self.left.until(&input))?;
         self.functions = self.functions.saturating_add(1);
         self.left = input;

@@ -136,8 +136,7 @@ impl<'a> Input<'a> {
     fn unread(&self, fault: ReadFault) -> ModuleError {
         match fault {
             ReadFault::Truncated => self.ended().fault(ModuleFault::Truncated),
-            ReadFault::BadNumber => self.fault(ModuleFault::BadNumber),
-            _ => self.fault(ModuleFault::BadType),
+            fault => self.fault(ModuleFault::Read(fault)),
         }
     }
 
@@ -211,7 +210,7 @@ impl<'a> Input<'a> {
         let begin = *self;
         match self.value_type()? {
             ValType::Ref(ty) => Ok(ValType::Ref(ty)),
-            _ => Err(begin.fault(ModuleFault::BadType)),
+            _ => Err(begin.fault(ModuleFault::Read(ReadFault::BadType))),
         }
     }
 }

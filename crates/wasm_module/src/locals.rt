@@ -104,11 +104,29 @@ impl Locals {
 }
 
 impl Input<'_> {
+    /// Passes the declaration of a group of locals.
+    fn pass_declaration(&mut self) -> Result<(), ModuleError> {
+        match self.number() {
+            Ok(_) => {}
+            Err(error) => return Err(error),
+        }
+        match self.value_type() {
+            Ok(_) => Ok(()),
+            Err(error) => Err(error),
+        }
+    }
+
     /// Passes the declarations of a body's locals.
     pub fn pass_declarations(&mut self) -> Result<(), ModuleError> {
-        for _ in 0..self.number()? {
-            self.number()?;
-            self.value_type()?;
+        let count = match self.number() {
+            Ok(count) => count,
+            Err(error) => return Err(error),
+        };
+        for _ in 0..count {
+            match self.pass_declaration() {
+                Ok(()) => {}
+                Err(error) => return Err(error),
+            }
         }
         Ok(())
     }

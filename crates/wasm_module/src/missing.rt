@@ -66,10 +66,13 @@ impl<'a> ParsedModule<'a> {
         ensures extends { Extends self.old self.new }
         ensures refused { IfErr result (λ e. e.fault ≡ Memory) }
     {
-        if InstrSeqType::existing(&self.module.types, params, results).is_none() {
-            self.module.types.add_func(params, results)?;
+        if InstrSeqType::existing(&self.module.types, params, results).is_some() {
+            return Ok(());
         }
-        Ok(())
+        match self.module.types.add_func(params, results) {
+            Ok(_) => Ok(()),
+            Err(error) => Err(ModuleError::from(error)),
+        }
     }
 
     /// Adds the type of a handler that takes this, in a construct of this type.

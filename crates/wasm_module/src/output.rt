@@ -47,7 +47,10 @@ pub(crate) fn write_number(out: &mut Vec<u8>, number: usize) -> Result<(), Modul
 pub(crate) fn write_bytes(out: &mut Vec<u8>, bytes: &[u8]) -> Result<(), ModuleError>
     ensures { OnOk result (out.new.items ≡ out.old.items ++ entry bytes.now) }
 {
-    write_number(out, bytes.len())?;
+    match write_number(out, bytes.len()) {
+        Ok(()) => {}
+        Err(error) => return Err(error),
+    }
     out.extend_from_slice(bytes)?;
     Ok(())
 }

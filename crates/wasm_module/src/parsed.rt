@@ -1,5 +1,5 @@
 //! A module that was read.
-ghost use Rattle.std.specs.Prelude.{◌≡◌, List, IfOk};
+ghost use Rattle.std.specs.Prelude.{◌≡◌, ◌<◌, ◌≤◌, ◌↔◌, List, length, nat_lt, IsTrue, IfOk};
 ghost use Rattle.wasm_module.specs.Sections.{SectionAt, IsModule, next_rank};
 ghost use Rattle.wasm_module.specs.WrittenModules.{count_bodies};
 
@@ -11,7 +11,7 @@ use crate::sections::{RANKS, Section, SectionKind, Sections};
 use crate::spaces::Spaces;
 use crate::types::{RawType, read_types};
 use std::alloc::Global;
-use walrus_body::{IndexError, Space, value_type};
+use walrus_body::{IndexError, ParseError, Space, value_type};
 use walrus_ir::{FunctionId, Module, ModuleLocals, ModuleTags, ModuleTypes, TypeId, ValType};
 use wasm_ops::RawValType;
 
@@ -126,12 +126,17 @@ impl<'a> ParsedModule<'a> {
     }
 
     /// Whether an imported function has this index.
-    pub fn is_imported(&self, index: usize) -> bool {
+    pub fn is_imported(&self, index: usize) -> bool
+        ensures { result ≡ nat_lt index self.now.imported }
+    {
         index < self.imported
     }
 
-    /// Whether a function with a body has this index, which counts behind imported ones.
-    pub fn has_body(&self, index: usize) -> bool {
+    /// Whether a function with a body has this index; imported functions have the first indices.
+    pub fn has_body(&self, index: usize) -> bool
+        ensures { IsTrue result ↔ ((self.now.imported ≤ index)
+            × (index < length self.now.func_types.items)) }
+    {
         index >= self.imported && index < self.func_types.len()
     }
 
@@ -236,7 +241,7 @@ impl<'a> ParsedModule<'a> {
             return Ok(id);
         }
         Err(ModuleError {
-            fault: ModuleFault::NotAFunctionType,
+            fault: ModuleFault::Parse(ParseError::NotAFunctionType),
             at: place,
         })
     }

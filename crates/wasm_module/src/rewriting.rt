@@ -97,8 +97,13 @@ impl<'a> ParsedModule<'a> {
         Ok(len)
     }
 
-    /// The module with these bodies, and these changes of its sections.
-    fn rewrite_with<B: BodyWriter + Drop>(
+    /// The module with these bodies, beside these changes of sections. Names of locals and of labels
+    /// and metadata of code follow the bodies.
+    ///
+    /// # Errors
+    ///
+    /// The first fault of a body, with its place, or why it isn't written; or `Memory`.
+    pub fn rewrite_with<B: BodyWriter + Drop>(
         &mut self,
         bodies: B,
         changes: Changes,

@@ -28,30 +28,66 @@ impl Input<'_> {
         }
     }
 
-    /// Passes an element segment.
-    pub fn element_segment(&mut self) -> Result<(), ModuleError> {
-        let flags = self.segment_flags(7)?;
+    /// Passes the index of a table or of a memory.
+    fn pass_index(&mut self) -> Result<(), ModuleError> {
+        match self.number() {
+            Ok(_) => Ok(()),
+            Err(error) => Err(error),
+        }
+    }
+
+    /// Passes what is before the elements of a segment with these flags.
+    fn before_elements(&mut self, flags: u32) -> Result<(), ModuleError> {
         let is_active = flags % 2 == 0;
         let has_more = flags % 4 != 0;
-        let is_expressions = flags >= 4;
         // An active segment names its table where bit 1 says so.
         if is_active && has_more {
-            self.number()?;
+            match self.pass_index() {
+                Ok(()) => {}
+                Err(error) => return Err(error),
+            }
         }
         if is_active {
-            self.constant()?;
+            match self.constant() {
+                Ok(()) => {}
+                Err(error) => return Err(error),
+            }
         }
-        if has_more {
-            self.element_kind(is_expressions)?;
+        match has_more {
+            true => self.element_kind(flags >= 4),
+            false => Ok(()),
         }
-        for _ in 0..self.number()? {
-            if is_expressions {
-                self.constant()?;
-            } else {
-                self.number()?;
+    }
+
+    /// Passes the elements of a segment: expressions, or indices of functions.
+    fn elements(&mut self, are_expressions: bool) -> Result<(), ModuleError> {
+        let count = match self.number() {
+            Ok(count) => count,
+            Err(error) => return Err(error),
+        };
+        for _ in 0..count {
+            let passed = match are_expressions {
+                true => self.constant(),
+                false => self.pass_index(),
+            };
+            match passed {
+                Ok(()) => {}
+                Err(error) => return Err(error),
             }
         }
         Ok(())
+    }
+
+    /// Passes an element segment.
+    pub fn element_segment(&mut self) -> Result<(), ModuleError> {
+        let flags = match self.segment_flags(7) {
+            Ok(flags) => flags,
+            Err(error) => return Err(error),
+        };
+        match self.before_elements(flags) {
+            Ok(()) => self.elements(flags >= 4),
+            Err(error) => Err(error),
+        }
     }
 
     /// Passes a data segment.

@@ -34,8 +34,10 @@ impl Input<'_> {
 
     /// Passes the type of a table.
     pub fn table_type(&mut self) -> Result<(), ModuleError> {
-        self.reference_type()?;
-        self.limits()
+        match self.reference_type() {
+            Ok(_) => self.limits(),
+            Err(error) => Err(error),
+        }
     }
 
     /// Passes a table: its type, which a constant expression for its elements may follow.
@@ -50,8 +52,10 @@ impl Input<'_> {
 
     /// Passes the type of a global.
     pub fn global_type(&mut self) -> Result<(), ModuleError> {
-        self.value_type()?;
-        self.mutability()
+        match self.value_type() {
+            Ok(_) => self.mutability(),
+            Err(error) => Err(error),
+        }
     }
 
     /// Passes a global: its type, and a constant expression.

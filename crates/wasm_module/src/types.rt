@@ -5,7 +5,7 @@ use crate::input::Input;
 use std::alloc::Global;
 use walrus_body::Space;
 use walrus_ir::{HeapType, RefType, ValType};
-use wasm_ops::RawValType;
+use wasm_ops::{RawValType, ReadFault};
 
 /// A composite type, as far as bodies of functions speak of it: with raw type indices.
 #[derive(Drop)]
@@ -63,15 +63,16 @@ impl TypeReader<'_> {
 
     /// Passes the type of a field: a value type, or one of 8 or 16 bits, and its mutability.
     fn field(&mut self) -> Result<(), ModuleError> {
-        match self.input.rest() {
-            [0x77 | 0x78, ..] => {
-                self.input.byte()?;
-            }
-            _ => {
-                self.value_type()?;
-            }
+        if matches!(self.input.rest(), [0x77 | 0x78, ..]) {
+            return match self.input.byte() {
+                Ok(_) => self.input.mutability(),
+                Err(error) => Err(error),
+            };
         }
-        self.input.mutability()
+        match self.value_type() {
+            Ok(_) => self.input.mutability(),
+            Err(error) => Err(error),
+        }
     }
 
     /// A composite type.
@@ -93,7 +94,7 @@ impl TypeReader<'_> {
                 self.field()?;
                 Ok(RawType::Other)
             }
-            _ => Err(begin.fault(ModuleFault::BadType)),
+            _ => Err(begin.fault(ModuleFault::Read(ReadFault::BadType))),
         }
     }
 
