@@ -1,0 +1,2 @@
+-- which JSON texts are source maps
+pub mod SourceMaps

@@ -1,0 +1,70 @@
+//! Reading source maps.
+
+ghost use Rattle.std.specs.Prelude.{◌≡◌, List, ℕ, Some, IfOk};
+ghost use Rattle.serde_json.specs.Data.{Data};
+ghost use Rattle.serde_json.specs.View.{view};
+ghost use Rattle.serde_json.specs.Read.{read as read_text};
+ghost use Rattle.source_map.specs.Spelling.{Spells};
+ghost use Rattle.source_map_json.specs.SourceMaps.{IsSourceMap};
+
+use crate::fault::{SourceMapError, SourceMapFault};
+use serde_json::Value;
+use source_map::{Mapping, decode};
+use std::alloc::Global;
+
+/// A source map that was read.
+#[derive(Drop)]
+pub struct SourceMap {
+    /// All of it. It is an object.
+    pub(crate) value: Value,
+    pub(crate) mappings: Vec<Mapping>,
+}
+
+/// The mappings of a source map.
+fn read_mappings(alloc: Global, value: &Value) -> Result<Vec<Mapping>, SourceMapError>
+    ensures { IfOk result (λ v. (text : List ℕ) × IsSourceMap (view value.now) text
+        × Spells v.items text) }
+{
+    if !value.is_object() {
+        return Err(SourceMapError::Fault(SourceMapFault::NotASourceMap));
+    }
+    if value.get("version").and_then(Value::as_u64) != Some(3) {
+        return Err(SourceMapError::Fault(SourceMapFault::BadSourceMapVersion));
+    }
+    let Some(text) = value.get("mappings").and_then(Value::as_str) else {
+        return Err(SourceMapError::Fault(SourceMapFault::NoMappings));
+    };
+    match decode(alloc, text.as_bytes()) {
+        Ok(mappings) => Ok(mappings),
+        Err(error) => Err(SourceMapError::from(error)),
+    }
+}
+
+impl SourceMap {
+    /// Reads a source map: a JSON text in UTF-8. Of the generated program, which has one line, a
+    /// column is an offset.
+    ///
+    /// # Errors
+    ///
+    /// What is wrong with it; or that memory ran out.
+    pub fn read(alloc: Global, bytes: &[u8]) -> Result<SourceMap, SourceMapError>
+        ensures { IfOk result (λ map. (d : Data) × (text : List ℕ) × (read_text bytes.now ≡ Some d)
+            × IsSourceMap d text × Spells map.mappings.items text) }
+    {
+        let value = match Value::from_slice(alloc, bytes) {
+            Ok(value) => value,
+            Err(error) => return Err(SourceMapError::of_json(&error)),
+        };
+        match read_mappings(alloc, &value) {
+            Ok(mappings) => Ok(SourceMap { value, mappings }),
+            Err(error) => Err(error),
+        }
+    }
+
+    /// Its mappings, sorted by their generated columns.
+    pub fn mappings(&self) -> &[Mapping]
+        ensures { result.now ≡ self.now.mappings.items }
+    {
+        self.mappings.as_slice()
+    }
+}
