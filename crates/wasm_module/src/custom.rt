@@ -355,7 +355,10 @@ impl<'a> Followers<'a> {
         let mut needs_pairs = false;
         for section in self.sections.iter_mut() {
             for part in section.parts.iter_mut() {
-                part.items.carry_before(func)?;
+                match part.items.carry_before(func) {
+                    Ok(()) => {}
+                    Err(error) => return Err(error),
+                }
                 needs_pairs |= part.follows != Follows::Locals && part.items.has(func);
             }
         }
@@ -378,7 +381,10 @@ impl<'a> Followers<'a> {
         };
         for section in self.sections.iter_mut() {
             for part in section.parts.iter_mut() {
-                part.pass(parsed, body)?;
+                match part.pass(parsed, body) {
+                    Ok(()) => {}
+                    Err(error) => return Err(error),
+                }
             }
         }
         Ok(())

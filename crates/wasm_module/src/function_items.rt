@@ -105,8 +105,12 @@ impl<'a> FunctionItems<'a> {
         // A function's items take two bytes at least.
         for _ in 0..self.left.rest().len() {
             match self.next_func() {
-                Some(next) if next < func => self.carry()?,
+                Some(next) if next < func => {}
                 _ => return Ok(()),
+            }
+            match self.carry() {
+                Ok(()) => {}
+                Err(error) => return Err(error),
             }
         }
         Ok(())
@@ -126,33 +130,71 @@ impl<'a> FunctionItems<'a> {
         Ok(items)
     }
 
+    /// Writes the index of a function, and how many items follow.
+    fn put_front(&mut self, func: usize, count: usize) -> Result<(), ModuleError> {
+        match write_number(&mut self.written, func) {
+            Ok(()) => write_number(&mut self.written, count),
+            Err(error) => Err(error),
+        }
+    }
+
+    /// Writes an item.
+    fn put_item(&mut self, item: &Item<'a>) -> Result<(), ModuleError> {
+        match write_number(&mut self.written, item.0 as usize) {
+            Ok(()) => write_bytes(&mut self.written, item.1),
+            Err(error) => Err(error),
+        }
+    }
+
     /// Writes items of a function, in ascending order; nothing where there are none.
     pub fn put(&mut self, func: usize, items: &mut Vec<Item<'a>>) -> Result<(), ModuleError> {
         if items.is_empty() {
             return Ok(());
         }
         items.sort_unstable_by_key(|(number, _)| *number);
-        write_number(&mut self.written, func)?;
-        write_number(&mut self.written, items.len())?;
-        for (number, bytes) in items.iter() {
-            write_number(&mut self.written, *number as usize)?;
-            write_bytes(&mut self.written, bytes)?;
+        match self.put_front(func, items.len()) {
+            Ok(()) => {}
+            Err(error) => return Err(error),
+        }
+        for item in items.iter() {
+            match self.put_item(item) {
+                Ok(()) => {}
+                Err(error) => return Err(error),
+            }
         }
         self.functions = self.functions.saturating_add(1);
         Ok(())
     }
 
-    /// Carries over what is left, and appends all: the number of functions, and their items; behind
-    /// the size of all where one is written.
-    pub fn finish(&mut self, is_sized: bool, out: &mut Vec<u8>) -> Result<(), ModuleError> {
-        self.carry_before(usize::MAX)?;
-        let functions = self.functions as usize;
-        if is_sized {
-            let len = self.written.len();
-            write_number(out, len.saturating_add(number_len(functions)))?;
+    /// Appends the number of functions, and their items.
+    fn append(&self, out: &mut Vec<u8>) -> Result<(), ModuleError> {
+        match write_number(out, self.functions as usize) {
+            Ok(()) => {}
+            Err(error) => return Err(error),
         }
-        write_number(out, functions)?;
         out.extend_from_slice(&self.written)?;
         Ok(())
+    }
+
+    /// Appends the size of all, and all.
+    fn append_sized(&self, out: &mut Vec<u8>) -> Result<(), ModuleError> {
+        let len = number_len(self.functions as usize);
+        match write_number(out, self.written.len().saturating_add(len)) {
+            Ok(()) => self.append(out),
+            Err(error) => Err(error),
+        }
+    }
+
+    /// Carries over what is left, and appends all: the number of functions, and their items, after
+    /// the size of all where one is written.
+    pub fn finish(&mut self, is_sized: bool, out: &mut Vec<u8>) -> Result<(), ModuleError> {
+        match self.carry_before(usize::MAX) {
+            Ok(()) => {}
+            Err(error) => return Err(error),
+        }
+        match is_sized {
+            true => self.append_sized(out),
+            false => self.append(out),
+        }
     }
 }

@@ -138,7 +138,10 @@ impl<'a> ParsedModule<'a> {
             let Ok(operator) = reader.read() else {
                 break 'operators;
             };
-            self.add_type_at(&operator, &mut open)?;
+            match self.add_type_at(&operator, &mut open) {
+                Ok(()) => {}
+                Err(error) => return Err(error),
+            }
         }
         Ok(())
     }

@@ -42,6 +42,17 @@ fn added_at(answer: Result<(), IndexError>, place: usize) -> Result<(), ModuleEr
     }
 }
 
+/// Passes an item of a section of this kind, which is no import, export, function or tag.
+fn pass_item(kind: SectionKind, input: &mut Input<'_>) -> Result<(), ModuleError> {
+    match kind {
+        SectionKind::Table => input.table(),
+        SectionKind::Memory => input.limits(),
+        SectionKind::Global => input.global(),
+        SectionKind::Element => input.element_segment(),
+        _ => input.data_segment(),
+    }
+}
+
 impl<'a> ParsedModule<'a> {
     /// Reads a module, but not yet the bodies of its functions.
     ///
@@ -187,23 +198,26 @@ impl<'a> ParsedModule<'a> {
     fn read_item(&mut self, kind: SectionKind, input: &mut Input<'a>) -> Result<(), ModuleError> {
         let place = input.at();
         match kind {
-            SectionKind::Import => return self.read_import(input),
-            SectionKind::Function => {
-                let index = input.number()?;
-                return self.add_func(index, place);
-            }
-            SectionKind::Export => return input.export(&self.spaces.indices),
-            SectionKind::Tag => {
-                let index = input.tag()?;
-                return self.add_tag(index, place);
-            }
-            SectionKind::Table => input.table()?,
-            SectionKind::Memory => input.limits()?,
-            SectionKind::Global => input.global()?,
-            SectionKind::Element => input.element_segment()?,
-            _ => input.data_segment()?,
+            SectionKind::Import => self.read_import(input),
+            SectionKind::Export => input.export(&self.spaces.indices),
+            SectionKind::Function => match input.number() {
+                Ok(index) => self.add_func(index, place),
+                Err(error) => Err(error),
+            },
+            SectionKind::Tag => match input.tag() {
+                Ok(index) => self.add_tag(index, place),
+                Err(error) => Err(error),
+            },
+            _ => match pass_item(kind, input) {
+                Ok(()) => added_at(self.count_item(kind), place),
+                Err(error) => Err(error),
+            },
         }
-        let added = match kind {
+    }
+
+    /// Gives an item of a section of this kind its index.
+    fn count_item(&mut self, kind: SectionKind) -> Result<(), IndexError> {
+        match kind {
             SectionKind::Table => self.spaces.add_table(),
             SectionKind::Memory => self.spaces.add_memory(),
             SectionKind::Global => self.spaces.add_global(),
@@ -211,24 +225,30 @@ impl<'a> ParsedModule<'a> {
             _ if self.data_count.is_some() => self.spaces.add_data(),
             // No operator may name a data segment.
             _ => Ok(()),
-        };
-        added_at(added, place)
+        }
     }
 
     fn read_import(&mut self, input: &mut Input<'a>) -> Result<(), ModuleError> {
-        let (imported, place) = input.import()?;
-        let added = match imported {
-            Imported::Func(index) => {
-                self.add_func(index, place)?;
-                self.imported = self.func_types.len();
-                return Ok(());
-            }
-            Imported::Tag(index) => return self.add_tag(index, place),
-            Imported::Table => self.spaces.add_table(),
-            Imported::Memory => self.spaces.add_memory(),
-            Imported::Global => self.spaces.add_global(),
-        };
-        added_at(added, place)
+        match input.import() {
+            Ok((imported, place)) => self.add_import(imported, place),
+            Err(error) => Err(error),
+        }
+    }
+
+    fn add_import(&mut self, imported: Imported, place: usize) -> Result<(), ModuleError> {
+        match imported {
+            Imported::Func(index) => match self.add_func(index, place) {
+                Ok(()) => {
+                    self.imported = self.func_types.len();
+                    Ok(())
+                }
+                Err(error) => Err(error),
+            },
+            Imported::Tag(index) => self.add_tag(index, place),
+            Imported::Table => added_at(self.spaces.add_table(), place),
+            Imported::Memory => added_at(self.spaces.add_memory(), place),
+            Imported::Global => added_at(self.spaces.add_global(), place),
+        }
     }
 
     /// The function type with this index.

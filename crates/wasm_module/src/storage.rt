@@ -60,8 +60,10 @@ impl Input<'_> {
 
     /// Passes a global: its type, and a constant expression.
     pub fn global(&mut self) -> Result<(), ModuleError> {
-        self.global_type()?;
-        self.constant()
+        match self.global_type() {
+            Ok(()) => self.constant(),
+            Err(error) => Err(error),
+        }
     }
 
     /// The type index of a tag, behind its attribute.

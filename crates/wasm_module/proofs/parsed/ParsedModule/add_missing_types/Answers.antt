@@ -10,5 +10,5 @@ returns-then-is_err-clause-extends c = extends_same c.args.self.now
 pub operators-preserved : goal.operators-preserved
 operators-preserved c = extends_then c.args.self.now c.operators.self c.add_type_at.new.self c.operators.invariant c.add_type_at.ensures.extends
 
-pub returns-in_err-add_type_at-clause-extends : goal.returns-in_err-add_type_at-clause-extends
-returns-in_err-add_type_at-clause-extends c = extends_then c.args.self.now c.operators.self c.add_type_at.new.self c.operators.invariant c.add_type_at.ensures.extends
+pub returns-in-Err-clause-extends : goal.returns-in-Err-clause-extends
+returns-in-Err-clause-extends c = extends_then c.args.self.now c.operators.self c.add_type_at.new.self c.operators.invariant c.add_type_at.ensures.extends
