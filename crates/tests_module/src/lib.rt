@@ -8,6 +8,8 @@ mod cases;
 #[cfg(test)]
 mod every_operator;
 #[cfg(test)]
+mod mappings;
+#[cfg(test)]
 mod tools;
 #[cfg(test)]
 mod whole_modules;
