@@ -79,11 +79,7 @@ fn put_others(
 }
 
 /// Appends the mappings.
-fn put_mappings(
-    alloc: Global,
-    out: &mut Vec<u8>,
-    mappings: &[Mapping],
-) -> Result<(), AllocError> {
+fn put_mappings(alloc: Global, out: &mut Vec<u8>, mappings: &[Mapping]) -> Result<(), AllocError> {
     let text = encode(alloc, mappings)?;
     let name = quoted(alloc, MAPPINGS.as_bytes())?;
     let text = quoted(alloc, &text)?;

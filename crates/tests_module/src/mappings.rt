@@ -1,9 +1,7 @@
 //! The text of mappings, and mappings whose operators move. Expected values are worked out by hand,
 //! by the digits of ECMA-426, and were compared with those of a script in Python.
 
-use source_map::{
-    Mapping, MappingsError, MappingsFault, Move, Original, decode, encode, moved,
-};
+use source_map::{Mapping, MappingsError, MappingsFault, Move, Original, decode, encode, moved};
 use std::test::*;
 
 /// A mapping of one field.
