@@ -35,7 +35,7 @@ impl ChangeFunction for CountCalls {
 /// # Errors
 ///
 /// `ExportTaken` where the module exports something else under this name; or `Memory`.
-pub fn counting(
+pub fn call_counter(
     alloc: Global,
     parsed: &mut ParsedModule<'_>,
 ) -> Result<(CountCalls, Changes), ModuleError> {
@@ -72,7 +72,7 @@ pub fn count_calls<'a>(
     alloc: Global,
     parsed: &mut ParsedModule<'a>,
 ) -> Result<RewrittenModule<'a, Changing<CountCalls>>, ModuleError> {
-    match counting(alloc, parsed) {
+    match call_counter(alloc, parsed) {
         Ok((counter, changes)) => parsed.change_all(counter, changes),
         Err(error) => Err(error),
     }

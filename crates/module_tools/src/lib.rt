@@ -17,7 +17,7 @@ mod warnings;
 mod writing;
 mod wrong_use;
 
-pub use counting::{CALLS, CountCalls, count_calls, counting};
+pub use counting::{CALLS, CountCalls, call_counter, count_calls};
 pub use ending::{Attempt, Item, Refusal, Stop};
 pub use escaped::Escaped;
 pub use files::{Target, read_file};

@@ -1,7 +1,7 @@
 //! The program `wcount`: lets the functions of a module count their calls.
 #![tactic(auto)]
 
-use module_tools::{CountCalls, Program, Terminals, Tool, counting, run};
+use module_tools::{CountCalls, Program, Terminals, Tool, call_counter, run};
 use std::alloc::Global;
 use std::io;
 use std::io::IsTerminal;
@@ -45,7 +45,7 @@ impl Tool for Count {
         parsed: &mut ParsedModule<'_>,
         _functions: IdHashSet<FunctionId>,
     ) -> Result<(Changing<CountCalls>, Changes), ModuleError> {
-        match counting(alloc, parsed) {
+        match call_counter(alloc, parsed) {
             Ok((counter, changes)) => Ok((Changing(counter), changes)),
             Err(error) => Err(error),
         }
