@@ -2,3 +2,7 @@
 pub mod Sequences
 -- what they make of functions
 pub mod FunctionChanges
+-- how programs end
+pub mod Endings
+-- which paths lead to one file
+pub mod Places

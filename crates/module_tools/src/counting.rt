@@ -29,6 +29,38 @@ impl ChangeFunction for CountCalls {
     }
 }
 
+/// What lets each function of a module count its calls, and the sections that change: a global is
+/// added, and exported as `calls`.
+///
+/// # Errors
+///
+/// `ExportTaken` where the module exports something else under this name; or `Memory`.
+pub fn call_counter(
+    alloc: Global,
+    parsed: &mut ParsedModule<'_>,
+) -> Result<(CountCalls, Changes), ModuleError> {
+    let mut changes = Changes::new(alloc);
+    match add_counter(parsed, &mut changes) {
+        Ok(global) => Ok((CountCalls(global), changes)),
+        Err(error) => Err(error),
+    }
+}
+
+/// Adds the global, and its export.
+fn add_counter(
+    parsed: &mut ParsedModule<'_>,
+    changes: &mut Changes,
+) -> Result<GlobalId, ModuleError> {
+    let global = match parsed.add_global(changes, &COUNTER) {
+        Ok(global) => global,
+        Err(error) => return Err(error),
+    };
+    match parsed.export_global(changes, CALLS, global) {
+        Ok(()) => Ok(global),
+        Err(error) => Err(error),
+    }
+}
+
 /// Adds a global, exported as `calls`, and to each function that has a body its increment by 1,
 /// before all else that the function does.
 ///
@@ -40,11 +72,8 @@ pub fn count_calls<'a>(
     alloc: Global,
     parsed: &mut ParsedModule<'a>,
 ) -> Result<RewrittenModule<'a, Changing<CountCalls>>, ModuleError> {
-    let mut changes = Changes::new(alloc);
-    let global = match parsed.add_global(&mut changes, &COUNTER) {
-        Ok(global) => global,
-        Err(error) => return Err(error),
-    };
-    parsed.export_global(&mut changes, CALLS, global)?;
-    parsed.change_all(CountCalls(global), changes)
+    match call_counter(alloc, parsed) {
+        Ok((counter, changes)) => parsed.change_all(counter, changes),
+        Err(error) => Err(error),
+    }
 }

@@ -1,15 +1,19 @@
 //! How a program ends: its errors, and its status.
 
+ghost use Rattle.std.specs.Prelude.{◌≡◌, IfOk};
+ghost use Rattle.std.specs.Process.{exit_status};
+ghost use Rattle.module_tools.specs.Endings.{status_of, IsMemoryOr};
+
 use crate::escaped::Escaped;
 use crate::wrong_use::WrongUse;
-use std::alloc::{AllocError, AllocFailed};
+use std::alloc::{AllocError, AllocFailed, Global};
 use std::process::ExitCode;
 use std::rt::Env;
 use std::{env, fmt, io};
 use wasm_module::{ModuleError, ModuleFault};
 
 /// What was tried with a file.
-#[derive(Clone, Copy, Debug)]
+#[derive(Clone, Copy)]
 pub enum Attempt {
     Open,
     Read,
@@ -32,7 +36,7 @@ impl fmt::Display for Attempt {
 }
 
 /// What a fault is in.
-#[derive(Debug, Drop)]
+#[derive(Drop)]
 pub enum Item {
     /// A function, with its index, and its name if it has one.
     Function(usize, Option<String>),
@@ -70,30 +74,93 @@ impl fmt::Display for Shown<'_> {
 }
 
 /// A fault of the module that was read from a file.
-#[derive(Debug, Drop)]
+#[derive(Drop)]
 pub struct Refusal<'w> {
     pub path: &'w str,
+    /// The place of the fault, a byte offset from the start of the file, if it has one.
+    pub at: Option<usize>,
     /// What it is in, where that is known.
     pub item: Option<Item>,
-    pub error: ModuleError,
+    /// Its text, and its name.
+    pub fault: String,
+}
+
+/// The text of a fault, and its name.
+fn fault_text(alloc: Global, error: &ModuleError) -> Result<String, AllocError> {
+    let name = error.fault.name();
+    let fault = &error.fault;
+    format!(in alloc; "{fault} ({name})")
+}
+
+impl<'w> Refusal<'w> {
+    /// A fault of the module that was read from this file.
+    ///
+    /// # Errors
+    ///
+    /// Where memory runs out.
+    pub fn new(
+        alloc: Global,
+        path: &'w str,
+        item: Option<Item>,
+        error: &ModuleError,
+    ) -> Result<Refusal<'w>, AllocError>
+        ensures { IfOk result (λ refusal. refusal.path.now ≡ path.entry.now) }
+    {
+        // A module that is too great is so as a whole.
+        let at = match error.fault {
+            ModuleFault::TooGreat => None,
+            _ => Some(error.at),
+        };
+        match fault_text(alloc, error) {
+            Ok(fault) => Ok(Refusal {
+                path,
+                at,
+                item,
+                fault,
+            }),
+            Err(error) => Err(error),
+        }
+    }
+}
+
+/// A place, before what is there.
+#[derive(Clone, Copy)]
+struct PlaceBefore(Option<usize>);
+
+impl fmt::Display for PlaceBefore {
+    fn fmt<W: fmt::Write>(&self, f: &mut fmt::Formatter<W>) -> fmt::Result {
+        match self.0 {
+            Some(at) => write!(f, "0x{at:x}: "),
+            None => Ok(()),
+        }
+    }
+}
+
+/// What a fault is in, before its text.
+#[derive(Clone, Copy)]
+struct Before<'i>(&'i Option<Item>);
+
+impl fmt::Display for Before<'_> {
+    fn fmt<W: fmt::Write>(&self, f: &mut fmt::Formatter<W>) -> fmt::Result {
+        match self.0 {
+            Some(item) => write!(f, "{item}: "),
+            None => Ok(()),
+        }
+    }
 }
 
 /// The file, the place, what the fault is in, its text, and its name.
 impl fmt::Display for Refusal<'_> {
     fn fmt<W: fmt::Write>(&self, f: &mut fmt::Formatter<W>) -> fmt::Result {
         let path = Shown(self.path, "standard input");
-        let ModuleError { fault, at } = self.error;
-        let name = fault.name();
-        match (&self.item, fault) {
-            (_, ModuleFault::TooGreat) => write!(f, "{path}: {fault} ({name})"),
-            (Some(item), _) => write!(f, "{path}: 0x{at:x}: {item}: {fault} ({name})"),
-            (None, _) => write!(f, "{path}: 0x{at:x}: {fault} ({name})"),
-        }
+        let (place, item) = (PlaceBefore(self.at), Before(&self.item));
+        let fault = self.fault.as_str();
+        write!(f, "{path}: {place}{item}{fault}")
     }
 }
 
 /// Why a program writes no module.
-#[derive(Debug, Drop)]
+#[derive(Drop)]
 pub enum Stop<'w> {
     WrongUse(WrongUse<'w>),
     /// The module is refused.
@@ -109,15 +176,25 @@ pub enum Stop<'w> {
 
 impl<'w> Stop<'w> {
     /// The module that was read from this file is refused.
-    pub fn refused(path: &'w str, item: Option<Item>, error: ModuleError) -> Stop<'w> {
-        match error.fault {
-            ModuleFault::Memory => Stop::Memory,
-            _ => Stop::Module(Refusal { path, item, error }),
+    pub fn refused(
+        alloc: Global,
+        path: &'w str,
+        item: Option<Item>,
+        error: &ModuleError,
+    ) -> Stop<'w> {
+        if matches!(error.fault, ModuleFault::Memory) {
+            return Stop::Memory;
+        }
+        match Refusal::new(alloc, path, item, error) {
+            Ok(refusal) => Stop::Module(refusal),
+            Err(_) => Stop::Memory,
         }
     }
 
     /// This can't be done with a file.
-    pub fn file(path: &'w str, tried: Attempt, error: io::Error) -> Stop<'w> {
+    pub fn file(path: &'w str, tried: Attempt, error: io::Error) -> Stop<'w>
+        ensures { IsMemoryOr tried path.entry.now result }
+    {
         match error.kind() {
             io::ErrorKind::OutOfMemory => Stop::Memory,
             _ => Stop::File { path, tried, error },
@@ -138,7 +215,10 @@ impl fmt::Display for Stop<'_> {
                 let path = Shown(path, stream);
                 write!(f, "{path}: {tried}: {error}")
             }
-            Stop::Memory => f.write_str("out of memory (Memory)"),
+            Stop::Memory => {
+                let (memory, name) = (ModuleFault::Memory, ModuleFault::Memory.name());
+                write!(f, "{memory} ({name})")
+            }
         }
     }
 }
@@ -182,15 +262,27 @@ pub fn words<R: Env + AllocGlobal>(rt: &R) -> Result<Vec<String>, Stop<'static>>
     }
 }
 
-/// Says on standard error why no module is written. The status is then 1, or 2 for wrong use.
-pub fn exit_code(rt: &impl Eprint, program: &str, stop: Stop<'_>) -> ExitCode {
+/// The status of a program that stops so: 2 for wrong use, else 1.
+fn status(stop: &Stop<'_>) -> u8
+    ensures { result ≡ status_of stop.now }
+{
+    match stop {
+        Stop::WrongUse(_) => 2,
+        Stop::Module(_) => 1,
+        Stop::File { .. } => 1,
+        Stop::Memory => 1,
+    }
+}
+
+/// Prints to standard error why no module is written. The status is then 2 for wrong use, else 1.
+pub fn exit_code(rt: &impl Eprint, program: &str, stop: Stop<'_>) -> ExitCode
+    ensures { exit_status result ≡ status_of stop.entry }
+{
+    let status = status(&stop);
     // Where standard error can't be written, the status is all that is left.
     let _ = eprintln!(rt; "{program}: {stop}");
-    match stop {
-        Stop::WrongUse(_) => {
-            let _ = eprintln!(rt; "try '{program} --help'");
-            ExitCode::from(2)
-        }
-        _ => ExitCode::FAILURE,
+    if status == 2 {
+        let _ = eprintln!(rt; "try '{program} --help'");
     }
+    ExitCode::from(status)
 }

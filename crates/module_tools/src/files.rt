@@ -1,10 +1,14 @@
-//! Files that are read whole, and written whole or not at all. The path `-` stands for standard
-//! input or output.
+//! Files that are read whole, and written whole or not at all. The path `-` is standard input or
+//! output.
+
+ghost use Rattle.std.specs.Prelude.{◌≡◌, ◌≤◌, false, length, IfOk, IfErr};
+ghost use Rattle.module_tools.specs.Endings.{IsMemoryOr};
+ghost use Rattle.module_tools.specs.declared.ending.Attempt.TheVariants as attempt;
 
 use crate::ending::{Attempt, Stop};
 use crate::places::resolve;
 use std::alloc::{AllocError, Global};
-use std::fs::{OpenFile, OpenOptions, Permissions};
+use std::fs::{Metadata, OpenFile, OpenOptions, Permissions};
 use std::io::{Read, Write};
 use std::os::unix::fs::OpenOptionsExt;
 use std::path::Path;
@@ -18,38 +22,47 @@ const MOST_NAMES: u32 = 10_000;
 /// at most.
 const MOST_NAME: usize = 200;
 
-/// The bytes of a file, in a list that may have reserved more than they take.
-fn read_whole<'w, R: Files + Input + AllocGlobal>(
+/// Appends the bytes of a file.
+fn read_into<'w, R: Files + Input>(
     rt: &R,
     path: &'w str,
-) -> Result<Vec<u8>, Stop<'w>> {
-    let mut bytes = Vec::new(rt.alloc());
+    bytes: &mut Vec<u8>,
+) -> Result<(), Stop<'w>> {
     let read = match path {
-        "-" => rt.reader().read_to_end(&mut bytes),
+        "-" => rt.reader().read_to_end(bytes),
         path => match fs::open(rt, path) {
-            Ok(mut file) => file.read_to_end(&mut bytes),
+            Ok(mut file) => file.read_to_end(bytes),
             Err(error) => return Err(Stop::file(path, Attempt::Open, error)),
         },
     };
     match read {
-        Ok(_) => Ok(bytes),
+        Ok(_) => Ok(()),
         Err(error) => Err(Stop::file(path, Attempt::Read, error)),
     }
 }
 
 /// The bytes of a file, which take no more memory than they need.
+///
+/// # Errors
+///
+/// Where it can't be opened or read, or memory runs out.
 pub fn read_file<'w, R: Files + Input + AllocGlobal>(
     rt: &R,
     path: &'w str,
 ) -> Result<Vec<u8>, Stop<'w>> {
-    let mut bytes = read_whole(rt, path)?;
-    bytes.shrink_to_fit();
-    Ok(bytes)
+    let mut bytes = Vec::new(rt.alloc());
+    match read_into(rt, path, &mut bytes) {
+        Ok(()) => {
+            bytes.shrink_to_fit();
+            Ok(bytes)
+        }
+        Err(stop) => Err(stop),
+    }
 }
 
 /// What is at a path.
 #[derive(Drop)]
-enum Standing {
+enum AtPath {
     /// A file, with these permissions.
     File(Permissions),
     Nothing,
@@ -57,13 +70,19 @@ enum Standing {
     Special,
 }
 
-impl Standing {
-    fn at(rt: &impl Files, path: &str) -> io::Result<Standing> {
+impl AtPath {
+    fn at(rt: &impl Files, path: &str) -> io::Result<AtPath> {
         match fs::metadata(rt, path) {
-            Ok(metadata) if metadata.is_file() => Ok(Standing::File(metadata.permissions())),
-            Ok(_) => Ok(Standing::Special),
-            Err(error) if error.kind() == io::ErrorKind::NotFound => Ok(Standing::Nothing),
+            Ok(metadata) => Ok(AtPath::of(&metadata)),
+            Err(error) if error.kind() == io::ErrorKind::NotFound => Ok(AtPath::Nothing),
             Err(error) => Err(error),
+        }
+    }
+
+    fn of(metadata: &Metadata) -> AtPath {
+        match metadata.is_file() {
+            true => AtPath::File(metadata.permissions()),
+            false => AtPath::Special,
         }
     }
 }
@@ -87,6 +106,21 @@ fn create_new<R: Files>(rt: &R, path: &str, is_private: bool) -> io::Result<R::F
     options.open(rt, path)
 }
 
+/// Makes the file with this number beside the one that it becomes; none where one has its name.
+fn try_beside<R: Files + AllocGlobal>(
+    rt: &R,
+    path: &str,
+    is_private: bool,
+    number: u32,
+) -> io::Result<Option<(String, R::File)>> {
+    let beside = path_beside(rt.alloc(), path, number)?;
+    match create_new(rt, beside.as_str(), is_private) {
+        Ok(file) => Ok(Some((beside, file))),
+        Err(error) if error.kind() == io::ErrorKind::AlreadyExists => Ok(None),
+        Err(error) => Err(error),
+    }
+}
+
 /// Makes a file under a name that none has, beside the one that it becomes.
 fn create_beside<R: Files + AllocGlobal>(
     rt: &R,
@@ -94,10 +128,9 @@ fn create_beside<R: Files + AllocGlobal>(
     is_private: bool,
 ) -> io::Result<(String, R::File)> {
     for number in 0..MOST_NAMES {
-        let beside = path_beside(rt.alloc(), path, number)?;
-        match create_new(rt, beside.as_str(), is_private) {
-            Ok(file) => return Ok((beside, file)),
-            Err(error) if error.kind() == io::ErrorKind::AlreadyExists => {}
+        match try_beside(rt, path, is_private, number) {
+            Ok(Some(created)) => return Ok(created),
+            Ok(None) => {}
             Err(error) => return Err(error),
         }
     }
@@ -118,15 +151,30 @@ pub struct Target<'w, R: Files> {
     has_failed: bool,
 }
 
+/// Gives a file these permissions.
+fn permit<F: OpenFile>(file: &F, permissions: Option<Permissions>) -> io::Result<()> {
+    match permissions {
+        Some(permissions) => file.set_permissions(permissions),
+        None => Ok(()),
+    }
+}
+
 impl<'w, R: Files + AllocGlobal> Target<'w, R> {
     /// What is written to this path, which is no device, nor standard output.
     fn create_file(
         rt: &'w R,
         path: &'w str,
         permissions: Option<Permissions>,
-    ) -> io::Result<Target<'w, R>> {
+    ) -> io::Result<Target<'w, R>>
+        ensures path { IfOk result (λ target. target.path.now ≡ path.entry.now) }
+        ensures fresh { IfOk result (λ target. target.has_failed ≡ false) }
+    {
         let place = resolve(rt, path)?;
-        let (beside, file) = create_beside(rt, place.as_str(), permissions.is_some())?;
+        let (beside, file) = match create_beside(rt, place.as_str(), permissions.is_some()) {
+            Ok(created) => created,
+            Err(error) => return Err(error),
+        };
+        let permitted = permit(&file, permissions);
         let target = Target {
             rt,
             path,
@@ -134,7 +182,7 @@ impl<'w, R: Files + AllocGlobal> Target<'w, R> {
             move_to: Some((beside, place)),
             has_failed: false,
         };
-        match target.permit(permissions) {
+        match permitted {
             Ok(()) => Ok(target),
             Err(error) => {
                 target.discard();
@@ -143,38 +191,50 @@ impl<'w, R: Files + AllocGlobal> Target<'w, R> {
         }
     }
 
-    /// Gives the file these permissions.
-    fn permit(&self, permissions: Option<Permissions>) -> io::Result<()> {
-        match (&self.file, permissions) {
-            (Some(file), Some(permissions)) => file.set_permissions(permissions),
-            _ => Ok(()),
-        }
-    }
-
-    fn try_create(rt: &'w R, path: &'w str) -> io::Result<Target<'w, R>> {
-        let file = match path {
-            "-" => None,
-            path => match Standing::at(rt, path)? {
-                Standing::File(permissions) => {
-                    return Target::create_file(rt, path, Some(permissions));
-                }
-                Standing::Nothing => return Target::create_file(rt, path, None),
-                Standing::Special => Some(fs::create(rt, path)?),
-            },
-        };
-        Ok(Target {
+    /// What is written to this file directly; none for standard output.
+    fn direct(rt: &'w R, path: &'w str, file: Option<R::File>) -> Target<'w, R>
+        ensures path { result.path.now ≡ path.entry.now }
+        ensures fresh { result.has_failed ≡ false }
+    {
+        Target {
             rt,
             path,
             move_to: None,
             file,
             has_failed: false,
-        })
+        }
+    }
+
+    fn try_create(rt: &'w R, path: &'w str) -> io::Result<Target<'w, R>>
+        ensures path { IfOk result (λ target. target.path.now ≡ path.entry.now) }
+        ensures fresh { IfOk result (λ target. target.has_failed ≡ false) }
+    {
+        if path == "-" {
+            return Ok(Target::direct(rt, path, None));
+        }
+        match AtPath::at(rt, path) {
+            Ok(AtPath::File(permissions)) => Target::create_file(rt, path, Some(permissions)),
+            Ok(AtPath::Nothing) => Target::create_file(rt, path, None),
+            Ok(AtPath::Special) => match fs::create(rt, path) {
+                Ok(file) => Ok(Target::direct(rt, path, Some(file))),
+                Err(error) => Err(error),
+            },
+            Err(error) => Err(error),
+        }
     }
 
     /// A file that is to be written to this path. What is there stays until it is closed. Through a
     /// link the file that it leads to is replaced; a new file has the mode of the one that it
     /// replaces.
-    pub fn create(rt: &'w R, path: &'w str) -> Result<Target<'w, R>, Stop<'w>> {
+    ///
+    /// # Errors
+    ///
+    /// Where it can't be created, or memory runs out. What is there is then as before.
+    pub fn create(rt: &'w R, path: &'w str) -> Result<Target<'w, R>, Stop<'w>>
+        ensures path { IfOk result (λ target. target.path.now ≡ path.entry.now) }
+        ensures fresh { IfOk result (λ target. target.has_failed ≡ false) }
+        ensures refused { IfErr result (IsMemoryOr attempt.Create path.entry.now) }
+    {
         match Target::try_create(rt, path) {
             Ok(target) => Ok(target),
             Err(error) => Err(Stop::file(path, Attempt::Create, error)),
@@ -182,17 +242,27 @@ impl<'w, R: Files + AllocGlobal> Target<'w, R> {
     }
 
     /// Whether it is the one that failed, of those that were written.
-    pub fn has_failed(&self) -> bool {
+    pub fn has_failed(&self) -> bool
+        ensures { result ≡ self.now.has_failed }
+    {
         self.has_failed
     }
 
     /// The path that was given.
-    pub fn path(&self) -> &'w str {
+    pub fn path(&self) -> &'w str
+        ensures { result.now ≡ self.now.path.now }
+    {
         self.path
     }
 
     /// Puts the file in its place.
-    pub fn keep(self) -> Result<(), Stop<'w>> {
+    ///
+    /// # Errors
+    ///
+    /// Where that can't be done. The file is then removed, and what is at its place stays.
+    pub fn keep(self) -> Result<(), Stop<'w>>
+        ensures { IfErr result (IsMemoryOr attempt.Rename self.entry.path.now) }
+    {
         let Target {
             rt,
             path,
@@ -201,15 +271,9 @@ impl<'w, R: Files + AllocGlobal> Target<'w, R> {
             has_failed: _,
         } = self;
         drop(file);
-        let Some((beside, place)) = move_to else {
-            return Ok(());
-        };
-        match fs::rename(rt, beside.as_str(), place.as_str()) {
-            Ok(()) => Ok(()),
-            Err(error) => {
-                let _ = fs::remove_file(rt, beside.as_str());
-                Err(Stop::file(path, Attempt::Rename, error))
-            }
+        match move_to {
+            Some((beside, place)) => put(rt, path, beside.as_str(), place.as_str()),
+            None => Ok(()),
         }
     }
 
@@ -225,6 +289,34 @@ impl<'w, R: Files + AllocGlobal> Target<'w, R> {
         drop(file);
         if let Some((beside, _)) = move_to {
             let _ = fs::remove_file(rt, beside.as_str());
+        }
+    }
+
+    /// Puts the file in its place where it is written whole, and removes it where it isn't.
+    ///
+    /// # Errors
+    ///
+    /// Why it isn't written whole, as is handed in; or where it can't be put in its place.
+    pub fn end(self, written: Result<(), Stop<'w>>) -> Result<(), Stop<'w>> {
+        match written {
+            Ok(()) => self.keep(),
+            Err(stop) => {
+                self.discard();
+                Err(stop)
+            }
+        }
+    }
+}
+
+/// Puts a file that was written beside its place there, or removes it.
+fn put<'w>(rt: &impl Files, path: &'w str, beside: &str, place: &str) -> Result<(), Stop<'w>>
+    ensures { IfErr result (IsMemoryOr attempt.Rename path.entry.now) }
+{
+    match fs::rename(rt, beside, place) {
+        Ok(()) => Ok(()),
+        Err(error) => {
+            let _ = fs::remove_file(rt, beside);
+            Err(Stop::file(path, Attempt::Rename, error))
         }
     }
 }

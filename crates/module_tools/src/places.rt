@@ -1,5 +1,10 @@
 //! Where paths lead: two of them may be one file.
 
+ghost use Rattle.std.specs.Prelude.{◌≡◌, ◌↔◌, IsTrue, IsNone, IsOk, IfOk, IfErr, IfSome};
+ghost use Rattle.module_tools.specs.Places.{IsOnePlace, IsOtherPath, IsRefusedTask};
+ghost use Rattle.module_tools.specs.declared.ending.Attempt.TheVariants as attempt;
+ghost use Rattle.module_tools.specs.Endings.{IsMemoryOr};
+
 use crate::ending::{Attempt, Stop};
 use crate::program::Task;
 use crate::wrong_use::WrongUse;
@@ -16,13 +21,11 @@ const NULL: u64 = 0x103;
 /// How many links are followed, one after the other.
 const MOST_LINKS: u8 = 40;
 
-/// Where a path leads: a file that is there, or a name in a folder.
-#[derive(Drop)]
+/// Where a path leads: to a file that is there, or, with a name, to one in a folder that isn't.
+#[derive(Clone, Copy)]
 struct Place {
     device: u64,
     node: u64,
-    /// The name of a file that isn't there, in the folder that has these numbers.
-    name: Option<String>,
     /// Whether a file is there that holds what is written to it.
     is_file: bool,
 }
@@ -36,14 +39,27 @@ impl Place {
         Some(Place {
             device: metadata.dev(),
             node: metadata.ino(),
-            name: None,
             is_file: metadata.is_file(),
         })
     }
 
-    /// Whether both are one.
-    fn is(&self, other: &Place) -> bool {
-        self.device == other.device && self.node == other.node && self.name == other.name
+    /// The place of what has a name in this folder.
+    fn in_folder(folder: &Metadata) -> Place {
+        Place {
+            device: folder.dev(),
+            node: folder.ino(),
+            is_file: true,
+        }
+    }
+}
+
+/// Whether both are one. The name is empty of a file that is there.
+fn is_one(place: Option<Place>, name: &str, other: Option<Place>, other_name: &str) -> bool
+    ensures { IsTrue result ↔ IsOnePlace place name.now other other_name.now }
+{
+    match (place, other) {
+        (Some(a), Some(b)) => a.device == b.device && a.node == b.node && name == other_name,
+        _ => false,
     }
 }
 
@@ -55,83 +71,130 @@ fn link_target(alloc: Global, link: &str, target: &str) -> Result<String, AllocE
     }
 }
 
-/// The path behind links at its end, which may lead to nothing.
+/// The path after the link at its end is followed; none where it isn't a link.
+fn followed<R: Files + AllocGlobal>(rt: &R, path: &str) -> Result<Option<String>, AllocError> {
+    let Ok(target) = fs::read_link(rt, path) else {
+        return Ok(None);
+    };
+    match link_target(rt.alloc(), path, target.as_str()) {
+        Ok(path) => Ok(Some(path)),
+        Err(error) => Err(error),
+    }
+}
+
+/// The path after links at its end are followed, which may lead to nothing.
 pub(crate) fn resolve<R: Files + AllocGlobal>(rt: &R, path: &str) -> Result<String, AllocError> {
     let mut resolved = String::from_str(rt.alloc(), path)?;
     for _ in 0..MOST_LINKS {
-        let Ok(target) = fs::read_link(rt, resolved.as_str()) else {
-            break;
-        };
-        resolved = link_target(rt.alloc(), resolved.as_str(), target.as_str())?;
+        match followed(rt, resolved.as_str()) {
+            Ok(Some(next)) => resolved = next,
+            Ok(None) => break,
+            Err(error) => return Err(error),
+        }
     }
     Ok(resolved)
 }
 
-/// The place of a file that isn't there.
-fn new_place<R: Files + AllocGlobal>(rt: &R, path: &str) -> Result<Option<Place>, AllocError> {
-    let resolved = resolve(rt, path)?;
-    let path = Path::new(resolved.as_str());
-    let Some(name) = path.file_name() else {
+/// The place of a file that isn't there, whose links were followed; its name is appended.
+fn new_place(
+    rt: &impl Files,
+    resolved: &str,
+    name: &mut String,
+) -> Result<Option<Place>, AllocError> {
+    let path = Path::new(resolved);
+    let Some(last) = path.file_name() else {
         return Ok(None);
     };
+    name.push_str(last)?;
     let folder = match path.parent() {
         Some(folder) if folder.as_str() != "" => folder.as_str(),
         _ => ".",
     };
-    let Ok(metadata) = fs::metadata(rt, folder) else {
-        return Ok(None);
-    };
-    Ok(Some(Place {
-        device: metadata.dev(),
-        node: metadata.ino(),
-        name: Some(String::from_str(rt.alloc(), name)?),
-        is_file: true,
-    }))
+    match fs::metadata(rt, folder) {
+        Ok(folder) => Ok(Some(Place::in_folder(&folder))),
+        Err(_) => Ok(None),
+    }
 }
 
-/// Where a path leads, or one of the standard streams.
+/// Where a path leads, or this stream for `-`; the name of a file that isn't there is appended.
 fn place_of<R: Files + AllocGlobal>(
     rt: &R,
     path: &str,
     stream: &str,
+    name: &mut String,
 ) -> Result<Option<Place>, AllocError> {
     let path = if path == "-" { stream } else { path };
-    match fs::metadata(rt, path) {
-        Ok(metadata) => Ok(Place::of(&metadata)),
-        Err(_) => new_place(rt, path),
+    if let Ok(metadata) = fs::metadata(rt, path) {
+        return Ok(Place::of(&metadata));
+    }
+    let resolved = resolve(rt, path)?;
+    new_place(rt, resolved.as_str(), name)
+}
+
+/// Where what is written to a path goes.
+#[derive(Clone, Copy)]
+struct Written<'n> {
+    place: Option<Place>,
+    name: &'n str,
+}
+
+impl Written<'_> {
+    /// Whether another path leads there too, or this stream for `-`; a stream counts where a file is
+    /// read from it, or `is_any` says that any does.
+    fn is_at<R: Files + AllocGlobal>(
+        self,
+        rt: &R,
+        path: &str,
+        stream: &str,
+        is_any: bool,
+    ) -> Result<bool, AllocError> {
+        let mut name = String::new(rt.alloc());
+        let place = place_of(rt, path, stream, &mut name)?;
+        let counts = is_any || matches!(place, Some(Place { is_file: true, .. }));
+        Ok(counts && is_one(self.place, self.name, place, name.as_str()))
+    }
+
+    /// The path of the task that leads there too: that of the module that is written, or of the one
+    /// that is read.
+    fn other_path<'w, R: Files + AllocGlobal>(
+        self,
+        rt: &R,
+        task: &Task<'w>,
+    ) -> Result<Option<&'w str>, AllocError>
+        ensures { IfOk result (λ found. IfSome found (λ path. IsOtherPath task.now path.now)) }
+    {
+        if let Some(output) = task.output
+            && self.is_at(rt, output, "/dev/stdout", true)?
+        {
+            return Ok(Some(output));
+        }
+        match self.is_at(rt, task.input, "/dev/stdin", false) {
+            Ok(true) => Ok(Some(task.input)),
+            Ok(false) => Ok(None),
+            Err(error) => Err(error),
+        }
     }
 }
 
-/// Whether what is written to one path would be lost or mixed with what is written to the other.
-fn are_one_output<R: Files + AllocGlobal>(
+/// The path of the task that leads where the location map would go, if one does.
+fn path_of_map<'w, R: Files + AllocGlobal>(
     rt: &R,
-    first: &str,
-    second: &str,
-) -> Result<bool, AllocError> {
-    if first == second && first == "-" {
-        return Ok(true);
-    }
-    let first = place_of(rt, first, "/dev/stdout")?;
-    let second = place_of(rt, second, "/dev/stdout")?;
-    match (&first, &second) {
-        (Some(first), Some(second)) => Ok(first.is(second)),
-        _ => Ok(false),
-    }
+    task: &Task<'w>,
+    map: &str,
+) -> Result<Option<&'w str>, AllocError>
+    ensures { IfOk result (λ found. IfSome found (λ path. IsOtherPath task.now path.now)) }
+{
+    let mut name = String::new(rt.alloc());
+    let place = place_of(rt, map, "/dev/stdout", &mut name)?;
+    let name = name.as_str();
+    Written { place, name }.other_path(rt, task)
 }
 
-/// Whether what is written to a path would take the place of what is read.
-fn is_input<R: Files + AllocGlobal>(rt: &R, output: &str, input: &str) -> Result<bool, AllocError> {
-    let output = place_of(rt, output, "/dev/stdout")?;
-    let input = place_of(rt, input, "/dev/stdin")?;
-    match (&output, &input) {
-        (Some(output), Some(input)) => Ok(input.is_file && output.is(input)),
-        _ => Ok(false),
-    }
-}
-
-/// Looks whether standard output is open where a path is `-`: else the next file that is opened gets
+/// Checks that standard output is open where a path is `-`: else the next file that is opened gets
 /// its number, and what is written to both.
-fn check_stdout<'w, R: Files + AllocGlobal>(rt: &R, path: &'w str) -> Result<(), Stop<'w>> {
+fn check_stdout<'w>(rt: &impl Files, path: &'w str) -> Result<(), Stop<'w>>
+    ensures { IfErr result (IsMemoryOr attempt.Write path.entry.now) }
+{
     if path != "-" {
         return Ok(());
     }
@@ -141,7 +204,21 @@ fn check_stdout<'w, R: Files + AllocGlobal>(rt: &R, path: &'w str) -> Result<(),
     }
 }
 
-/// Looks at the files of a task before any is opened: the location map has a file of its own, and a
+/// Checks that both paths that are written, of which each may be `-`, have what they require.
+fn check_streams<'w>(rt: &impl Files, task: &Task<'w>, map: &'w str) -> Result<(), Stop<'w>>
+    ensures { IfErr result (IsRefusedTask task.now) }
+{
+    match check_stdout(rt, map) {
+        Ok(()) => {}
+        Err(stop) => return Err(stop),
+    }
+    match task.output {
+        Some(output) => check_stdout(rt, output),
+        None => Ok(()),
+    }
+}
+
+/// Checks the files of a task before any is opened: the location map has a file of its own, and a
 /// path of `-` an open standard output. The module may be written onto the one that is read.
 ///
 /// # Errors
@@ -150,21 +227,22 @@ fn check_stdout<'w, R: Files + AllocGlobal>(rt: &R, path: &'w str) -> Result<(),
 pub(crate) fn check_files<'w, R: Files + AllocGlobal>(
     rt: &R,
     task: &Task<'w>,
-) -> Result<(), Stop<'w>> {
+) -> Result<(), Stop<'w>>
+    ensures free { IsNone task.now.map → IsOk result }
+    ensures refused { IfErr result (IsRefusedTask task.now) }
+{
     let Some(map) = task.map else {
         return Ok(());
     };
     if let Some(output) = task.output
-        && are_one_output(rt, map, output)?
+        && map == "-"
+        && output == "-"
     {
         return Err(Stop::WrongUse(WrongUse::SameFile(map, output)));
     }
-    if is_input(rt, map, task.input)? {
-        return Err(Stop::WrongUse(WrongUse::SameFile(map, task.input)));
-    }
-    check_stdout(rt, map)?;
-    match task.output {
-        Some(output) => check_stdout(rt, output),
-        None => Ok(()),
+    match path_of_map(rt, task, map) {
+        Ok(Some(path)) => Err(Stop::WrongUse(WrongUse::SameFile(map, path))),
+        Ok(None) => check_streams(rt, task, map),
+        Err(_) => Err(Stop::Memory),
     }
 }

@@ -161,7 +161,7 @@ impl<'w> Words<'w> {
         Ok(())
     }
 
-    /// Takes a word. One that asks for help or the version is answered at once.
+    /// Takes a word. One that asks for help or the version ends the reading.
     fn take(&mut self, program: &Program, word: &'w str) -> Result<Option<Request<'w>>, Stop<'w>> {
         if self.awaits_map {
             self.awaits_map = false;

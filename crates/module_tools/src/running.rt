@@ -1,10 +1,14 @@
 //! Running a program over its words.
 
+ghost use Rattle.std.specs.Prelude.{◌≡◌, ◌≤◌, nat_lt, if◌then◌else◌, IfOk};
+ghost use Rattle.std.specs.Process.{exit_status};
+
 use crate::ending::{Attempt, Item, Refusal, Stop, exit_code, words};
 use crate::files::read_file;
 use crate::names::{Bytes, Found, FunctionNames, function_at};
 use crate::places::check_files;
 use crate::program::{Program, Request, Task, read_words};
+use crate::progress::{Progress, Watched};
 use crate::warnings::warn;
 use crate::writing::write_module;
 use crate::wrong_use::WrongUse;
@@ -14,27 +18,37 @@ use std::process::ExitCode;
 use std::rt::{Clock, Env, Files};
 use std::time::Instant;
 use walrus_ir::{FunctionId, IdHashSet};
-use wasm_module::{BodyWriter, ModuleError, ModuleFault, ParsedModule, RewrittenModule, Scratch};
+use wasm_module::{
+    Body, BodyWriter, Changes, ModuleError, ModuleFault, ParsedModule, RewrittenModule, Scratch,
+};
 
 /// The version of the programs.
 pub const VERSION: &str = "0.1.0";
+
+/// Which of the standard streams are terminals.
+#[derive(Clone, Copy)]
+pub struct Terminals {
+    pub output: bool,
+    pub errors: bool,
+}
 
 /// What a program makes of a module.
 pub trait Tool {
     /// What is written of bodies.
     type Bodies: BodyWriter + Drop;
 
-    /// Makes it of a module that was read, and of the functions that are asked for.
+    /// What is written of the bodies of a module that was read, and what is changed of its other
+    /// sections, where these functions are asked for.
     ///
     /// # Errors
     ///
-    /// The first fault of a body, with its place; or what the program refuses.
-    fn rewrite<'a>(
+    /// What the program refuses.
+    fn changes(
         &self,
         alloc: Global,
-        parsed: &mut ParsedModule<'a>,
+        parsed: &mut ParsedModule<'_>,
         functions: IdHashSet<FunctionId>,
-    ) -> Result<RewrittenModule<'a, Self::Bodies>, ModuleError>;
+    ) -> Result<(Self::Bodies, Changes), ModuleError>;
 }
 
 /// What was done.
@@ -59,25 +73,36 @@ fn function_item(
     Ok(Item::Function(index, name))
 }
 
+/// The export at this place.
+fn export_at(
+    alloc: Global,
+    parsed: &ParsedModule<'_>,
+    place: usize,
+) -> Result<Option<Item>, AllocError> {
+    let bytes = parsed.bytes();
+    let (_, exports) = bytes.split_at(place.min(bytes.len()));
+    match Bytes(exports).text() {
+        Some(name) => Ok(Some(Item::Export(String::from_str(alloc, name)?))),
+        None => Ok(None),
+    }
+}
+
 /// What a fault of a module that was read is in: a function, or an export.
 fn item_of(
     alloc: Global,
     parsed: &ParsedModule<'_>,
-    error: ModuleError,
+    error: &ModuleError,
 ) -> Result<Option<Item>, AllocError> {
-    if error.fault == ModuleFault::ExportTaken {
-        let (_, exports) = parsed.bytes().split_at(error.at.min(parsed.bytes().len()));
-        return match Bytes(exports).text() {
-            Some(name) => Ok(Some(Item::Export(String::from_str(alloc, name)?))),
-            None => Ok(None),
-        };
+    if matches!(error.fault, ModuleFault::ExportTaken) {
+        return export_at(alloc, parsed, error.at);
     }
-    match function_at(parsed, error.at) {
-        Some(index) => {
-            let names = FunctionNames::read(alloc, parsed)?;
-            Ok(Some(function_item(alloc, &names, index)?))
-        }
-        None => Ok(None),
+    let Some(index) = function_at(parsed, error.at) else {
+        return Ok(None);
+    };
+    let names = FunctionNames::read(alloc, parsed)?;
+    match function_item(alloc, &names, index) {
+        Ok(item) => Ok(Some(item)),
+        Err(error) => Err(error),
     }
 }
 
@@ -86,37 +111,12 @@ fn refused<'w>(
     alloc: Global,
     parsed: &ParsedModule<'_>,
     path: &'w str,
-    error: ModuleError,
+    error: &ModuleError,
 ) -> Stop<'w> {
     match item_of(alloc, parsed, error) {
-        Ok(item) => Stop::refused(path, item, error),
+        Ok(item) => Stop::refused(alloc, path, item, error),
         Err(_) => Stop::Memory,
     }
-}
-
-/// Prints a line for each body that is refused, and answers how many are.
-fn check_bodies<'w, R: Print + AllocGlobal>(
-    rt: &R,
-    program: &Program,
-    parsed: &mut ParsedModule<'_>,
-    names: &FunctionNames<'_>,
-    path: &'w str,
-) -> Result<usize, Stop<'w>> {
-    let mut scratch = Scratch::new(rt.alloc());
-    let mut count = 0usize;
-    for body in parsed.bodies() {
-        let error = match parsed.parse(body, &mut scratch) {
-            Ok(_) => continue,
-            Err(error) => error,
-        };
-        if error.fault == ModuleFault::Memory {
-            return Err(Stop::Memory);
-        }
-        let item = Some(function_item(rt.alloc(), names, body.func)?);
-        say_refusal(rt, program, Refusal { path, item, error })?;
-        count = count.saturating_add(1);
-    }
-    Ok(count)
 }
 
 /// Prints that a body is refused.
@@ -130,6 +130,87 @@ fn say_refusal<'w>(
         Ok(()) => Ok(()),
         Err(error) => Err(Stop::file("-", Attempt::Write, error)),
     }
+}
+
+/// Why the body of this function is refused.
+fn refusal_of<'w>(
+    alloc: Global,
+    names: &FunctionNames<'_>,
+    path: &'w str,
+    index: usize,
+    error: &ModuleError,
+) -> Result<Refusal<'w>, AllocError> {
+    match function_item(alloc, names, index) {
+        Ok(item) => Refusal::new(alloc, path, Some(item), error),
+        Err(error) => Err(error),
+    }
+}
+
+/// Prints that the body of this function is refused.
+fn say_refused<'w, R: Print + AllocGlobal>(
+    rt: &R,
+    program: &Program,
+    names: &FunctionNames<'_>,
+    path: &'w str,
+    index: usize,
+    error: &ModuleError,
+) -> Result<(), Stop<'w>> {
+    match refusal_of(rt.alloc(), names, path, index, error) {
+        Ok(refusal) => say_refusal(rt, program, refusal),
+        Err(_) => Err(Stop::Memory),
+    }
+}
+
+/// Why a body is refused, if it is.
+fn fault_of<'a>(
+    parsed: &mut ParsedModule<'a>,
+    body: Body<'a>,
+    scratch: &mut Scratch,
+) -> Option<ModuleError> {
+    match parsed.parse(body, scratch) {
+        Ok(_function) => None,
+        Err(error) => Some(error),
+    }
+}
+
+/// Prints a line for each body that is refused, and returns how many are.
+fn check_each<'w, R: Clock + Print + Eprint + AllocGlobal>(
+    rt: &R,
+    program: &Program,
+    parsed: &mut ParsedModule<'_>,
+    names: &FunctionNames<'_>,
+    path: &'w str,
+    progress: &Progress<'_, R>,
+    scratch: &mut Scratch,
+) -> Result<usize, Stop<'w>> {
+    let mut count = 0usize;
+    for body in parsed.bodies() {
+        progress.step();
+        if let Some(error) = fault_of(parsed, body, scratch) {
+            if matches!(error.fault, ModuleFault::Memory) {
+                return Err(Stop::Memory);
+            }
+            progress.clear();
+            match say_refused(rt, program, names, path, body.func, &error) {
+                Ok(()) => count = count.saturating_add(1),
+                Err(stop) => return Err(stop),
+            }
+        }
+    }
+    Ok(count)
+}
+
+/// Prints a line for each body that is refused, and returns how many are.
+fn check_bodies<'w, R: Clock + Print + Eprint + AllocGlobal>(
+    rt: &R,
+    program: &Program,
+    parsed: &mut ParsedModule<'_>,
+    path: &'w str,
+    progress: &Progress<'_, R>,
+) -> Result<usize, Stop<'w>> {
+    let names = FunctionNames::read(rt.alloc(), parsed)?;
+    let mut scratch = Scratch::new(rt.alloc());
+    check_each(rt, program, parsed, &names, path, progress, &mut scratch)
 }
 
 /// The function with a body that a word names: by its index, or by its name.
@@ -173,6 +254,20 @@ fn add_functions<'w>(
     Ok(())
 }
 
+/// Adds the functions that words name to none.
+fn fill_functions<'w>(
+    alloc: Global,
+    parsed: &ParsedModule<'_>,
+    words: &[&'w str],
+    functions: &mut IdHashSet<FunctionId>,
+) -> Result<(), Stop<'w>> {
+    if words.is_empty() {
+        return Ok(());
+    }
+    let names = FunctionNames::read(alloc, parsed)?;
+    add_functions(parsed, &names, words, functions)
+}
+
 /// The functions that are asked for, each of which has a body.
 fn functions_of<'w>(
     alloc: Global,
@@ -180,80 +275,162 @@ fn functions_of<'w>(
     words: &[&'w str],
 ) -> Result<IdHashSet<FunctionId>, Stop<'w>> {
     let mut functions = IdHashSet::new(alloc);
-    if !words.is_empty() {
-        let names = FunctionNames::read(alloc, parsed)?;
-        add_functions(parsed, &names, words, &mut functions)?;
+    match fill_functions(alloc, parsed, words, &mut functions) {
+        Ok(()) => Ok(functions),
+        Err(stop) => Err(stop),
     }
-    Ok(functions)
 }
 
-/// Writes what the program makes of a module.
-fn rewrite<'w, R: Files + Print + Eprint + AllocGlobal + Drop, T: Tool>(
-    rt: &'w R,
+/// Makes what the program makes of a module, for these functions.
+fn made<'a, R: Eprint + Clock, T: Tool>(
+    alloc: Global,
     tool: &T,
-    program: &Program,
+    parsed: &mut ParsedModule<'a>,
+    functions: IdHashSet<FunctionId>,
+    progress: &'a Progress<'a, R>,
+) -> Result<RewrittenModule<'a, Watched<'a, R, T::Bodies>>, ModuleError> {
+    let (bodies, changes) = match tool.changes(alloc, parsed, functions) {
+        Ok(changes) => changes,
+        Err(error) => return Err(error),
+    };
+    parsed.rewrite_with(Watched::new(progress, bodies), changes)
+}
+
+/// The module that the program makes of one.
+fn rewritten<'w, 'a, R: Eprint + Clock + AllocGlobal, T: Tool>(
+    rt: &R,
+    tool: &T,
+    task: &Task<'w>,
+    parsed: &mut ParsedModule<'a>,
+    progress: &'a Progress<'a, R>,
+) -> Result<RewrittenModule<'a, Watched<'a, R, T::Bodies>>, Stop<'w>> {
+    let functions = match functions_of(rt.alloc(), parsed, &task.functions) {
+        Ok(functions) => functions,
+        Err(stop) => return Err(stop),
+    };
+    match made(rt.alloc(), tool, parsed, functions, progress) {
+        Ok(module) => Ok(module),
+        Err(error) => Err(refused(rt.alloc(), parsed, task.input, &error)),
+    }
+}
+
+/// Writes a module that was made of one, after what is wrong now with its sections is said.
+fn write_made<'w, R: Files + Print + Eprint + AllocGlobal + Drop, B: BodyWriter + Drop>(
+    rt: &'w R,
+    name: &str,
     task: &Task<'w>,
     parsed: &mut ParsedModule<'_>,
+    mut module: RewrittenModule<'_, B>,
     output: &'w str,
 ) -> Result<(), Stop<'w>> {
-    let functions = functions_of(rt.alloc(), parsed, &task.functions)?;
-    let mut module = match tool.rewrite(rt.alloc(), parsed, functions) {
-        Ok(module) => module,
-        Err(error) => return Err(refused(rt.alloc(), parsed, task.input, error)),
-    };
     if task.strips_debug {
         module.leave_out_debug();
     }
-    warn(rt, program.name, &module.notes, task.strips_debug);
+    warn(rt, name, &module.notes, task.strips_debug);
     write_module(rt, parsed, &module, task, output)
 }
 
-/// Does what is asked for with a module of these bytes.
-fn run_over<'w, R: Files + Print + Eprint + AllocGlobal + Drop, T: Tool>(
+/// Writes what the program makes of a module.
+fn rewrite<'w, 'a, R: Files + Clock + Print + Eprint + AllocGlobal + Drop, T: Tool>(
     rt: &'w R,
     tool: &T,
     program: &Program,
     task: &Task<'w>,
-    bytes: &[u8],
+    parsed: &mut ParsedModule<'a>,
+    output: &'w str,
+    progress: &'a Progress<'a, R>,
+) -> Result<(), Stop<'w>> {
+    match rewritten(rt, tool, task, parsed, progress) {
+        Ok(module) => {
+            progress.clear();
+            write_made(rt, program.name, task, parsed, module, output)
+        }
+        Err(stop) => Err(stop),
+    }
+}
+
+/// Does what is asked for with a module that was read, and returns how many bodies are refused.
+fn run_with<'w, 'a, R: Files + Clock + Print + Eprint + AllocGlobal + Drop, T: Tool>(
+    rt: &'w R,
+    tool: &T,
+    program: &Program,
+    task: &Task<'w>,
+    parsed: &mut ParsedModule<'a>,
+    progress: &'a Progress<'a, R>,
+) -> Result<usize, Stop<'w>> {
+    match task.output {
+        Some(output) => match rewrite(rt, tool, program, task, parsed, output, progress) {
+            Ok(()) => Ok(0),
+            Err(stop) => Err(stop),
+        },
+        None => check_bodies(rt, program, parsed, task.input, progress),
+    }
+}
+
+/// Does what is asked for with a module of these bytes.
+fn run_over<'w, 'a, R: Files + Clock + Print + Eprint + AllocGlobal + Drop, T: Tool>(
+    rt: &'w R,
+    tool: &T,
+    program: &Program,
+    task: &Task<'w>,
+    bytes: &'a [u8],
+    progress: &'a Progress<'a, R>,
 ) -> Result<Done, Stop<'w>> {
     let mut parsed = match ParsedModule::read(rt.alloc(), bytes) {
         Ok(parsed) => parsed,
-        Err(error) => return Err(Stop::refused(task.input, None, error)),
+        Err(error) => return Err(Stop::refused(rt.alloc(), task.input, None, &error)),
     };
-    let refused = match task.output {
-        Some(output) => {
-            rewrite(rt, tool, program, task, &mut parsed, output)?;
-            0
-        }
-        None => {
-            let names = FunctionNames::read(rt.alloc(), &parsed)?;
-            check_bodies(rt, program, &mut parsed, &names, task.input)?
-        }
-    };
-    Ok(Done {
-        functions: parsed.body_count(),
-        bytes: bytes.len(),
-        refused,
-    })
+    let functions = parsed.body_count();
+    progress.begin(functions);
+    match run_with(rt, tool, program, task, &mut parsed, progress) {
+        Ok(refused) => Ok(Done {
+            functions,
+            bytes: bytes.len(),
+            refused,
+        }),
+        Err(stop) => Err(stop),
+    }
 }
 
-/// Does what is asked for.
-fn run_task<'w, R: Files + Input + Print + Eprint + AllocGlobal + Drop, T: Tool>(
+/// Reads the module that is named, and does what is asked for.
+fn read_and_run<'w, 'a, R, T: Tool>(
     rt: &'w R,
     tool: &T,
     program: &Program,
     task: &Task<'w>,
-    is_terminal: bool,
-) -> Result<Done, Stop<'w>> {
-    if is_terminal && task.output == Some("-") {
-        return Err(Stop::WrongUse(WrongUse::Terminal));
+    progress: &'a Progress<'a, R>,
+) -> Result<Done, Stop<'w>>
+where
+    R: Files + Input + Clock + Print + Eprint + AllocGlobal + Drop,
+{
+    match read_file(rt, task.input) {
+        Ok(bytes) => run_over(rt, tool, program, task, &bytes, progress),
+        Err(stop) => Err(stop),
     }
-    check_files(rt, task)?;
-    let bytes = read_file(rt, task.input)?;
-    run_over(rt, tool, program, task, &bytes)
 }
 
-/// Says how much was done, and in which time.
+/// Does what is asked for, and shows on a terminal how far it is.
+fn run_task<'w, R: Files + Input + Clock + Print + Eprint + AllocGlobal + Drop, T: Tool>(
+    rt: &'w R,
+    tool: &T,
+    program: &Program,
+    task: &Task<'w>,
+    terminals: Terminals,
+) -> Result<Done, Stop<'w>> {
+    if terminals.output && task.output == Some("-") {
+        return Err(Stop::WrongUse(WrongUse::Terminal));
+    }
+    match check_files(rt, task) {
+        Ok(()) => {}
+        Err(stop) => return Err(stop),
+    }
+    let progress = Progress::new(rt, program.name, terminals.errors);
+    let done = read_and_run(rt, tool, program, task, &progress);
+    progress.clear();
+    done
+}
+
+/// Prints how much was done, and in which time.
 fn say_done(
     rt: &(impl Eprint + Clock),
     program: &Program,
@@ -271,43 +448,64 @@ fn say_done(
     eprintln!(rt; "{name}: {functions} function{ending}, {bytes} bytes, {time} ms")
 }
 
-/// Runs a program over its words, and answers its status: 1 where the module or a body is refused,
-/// or a file can't be read or written, 2 for wrong use.
-fn run_words<R: Files + Input + Clock + Print + Eprint + AllocGlobal + Drop, T: Tool>(
+/// The status of a run that was done: 1 where a body is refused.
+fn status_of_done(done: Done) -> ExitCode
+    ensures { exit_status result ≡ (if nat_lt 0 done.refused then 1 else 0) }
+{
+    match done.refused {
+        0 => ExitCode::SUCCESS,
+        _ => ExitCode::FAILURE,
+    }
+}
+
+/// Does what is asked for, and returns its status.
+fn run_timed<R: Files + Input + Clock + Print + Eprint + AllocGlobal + Drop, T: Tool>(
     rt: &R,
     tool: &T,
     program: &Program,
-    words: &[String],
-    is_terminal: bool,
-) -> io::Result<ExitCode> {
-    let task = match read_words(rt.alloc(), program, words) {
-        Ok(Request::Task(task)) => task,
-        Ok(Request::Help) => {
-            println!(rt; "{}", program.help)?;
-            return Ok(ExitCode::SUCCESS);
-        }
-        Ok(Request::Version) => {
-            println!(rt; "{} {VERSION}", program.name)?;
-            return Ok(ExitCode::SUCCESS);
-        }
-        Err(stop) => return Ok(exit_code(rt, program.name, stop)),
-    };
+    task: &Task<'_>,
+    terminals: Terminals,
+) -> io::Result<ExitCode>
+    ensures { IfOk result (λ code. exit_status code ≤ 2) }
+{
     let start = Instant::now(rt)?;
-    let done = match run_task(rt, tool, program, &task, is_terminal) {
+    let done = match run_task(rt, tool, program, task, terminals) {
         Ok(done) => done,
         Err(stop) => return Ok(exit_code(rt, program.name, stop)),
     };
     if task.is_verbose {
         say_done(rt, program, done, start)?;
     }
-    match done.refused {
-        0 => Ok(ExitCode::SUCCESS),
-        _ => Ok(ExitCode::FAILURE),
+    Ok(status_of_done(done))
+}
+
+/// Runs a program over its words, and returns its status.
+fn run_words<R: Files + Input + Clock + Print + Eprint + AllocGlobal + Drop, T: Tool>(
+    rt: &R,
+    tool: &T,
+    program: &Program,
+    words: &[String],
+    terminals: Terminals,
+) -> io::Result<ExitCode>
+    ensures { IfOk result (λ code. exit_status code ≤ 2) }
+{
+    match read_words(rt.alloc(), program, words) {
+        Ok(Request::Task(task)) => run_timed(rt, tool, program, &task, terminals),
+        Ok(Request::Help) => {
+            println!(rt; "{}", program.help)?;
+            Ok(ExitCode::SUCCESS)
+        }
+        Ok(Request::Version) => {
+            println!(rt; "{} {VERSION}", program.name)?;
+            Ok(ExitCode::SUCCESS)
+        }
+        Err(stop) => Ok(exit_code(rt, program.name, stop)),
     }
 }
 
-/// Runs a program, and answers its status: 1 where the module or a body is refused, or a file can't
-/// be read or written, 2 for wrong use. Whether standard output is a terminal is handed in.
+/// Runs a program, and returns its status: 0 where the module is written, or none of its bodies is
+/// refused; 1 where the module or a body is refused, or a file can't be read or written; 2 for wrong
+/// use. Where standard error is a terminal, a run of more than two seconds shows there how far it is.
 ///
 /// # Errors
 ///
@@ -316,10 +514,12 @@ pub fn run<R: Files + Input + Env + Clock + Print + Eprint + AllocGlobal + Drop,
     rt: &R,
     tool: &T,
     program: &Program,
-    is_terminal: bool,
-) -> io::Result<ExitCode> {
+    terminals: Terminals,
+) -> io::Result<ExitCode>
+    ensures { IfOk result (λ code. exit_status code ≤ 2) }
+{
     match words(rt) {
-        Ok(words) => run_words(rt, tool, program, &words, is_terminal),
+        Ok(words) => run_words(rt, tool, program, &words, terminals),
         Err(stop) => Ok(exit_code(rt, program.name, stop)),
     }
 }

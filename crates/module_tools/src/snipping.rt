@@ -15,6 +15,13 @@ use wasm_module::{ChangeFunction, Changes, Changing, ModuleError, ParsedModule, 
 pub struct Snipping(IdHashSet<FunctionId>);
 
 impl Snipping {
+    /// Takes away the bodies of these functions, and no others.
+    pub fn new(functions: IdHashSet<FunctionId>) -> Snipping
+        ensures { result.0 ≡ functions }
+    {
+        Snipping(functions)
+    }
+
     /// Whether the body of this function is taken away.
     fn takes(&self, function: FunctionId) -> bool
         ensures { result ≡ contains (λ x y. x == y) self.now.0 function }
@@ -48,5 +55,5 @@ pub fn snip<'a>(
     ensures snips { IfOk result (λ made. made.bodies.0.0 ≡ functions) }
     ensures none_given { IfOk result (λ made. given_in made ≡ []) }
 {
-    parsed.change_all(Snipping(functions), Changes::new(alloc))
+    parsed.change_all(Snipping::new(functions), Changes::new(alloc))
 }

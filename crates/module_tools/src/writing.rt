@@ -8,6 +8,26 @@ use std::io::{BufWriter, Write};
 use std::rt::Files;
 use wasm_module::{BodyWriter, ParsedModule, RewrittenModule, WriteError};
 
+/// Writes what a buffer still holds.
+fn flush<W: Write>(out: &mut W) -> Result<(), WriteError> {
+    match out.flush() {
+        Ok(()) => Ok(()),
+        Err(error) => Err(WriteError::Io(error)),
+    }
+}
+
+/// Writes a module, and what a buffer still holds.
+fn write_out<W: Write, B: BodyWriter>(
+    parsed: &mut ParsedModule<'_>,
+    module: &RewrittenModule<'_, B>,
+    out: &mut W,
+) -> Result<(), WriteError> {
+    match parsed.write_module(module, out) {
+        Ok(()) => flush(out),
+        Err(error) => Err(error),
+    }
+}
+
 /// Writes a module, buffered.
 fn write_buffered<W: Write, B: BodyWriter>(
     alloc: Global,
@@ -15,9 +35,41 @@ fn write_buffered<W: Write, B: BodyWriter>(
     module: &RewrittenModule<'_, B>,
     target: &mut W,
 ) -> Result<(), WriteError> {
-    let mut out = BufWriter::new(alloc, target)?;
-    parsed.write_module(module, &mut out)?;
-    Ok(out.flush()?)
+    match BufWriter::new(alloc, target) {
+        Ok(mut out) => write_out(parsed, module, &mut out),
+        Err(error) => Err(WriteError::Io(error)),
+    }
+}
+
+/// Writes a module and its location map, and what the buffers still hold.
+fn write_both_out<W: Write, M: Write, B: BodyWriter>(
+    parsed: &mut ParsedModule<'_>,
+    module: &RewrittenModule<'_, B>,
+    out: &mut W,
+    map: &mut M,
+) -> Result<(), WriteError> {
+    match parsed.write_module_with_map(module, out, map) {
+        Ok(()) => {}
+        Err(error) => return Err(error),
+    }
+    match flush(map) {
+        Ok(()) => flush(out),
+        Err(error) => Err(error),
+    }
+}
+
+/// Writes a module, whose buffer is lent, and its location map, buffered.
+fn write_map_buffered<W: Write, M: Write, B: BodyWriter>(
+    alloc: Global,
+    parsed: &mut ParsedModule<'_>,
+    module: &RewrittenModule<'_, B>,
+    out: &mut W,
+    map_target: &mut M,
+) -> Result<(), WriteError> {
+    match BufWriter::new(alloc, map_target) {
+        Ok(mut map) => write_both_out(parsed, module, out, &mut map),
+        Err(error) => Err(WriteError::Io(error)),
+    }
 }
 
 /// Writes a module and its location map, buffered.
@@ -28,75 +80,70 @@ fn write_both_buffered<W: Write, B: BodyWriter>(
     target: &mut W,
     map_target: &mut W,
 ) -> Result<(), WriteError> {
-    let mut out = BufWriter::new(alloc, target)?;
-    let mut map = BufWriter::new(alloc, map_target)?;
-    parsed.write_module_with_map(module, &mut out, &mut map)?;
-    map.flush()?;
-    Ok(out.flush()?)
+    match BufWriter::new(alloc, target) {
+        Ok(mut out) => write_map_buffered(alloc, parsed, module, &mut out, map_target),
+        Err(error) => Err(WriteError::Io(error)),
+    }
 }
 
 /// Why a module that was read from one file isn't written to another.
-fn stop_of<'w>(input: &'w str, output: &'w str, error: WriteError) -> Stop<'w> {
+fn stop_of<'w>(alloc: Global, input: &'w str, output: &'w str, error: WriteError) -> Stop<'w> {
     match error {
-        WriteError::Module(error) => Stop::refused(input, None, error),
+        WriteError::Module(error) => Stop::refused(alloc, input, None, &error),
         WriteError::Io(error) => Stop::file(output, Attempt::Write, error),
     }
 }
 
-/// Puts both files in their places.
-fn keep_both<'w, R: Files + AllocGlobal>(
-    map: Target<'w, R>,
-    target: Target<'w, R>,
-) -> Result<(), Stop<'w>> {
-    match map.keep() {
-        Ok(()) => target.keep(),
-        Err(stop) => {
-            target.discard();
-            Err(stop)
-        }
-    }
-}
-
-/// Writes a module.
-fn write_alone<'w, R: Files + Print + AllocGlobal + Drop, B: BodyWriter>(
-    rt: &'w R,
-    parsed: &mut ParsedModule<'_>,
-    module: &RewrittenModule<'_, B>,
-    input: &'w str,
-    output: &'w str,
-) -> Result<(), Stop<'w>> {
-    let mut target = Target::create(rt, output)?;
-    match write_buffered(rt.alloc(), parsed, module, &mut target) {
-        Ok(()) => target.keep(),
-        Err(error) => {
-            target.discard();
-            Err(stop_of(input, output, error))
-        }
-    }
-}
-
-/// Writes a module and its location map to these two.
+/// Writes a module to a target that is lent.
 fn write_to<'w, R: Files + Print + AllocGlobal + Drop, B: BodyWriter>(
     rt: &'w R,
     parsed: &mut ParsedModule<'_>,
     module: &RewrittenModule<'_, B>,
     input: &'w str,
-    mut target: Target<'w, R>,
-    mut map: Target<'w, R>,
+    target: &mut Target<'w, R>,
 ) -> Result<(), Stop<'w>> {
-    match write_both_buffered(rt.alloc(), parsed, module, &mut target, &mut map) {
-        Ok(()) => keep_both(map, target),
+    match write_buffered(rt.alloc(), parsed, module, target) {
+        Ok(()) => Ok(()),
+        Err(error) => Err(stop_of(rt.alloc(), input, target.path(), error)),
+    }
+}
+
+/// Writes a module and its location map to two targets that are lent.
+fn write_both_to<'w, R: Files + Print + AllocGlobal + Drop, B: BodyWriter>(
+    rt: &'w R,
+    parsed: &mut ParsedModule<'_>,
+    module: &RewrittenModule<'_, B>,
+    input: &'w str,
+    target: &mut Target<'w, R>,
+    map: &mut Target<'w, R>,
+) -> Result<(), Stop<'w>> {
+    match write_both_buffered(rt.alloc(), parsed, module, target, map) {
+        Ok(()) => Ok(()),
         Err(error) => {
-            let failed = if map.has_failed() {
-                map.path()
-            } else {
-                target.path()
+            let failed = match map.has_failed() {
+                true => map.path(),
+                false => target.path(),
             };
-            map.discard();
-            target.discard();
-            Err(stop_of(input, failed, error))
+            Err(stop_of(rt.alloc(), input, failed, error))
         }
     }
+}
+
+/// Writes a module to a target that is lent, and its location map, which is put in its place.
+fn write_with_map<'w, R: Files + Print + AllocGlobal + Drop, B: BodyWriter>(
+    rt: &'w R,
+    parsed: &mut ParsedModule<'_>,
+    module: &RewrittenModule<'_, B>,
+    input: &'w str,
+    target: &mut Target<'w, R>,
+    map: &'w str,
+) -> Result<(), Stop<'w>> {
+    let mut map = match Target::create(rt, map) {
+        Ok(map) => map,
+        Err(stop) => return Err(stop),
+    };
+    let written = write_both_to(rt, parsed, module, input, target, &mut map);
+    map.end(written)
 }
 
 /// Writes a module, and its location map where that is asked for, each whole or not at all.
@@ -112,15 +159,13 @@ pub(crate) fn write_module<'w, R: Files + Print + AllocGlobal + Drop, B: BodyWri
     task: &Task<'w>,
     output: &'w str,
 ) -> Result<(), Stop<'w>> {
-    let Some(map) = task.map else {
-        return write_alone(rt, parsed, module, task.input, output);
+    let mut target = match Target::create(rt, output) {
+        Ok(target) => target,
+        Err(stop) => return Err(stop),
     };
-    let target = Target::create(rt, output)?;
-    match Target::create(rt, map) {
-        Ok(map) => write_to(rt, parsed, module, task.input, target, map),
-        Err(stop) => {
-            target.discard();
-            Err(stop)
-        }
-    }
+    let written = match task.map {
+        Some(map) => write_with_map(rt, parsed, module, task.input, &mut target, map),
+        None => write_to(rt, parsed, module, task.input, &mut target),
+    };
+    target.end(written)
 }

@@ -9,13 +9,13 @@ pub enum WrongUse<'w> {
     /// The program takes no option with this name.
     UnknownOption(&'w str),
     /// An option is given twice.
-    GivenTwice(&'static str),
+    GivenTwice(&'w str),
     /// An option is given without its value.
-    NoValue(&'static str),
+    NoValue(&'w str),
     /// A value is given with an option that takes none.
     UnwantedValue(&'w str),
     /// An option is given with `--check`, which writes nothing.
-    NotWithCheck(&'static str),
+    NotWithCheck(&'w str),
     NoInput,
     NoOutput,
     NoFunctions,

@@ -212,9 +212,15 @@ fn names_faults_of_bodies(rt: HostRuntime) -> Result<(), Fail> {
 
 /// Appends where the sections of a module end.
 fn push_ends(ends: &mut Vec<usize>, bytes: &[u8]) -> Result<(), Fail> {
-    for section in Sections::new(bytes)? {
-        let section = section?;
-        ends.push(section.at.saturating_add(section.whole.len()))?;
+    let sections = match Sections::new(bytes) {
+        Ok(sections) => sections,
+        Err(error) => return Err(Fail::from(error)),
+    };
+    for section in sections {
+        match section {
+            Ok(section) => ends.push(section.at.saturating_add(section.whole.len()))?,
+            Err(error) => return Err(Fail::from(error)),
+        }
     }
     Ok(())
 }
@@ -270,8 +276,10 @@ fn notes_text(alloc: Global, notes: &[Note<'_>]) -> Result<String, Fail> {
 
 /// What is said of the sections of a module that is rewritten.
 pub(crate) fn notes_of(alloc: Global, parsed: &mut ParsedModule<'_>) -> Result<String, Fail> {
-    let rewritten = parsed.rewrite_all()?;
-    notes_text(alloc, &rewritten.notes)
+    match parsed.rewrite_all() {
+        Ok(rewritten) => notes_text(alloc, &rewritten.notes),
+        Err(error) => Err(Fail::from(error)),
+    }
 }
 
 /// Appends the location map of what is written for a module.
@@ -290,8 +298,10 @@ fn push_map_with<B: BodyWriter>(
 
 /// Appends the location map of a module that is rewritten.
 fn push_map(alloc: Global, parsed: &mut ParsedModule<'_>, out: &mut Vec<u8>) -> Result<(), Fail> {
-    let rewritten = parsed.rewrite_all()?;
-    push_map_with(alloc, parsed, &rewritten, out)
+    match parsed.rewrite_all() {
+        Ok(rewritten) => push_map_with(alloc, parsed, &rewritten, out),
+        Err(error) => Err(Fail::from(error)),
+    }
 }
 
 /// Appends which bodies are refused.

@@ -1,13 +1,13 @@
 //! The program `wcount`: lets the functions of a module count their calls.
 #![tactic(auto)]
 
-use module_tools::{CountCalls, Program, Tool, count_calls, run};
+use module_tools::{CountCalls, Program, Terminals, Tool, call_counter, run};
 use std::alloc::Global;
 use std::io;
 use std::io::IsTerminal;
 use std::process::ExitCode;
 use walrus_ir::{FunctionId, IdHashSet};
-use wasm_module::{Changing, ModuleError, ParsedModule, RewrittenModule};
+use wasm_module::{Changes, Changing, ModuleError, ParsedModule};
 
 const PROGRAM: Program = Program {
     name: "wcount",
@@ -39,17 +39,23 @@ struct Count;
 impl Tool for Count {
     type Bodies = Changing<CountCalls>;
 
-    fn rewrite<'a>(
+    fn changes(
         &self,
         alloc: Global,
-        parsed: &mut ParsedModule<'a>,
+        parsed: &mut ParsedModule<'_>,
         _functions: IdHashSet<FunctionId>,
-    ) -> Result<RewrittenModule<'a, Changing<CountCalls>>, ModuleError> {
-        count_calls(alloc, parsed)
+    ) -> Result<(Changing<CountCalls>, Changes), ModuleError> {
+        match call_counter(alloc, parsed) {
+            Ok((counter, changes)) => Ok((Changing(counter), changes)),
+            Err(error) => Err(error),
+        }
     }
 }
 
 fn main(rt: HostRuntime) -> io::Result<ExitCode> {
-    let is_terminal = rt.stdout().is_terminal();
-    run(&rt, &Count, &PROGRAM, is_terminal)
+    let terminals = Terminals {
+        output: rt.stdout().is_terminal(),
+        errors: rt.stderr().is_terminal(),
+    };
+    run(&rt, &Count, &PROGRAM, terminals)
 }

@@ -1,13 +1,13 @@
 //! The program `wrewrite`: rewrites the bodies of a module's functions.
 #![tactic(auto)]
 
-use module_tools::{Program, Tool, run};
+use module_tools::{Program, Terminals, Tool, run};
 use std::alloc::Global;
 use std::io;
 use std::io::IsTerminal;
 use std::process::ExitCode;
 use walrus_ir::{FunctionId, IdHashSet};
-use wasm_module::{ModuleError, ParsedModule, Rewriting, RewrittenModule};
+use wasm_module::{Changes, ModuleError, ParsedModule, Rewriting};
 
 const PROGRAM: Program = Program {
     name: "wrewrite",
@@ -44,17 +44,20 @@ struct RewriteAll;
 impl Tool for RewriteAll {
     type Bodies = Rewriting;
 
-    fn rewrite<'a>(
+    fn changes(
         &self,
-        _alloc: Global,
-        parsed: &mut ParsedModule<'a>,
+        alloc: Global,
+        _parsed: &mut ParsedModule<'_>,
         _functions: IdHashSet<FunctionId>,
-    ) -> Result<RewrittenModule<'a, Rewriting>, ModuleError> {
-        parsed.rewrite_all()
+    ) -> Result<(Rewriting, Changes), ModuleError> {
+        Ok((Rewriting, Changes::new(alloc)))
     }
 }
 
 fn main(rt: HostRuntime) -> io::Result<ExitCode> {
-    let is_terminal = rt.stdout().is_terminal();
-    run(&rt, &RewriteAll, &PROGRAM, is_terminal)
+    let terminals = Terminals {
+        output: rt.stdout().is_terminal(),
+        errors: rt.stderr().is_terminal(),
+    };
+    run(&rt, &RewriteAll, &PROGRAM, terminals)
 }

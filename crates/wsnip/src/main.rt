@@ -1,13 +1,13 @@
 //! The program `wsnip`: takes away the bodies of functions of a module.
 #![tactic(auto)]
 
-use module_tools::{Program, Snipping, Tool, run, snip};
+use module_tools::{Program, Snipping, Terminals, Tool, run};
 use std::alloc::Global;
 use std::io;
 use std::io::IsTerminal;
 use std::process::ExitCode;
 use walrus_ir::{FunctionId, IdHashSet};
-use wasm_module::{Changing, ModuleError, ParsedModule, RewrittenModule};
+use wasm_module::{Changes, Changing, ModuleError, ParsedModule};
 
 const PROGRAM: Program = Program {
     name: "wsnip",
@@ -40,17 +40,20 @@ struct Snip;
 impl Tool for Snip {
     type Bodies = Changing<Snipping>;
 
-    fn rewrite<'a>(
+    fn changes(
         &self,
         alloc: Global,
-        parsed: &mut ParsedModule<'a>,
+        _parsed: &mut ParsedModule<'_>,
         functions: IdHashSet<FunctionId>,
-    ) -> Result<RewrittenModule<'a, Changing<Snipping>>, ModuleError> {
-        snip(alloc, parsed, functions)
+    ) -> Result<(Changing<Snipping>, Changes), ModuleError> {
+        Ok((Changing(Snipping::new(functions)), Changes::new(alloc)))
     }
 }
 
 fn main(rt: HostRuntime) -> io::Result<ExitCode> {
-    let is_terminal = rt.stdout().is_terminal();
-    run(&rt, &Snip, &PROGRAM, is_terminal)
+    let terminals = Terminals {
+        output: rt.stdout().is_terminal(),
+        errors: rt.stderr().is_terminal(),
+    };
+    run(&rt, &Snip, &PROGRAM, terminals)
 }
