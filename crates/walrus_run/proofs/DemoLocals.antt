@@ -191,9 +191,6 @@ module _ (others : List ℕ) (few_others : length others ≤ 3) where
   agree : (id : ℕ) → among id (demo_args ++ others) ≡ true → full.local_number id ≡ g id
   agree id h = let p = some_place (demo_args ++ others) id h in ap some_number p.1 ∙ sym (ap (λ o. some_or o UnnumberedLocal) p.1)
 
-none_fit : (let none : List ℕ = [] in length none) ≤ 3
-none_fit = omega arith
-
 -- ---- an accepted body
 
 module _ (xs : List Occurrence) (b : Body Occurrence) (texts : AllByRecursion HasText xs) (lawful : Lawful demo_environment xs b) where
@@ -206,7 +203,7 @@ module _ (xs : List Occurrence) (b : Body Occurrence) (texts : AllByRecursion Ha
   all_named : (ys : List Occurrence) → AllMarked (NamedSomewhere demo_environment) (map mark ys) → AllMarked Q (map mark ys)
   all_named [] h = tt
   all_named (y ∷ ys) h =
-      (named_locals demo_environment h.0.0 y.spelt y.named (translated demo_environment (full [] none_fit) (full_has [] none_fit) h.0.0 y.spelt y.named h.0.1), all_named ys h.1)
+      (named_locals demo_environment h.0.0 y.spelt y.named (translated demo_environment h.0.0 y.spelt y.named h.0.1), all_named ys h.1)
 
   all_old : AllByRecursion (IsOfLocal demo_environment) (locals_of tree)
   all_old =
