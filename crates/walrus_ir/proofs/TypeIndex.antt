@@ -31,7 +31,7 @@ same_flipped ts us = by (same_types ts us) (same_types us ts) refl refl
     by false true e f = (same_types-Decides ts us).1 (sym ((same_types-Decides us ts).0 f)) ∙ sym f
     by false false e f = e ∙ sym f
 
--- what is at a list is at each equal one
+-- equal lists have equal values
 at_same : {X : Type 0} (m : ByList X) (list other : Types) → same_types list other ≡ true → at_list m other ≡ at_list m list
 at_same m list other same = ap (at_list m) (sym ((same_types-Decides list other).0 same))
 
@@ -49,14 +49,14 @@ turned : {A : Type 0} (b d : Bool) (x y o : A) → (b ≡ true → d ≡ false) 
 turned true d x y o h = ap (λ e. cond e y x) (h refl)
 turned false d x y o h = refl
 
--- what is there stays
+-- a value that is there stays
 kept : {A : Type 0} (b : Bool) (o : Option A) (x : A) → (b ≡ true → is_some o ≡ true) → o ≡ option_or o (cond b (Some x) None)
 kept true None x h = let no = h refl in cc
 kept true (Some y) x h = refl
 kept false None x h = refl
 kept false (Some y) x h = refl
 
--- what is put where nothing is
+-- a value that is added where there is none
 put : {A : Type 0} (b : Bool) (o : Option A) (x : A) → (b ≡ true → is_some o ≡ false) → cond b (Some x) o ≡ option_or o (cond b (Some x) None)
 put true None x h = refl
 put true (Some y) x h = let no = h refl in cc
@@ -65,19 +65,19 @@ put false (Some y) x h = refl
 
 -- ---- one list
 
--- no list is added where it is there
+-- a list that is there is not added again
 pub at_list-kept : {X : Type 0} (m : ByList X) (list : Types) (x : X) → is_some (at_list m list) ≡ true
     → (other : Types) → at_list m other ≡ option_or (at_list m other) (cond (same_types list other) (Some x) None)
 at_list-kept m list x there other = kept (same_types list other) (at_list m other) x (λ same. ap is_some (at_same m list other same) ∙ there)
 
--- a list is added where it isn't there
+-- a list that isn't there is added
 pub at_list-added : {X : Type 0} (m n : ByList X) (list : Types) (x : X) → is_some (at_list m list) ≡ false
     → ((other : Types) → at_list n other ≡ cond (same_types list other) (Some x) (at_list m other))
     → (other : Types) → at_list n other ≡ option_or (at_list m other) (cond (same_types list other) (Some x) None)
 at_list-added m n list x missing more other = more other ∙ put (same_types list other) (at_list m other) x (λ same. ap is_some (at_same m list other same) ∙ missing)
 
 module _ {X Z : Type 0} where
-  -- the first entry takes a value, if its key is the list, or else one of those after it does
+  -- the first entry gets the value if its key is the list; otherwise one of the entries after it does
   first_entry : (list other : Types) (e : Vec (ValType ℕ) Z × X) (es rest : List (Vec (ValType ℕ) Z × X)) (w : X) (b : Bool) → same_types list e.0.items ≡ b
       → (b ≡ false → at_list (by_list rest) other ≡ cond (same_types list other) (Some w) (at_list (by_list es) other))
       → at_list (by_list (cond b ((e.0, w) ∷ es) (e ∷ rest))) other ≡ cond (same_types list other) (Some w) (at_list (by_list (e ∷ es)) other)
@@ -90,12 +90,12 @@ module _ {X Z : Type 0} where
       (λ same. ap (λ ts. same_types ts e.0.items) (sym ((same_types-Decides list other).0 same)) ∙ here)
 
   module _ (C : ValType ℕ → ValType ℕ → Ordering) (law : (t u : ValType ℕ) → C t u ≡ type_order t u) where
-    -- what a map finds by the order is what the list has
+    -- a lookup in the map by the order finds the value of the list
     pub lookup-at_list : (list : Types) (es : List (Vec (ValType ℕ) Z × X)) → lookup (is_at (λ k. slice_cmp C list k.items)) es ≡ at_list (by_list es) list
     lookup-at_list list [] = refl
     lookup-at_list list (e ∷ es) = λ i. cond (tie-same_types C law list e.0.items i) (Some e.1) (lookup-at_list list es i)
 
-    -- a value that is written where the list has one
+    -- a new value for a list that has one
     pub at_list-set_value : (list : Types) (es : List (Vec (ValType ℕ) Z × X)) (old w : X) → at_list (by_list es) list ≡ Some old
         → (other : Types) → at_list (by_list (set_value (is_at (λ k. slice_cmp C list k.items)) es w)) other ≡ cond (same_types list other) (Some w) (at_list (by_list es) other)
     at_list-set_value list [] old w has other = cc
@@ -121,7 +121,7 @@ module _ {X Z : Type 0} where
 
 -- ---- two lists
 
--- the second lists of a first list take one more
+-- one more second list for a first list
 more_results : (b t : Bool) (o : Option (ByList ℕ)) (old new : ByList ℕ) (gives : Types) (id : ℕ) → (b ≡ true → o ≡ Some old)
     → at_list new gives ≡ option_or (at_list old gives) (cond t (Some id) None)
     → option_and_then (λ m. at_list m gives) (cond b (Some new) o) ≡ option_or (option_and_then (λ m. at_list m gives) o) (cond (b && t) (Some id) None)
@@ -136,7 +136,7 @@ at_lists-more m n params results old new id there put more takes gives =
     ap (option_and_then (λ m. at_list m gives)) (put takes)
     ∙ more_results (same_types params takes) (same_types results gives) (at_list m takes) old new gives id (λ same. at_same m params takes same ∙ there) (more gives)
 
--- a first list comes in, with its first second list
+-- a new first list, with its first second list
 new_results : (b : Bool) (o : Option (ByList ℕ)) (new : ByList ℕ) (gives : Types) → option_and_then (λ m. at_list m gives) (cond b (Some new) o) ≡ cond b (at_list new gives) (option_and_then (λ m. at_list m gives) o)
 new_results true o new gives = refl
 new_results false o new gives = refl
@@ -171,7 +171,7 @@ position_from-push p i (y ∷ ys) x =
       | false ↦ position_from-push p (i + 1) ys x ∙ ap (λ n. option_or (position_from p (i + 1) ys) (cond (p x) (Some n) None)) e
     ]
 
--- the first that passes, once one more stands last
+-- the first position that passes a test, after one more item is added at the end
 position-push : {X : Type 0} (p : X → Bool) (xs : List X) (x : X) → position p (xs ++ x ∷ []) ≡ option_or (position p xs) (cond (p x) (Some (length xs)) None)
 position-push p xs x =
     let e : 0 + length xs ≡ length xs = omega arith in

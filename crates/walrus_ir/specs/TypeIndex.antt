@@ -1,15 +1,15 @@
--- The index of a module's types: the id that a list of value types has, or two lists.
+-- The index of a module's types: the ids of lists, and of pairs of lists, of value types.
 use Rattle.std.specs.Prelude.{◌≡◌, ℕ, List, [], ◌∷◌, Option, option_and_then}
 use Rattle.std.specs.declared.vec.Vec.{Vec}
 use Rattle.std.specs.Map.{lookup}
 use Rattle.walrus_ir.specs.declared.val_type.ValType.{ValType}
 use Rattle.walrus_ir.specs.Types.{ModuleType, same_types, find, find_entry}
 
--- lists of value types, each with what it has
+-- lists of value types, each with a value
 abbrev pub ByList : Type 0 → Type 0
 ByList X = List (List (ValType ℕ) × X)
 
--- what this list has, if it has anything
+-- the value of this list, if it has one
 abbrev pub at_list : {X : Type 0} → ByList X → List (ValType ℕ) → Option X
 at_list m list = lookup (same_types list) m
 
@@ -22,8 +22,8 @@ abbrev pub by_list : {X Z : Type 0} → List (Vec (ValType ℕ) Z × X) → ByLi
 by_list [] = []
 by_list (e ∷ es) = (e.0.items, e.1) ∷ by_list es
 
--- Two lists have the id of the first type of functions with these lists, and a list that of the first type of entries
--- with these results.
+-- `functions` has for two lists the id of the first function type with these lists, and `entries` for a list that of the
+-- first entry type with these results.
 pub record IsIndexOf (types : List ModuleType) (functions : ByList (ByList ℕ)) (entries : ByList ℕ) : Type 0 where
   pub functions_are : (parameters results : List (ValType ℕ)) → at_lists functions parameters results ≡ find types parameters results
   pub entries_are : (results : List (ValType ℕ)) → at_list entries results ≡ find_entry types results

@@ -13,20 +13,20 @@ use std::marker::Model;
 /// A type of the module.
 #[derive(Drop)]
 enum TypeEntry {
-    /// Of functions.
+    /// A function type.
     Func {
         params: Vec<ValType>,
         results: Vec<ValType>,
     },
-    /// Of the entry of a function with these results.
+    /// The type of the entry of a function with these results.
     Entry {
         results: Vec<ValType>,
     },
-    /// A struct or array type, of which nothing is known here.
+    /// A struct or array type. Nothing else is known about it here.
     Other,
 }
 
-// The entry of a type of functions.
+// The entry of a function type.
 fn func_entry(
     alloc: Global,
     params: &[ValType],
@@ -40,11 +40,11 @@ fn func_entry(
     })
 }
 
-/// The types of a module, by id. A contract sees their list.
+/// The types of a module, by id. In a contract, they are a list.
 #[derive(Drop)]
 pub struct ModuleTypes {
     types: Vec<TypeEntry>,
-    /// The first type of functions with some lists, and the first type of entries with one.
+    /// The id of the first function type with given lists, and of the first entry type with one.
     func_ids: FuncIds,
     entry_ids: ListIds,
 }
@@ -64,7 +64,7 @@ impl Model for ModuleTypes {
 }
 
 impl ModuleTypes {
-    /// No types. It takes no memory.
+    /// A module without types. This allocates nothing.
     pub fn new(alloc: Global) -> ModuleTypes
         ensures { result ≡ [] }
     {
@@ -75,7 +75,11 @@ impl ModuleTypes {
         }
     }
 
-    /// Adds a type of functions, and returns its id.
+    /// Adds a function type, and returns its id.
+    ///
+    /// # Errors
+    ///
+    /// Out of memory; the types are unchanged.
     pub fn add_func(
         &mut self,
         params: &[ValType],
@@ -98,6 +102,10 @@ impl ModuleTypes {
     }
 
     /// Adds the type of the entry of a function with these results, and returns its id.
+    ///
+    /// # Errors
+    ///
+    /// Out of memory; the types are unchanged.
     pub fn add_entry(&mut self, results: &[ValType]) -> Result<TypeId, AllocError>
         ensures id { IfOk result (λ id. id ≡ length self.old) }
         ensures ok { IfOk result (λ _. self.new ≡ self.old ++ Entry results.now ∷ []) }
@@ -118,7 +126,11 @@ impl ModuleTypes {
         }
     }
 
-    /// Adds a type that is no type of functions, and returns its id.
+    /// Adds a struct or array type, and returns its id.
+    ///
+    /// # Errors
+    ///
+    /// Out of memory; the types are unchanged.
     pub fn add_other(&mut self) -> Result<TypeId, AllocError>
         ensures id { IfOk result (λ id. id ≡ length self.old) }
         ensures ok { IfOk result (λ _. self.new ≡ self.old ++ Other ∷ []) }
@@ -129,7 +141,7 @@ impl ModuleTypes {
         Ok(id)
     }
 
-    /// Whether it is a type of functions or of entries. It takes no memory.
+    /// Whether this is the id of a function type or an entry type. This allocates nothing.
     pub fn is_func(&self, id: TypeId) -> bool
         ensures { result ≡ is_some (signature_of self.now id) }
     {
@@ -139,7 +151,7 @@ impl ModuleTypes {
         )
     }
 
-    /// What is taken, in order. It takes no memory.
+    /// The parameters of a function type, in order; an entry type has none. This allocates nothing.
     pub fn params(&self, id: TypeId) -> &[ValType]
         requires { IsSome (signature_of self.now id) }
         ensures { IsSomeAnd (signature_of self.now id) (λ s. result.now ≡ s.parameters) }
@@ -147,7 +159,7 @@ impl ModuleTypes {
         self.params_results(id).0
     }
 
-    /// What is given, in order. It takes no memory.
+    /// The results of a function type or an entry type, in order. This allocates nothing.
     pub fn results(&self, id: TypeId) -> &[ValType]
         requires { IsSome (signature_of self.now id) }
         ensures { IsSomeAnd (signature_of self.now id) (λ s. result.now ≡ s.results) }
@@ -155,7 +167,7 @@ impl ModuleTypes {
         self.params_results(id).1
     }
 
-    /// What is taken, and what is given, each in order. It takes no memory.
+    /// The parameters and the results, each in order. This allocates nothing.
     pub fn params_results(&self, id: TypeId) -> (&[ValType], &[ValType])
         requires { IsSome (signature_of self.now id) }
         ensures { signature_of self.now id ≡ Some (signature result.0.now result.1.now) }
@@ -167,15 +179,15 @@ impl ModuleTypes {
         }
     }
 
-    /// The first type of functions with these lists, by id. Types of entries don't count. It takes
-    /// no memory.
+    /// The first function type, in the order of ids, with these parameters and results. Entry types
+    /// don't count. This allocates nothing.
     pub fn find(&self, params: &[ValType], results: &[ValType]) -> Option<TypeId>
         ensures { result ≡ find self.now params.now results.now }
     {
         self.func_ids.get(params, results)
     }
 
-    /// The first type of entries with these results, by id. It takes no memory.
+    /// The first entry type, in the order of ids, with these results. This allocates nothing.
     pub fn find_for_function_entry(&self, results: &[ValType]) -> Option<TypeId>
         ensures { result ≡ find_entry self.now results.now }
     {
