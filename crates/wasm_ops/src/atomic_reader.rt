@@ -1,4 +1,5 @@
-//! Reading the rest of an operator after 0xfe: atomic accesses, by ranges of their numbers, and the fence.
+//! Reading the rest of an operator after 0xfe: atomic accesses, by ranges of their numbers, and the
+//! fence.
 
 ghost use Rattle.std.specs.Prelude.{◌≡◌, ◌≤◌};
 ghost use Rattle.walrus_ir.specs.Results.{Gives};

@@ -70,7 +70,8 @@ pub(crate) fn read_reference(byte: u8, bytes: &[u8]) -> Result<(Operator<'_>, &[
     }
 }
 
-/// Reads the rest of an operator with 0xfb and a number from 20 to 30: tests, casts and conversions.
+/// Reads the rest of an operator with 0xfb and a number from 20 to 30: tests, casts and
+/// conversions.
 #[tactic(auto, unfolding(wasm_operators::specs::Opcodes::kinds_behind))]
 fn read_conversion(number: u32, bytes: &[u8]) -> Result<(Operator<'_>, &[u8]), ReadFault>
     requires low { 20 ≤ number }
