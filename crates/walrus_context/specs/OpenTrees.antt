@@ -77,7 +77,7 @@ pub record Pops (old new : OpenTrees) (f : ControlFrame) (block : ℕ) : Type 0 
   pub is_block : block ≡ frame.sequence
   pub closes : Closes old new frame
 
--- The n-th frame is changed like this; nothing else changed.
+-- The n-th frame is changed in this way; nothing else changed.
 abbrev pub ChangesFrame : ℕ → (OpenFrame → OpenFrame) → (old new : OpenTrees) → Type 0
 ChangesFrame n change old new = (n < length old.frames) × (new ≡ record old { frames = changed_at n change old.frames })
 

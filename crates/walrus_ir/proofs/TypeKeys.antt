@@ -1,4 +1,4 @@
--- Lists of value types that the order of value types doesn't tell apart are equal.
+-- Lists of value types that the order of value types doesn't distinguish are equal.
 use Rattle.std.proofs.Common.{◌≡◌, ℕ, List, Bool, true, false, ◌&&◌, ◌==◌, nat_eq, refl, sym, ap, ◌∙◌}
 use Rattle.std.specs.Ordering.{is_eq}
 use Rattle.std.specs.declared.cmp.Ordering.{Ordering}

@@ -104,9 +104,9 @@ pub struct MemoryFill {
 /// `memory.init`: copies from a data segment.
 #[derive(Clone, Copy)]
 pub struct MemoryInit {
-    /// The destination.
+    /// The memory that is copied to.
     pub memory: MemoryId,
-    /// The data segment that is the source.
+    /// The data segment that is copied from.
     pub data_id: DataId,
 }
 
@@ -120,8 +120,8 @@ pub struct DataDrop {
 /// `memory.copy`.
 #[derive(Clone, Copy)]
 pub struct MemoryCopy {
-    /// The source.
+    /// The memory that is copied from.
     pub src: MemoryId,
-    /// The destination.
+    /// The memory that is copied to.
     pub dst: MemoryId,
 }

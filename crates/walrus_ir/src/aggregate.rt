@@ -131,9 +131,9 @@ pub struct ArrayFill {
 /// `array.copy`.
 #[derive(Clone, Copy)]
 pub struct ArrayCopy {
-    /// The array type of the destination.
+    /// The type of the array that is copied to.
     pub dst_ty: TypeId,
-    /// The array type of the source.
+    /// The type of the array that is copied from.
     pub src_ty: TypeId,
 }
 
@@ -142,7 +142,7 @@ pub struct ArrayCopy {
 pub struct ArrayInitData {
     /// The array type.
     pub ty: TypeId,
-    /// The data segment that is the source.
+    /// The data segment that is copied from.
     pub data_id: DataId,
 }
 
@@ -151,6 +151,6 @@ pub struct ArrayInitData {
 pub struct ArrayInitElem {
     /// The array type.
     pub ty: TypeId,
-    /// The element segment that is the source.
+    /// The element segment that is copied from.
     pub elem: ElementId,
 }

@@ -70,7 +70,7 @@ pub enum TryTableCatch {
 pub struct TryTable {
     /// The body.
     pub seq: InstrSeqId,
-    /// The clauses, in order; the first that fits catches the exception.
+    /// The clauses, in order; the first that matches catches the exception.
     pub catches: Vec<TryTableCatch>,
 }
 

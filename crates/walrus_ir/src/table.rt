@@ -40,9 +40,9 @@ pub struct TableFill {
 /// `table.init`: copies from an element segment.
 #[derive(Clone, Copy)]
 pub struct TableInit {
-    /// The destination.
+    /// The table that is copied to.
     pub table: TableId,
-    /// The element segment that is the source.
+    /// The element segment that is copied from.
     pub elem: ElementId,
 }
 
@@ -56,8 +56,8 @@ pub struct ElemDrop {
 /// `table.copy`.
 #[derive(Clone, Copy)]
 pub struct TableCopy {
-    /// The source.
+    /// The table that is copied from.
     pub src: TableId,
-    /// The destination.
+    /// The table that is copied to.
     pub dst: TableId,
 }

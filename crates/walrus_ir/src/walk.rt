@@ -178,7 +178,7 @@ fn tell_next<'a, 'b, V: Visitor>(
     Ok(coming)
 }
 
-// The slots of the sequences that a walk enters, and room for those that are open at once.
+// The slots of the sequences that a walk enters, and an empty stack with room for all of them.
 fn plan<'a>(
     builder: &'a FunctionBuilder,
     start: InstrSeqId,
@@ -196,7 +196,8 @@ fn plan<'a>(
 
 /// Walks over the sequences of a function from `start` on, in order. Before the first call of the
 /// visitor, the sequences are known to be a tree, and all memory that the walk itself needs is
-/// allocated: a slot and a mark for each sequence, and room for those that are open at once.
+/// allocated: a mark for each sequence of the builder, the tasks of the plan, and for each sequence
+/// of the tree its slot and room on the stack of open sequences.
 ///
 /// # Errors
 ///
