@@ -5,7 +5,7 @@ pub mod Types
 pub mod TypeOrder
 pub mod TypeEntries
 pub mod TypeIndex
--- locations, and the form in contracts of instructions with lists, of a sequence and of a builder
+-- locations, and what contracts see of instructions with lists, of a sequence and of a builder
 pub mod Locations
 pub mod Clauses
 pub mod InstructionSequence

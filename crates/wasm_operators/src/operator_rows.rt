@@ -147,8 +147,8 @@ macro_rules! behind_reference {
 }
 
 /// Splits an operator into its opcode and its immediates, and passes these to the macro `$each`,
-/// after that macro's other arguments. The rows of operators with lists are arguments, since lists differ
-/// between operators that are read and operators that are written.
+/// after that macro's other arguments. The rows of operators with lists are arguments, since lists
+/// differ between operators that are read and operators that are written.
 #[macro_export]
 macro_rules! parts_of {
     (
