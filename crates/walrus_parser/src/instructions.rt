@@ -35,6 +35,7 @@ pub fn memory_argument(memarg: RawMemArg) -> MemArg
     }
 }
 
+/// A constant (WebAssembly core specification 3.0, numeric and vector instructions).
 pub fn constant(value: Value) -> Instr
     ensures { result ≡ instr.Const (record { value = value }) }
 {
@@ -68,7 +69,7 @@ fn atomic(kind: AtomicKind, memory: MemoryId, arg: MemArg) -> Instr
     }
 }
 
-/// The id of an index in a space.
+/// The id of an old index in a space.
 macro_rules! id {
     ($indices:ident Types $index:ident) => {
         $indices.get_type($index)?
