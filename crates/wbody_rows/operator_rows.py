@@ -3,7 +3,7 @@
 
     python3 operator_rows.py operators.tsv >> stdin
 
-The argument lists all operators: first byte, number behind a prefix, name and immediates, with a tab
+The argument lists all operators: first byte, number after a prefix, name and immediates, with a tab
 between them, and a line of headings first.
 """
 import sys
