@@ -109,7 +109,7 @@ fn read_all(alloc: Global, text: &[u8]) -> Result<Vec<Mapping>, MappingsError>
 ///
 /// # Errors
 ///
-/// The first fault, from left to right; or that memory ran out.
+/// The first fault, from left to right; or `Memory`.
 pub fn decode(alloc: Global, text: &[u8]) -> Result<Vec<Mapping>, MappingsError>
     ensures read { IfOk result (λ v. Spells v.items text.now) }
     ensures each { (ms : List AMapping) → Spells ms text.now

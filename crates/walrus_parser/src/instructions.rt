@@ -166,7 +166,7 @@ impl BodyParser<'_> {
         }
     }
 
-    /// The instruction of an operator by itself other than `nop`.
+    /// The instruction of an operator, other than `nop`, that makes one by itself.
     pub fn instruction(&self, operator: &Operator<'_>) -> Result<Instr, ParseError>
         requires kind { is_instruction operator.now ≡ true }
         requires writable { IsWritable (meaning operator.now) }

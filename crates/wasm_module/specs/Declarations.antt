@@ -28,7 +28,7 @@ groups bytes = u32 bytes >>= λ n. many group n.0 n.1
 abbrev pub named_group : IndicesToIds → ℕ × ValType ℕ → Result (ℕ × ValType ℕ) ParseError
 named_group indices g = translate_value (ids_at indices) g.1 >>= λ type. Ok (g.0, type)
 
--- each local by itself
+-- one type for each local
 abbrev pub expanded : List (ℕ × ValType ℕ) → List (ValType ℕ)
 expanded [] = []
 expanded (g ∷ gs) = replicate g.0 g.1 ++ expanded gs

@@ -51,7 +51,7 @@ IsModule file ss = (text : List ℕ) × (file ≡ preamble ++ text) × AreSectio
 abbrev pub rank : (id : ℕ) → ℕ
 rank id = get_or (0 ∷ 1 ∷ 2 ∷ 3 ∷ 4 ∷ 5 ∷ 7 ∷ 8 ∷ 9 ∷ 10 ∷ 12 ∷ 13 ∷ 11 ∷ 6 ∷ []) id 0
 
--- the first rank of these sections that is greater than this one; 14 where there is none
+-- the first rank of these sections that is greater than this one; 14 if there is none
 abbrev pub next_rank : ℕ → List SectionAt → ℕ
 next_rank r [] = 14
 next_rank r (s ∷ ss) = if nat_lt r (rank s.id) then rank s.id else next_rank r ss

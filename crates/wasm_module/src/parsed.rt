@@ -16,8 +16,9 @@ use walrus_ir::{FunctionId, Module, ModuleLocals, ModuleTags, ModuleTypes, TypeI
 use wasm_ops::RawValType;
 
 /// A module that was read: what is needed to parse the bodies of its functions, and where they are.
-/// The id of a type is its index after those of the entry types, which are in no module; other ids
-/// are the indices. Places are offsets from the start of the file.
+/// The first ids of types are those of the entry types, which are in no module; the id of another
+/// type is its index plus the number of entry types. All other ids are the indices. Places are byte
+/// offsets from the start of the file.
 #[derive(Drop)]
 pub struct ParsedModule<'a> {
     pub(crate) alloc: Global,
