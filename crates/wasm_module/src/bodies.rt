@@ -235,8 +235,9 @@ impl<'a> ParsedModule<'a> {
         }
     }
 
-    /// Writes the raw body of a function and its location pairs. The function is the one that was
-    /// parsed last, whether or not it was changed since.
+    /// Writes the raw body of a function and its location pairs. The function has to be the one
+    /// that was parsed last, since the module has the locals of one body at a time; it may have
+    /// been changed since.
     ///
     /// # Errors
     ///

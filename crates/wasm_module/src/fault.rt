@@ -33,8 +33,8 @@ pub enum ModuleFault {
     /// No section has this id.
     #[error("no section has this id")]
     UnknownSection,
-    /// A section comes after one that it has to come before, or there are two of its kind; or the
-    /// functions in a custom section of names or metadata aren't in ascending order.
+    /// A section comes after one that it has to come before, or there are two of its kind; or a
+    /// caller gives contents for a custom section or for the code section.
     #[error("a section is out of order")]
     SectionOutOfOrder,
     /// Bytes are left after the last item of a section, or of bytes that a caller passed.

@@ -28,7 +28,7 @@ impl Input<'_> {
         }
     }
 
-    /// Reads past the index of a table or of a memory, which isn't looked up.
+    /// Reads past the index of a table, memory or function, which isn't looked up.
     fn pass_index(&mut self) -> Result<(), ModuleError> {
         match self.number() {
             Ok(_) => Ok(()),
