@@ -120,7 +120,7 @@ operators_left indices parameters given all rest before bytes locals e have b s 
     let operators : rest ≡ drop (length before) bytes = sym (rw (b, s) (dropped all front.0 rest front.1)) in
     subst (λ (left : List ℕ). HaveLocals indices parameters all left locals) operators (subst (λ (ps : List (ValType ℕ)). HaveLocals indices ps all rest locals) e have)
 
--- ---- where no more groups are declared
+-- ---- if no more groups are declared
 
 -- the item that follows some of those that are read
 pub record NextRead {A : Type 0} (one : Reader A) (xs ys : List A) (behind : List ℕ) : Type 0 where

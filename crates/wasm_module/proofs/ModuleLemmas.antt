@@ -71,7 +71,7 @@ extends_kept a b c p alike types indices numbers = record {
   imported = alike.imported ∙ p.imported;
 }
 
--- ---- where something succeeded
+-- ---- if something succeeded
 
 pub then_ok : {A E P : Type 0} (r : Result A E) → P → OnOk r P
 then_ok (Ok x) p = p

@@ -78,7 +78,7 @@ module _ (all : List SectionAt) (r : ℕ) (s t : Sections) (o : Option (Result S
       let found = rank_found r f.0 f.1 (subst (λ (n : ℕ). r < n) (sym f.3) h) in
       sym f.3 ∙ sym found ∙ ap (λ (ss : List SectionAt). next_rank r ss) (sym f.2) ∙ p.same
 
--- where no section is left
+-- if no section is left
 nothing_left : (end : ℕ) (text : List ℕ) (left : List SectionAt) → AreSections end text left → text ≡ [] → left ≡ []
 nothing_left end text [] a e = refl
 nothing_left end text (y ∷ ys) a e = let e : [] ≡ y.id ∷ a.1.sized = sym e ∙ a.1.id_is in absurd cc

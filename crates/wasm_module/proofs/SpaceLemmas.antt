@@ -73,7 +73,7 @@ local_of_list (Some l) n i e h = ap (λ (o : Option ℕ). some_or o (LocalOutOfR
 pub stands_for_itself : (m : IndicesToIds) (n i : ℕ) → locals_in m 0 ≡ first_numbers n → i < n → local_of m 0 i ≡ Ok i
 stands_for_itself m n i e h = local_of_list (get m.locals 0) n i e h
 
--- ---- where no more locals are added
+-- ---- if no more locals are added
 
 -- with fewer locals than there are indices, the only error is that memory ran out
 pub wants_memory :
