@@ -37,7 +37,7 @@ pub enum MappingsFault {
 pub enum MappingsError {
     /// Memory ran out.
     Memory,
-    /// This is wrong with their text.
+    /// What is wrong with their text.
     Fault(MappingsFault),
 }
 

@@ -21,7 +21,7 @@ pub enum SourceMapFault {
     /// The object has no text `mappings`. With `sections` instead, it is an index map.
     #[error("the source map has no mappings of its own")]
     NoMappings,
-    /// This is wrong with the text of its mappings.
+    /// What is wrong with the text of its mappings.
     #[error("{0}")]
     Mappings(MappingsFault),
 }
@@ -52,7 +52,7 @@ impl SourceMapFault {
 pub enum SourceMapError {
     /// Memory ran out.
     Memory,
-    /// This is wrong with it.
+    /// What is wrong with the source map.
     Fault(SourceMapFault),
 }
 

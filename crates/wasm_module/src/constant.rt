@@ -23,7 +23,7 @@ fn is_control(operator: &Operator<'_>) -> bool {
 impl Input<'_> {
     /// Reads past a constant expression (WebAssembly core specification 3.0, binary format,
     /// expressions): operators up to the `end`. It isn't checked whether an operator is constant,
-    /// but none may be of a construct.
+    /// but none may open, divide or leave a construct.
     pub fn constant(&mut self) -> Result<(), ModuleError> {
         let rest = self.rest();
         let mut reader = Reader::new(rest, self.at());

@@ -80,8 +80,8 @@ impl<'a> ParsedModule<'a> {
         };
         match parsed.read_sections() {
             Ok(()) => {
-                // They are the same already. Set here, the contract needs nothing from the
-                // functions that read sections.
+                // It has these bytes already. They are set here, so no contract of a function that
+                // reads sections has to say so.
                 parsed.bytes = bytes;
                 Ok(parsed)
             }
