@@ -15,7 +15,7 @@ use std::alloc::Global;
 /// A source map that was read.
 #[derive(Drop)]
 pub struct SourceMap {
-    /// All of it. It is an object.
+    /// The whole JSON value, which is an object.
     pub(crate) value: Value,
     pub(crate) mappings: Vec<Mapping>,
 }
@@ -41,12 +41,12 @@ fn read_mappings(alloc: Global, value: &Value) -> Result<Vec<Mapping>, SourceMap
 }
 
 impl SourceMap {
-    /// Reads a source map: a JSON text in UTF-8. Of the generated program, which has one line, a
-    /// column is an offset.
+    /// Reads a source map: a JSON text in UTF-8. The generated program has one line, so a column is
+    /// an offset.
     ///
     /// # Errors
     ///
-    /// What is wrong with it; or that memory ran out.
+    /// What is wrong with it; or `Memory`.
     pub fn read(alloc: Global, bytes: &[u8]) -> Result<SourceMap, SourceMapError>
         ensures { IfOk result (λ map. (d : Data) × (text : List ℕ) × (read_text bytes.now ≡ Some d)
             × IsSourceMap d text × Spells map.mappings.items text) }

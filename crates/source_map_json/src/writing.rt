@@ -5,8 +5,8 @@ use serde_json::{Map, Value};
 use source_map::{Mapping, encode};
 use std::alloc::{AllocError, Global};
 
-/// The members of a source map, in the order in which they are written: that of the specification,
-/// but that the mappings are the last of them. Some programs read no other order.
+/// The members of a source map that are written first, in the order of the specification; the
+/// mappings follow them, and then all other members. Some programs read no other order.
 const ORDER: [&str; 6] = [
     "version",
     "file",
@@ -19,12 +19,12 @@ const ORDER: [&str; 6] = [
 /// The name of the mappings.
 const MAPPINGS: &str = "mappings";
 
-/// Whether a member with this name has its place in the order.
+/// Whether a member with this name has a place in the order.
 fn is_ordered(name: &str) -> bool {
     name == MAPPINGS || ORDER.iter().any(|ordered| *ordered == name)
 }
 
-/// Appends a member, whose name and value are given as JSON texts, to those before.
+/// Appends a member, whose name and value are JSON texts, after those before.
 fn put_member(out: &mut Vec<u8>, name: &[u8], value: &[u8]) -> Result<(), AllocError> {
     if out.len() > 1 {
         out.push(b',')?;
@@ -50,7 +50,7 @@ fn quoted(alloc: Global, text: &[u8]) -> Result<Vec<u8>, AllocError> {
     Ok(out)
 }
 
-/// Appends the members that have their place in the order, but for the mappings.
+/// Appends the members that have a place in the order, except the mappings.
 fn put_ordered(alloc: Global, out: &mut Vec<u8>, value: &Value) -> Result<(), AllocError> {
     for name in ORDER {
         if let Some(member) = value.get(name) {
@@ -87,10 +87,10 @@ fn put_mappings(alloc: Global, out: &mut Vec<u8>, mappings: &[Mapping]) -> Resul
 }
 
 impl SourceMap {
-    /// The JSON text of the source map with other mappings, which are sorted by their generated
-    /// columns. All else is carried over: the members that the specification names in the order
-    /// `version`, `file`, `sourceRoot`, `sources`, `sourcesContent`, `names`, `mappings`, and then
-    /// all others, in the order of their names.
+    /// The JSON text of the source map with other mappings, which have to be sorted by their
+    /// generated columns. All other members are copied: those that the specification names in the
+    /// order `version`, `file`, `sourceRoot`, `sources`, `sourcesContent`, `names`, `mappings`, and
+    /// then the others, in the order of their names.
     ///
     /// # Errors
     ///

@@ -1,4 +1,4 @@
-//! The words of programs.
+//! The arguments of programs.
 use module_tools::{Program, Request, Stop, Task, read_words};
 use std::alloc::{AllocError, Global};
 use std::test::Fail;
@@ -19,7 +19,7 @@ const SNIPS: Program = Program {
     takes_functions: true,
 };
 
-/// What a task is, as text.
+/// A task, as text.
 fn task_text(alloc: Global, task: &Task<'_>) -> Result<String, Fail> {
     let Task {
         input,
@@ -42,7 +42,7 @@ fn task_text(alloc: Global, task: &Task<'_>) -> Result<String, Fail> {
     Ok(text)
 }
 
-/// What words ask for, as text.
+/// What arguments request, as text.
 fn request_text(alloc: Global, request: Result<Request<'_>, Stop<'_>>) -> Result<String, Fail> {
     match request {
         Ok(Request::Help) => Ok(String::from_str(alloc, "help")?),
@@ -67,7 +67,7 @@ fn asked(alloc: Global, program: &Program, words: &str) -> Result<String, Fail> 
     request_text(alloc, read_words(alloc, program, &list))
 }
 
-// Words of a program that rewrites, and what they ask for.
+// Arguments of a program that rewrites, and what they request.
 const WORDS: [(&str, &str); 25] = [
     ("a b", "a Some(\"b\") None"),
     ("- - --verbose", "- Some(\"-\") None verbose"),
@@ -99,7 +99,7 @@ const WORDS: [(&str, &str); 25] = [
     ("-v=1 a b", "unknown option '-v=1'"),
 ];
 
-// The same of one that takes functions.
+// The same for one that takes functions.
 const WORDS_WITH_FUNCTIONS: [(&str, &str); 4] = [
     ("a b 1 main", "a Some(\"b\") None 1 main"),
     ("a 1 --map m 2 -- -3", "a Some(\"1\") Some(\"m\") 2 -3"),
@@ -107,7 +107,7 @@ const WORDS_WITH_FUNCTIONS: [(&str, &str); 4] = [
     ("--check a", "unknown option '--check'"),
 ];
 
-/// The words of programs.
+/// The arguments of programs.
 #[test]
 fn takes_words(rt: HostRuntime) -> Result<(), Fail> {
     for (words, want) in &WORDS {

@@ -265,7 +265,7 @@ impl BodyParser<'_> {
         }
     }
 
-    /// Takes an operator by itself, whose instruction this is.
+    /// Takes an operator that makes an instruction by itself, which is this one.
     #[inline(always)]
     fn take_made(
         &mut self,
@@ -284,7 +284,7 @@ impl BodyParser<'_> {
         self.take(instr, location, cuts)
     }
 
-    /// Takes an operator by itself other than `nop`.
+    /// Takes an operator, other than `nop`, that makes an instruction by itself.
     #[inline(never)]
     fn take_alone(
         &mut self,
@@ -302,7 +302,8 @@ impl BodyParser<'_> {
         }
     }
 
-    /// Refuses an operator by itself, which has no instruction because of this error.
+    /// Refuses an operator that makes an instruction by itself, because an index or a label of it
+    /// has this error.
     fn refuse(
         &mut self,
         operator: &Operator<'_>,

@@ -35,6 +35,7 @@ pub fn memory_argument(memarg: RawMemArg) -> MemArg
     }
 }
 
+/// A constant (WebAssembly core specification 3.0, numeric and vector instructions).
 pub fn constant(value: Value) -> Instr
     ensures { result ≡ instr.Const (record { value = value }) }
 {
@@ -68,7 +69,7 @@ fn atomic(kind: AtomicKind, memory: MemoryId, arg: MemArg) -> Instr
     }
 }
 
-/// The id of an index in a space.
+/// The id of an old index in a space.
 macro_rules! id {
     ($indices:ident Types $index:ident) => {
         $indices.get_type($index)?
@@ -165,7 +166,7 @@ impl BodyParser<'_> {
         }
     }
 
-    /// The instruction of an operator by itself other than `nop`.
+    /// The instruction of an operator, other than `nop`, that makes one by itself.
     pub fn instruction(&self, operator: &Operator<'_>) -> Result<Instr, ParseError>
         requires kind { is_instruction operator.now ≡ true }
         requires writable { IsWritable (meaning operator.now) }

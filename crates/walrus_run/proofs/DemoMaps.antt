@@ -86,7 +86,7 @@ space_numbered m h Elements = ap (λ e. in_turn e 1) (h Elements)
 space_numbered m h Data = ap (λ e. insert e 0 0) (h Data) ∙ ap (λ n. insert empty 0 n) (sym (len-empty nat_cmp ℕ))
 space_numbered m h Tags = ap (λ e. in_turn e 2) (h Tags)
 
--- what is given for an id that has this number in its space
+-- the result for an id that has this number in its space
 abbrev given_as : Space → Option ℕ → Result ℕ EmitError
 given_as space o = with_fault Index (some_or o (Unnumbered space) >>= fitting (Unnumbered space))
 
@@ -125,7 +125,7 @@ none_numbered id = let none : get (from_entries {R = nat_cmp} []) id ≡ None = 
 all_are_demo : (m : IdsToIndices) → IsEmptyMap m → numbers_by (all_numbered m) [] ≡ demo_numbers
 all_are_demo m h = λ i. record { number_of = same_numbers _ _ (number_is m h) i; local_number = λ id. none_numbered id i }
 
--- what was numbered in three steps
+-- the numbers after three steps
 pub demo_numbers_are : (m n o p : IdsToIndices) → IsEmptyMap m → n ≡ types_numbered m → o ≡ functions_numbered n → p ≡ storage_numbered o → numbers_by p [] ≡ demo_numbers
 demo_numbers_are m n o p none types functions storage =
     ap (λ q. numbers_by q []) (storage ∙ ap storage_numbered (functions ∙ ap functions_numbered types)) ∙ all_are_demo m none

@@ -1,4 +1,5 @@
-//! Rewriting function bodies: the program `wbody` from words to bytes, and the trace machine.
+//! Rewriting function bodies: the program `wbody`, from its arguments to its output, and the trace
+//! machine.
 #![tactic(auto)]
 
 pub mod demo;

@@ -17,16 +17,24 @@ pub struct NamedOp {
     pub immediates: NamedImmediates,
 }
 
-/// The id of an index, by the space of the index.
+/// The id of an index, with the space of the index.
 #[derive(Clone, Copy, Debug, PartialEq, Eq)]
 pub enum NamedIndex {
+    /// A table.
     Table(TableId),
+    /// A type.
     Type(TypeId),
+    /// A function.
     Func(FunctionId),
+    /// A global.
     Global(GlobalId),
+    /// A memory.
     Memory(MemoryId),
+    /// An element segment.
     Element(ElementId),
+    /// A data segment.
     Data(DataId),
+    /// A tag.
     Tag(TagId),
 }
 
@@ -79,7 +87,7 @@ pub struct NamedCast {
 /// The immediates after an opcode.
 #[derive(Debug, Drop, PartialEq, Eq)]
 pub enum NamedImmediates {
-    /// Nothing.
+    /// No immediates.
     Nothing,
     /// The id of an index.
     Index(NamedIndex),

@@ -22,14 +22,18 @@ use walrus_body::{IndicesToIds, ParseError, heap_type_of, value_type};
 use walrus_ir::{FunctionId, Module, TagId, TypeId, ValType};
 use wasm_ops::{BlockType, BrTable, CatchList, Immediates, Operator, RawCast, RawMemArg, Space};
 
-/// What operators of a function's body are named with: the function, its type, and the old indices
-/// and the types of its module.
+/// What is needed to name the operators of a function's body.
 #[derive(Clone, Copy)]
 pub(crate) struct Namer<'a> {
+    /// The allocator of the names.
     pub alloc: Global,
+    /// The module, with its types and tags.
     pub module: &'a Module,
+    /// The ids of its old indices.
     pub indices: &'a IndicesToIds,
+    /// The id of the function, whose locals have their own old indices.
     pub function: FunctionId,
+    /// The id of the function's type.
     pub ty: TypeId,
 }
 

@@ -30,7 +30,7 @@ puts_then a b c at middle end first second p q = record {
 pub puts_same : (a b : Option (List ℕ)) (at end : ℕ) (bytes others : List ℕ) → bytes ≡ others → Puts a b at end bytes → Puts a b at end others
 puts_same a b at end bytes others e p = subst (λ (l : List ℕ). Puts a b at end l) e p
 
--- ---- of an answer
+-- ---- of a result
 
 pub if_so : {A E : Type 0} {P Q : A → Type 0} (r : Result A E) → IfOk r P → ((a : A) → P a → Q a) → IfOk r Q
 if_so (Ok a) p f = f a p

@@ -3,7 +3,7 @@
 use crate::named_op::NamedCatch;
 use walrus_ir::TagId;
 
-/// What an operator that neither opens, parts nor closes a construct does. Labels are depths.
+/// What an operator that neither opens, divides nor closes a construct does. Labels are depths.
 #[derive(Clone, Copy)]
 pub enum Action<'a> {
     /// Does nothing.
@@ -54,7 +54,7 @@ pub enum Construct<'a> {
 /// instructions).
 #[derive(Clone, Copy)]
 pub enum Control<'a> {
-    /// An operator that neither opens, parts nor closes a construct.
+    /// An operator that neither opens, divides nor closes a construct.
     Does(Action<'a>),
     /// An operator that opens a construct.
     Opens(Construct<'a>),
@@ -75,7 +75,7 @@ impl Control<'_> {
     ghost use Rattle.walrus_run.specs.Controls.{control_meaning};
     ghost use Rattle.walrus_run.specs.Tables.{is_part};
 
-    /// Whether it parts a construct: `else`, `catch` or `catch_all`.
+    /// Whether it divides a construct: `else`, `catch` or `catch_all`.
     pub fn is_part(&self) -> bool
         ensures { result ≡ is_part (control_meaning self.now) }
     {

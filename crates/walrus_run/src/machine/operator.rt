@@ -16,27 +16,47 @@ use wasm_ops::Opcode;
 /// The kind of an operator with respect to the control, from its opcode.
 #[derive(Clone, Copy)]
 pub enum Role {
+    /// `unreachable`.
     Unreachable,
+    /// `nop`.
     Nop,
+    /// `block`.
     Block,
+    /// `loop`.
     Loop,
+    /// `if`.
     If,
+    /// `else`.
     Else,
+    /// A legacy `try`.
     Try,
+    /// A legacy `catch`.
     Catch,
+    /// `throw`.
     Throw,
+    /// A legacy `rethrow`.
     Rethrow,
+    /// `throw_ref`.
     ThrowRef,
+    /// `end`.
     End,
+    /// `br`.
     Branch,
+    /// A branch that is taken or not: `br_if`, or one on a reference or a cast.
     ConditionalBranch,
+    /// `br_table`.
     TableBranch,
+    /// `return`.
     Return,
+    /// A tail call: `return_call`, `return_call_indirect` or `return_call_ref`.
     TailCall,
+    /// A legacy `delegate`.
     Delegate,
+    /// A legacy `catch_all`.
     CatchAll,
+    /// `try_table`.
     TryTable,
-    /// Any other.
+    /// Any other operator.
     Plain,
 }
 

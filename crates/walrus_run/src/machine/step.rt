@@ -273,7 +273,7 @@ impl<'a> State<'a> {
         }
     }
 
-    /// An operator that neither opens, parts nor closes a construct.
+    /// An operator that neither opens, divides nor closes a construct.
     fn act(
         &mut self,
         table: &Table<'_>,

@@ -81,7 +81,7 @@ impl Levels {
     }
 }
 
-/// Which part of a construct is wanted.
+/// Which part of a construct is searched for.
 #[derive(Clone, Copy)]
 pub enum Wanted<'a> {
     /// An `else`.
@@ -111,7 +111,7 @@ impl Wanted<'_> {
         }
     }
 
-    /// Whether a search continues past this operator, which parts or closes the construct.
+    /// Whether a search continues past this operator, which divides or closes the construct.
     fn passes(self, control: &Control<'_>) -> bool
         ensures { result ≡ passes (test_of self.entry) (control_meaning control.now) }
     {

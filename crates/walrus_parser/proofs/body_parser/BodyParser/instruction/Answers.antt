@@ -12,7 +12,7 @@ returns-in-BrTable-clause-placed c = subst (λ o. GivesOrMemory operation_of c.b
 pub returns-in-Rethrow-clause-placed : goal.returns-in-Rethrow-clause-placed
 returns-in-Rethrow-clause-placed c = subst (λ o. GivesOrMemory operation_of c.rethrow.result (placed_in c.args.self.now (meaning o))) (sym c.in-Rethrow.is) c.rethrow.ensures.placed
 
--- where no memory is needed
+-- if nothing is allocated
 gives_or_memory : {A B : Type 0} (view : A → B) (r : Result A ParseError) (given : Result B ParseError) → Gives view r given → GivesOrMemory view r given
 gives_or_memory view (Ok x) given h = h
 gives_or_memory view (Err e) given h = inr h
