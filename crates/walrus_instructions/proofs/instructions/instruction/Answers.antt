@@ -3,14 +3,14 @@ use Rattle.walrus_ir.specs.Results.{Gives}
 use Rattle.wasm_operators.specs.Meaning.{meaning}
 use Rattle.wasm_body.specs.declared.error.ParseError.{ParseError}
 use Rattle.wasm_body.specs.InstructionTable.{operation_of}
-use Rattle.walrus_parser.specs.BodyParsers.{placed_in, GivesOrMemory}
-use Rattle.walrus_parser.proofs.body_parser.BodyParser.instruction.Goals as goal
+use Rattle.walrus_instructions.specs.Placed.{placed_by, GivesOrMemory}
+use Rattle.walrus_instructions.proofs.instructions.instruction.Goals as goal
 
 pub returns-in-BrTable-clause-placed : goal.returns-in-BrTable-clause-placed
-returns-in-BrTable-clause-placed c = subst (λ o. GivesOrMemory operation_of c.branch_table.result (placed_in c.args.self.now (meaning o))) (sym c.in-BrTable.is) c.branch_table.ensures.placed
+returns-in-BrTable-clause-placed c = subst (λ o. GivesOrMemory operation_of c.branch_table.result (placed_by c.args.context.now (meaning o))) (sym c.in-BrTable.is) c.branch_table.ensures.placed
 
 pub returns-in-Rethrow-clause-placed : goal.returns-in-Rethrow-clause-placed
-returns-in-Rethrow-clause-placed c = subst (λ o. GivesOrMemory operation_of c.rethrow.result (placed_in c.args.self.now (meaning o))) (sym c.in-Rethrow.is) c.rethrow.ensures.placed
+returns-in-Rethrow-clause-placed c = subst (λ o. GivesOrMemory operation_of c.rethrow.result (placed_by c.args.context.now (meaning o))) (sym c.in-Rethrow.is) c.rethrow.ensures.placed
 
 -- if nothing is allocated
 gives_or_memory : {A B : Type 0} (view : A → B) (r : Result A ParseError) (given : Result B ParseError) → Gives view r given → GivesOrMemory view r given
@@ -19,5 +19,5 @@ gives_or_memory view (Err e) given h = inr h
 
 pub returns-in-Reference-clause-placed : goal.returns-in-Reference-clause-placed
 returns-in-Reference-clause-placed c =
-    subst (λ o. GivesOrMemory operation_of c.reference.result (placed_in c.args.self.now (meaning o))) (sym c.in-Reference.is)
+    subst (λ o. GivesOrMemory operation_of c.reference.result (placed_by c.args.context.now (meaning o))) (sym c.in-Reference.is)
     (gives_or_memory operation_of c.reference.result _ c.reference.ensures.placed)
