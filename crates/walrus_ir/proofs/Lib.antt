@@ -5,6 +5,8 @@ pub mod SameTypes
 pub mod Positions
 pub mod TypeKeys
 pub mod TypeIndex
+-- locals, in runs
+pub mod LocalRuns
 -- the laws of trees, faults and walks
 pub mod WalkLaws
 pub mod TreeOrFault

@@ -5,6 +5,8 @@ pub mod Types
 pub mod TypeOrder
 pub mod TypeEntries
 pub mod TypeIndex
+-- locals, in runs
+pub mod LocalRuns
 -- locations, and what contracts see of instructions with lists, of a sequence and of a builder
 pub mod Locations
 pub mod Clauses
