@@ -11,15 +11,15 @@ ghost use Rattle.wasm_body.specs.declared.error.ParseError.{ParseError as ParseF
 ghost use Rattle.wasm_body.specs.Naming.{name_block};
 ghost use Rattle.wasm_body.specs.Translation.{translate, translate_access, translate_cast, translate_clause, translate_immediate, translate_immediates, translate_tag};
 ghost use Rattle.walrus_instructions.specs.Placed.{GivesOrMemory};
-ghost use Rattle.walrus_run.specs.NamedOperators.{named_index, named_access, named_block, named_clause, named_cast, named_immediates, named_operation};
+ghost use Rattle.walrus_machine.specs.NamedOperators.{named_index, named_access, named_block, named_clause, named_cast, named_immediates, named_operation};
 ghost use Rattle.walrus_run.specs.Namers.{env_of, anywhere};
 
-use crate::named_op::{
-    NamedBlockType, NamedCast, NamedCatch, NamedImmediates, NamedIndex, NamedMemArg, NamedOp,
-};
 use std::alloc::Global;
 use walrus_body::{IndicesToIds, ParseError, heap_type_of, value_type};
 use walrus_ir::{FunctionId, Module, TagId, TypeId, ValType};
+use walrus_machine::{
+    NamedBlockType, NamedCast, NamedCatch, NamedImmediates, NamedIndex, NamedMemArg, NamedOp,
+};
 use wasm_ops::{BlockType, BrTable, CatchList, Immediates, Operator, RawCast, RawMemArg, Space};
 
 /// What is needed to name the operators of a function's body.

@@ -1,7 +1,7 @@
 //! The program `wbody`, with its arguments and two writers as parameters.
 
 use crate::demo;
-use crate::machine::execute;
+use crate::execution::execute;
 use crate::named_body::NamedBody;
 use crate::names::rewrite_name;
 use crate::rewriting::rewrite_demo;

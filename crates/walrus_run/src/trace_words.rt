@@ -1,9 +1,9 @@
 //! Turns and outcomes, as the program's arguments spell them.
 
-use crate::machine::Outcome;
 use std::alloc::{AllocError, Global};
 use std::collections::BTreeSet;
 use walrus_ir::TagId;
+use walrus_machine::Outcome;
 
 /// A number in decimal digits, without a sign; leading zeros are allowed.
 fn digits(text: &str) -> Option<u64> {
