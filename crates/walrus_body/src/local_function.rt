@@ -17,9 +17,9 @@ ghost use Rattle.walrus_parser.specs.Locating.{MayAsk};
 ghost use Rattle.walrus_parser.specs.Settings.{BothOrNone};
 ghost use Rattle.walrus_facts.specs.Facts.{count, segments, AreFacts, TreeHas};
 ghost use Rattle.walrus_facts.specs.Sizes.{IsTooLarge};
-ghost use Rattle.walrus_emitter.specs.EmittedLocals.{Declares, IsUndeclared};
+ghost use Rattle.walrus_numbering.specs.EmittedLocals.{Declares, IsUndeclared};
 ghost use Rattle.walrus_body.specs.EmittedInstructions.{Emits, IsUnemitted, KeepsPairs};
-ghost use Rattle.walrus_emitter.specs.TreeWriting.Operators.{numbers_by};
+ghost use Rattle.walrus_numbering.specs.NumberMaps.{numbers_by};
 
 use std::marker::Model;
 use std::ops::Range;

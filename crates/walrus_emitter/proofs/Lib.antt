@@ -1,5 +1,3 @@
--- numbering locals
-pub mod LocalNumbering
 -- writing a function's tree
 pub mod Emission
 pub mod TreeWriting

@@ -18,7 +18,7 @@ use Rattle.walrus_ir.specs.Results.{◌>>=◌, unless, with_fault, some_or}
 use Rattle.walrus_maps.specs.IndexMaps.{ids_in, locals_in, with_locals, numbers_in, with_numbers, numbered}
 use Rattle.walrus_maps.specs.Numbering.{pushed}
 use Rattle.walrus_maps.proofs.NumberingLemmas.{get-numbered}
-use Rattle.walrus_emitter.specs.TreeWriting.Operators.{fitting, numbers_by}
+use Rattle.walrus_numbering.specs.NumberMaps.{fitting, numbers_by}
 use Rattle.walrus_run.specs.Demo.{demo_indices, demo_numbers}
 
 -- what was put into a map is in it

@@ -8,7 +8,7 @@ use Rattle.walrus_parser.specs.declared.body.FunctionBody.{FunctionBody}
 use Rattle.walrus_body.specs.FunctionParts.{FunctionParts}
 use Rattle.walrus_parser.specs.Bodies.{AcceptsBody, body_input}
 use Rattle.walrus_body.specs.EmittedInstructions.{LentPairs, Left}
-use Rattle.walrus_emitter.specs.TreeWriting.Operators.{numbers_by}
+use Rattle.walrus_numbering.specs.NumberMaps.{numbers_by}
 use Rattle.walrus_rewrite.specs.RawBodies.{Given, given, IsRawBodyOf, AppendsBoth}
 use Rattle.walrus_rewrite.specs.RewrittenBodies.{Rewrites}
 use Rattle.wasm_module.specs.declared.parsed.ParsedModule.{ParsedModule}

@@ -11,7 +11,7 @@ use Rattle.wasm_body.specs.Parsing.Accepted.{Accepted, FirstFault}
 use Rattle.walrus_parser.specs.declared.body.FunctionBody.{FunctionBody}
 use Rattle.walrus_maps.specs.Environments.{environment_of}
 use Rattle.walrus_parser.specs.Bodies.{body_setting, body_operators}
-use Rattle.walrus_emitter.specs.TreeWriting.Operators.{numbers_by}
+use Rattle.walrus_numbering.specs.NumberMaps.{numbers_by}
 use Rattle.walrus_rewrite.specs.declared.error.RewriteError.{RewriteError}
 use Rattle.walrus_rewrite.specs.declared.error.RewriteError.TheVariants.{Parse, Walk, Emit}
 use Rattle.walrus_rewrite.specs.RawBodies.{HasNoParsedBody}

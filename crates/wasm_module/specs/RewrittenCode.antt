@@ -14,7 +14,7 @@ use Rattle.walrus_maps.specs.Environments.{environment_of}
 use Rattle.walrus_maps.specs.IndexMaps.{local_of}
 use Rattle.walrus_body.specs.FunctionParts.{FunctionParts}
 use Rattle.walrus_parser.specs.Bodies.{IsFunction, body_setting, body_operators}
-use Rattle.walrus_emitter.specs.TreeWriting.Operators.{numbers_by}
+use Rattle.walrus_numbering.specs.NumberMaps.{numbers_by}
 use Rattle.walrus_rewrite.specs.RawBodies.{given, IsRawBody, IsRawBodyOf}
 use Rattle.walrus_rewrite.specs.RewrittenBodies.{KeepsSource}
 use Rattle.wasm_module.specs.declared.parsed.ParsedModule.{ParsedModule}

@@ -23,7 +23,7 @@ use Rattle.wasm_body.specs.TreeOfFunction.{tree_of, instruction_in, items_in, se
 use Rattle.wasm_body.specs.FlatText.{TextOperation, Writing, then_by, closers, try_closers, are_handlers, are_lawful, first_type, opened, written, text, texts}
 use Rattle.wasm_body.specs.Bytes.{Numbers, numbering, bytes_of, numbered_text}
 use Rattle.wasm_body.specs.Pairs.{pairs_from}
-use Rattle.walrus_emitter.specs.Emission.{Scope, closers_in, scopes_at, first_type_at, Output, Emitter, slots_of, first_emitter, output_of, output_behind, with_operator, emitter_behind_all}
+use Rattle.walrus_emit_state.specs.Emission.{Scope, closers_in, scopes_at, first_type_at, Output, Emitter, slots_of, first_emitter, output_of, output_behind, with_operator, emitter_behind_all}
 
 abbrev Written : Type 0
 Written = Result (Located RawOperation) EmitError

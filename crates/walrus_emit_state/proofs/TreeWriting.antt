@@ -1,0 +1,3 @@
+-- Writing a function's tree.
+pub mod ScopeTables
+pub mod Announcing
