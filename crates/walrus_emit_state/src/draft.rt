@@ -1,5 +1,5 @@
 //! Bytes and location pairs that are written aside.
-ghost use Rattle.std.specs.Prelude.{◌≡◌, ◌++◌, [], OnOk, OnErr, IfErr};
+ghost use Rattle.std.specs.Prelude.{◌≡◌, ◌<◌, ◌^◌, ◌++◌, [], OnOk, OnErr, IfErr};
 ghost use Rattle.wasm_operators.specs.Meaning.{meaning};
 ghost use Rattle.wasm_encode.specs.Writable.{IsWritable};
 ghost use Rattle.wasm_body.specs.Translation.{at_location};
@@ -12,8 +12,9 @@ use walrus_ir::InstrLocId;
 use wasm_body::EmitError;
 use wasm_encode::{FunctionEncoder, OutOp, write_op};
 
-/// What is written behind so many bytes of others, and handed over whole: bytes, and for each
-/// operator its location and its place, where these are asked for. A contract sees both lists.
+/// What is written after so many bytes of others, fewer than 2^63, and handed over whole: bytes, and
+/// for each operator its location and its place, where these are asked for. A contract sees both
+/// lists.
 #[derive(Drop)]
 pub struct Draft {
     base: usize,
@@ -23,6 +24,7 @@ pub struct Draft {
 }
 
 impl Model for Draft {
+    ghost use Rattle.std.specs.Prelude.{◌<◌, ◌^◌};
     ghost use Rattle.walrus_emit_state.specs.TreeWriting.Drafts.{Drafted};
 
     ghost Value = { Drafted };
@@ -32,11 +34,14 @@ impl Model for Draft {
       has_map = d.has_map;
       output = record { bytes = d.bytes.items; pairs = d.pairs.items };
     } };
+
+    ghost invariant = { λ d. d.base < 2 ^ 63 };
 }
 
 impl Draft {
     /// Nothing is written. It takes no memory.
     pub fn new(alloc: Global, base: usize, has_map: bool) -> Draft
+        requires { base < 2 ^ 63 }
         ensures { result ≡ record {
           base = base;
           has_map = has_map;
@@ -64,9 +69,7 @@ impl Draft {
             write_op(op, &mut self.bytes)?;
             return Ok(());
         }
-        let Some(place) = self.base.checked_add(self.bytes.len()) else {
-            return Err(EmitError::Memory);
-        };
+        let place = self.base + self.bytes.len();
         self.pairs.reserve(1)?;
         write_op(op, &mut self.bytes)?;
         self.pairs.push((location, place)).unwrap();

@@ -8,7 +8,7 @@ mod closing;
 mod draft;
 mod labels;
 mod open_scopes;
-mod table_clauses;
+mod try_tables;
 
 pub use announcing::announce;
 pub use clauses::are_lawful;
@@ -16,4 +16,4 @@ pub use closing::{Closer, SequenceScope};
 pub use draft::Draft;
 pub use labels::branch_table;
 pub use open_scopes::Scopes;
-pub use table_clauses::table_clauses;
+pub use try_tables::table_clauses;

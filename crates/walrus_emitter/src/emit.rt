@@ -1,5 +1,5 @@
 //! Writing a function's tree.
-ghost use Rattle.std.specs.Prelude.{◌≡◌, ◌∷◌, [], ◌<◌, length, None, Ok, OnOk, OnErr, IfOk, IfErr};
+ghost use Rattle.std.specs.Prelude.{◌≡◌, ◌∷◌, [], ◌<◌, ◌^◌, length, None, Ok, OnOk, OnErr, IfOk, IfErr};
 ghost use Rattle.walrus_ir.specs.declared.val_type.InstrSeqType.TheVariants.{Simple};
 ghost use Rattle.walrus_ir.specs.declared.instr.Instr.TheVariants as instruction;
 ghost use Rattle.walrus_ir.specs.Unfolding.{slots_in};
@@ -422,6 +422,7 @@ fn draft_tree(
     base: usize,
     has_map: bool,
 ) -> Result<Draft, EmitError>
+    requires { base < 2 ^ 63 }
     ensures ok { IfOk result (IsDraftOf builder.now.sequences entry (numbers_of numbers.now)
         base has_map) }
     ensures err { IfErr result (IsUnwritten builder.now.sequences entry (numbers_of numbers.now)) }

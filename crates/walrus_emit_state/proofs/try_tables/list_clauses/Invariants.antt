@@ -5,7 +5,7 @@ use Rattle.walrus_emit_state.specs.TreeWriting.Closers.{places_of}
 use Rattle.walrus_numbering.specs.NumberMaps.{numbers_of}
 use Rattle.walrus_emit_state.specs.TreeWriting.Labels.{numbered_clause}
 use Rattle.walrus_maps.proofs.Listed.{behind_these}
-use Rattle.walrus_emit_state.proofs.table_clauses.list_clauses.Given as goal
+use Rattle.walrus_emit_state.proofs.try_tables.list_clauses.Given as goal
 
 abbrev pub invariant-catches : goal.invariant-catches
 invariant-catches l =
