@@ -4,6 +4,7 @@ pub mod Results
 pub mod Types
 pub mod TypeOrder
 pub mod TypeEntries
+pub mod TypeDigest
 pub mod TypeIndex
 -- locals, in runs
 pub mod LocalRuns

@@ -23,6 +23,7 @@ mod reference;
 mod seq;
 mod table;
 mod ternary;
+mod type_digest;
 mod type_index;
 mod unary;
 mod val_type;

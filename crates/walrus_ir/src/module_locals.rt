@@ -25,8 +25,8 @@ fn type_at(runs: &[LocalRun], place: usize) -> Option<ValType>
     }
 }
 
-/// The locals of a module: the type of each, by id. Each function has its own. A contract sees the
-/// list of the types.
+/// The locals of a module: the type of each, by id. Each function has its own. In a contract, they
+/// are the list of the types.
 ///
 /// Locals that were added together take the memory of one.
 #[derive(Drop)]
@@ -49,7 +49,7 @@ impl Model for ModuleLocals {
 }
 
 impl ModuleLocals {
-    /// No locals. It takes no memory.
+    /// No locals. This allocates nothing.
     pub fn new(alloc: Global) -> Self
         ensures { result ≡ [] }
     {
@@ -93,7 +93,7 @@ impl ModuleLocals {
         Ok(LocalId::new(first))
     }
 
-    /// The type of the local with this id, if there is one. It takes no memory.
+    /// The type of the local with this id, if there is one. This allocates nothing.
     pub fn get(&self, id: LocalId) -> Option<ValType>
         ensures { result ≡ slice_get self.now id }
     {

@@ -1,11 +1,14 @@
 //! The types of a module.
-ghost use Rattle.std.specs.Prelude.{◌≡◌, [], ◌∷◌, ◌++◌, length, is_some, IsSome, IsSomeAnd, IfOk, OnErr, Some};
+ghost use Rattle.std.specs.Prelude.{◌≡◌, [], ◌∷◌, ◌++◌, length, slice_get, is_some, IsSome, IsSomeAnd, IfOk, OnErr, Some};
 ghost use Rattle.walrus_ir.specs.Types.{ModuleType, Func, Entry, Other, signature, signature_of};
-ghost use Rattle.walrus_ir.specs.Types.{find, find_entry};
+ghost use Rattle.walrus_ir.specs.Types.{same_types, is_function, is_entry, find, find_entry};
 ghost use Rattle.walrus_ir.specs.TypeEntries.{module_type};
+ghost use Rattle.walrus_ir.specs.TypeIndex.{passes};
 
 use crate::id::TypeId;
-use crate::type_index::{FuncIds, ListIds};
+use crate::laws::law_type_order;
+use crate::type_digest::{entry_digest, func_digest};
+use crate::type_index::TypeIndex;
 use crate::val_type::ValType;
 use std::alloc::{AllocError, Global};
 use std::marker::Model;
@@ -40,13 +43,46 @@ fn func_entry(
     })
 }
 
+// Whether the lists are the same.
+fn are_same<'a>(a: &'a [ValType], b: &'a [ValType]) -> bool
+    ensures { result ≡ same_types a.now b.now }
+{
+    // By this law equal lists are those that the order doesn't tell apart.
+    law_type_order();
+    Ord::cmp(&a, &b).is_eq()
+}
+
+impl TypeEntry {
+    // Whether it is a type of functions with these lists.
+    fn is_func_of(&self, params: &[ValType], results: &[ValType]) -> bool
+        ensures { result ≡ is_function params.now results.now (module_type self.now) }
+    {
+        match self {
+            TypeEntry::Func {
+                params: takes,
+                results: gives,
+            } => are_same(takes, params) && are_same(gives, results),
+            _ => false,
+        }
+    }
+
+    // Whether it is the type of entries with these results.
+    fn is_entry_of(&self, results: &[ValType]) -> bool
+        ensures { result ≡ is_entry results.now (module_type self.now) }
+    {
+        match self {
+            TypeEntry::Entry { results: gives } => are_same(gives, results),
+            _ => false,
+        }
+    }
+}
+
 /// The types of a module, by id. In a contract, they are a list.
 #[derive(Drop)]
 pub struct ModuleTypes {
     types: Vec<TypeEntry>,
-    /// The id of the first function type with given lists, and of the first entry type with one.
-    func_ids: FuncIds,
-    entry_ids: ListIds,
+    /// The first id of each function type by its lists, and of each entry type by its results.
+    index: TypeIndex,
 }
 
 impl Model for ModuleTypes {
@@ -60,7 +96,8 @@ impl Model for ModuleTypes {
 
     ghost view = { λ m. map module_type m.types.items };
 
-    ghost invariant = { λ m. IsIndexOf (map module_type m.types.items) m.func_ids m.entry_ids };
+    ghost invariant = { λ m. IsIndexOf (map module_type m.types.items) m.index.firsts
+        m.index.func_ids m.index.entry_ids };
 }
 
 impl ModuleTypes {
@@ -70,8 +107,7 @@ impl ModuleTypes {
     {
         ModuleTypes {
             types: Vec::new(alloc),
-            func_ids: FuncIds::new(alloc),
-            entry_ids: ListIds::new(alloc),
+            index: TypeIndex::new(alloc),
         }
     }
 
@@ -89,10 +125,14 @@ impl ModuleTypes {
         ensures ok { IfOk result (λ _. self.new ≡ self.old ++ Func params.now results.now ∷ []) }
         ensures err { OnErr result (self.new ≡ self.old) }
     {
-        let alloc = *self.types.allocator();
+        let entry = func_entry(*self.types.allocator(), params, results)?;
         let id = TypeId::new(self.types.len());
-        self.types.push(func_entry(alloc, params, results)?)?;
-        match self.func_ids.add(params, results, id) {
+        if self.find(params, results).is_some() {
+            self.types.push(entry)?;
+            return Ok(id);
+        }
+        self.types.push(entry)?;
+        match self.index.add_func(params, results, id) {
             Ok(()) => Ok(id),
             Err(fault) => {
                 self.types.truncate(id.index());
@@ -112,12 +152,16 @@ impl ModuleTypes {
         ensures err { OnErr result (self.new ≡ self.old) }
     {
         let alloc = *self.types.allocator();
-        let id = TypeId::new(self.types.len());
         let entry = TypeEntry::Entry {
             results: Vec::from_slice(alloc, results)?,
         };
+        let id = TypeId::new(self.types.len());
+        if self.find_for_function_entry(results).is_some() {
+            self.types.push(entry)?;
+            return Ok(id);
+        }
         self.types.push(entry)?;
-        match self.entry_ids.add(results, id) {
+        match self.index.add_entry(results, id) {
             Ok(()) => Ok(id),
             Err(fault) => {
                 self.types.truncate(id.index());
@@ -179,18 +223,50 @@ impl ModuleTypes {
         }
     }
 
+    // Whether it is a type of functions with these lists.
+    fn is_func_of(&self, id: TypeId, params: &[ValType], results: &[ValType]) -> bool
+        ensures { result ≡ passes (is_function params.now results.now) (slice_get self.now id) }
+    {
+        match self.types.get(id.index()) {
+            Some(entry) => entry.is_func_of(params, results),
+            None => false,
+        }
+    }
+
+    // Whether it is the type of entries with these results.
+    fn is_entry_of(&self, id: TypeId, results: &[ValType]) -> bool
+        ensures { result ≡ passes (is_entry results.now) (slice_get self.now id) }
+    {
+        match self.types.get(id.index()) {
+            Some(entry) => entry.is_entry_of(results),
+            None => false,
+        }
+    }
+
     /// The first function type, in the order of ids, with these parameters and results. Entry types
     /// don't count. This allocates nothing.
     pub fn find(&self, params: &[ValType], results: &[ValType]) -> Option<TypeId>
         ensures { result ≡ find self.now params.now results.now }
     {
-        self.func_ids.get(params, results)
+        match self.index.firsts.get(func_digest(params, results)) {
+            Some(id) => match self.is_func_of(id, params, results) {
+                true => Some(id),
+                false => self.index.func_ids.get(params, results),
+            },
+            None => self.index.func_ids.get(params, results),
+        }
     }
 
     /// The first entry type, in the order of ids, with these results. This allocates nothing.
     pub fn find_for_function_entry(&self, results: &[ValType]) -> Option<TypeId>
         ensures { result ≡ find_entry self.now results.now }
     {
-        self.entry_ids.get(results)
+        match self.index.firsts.get(entry_digest(results)) {
+            Some(id) => match self.is_entry_of(id, results) {
+                true => Some(id),
+                false => self.index.entry_ids.get(results),
+            },
+            None => self.index.entry_ids.get(results),
+        }
     }
 }
