@@ -97,7 +97,7 @@ pub fn written(
         return Err(EmitError::Memory);
     };
     let declared = encoder.byte_len();
-    match function.emit_instructions(out, locals, &mut encoder, None) {
+    match function.emit_instructions(types, out, locals, &mut encoder, None) {
         Ok(()) => match behind(alloc, &encoder, declared) {
             Ok(bytes) => Ok(bytes),
             Err(_) => Err(EmitError::Memory),

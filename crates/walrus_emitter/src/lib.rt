@@ -2,6 +2,7 @@
 #![tactic(auto)]
 
 mod announcing;
+mod balance;
 mod clauses;
 mod closing;
 mod draft;

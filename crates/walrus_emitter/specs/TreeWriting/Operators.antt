@@ -4,6 +4,7 @@ use Rattle.std.specs.Ordering.{nat_cmp}
 use Rattle.std.specs.FinMap.{get, from_entries}
 use Rattle.walrus_ir.specs.declared.val_type.InstrSeqType.{InstrSeqType}
 use Rattle.walrus_ir.specs.declared.instr.Instr.{Instr}
+use Rattle.walrus_ir.specs.Types.{ModuleType, signature_of_type}
 use Rattle.walrus_ir.specs.declared.control.TryTableCatch.{TryTableCatch}
 use Rattle.wasm_operators.specs.Meaning.{Listed, meaning}
 use Rattle.wasm_operators.specs.Operations.{CatchClause, RawOperation}
@@ -15,6 +16,7 @@ use Rattle.wasm_body.specs.declared.error.EmitError.TheVariants.{Index, Memory, 
 use Rattle.wasm_body.specs.declared.error.IndexError.TheVariants.{Unnumbered}
 use Rattle.walrus_ir.specs.Results.{◌>>=◌, unless, with_fault, some_or, each}
 use Rattle.wasm_body.specs.Translation.{translate, translate_tag}
+use Rattle.wasm_body.specs.NormalForm.{is_balanced_type}
 use Rattle.wasm_body.specs.Bytes.{Numbers, numbers_in_32_bits, numbering, in_32_bits}
 use Rattle.wasm_body.specs.FlatText.{then_by, typed}
 use Rattle.wasm_body.specs.InstructionTable.{table_clause, operation_of}
@@ -30,17 +32,19 @@ use Rattle.walrus_emitter.specs.TreeWriting.ScopeTables.{depth_in}
 abbrev pub fitting : {E : Type 0} → E → ℕ → Result ℕ E
 fitting e n = unless (nat_lt n (2 ^ 32)) e >>= λ _. Ok n
 
--- The numbers that index maps and a map of the function's locals give. A new index is one of 32 bits.
-abbrev pub numbers_by : IdsToIndices → List (ℕ × ℕ) → Numbers
-numbers_by ids locals = record {
+-- In a module with these types, the numbers that index maps and a map of the function's locals give. A new index is one of 32
+-- bits.
+abbrev pub numbers_by : List ModuleType → IdsToIndices → List (ℕ × ℕ) → Numbers
+numbers_by types ids locals = record {
   number_of = λ space id.
       with_fault Index (number_of ids space id >>= fitting (Unnumbered space));
   local_number = λ id.
       some_or (get (from_entries {R = nat_cmp} locals) id) UnnumberedLocal;
+  balanced = λ t. is_balanced_type (signature_of_type types t);
 }
 
 abbrev pub numbers_of : NumberMaps → Numbers
-numbers_of m = numbers_by m.ids.now m.locals.now.entries
+numbers_of m = numbers_by m.types.now m.ids.now m.locals.now.entries
 
 -- The operator of an instruction, where the sequences at these places are open, innermost first,
 -- and its first sequence, if it has one, has this type.
