@@ -78,7 +78,7 @@ empty_alternative = refl
 -- 41 01 04 7f 41 02 0b 1a 0b: an alternative is added, since the `if` has a result
 added_alternative : IsRewrittenAs (0x41 ∷ 0x01 ∷ 0x04 ∷ 0x7f ∷ 0x41 ∷ 0x02 ∷ 0x0b ∷ 0x1a ∷ 0x0b ∷ [])
     (0x41 ∷ 0x01 ∷ 0x04 ∷ 0x7f ∷ 0x41 ∷ 0x02 ∷ 0x05 ∷ 0x0b ∷ 0x1a ∷ 0x0b ∷ [])
-unfolding read_operation opcode kinds_of_byte integer value_at short_signed
+unfolding read_operation opcode kinds_of_byte integer value_at nullable_at heap_at short_signed
 added_alternative = refl
 
 -- 03 40 41 01 0d 80 00 0b 0b

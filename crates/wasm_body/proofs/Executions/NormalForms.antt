@@ -1,8 +1,8 @@
 -- The law of executions: the text of a normal form is the text of a right rewriting of the body.
-use Rattle.std.proofs.Common.{◌≡◌, ℕ, List, map, Bool, true, false, Some, refl, sym, ap, ◌∙◌, subst}
+use Rattle.std.proofs.Common.{◌≡◌, ℕ, suc, ◌+◌, List, [], ◌∷◌, length, map, Bool, true, false, Some, refl, sym, ap, ◌∙◌, subst, arith}
 use Rattle.std.specs.Prelude.{◌&&◌}
-use Rattle.wasm_body.specs.Control.{Action, Nop, Plain, Branch, ConditionalBranch, TableBranch, Return, Unreachable, Throw, ThrowRef, Rethrow, TailCall, Control, control_of}
-use Rattle.wasm_body.specs.SourceTree.{Sequence, Empty, Single, Wrapped, IfThen, IfElse, TryCatch, TryDelegate, Clauses, Ended, Catches, CatchesAll, Body}
+use Rattle.wasm_body.specs.Control.{Action, Nop, Plain, Branch, ConditionalBranch, TableBranch, Return, Unreachable, Throw, ThrowRef, Rethrow, TailCall, Control, Does, control_of, with_control}
+use Rattle.wasm_body.specs.SourceTree.{Sequence, Empty, Single, Wrapped, IfThen, IfElse, TryCatch, TryDelegate, Clauses, Ended, Catches, CatchesAll, text, Body}
 use Rattle.wasm_body.specs.FunctionTree.{default_location}
 use Rattle.wasm_body.specs.NormalForm.{Typing, balances, construct_type, normal, fate, typing_of, name_at, named_body}
 use Rattle.wasm_body.specs.Naming.{NamedOperation}
@@ -11,7 +11,7 @@ use Rattle.wasm_body.specs.RewrittenTree.{single_with_fate, is_empty, written_if
 use Rattle.wasm_body.proofs.NormalForm.Rewritten.{Named, emptied, second_holds}
 use Rattle.wasm_body.proofs.NormalForm.NamedTexts.{has_text, text_body}
 use Rattle.wasm_body.proofs.Bytes.LawfulTyped.{lawful_named}
-use Rattle.wasm_body.specs.Machine.{Outcome, run}
+use Rattle.wasm_body.specs.Machine.{Outcome, straight, run}
 use Rattle.wasm_body.specs.Places.{show_run, run_by_place, shown_by}
 use Rattle.wasm_body.specs.ExecutionLaws.{controls, NamedExecutionsKept, ExecutionsKept, RunsShowOperators, EmptyGoesOn}
 use Rattle.wasm_body.proofs.Executions.RewritesTo.{RewritesTo, empty, drop_nop, keep, cut, wrapped, if_then, if_else, add_else, drop_else, try_catch, try_delegate, ClausesRewriteTo, ended, catches_one, catches_all, runs_alike}
@@ -109,8 +109,10 @@ runs_by_place xs o t = record {
 -- ---- a sequence whose normal form is empty
 
 pub empty_goes_on : EmptyGoesOn
-empty_goes_on m Empty h again count k ls o = refl
-empty_goes_on m (Single a Nop r) h again count k ls o = empty_goes_on m r h again count k ls o
+empty_goes_on m Empty h again count k ls o = let e : 0 + count ≡ count = omega arith in ap (λ n. straight again n k ls o) e
+empty_goes_on m (Single a Nop r) h again count k ls o =
+    let e : suc (length (text r [])) + count ≡ suc (length (text r []) + count) = omega arith in
+    ap (λ n. straight again n (with_control a (Does Nop) ∷ text r k) ls o) e ∙ empty_goes_on m r h again count k ls o
 empty_goes_on m (Single a _ r) h again count k ls o = absurd (cc h)
 empty_goes_on m (Wrapped a w b e r) h again count k ls o = absurd (cc h)
 empty_goes_on m (IfThen a b e r) h again count k ls o = absurd (cc h)
