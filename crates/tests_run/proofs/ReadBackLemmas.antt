@@ -4,6 +4,7 @@ use Rattle.std.specs.List.{AllByRecursion}
 use Rattle.std.proofs.Common.{inl, inr, refl, ap, subst, ◌∙◌}
 use Rattle.walrus_ir.specs.declared.module.Module.{Module}
 use Rattle.walrus_ir.specs.Function.{Function}
+use Rattle.walrus_ir.specs.Types.{ModuleType}
 use Rattle.walrus_ir.proofs.WalkLaws.{tree_has_no_fault}
 use Rattle.wasm_operators.specs.OperatorList.{Placed}
 use Rattle.wasm_body.specs.declared.error.EmitError.{EmitError}

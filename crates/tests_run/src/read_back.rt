@@ -22,7 +22,7 @@ use std::alloc::{AllocError, Global};
 use walrus_body::{
     AcceptAll, EmitError, FunctionBody, IdsToIndices, IndicesToIds, LocalFunction, ParseFailure,
 };
-use walrus_ir::{FunctionId, IdHashMap, InstrLocId, LocalId, Module, TypeId};
+use walrus_ir::{FunctionId, IdHashMap, InstrLocId, LocalId, Module, ModuleTypes, TypeId};
 use walrus_run::{RewriteError, law_accepted_again, law_inverse_undoes};
 use wasm_encode::FunctionEncoder;
 

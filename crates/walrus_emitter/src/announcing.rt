@@ -109,7 +109,7 @@ fn scopes_of_if(
     consequent: &InstrSeq,
     alternative: &InstrSeq,
 ) -> (SequenceScope, SequenceScope)
-    ensures { scopes_of (result.0 ∷ result.1 ∷ [])
+    ensures scopes { scopes_of (result.0 ∷ result.1 ∷ [])
         ≡ if_scopes (is_short (λ t. is_balanced_type (signature_of_type types.now t)) consequent.now
         alternative.now) construct.now.consequent consequent.now construct.now.alternative
         alternative.now }
