@@ -32,7 +32,7 @@ IMMEDIATES = {
 
 # What is before and after the operators of constructs.
 AROUND = {
-    "block": ("", "0b"), "loop": ("", "0b"), "if": ("", "050b"), "else": ("0440", "0b"),
+    "block": ("", "0b"), "loop": ("", "0b"), "if": ("", "0b"), "else": ("0440", "000b"),
     "try": ("", "190b"), "catch": ("0640", "0b"), "catch_all": ("0640", "0b"),
     "rethrow": ("064019", "0b"), "delegate": ("0640", ""), "try_table": ("", "0b"),
 }

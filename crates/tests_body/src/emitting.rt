@@ -3,11 +3,14 @@ use crate::by_hand::{Access, Made, function, put};
 use crate::cases::{About, AboutMade, check, check_made};
 use crate::function_text::{At, push_sequences};
 use crate::index_maps::give;
-use crate::small_module::Setting;
+use crate::small_module::{Setting, types};
 use std::alloc::{AllocError, Global};
 use std::test::Fail;
 use walrus_body::{EmitError, IdsToIndices, IndexError, LocalFunction, Space};
-use walrus_ir::{BrTable, IdHashMap, Instr, InstrLocId, InstrSeqId, InstrSeqType, LocalId, TypeId};
+use walrus_ir::{
+    BrTable, IdHashMap, Instr, InstrLocId, InstrSeqId, InstrSeqType, LocalId, ModuleTypes, TypeId,
+    ValType,
+};
 use wasm_encode::FunctionEncoder;
 
 // The types 8, 2, 6 and 5 have the new indices 0 to 3; the function 7 and the memory 0 have the new
@@ -38,6 +41,7 @@ fn local_numbers(alloc: Global) -> Result<IdHashMap<LocalId, u32>, AllocError> {
 // Writes a function, if its entry is a sequence of its builder.
 fn write(
     function: &LocalFunction,
+    types: &ModuleTypes,
     indices: &IdsToIndices,
     locals: &IdHashMap<LocalId, u32>,
     encoder: &mut FunctionEncoder,
@@ -47,7 +51,7 @@ fn write(
     if !builder.has(builder.entry()?) {
         return None;
     }
-    Some(function.emit_instructions(indices, locals, encoder, map))
+    Some(function.emit_instructions(types, indices, locals, encoder, map))
 }
 
 // Appends the fault, if there is one.
@@ -60,7 +64,8 @@ fn push_fault(text: &mut String, answer: Option<Result<(), EmitError>>) -> Resul
     Ok(())
 }
 
-// Writes a function with these numbers and the tests' numbers of locals, and appends the fault.
+// Writes a function with these numbers, the types of the module of other tests, and the tests'
+// numbers of locals, and appends the fault.
 fn write_under(
     text: &mut String,
     function: &LocalFunction,
@@ -69,7 +74,8 @@ fn write_under(
     map: Option<&mut Vec<(InstrLocId, usize)>>,
 ) -> Result<(), Fail> {
     let locals = local_numbers(*text.allocator())?;
-    let answer = write(function, numbers, &locals, encoder, map);
+    let types = types(*text.allocator())?;
+    let answer = write(function, &types, numbers, &locals, encoder, map);
     push_fault(text, answer)
 }
 
@@ -154,7 +160,7 @@ fn writes_what_is_made_by_hand(rt: HostRuntime) -> Result<(), Fail> {
         ),
         (
             choice.as_slice(),
-            "0041ac020440050b0b 9@9 1@1 2@4 -@6 -@7 -@8",
+            "0041ac0204400b0b 9@9 1@1 2@4 -@6 -@7",
         ),
         (unknown.as_slice(), "UnknownSequence 00 9@9"),
         (own.as_slice(), "SharedSequence 00 9@9"),
@@ -256,7 +262,7 @@ fn writes_what_is_parsed(rt: HostRuntime) -> Result<(), Fail> {
             0,
             0,
             "00410104400b0b",
-            "0041010440050b0b 9@9 1@1 3@3 5@5 -@6 6@7",
+            "00410104400b0b 9@9 1@1 3@3 5@5 6@6",
         ),
     ] {
         let setting = Setting {
@@ -323,6 +329,83 @@ fn changes_one_sequence(rt: HostRuntime) -> Result<(), Fail> {
         text.as_str(),
         "0002030b1a0b 9@9 1@1 77@3 2@4 -@5 ()[ block 1@1 drop@2 ]- type5[ ]77"
     );
+    Ok(())
+}
+
+// A function with an `if` whose sequences have this type, and whose ends have the locations 77 and
+// this one. The alternative has an instruction if it is to say something.
+fn choice(
+    alloc: Global,
+    ty: InstrSeqType,
+    end: InstrLocId,
+    says_something: bool,
+) -> Result<LocalFunction, AllocError> {
+    let items = [
+        (0, Made::IfElse(1, 2), 1),
+        (1, Made::Drop, 2),
+        (2, Made::Const(5), 3),
+    ];
+    let count = if says_something { 3 } else { 2 };
+    let builder = function(alloc, 3, &items[..count])?;
+    let mut function = LocalFunction::new(Vec::new(alloc), builder);
+    for (slot, end) in [(1, InstrLocId::new(77)), (2, end)] {
+        let slot = InstrSeqId::new(slot);
+        if function.has_block(slot) {
+            let sequence = function.block_mut(slot);
+            sequence.ty = ty;
+            sequence.end = end;
+        }
+    }
+    Ok(function)
+}
+
+/// An `else` is left out where the alternative has no instruction and the results of the `if` are
+/// its parameters: also if it has some (type 2), or is of an entry type (type 4, which has no
+/// number); but not if only the numbers of its parameters and results are the same (type 5), or if
+/// the module doesn't have its type (type 8). Its `end` has the location of the alternative's end,
+/// and that of the consequent's if the alternative's is the default.
+#[test]
+fn leaves_out_an_else_that_says_nothing(rt: HostRuntime) -> Result<(), Fail> {
+    let none = InstrLocId::default();
+    let at = InstrLocId::new(78);
+    let of_type = |id| InstrSeqType::MultiValue(TypeId::new(id));
+    for (ty, end, says_something, want) in [
+        (InstrSeqType::Simple(None), at, false, "0004401a0b0b 9@9 1@1 2@3 78@4 -@5"),
+        (InstrSeqType::Simple(None), none, false, "0004401a0b0b 9@9 1@1 2@3 77@4 -@5"),
+        (
+            InstrSeqType::Simple(None),
+            at,
+            true,
+            "0004401a0541050b0b 9@9 1@1 2@3 77@4 3@5 78@7 -@8",
+        ),
+        (
+            InstrSeqType::Simple(Some(ValType::I32)),
+            at,
+            false,
+            "00047f1a050b0b 9@9 1@1 2@3 77@4 78@5 -@6",
+        ),
+        (of_type(2), at, false, "0004011a0b0b 9@9 1@1 2@3 78@4 -@5"),
+        (of_type(2), none, false, "0004011a0b0b 9@9 1@1 2@3 77@4 -@5"),
+        (
+            of_type(2),
+            at,
+            true,
+            "0004011a0541050b0b 9@9 1@1 2@3 77@4 3@5 78@7 -@8",
+        ),
+        (
+            of_type(4),
+            at,
+            false,
+            "Index(Unnumbered { space: Types }) 00 9@9",
+        ),
+        (of_type(5), at, false, "0004031a050b0b 9@9 1@1 2@3 77@4 78@5 -@6"),
+        (of_type(8), none, false, "0004001a050b0b 9@9 1@1 2@3 77@4 -@5 -@6"),
+    ] {
+        let function = choice(rt.alloc(), ty, end, says_something)?;
+        let mut text = String::new(rt.alloc());
+        push_written(&mut text, &function)?;
+        assert_eq!(rt; text.as_str(), want);
+    }
     Ok(())
 }
 

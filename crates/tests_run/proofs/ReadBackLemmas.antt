@@ -4,6 +4,7 @@ use Rattle.std.specs.List.{AllByRecursion}
 use Rattle.std.proofs.Common.{inl, inr, refl, ap, subst, ◌∙◌}
 use Rattle.walrus_ir.specs.declared.module.Module.{Module}
 use Rattle.walrus_ir.specs.Function.{Function}
+use Rattle.walrus_ir.specs.Types.{ModuleType}
 use Rattle.walrus_ir.proofs.WalkLaws.{tree_has_no_fault}
 use Rattle.wasm_operators.specs.OperatorList.{Placed}
 use Rattle.wasm_body.specs.declared.error.EmitError.{EmitError}
@@ -164,11 +165,11 @@ module _ (m : Module) (from again : IndicesToIds) (id type : ℕ) (to : Numbers)
 
 -- ---- if there are no numbers, all are undone
 
-pub none_undone : (out : IdsToIndices) (locals : List (ℕ × ℕ)) (again : Environment) → ((space : Space) → numbers_in out space ≡ empty) → locals ≡ [] → IsInverse (numbers_by out locals) again
-none_undone out locals again none no_locals = record {
-  indices = λ space id n h. absurd (not_both ((numbers_by out locals).number_of space id) n (Index (Unnumbered space)) h
+pub none_undone : (types : List ModuleType) (out : IdsToIndices) (locals : List (ℕ × ℕ)) (again : Environment) → ((space : Space) → numbers_in out space ≡ empty) → locals ≡ [] → IsInverse (numbers_by types out locals) again
+none_undone types out locals again none no_locals = record {
+  indices = λ space id n h. absurd (not_both ((numbers_by types out locals).number_of space id) n (Index (Unnumbered space)) h
       (ap (λ m. with_fault Index (some_or (get m id) (Unnumbered space) >>= fitting (Unnumbered space))) (none space)
       ∙ ap (λ o. with_fault Index (some_or o (Unnumbered space) >>= fitting (Unnumbered space))) (get-empty nat_cmp id)));
-  locals = λ id n h. absurd (not_both ((numbers_by out locals).local_number id) n UnnumberedLocal h
+  locals = λ id n h. absurd (not_both ((numbers_by types out locals).local_number id) n UnnumberedLocal h
       (ap (λ l. some_or (get (from_entries {R = nat_cmp} l) id) UnnumberedLocal) no_locals ∙ ap (λ o. some_or o UnnumberedLocal) (get-empty nat_cmp id)));
 }

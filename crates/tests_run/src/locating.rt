@@ -115,15 +115,30 @@ fn looks_up_locations(rt: HostRuntime) -> Result<(), Fail> {
     check(&rt, rt.alloc(), "00014181001a0b", &cases)
 }
 
-/// 00 41 01 04 40 01 0b 0b is written as 00 41 01 04 40 05 0b 0b: the added `else`, at 5, has the
-/// location of the source's `end`, which was at 106, and the `end` after it has the default.
+/// 00 41 01 04 7f 41 02 0b 1a 0b is written as 00 41 01 04 7f 41 02 05 0b 1a 0b: the added `else`,
+/// at 7, has the location of the source's `end`, at 107, and the `end` after it the default.
 #[test]
 fn looks_up_the_locations_of_an_added_else(rt: HostRuntime) -> Result<(), Fail> {
     let cases = [
         (3, Some(103)),
-        (5, Some(106)),
-        (6, Some(4294967295)),
+        (5, Some(105)),
         (7, Some(107)),
+        (8, Some(4294967295)),
+        (9, Some(108)),
+        (10, Some(109)),
     ];
-    check(&rt, rt.alloc(), "0041010440010b0b", &cases)
+    check(&rt, rt.alloc(), "004101047f41020b1a0b", &cases)
+}
+
+/// 00 41 01 04 40 05 01 0b 0b is written as 00 41 01 04 40 0b 0b: the `end` of the `if`, at 5, has
+/// the location of the source's, at 107, and not that of its `else`, at 105.
+#[test]
+fn looks_up_the_location_of_a_short_if(rt: HostRuntime) -> Result<(), Fail> {
+    let cases = [
+        (3, Some(103)),
+        (5, Some(107)),
+        (6, Some(108)),
+        (7, None),
+    ];
+    check(&rt, rt.alloc(), "004101044005010b0b", &cases)
 }

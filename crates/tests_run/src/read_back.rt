@@ -22,7 +22,7 @@ use std::alloc::{AllocError, Global};
 use walrus_body::{
     AcceptAll, EmitError, FunctionBody, IdsToIndices, IndicesToIds, LocalFunction, ParseFailure,
 };
-use walrus_ir::{FunctionId, IdHashMap, InstrLocId, LocalId, Module, TypeId};
+use walrus_ir::{FunctionId, IdHashMap, InstrLocId, LocalId, Module, ModuleTypes, TypeId};
 use walrus_run::{RewriteError, law_accepted_again, law_inverse_undoes};
 use wasm_encode::FunctionEncoder;
 
@@ -79,25 +79,26 @@ fn behind(alloc: Global, encoder: &FunctionEncoder, count: usize) -> Result<Vec<
     Ok(bytes)
 }
 
-/// The bytes of a function's operators, with these numbers.
+/// The bytes of a function's operators, with these numbers, in a module with these types.
 pub fn written(
     alloc: Global,
     function: &LocalFunction,
+    types: &ModuleTypes,
     out: &IdsToIndices,
     locals: &IdHashMap<LocalId, u32>,
 ) -> Result<Vec<u8>, EmitError>
     requires { HasEntry function.now.builder }
     ensures ok { IfOk result (λ bytes. (t : FunctionTree)
         × HasTree function.now.builder.sequences (first_slot function.now.builder) t
-        × (tree_bytes (numbers_by out.now locals.now.entries) t ≡ Ok bytes.items)) }
+        × (tree_bytes (numbers_by types.now out.now locals.now.entries) t ≡ Ok bytes.items)) }
     ensures err { IfErr result (IsUnemitted function.now.builder
-        (numbers_by out.now locals.now.entries)) }
+        (numbers_by types.now out.now locals.now.entries)) }
 {
     let Ok(mut encoder) = FunctionEncoder::new(alloc, &[]) else {
         return Err(EmitError::Memory);
     };
     let declared = encoder.byte_len();
-    match function.emit_instructions(out, locals, &mut encoder, None) {
+    match function.emit_instructions(types, out, locals, &mut encoder, None) {
         Ok(()) => match behind(alloc, &encoder, declared) {
             Ok(bytes) => Ok(bytes),
             Err(_) => Err(EmitError::Memory),
@@ -119,23 +120,23 @@ pub fn rewritten(
 ) -> Result<Vec<u8>, RewriteError>
     requires begins { «module».now.code_section_offset ≡ 0 }
     ensures written { IfOk result (λ bytes. IsWrittenAs
-        (environment_of «module».now indices.now id ty) (numbers_by out.now locals.now.entries)
+        (environment_of «module».now indices.now id ty) (numbers_by «module».now.types out.now locals.now.entries)
         ops.now bytes.items) }
     // A refusal is for the first fault of reading, or else of writing.
     ensures refused { IfErr result (λ e. WantsMemory e
         ⊎ IsRefusedAs (environment_of «module».now indices.now id ty)
-        (numbers_by out.now locals.now.entries) ops.now e) }
+        (numbers_by «module».now.types out.now locals.now.entries) ops.now e) }
     // Unless memory runs out, the operators of an accepted body that has bytes are written with
     // these bytes, and each fault is reported.
     ensures each_body { (bytes : List ℕ) → HasBytes (environment_of «module».now indices.now id ty)
-        (numbers_by out.now locals.now.entries) ops.now bytes
+        (numbers_by «module».now.types out.now locals.now.entries) ops.now bytes
         → IfErr result WantsMemory × IfOk result (λ made. made.items ≡ bytes) }
     ensures each_fault { (e : Refusal) → HasFault (environment_of «module».now indices.now id ty)
-        (numbers_by out.now locals.now.entries) ops.now e
+        (numbers_by «module».now.types out.now locals.now.entries) ops.now e
         → IsErr result × IfErr result (λ r. WantsMemory r ⊎ (r ≡ e)) }
 {
     match read(alloc, module, indices, id, ty, ops) {
-        Ok(function) => match written(alloc, &function, out, locals) {
+        Ok(function) => match written(alloc, &function, &module.types, out, locals) {
             Ok(bytes) => Ok(bytes),
             Err(fault) => Err(RewriteError::Emit(fault)),
         },
@@ -157,10 +158,10 @@ pub fn rewritten_twice(
     locals: &IdHashMap<LocalId, u32>,
 ) -> Result<(Vec<u8>, Vec<u8>), RewriteError>
     requires begins { «module».now.code_section_offset ≡ 0 }
-    requires undone { IsInverse (numbers_by out.now locals.now.entries)
+    requires undone { IsInverse (numbers_by «module».now.types out.now locals.now.entries)
         (environment_of «module».now again.now id ty) }
     ensures written { IfOk result (λ both. IsWrittenAs
-        (environment_of «module».now indices.now id ty) (numbers_by out.now locals.now.entries)
+        (environment_of «module».now indices.now id ty) (numbers_by «module».now.types out.now locals.now.entries)
         ops.now both.0.items) }
     // The written bytes are read again and written unchanged.
     ensures unchanged { IfOk result (λ both. both.1.items ≡ both.0.items) }
@@ -169,11 +170,11 @@ pub fn rewritten_twice(
     // and each fault is reported.
     ensures refused { IfErr result (λ e. WantsMemory e
         ⊎ IsRefusedAs (environment_of «module».now indices.now id ty)
-        (numbers_by out.now locals.now.entries) ops.now e) }
+        (numbers_by «module».now.types out.now locals.now.entries) ops.now e) }
     ensures each_body { (bytes : List ℕ) → HasBytes (environment_of «module».now indices.now id ty)
-        (numbers_by out.now locals.now.entries) ops.now bytes → IfErr result WantsMemory }
+        (numbers_by «module».now.types out.now locals.now.entries) ops.now bytes → IfErr result WantsMemory }
     ensures each_fault { (e : Refusal) → HasFault (environment_of «module».now indices.now id ty)
-        (numbers_by out.now locals.now.entries) ops.now e
+        (numbers_by «module».now.types out.now locals.now.entries) ops.now e
         → IsErr result × IfErr result (λ r. WantsMemory r ⊎ (r ≡ e)) }
 {
     law_inverse_undoes();

@@ -7,7 +7,7 @@ use crate::read_back::{read, rewritten_twice, written};
 use std::alloc::{AllocError, Global};
 use std::test::Fail;
 use walrus_body::{IdsToIndices, IndexError, IndicesToIds, LocalFunction};
-use walrus_ir::{FunctionId, IdHashMap, LocalId, Module, TypeId};
+use walrus_ir::{FunctionId, IdHashMap, LocalId, Module, ModuleTypes, TypeId};
 use walrus_run::{RewriteError, demo};
 
 /// Functions, and the locals of the function 0, in the order of their numbers.
@@ -78,13 +78,14 @@ fn push_texts(text: &mut String, bytes: &[u8], function: &LocalFunction) -> Resu
 fn push_function(
     text: &mut String,
     function: &LocalFunction,
+    types: &ModuleTypes,
     numbers: Numbers<'_>,
 ) -> Result<Vec<u8>, Fail> {
     let alloc = *text.allocator();
     if !function.has_entry() {
         return Ok(Vec::new(alloc));
     }
-    let bytes = written(alloc, function, numbers.out, numbers.locals)?;
+    let bytes = written(alloc, function, types, numbers.out, numbers.locals)?;
     push_texts(text, &bytes, function)?;
     Ok(bytes)
 }
@@ -101,7 +102,7 @@ fn push_read(
 {
     let alloc = *text.allocator();
     let function = read(alloc, module, ids, FunctionId::new(0), TypeId::new(1), ops)?;
-    push_function(text, &function, numbers)
+    push_function(text, &function, &module.types, numbers)
 }
 
 // The same with the ids in this order.

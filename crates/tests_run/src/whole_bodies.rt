@@ -204,7 +204,7 @@ fn rewrites_whole_bodies(rt: HostRuntime) -> Result<(), Fail> {
         (
             at(0, 1, false),
             "00410104400b0b",
-            "aabb0041010440050b0b 9@9 1@1 3@3 5@5 -@6 6@7",
+            "aabb00410104400b0b 9@9 1@1 3@3 5@5 6@6",
         ),
         (
             at(0, 1, false),
@@ -216,11 +216,23 @@ fn rewrites_whole_bodies(rt: HostRuntime) -> Result<(), Fail> {
             "20011a20031a0b",
             "aabb01027e20011a20021a0b 9@9 0@3 2@5 3@6 5@8 6@9",
         ),
+        // An `else` that says nothing is left out, and the `end` has the location of the source's.
+        (
+            at(0, 1, false),
+            "0041010440050b0b",
+            "aabb00410104400b0b 9@9 1@1 3@3 6@5 7@6",
+        ),
+        // Not one of an `if` with a result, to which an empty one is added.
+        (
+            at(0, 1, false),
+            "004101047f41020b1a0b",
+            "aabb004101047f4102050b1a0b 9@9 1@1 3@3 5@5 7@7 -@8 8@9 9@10",
+        ),
         // With a location function, also at a place that would be too great without it.
         (
             at(20, 1, true),
             "00410104400b0b",
-            "aabb0041010440050b0b 9@9 42@1 46@3 50@5 -@6 52@7",
+            "aabb00410104400b0b 9@9 42@1 46@3 50@5 52@6",
         ),
         (
             at(4294967293, 1, true),

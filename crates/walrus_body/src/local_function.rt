@@ -27,7 +27,7 @@ use walrus_emitter::{NumberMaps, emit_locals, emit_with_map, emit_without_map};
 use walrus_facts::{EmitFacts, emit_facts, size, used_data_segments};
 use walrus_ir::{
     DataId, FunctionBuilder, FunctionId, IdHashMap, IdHashSet, Instr, InstrLocId, InstrSeq,
-    InstrSeqId, LocalId, Module, TypeId, WalkError,
+    InstrSeqId, LocalId, Module, ModuleTypes, TypeId, WalkError,
 };
 use walrus_maps::{IdsToIndices, IndicesToIds};
 use walrus_parser::{FunctionBody, OpCheck, parse_function};
@@ -239,7 +239,9 @@ impl LocalFunction {
     /// Appends the operators of the function's tree to an encoder, each in its shortest encoding
     /// (WebAssembly core specification 3.0, binary format, instructions). If there is a list, each
     /// operator's location and its place, a byte offset in the encoder, are appended to it. Ids are
-    /// written as their indices in `indices`, and locals as their numbers in `local_indices`.
+    /// written as their indices in `indices`, and locals as their numbers in `local_indices`. An
+    /// `if` whose alternative has no instruction is written without `else` if its results are its
+    /// parameters, by the module's `types`.
     ///
     /// # Errors
     ///
@@ -248,6 +250,7 @@ impl LocalFunction {
     /// list are then unchanged.
     pub fn emit_instructions(
         &self,
+        types: &ModuleTypes,
         indices: &IdsToIndices,
         local_indices: &IdHashMap<LocalId, u32>,
         dst: &mut FunctionEncoder,
@@ -255,13 +258,15 @@ impl LocalFunction {
     ) -> Result<(), EmitError>
         requires { HasEntry self.now.builder }
         ensures ok { OnOk result (Emits self.now.builder
-            (numbers_by indices.now local_indices.now.entries) dst.old dst.new map.entry map.exit) }
+            (numbers_by types.now indices.now local_indices.now.entries) dst.old dst.new map.entry
+            map.exit) }
         ensures err { IfErr result (IsUnemitted self.now.builder
-            (numbers_by indices.now local_indices.now.entries)) }
+            (numbers_by types.now indices.now local_indices.now.entries)) }
         ensures same_bytes { OnErr result (dst.new ≡ dst.old) }
         ensures same_pairs { OnErr result (KeepsPairs map.entry map.exit) }
     {
         let numbers = NumberMaps {
+            types,
             ids: indices,
             locals: local_indices,
         };
@@ -289,11 +294,11 @@ impl LocalFunction {
         indices: &IdsToIndices,
         used: &IdHashSet<LocalId>,
     ) -> Result<(Vec<(u32, RawValType)>, IdHashMap<LocalId, u32>), EmitError>
-        ensures ok { IfOk result (λ made. Declares (numbers_by indices.now [])
-            «module».now.locals self.now.args (contains (λ x y. x == y) used.now) made.0.items
-            made.1.entries) }
-        ensures err { IfErr result (IsUndeclared (numbers_by indices.now []) «module».now.locals
-            self.now.args (contains (λ x y. x == y) used.now)) }
+        ensures ok { IfOk result (λ made. Declares
+            (numbers_by «module».now.types indices.now []) «module».now.locals self.now.args
+            (contains (λ x y. x == y) used.now) made.0.items made.1.entries) }
+        ensures err { IfErr result (IsUndeclared (numbers_by «module».now.types indices.now [])
+            «module».now.locals self.now.args (contains (λ x y. x == y) used.now)) }
     {
         emit_locals(
             self.builder.allocator(),

@@ -1,5 +1,5 @@
 -- Writing a function's tree as a visitor of its walk: the emitter after each event.
-use Rattle.std.specs.Prelude.{ℕ, ◌+◌, List, [], ◌∷◌, ◌++◌, length, map, slice_get, Bool, if◌then◌else◌, Option, Some, None, Result, Ok, Err}
+use Rattle.std.specs.Prelude.{ℕ, ◌+◌, ◌==◌, List, [], ◌∷◌, ◌++◌, length, map, slice_get, Bool, true, false, ◌&&◌, if◌then◌else◌, Option, Some, None, Result, Ok, Err}
 use Rattle.walrus_ir.specs.declared.seq.InstrSeq.{InstrSeq}
 use Rattle.walrus_ir.specs.declared.val_type.InstrSeqType.{InstrSeqType}
 use Rattle.walrus_ir.specs.declared.val_type.InstrSeqType.TheVariants.{Simple}
@@ -16,6 +16,7 @@ use Rattle.wasm_body.specs.Control.{end_operation, else_operation}
 use Rattle.wasm_body.specs.Translation.{Located, at_location}
 use Rattle.wasm_body.specs.InstructionTable.{legacy_clause}
 use Rattle.wasm_body.specs.TreeOfFunction.{instruction_in}
+use Rattle.wasm_body.specs.FunctionTree.{last_location}
 use Rattle.wasm_body.specs.FlatText.{TextOperation, then_by, try_closers, opened, written}
 use Rattle.wasm_body.specs.Bytes.{Numbers, numbering, bytes_of}
 use Rattle.wasm_body.specs.Pairs.{pairs_from}
@@ -27,10 +28,10 @@ pub record Scope : Type 0 where
   pub slot : ℕ
   pub closer : Option (Located TextOperation)
 
+-- those of the sequences of an `if` are below
 abbrev pub closers_in : Instr → List TextOperation
 closers_in (Block x) = end_operation ∷ []
 closers_in (Loop x) = end_operation ∷ []
-closers_in (IfElse x) = else_operation ∷ end_operation ∷ []
 closers_in (TryTable x) = end_operation ∷ []
 closers_in (Try x) = try_closers (map legacy_clause x.catches)
 closers_in _ = []
@@ -44,6 +45,28 @@ abbrev pub scopes_at : List InstrSeq → List ℕ → List TextOperation → Res
 scopes_at b [] cs = Ok []
 scopes_at b (p ∷ ps) [] = Ok []
 scopes_at b (p ∷ ps) (c ∷ cs) = scope_at b p c >>= λ s. scopes_at b ps cs >>= λ ss. Ok (s ∷ ss)
+
+-- The scopes of the two sequences of an `if`. A short one is closed once: its consequent by an `end`, at the location of the
+-- alternative's end, or of its own if that is the default location; and its alternative by nothing.
+abbrev pub if_scopes : (is_short : Bool) → ℕ → InstrSeq → ℕ → InstrSeq → List Scope
+if_scopes true p c q a =
+    record { slot = p; closer = Some (at_location end_operation (last_location c.end a.end)) } ∷ record { slot = q; closer = None } ∷ []
+if_scopes false p c q a =
+    record { slot = p; closer = Some (at_location else_operation c.end) } ∷ record { slot = q; closer = Some (at_location end_operation a.end) } ∷ []
+
+-- An `if` is short if its type is balanced and its alternative has no instruction.
+abbrev pub is_short : (InstrSeqType → Bool) → InstrSeq → InstrSeq → Bool
+is_short balanced c a = balanced c.ty && (length a.instrs == 0)
+
+abbrev pub scopes_of_if : (InstrSeqType → Bool) → List InstrSeq → ℕ → ℕ → Result (List Scope) EmitError
+scopes_of_if balanced b p q =
+    some_or (slice_get b p) UnknownSequence >>= λ c. some_or (slice_get b q) UnknownSequence >>= λ a.
+    Ok (if_scopes (is_short balanced c a) p c q a)
+
+-- the scopes of the sequences in an instruction
+abbrev pub scopes_inside : (InstrSeqType → Bool) → List InstrSeq → Instr → Result (List Scope) EmitError
+scopes_inside balanced b (IfElse x) = scopes_of_if balanced b x.consequent x.alternative
+scopes_inside balanced b i = scopes_at b (slots_in i) (closers_in i)
 
 -- the type of the first of the sequences in these slots
 abbrev pub first_type_at : List InstrSeq → List ℕ → Result InstrSeqType EmitError
@@ -90,7 +113,7 @@ abbrev pub with_instruction : Emitter → LocatedInstr → Result Emitter EmitEr
 with_instruction s x =
     first_type_at s.sequences (slots_in x.0) >>= λ type.
     opened (then_by (numbering s.numbers)) (instruction_in (slots_of s.open_scopes) x) type >>= λ op.
-    scopes_at s.sequences (slots_in x.0) (closers_in x.0) >>= λ scopes.
+    scopes_inside s.numbers.balanced s.sequences x.0 >>= λ scopes.
     Ok (with_operator (record s { coming = scopes ++ s.coming }) op)
 
 -- The next scope is opened; the innermost is closed. (A walk starts only sequences that are to come, and ends only open ones.)

@@ -1,16 +1,22 @@
 //! Announcing the sequences in an instruction, each with what closes it: they are to come next.
 ghost use Rattle.std.specs.Prelude.{◌≡◌, ◌∷◌, [], length, map, true, OnOk, OnErr, IfErr};
-ghost use Rattle.walrus_ir.specs.Unfolding.{handler_of as clause_places, handlers, slots_in};
+ghost use Rattle.walrus_ir.specs.Types.{signature_of_type};
+ghost use Rattle.walrus_ir.specs.Unfolding.{handler_of as clause_places, handlers};
 ghost use Rattle.wasm_body.specs.InstructionTable.{legacy_clause, clauses_of_try};
+ghost use Rattle.wasm_body.specs.NormalForm.{is_balanced_type};
 ghost use Rattle.wasm_body.specs.FlatText.{are_lawful, try_closers};
-ghost use Rattle.walrus_emit_state.specs.Emission.{closers_in};
-ghost use Rattle.walrus_emit_state.specs.TreeWriting.Closers.{closing};
-ghost use Rattle.walrus_emit_state.specs.TreeWriting.Announcing.{Announces, IsUnannounced, HasMore};
+ghost use Rattle.wasm_body.specs.FunctionTree.{last_location};
+ghost use Rattle.walrus_emit_state.specs.Emission.{is_short, if_scopes, scopes_of_if, scopes_inside};
+ghost use Rattle.walrus_emit_state.specs.TreeWriting.Closers.{closing, scopes_of};
+ghost use Rattle.walrus_emit_state.specs.TreeWriting.Announcing.{AreAnnounced, AreUnannounced, Announces, IsUnannounced, HasMore};
 
+use crate::balance::is_balanced;
 use crate::clauses::{closer_before, handler_of};
-use crate::closing::Closer;
+use crate::closing::{Closer, SequenceScope};
 use crate::open_scopes::Scopes;
-use walrus_ir::{FunctionBuilder, Instr, InstrSeqId, LegacyCatch, Try};
+use walrus_ir::{
+    FunctionBuilder, IfElse, Instr, InstrLocId, InstrSeq, InstrSeqId, LegacyCatch, ModuleTypes, Try,
+};
 use wasm_body::EmitError;
 
 /// Announces the sequence in a slot, which this closes at the location of its end.
@@ -84,31 +90,107 @@ fn announce_try(
     announce_one(scopes, builder, construct.seq, closer)
 }
 
+/// The second of two locations, or the first if the second is the default location.
+fn last_location(first: InstrLocId, second: InstrLocId) -> InstrLocId
+    ensures { result ≡ last_location first second }
+{
+    if second.is_default() {
+        first
+    } else {
+        second
+    }
+}
+
+/// The sequences in an `if`, each with what closes it. If the alternative says nothing, one `end`
+/// closes the consequent, and nothing the alternative.
+fn scopes_of_if(
+    types: &ModuleTypes,
+    construct: &IfElse,
+    consequent: &InstrSeq,
+    alternative: &InstrSeq,
+) -> (SequenceScope, SequenceScope)
+    ensures scopes { scopes_of (result.0 ∷ result.1 ∷ [])
+        ≡ if_scopes (is_short (λ t. is_balanced_type (signature_of_type types.now t)) consequent.now
+        alternative.now) construct.now.consequent consequent.now construct.now.alternative
+        alternative.now }
+    ensures consequent { result.0.place ≡ construct.now.consequent }
+    ensures alternative { result.1.place ≡ construct.now.alternative }
+{
+    let is_short = is_balanced(types, consequent.ty) && alternative.is_empty();
+    let (first, second) = if is_short {
+        let end = last_location(consequent.end, alternative.end);
+        (Some((Closer::End, end)), None)
+    } else {
+        (
+            Some((Closer::Else, consequent.end)),
+            Some((Closer::End, alternative.end)),
+        )
+    };
+    (
+        SequenceScope {
+            place: construct.consequent,
+            closer: first,
+        },
+        SequenceScope {
+            place: construct.alternative,
+            closer: second,
+        },
+    )
+}
+
+/// Announces the sequences in an `if`, before the others. If it fails, one of them may be
+/// announced.
+fn announce_if(
+    scopes: &mut Scopes,
+    builder: &FunctionBuilder,
+    types: &ModuleTypes,
+    construct: &IfElse,
+) -> Result<(), EmitError>
+    requires { scopes.old.count ≡ length builder.now.sequences }
+    ensures ok { OnOk result (AreAnnounced (scopes_of_if
+        (λ t. is_balanced_type (signature_of_type types.now t)) builder.now.sequences
+        construct.now.consequent construct.now.alternative) scopes.old scopes.new) }
+    ensures err { IfErr result (AreUnannounced (scopes_of_if
+        (λ t. is_balanced_type (signature_of_type types.now t)) builder.now.sequences
+        construct.now.consequent construct.now.alternative)) }
+    ensures kept { OnErr result (HasMore scopes.old scopes.new) }
+{
+    if !builder.has(construct.consequent) || !builder.has(construct.alternative) {
+        return Err(EmitError::UnknownSequence);
+    }
+    let (first, second) = scopes_of_if(
+        types,
+        construct,
+        builder.seq(construct.consequent),
+        builder.seq(construct.alternative),
+    );
+    scopes.announce_scope(second)?;
+    scopes.announce_scope(first)?;
+    Ok(())
+}
+
 /// Announces the sequences in an instruction, before the others. If it fails, some of them may be
 /// announced.
 pub fn announce(
     scopes: &mut Scopes,
     builder: &FunctionBuilder,
+    types: &ModuleTypes,
     instr: &Instr,
 ) -> Result<(), EmitError>
     requires known { scopes.old.count ≡ length builder.now.sequences }
     requires lawful { are_lawful (clauses_of_try instr.now) ≡ true }
-    ensures ok { OnOk result (Announces builder.now.sequences (slots_in instr.now)
-        (closers_in instr.now) scopes.old scopes.new) }
-    ensures err { IfErr result (IsUnannounced builder.now.sequences (slots_in instr.now)
-        (closers_in instr.now)) }
+    ensures ok { OnOk result (AreAnnounced (scopes_inside
+        (λ t. is_balanced_type (signature_of_type types.now t)) builder.now.sequences instr.now)
+        scopes.old scopes.new) }
+    ensures err { IfErr result (AreUnannounced (scopes_inside
+        (λ t. is_balanced_type (signature_of_type types.now t)) builder.now.sequences instr.now)) }
     ensures kept { OnErr result (HasMore scopes.old scopes.new) }
 {
     match instr {
         Instr::Block(x) => announce_one(scopes, builder, x.seq, Closer::End),
         Instr::Loop(x) => announce_one(scopes, builder, x.seq, Closer::End),
         Instr::TryTable(x) => announce_one(scopes, builder, x.seq, Closer::End),
-        Instr::IfElse(x) => {
-            if let Err(fault) = announce_one(scopes, builder, x.alternative, Closer::End) {
-                return Err(fault);
-            }
-            announce_one(scopes, builder, x.consequent, Closer::Else)
-        }
+        Instr::IfElse(x) => announce_if(scopes, builder, types, x),
         Instr::Try(x) => announce_try(scopes, builder, x),
         _ => Ok(()),
     }

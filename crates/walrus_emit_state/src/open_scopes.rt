@@ -88,6 +88,23 @@ impl Scopes {
         in_32_bits(self.entered.len().saturating_sub(level).saturating_sub(1))
     }
 
+    /// Announces two sequences of the builder, before the others. If it fails, nothing is changed.
+    pub fn announce_two(
+        &mut self,
+        first: SequenceScope,
+        second: SequenceScope,
+    ) -> Result<(), AllocError>
+        requires first { first.place < self.old.count }
+        requires second { second.place < self.old.count }
+        ensures ok { OnOk result (self.new ≡ with_more self.old (first ∷ second ∷ [])) }
+        ensures err { OnErr result (self.new ≡ self.old) }
+    {
+        self.coming.reserve(2)?;
+        self.coming.push(second).unwrap();
+        self.coming.push(first).unwrap();
+        Ok(())
+    }
+
     /// Announces a sequence of the builder, before the others.
     pub fn announce(
         &mut self,

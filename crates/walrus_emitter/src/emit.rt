@@ -308,7 +308,7 @@ impl<'a> EmitVisitor<'a> {
         }
         let mut lists = Lists::new(self.builder.allocator());
         match operator_of(instr, ty, &self.scopes, &self.numbers, &mut lists) {
-            Ok(op) => match announce(&mut self.scopes, self.builder, instr) {
+            Ok(op) => match announce(&mut self.scopes, self.builder, self.numbers.types, instr) {
                 Ok(()) => self.draft.write_any(&op, location),
                 Err(fault) => Err(fault),
             },

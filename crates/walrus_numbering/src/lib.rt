@@ -2,11 +2,13 @@
 //! numbers and declarations of a function's locals.
 #![tactic(auto)]
 
+mod balance;
 mod local_numbers;
 mod memory_arguments;
 mod number_maps;
 mod written_types;
 
+pub use balance::is_balanced;
 pub use local_numbers::emit_locals;
 pub use memory_arguments::memory_argument;
 pub use number_maps::NumberMaps;

@@ -119,7 +119,7 @@ fn number_others(
 }
 
 /// Whether the types are the same.
-fn are_same(a: &ValType, b: &ValType) -> bool
+pub(crate) fn are_same(a: &ValType, b: &ValType) -> bool
     ensures { result ≡ same_type a.now b.now }
 {
     a == b
@@ -221,10 +221,11 @@ pub fn emit_locals(
     indices: &IdsToIndices,
     used: &IdHashSet<LocalId>,
 ) -> Result<(Vec<(u32, RawValType)>, IdHashMap<LocalId, u32>), EmitError>
-    ensures ok { IfOk result (λ made. Declares (numbers_by indices.now []) «module».now.locals
-        args.now (contains (λ x y. x == y) used.now) made.0.items made.1.entries) }
-    ensures err { IfErr result (IsUndeclared (numbers_by indices.now []) «module».now.locals
-        args.now (contains (λ x y. x == y) used.now)) }
+    ensures ok { IfOk result (λ made. Declares (numbers_by «module».now.types indices.now [])
+        «module».now.locals args.now (contains (λ x y. x == y) used.now) made.0.items
+        made.1.entries) }
+    ensures err { IfErr result (IsUndeclared (numbers_by «module».now.types indices.now [])
+        «module».now.locals args.now (contains (λ x y. x == y) used.now)) }
 {
     let mut numbers = number_arguments(alloc, args)?;
     let others = match declared_locals(alloc, &module.locals, args, &numbers, used) {
@@ -237,6 +238,7 @@ pub fn emit_locals(
     number_others(&mut numbers, args, others.as_slice())?;
     let runs = runs(alloc, others.as_slice())?;
     let maps = NumberMaps {
+        types: &module.types,
         ids: indices,
         locals: &numbers,
     };

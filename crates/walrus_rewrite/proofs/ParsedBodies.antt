@@ -7,6 +7,7 @@ use Rattle.std.proofs.lemmas.Bool.{ltb-true}
 use Rattle.std.proofs.lemmas.List.{length-append, length-map}
 use Rattle.std.proofs.lemmas.Option.{slice_get_within}
 use Rattle.walrus_ir.specs.Results.{◌>>=◌, some_or, unless, with_fault}
+use Rattle.walrus_ir.specs.Types.{ModuleType}
 use Rattle.wasm_operators.specs.declared.types.Space.{Space}
 use Rattle.wasm_body.specs.declared.error.EmitError.{EmitError}
 use Rattle.wasm_body.specs.declared.error.EmitError.TheVariants.{Index, TooLarge, UnnumberedLocal}
@@ -35,8 +36,8 @@ by_number : (space : Space) (o : Option ℕ) → IsNumber (with_fault Index (som
 by_number space (Some n) = by_test space n (nat_lt n (2 ^ 32)) refl
 by_number space None = tt
 
-pub are_id_numbers : (out : IdsToIndices) → AreIdNumbers (numbers_by out [])
-are_id_numbers out space id = by_number space (get (numbers_in out space) id)
+pub are_id_numbers : (ms : List ModuleType) (out : IdsToIndices) → AreIdNumbers (numbers_by ms out [])
+are_id_numbers ms out space id = by_number space (get (numbers_in out space) id)
 
 -- ---- numbers of locals are, where they can be declared
 

@@ -4,6 +4,7 @@ use Rattle.std.specs.Prelude.{nat_lt, ◌&&◌, true, false}
 use Rattle.std.specs.List.{list_all, AllByRecursion}
 use Rattle.std.proofs.lemmas.List.{length-append}
 use Rattle.walrus_ir.specs.declared.val_type.ValType.{ValType}
+use Rattle.walrus_ir.specs.Types.{ModuleType}
 use Rattle.walrus_ir.specs.Function.{Function}
 use Rattle.walrus_ir.specs.Results.{◌>>=◌, some_or, unless, each}
 use Rattle.walrus_ir.specs.Tree.{Tree}
@@ -53,33 +54,37 @@ few_declarations to arguments others ds h =
     subst (λ n. n < 2 ^ 32) (sym (length-each (declaration to) rs ds fit.1)) (below (length rs) (2 ^ 32) (first_true (nat_lt (length rs) (2 ^ 32)) _ fit.0))
 
 -- a map that has the numbers of locals
-pub same_numbers : (out : IdsToIndices) (entries : List (ℕ × ℕ)) (args others : List ℕ) → ((id : ℕ) → number_in entries id ≡ number_of_local args others id)
-    → numbers_by out entries ≡ with_locals (numbers_by out []) args others
-same_numbers out entries args others h =
-    λ k. record { number_of = (numbers_by out []).number_of; local_number = λ id. some_or (h id k) UnnumberedLocal }
+pub same_numbers : (ms : List ModuleType) (out : IdsToIndices) (entries : List (ℕ × ℕ)) (args others : List ℕ) → ((id : ℕ) → number_in entries id ≡ number_of_local args others id)
+    → numbers_by ms out entries ≡ with_locals (numbers_by ms out []) args others
+same_numbers ms out entries args others h =
+    λ k. record {
+      number_of = (numbers_by ms out []).number_of;
+      local_number = λ id. some_or (h id k) UnnumberedLocal;
+      balanced = (numbers_by ms out []).balanced;
+    }
 
 -- ---- what the calls in it answer
 
-module _ (out : IdsToIndices) (types : List (ValType ℕ)) (args : List ℕ) (used : ℕ → Bool) (f : Function) where
+module _ (ms : List ModuleType) (out : IdsToIndices) (types : List (ValType ℕ)) (args : List ℕ) (used : ℕ → Bool) (f : Function) where
   abbrev by : Given
-  by = record { to = numbers_by out []; types = types; args = args }
+  by = record { to = numbers_by ms out []; types = types; args = args }
 
   module _ (encoder : List ℕ) (entries : List (ℕ × ℕ)) (b : Begins by used encoder entries) where
-    abbrev numbered : numbers_by out entries ≡ with_locals (numbers_by out []) args (ids_of b.declares.others)
-    numbered = same_numbers out entries args (ids_of b.declares.others) b.declares.numbers_are
+    abbrev numbered : numbers_by ms out entries ≡ with_locals (numbers_by ms out []) args (ids_of b.declares.others)
+    numbered = same_numbers ms out entries args (ids_of b.declares.others) b.declares.numbers_are
 
-    abbrev pub writes : (IsWritten : Numbers → List ℕ → Type 0) → IsWritten (numbers_by out entries) encoder → Writes by used IsWritten
+    abbrev pub writes : (IsWritten : Numbers → List ℕ → Type 0) → IsWritten (numbers_by ms out entries) encoder → Writes by used IsWritten
     writes IsWritten h = record {
       others = b.declares.others;
       are_declared = b.declares.are_declared;
       declarations = b.declarations;
       declarations_are = b.declares.declarations_are;
       is_written =
-          subst (λ o. IsWritten (with_locals (numbers_by out []) args (ids_of b.declares.others)) o) b.encoder_is
+          subst (λ o. IsWritten (with_locals (numbers_by ms out []) args (ids_of b.declares.others)) o) b.encoder_is
           (subst (λ to. IsWritten to encoder) numbered h);
     }
 
-    pub declines : (e : EmitError) → IsUnemitted f (numbers_by out entries) e → Declines by used f e
+    pub declines : (e : EmitError) → IsUnemitted f (numbers_by ms out entries) e → Declines by used f e
     declines e u =
         not_written b.declares.others b.declarations b.declares.are_declared b.declares.declarations_are (subst (λ to. IsUnemitted f to e) numbered u)
 

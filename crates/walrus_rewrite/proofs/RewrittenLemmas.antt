@@ -18,6 +18,7 @@ use Rattle.wasm_body.specs.FunctionTree.{FunctionTree}
 use Rattle.wasm_body.specs.TreeOfFunction.{HasTree, tree_of}
 use Rattle.wasm_body.specs.NormalForm.{typing_of, name_at, named_body, body_tree}
 use Rattle.wasm_body.specs.RewrittenTree.{rewritten_text}
+use Rattle.wasm_body.specs.LocationLaws.{BalanceAlike}
 use Rattle.wasm_body.specs.EmissionFaults.{AreIdNumbers}
 use Rattle.wasm_body.specs.Bytes.{Numbers}
 use Rattle.wasm_body.specs.LocalNumbers.{ids_of, with_locals}
@@ -54,20 +55,20 @@ listed_spelt (x ∷ xs) place bytes rest l = ((l.1, l.4), listed_spelt xs _ l.2 
 -- ---- what is kept of the source
 
 pub keeps_source : (env : Environment) (xs : List Occurrence) (b : Body Occurrence) → AllByRecursion HasSpelling xs → Lawful env xs b →
-    (to : Numbers) (before : ℕ) (ps : List Pair) → tree_pairs to (body_tree env b) before ≡ Ok ps → KeepsSource env xs b ps
-keeps_source env xs b spelt lawful to before ps e =
+    (to : Numbers) → BalanceAlike (typing_of env) to → (before : ℕ) (ps : List Pair) → tree_pairs to (body_tree env b) before ≡ Ok ps → KeepsSource env xs b ps
+keeps_source env xs b spelt lawful to alike before ps e =
     let m = typing_of env in
     let named = lawful_named env xs b spelt lawful in
     let kept = named_executions_kept m (map name_at xs) (named_body b) named.0 named.1 in
-    let both : Ok kept.text ≡ Ok (rewritten_text (named_body b)) = sym kept.is_text ∙ has_text m (map name_at xs) (named_body b) named.0 named.1 in
+    let both : Ok kept.text ≡ Ok (rewritten_text m (named_body b)) = sym kept.is_text ∙ has_text m (map name_at xs) (named_body b) named.0 named.1 in
     record {
       text = kept.text;
       is_text = kept.is_text;
       is_rewritten = cc both;
       executes = kept.alike;
-      locations = pairs_located m (map name_at xs) (named_body b) named.0 named.1 kept.text kept.is_text to before ps e;
+      locations = pairs_located m (map name_at xs) (named_body b) named.0 named.1 kept.text kept.is_text to alike before ps e;
       places = places_increase to (body_tree env b) before ps e;
-      honest = say_locations m (map name_at xs) (named_body b) named.0 named.1 kept.text kept.is_text to before ps e;
+      honest = say_locations m (map name_at xs) (named_body b) named.0 named.1 kept.text kept.is_text to alike before ps e;
     }
 
 -- ---- of a function that a parse made
@@ -82,16 +83,16 @@ module _ {S F : Type 0} (asks : Shared F (Bor ℕ × Unit {0}) ℕ) (i : ParseIn
   its_spellings : AllByRecursion HasSpelling a.accepted.operators
   its_spellings = listed_spelt a.accepted.operators _ i.bytes [] a.accepted.all.spelt
 
-  pub rewrites : {Z : Type 0} (old new : List ℕ) (entry : Option (LentPairs Z)) (exit : Left (LentPairs Z)) (bytes : List ℕ) (pairs : List Pair) → IsRawBodyOf by f bytes pairs
+  pub rewrites : {Z : Type 0} → BalanceAlike (typing_of i.environment) by.to → (old new : List ℕ) (entry : Option (LentPairs Z)) (exit : Left (LentPairs Z)) (bytes : List ℕ) (pairs : List Pair) → IsRawBodyOf by f bytes pairs
       → new ≡ old ++ bytes → AppendsPairs pairs entry exit → Rewrites asks i by f mapping old new entry exit
-  rewrites old new entry exit bytes pairs h appends appends_pairs =
+  rewrites alike old new entry exit bytes pairs h appends appends_pairs =
       let raw = subst (λ t. IsRawBody by t bytes pairs) (only_tree f tree a.is_function h.tree h.has_tree) h.is_raw_body in
       record {
         accepts = a;
         raw = bytes;
         pairs = pairs;
         is_raw_body = raw;
-        keeps = keeps_source i.environment a.accepted.operators a.body its_spellings a.accepted.lawful (with_locals by.to by.args (ids_of raw.others)) (length (encoded.declarations raw.declarations)) pairs raw.pairs_are;
+        keeps = keeps_source i.environment a.accepted.operators a.body its_spellings a.accepted.lawful (with_locals by.to by.args (ids_of raw.others)) alike (length (encoded.declarations raw.declarations)) pairs raw.pairs_are;
         bytes = appends;
         appends_pairs = appends_pairs;
       }
@@ -127,40 +128,43 @@ few_operators body fits = omega (arith, fits, length-drop body.ops body.bytes.no
 
 module _ {S F : Type 0} (asks : Shared F (Bor ℕ × Unit {0}) ℕ) (i : ParseInput S F) (m : Module) (out : IdsToIndices) (args : List ℕ) where
   abbrev by : Given
-  by = record { to = numbers_by out []; types = m.locals; args = args }
+  by = record { to = numbers_by m.types out []; types = m.locals; args = args }
 
   by_is : (p : FunctionParts) → p.args ≡ args → given out m p ≡ by
-  by_is p e = ap (λ list. (let g : Given = record { to = numbers_by out []; types = m.locals; args = list } in g)) e
+  by_is p e = ap (λ list. (let g : Given = record { to = numbers_by m.types out []; types = m.locals; args = list } in g)) e
+
+  abbrev IsOfModule : Type 0
+  IsOfModule = BalanceAlike (typing_of i.environment) (numbers_by m.types out [])
 
   abbrev Accepts : FunctionParts → Type 0
   Accepts p = AcceptsBody asks i p.builder p.instruction_mapping
 
-  pub with_map : {Z : Type 0} (p : FunctionParts) → p.args ≡ args → Accepts p → (old new : List ℕ) (list left : LentPairs Z)
+  pub with_map : {Z : Type 0} → IsOfModule → (p : FunctionParts) → p.args ≡ args → Accepts p → (old new : List ℕ) (list left : LentPairs Z)
       → AppendsBoth (given out m p) p.builder old new list.now.items left.now.items
       → Rewrites asks i by p.builder p.instruction_mapping old new (Some list) (inr (inl (left, tt)))
-  with_map p e a old new list left w =
+  with_map alike p e a old new list left w =
       let h = subst (λ g. IsRawBodyOf g p.builder w.raw w.pairs) (by_is p e) w.is_raw_body in
-      rewrites asks i by p.builder p.instruction_mapping a old new (Some list) (inr (inl (left, tt))) w.raw w.pairs h w.appends w.appends_pairs
+      rewrites asks i by p.builder p.instruction_mapping a alike old new (Some list) (inr (inl (left, tt))) w.raw w.pairs h w.appends w.appends_pairs
 
-  pub without_map : {Z : Type 0} (p : FunctionParts) → p.args ≡ args → Accepts p → (old new : List ℕ) → AppendsBytes (given out m p) p.builder old new
+  pub without_map : {Z : Type 0} → IsOfModule → (p : FunctionParts) → p.args ≡ args → Accepts p → (old new : List ℕ) → AppendsBytes (given out m p) p.builder old new
       → Rewrites asks i by {Z = Z} p.builder p.instruction_mapping old new None (inl tt)
-  without_map p e a old new w =
+  without_map alike p e a old new w =
       let h = subst (λ g. IsRawBodyOf g p.builder w.raw w.pairs) (by_is p e) w.is_raw_body in
-      rewrites asks i by p.builder p.instruction_mapping a old new None (inl tt) w.raw w.pairs h w.appends tt
+      rewrites asks i by p.builder p.instruction_mapping a alike old new None (inl tt) w.raw w.pairs h w.appends tt
 
-  pub all_with_map : {Z : Type 0} (r : Result FunctionParts ParseFailure) (s : Result FunctionParts RewriteError) → IfOk r Accepts → IfOk r (λ p. p.args ≡ args)
+  pub all_with_map : {Z : Type 0} → IsOfModule → (r : Result FunctionParts ParseFailure) (s : Result FunctionParts RewriteError) → IfOk r Accepts → IfOk r (λ p. p.args ≡ args)
       → (old new : List ℕ) (list left : LentPairs Z) → IfOk s (λ made. (r ≡ Ok made) × AppendsBoth (given out m made) made.builder old new list.now.items left.now.items)
       → IfOk s (λ made. Rewrites asks i by made.builder made.instruction_mapping old new (Some list) (inr (inl (left, tt))))
-  all_with_map r (Err e) a g old new list left h = tt
-  all_with_map r (Ok made) a g old new list left h =
-      with_map made (subst (λ q. IfOk q (λ p. p.args ≡ args)) h.0 g) (subst (λ q. IfOk q Accepts) h.0 a) old new list left h.1
+  all_with_map alike r (Err e) a g old new list left h = tt
+  all_with_map alike r (Ok made) a g old new list left h =
+      with_map alike made (subst (λ q. IfOk q (λ p. p.args ≡ args)) h.0 g) (subst (λ q. IfOk q Accepts) h.0 a) old new list left h.1
 
-  pub all_without_map : (Z : Type 0) (r : Result FunctionParts ParseFailure) (s : Result FunctionParts RewriteError) → IfOk r Accepts → IfOk r (λ p. p.args ≡ args)
+  pub all_without_map : (Z : Type 0) → IsOfModule → (r : Result FunctionParts ParseFailure) (s : Result FunctionParts RewriteError) → IfOk r Accepts → IfOk r (λ p. p.args ≡ args)
       → (old new : List ℕ) → IfOk s (λ made. (r ≡ Ok made) × AppendsBytes (given out m made) made.builder old new)
       → IfOk s (λ made. Rewrites asks i by {Z = Z} made.builder made.instruction_mapping old new None (inl tt))
-  all_without_map Z r (Err e) a g old new h = tt
-  all_without_map Z r (Ok made) a g old new h =
-      without_map {Z = Z} made (subst (λ q. IfOk q (λ p. p.args ≡ args)) h.0 g) (subst (λ q. IfOk q Accepts) h.0 a) old new h.1
+  all_without_map Z alike r (Err e) a g old new h = tt
+  all_without_map Z alike r (Ok made) a g old new h =
+      without_map {Z = Z} alike made (subst (λ q. IfOk q (λ p. p.args ≡ args)) h.0 g) (subst (λ q. IfOk q Accepts) h.0 a) old new h.1
 
   pub begins_all : (r : Result FunctionParts ParseFailure) → IfOk r Accepts → IfOk r (λ p. HasEntry p.builder)
   begins_all (Ok p) a = begins p.builder (body_tree i.environment a.body) a.is_function
@@ -168,7 +172,7 @@ module _ {S F : Type 0} (asks : Shared F (Bor ℕ × Unit {0}) ℕ) (i : ParseIn
 
   refuses_all : (r : Result FunctionParts ParseFailure) → IfOk r Accepts → IfErr r (RefusesBody asks i) → IfOk r (λ p. p.args ≡ args) → length i.bytes < 2 ^ 64 → (e : RewriteError)
       → IsUnfinished (given out m) r e → RefusesRewriting asks i by e
-  refuses_all (Ok p) a f g few e h = refuses asks i by p.builder p.instruction_mapping a (are_id_numbers out) few e (subst (λ b. IsUnappended b p.builder e) (by_is p g) h)
+  refuses_all (Ok p) a f g few e h = refuses asks i by p.builder p.instruction_mapping a (are_id_numbers m.types out) few e (subst (λ b. IsUnappended b p.builder e) (by_is p g) h)
   refuses_all (Err p) a f g few e h = subst (RefusesRewriting asks i by) (sym h) f
 
   pub refused_all : (r : Result FunctionParts ParseFailure) → IfOk r Accepts → IfErr r (RefusesBody asks i) → IfOk r (λ p. p.args ≡ args) → length i.bytes < 2 ^ 64

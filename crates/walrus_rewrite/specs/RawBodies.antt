@@ -37,7 +37,7 @@ pub record Given : Type 0 where
 
 -- of a function in a module, with the numbers of index maps
 abbrev pub given : IdsToIndices → Module → FunctionParts → Given
-given out m f = record { to = numbers_by out []; types = m.locals; args = f.args }
+given out m f = record { to = numbers_by m.types out []; types = m.locals; args = f.args }
 
 -- These are the bytes and the location pairs of a tree as a raw body, the places counted from its first byte.
 pub record IsRawBody (by : Given) (t : FunctionTree) (bytes : List ℕ) (pairs : List Pair) : Type 0 where

@@ -35,7 +35,7 @@ PlacesRise pairs = IsStrictlyIncreasing (map (λ (p : Pair). p.1) pairs)
 pub record KeepsSource (env : Environment) (xs : List Occurrence) (b : Body Occurrence) (pairs : List Pair) : Type 0 where
   pub text : List (Located NamedOperation)
   pub is_text : IsTextOf (typing_of env) (body_tree env b) text
-  pub is_rewritten : text ≡ rewritten_text (named_body b)
+  pub is_rewritten : text ≡ rewritten_text (typing_of env) (named_body b)
   pub executes : ExecuteAlike (map name_at xs) text
   pub locations : map (λ (p : Pair). p.0) pairs ≡ map (λ y. y.location) text
   pub places : PlacesRise pairs

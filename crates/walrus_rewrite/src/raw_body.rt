@@ -59,7 +59,7 @@ pub(crate) fn raw_body(
         Ok(made) => made,
         Err(fault) => return Err(fault),
     };
-    match function.emit_instructions(indices, &numbers, &mut encoder, None) {
+    match function.emit_instructions(&module.types, indices, &numbers, &mut encoder, None) {
         Ok(()) => Ok(encoder.into_raw_body()),
         Err(fault) => Err(fault),
     }
@@ -90,7 +90,7 @@ pub(crate) fn raw_body_with_map(
         Ok(made) => made,
         Err(fault) => return Err(fault),
     };
-    match function.emit_instructions(indices, &numbers, &mut encoder, Some(map)) {
+    match function.emit_instructions(&module.types, indices, &numbers, &mut encoder, Some(map)) {
         Ok(()) => Ok(encoder.into_raw_body()),
         Err(fault) => Err(fault),
     }

@@ -199,13 +199,13 @@ pub fn rewrite_body<V: OpCheck, F: Fn(&usize) -> InstrLocId>(
     // pairs hold their locations. What is refused is so for the first reason.
     ensures rewritten { IfOk result (λ made. Rewrites F.Fn (body_input «module».now indices.now
         id ty body.entry on_instr_pos.entry V.check (V.state validator)) (record {
-          to = numbers_by out.now [];
+          to = numbers_by «module».now.types out.now [];
           types = «module».now.locals;
           args = args.items;
         }) made.builder made.instruction_mapping dst.old.items dst.new.items map.entry map.exit) }
     ensures refused { IfErr result (RefusesRewriting F.Fn (body_input «module».now indices.now
         id ty body.entry on_instr_pos.entry V.check (V.state validator)) (record {
-          to = numbers_by out.now [];
+          to = numbers_by «module».now.types out.now [];
           types = «module».now.locals;
           args = args.items;
         })) }

@@ -169,7 +169,7 @@ module _ (others : List ℕ) (few_others : length others ≤ 3) where
   some_number None = Ok 0
 
   abbrev full : Numbers
-  full = record { number_of = demo_numbers.number_of; local_number = λ id. some_number (number_of_local demo_args others id) }
+  full = record { number_of = demo_numbers.number_of; local_number = λ id. some_number (number_of_local demo_args others id); balanced = demo_numbers.balanced }
 
   fits : (id : ℕ) (o : Option ℕ) → number_of_local demo_args others id ≡ o → IsOk (some_number o >>= in_32_bits)
   fits id None e = refl

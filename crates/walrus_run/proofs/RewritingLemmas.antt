@@ -42,7 +42,7 @@ use Rattle.walrus_numbering.specs.NumberMaps.{numbers_by}
 use Rattle.walrus_facts.proofs.LocalsOfTrees.{count_of_tree}
 use Rattle.walrus_rewrite.specs.declared.error.RewriteError.{RewriteError}
 use Rattle.walrus_rewrite.specs.declared.error.RewriteError.TheVariants.{Parse}
-use Rattle.walrus_run.specs.Demo.{demo_module, demo_indices, demo_locals, demo_args, demo_environment, demo, demo_numbers}
+use Rattle.walrus_run.specs.Demo.{demo_module, demo_types, demo_indices, demo_locals, demo_args, demo_environment, demo, demo_numbers}
 use Rattle.walrus_rewrite.specs.RawBodies.{Given, given, IsRawBodyOf, HasNoRawBody}
 use Rattle.walrus_run.specs.Rewriting.{IsNormalBytes, IsRewritten, IsParsed, IsFaulty}
 use Rattle.walrus_rewrite.specs.Errors.{WantsMemory}
@@ -115,8 +115,11 @@ module _ (f : Function) (p : IsParsed f) where
       }
 
 -- the numbers, types and arguments of the demo module's functions
-pub same_given : (out : IdsToIndices) (m : Module) (f : FunctionParts) → numbers_by out [] ≡ demo_numbers → m ≡ demo_module → f.args ≡ demo_args → given out m f ≡ demo_given
-same_given out m f numbers module_is args = λ k. record { to = numbers k; types = (module_is k).locals; args = args k }
+pub same_given : (out : IdsToIndices) (m : Module) (f : FunctionParts) → numbers_by demo_types out [] ≡ demo_numbers → m ≡ demo_module → f.args ≡ demo_args
+    → given out m f ≡ demo_given
+same_given out m f numbers module_is args =
+    let to : numbers_by m.types out [] ≡ demo_numbers = ap (λ (n : Module). numbers_by n.types out []) module_is ∙ numbers in
+    λ k. record { to = to k; types = (module_is k).locals; args = args k }
 
 -- ---- in the demo module
 

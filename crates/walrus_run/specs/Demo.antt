@@ -4,7 +4,7 @@ use Rattle.std.specs.FinMap.{empty, insert}
 use Rattle.walrus_ir.specs.declared.val_type.ValType.{ValType}
 use Rattle.walrus_ir.specs.declared.val_type.ValType.TheVariants.{I32, I64}
 use Rattle.walrus_ir.specs.declared.module.Module.{Module}
-use Rattle.walrus_ir.specs.Types.{ModuleType, Func, Entry}
+use Rattle.walrus_ir.specs.Types.{ModuleType, Func, Entry, signature_of_type}
 use Rattle.wasm_body.specs.declared.error.EmitError.TheVariants.{Index, UnnumberedLocal}
 use Rattle.wasm_body.specs.declared.error.IndexError.TheVariants.{Unnumbered}
 use Rattle.walrus_maps.specs.declared.indices_to_ids.IndicesToIds.{IndicesToIds}
@@ -12,6 +12,7 @@ use Rattle.walrus_maps.specs.IndexMaps.{ids_in}
 use Rattle.walrus_maps.specs.Environments.{environment_of}
 use Rattle.wasm_body.specs.Naming.{Environment}
 use Rattle.wasm_body.specs.Parsing.Accepted.{Setting, accepting}
+use Rattle.wasm_body.specs.NormalForm.{is_balanced_type}
 use Rattle.wasm_body.specs.Bytes.{Numbers}
 
 -- The last type is the entry type of functions without results.
@@ -62,4 +63,5 @@ abbrev pub demo_numbers : Numbers
 demo_numbers = record {
   number_of = λ space id. if nat_lt id (length (ids_in demo_indices space)) then Ok id else Err (Index (Unnumbered space));
   local_number = λ id. Err UnnumberedLocal;
+  balanced = λ t. is_balanced_type (signature_of_type demo_types t);
 }

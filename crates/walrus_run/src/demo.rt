@@ -6,7 +6,7 @@ ghost use Rattle.wasm_operators.specs.declared.types.Space.TheVariants.{Tables, 
 ghost use Rattle.walrus_maps.specs.IndexMaps.{no_ids, ids_in, with_ids_in, with_locals, numbers_in, with_numbers};
 ghost use Rattle.walrus_maps.specs.Numbering.{pushed};
 ghost use Rattle.walrus_numbering.specs.NumberMaps.{numbers_by};
-ghost use Rattle.walrus_run.specs.Demo.{demo_module, demo_items, demo_indices, demo_numbers};
+ghost use Rattle.walrus_run.specs.Demo.{demo_module, demo_types, demo_items, demo_indices, demo_numbers};
 
 use std::alloc::{AllocError, Global};
 use walrus_body::{IdsToIndices, IndexError, IndicesToIds};
@@ -198,7 +198,7 @@ fn number_storage(numbers: &mut IdsToIndices) -> Result<(), IndexError>
 ///
 /// `Memory` if memory runs out.
 pub fn numbers(alloc: Global) -> Result<IdsToIndices, IndexError>
-    ensures ok { IfOk result (λ m. numbers_by m [] ≡ demo_numbers) }
+    ensures ok { IfOk result (λ m. numbers_by demo_types m [] ≡ demo_numbers) }
     ensures err { IfErr result (λ e. e ≡ Memory) }
 {
     let mut numbers = IdsToIndices::new(alloc);

@@ -8,7 +8,7 @@ ghost use Rattle.wasm_body.specs.Parsing.Accepted.{Accepted, FirstFault};
 ghost use Rattle.walrus_parser.specs.Bodies.{IsFunction};
 ghost use Rattle.walrus_numbering.specs.NumberMaps.{numbers_by};
 ghost use Rattle.walrus_rewrite.specs.declared.error.RewriteError.TheVariants.{Parse};
-ghost use Rattle.walrus_run.specs.Demo.{demo, demo_module, demo_indices, demo_args, demo_environment, demo_numbers};
+ghost use Rattle.walrus_run.specs.Demo.{demo, demo_module, demo_types, demo_indices, demo_args, demo_environment, demo_numbers};
 ghost use Rattle.walrus_run.specs.Rewriting.{IsNormalBytes, IsRewritten, IsParsed, IsFaulty};
 ghost use Rattle.walrus_rewrite.specs.Errors.{WantsMemory};
 
@@ -38,7 +38,7 @@ fn written_operators(
     numbers: &IdsToIndices,
 ) -> Result<Vec<u8>, RewriteError>
     requires module_is { «module».now ≡ demo_module }
-    requires numbers_are { numbers_by numbers.now [] ≡ demo_numbers }
+    requires numbers_are { numbers_by demo_types numbers.now [] ≡ demo_numbers }
     requires args_are { function.now.args ≡ demo_args }
     requires is_parsed { IsParsed function.now.builder }
     ensures ok { IfOk result (λ out. (b : Body Occurrence)
@@ -56,7 +56,7 @@ fn written_operators(
         Err(fault) => return Err(RewriteError::Emit(fault)),
     };
     let declared = encoder.byte_len();
-    match function.emit_instructions(numbers, &locals, &mut encoder, None) {
+    match function.emit_instructions(&module.types, numbers, &locals, &mut encoder, None) {
         Ok(()) => Ok(behind(alloc, &encoder, declared)?),
         Err(fault) => Err(RewriteError::Emit(fault)),
     }
@@ -72,7 +72,7 @@ fn rewrite(
 ) -> Result<Vec<u8>, RewriteError>
     requires module_is { «module».now ≡ demo_module }
     requires indices_are { indices.now ≡ demo_indices }
-    requires numbers_are { numbers_by numbers.now [] ≡ demo_numbers }
+    requires numbers_are { numbers_by demo_types numbers.now [] ≡ demo_numbers }
     ensures ok { IfOk result (λ out. IsRewritten ops.now out.items) }
     ensures err { IfErr result (λ e. WantsMemory e ⊎ IsFaulty ops.now e) }
 {

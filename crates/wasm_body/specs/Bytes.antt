@@ -1,5 +1,5 @@
 -- The bytes of a tree (WebAssembly core specification 3.0, binary format, instructions and indices).
-use Rattle.std.specs.Prelude.{ℕ, ◌^◌, nat_lt, List, Some, None, Result, Ok}
+use Rattle.std.specs.Prelude.{ℕ, ◌^◌, nat_lt, List, Bool, Some, None, Result, Ok}
 use Rattle.std.specs.List.{flat_map}
 use Rattle.walrus_ir.specs.declared.val_type.InstrSeqType.{InstrSeqType}
 use Rattle.walrus_ir.specs.declared.val_type.InstrSeqType.TheVariants.{Simple, MultiValue}
@@ -14,12 +14,13 @@ use Rattle.wasm_body.specs.declared.error.EmitError.TheVariants.{TooLarge}
 use Rattle.walrus_ir.specs.Results.{◌>>=◌, unless}
 use Rattle.wasm_body.specs.Translation.{Translation, translate_value, Located}
 use Rattle.wasm_body.specs.FunctionTree.{FunctionTree}
-use Rattle.wasm_body.specs.FlatText.{then_by, tree_text}
+use Rattle.wasm_body.specs.FlatText.{Writing, then_by, tree_text}
 
--- The numbers that are written for ids.
+-- The numbers that are written for ids; and which types of sequences are balanced.
 pub record Numbers : Type 0 where
   pub number_of : Space → ℕ → Result ℕ EmitError
   pub local_number : ℕ → Result ℕ EmitError
+  pub balanced : InstrSeqType → Bool
 
 -- a number, if it fits 32 bits
 abbrev pub in_32_bits : ℕ → Result ℕ EmitError
@@ -27,7 +28,11 @@ in_32_bits n = unless (nat_lt n (2 ^ 32)) TooLarge >>= λ _. Ok n
 
 -- the numbers that can be written: those that fit 32 bits
 abbrev pub numbers_in_32_bits : Numbers → Numbers
-numbers_in_32_bits to = record { number_of = λ space id. to.number_of space id >>= in_32_bits; local_number = λ id. to.local_number id >>= in_32_bits }
+numbers_in_32_bits to = record {
+  number_of = λ space id. to.number_of space id >>= in_32_bits;
+  local_number = λ id. to.local_number id >>= in_32_bits;
+  balanced = to.balanced;
+}
 
 abbrev pub numbered_block : Numbers → InstrSeqType → Result BlockType EmitError
 numbered_block to (Simple None) = Ok Empty
@@ -49,9 +54,13 @@ numbering to = record {
   count = λ n. in_32_bits n >>= λ _. Ok tt;
 }
 
+-- with numbers, and the numbers of types
+abbrev pub with_numbers : Numbers → Writing ℕ BlockType
+with_numbers to = record { translation = then_by (numbering to); balanced = to.balanced }
+
 -- the operators of a tree as they are encoded, each at its location
 abbrev pub numbered_text : Numbers → FunctionTree → Result (List (Located RawOperation)) EmitError
-numbered_text to t = tree_text (then_by (numbering to)) t
+numbered_text to t = tree_text (with_numbers to) t
 
 -- the shortest encodings of the operators, one after the other
 abbrev pub bytes_of : List (Located RawOperation) → List ℕ

@@ -1,17 +1,18 @@
 -- The law of executions: a body and the text of its normal form execute the same operators, at the same locations, and end
 -- in the same way (WebAssembly core specification 3.0, execution, control instructions).
-use Rattle.std.specs.Prelude.{◌≡◌, ℕ, ◌≤◌, List, [], length, map, Option, Some}
+use Rattle.std.specs.Prelude.{◌≡◌, ℕ, ◌+◌, ◌≤◌, List, [], length, map, Option, Some}
 use Rattle.std.specs.List.{AllByRecursion}
 use Rattle.wasm_body.specs.Control.{Control, control_of, Marked}
-use Rattle.wasm_body.specs.SourceTree.{Body}
+use Rattle.walrus_ir.specs.Tree.{no_items}
+use Rattle.wasm_body.specs.SourceTree.{Sequence, text, Body}
 use Rattle.wasm_body.specs.Translation.{Located}
 use Rattle.wasm_body.specs.Naming.{Environment, NamedOperation, Occurrence}
 use Rattle.wasm_body.specs.Parsing.Accepted.{HasSpelling, Lawful}
 use Rattle.wasm_body.specs.FunctionTree.{FunctionTree}
-use Rattle.wasm_body.specs.NormalForm.{Typing, typing_of, normal_form, name_at, body_tree}
+use Rattle.wasm_body.specs.NormalForm.{Typing, typing_of, normal, normal_form, name_at, body_tree}
 use Rattle.wasm_body.specs.Typed.{AreTyped}
 use Rattle.wasm_body.specs.TextLaws.{mark_named, IsNamedBody, IsTextOf}
-use Rattle.wasm_body.specs.Machine.{Outcome, Run, bounded_run, run}
+use Rattle.wasm_body.specs.Machine.{Outcome, Run, Label, From, straight, bounded_run, run}
 use Rattle.wasm_body.specs.Places.{show_run, placed_from, run_by_place, shown_by}
 
 abbrev pub controls : List (Located NamedOperation) → List Control
@@ -64,3 +65,11 @@ CountSuffices =
     (xs : List (Located NamedOperation)) (b : Body (Located NamedOperation)) → IsNamedBody xs b →
     (bound : List (Marked ℕ) → ℕ) → ((rest : List (Marked ℕ)) → length rest ≤ bound rest) → (outcomes : List Outcome) (turns : ℕ) →
     bounded_run bound turns (placed_from 0 (controls xs)) [] outcomes ≡ run_by_place (controls xs) outcomes turns
+
+-- A sequence whose normal form is empty executes nothing and goes on: at its first operator the machine does what it does at the
+-- place after its last one, with as many operators less to go. So to enter an `else` that isn't written is to go on after its `end`.
+abbrev pub EmptyGoesOn : Type 0
+EmptyGoesOn =
+    (m : Typing) (s : Sequence (Located NamedOperation)) → normal m s ≡ no_items →
+    (again : From (Located NamedOperation)) (count : ℕ) (rest : List (Marked (Located NamedOperation))) (labels : List (Label (Located NamedOperation)))
+    (outcomes : List Outcome) → straight again (length (text s []) + count) (text s rest) labels outcomes ≡ straight again count rest labels outcomes

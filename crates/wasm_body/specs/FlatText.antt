@@ -1,6 +1,6 @@
--- The flat text: the operators of a function's tree as a list, in the order of writing, each at its location. A translation
+-- The flat text: the operators of a function's tree as a list, in the order of writing, each at its location. A way of writing
 -- says how they are written: with ids, with numbers, or with names.
-use Rattle.std.specs.Prelude.{ℕ, zero, suc, ◌/◌, nat_lt, if◌then◌else◌, List, [], ◌∷◌, Bool, true, false, None, Result, Ok, Err}
+use Rattle.std.specs.Prelude.{ℕ, zero, suc, ◌/◌, nat_lt, if◌then◌else◌, List, [], ◌∷◌, Bool, true, false, ◌&&◌, None, Result, Ok, Err}
 use Rattle.walrus_ir.specs.declared.val_type.InstrSeqType.{InstrSeqType}
 use Rattle.walrus_ir.specs.declared.val_type.InstrSeqType.TheVariants.{Simple}
 use Rattle.walrus_ir.specs.Types.{Signature}
@@ -13,16 +13,59 @@ use Rattle.wasm_body.specs.declared.error.IndexError.TheVariants.{Unnumbered}
 use Rattle.walrus_ir.specs.Results.{◌>>=◌, some_or, gather}
 use Rattle.wasm_body.specs.Control.{Role, an_if, a_try, a_block, a_loop, a_try_table, role_of, end_operation, else_operation, catch_opcode, catch_all_operation, delegate_operation}
 use Rattle.wasm_body.specs.Translation.{Translation, translate, Located, at_location}
-use Rattle.wasm_body.specs.FunctionTree.{Target, Depth, Outside, Head, LegacyClause, handles, handles_all, delegates, Instruction, FunctionTree}
-use Rattle.wasm_body.specs.NormalForm.{Typing}
+use Rattle.wasm_body.specs.FunctionTree.{Target, Depth, Outside, Head, LegacyClause, handles, handles_all, delegates, Instruction, FunctionTree, last_location}
+use Rattle.wasm_body.specs.NormalForm.{Typing, balances}
 
 -- an operator of the text, before it is written: an operator that opens a construct has the type of its first sequence
 abbrev pub TextOperation : Type 0
 TextOperation = Operation Target InstrSeqType
 
--- a way of writing
-abbrev pub Writing : Type 0 → Type 0 → Type 0
-Writing M C = Translation Target InstrSeqType M C EmitError
+-- how each operator of the text is written
+abbrev pub TextTranslation : Type 0 → Type 0 → Type 0
+TextTranslation M C = Translation Target InstrSeqType M C EmitError
+
+-- A way of writing: how each operator is written, and which types of sequences are balanced (their results are their parameters),
+-- so that an `else` may be left out.
+pub record Writing (M C : Type 0) : Type 0 where
+  pub translation : TextTranslation M C
+  pub balanced : InstrSeqType → Bool
+
+-- ---- an `else` that is left out
+
+abbrev pub has_none : {S I : Type 0} → Items S I → Bool
+has_none no_items = true
+has_none (item i ss r) = false
+
+-- The head of the consequent, where one `end` closes both sequences of an `if`: the `end` has the location of the alternative's
+-- end, and that of the consequent's only if the alternative's is the default location.
+abbrev pub closed_once : Head → Head → Head
+closed_once h g = record { type = h.type; end_location = last_location h.end_location g.end_location }
+
+abbrev pub one_or_both : (is_short : Bool) → Head → Items Head Instruction → Head → Items Head Instruction → Sequences Head Instruction → Sequences Head Instruction
+one_or_both true h is g js r = sequence (closed_once h g) is r
+one_or_both false h is g js r = sequence h is (sequence g js r)
+
+-- An `if` is short if its type is balanced and its alternative has no instruction. It is written without an `else`: the
+-- alternative says nothing.
+abbrev pub written_in_if : (InstrSeqType → Bool) → Sequences Head Instruction → Sequences Head Instruction
+written_in_if balanced no_sequences = no_sequences
+written_in_if balanced (sequence h is no_sequences) = sequence h is no_sequences
+written_in_if balanced (sequence h is (sequence g js r)) = one_or_both (balanced h.type && has_none js) h is g js r
+
+abbrev pub written_inside : (InstrSeqType → Bool) → Role → Sequences Head Instruction → Sequences Head Instruction
+written_inside balanced an_if ss = written_in_if balanced ss
+written_inside balanced _ ss = ss
+
+-- the tree as it is written: each short `if` has only its consequent
+abbrev mutual
+  pub written_items : (InstrSeqType → Bool) → Items Head Instruction → Items Head Instruction
+  written_items balanced no_items = no_items
+  written_items balanced (item i ss r) =
+      item i (written_inside balanced (role_of i.op.opcode) (written_sequences balanced ss)) (written_items balanced r)
+
+  pub written_sequences : (InstrSeqType → Bool) → Sequences Head Instruction → Sequences Head Instruction
+  written_sequences balanced no_sequences = no_sequences
+  written_sequences balanced (sequence h is r) = sequence h (written_items balanced is) (written_sequences balanced r)
 
 -- ---- the operators that close the sequences of an instruction
 
@@ -66,11 +109,11 @@ closers _ cs ss = []
 
 -- ---- the text
 
-abbrev pub written : {M C : Type 0} → Writing M C → TextOperation → ℕ → Result (Located (Operation M C)) EmitError
+abbrev pub written : {M C : Type 0} → TextTranslation M C → TextOperation → ℕ → Result (Located (Operation M C)) EmitError
 written w o l = translate w o >>= λ x. Ok (at_location x l)
 
--- the same way of writing, where each block type is this one
-abbrev pub typed : {M C : Type 0} → Writing M C → InstrSeqType → Translation Target (Unit {0}) M C EmitError
+-- the same translation, where each block type is this one
+abbrev pub typed : {M C : Type 0} → TextTranslation M C → InstrSeqType → Translation Target (Unit {0}) M C EmitError
 typed w t = record {
   index = w.index;
   local = w.local;
@@ -88,23 +131,23 @@ first_type no_sequences = Simple None
 first_type (sequence h is r) = h.type
 
 -- an instruction's own operator
-abbrev pub opened : {M C : Type 0} → Writing M C → Instruction → InstrSeqType → Result (Located (Operation M C)) EmitError
+abbrev pub opened : {M C : Type 0} → TextTranslation M C → Instruction → InstrSeqType → Result (Located (Operation M C)) EmitError
 opened w i t = if are_lawful i.clauses then (translate (typed w t) i.op >>= λ x. Ok (at_location x i.location)) else Err BadClauses
 
 -- each sequence, and after it the operator that closes it, at the location of its end
 abbrev mutual
-  pub text : {M C : Type 0} → Writing M C → Items Head Instruction → List (Result (Located (Operation M C)) EmitError) → List (Result (Located (Operation M C)) EmitError)
+  pub text : {M C : Type 0} → TextTranslation M C → Items Head Instruction → List (Result (Located (Operation M C)) EmitError) → List (Result (Located (Operation M C)) EmitError)
   text w no_items k = k
   text w (item i ss r) k = opened w i (first_type ss) ∷ texts w (closers (role_of i.op.opcode) i.clauses ss) ss (text w r k)
 
-  pub texts : {M C : Type 0} → Writing M C → List TextOperation → Sequences Head Instruction → List (Result (Located (Operation M C)) EmitError) → List (Result (Located (Operation M C)) EmitError)
+  pub texts : {M C : Type 0} → TextTranslation M C → List TextOperation → Sequences Head Instruction → List (Result (Located (Operation M C)) EmitError) → List (Result (Located (Operation M C)) EmitError)
   texts w cs no_sequences k = k
   texts w [] (sequence h is r) k = k
   texts w (c ∷ cs) (sequence h is r) k = text w is (written w c h.end_location ∷ texts w cs r k)
 
 -- the operators of the tree, or the first fault in the order of writing
 abbrev pub tree_text : {M C : Type 0} → Writing M C → FunctionTree → Result (List (Located (Operation M C))) EmitError
-tree_text w t = gather (texts w (end_operation ∷ []) (alone t) [])
+tree_text w t = gather (texts w.translation (end_operation ∷ []) (written_sequences w.balanced (alone t)) [])
 
 -- ---- ways of writing
 
@@ -120,9 +163,9 @@ abbrev pub depth_of : Target → Result ℕ EmitError
 depth_of (Depth n) = Ok n
 depth_of Outside = Err BranchOutside
 
--- with ids, and the types of sequences
-abbrev pub with_ids : Writing ℕ InstrSeqType
-with_ids = record {
+-- to ids, and the types of sequences
+abbrev pub to_ids : TextTranslation ℕ InstrSeqType
+to_ids = record {
   index = λ space n. Ok n;
   local = λ n. Ok n;
   label = depth_of;
@@ -134,8 +177,12 @@ with_ids = record {
   count = λ n. Ok tt;
 }
 
+-- With ids, and the types of sequences. It knows no type, and leaves out no `else` (which has no ids).
+abbrev pub with_ids : Writing ℕ InstrSeqType
+with_ids = record { translation = to_ids; balanced = λ t. false }
+
 -- first to ids and types of sequences, and then by another translation
-abbrev pub then_by : {M C : Type 0} → Translation ℕ InstrSeqType M C EmitError → Writing M C
+abbrev pub then_by : {M C : Type 0} → Translation ℕ InstrSeqType M C EmitError → TextTranslation M C
 then_by f = record {
   index = f.index;
   local = f.local;
@@ -164,4 +211,4 @@ names m = record {
 
 -- with ids, and parameters and results
 abbrev pub with_names : Typing → Writing ℕ Signature
-with_names m = then_by (names m)
+with_names m = record { translation = then_by (names m); balanced = balances m }

@@ -1,6 +1,6 @@
 -- The tree of a function: sequences, each with its type and the location of its end, and in them instructions, each with
 -- its location and with the sequences in it.
-use Rattle.std.specs.Prelude.{◌≡◌, ℕ, List}
+use Rattle.std.specs.Prelude.{◌≡◌, ℕ, ◌==◌, if◌then◌else◌, List}
 use Rattle.walrus_ir.specs.declared.val_type.InstrSeqType.{InstrSeqType}
 use Rattle.walrus_ir.specs.Tree.{Items, Sequences, Tree, alone, map_items, map_sequences}
 use Rattle.wasm_operators.specs.Operations.{Operation}
@@ -38,6 +38,10 @@ FunctionTree = Tree Head Instruction
 -- the location that says nothing
 abbrev pub default_location : ℕ
 default_location = 4294967295
+
+-- the second of two locations, or the first if the second says nothing
+abbrev pub last_location : ℕ → ℕ → ℕ
+last_location l m = if m == default_location then l else m
 
 -- ---- the same tree: equal apart from all locations
 

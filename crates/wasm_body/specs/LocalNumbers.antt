@@ -78,7 +78,11 @@ number_of_local args others id = last_place (args ++ others) id
 
 -- the same numbers of other ids, and these numbers of locals
 abbrev pub with_locals : Numbers → (args others : List ℕ) → Numbers
-with_locals to args others = record { number_of = to.number_of; local_number = λ id. some_or (number_of_local args others id) UnnumberedLocal }
+with_locals to args others = record {
+  number_of = to.number_of;
+  local_number = λ id. some_or (number_of_local args others id) UnnumberedLocal;
+  balanced = to.balanced;
+}
 
 -- ---- declarations
 

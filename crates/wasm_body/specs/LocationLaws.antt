@@ -1,6 +1,7 @@
 -- The laws of locations: the pairs that are written for a body's normal form give, for each event of a run, the location of its
 -- operator in the source.
 use Rattle.std.specs.Prelude.{◌≡◌, ℕ, List, map, Option, option_and_then, Ok}
+use Rattle.walrus_ir.specs.declared.val_type.InstrSeqType.{InstrSeqType}
 use Rattle.std.specs.List.{AllByRecursion}
 use Rattle.std.specs.List.Sorted.{IsStrictlyIncreasing}
 use Rattle.wasm_body.specs.SourceTree.{Body}
@@ -8,7 +9,7 @@ use Rattle.wasm_body.specs.Translation.{Located}
 use Rattle.wasm_body.specs.Naming.{Environment, NamedOperation, Occurrence}
 use Rattle.wasm_body.specs.Parsing.Accepted.{HasSpelling, Lawful}
 use Rattle.wasm_body.specs.FunctionTree.{FunctionTree}
-use Rattle.wasm_body.specs.NormalForm.{Typing, typing_of, normal_form, name_at, body_tree}
+use Rattle.wasm_body.specs.NormalForm.{Typing, typing_of, balances, normal_form, name_at, body_tree}
 use Rattle.wasm_body.specs.RewrittenTree.{rewritten_text}
 use Rattle.wasm_body.specs.Bytes.{Numbers}
 use Rattle.wasm_body.specs.Typed.{AreTyped}
@@ -24,12 +25,16 @@ PlacesIncrease =
     (to : Numbers) (t : FunctionTree) (before : ℕ) (ps : List Pair) → tree_pairs to t before ≡ Ok ps →
     IsStrictlyIncreasing (map (λ (p : Pair). p.1) ps)
 
+-- The numbers and the names are those of one module: the same types are balanced, so that the same `else` is left out.
+abbrev pub BalanceAlike : Typing → Numbers → Type 0
+BalanceAlike m to = (t : InstrSeqType) → to.balanced t ≡ balances m t
+
 -- The pairs of the normal form of a body of named operators belong to its text's operators: one for each, with its location.
 abbrev pub PairsMatchText : Type 0
 PairsMatchText =
     (m : Typing) (xs : List (Located NamedOperation)) (b : Body (Located NamedOperation)) → IsNamedBody xs b → AreTyped m xs →
     (ys : List (Located NamedOperation)) → IsTextOf m (normal_form m b) ys →
-    (to : Numbers) (before : ℕ) (ps : List Pair) → tree_pairs to (normal_form m b) before ≡ Ok ps →
+    (to : Numbers) → BalanceAlike m to → (before : ℕ) (ps : List Pair) → tree_pairs to (normal_form m b) before ≡ Ok ps →
     map (λ (p : Pair). p.0) ps ≡ map (λ y. y.location) ys
 
 -- The text of the normal form of a body of named operators is the text of the rewritten tree, whose definition says which
@@ -37,7 +42,7 @@ PairsMatchText =
 abbrev pub TextIsRewritten : Type 0
 TextIsRewritten =
     (m : Typing) (xs : List (Located NamedOperation)) (b : Body (Located NamedOperation)) → IsNamedBody xs b → AreTyped m xs →
-    IsTextOf m (normal_form m b) (rewritten_text b)
+    IsTextOf m (normal_form m b) (rewritten_text m b)
 
 -- ---- runs of the written operators
 
@@ -60,11 +65,12 @@ abbrev pub NamedLocationsAreHonest : Type 0
 NamedLocationsAreHonest =
     (m : Typing) (xs : List (Located NamedOperation)) (b : Body (Located NamedOperation)) → IsNamedBody xs b → AreTyped m xs →
     (ys : List (Located NamedOperation)) → IsTextOf m (normal_form m b) ys →
-    (to : Numbers) (before : ℕ) (ps : List Pair) → tree_pairs to (normal_form m b) before ≡ Ok ps → SayLocations ps ys xs
+    (to : Numbers) → BalanceAlike m to → (before : ℕ) (ps : List Pair) → tree_pairs to (normal_form m b) before ≡ Ok ps → SayLocations ps ys xs
 
 -- The pairs of the normal form of an accepted body give the locations of its operators.
 abbrev pub LocationsAreHonest : Type 0
 LocationsAreHonest =
     (env : Environment) (xs : List Occurrence) (b : Body Occurrence) → AllByRecursion HasSpelling xs → Lawful env xs b →
     (ys : List (Located NamedOperation)) → IsTextOf (typing_of env) (body_tree env b) ys →
-    (to : Numbers) (before : ℕ) (ps : List Pair) → tree_pairs to (body_tree env b) before ≡ Ok ps → SayLocations ps ys (map name_at xs)
+    (to : Numbers) → BalanceAlike (typing_of env) to → (before : ℕ) (ps : List Pair) → tree_pairs to (body_tree env b) before ≡ Ok ps →
+    SayLocations ps ys (map name_at xs)

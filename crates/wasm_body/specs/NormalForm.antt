@@ -1,9 +1,9 @@
 -- The normal form of a body: the tree of the function that a parse makes of the body.
-use Rattle.std.specs.Prelude.{ℕ, List, [], ◌∷◌, ◌^◌, Option, Some, None, unwrap_or, option_and_then, slice_get, Result, Ok, Err}
+use Rattle.std.specs.Prelude.{ℕ, List, [], ◌∷◌, ◌^◌, Bool, false, Option, Some, None, unwrap_or, option_and_then, slice_get, Result, Ok, Err}
 use Rattle.walrus_ir.specs.declared.val_type.ValType.{ValType}
 use Rattle.walrus_ir.specs.declared.val_type.InstrSeqType.{InstrSeqType}
 use Rattle.walrus_ir.specs.declared.val_type.InstrSeqType.TheVariants.{Simple, MultiValue}
-use Rattle.walrus_ir.specs.Types.{Signature, signature, signature_of, signature_of_type, pick}
+use Rattle.walrus_ir.specs.Types.{Signature, signature, signature_of, signature_of_type, pick, same_types}
 use Rattle.walrus_ir.specs.Tree.{Items, no_items, item, Sequences, no_sequences, sequence}
 use Rattle.wasm_body.specs.declared.error.ParseError.{ParseError}
 use Rattle.walrus_ir.specs.Results.{sure}
@@ -21,6 +21,18 @@ pub record Typing : Type 0 where
   pub signature_of : InstrSeqType → Option Signature  -- the parameters and results of the type, if the module has it
   pub tag_parameters : ℕ → List (ValType ℕ)
   pub entry : InstrSeqType  -- the type of the function's own sequence
+
+-- Balanced: the results are the parameters. Where a sequence of such a type has no instruction, its operands are its results.
+abbrev pub is_balanced : Signature → Bool
+is_balanced s = same_types s.parameters s.results
+
+-- where the module has the type
+abbrev pub is_balanced_type : Option Signature → Bool
+is_balanced_type (Some s) = is_balanced s
+is_balanced_type None = false
+
+abbrev pub balances : Typing → InstrSeqType → Bool
+balances m t = is_balanced_type (m.signature_of t)
 
 abbrev pub parameters_of : Option Signature → List (ValType ℕ)
 parameters_of (Some s) = s.parameters

@@ -1,5 +1,5 @@
 //! Laws of trees and texts, each stated as the contract of a function that does nothing.
-ghost use Rattle.wasm_body.specs.ExecutionLaws.{NamedExecutionsKept, ExecutionsKept, RunsShowOperators, CountSuffices};
+ghost use Rattle.wasm_body.specs.ExecutionLaws.{NamedExecutionsKept, ExecutionsKept, RunsShowOperators, CountSuffices, EmptyGoesOn};
 ghost use Rattle.wasm_body.specs.LocationLaws.{PlacesIncrease, PairsMatchText, TextIsRewritten, NamedLocationsAreHonest, LocationsAreHonest};
 ghost use Rattle.wasm_body.specs.ReadBack.{ReadBack, NormalFormAgain, SameBytes, InverseUndoes, AcceptedAgain};
 ghost use Rattle.wasm_body.specs.TextLaws.{LawfulAreTyped, HaveTexts, NormalAgain, OneBody, OneSequence, SameTexts};
@@ -65,15 +65,23 @@ pub fn law_executions()
     ensures count_suffices { CountSuffices }
 {}
 
+/// A sequence whose normal form is empty, such as an alternative that is left out, executes nothing
+/// and goes on with what comes after it.
+pub fn law_empty_goes_on()
+    ensures { EmptyGoesOn }
+{}
+
 /// Location pairs are right along every run. The places of the pairs that are written for a tree
 /// strictly increase. The pairs of a body's normal form are one for each operator of its text, with
-/// the operator's location. That text is the text of the rewritten body: an operator is left out,
-/// or written as it is, at its location; an `else`, a clause or an `end` is written at the location
-/// of the one of the source in its place; an `else` that is added has the location of the source's
-/// `end`; and the `end` after it, and each `delegate`, have the default location. Whatever comes
-/// before the bytes, for each event of a run of the text the pair at the place of its operator has
-/// the location of the operator of the same event in the source's run. (The operator of an
-/// exception that is caught is the one that opened the construct.)
+/// the operator's location, if the numbers and the names are those of one module. That text is the
+/// text of the rewritten body: an operator is left out, or written as it is, at its location; an
+/// `else`, a clause or an `end` is written at the location of the one of the source in its place; an
+/// `else` that says nothing is left out, and its `if` is closed at the location of the source's
+/// `end`, or of the source's `else` where that is the default location; an `else` that is added has
+/// the location of the source's `end`; and the `end` after it, and each `delegate`, have the default
+/// location. Whatever comes before the bytes, for each event of a run of the text the pair at the
+/// place of its operator has the location of the operator of the same event in the source's run.
+/// (The operator of an exception that is caught is the one that opened the construct.)
 pub fn law_locations()
     ensures increase { PlacesIncrease }
     ensures of_text { PairsMatchText }

@@ -72,7 +72,7 @@ pub not_rewritten :
     (source now : ParsedModule) (function : ℕ) (b : BodyAt) (type id : ℕ) (args : List ℕ) (count : ℕ) (body : FunctionBody) (start : ℕ) (x : RewriteError) (e : ModuleError) →
     Enters source function b now type args count body → id ≡ 0 → start ≡ b.start →
     RefusesRewriting asks (body_input now.module now.spaces.indices id type body (nothing_asked F) locals_below count)
-    (record { to = numbers_by now.spaces.numbers []; types = now.module.locals; args = args }) x → (WantsMemory x → e.fault ≡ Memory) → e.at ≡ place_in_file start x →
+    (record { to = numbers_by now.module.types now.spaces.numbers []; types = now.module.locals; args = args }) x → (WantsMemory x → e.fault ≡ Memory) → e.at ≡ place_in_file start x →
     IsNotRewritten source function b now e
 not_rewritten F asks source now function b type id args count body start (Parse f) e enters is_first same r wants place =
     inl (refused source now function b type id args count body f e enters is_first (first_alone F (λ locations. body_setting now.module now.spaces.indices id type body locals_below count locations) (body_operators body) f r) wants place)
@@ -80,7 +80,7 @@ not_rewritten F asks source now function b type id args count body start (Walk w
 not_rewritten F asks source now function b type id args count body start (Emit x) e enters is_first same r wants place =
     let At : ℕ → Type 0 =
     λ n. RefusesRewriting asks (body_input now.module now.spaces.indices n type body (nothing_asked F) locals_below count)
-    (record { to = numbers_by now.spaces.numbers []; types = now.module.locals; args = args }) (Emit x) in
+    (record { to = numbers_by now.module.types now.spaces.numbers []; types = now.module.locals; args = args }) (Emit x) in
     elim (subst At is_first r) [
       | inl memory ↦ inl (inl (wants memory))
       | inr none ↦ inr (

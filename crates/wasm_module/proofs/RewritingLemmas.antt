@@ -27,12 +27,12 @@ pub rewritten :
     (source now : ParsedModule) (function : ℕ) (b : BodyAt) (type id : ℕ) (args : List ℕ) (count : ℕ) (body : FunctionBody) (old raw : List ℕ) →
     Enters source function b now type args count body → id ≡ 0 → old ≡ [] →
     Rewrites asks (body_input now.module now.spaces.indices id type body (nothing_asked F) locals_below count)
-    (record { to = numbers_by now.spaces.numbers []; types = now.module.locals; args = args }) made mapping old raw entry exit →
+    (record { to = numbers_by now.module.types now.spaces.numbers []; types = now.module.locals; args = args }) made mapping old raw entry exit →
     IsRewritten source function b raw
 rewritten {F} {Z} {asks} {made} {mapping} {entry} {exit} source now function b type id args count body old raw enters is_first none r =
     let At : ℕ → Type 0 =
     λ n. Rewrites asks (body_input now.module now.spaces.indices n type body (nothing_asked F) locals_below count)
-    (record { to = numbers_by now.spaces.numbers []; types = now.module.locals; args = args }) made mapping old raw entry exit in
+    (record { to = numbers_by now.module.types now.spaces.numbers []; types = now.module.locals; args = args }) made mapping old raw entry exit in
     let x = subst At is_first r in
     let all : x.raw ≡ raw = sym (x.bytes ∙ ap (λ (l : List ℕ). l ++ x.raw) none) in
     let is_rewritten : IsRewrittenAs now type args count body x.raw x.pairs =

@@ -61,7 +61,7 @@ pub record HasNoBytes (source : ParsedModule) (function : ℕ) (b : BodyAt) (now
   pub accepted : Accepted (body_setting now.module now.spaces.indices 0 type body locals_below count None) (body_operators body) tree
   pub error : EmitError
   pub has_none :
-      HasNoParsedBody (record { to = numbers_by now.spaces.numbers []; types = now.module.locals; args = args })
+      HasNoParsedBody (record { to = numbers_by now.module.types now.spaces.numbers []; types = now.module.locals; args = args })
       (body_tree (environment_of now.module now.spaces.indices 0 type) tree) error
 
 -- The body of this function of the source isn't rewritten.

@@ -62,7 +62,7 @@ pub record IsRewrittenAs (now : ParsedModule) (type : ℕ) (args : List ℕ) (co
   pub body : Body Occurrence
   pub accepted : Accepted (body_setting now.module now.spaces.indices 0 type source locals_below count None) (body_operators source) body
   pub is_raw_body :
-      IsRawBody (record { to = numbers_by now.spaces.numbers []; types = now.module.locals; args = args })
+      IsRawBody (record { to = numbers_by now.module.types now.spaces.numbers []; types = now.module.locals; args = args })
       (body_tree (environment_of now.module now.spaces.indices 0 type) body) raw pairs
   pub keeps :
       KeepsSource (environment_of now.module now.spaces.indices 0 type) accepted.operators body pairs

@@ -62,7 +62,9 @@ fn write(alloc: Global, demo: &Demo, function: &LocalFunction) -> Result<Written
     }
     let mut encoder = FunctionEncoder::new(alloc, &declarations)?;
     let operators = encoder.byte_len();
-    if let Err(error) = function.emit_instructions(&demo.numbers, &locals, &mut encoder, None) {
+    let types = &demo.module.types;
+    if let Err(error) = function.emit_instructions(types, &demo.numbers, &locals, &mut encoder, None)
+    {
         return Err(Fault::from(error));
     }
     match indices(alloc, &by_number(alloc, &locals)?) {

@@ -3,23 +3,20 @@ use Rattle.std.specs.Prelude.{◌≡◌, ◌++◌, ℕ, List, [], ◌∷◌, map
 use Rattle.std.proofs.Common.{refl, sym, ap, subst, ◌∙◌, inl, inr, append_assoc, arith}
 use Rattle.std.proofs.lemmas.List.{map-append}
 use Rattle.walrus_ir.specs.declared.seq.InstrSeq.{InstrSeq}
-use Rattle.walrus_ir.specs.declared.instr.Instr.{Instr}
-use Rattle.walrus_ir.specs.declared.instr.Instr.TheVariants as instr
-use Rattle.walrus_ir.specs.declared.control.IfElse.{IfElse}
 use Rattle.walrus_ir.specs.declared.control.LegacyCatch.{LegacyCatch}
 use Rattle.walrus_ir.specs.declared.control.LegacyCatch.TheVariants.{Catch, CatchAll, Delegate}
-use Rattle.walrus_ir.specs.Unfolding.{handler_of, handlers, slots_in}
+use Rattle.walrus_ir.specs.Unfolding.{handler_of, handlers}
 use Rattle.wasm_body.specs.declared.error.EmitError.{EmitError}
 use Rattle.wasm_body.specs.declared.error.EmitError.TheVariants.{UnknownSequence}
 use Rattle.walrus_ir.specs.Results.{◌>>=◌, some_or}
-use Rattle.wasm_body.specs.Control.{end_operation, else_operation}
+use Rattle.wasm_body.specs.Control.{end_operation}
 use Rattle.wasm_body.specs.Translation.{at_location}
 use Rattle.wasm_body.specs.InstructionTable.{legacy_clause}
 use Rattle.wasm_body.specs.FunctionTree.{LegacyClause, handles, handles_all, delegates}
 use Rattle.wasm_body.specs.FlatText.{TextOperation, is_empty, are_handlers, are_lawful, try_closers}
 use Rattle.walrus_emit_state.specs.declared.closing.Closer.{Closer}
 use Rattle.walrus_emit_state.specs.declared.closing.SequenceScope.{SequenceScope}
-use Rattle.walrus_emit_state.specs.Emission.{Scope, closers_in, scope_at, scopes_at}
+use Rattle.walrus_emit_state.specs.Emission.{Scope, scope_at, scopes_at}
 use Rattle.walrus_emit_state.specs.TreeWriting.Closers.{closing, opening_clause, scope_of, scopes_of}
 use Rattle.walrus_emit_state.specs.TreeWriting.ScopeLists.{ScopeLists, ending, with_more}
 use Rattle.walrus_emit_state.specs.TreeWriting.Announcing.{Announces, IsUnannounced}
@@ -254,14 +251,6 @@ try_announced b seq all left s t u closer none r a =
     (announces_before b seq (closing closer) (handlers q.done) (later_closers (map legacy_clause q.done)) s t u q.announced a))
 
 -- ---- the result of a call
-
-pub alternatives_announced : (b : List InstrSeq) (i : Instr) (x : IfElse) (s t u : ScopeLists) (r : Result (Unit {0}) EmitError)
-    → i ≡ instr.IfElse x → Announces b (x.alternative ∷ []) (end_operation ∷ []) s t
-    → OnOk r (Announces b (x.consequent ∷ []) (else_operation ∷ []) t u) → OnOk r (Announces b (slots_in i) (closers_in i) s u)
-alternatives_announced b i x s t u (Ok _) is later first =
-    subst (λ j. Announces b (slots_in j) (closers_in j) s u) (sym is)
-    (announces_before b x.consequent else_operation (x.alternative ∷ []) (end_operation ∷ []) s t u later first)
-alternatives_announced b i x s t u (Err e) is later first = tt
 
 pub nothing_left : (xs : List LegacyCatch) → length xs ≡ 0 → xs ≡ []
 nothing_left [] h = refl

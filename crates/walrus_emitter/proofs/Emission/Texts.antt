@@ -1,14 +1,16 @@
 -- After the events of a tree, its text is written.
-use Rattle.std.specs.Prelude.{◌≡◌, ℕ, ◌+◌, length, List, [], ◌∷◌, ◌++◌, map, slice_get, Some, Bool, true, false, if◌then◌else◌, Result, Ok, Err}
+use Rattle.std.specs.Prelude.{◌≡◌, ℕ, ◌+◌, ◌==◌, ◌&&◌, length, List, [], ◌∷◌, ◌++◌, map, slice_get, Option, None, Some, Bool, true, false, if◌then◌else◌, Result, Ok, Err}
 use Rattle.std.proofs.Common.{refl, sym, ap, subst, ◌∙◌, append_assoc, add-zero, arith}
 use Rattle.std.proofs.lemmas.List.{append-nil, length-append}
 use Rattle.wasm_operators.specs.Shortest.{short}
 use Rattle.walrus_ir.specs.declared.seq.InstrSeq.{InstrSeq}
+use Rattle.walrus_ir.specs.declared.val_type.InstrSeqType.{InstrSeqType}
+use Rattle.walrus_ir.specs.declared.control.IfElse.{IfElse}
 use Rattle.walrus_ir.specs.declared.instr.Instr.{Instr}
 use Rattle.walrus_ir.specs.declared.instr.Instr.TheVariants as instr
 use Rattle.walrus_ir.specs.declared.control.LegacyCatch.{LegacyCatch}
 use Rattle.walrus_ir.specs.declared.control.LegacyCatch.TheVariants.{Catch, CatchAll, Delegate}
-use Rattle.walrus_ir.specs.Tree.{Items, Sequences, no_sequences, sequence, Tree, alone}
+use Rattle.walrus_ir.specs.Tree.{Items, no_items, item, Sequences, no_sequences, sequence, Tree, alone}
 use Rattle.walrus_ir.specs.Unfolding.{SequenceAt, LocatedInstr, handlers, slots_in, AreItems, are_no_items, are_items, AreSequences, are_no_sequences, are_sequences}
 use Rattle.walrus_ir.specs.Events.{WalkEvent, events, EndSequence, names, item_events, sequence_events}
 use Rattle.wasm_operators.specs.declared.types.BlockType.{BlockType}
@@ -16,14 +18,15 @@ use Rattle.wasm_operators.specs.Operations.{RawOperation}
 use Rattle.wasm_body.specs.declared.error.EmitError.{EmitError}
 use Rattle.wasm_body.specs.declared.error.EmitError.TheVariants.{UnknownSequence, BadClauses}
 use Rattle.walrus_ir.specs.Results.{◌>>=◌, some_or, gather}
-use Rattle.wasm_body.specs.Control.{role_of, end_operation}
+use Rattle.wasm_body.specs.Control.{Role, an_if, role_of, end_operation, else_operation}
 use Rattle.wasm_body.specs.Translation.{Located, at_location}
 use Rattle.wasm_body.specs.InstructionTable.{operation_of, legacy_clause, clauses_of_try}
-use Rattle.wasm_body.specs.TreeOfFunction.{tree_of, instruction_in, items_in, sequences_in}
-use Rattle.wasm_body.specs.FlatText.{TextOperation, Writing, then_by, closers, try_closers, are_handlers, are_lawful, first_type, opened, written, text, texts}
+use Rattle.wasm_body.specs.FunctionTree.{Head, Instruction, last_location}
+use Rattle.wasm_body.specs.TreeOfFunction.{tree_of, head_of, instruction_in, items_in, sequences_in}
+use Rattle.wasm_body.specs.FlatText.{TextOperation, TextTranslation, then_by, closers, if_closers, try_closers, are_handlers, are_lawful, has_none, one_or_both, written_in_if, written_inside, written_items, written_sequences, first_type, opened, written, text, texts}
 use Rattle.wasm_body.specs.Bytes.{Numbers, numbering, bytes_of, numbered_text}
 use Rattle.wasm_body.specs.Pairs.{pairs_from}
-use Rattle.walrus_emit_state.specs.Emission.{Scope, closers_in, scopes_at, first_type_at, Output, Emitter, slots_of, first_emitter, output_of, output_behind, with_operator, emitter_behind_all}
+use Rattle.walrus_emit_state.specs.Emission.{Scope, scopes_at, if_scopes, is_short, scopes_inside, first_type_at, Output, Emitter, slots_of, first_emitter, output_of, output_behind, with_operator, emitter_behind_all}
 
 abbrev Written : Type 0
 Written = Result (Located RawOperation) EmitError
@@ -44,16 +47,26 @@ Tells s es go = (o : Output) → emitter_behind_all (with_output s o) es ≡ go 
 
 -- ---- the sequences in an instruction
 
+-- what closes a sequence, if something does
+abbrev Closing : Type 0
+Closing = Option (Located TextOperation)
+
 -- the scopes of these sequences
-abbrev scopes_in : Sequences SequenceAt LocatedInstr → List TextOperation → List Scope
+abbrev scopes_in : Sequences SequenceAt LocatedInstr → List Closing → List Scope
 scopes_in no_sequences cs = []
 scopes_in (sequence h is r) [] = []
-scopes_in (sequence h is r) (c ∷ cs) = record { slot = h.slot; closer = Some (at_location c h.seq.end) } ∷ scopes_in r cs
+scopes_in (sequence h is r) (c ∷ cs) = record { slot = h.slot; closer = c } ∷ scopes_in r cs
 
 abbrev scope : ℕ → TextOperation → ℕ → Scope
 scope p c l = record { slot = p; closer = Some (at_location c l) }
 
-scopes_found : {b : List InstrSeq} {ps : List ℕ} {ss : Sequences SequenceAt LocatedInstr} (cs : List TextOperation) → AreSequences b ps ss → scopes_at b ps cs ≡ Ok (scopes_in ss cs)
+-- each sequence is closed by one of these, at the location of its end
+abbrev at_ends : List TextOperation → Sequences SequenceAt LocatedInstr → List Closing
+at_ends cs no_sequences = []
+at_ends [] (sequence h is r) = []
+at_ends (c ∷ cs) (sequence h is r) = Some (at_location c h.seq.end) ∷ at_ends cs r
+
+scopes_found : {b : List InstrSeq} {ps : List ℕ} {ss : Sequences SequenceAt LocatedInstr} (cs : List TextOperation) → AreSequences b ps ss → scopes_at b ps cs ≡ Ok (scopes_in ss (at_ends cs ss))
 scopes_found cs are_no_sequences = refl
 scopes_found [] (are_sequences e s t) = refl
 scopes_found {b = b} (c ∷ cs) (are_sequences {p = p} {ps = ps} {seq = seq} e s t) =
@@ -64,14 +77,101 @@ type_found : {b : List InstrSeq} {ps : List ℕ} {ss : Sequences SequenceAt Loca
 type_found around are_no_sequences = refl
 type_found around (are_sequences {seq = seq} e s t) = ap (λ r. some_or r UnknownSequence >>= λ q. Ok q.ty) e
 
--- each sequence has a closer
-abbrev AreClosed : Sequences SequenceAt LocatedInstr → List TextOperation → Type 0
+-- each sequence has something, or nothing, that closes it
+abbrev AreClosed : {A : Type 0} → Sequences SequenceAt LocatedInstr → List A → Type 0
 AreClosed no_sequences cs = Unit {0}
 AreClosed (sequence h is r) [] = ⊥
 AreClosed (sequence h is r) (c ∷ cs) = AreClosed r cs
 
+closed_at_ends : (ss : Sequences SequenceAt LocatedInstr) (cs : List TextOperation) → AreClosed ss cs → AreClosed ss (at_ends cs ss)
+closed_at_ends no_sequences cs h = tt
+closed_at_ends (sequence d is r) [] h = absurd h
+closed_at_ends (sequence d is r) (c ∷ cs) h = closed_at_ends r cs h
+
 none_inside : {b : List InstrSeq} {ss : Sequences SequenceAt LocatedInstr} → AreSequences b [] ss → ss ≡ no_sequences
 none_inside are_no_sequences = refl
+
+-- ---- the text of sequences that are closed so
+
+abbrev behind_closing : TextTranslation ℕ BlockType → Closing → List Written → List Written
+behind_closing w None k = k
+behind_closing w (Some c) k = written w c.op c.location ∷ k
+
+abbrev closed_texts : TextTranslation ℕ BlockType → List Closing → Sequences Head Instruction → List Written → List Written
+closed_texts w cs no_sequences k = k
+closed_texts w [] (sequence h is r) k = k
+closed_texts w (c ∷ cs) (sequence h is r) k = text w is (behind_closing w c (closed_texts w cs r k))
+
+module _ (balanced : InstrSeqType → Bool) (around : List ℕ) where
+  -- the sequences of the tree that are written
+  abbrev those : Sequences SequenceAt LocatedInstr → Sequences Head Instruction
+  those ss = written_sequences balanced (sequences_in around ss)
+
+  texts_at_ends : (w : TextTranslation ℕ BlockType) (cs : List TextOperation) (ss : Sequences SequenceAt LocatedInstr) (k : List Written)
+      → texts w cs (those ss) k ≡ closed_texts w (at_ends cs ss) (those ss) k
+  texts_at_ends w cs no_sequences k = refl
+  texts_at_ends w [] (sequence h is r) k = refl
+  texts_at_ends w (c ∷ cs) (sequence h is r) k =
+      ap (λ l. text w (written_items balanced (items_in (h.slot ∷ around) is)) (written w c h.seq.end ∷ l)) (texts_at_ends w cs r k)
+
+  nothing_inside : (r : Role) → written_inside balanced r no_sequences ≡ no_sequences
+  nothing_inside an_if = refl
+  nothing_inside _ = refl
+
+  -- the alternative of an `if` has no instruction in the tree if its sequence has none
+  none_counted : {b : List InstrSeq} {xs : List LocatedInstr} {is : Items SequenceAt LocatedInstr} → AreItems b xs is
+      → has_none (written_items balanced (items_in around is)) ≡ (length xs == 0)
+  none_counted are_no_items = refl
+  none_counted (are_items inside rest) = refl
+
+-- the first sequence has the same type
+type_of_both : (t : Bool) (h : Head) (is : Items Head Instruction) (g : Head) (js : Items Head Instruction) (r : Sequences Head Instruction)
+    → first_type (one_or_both t h is g js r) ≡ h.type
+type_of_both true h is g js r = refl
+type_of_both false h is g js r = refl
+
+type_in_if : (balanced : InstrSeqType → Bool) (ss : Sequences Head Instruction) → first_type (written_in_if balanced ss) ≡ first_type ss
+type_in_if balanced no_sequences = refl
+type_in_if balanced (sequence h is no_sequences) = refl
+type_in_if balanced (sequence h is (sequence g js r)) = type_of_both (balanced h.type && has_none js) h is g js r
+
+type_inside : (balanced : InstrSeqType → Bool) (r : Role) (ss : Sequences Head Instruction) → first_type (written_inside balanced r ss) ≡ first_type ss
+type_inside balanced an_if ss = type_in_if balanced ss
+type_inside balanced _ ss = refl
+
+type_written : (balanced : InstrSeqType → Bool) (r : Role) (ss : Sequences Head Instruction)
+    → first_type (written_inside balanced r (written_sequences balanced ss)) ≡ first_type ss
+type_written balanced r no_sequences = type_inside balanced r no_sequences
+type_written balanced r (sequence h is rest) = type_inside balanced r (written_sequences balanced (sequence h is rest))
+
+-- ---- the sequences of an `if`
+
+abbrev if_closings : (is_short : Bool) → (l m : ℕ) → List Closing
+if_closings true l m = Some (at_location end_operation (last_location l m)) ∷ None ∷ []
+if_closings false l m = Some (at_location else_operation l) ∷ Some (at_location end_operation m) ∷ []
+
+if_texts : (w : TextTranslation ℕ BlockType) (t : Bool) (h : Head) (is : Items Head Instruction) (g : Head) (js : Items Head Instruction) (k : List Written)
+    → (t ≡ true → has_none js ≡ true)
+    → texts w (if_closers (one_or_both t h is g js no_sequences)) (one_or_both t h is g js no_sequences) k
+    ≡ closed_texts w (if_closings t h.end_location g.end_location) (sequence h is (sequence g js no_sequences)) k
+if_texts w false h is g js k none = refl
+if_texts w true h is g no_items k none = refl
+if_texts w true h is g (item i ss r) k none = absurd (cc (none refl))
+
+if_scoped : (t : Bool) (p : ℕ) (c : InstrSeq) (is : Items SequenceAt LocatedInstr) (q : ℕ) (a : InstrSeq) (js : Items SequenceAt LocatedInstr)
+    → if_scopes t p c q a
+    ≡ scopes_in (sequence (record { slot = p; seq = c }) is (sequence (record { slot = q; seq = a }) js no_sequences)) (if_closings t c.end a.end)
+if_scoped true p c is q a js = refl
+if_scoped false p c is q a js = refl
+
+if_closed : (t : Bool) (h : SequenceAt) (is : Items SequenceAt LocatedInstr) (g : SequenceAt) (js : Items SequenceAt LocatedInstr) (l m : ℕ)
+    → AreClosed (sequence h is (sequence g js no_sequences)) (if_closings t l m)
+if_closed true h is g js l m = tt
+if_closed false h is g js l m = tt
+
+second_holds : (t u : Bool) → (t && u) ≡ true → u ≡ true
+second_holds true u h = h
+second_holds false u h = absurd (cc h)
 
 -- ---- the names in an instruction write nothing
 
@@ -105,30 +205,82 @@ all_closed (CatchAll p ∷ xs) s l h is = try_closed (CatchAll p ∷ xs) s l h i
 all_closed (Delegate n ∷ []) are_no_sequences l h is = tt
 all_closed (Delegate n ∷ x ∷ xs) s l h is = absurd (cc)
 
--- the closers of the text are these, if there are sequences
-record IsClosed (around : List ℕ) (i : Instr) (ss : Sequences SequenceAt LocatedInstr) : Type 0 where
-  pub same : (w : Writing ℕ BlockType) (k : List Written) → texts w (closers (role_of (operation_of i).opcode) (clauses_of_try i) (sequences_in around ss)) (sequences_in around ss) k ≡ texts w (closers_in i) (sequences_in around ss) k
-  pub closed : AreClosed ss (closers_in i)
+-- how the sequences are closed, and that the text of those that are written is theirs
+record IsClosed (balanced : InstrSeqType → Bool) (b : List InstrSeq) (around : List ℕ) (i : Instr) (ss : Sequences SequenceAt LocatedInstr) : Type 0 where
+  pub closings : List Closing
+  pub scopes : scopes_inside balanced b i ≡ Ok (scopes_in ss closings)
+  pub closed : AreClosed ss closings
+  pub same : (w : TextTranslation ℕ BlockType) (k : List Written)
+      → texts w (closers (role_of (operation_of i).opcode) (clauses_of_try i) (written_inside balanced (role_of (operation_of i).opcode) (those balanced around ss)))
+      (written_inside balanced (role_of (operation_of i).opcode) (those balanced around ss)) k
+      ≡ closed_texts w closings (those balanced around ss) k
 
 -- ---- the events of a tree
 
-abbrev writing : Emitter → Writing ℕ BlockType
+abbrev writing : Emitter → TextTranslation ℕ BlockType
 writing s = then_by (numbering s.numbers)
 
 -- with these scopes to come before the others
 abbrev with_coming : Emitter → List Scope → Emitter
 with_coming s scopes = record s { coming = scopes ++ s.coming }
 
-is_closed : {b : List InstrSeq} {ss : Sequences SequenceAt LocatedInstr} (around : List ℕ) (i : Instr) → AreSequences b (slots_in i) ss → are_lawful (clauses_of_try i) ≡ true → IsClosed around i ss
-is_closed around (instr.Block x) (are_sequences e i are_no_sequences) l = record { same = λ w k. refl; closed = tt }
-is_closed around (instr.Loop x) (are_sequences e i are_no_sequences) l = record { same = λ w k. refl; closed = tt }
-is_closed around (instr.IfElse x) (are_sequences e i (are_sequences d j are_no_sequences)) l = record { same = λ w k. refl; closed = tt }
-is_closed around (instr.TryTable x) (are_sequences e i are_no_sequences) l = record { same = λ w k. refl; closed = tt }
-is_closed around (instr.Try x) (are_sequences {seq = seq} {items = js} e i s) l = record {
-  same = λ w k. refl;
-  closed = all_closed x.catches s l (record { slot = x.seq; seq = seq }) js;
-}
-is_closed around i s l = subst (IsClosed around i) (sym (none_inside s)) (record { same = λ w k. refl; closed = tt })
+module _ (balanced : InstrSeqType → Bool) {b : List InstrSeq} where
+  at_ends_closed : {ps : List ℕ} {ss : Sequences SequenceAt LocatedInstr} (around : List ℕ) (i : Instr) (cs : List TextOperation) → AreSequences b ps ss → AreClosed ss cs
+      → scopes_inside balanced b i ≡ scopes_at b ps cs
+      → ((w : TextTranslation ℕ BlockType) (k : List Written)
+      → texts w (closers (role_of (operation_of i).opcode) (clauses_of_try i) (written_inside balanced (role_of (operation_of i).opcode) (those balanced around ss)))
+      (written_inside balanced (role_of (operation_of i).opcode) (those balanced around ss)) k
+      ≡ texts w cs (those balanced around ss) k)
+      → IsClosed balanced b around i ss
+  at_ends_closed {ss = ss} around i cs s closed at same = record {
+    closings = at_ends cs ss;
+    scopes = at ∙ scopes_found cs s;
+    closed = closed_at_ends ss cs closed;
+    same = λ w k. same w k ∙ texts_at_ends balanced around w cs ss k;
+  }
+
+  if_is_closed : (around : List ℕ) (x : IfElse) {ss : Sequences SequenceAt LocatedInstr} → AreSequences b (x.consequent ∷ x.alternative ∷ []) ss
+      → IsClosed balanced b around (instr.IfElse x) ss
+  if_is_closed around x (are_sequences {seq = c} {items = is} e i (are_sequences {seq = a} {items = js} d j are_no_sequences)) =
+      let t = is_short balanced c a in
+      let first : SequenceAt = record { slot = x.consequent; seq = c } in
+      let second : SequenceAt = record { slot = x.alternative; seq = a } in
+      let none = none_counted balanced (x.alternative ∷ around) j in
+      let is' = written_items balanced (items_in (x.consequent ∷ around) is) in
+      let js' = written_items balanced (items_in (x.alternative ∷ around) js) in
+      record {
+        closings = if_closings t c.end a.end;
+        scopes =
+            ap (λ o. some_or o UnknownSequence >>= λ q. some_or (slice_get b x.alternative) UnknownSequence >>= λ r.
+            Ok (if_scopes (is_short balanced q r) x.consequent q x.alternative r)) e
+            ∙ (ap (λ o. some_or o UnknownSequence >>= λ r. Ok (if_scopes (is_short balanced c r) x.consequent c x.alternative r)) d
+            ∙ ap (λ (ss : List Scope). Ok ss) (if_scoped t x.consequent c is x.alternative a js));
+        closed = if_closed t first is second js c.end a.end;
+        same = λ w k.
+            ap (λ u. texts w (if_closers (one_or_both (balanced c.ty && u) (head_of c) is' (head_of a) js' no_sequences))
+            (one_or_both (balanced c.ty && u) (head_of c) is' (head_of a) js' no_sequences) k) none
+            ∙ if_texts w t (head_of c) is' (head_of a) js' k (λ h. none ∙ second_holds (balanced c.ty) (length a.instrs == 0) h);
+      }
+
+  is_closed : {ss : Sequences SequenceAt LocatedInstr} (around : List ℕ) (i : Instr) → AreSequences b (slots_in i) ss → are_lawful (clauses_of_try i) ≡ true → IsClosed balanced b around i ss
+  is_closed around (instr.Block x) (are_sequences e i are_no_sequences) l =
+      at_ends_closed around (instr.Block x) (end_operation ∷ []) (are_sequences e i are_no_sequences) tt refl (λ w k. refl)
+  is_closed around (instr.Loop x) (are_sequences e i are_no_sequences) l =
+      at_ends_closed around (instr.Loop x) (end_operation ∷ []) (are_sequences e i are_no_sequences) tt refl (λ w k. refl)
+  is_closed around (instr.IfElse x) s l = if_is_closed around x s
+  is_closed around (instr.TryTable x) (are_sequences e i are_no_sequences) l =
+      at_ends_closed around (instr.TryTable x) (end_operation ∷ []) (are_sequences e i are_no_sequences) tt refl (λ w k. refl)
+  is_closed around (instr.Try x) (are_sequences {seq = seq} {items = js} e i s) l =
+      at_ends_closed around (instr.Try x) (try_closers (map legacy_clause x.catches)) (are_sequences e i s)
+      (all_closed x.catches s l (record { slot = x.seq; seq = seq }) js) refl (λ w k. refl)
+  is_closed around i s l =
+      subst (IsClosed balanced b around i) (sym (none_inside s))
+      (record {
+        closings = [];
+        scopes = refl;
+        closed = tt;
+        same = λ w k. ap (λ ts. texts w (closers (role_of (operation_of i).opcode) (clauses_of_try i) ts) ts k) (nothing_inside balanced around (role_of (operation_of i).opcode));
+      })
 
 -- ---- one operator, and what comes after it
 
@@ -154,40 +306,54 @@ lawful_of false r x e = absurd (cc)
 abbrev within : Emitter → Scope → List Scope → Emitter
 within s c cs = record s { coming = cs ++ s.coming; open_scopes = c ∷ s.open_scopes }
 
+-- the tree's items as they are written, within the open scopes
+abbrev items_of : Emitter → Items SequenceAt LocatedInstr → Items Head Instruction
+items_of s is = written_items s.numbers.balanced (items_in (slots_of s.open_scopes) is)
+
+abbrev sequences_of : Emitter → Sequences SequenceAt LocatedInstr → Sequences Head Instruction
+sequences_of s ss = written_sequences s.numbers.balanced (sequences_in (slots_of s.open_scopes) ss)
+
 mutual
   pub items_told : {b : List InstrSeq} {xs : List LocatedInstr} {is : Items SequenceAt LocatedInstr} (s : Emitter) (es : List WalkEvent) (k : List Written) (go : Output → Result Emitter EmitError) →
-      s.sequences ≡ b → AreItems b xs is → Tells s es (outputs s k go) → Tells s (item_events is es) (outputs s (text (writing s) (items_in (slots_of s.open_scopes) is) k) go)
+      s.sequences ≡ b → AreItems b xs is → Tells s es (outputs s k go) → Tells s (item_events is es) (outputs s (text (writing s) (items_of s is) k) go)
   items_told s es k go q are_no_items h o = h o
   items_told {b = b} s es k go q (are_items {x = x} {inside = ss} {rest = is} inside rest) h o =
       let around = slots_of s.open_scopes in
-      let found : first_type_at s.sequences (slots_in x.0) ≡ Ok (first_type (sequences_in around ss)) = ap (λ c. first_type_at c (slots_in x.0)) q ∙ type_found around inside in
-      let own = opened (writing s) (instruction_in around x) (first_type (sequences_in around ss)) in
+      let role = role_of (operation_of x.0).opcode in
+      let ts = written_inside s.numbers.balanced role (sequences_of s ss) in
+      let found : first_type_at s.sequences (slots_in x.0) ≡ Ok (first_type ts) =
+      ap (λ c. first_type_at c (slots_in x.0)) q ∙ (type_found around inside ∙ ap Ok (sym (type_written s.numbers.balanced role (sequences_in around ss)))) in
+      let own = opened (writing s) (instruction_in around x) (first_type ts) in
       let behind = λ (op : Located RawOperation) (scopes : List Scope). with_operator (record s { coming = scopes ++ s.coming; output = o }) op in
-      let scopes = scopes_at s.sequences (slots_in x.0) (closers_in x.0) in
+      let scopes = scopes_inside s.numbers.balanced s.sequences x.0 in
       let later = names x.0 ++ sequence_events ss (item_events is es) in
-      let others = λ (cs : List TextOperation). texts (writing s) cs (sequences_in around ss) (text (writing s) (items_in around is) k) in
+      let after = text (writing s) (items_of s is) k in
       ap (λ r. (r >>= λ type. opened (writing s) (instruction_in around x) type >>= λ op. scopes >>= λ cs. Ok (behind op cs)) >>= λ t. emitter_behind_all t later) found
-      ∙ told own scopes behind (λ t. emitter_behind_all t later) (λ op. outputs s (others (closers (role_of (operation_of x.0).opcode) (clauses_of_try x.0) (sequences_in around ss))) go (output_behind s.has_map s.base o op))
+      ∙ told own scopes behind (λ t. emitter_behind_all t later) (λ op. outputs s (texts (writing s) (closers role (clauses_of_try x.0) ts) ts after) go (output_behind s.has_map s.base o op))
       (λ op e.
-      let c = is_closed around x.0 inside (lawful_of (are_lawful (clauses_of_try x.0)) _ op e) in (
-        scopes_in ss (closers_in x.0),
-        ap (λ c. scopes_at c (slots_in x.0) (closers_in x.0)) q ∙ scopes_found (closers_in x.0) inside,
-        names_passed (behind op (scopes_in ss (closers_in x.0))) x.0 (sequence_events ss (item_events is es))
-            ∙ sequences_told s (closers_in x.0) (item_events is es) (text (writing s) (items_in around is) k) go q inside c.closed (items_told s es k go q rest h) (output_behind s.has_map s.base o op)
-            ∙ ap (λ ts. outputs s ts go (output_behind s.has_map s.base o op)) (sym (c.same (writing s) (text (writing s) (items_in around is) k))),
+      let c = is_closed s.numbers.balanced around x.0 inside (lawful_of (are_lawful (clauses_of_try x.0)) _ op e) in (
+        scopes_in ss c.closings,
+        ap (λ d. scopes_inside s.numbers.balanced d x.0) q ∙ c.scopes,
+        names_passed (behind op (scopes_in ss c.closings)) x.0 (sequence_events ss (item_events is es))
+            ∙ sequences_told s c.closings (item_events is es) after go q inside c.closed (items_told s es k go q rest h) (output_behind s.has_map s.base o op)
+            ∙ ap (λ ts. outputs s ts go (output_behind s.has_map s.base o op)) (sym (c.same (writing s) after)),
       ))
 
-  pub sequences_told : {b : List InstrSeq} {ps : List ℕ} {ss : Sequences SequenceAt LocatedInstr} (s : Emitter) (cs : List TextOperation) (es : List WalkEvent) (k : List Written) (go : Output → Result Emitter EmitError) →
+  pub sequences_told : {b : List InstrSeq} {ps : List ℕ} {ss : Sequences SequenceAt LocatedInstr} (s : Emitter) (cs : List Closing) (es : List WalkEvent) (k : List Written) (go : Output → Result Emitter EmitError) →
       s.sequences ≡ b → AreSequences b ps ss → AreClosed ss cs → Tells s es (outputs s k go) →
-      Tells (with_coming s (scopes_in ss cs)) (sequence_events ss es) (outputs s (texts (writing s) cs (sequences_in (slots_of s.open_scopes) ss) k) go)
+      Tells (with_coming s (scopes_in ss cs)) (sequence_events ss es) (outputs s (closed_texts (writing s) cs (sequences_of s ss) k) go)
   sequences_told s cs es k go q are_no_sequences closed h o = h o
   sequences_told s [] es k go q (are_sequences e i t) closed h o = absurd closed
-  sequences_told s (c ∷ cs) es k go q (are_sequences {p = p} {seq = seq} {items = is} {rest = ss} e i t) closed h o =
-      items_told (within s (scope p c seq.end) (scopes_in ss cs)) (EndSequence seq ∷ sequence_events ss es)
-      (written (writing s) c seq.end ∷ texts (writing s) cs (sequences_in (slots_of s.open_scopes) ss) k) go q i
-      (λ n. ended (written (writing s) c seq.end) (with_output (within s (scope p c seq.end) (scopes_in ss cs)) n) s.open_scopes
+  sequences_told s (None ∷ cs) es k go q (are_sequences {p = p} {seq = seq} {items = is} {rest = ss} e i t) closed h o =
+      items_told (within s (record { slot = p; closer = None }) (scopes_in ss cs)) (EndSequence seq ∷ sequence_events ss es)
+      (closed_texts (writing s) cs (sequences_of s ss) k) go q i (λ n. sequences_told s cs es k go q t closed h n) o
+  sequences_told s (Some c ∷ cs) es k go q (are_sequences {p = p} {seq = seq} {items = is} {rest = ss} e i t) closed h o =
+      let opened_scope : Scope = record { slot = p; closer = Some c } in
+      items_told (within s opened_scope (scopes_in ss cs)) (EndSequence seq ∷ sequence_events ss es)
+      (written (writing s) c.op c.location ∷ closed_texts (writing s) cs (sequences_of s ss) k) go q i
+      (λ n. ended (written (writing s) c.op c.location) (with_output (within s opened_scope (scopes_in ss cs)) n) s.open_scopes
       (λ u. emitter_behind_all u (sequence_events ss es))
-      (λ x. outputs s (texts (writing s) cs (sequences_in (slots_of s.open_scopes) ss) k) go (output_behind s.has_map s.base n x))
+      (λ x. outputs s (closed_texts (writing s) cs (sequences_of s ss) k) go (output_behind s.has_map s.base n x))
       (λ x. sequences_told s cs es k go q t closed h (output_behind s.has_map s.base n x)))
       o
 
@@ -253,9 +419,9 @@ tree_told {b = b} {start = start} to base m seq t e h =
     let seq_is : Some t.head.seq ≡ Some seq = sym top.stands ∙ e in
     let same : t.head.seq ≡ seq = cc seq_is in
     let s = last_emitter b to base m nothing in
-    let rs = texts (writing s) (end_operation ∷ []) (sequences_in [] (alone t)) [] in
+    let rs = texts (writing s) (end_operation ∷ []) (sequences_of s (alone t)) [] in
     ap (λ q. emitter_behind_all (first_emitter b to base m (scope start end_operation q.end)) (events t)) (sym same)
     ∙ ap (λ p. emitter_behind_all (first_emitter b to base m (scope p end_operation t.head.seq.end)) (events t)) (sym top.place)
-    ∙ sequences_told s (end_operation ∷ []) [] [] (λ o. Ok (with_output s o)) refl h tt (λ o. refl) nothing
+    ∙ sequences_told s (Some (at_location end_operation t.head.seq.end) ∷ []) [] [] (λ o. Ok (with_output s o)) refl h tt (λ o. refl) nothing
     ∙ outputs_gathered s rs nothing
     ∙ ap (λ (f : List (Located RawOperation) → Output). gather rs >>= λ xs. Ok (last_emitter b to base m (f xs))) (λ i xs. written_as m base xs i)

@@ -20,7 +20,7 @@ use Rattle.wasm_body.specs.TreeOfFunction.{instruction_in}
 use Rattle.wasm_body.specs.FlatText.{are_lawful, then_by, opened}
 use Rattle.wasm_body.specs.Bytes.{Numbers, numbering}
 use Rattle.walrus_emit_state.specs.declared.closing.SequenceScope.{SequenceScope}
-use Rattle.walrus_emit_state.specs.Emission.{Scope, Emitter, slots_of, closers_in, scopes_at, first_type_at, with_operator, emitter_behind}
+use Rattle.walrus_emit_state.specs.Emission.{Scope, Emitter, slots_of, closers_in, scopes_at, scopes_inside, first_type_at, with_operator, emitter_behind}
 use Rattle.walrus_emit_state.specs.TreeWriting.Closers.{scope_of, scopes_of, places_of}
 use Rattle.walrus_emit_state.specs.TreeWriting.Drafts.{Drafted, behind}
 use Rattle.walrus_emit_state.specs.TreeWriting.ScopeLists.{ScopeLists, with_more}
@@ -33,7 +33,7 @@ abbrev with_these : Emitter → Located RawOperation → Result (List Scope) Emi
 with_these s op r = r >>= λ scopes. Ok (with_operator (record s { coming = scopes ++ s.coming }) op)
 
 abbrev with_own : Emitter → Instr → Result (Located RawOperation) EmitError → Result Emitter EmitError
-with_own s i r = r >>= λ op. with_these s op (scopes_at s.sequences (slots_in i) (closers_in i))
+with_own s i r = r >>= λ op. with_these s op (scopes_inside s.numbers.balanced s.sequences i)
 
 abbrev own : Emitter → Instr → ℕ → InstrSeqType → Bool → Result (Located RawOperation) EmitError
 own s i l type lawful =
@@ -53,14 +53,14 @@ module _ (s : Emitter) (i : Instr) (l : ℕ) where
 
   operator_begins : (type : InstrSeqType) (o : RawOperation) → first_type_at s.sequences (slots_in i) ≡ Ok type
       → are_lawful (clauses_of_try i) ≡ true → numbered_operator s.numbers (slots_of s.open_scopes) type i ≡ Ok o
-      → Begins s i l (with_these s (at_location o l) (scopes_at s.sequences (slots_in i) (closers_in i)))
+      → Begins s i l (with_these s (at_location o l) (scopes_inside s.numbers.balanced s.sequences i))
   operator_begins type o t lawful op =
       lawful_begins type t lawful ∙ ap (λ r. with_own s i (r >>= λ x. Ok (at_location x l))) op
 
   pub sequences_begin : (type : InstrSeqType) (o : RawOperation) (scopes : List Scope)
       → first_type_at s.sequences (slots_in i) ≡ Ok type → are_lawful (clauses_of_try i) ≡ true
       → numbered_operator s.numbers (slots_of s.open_scopes) type i ≡ Ok o
-      → scopes_at s.sequences (slots_in i) (closers_in i) ≡ Ok scopes
+      → scopes_inside s.numbers.balanced s.sequences i ≡ Ok scopes
       → Begins s i l (Ok (with_operator (record s { coming = scopes ++ s.coming }) (at_location o l)))
   sequences_begin type o scopes t lawful op sc = operator_begins type o t lawful op ∙ ap (with_these s (at_location o l)) sc
 
@@ -86,8 +86,9 @@ plain_lawful i e = ap are_lawful (plain_clauses i e)
 pub plain_type : (b : List InstrSeq) (i : Instr) → slots_in i ≡ [] → first_type_at b (slots_in i) ≡ Ok (Simple None)
 plain_type b i e = ap (first_type_at b) e
 
-pub plain_scopes : (b : List InstrSeq) (i : Instr) → slots_in i ≡ [] → scopes_at b (slots_in i) (closers_in i) ≡ Ok []
-plain_scopes b i e = ap (λ ps. scopes_at b ps (closers_in i)) e
+pub plain_scopes : (balanced : InstrSeqType → Bool) (b : List InstrSeq) (i : Instr) → slots_in i ≡ [] → scopes_inside balanced b i ≡ Ok []
+plain_scopes balanced b (instr.IfElse x) e = absurd cc
+plain_scopes balanced b i e = ap (λ ps. scopes_at b ps (closers_in i)) e
 
 -- ---- the emitter that the code makes
 
@@ -97,7 +98,7 @@ pub plain_visited : (b : List InstrSeq) (to : Numbers) (scopes : ScopeLists) (dr
     → emitter_behind (emitter_at b to scopes draft) (VisitInstruction i l) ≡ Ok (emitter_at b to scopes drafted)
 plain_visited b to scopes draft drafted i l op e h k =
     sequences_begin (emitter_at b to scopes draft) i l (Simple None) (meaning op) [] (plain_type b i e) (plain_lawful i e) h.0
-    (plain_scopes b i e)
+    (plain_scopes to.balanced b i e)
     ∙ ap (λ (s : Emitter). Ok s) (kept_begins b to scopes scopes draft drafted [] (meaning op) l refl k)
 
 -- if it is written

@@ -32,8 +32,8 @@ use Rattle.wasm_body.specs.Translation.{Translation, translate, translate_immedi
 use Rattle.wasm_body.specs.Naming.{Environment, NamedOperation, Occurrence, naming, id_at, name_block, block_types, first_signature, stands, has_types, named_in}
 use Rattle.wasm_body.specs.FunctionTree.{Target, Depth}
 use Rattle.wasm_body.specs.NormalForm.{typing_of, construct_type, kept, kept_operation, name_at, named_body, body_tree}
-use Rattle.wasm_body.specs.FlatText.{Writing, then_by, typed}
-use Rattle.wasm_body.specs.Bytes.{Numbers, in_32_bits, numbers_in_32_bits, numbered_block, numbering, numbered_text, bytes_of, tree_bytes}
+use Rattle.wasm_body.specs.FlatText.{TextTranslation, then_by, typed}
+use Rattle.wasm_body.specs.Bytes.{Numbers, in_32_bits, numbers_in_32_bits, numbered_block, numbering, with_numbers, numbered_text, bytes_of, tree_bytes}
 use Rattle.wasm_body.specs.SourceTree.{Body}
 use Rattle.wasm_body.specs.Parsing.Accepted.{mark, Lawful}
 use Rattle.wasm_body.proofs.Structure.Along.{AllMarked, each_of, each_reshown}
@@ -152,7 +152,7 @@ translated env fs o named e =
     found.1 ∙ ap Ok same
 
 module _ (Q : EmitError → Type 0) (env : Environment) (to : Numbers) (has : AreNumbered Q env to) where
-  abbrev pub writing : Writing ℕ BlockType
+  abbrev pub writing : TextTranslation ℕ BlockType
   writing = then_by (numbering to)
 
   -- what is written for an operator as it is read, in a sequence of the type
@@ -279,7 +279,7 @@ module _ (Q : EmitError → Type 0) (env : Environment) (to : Numbers) (has : Ar
 
   by_role : (r : Role) (a : Located NamedOperation) → Asks r (map kind_in a.op.immediates) →
       IfErr (translate (typed writing (Simple None)) (kept_operation a.op)) Q → IfErr (translate (typed writing (construct_type (typing_of env) a.op)) (kept_operation a.op)) Q →
-      Writes Q writing (typing_of env) a (control_by r a.op.immediates)
+      Writes Q (with_numbers to) (typing_of env) a (control_by r a.op.immediates)
   by_role a_block a p single opener = opener
   by_role a_loop a p single opener = opener
   by_role an_if a p single opener = opener
@@ -293,7 +293,7 @@ module _ (Q : EmitError → Type 0) (env : Environment) (to : Numbers) (has : Ar
   by_role _ a p single opener = single
 
   abbrev Written : Occurrence → Control → Type 0
-  Written x c = CanWrite Q writing (typing_of env) (name_at x) c
+  Written x c = CanWrite Q (with_numbers to) (typing_of env) (name_at x) c
 
   writes_occurrence : (x : Occurrence) (fs : List (Frame Occurrence)) → named_in env fs x.spelt ≡ Ok x.named → HasText x → Written x (control_of x.named)
   writes_occurrence x fs is has_text =
@@ -319,7 +319,7 @@ module _ (Q : EmitError → Type 0) (env : Environment) (to : Numbers) (has : Ar
       let named = named_somewhere env xs b lawful in
       let marks = subst (AllMarked Written) lawful.is_body (all_written xs texts named) in
       let each = (each_of Written b.sequence (with_control b.close End ∷ []) marks).0 in
-      normal_text Q writing (typing_of env) (named_body b) (each_reshown (CanWrite Q writing (typing_of env)) name_at b.sequence each)
+      normal_text Q (with_numbers to) (typing_of env) (named_body b) (each_reshown (CanWrite Q (with_numbers to) (typing_of env)) name_at b.sequence each)
 
   -- The normal form of an accepted body has bytes, or a fault of Q.
   pub bytes_within : (xs : List Occurrence) (b : Body Occurrence) → AllByRecursion HasText xs → Lawful env xs b → IfErr (tree_bytes to (body_tree env b)) Q

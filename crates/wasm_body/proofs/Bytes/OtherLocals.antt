@@ -1,6 +1,6 @@
 -- The bytes of a tree are the same with numbers that agree on the locals that it names; and the locals that a normal form names
 -- are among those that naming gave.
-use Rattle.std.specs.Prelude.{◌≡◌, ℕ, List, [], ◌∷◌, ◌++◌, Some, None, Result, Ok, Err, if◌then◌else◌}
+use Rattle.std.specs.Prelude.{◌≡◌, ℕ, List, [], ◌∷◌, ◌++◌, Bool, true, false, ◌&&◌, Some, None, Result, Ok, Err, if◌then◌else◌}
 use Rattle.std.specs.List.{AllByRecursion}
 use Rattle.std.proofs.Common.{refl, ap, sym, subst, ◌∙◌}
 use Rattle.walrus_ir.specs.declared.val_type.InstrSeqType.{InstrSeqType}
@@ -19,9 +19,9 @@ use Rattle.wasm_body.specs.Translation.{Translation, translate, translate_immedi
 use Rattle.wasm_body.specs.Naming.{Environment, NamedOperation, naming}
 use Rattle.wasm_body.specs.FunctionTree.{Head, LegacyClause, handles, handles_all, delegates, Instruction, FunctionTree}
 use Rattle.wasm_body.specs.NormalForm.{Typing, kept, kept_operation, Fate, Drops, Stays, Cuts, fate, with_fate, instruction, legacy_clauses, normal, handlers}
-use Rattle.wasm_body.specs.FlatText.{TextOperation, Writing, then_by, typed, are_lawful, try_closers, if_closers, closers, written, opened, first_type, text, texts, tree_text}
+use Rattle.wasm_body.specs.FlatText.{TextOperation, TextTranslation, has_none, one_or_both, written_in_if, written_inside, written_items, written_sequences, then_by, typed, are_lawful, try_closers, if_closers, closers, written, opened, first_type, text, texts}
 use Rattle.wasm_body.specs.LocalNumbers.{locals_among, locals_in, locals_inside, locals_of}
-use Rattle.wasm_body.specs.Bytes.{Numbers, in_32_bits, numbered_block, numbering, bytes_of, tree_bytes}
+use Rattle.wasm_body.specs.Bytes.{Numbers, in_32_bits, numbered_block, numbering, numbered_text, bytes_of, tree_bytes}
 use Rattle.wasm_body.proofs.Translation.Steps.{bound, after_two, ok-sure}
 use Rattle.wasm_body.proofs.Translation.Kinds.{kind_kept, through, at_once}
 use Rattle.wasm_body.proofs.Translation.LocalsKept.{before, first_local, IsNoLocal, no_local, locals_kept}
@@ -76,7 +76,7 @@ parted : (P : ℕ → Type 0) (xs ys : List ℕ) → AllByRecursion P (xs ++ ys)
 parted P [] ys h = (tt, h)
 parted P (x ∷ xs) ys h = let rest = parted P xs ys h.1 in ((h.0, rest.0), rest.1)
 
-module _ {M C : Type 0} (w : Writing M C) (g : ℕ → Result ℕ EmitError) where
+module _ {M C : Type 0} (w : TextTranslation M C) (g : ℕ → Result ℕ EmitError) where
   abbrev Answers : Type 0
   Answers = List (Result (Located (Operation M C)) EmitError)
 
@@ -110,11 +110,48 @@ module _ {M C : Type 0} (w : Writing M C) (g : ℕ → Result ℕ EmitError) whe
         (ap (λ x. x ∷ texts w cs r k) (same_written c d.end_location n.0) ∙ ap (λ l. written (renumbered w g) c d.end_location ∷ l) (same_texts cs r k n.1 each.1))
         ∙ same_text is (written (renumbered w g) c d.end_location ∷ texts (renumbered w g) cs r k) each.0
 
+-- ---- the tree as it is written names the same locals
+
+module _ (balanced : InstrSeqType → Bool) where
+  short_locals : (t : Bool) (h : Head) (is : Items Head Instruction) (g : Head) (r : Sequences Head Instruction)
+      → locals_inside (one_or_both t h is g no_items r) ≡ locals_inside (sequence h is (sequence g no_items r))
+  short_locals true h is g r = refl
+  short_locals false h is g r = refl
+
+  long_locals : (t : Bool) (h : Head) (is : Items Head Instruction) (g : Head) (js : Items Head Instruction) (r : Sequences Head Instruction)
+      → locals_inside (one_or_both (t && false) h is g js r) ≡ locals_inside (sequence h is (sequence g js r))
+  long_locals true h is g js r = refl
+  long_locals false h is g js r = refl
+
+  if_locals : (ss : Sequences Head Instruction) → locals_inside (written_in_if balanced ss) ≡ locals_inside ss
+  if_locals no_sequences = refl
+  if_locals (sequence h is no_sequences) = refl
+  if_locals (sequence h is (sequence g no_items r)) = short_locals (balanced h.type && true) h is g r
+  if_locals (sequence h is (sequence g (item i ss js) r)) = long_locals (balanced h.type) h is g (item i ss js) r
+
+  inside_locals : (r : Role) (ss : Sequences Head Instruction) → locals_inside (written_inside balanced r ss) ≡ locals_inside ss
+  inside_locals an_if ss = if_locals ss
+  inside_locals _ ss = refl
+
+  mutual
+    written_locals : (is : Items Head Instruction) → locals_in (written_items balanced is) ≡ locals_in is
+    written_locals no_items = refl
+    written_locals (item i ss r) =
+        ap (λ ls. locals_among i.op.immediates ++ (ls ++ locals_in (written_items balanced r)))
+        (inside_locals (role_of i.op.opcode) (written_sequences balanced ss) ∙ written_each_locals ss)
+        ∙ ap (λ ls. locals_among i.op.immediates ++ (locals_inside ss ++ ls)) (written_locals r)
+
+    written_each_locals : (ss : Sequences Head Instruction) → locals_inside (written_sequences balanced ss) ≡ locals_inside ss
+    written_each_locals no_sequences = refl
+    written_each_locals (sequence h is r) =
+        ap (λ ls. ls ++ locals_inside (written_sequences balanced r)) (written_locals is)
+        ∙ ap (λ ls. locals_in is ++ ls) (written_each_locals r)
+
 -- ---- the bytes of a tree
 
 module _ (to : Numbers) (g : ℕ → Result ℕ EmitError) where
   abbrev other : Numbers
-  other = record { number_of = to.number_of; local_number = g }
+  other = record { number_of = to.number_of; local_number = g; balanced = to.balanced }
 
   pub same_block : (t : InstrSeqType) → numbered_block to t ≡ numbered_block other t
   same_block (Simple None) = refl
@@ -135,9 +172,11 @@ module _ (to : Numbers) (g : ℕ → Result ℕ EmitError) where
   pub same_bytes_at : (t : FunctionTree) → AllByRecursion (λ id. to.local_number id ≡ g id) (locals_of t) → tree_bytes to t ≡ tree_bytes other t
   same_bytes_at t h =
       let w = then_by (numbering to) in
-      let all = same_text w fitted t.items (written w end_operation t.head.end_location ∷ []) (fit_alike (locals_of t) h) in
-      let whole : tree_text w t ≡ tree_text (renumbered w fitted) t = ap gather all in
-      ap (λ r. r >>= λ xs. Ok (bytes_of xs)) (whole ∙ ap (λ v. tree_text v t) writings)
+      let is = written_items to.balanced t.items in
+      let agree = subst (Agree w fitted) (sym (written_locals to.balanced t.items)) (fit_alike (locals_of t) h) in
+      let all = same_text w fitted is (written w end_operation t.head.end_location ∷ []) agree in
+      let whole : numbered_text to t ≡ gather (text (renumbered w fitted) is (written (renumbered w fitted) end_operation t.head.end_location ∷ [])) = ap gather all in
+      ap (λ r. r >>= λ xs. Ok (bytes_of xs)) (whole ∙ ap (λ v. gather (text v is (written v end_operation t.head.end_location ∷ []))) writings)
 
 -- ---- the locals of a normal form
 

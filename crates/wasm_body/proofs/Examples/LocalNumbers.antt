@@ -82,7 +82,7 @@ runs_of_references = refl
 
 -- the type 1 has the number 4, and no other id has one
 abbrev numbers : Numbers
-numbers = record { number_of = λ space id. if id == 1 then Ok 4 else Err (Index (Unnumbered space)); local_number = λ id. Err UnnumberedLocal }
+numbers = record { number_of = λ space id. if id == 1 then Ok 4 else Err (Index (Unnumbered space)); local_number = λ id. Err UnnumberedLocal; balanced = λ t. false }
 
 declarations_with_numbers : declared numbers 2 ((I32, 2) ∷ (I32, 7) ∷ (to_type 1, 0) ∷ []) ≡ Ok ((2, I32) ∷ (1, to_type 4) ∷ [])
 declarations_with_numbers = refl

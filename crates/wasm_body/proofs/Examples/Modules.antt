@@ -7,6 +7,7 @@ use Rattle.wasm_operators.specs.declared.types.Space.TheVariants.{Types, Funcs, 
 use Rattle.wasm_body.specs.declared.error.IndexError.TheVariants.{OutOfRange, LocalOutOfRange}
 use Rattle.walrus_ir.specs.Results.{some_or}
 use Rattle.wasm_body.specs.Naming.{Environment}
+use Rattle.wasm_body.specs.NormalForm.{typing_of, balances}
 use Rattle.wasm_body.specs.Bytes.{Numbers}
 
 abbrev pub nothing : Signature
@@ -44,11 +45,11 @@ demo = environment demo_types (0 ∷ 1 ∷ []) demo_ids (0 ∷ 1 ∷ 2 ∷ 3 ∷
 
 -- the number of each id is its old index
 abbrev pub demo_numbers : Numbers
-demo_numbers = record { number_of = λ space id. Ok id; local_number = λ id. Ok id }
+demo_numbers = record { number_of = λ space id. Ok id; local_number = λ id. Ok id; balanced = balances (typing_of demo) }
 
 -- the same, but the third local has number 2
 abbrev pub numbers_of_locals : Numbers
-numbers_of_locals = record { number_of = λ space id. Ok id; local_number = λ id. if id == 3 then Ok 2 else Ok id }
+numbers_of_locals = record { number_of = λ space id. Ok id; local_number = λ id. if id == 3 then Ok 2 else Ok id; balanced = balances (typing_of demo) }
 
 -- ---- A module with all that can be wrong with a type. Old indices are not ids. Of the old indices of types, 4 is an entry
 -- type, 5 is not a function's type, and 6 is not in the module; 7 and 8 are an entry type and a function type with results that
@@ -68,3 +69,7 @@ odd_types =
 
 abbrev pub odd : Environment
 odd = environment odd_types (1 ∷ 5 ∷ 0 ∷ []) odd_ids (6 ∷ 5 ∷ []) 0
+
+-- the number of each id is the id
+abbrev pub odd_numbers : Numbers
+odd_numbers = record { number_of = λ space id. Ok id; local_number = λ id. Ok id; balanced = balances (typing_of odd) }

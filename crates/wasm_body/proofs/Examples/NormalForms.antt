@@ -10,7 +10,7 @@ use Rattle.wasm_body.specs.Translation.{at_location}
 use Rattle.wasm_body.specs.FunctionTree.{Depth, TreeOperation, Head, LegacyClause, handles, handles_all, delegates, Instruction, FunctionTree, bare_sequences, IsSameTree, default_location}
 use Rattle.wasm_body.specs.NormalForm.{head}
 use Rattle.wasm_body.proofs.Examples.Operators.{unreachable, nop, block, loop, if, else, try, catch, throw, rethrow, throw_ref, end, br, br_if, br_table, return, call, call_indirect, call_ref, return_call, return_call_indirect, return_call_ref, delegate, catch_all, drop, try_table, local_get, const, catches, catches_ref, catches_all, catches_all_ref}
-use Rattle.wasm_body.proofs.Examples.Modules.{nothing, demo, demo_numbers, numbers_of_locals, odd}
+use Rattle.wasm_body.proofs.Examples.Modules.{nothing, number, demo, demo_numbers, numbers_of_locals, odd, odd_numbers}
 use Rattle.wasm_body.proofs.Examples.Rows.{Answer, Is, tree, tree_or_empty, text, written_operators}
 
 -- ---- trees
@@ -120,9 +120,28 @@ without_locations = refl
 
 -- ---- texts, with the locations
 
--- 41 07 04 40 0b 0b: the added `else` has the location of the source's `end`, and its `end` the default location
-added_else : text demo (const 7 ∷ if Empty ∷ end ∷ end ∷ [])
-    ≡ Is (at_location (const 7) 0 ∷ at_location (if nothing) 1 ∷ at_location else 2 ∷ at_location end default_location ∷ at_location end 3 ∷ [])
+-- 41 07 04 40 0b 0b, 41 07 04 40 05 0b 0b and 41 07 04 40 05 01 0b 0b: the `end` has the location of the source's `end`
+no_else : text demo (const 7 ∷ if Empty ∷ end ∷ end ∷ [])
+    ≡ Is (at_location (const 7) 0 ∷ at_location (if nothing) 1 ∷ at_location end 2 ∷ at_location end 3 ∷ [])
+no_else = refl
+
+empty_else : text demo (const 7 ∷ if Empty ∷ else ∷ end ∷ end ∷ [])
+    ≡ Is (at_location (const 7) 0 ∷ at_location (if nothing) 1 ∷ at_location end 3 ∷ at_location end 4 ∷ [])
+empty_else = refl
+
+else_of_nop : text demo (const 7 ∷ if Empty ∷ else ∷ nop ∷ end ∷ end ∷ [])
+    ≡ Is (at_location (const 7) 0 ∷ at_location (if nothing) 1 ∷ at_location end 4 ∷ at_location end 5 ∷ [])
+else_of_nop = refl
+
+-- 41 07 04 40 05 00 0b 0b
+full_else : text demo (const 7 ∷ if Empty ∷ else ∷ unreachable ∷ end ∷ end ∷ [])
+    ≡ Is (at_location (const 7) 0 ∷ at_location (if nothing) 1 ∷ at_location else 2 ∷ at_location unreachable 3 ∷ at_location end 4 ∷ at_location end 5 ∷ [])
+full_else = refl
+
+-- 41 07 04 7f 41 02 0b 1a 0b: the added `else` has the location of the source's `end`, and its `end` the default location
+added_else : text demo (const 7 ∷ if (Value I32) ∷ const 2 ∷ end ∷ drop ∷ end ∷ [])
+    ≡ Is (at_location (const 7) 0 ∷ at_location (if number) 1 ∷ at_location (const 2) 2 ∷ at_location else 3 ∷ at_location end default_location
+    ∷ at_location drop 4 ∷ at_location end 5 ∷ [])
 added_else = refl
 
 -- 06 40 18 00 0b: the `delegate` has the default location
@@ -212,9 +231,36 @@ behind_dead_sequences :
     ∷ const 5 ∷ drop ∷ end ∷ [])
 behind_dead_sequences = refl
 
--- 41 01 04 40 0b 0b
-written_else : IsWrittenAs (const 1 ∷ if Empty ∷ end ∷ end ∷ []) (const 1 ∷ if Empty ∷ else ∷ end ∷ end ∷ [])
+-- 41 01 04 40 0b 0b, 41 01 04 40 05 0b 0b, 41 01 04 40 05 01 0b 0b and 41 01 04 40 05 00 0b 0b
+kept_if : IsKept (const 1 ∷ if Empty ∷ end ∷ end ∷ [])
+kept_if = refl
+
+left_out_else : IsWrittenAs (const 1 ∷ if Empty ∷ else ∷ end ∷ end ∷ []) (const 1 ∷ if Empty ∷ end ∷ end ∷ [])
+left_out_else = refl
+
+left_out_nop : IsWrittenAs (const 1 ∷ if Empty ∷ else ∷ nop ∷ end ∷ end ∷ []) (const 1 ∷ if Empty ∷ end ∷ end ∷ [])
+left_out_nop = refl
+
+kept_else : IsKept (const 1 ∷ if Empty ∷ else ∷ unreachable ∷ end ∷ end ∷ [])
+kept_else = refl
+
+-- 41 01 04 7f 41 02 0b 1a 0b
+written_else : IsWrittenAs (const 1 ∷ if (Value I32) ∷ const 2 ∷ end ∷ drop ∷ end ∷ []) (const 1 ∷ if (Value I32) ∷ const 2 ∷ else ∷ end ∷ drop ∷ end ∷ [])
 written_else = refl
+
+-- an `if` inside, whose `else` is left out in turn
+left_out_inside : IsWrittenAs (if Empty ∷ else ∷ if Empty ∷ else ∷ end ∷ end ∷ end ∷ []) (if Empty ∷ else ∷ if Empty ∷ end ∷ end ∷ end ∷ [])
+left_out_inside = refl
+
+-- 04 00 0b and 04 00 05 0b, where the type has a number as parameter and as result; and 04 01 1a 0b, where it has only a parameter
+kept_if_with_number : written_operators odd odd_numbers (if (FuncType 0) ∷ end ∷ end ∷ []) ≡ Is (if (FuncType 2) ∷ end ∷ end ∷ [])
+kept_if_with_number = refl
+
+left_out_with_number : written_operators odd odd_numbers (if (FuncType 0) ∷ drop ∷ const 3 ∷ else ∷ end ∷ end ∷ []) ≡ Is (if (FuncType 2) ∷ drop ∷ const 3 ∷ end ∷ end ∷ [])
+left_out_with_number = refl
+
+written_else_for_parameter : written_operators odd odd_numbers (if (FuncType 1) ∷ drop ∷ end ∷ end ∷ []) ≡ Is (if (FuncType 1) ∷ drop ∷ else ∷ end ∷ end ∷ [])
+written_else_for_parameter = refl
 
 -- 41 01 02 03 1a 0b 0b: the first function type with these lists; it was the fourth
 picked_type : IsWrittenAs (const 1 ∷ block (FuncType 3) ∷ drop ∷ end ∷ end ∷ []) (const 1 ∷ block (FuncType 1) ∷ drop ∷ end ∷ end ∷ [])
@@ -225,7 +271,7 @@ no_type : IsWrittenAs (block (FuncType 0) ∷ end ∷ end ∷ []) (block Empty �
 no_type = refl
 
 -- an entry type isn't picked
-not_an_entry_type : written_operators odd demo_numbers (block (FuncType 3) ∷ end ∷ end ∷ []) ≡ Is (block (FuncType 3) ∷ end ∷ end ∷ [])
+not_an_entry_type : written_operators odd odd_numbers (block (FuncType 3) ∷ end ∷ end ∷ []) ≡ Is (block (FuncType 3) ∷ end ∷ end ∷ [])
 not_an_entry_type = refl
 
 -- 06 40 41 05 08 01 07 01 1a 19 0b 0b, 06 40 07 00 19 0b 0b and 06 40 18 00 0b
@@ -254,7 +300,7 @@ kept_load : IsKept (const 0 ∷ load 2 ∷ drop ∷ end ∷ [])
 kept_load = refl
 
 -- 10 01 20 01 0b, where old indices are others than ids: the numbers are those of the ids
-by_numbers : written_operators odd demo_numbers (call 1 ∷ local_get 1 ∷ drop ∷ end ∷ []) ≡ Is (call 3 ∷ local_get 5 ∷ drop ∷ end ∷ [])
+by_numbers : written_operators odd odd_numbers (call 1 ∷ local_get 1 ∷ drop ∷ end ∷ []) ≡ Is (call 3 ∷ local_get 5 ∷ drop ∷ end ∷ [])
 by_numbers = refl
 
 -- 20 01 1a 20 03 1a 0b, where the third local has number 2

@@ -1,6 +1,7 @@
 -- Location pairs.
-use Rattle.std.specs.Prelude.{◌≡◌, ◌+◌, List, [], ◌∷◌, Option, Some, None, Result, Ok, Err, refl}
-use Rattle.wasm_operators.specs.declared.types.BlockType.TheVariants.{Empty}
+use Rattle.std.specs.Prelude.{◌≡◌, ℕ, ◌+◌, ◌==◌, cond, List, [], ◌∷◌, Option, Some, None, Result, Ok, Err, refl}
+use Rattle.wasm_operators.specs.declared.types.BlockType.TheVariants.{Empty, Value}
+use Rattle.walrus_ir.specs.declared.val_type.ValType.TheVariants.{I32}
 use Rattle.wasm_numbers.specs.Numbers.{integer}
 use Rattle.wasm_operators.specs.Opcodes.{kinds_of_byte, opcode}
 use Rattle.wasm_operators.specs.Operations.{RawOperation}
@@ -14,7 +15,7 @@ use Rattle.wasm_body.specs.Parsing.Lists.{parsed}
 use Rattle.wasm_body.specs.FunctionTree.{default_location}
 use Rattle.wasm_body.specs.NormalForm.{typing_of, normal_form, named_body}
 use Rattle.wasm_body.specs.Pairs.{Pair, tree_pairs, location_in}
-use Rattle.wasm_body.proofs.Examples.Operators.{nop, if, try, call, end, delegate, const}
+use Rattle.wasm_body.proofs.Examples.Operators.{nop, if, else, try, call, end, delegate, drop, const}
 use Rattle.wasm_body.proofs.Examples.Modules.{demo, demo_numbers}
 use Rattle.wasm_body.proofs.Examples.Rows.{tree, tree_or_empty}
 use Rattle.wasm_body.proofs.Examples.Parses.{setting_from}
@@ -24,8 +25,18 @@ use Rattle.wasm_body.proofs.Examples.Parses.{setting_from}
 abbrev pairs : List RawOperation → Result (List Pair) EmitError
 pairs os = tree_pairs demo_numbers (tree_or_empty (tree demo os)) 1
 
--- 41 01 04 40 0b 0b: the added `else` has the location of the old `end`, and the new `end` the default
-of_added_else : pairs (const 1 ∷ if Empty ∷ end ∷ end ∷ []) ≡ Ok ((0, 1) ∷ (1, 3) ∷ (2, 5) ∷ (default_location, 6) ∷ (3, 7) ∷ [])
+-- 41 01 04 40 0b 0b, and the same with an empty `else`, which has no pair
+of_if : pairs (const 1 ∷ if Empty ∷ end ∷ end ∷ []) ≡ Ok ((0, 1) ∷ (1, 3) ∷ (2, 5) ∷ (3, 6) ∷ [])
+unfolding short_signed
+of_if = refl
+
+of_left_out_else : pairs (const 1 ∷ if Empty ∷ else ∷ end ∷ end ∷ []) ≡ Ok ((0, 1) ∷ (1, 3) ∷ (3, 5) ∷ (4, 6) ∷ [])
+unfolding short_signed
+of_left_out_else = refl
+
+-- 41 01 04 7f 41 02 0b 1a 0b: the added `else` has the location of the old `end`, and the new `end` the default
+of_added_else : pairs (const 1 ∷ if (Value I32) ∷ const 2 ∷ end ∷ drop ∷ end ∷ [])
+    ≡ Ok ((0, 1) ∷ (1, 3) ∷ (2, 5) ∷ (3, 7) ∷ (default_location, 8) ∷ (4, 9) ∷ (5, 10) ∷ [])
 unfolding short_signed
 of_added_else = refl
 
@@ -62,6 +73,26 @@ shortened = refl
 by_function : pairs_of_body (parsed (setting_from 101 (Some (λ p. p + 7))) (0x01 ∷ 0x0b ∷ [])) ≡ Some (Ok ((109, 1) ∷ []))
 unfolding read_operation opcode kinds_of_byte
 by_function = refl
+
+-- 41 01 04 40 0b 0b and 41 01 04 40 05 0b 0b, from place 1 on
+without_else : pairs_of_body (parsed (setting_from 1 None) (0x41 ∷ 0x01 ∷ 0x04 ∷ 0x40 ∷ 0x0b ∷ 0x0b ∷ [])) ≡ Some (Ok ((1, 1) ∷ (3, 3) ∷ (5, 5) ∷ (6, 6) ∷ []))
+unfolding read_operation opcode kinds_of_byte integer short_signed
+without_else = refl
+
+abbrev with_empty_else : List ℕ
+with_empty_else = 0x41 ∷ 0x01 ∷ 0x04 ∷ 0x40 ∷ 0x05 ∷ 0x0b ∷ 0x0b ∷ []
+
+left_out_else : pairs_of_body (parsed (setting_from 1 None) with_empty_else) ≡ Some (Ok ((1, 1) ∷ (3, 3) ∷ (6, 5) ∷ (7, 6) ∷ []))
+unfolding read_operation opcode kinds_of_byte integer short_signed
+left_out_else = refl
+
+-- with a location function whose result for the source's `end` is the default location: the location of the `else`
+abbrev none_for_end : ℕ → ℕ
+none_for_end p = cond (p == 6) default_location p
+
+location_of_else : pairs_of_body (parsed (setting_from 1 (Some none_for_end)) with_empty_else) ≡ Some (Ok ((1, 1) ∷ (3, 3) ∷ (5, 5) ∷ (7, 6) ∷ []))
+unfolding read_operation opcode kinds_of_byte integer short_signed
+location_of_else = refl
 
 -- the pair with a place is found, where there is one
 at_first : location_in of_row 1 ≡ Some 102

@@ -11,14 +11,17 @@ use Rattle.wasm_operators.specs.Opcodes.{kinds_of_byte, is_prefix}
 use Rattle.wasm_operators.specs.Spelling.{Spells}
 use Rattle.wasm_body.specs.Control.{Nop, Plain, Branch}
 use Rattle.wasm_body.specs.SourceTree.{Single, Wrapped, OfBlock, Body}
-use Rattle.wasm_body.specs.SourceTree.{Sequence as source}
+use Rattle.wasm_body.specs.SourceTree.{Sequence as source, Empty as none_left}
 use Rattle.wasm_body.specs.Naming.{NamedOperation, Occurrence}
 use Rattle.wasm_body.specs.Parsing.Accepted.{HasSpelling, Lawful}
-use Rattle.wasm_body.specs.NormalForm.{typing_of}
+use Rattle.wasm_body.specs.NormalForm.{typing_of, normal}
+use Rattle.wasm_body.specs.LocationLaws.{BalanceAlike}
 use Rattle.wasm_body.specs.Typed.{AreTyped}
 use Rattle.wasm_body.specs.TextLaws.{IsNamedBody}
+use Rattle.wasm_body.specs.Translation.{at_location}
+use Rattle.walrus_ir.specs.Tree.{no_items}
 use Rattle.wasm_body.proofs.Examples.Operators.{unreachable, nop, block, loop, if, else, try, catch, throw, end, br, return_call, delegate, catch_all, drop, try_table, const, catches_all}
-use Rattle.wasm_body.proofs.Examples.Modules.{nothing, number_to_number, demo, odd}
+use Rattle.wasm_body.proofs.Examples.Modules.{nothing, number_to_number, demo, demo_numbers, odd}
 use Rattle.wasm_body.proofs.Examples.Rows.{located_names, body_of_names}
 
 -- ---- operators that have encodings, each at its place, which is its location
@@ -136,6 +139,14 @@ typed_lawful : Lawful odd typed_list typed
 typed_lawful = record { entry = refl; is_body = refl; named = ((refl, (refl, (refl, tt), refl, (refl, tt))), refl) }
 
 -- ---- typed bodies of named operators, with constructs of all kinds
+
+-- ---- a sequence of `nop`s has an empty normal form, and names and numbers of one module balance alike
+
+empties : normal (typing_of demo) (Single (at_location nop 0) Nop (Single (at_location nop 1) Nop none_left)) ≡ no_items
+empties = refl
+
+balance : BalanceAlike (typing_of demo) demo_numbers
+balance t = refl
 
 -- Operators that are given by hand form a body, and are typed.
 record IsTypedBody (os : List RawOperation) : Type 0 where

@@ -20,7 +20,7 @@ use Rattle.wasm_body.specs.SourceTree.{Body}
 use Rattle.wasm_body.specs.Naming.{Environment, Occurrence}
 use Rattle.wasm_body.specs.Parsing.Accepted.{Setting}
 use Rattle.wasm_body.specs.Parsing.Lists.{parsed}
-use Rattle.wasm_body.specs.NormalForm.{typing_of, normal_form, named_body}
+use Rattle.wasm_body.specs.NormalForm.{typing_of, balances, normal_form, named_body}
 use Rattle.wasm_body.specs.Bytes.{Numbers, tree_bytes}
 use Rattle.wasm_body.specs.ReadBack.{IsUndone, IsInverse}
 use Rattle.wasm_body.proofs.Examples.Modules.{environment, demo, demo_numbers}
@@ -66,9 +66,19 @@ behind_dead_block : IsRewrittenAs (0x02 ∷ 0x40 ∷ 0x0c ∷ 0x00 ∷ 0x41 ∷ 
 unfolding read_operation opcode kinds_of_byte integer short_unsigned short_signed
 behind_dead_block = refl
 
--- 41 01 04 40 0b 0b: an alternative is added
-added_alternative : IsRewrittenAs (0x41 ∷ 0x01 ∷ 0x04 ∷ 0x40 ∷ 0x0b ∷ 0x0b ∷ []) (0x41 ∷ 0x01 ∷ 0x04 ∷ 0x40 ∷ 0x05 ∷ 0x0b ∷ 0x0b ∷ [])
+-- 41 01 04 40 0b 0b, and the same with an `else` that says nothing
+no_alternative : IsRewrittenAs (0x41 ∷ 0x01 ∷ 0x04 ∷ 0x40 ∷ 0x0b ∷ 0x0b ∷ []) (0x41 ∷ 0x01 ∷ 0x04 ∷ 0x40 ∷ 0x0b ∷ 0x0b ∷ [])
 unfolding read_operation opcode kinds_of_byte integer short_signed
+no_alternative = refl
+
+empty_alternative : IsRewrittenAs (0x41 ∷ 0x01 ∷ 0x04 ∷ 0x40 ∷ 0x05 ∷ 0x01 ∷ 0x0b ∷ 0x0b ∷ []) (0x41 ∷ 0x01 ∷ 0x04 ∷ 0x40 ∷ 0x0b ∷ 0x0b ∷ [])
+unfolding read_operation opcode kinds_of_byte integer short_signed
+empty_alternative = refl
+
+-- 41 01 04 7f 41 02 0b 1a 0b: an alternative is added, since the `if` has a result
+added_alternative : IsRewrittenAs (0x41 ∷ 0x01 ∷ 0x04 ∷ 0x7f ∷ 0x41 ∷ 0x02 ∷ 0x0b ∷ 0x1a ∷ 0x0b ∷ [])
+    (0x41 ∷ 0x01 ∷ 0x04 ∷ 0x7f ∷ 0x41 ∷ 0x02 ∷ 0x05 ∷ 0x0b ∷ 0x1a ∷ 0x0b ∷ [])
+unfolding read_operation opcode kinds_of_byte integer value_at nullable_at heap_at short_signed
 added_alternative = refl
 
 -- 03 40 41 01 0d 80 00 0b 0b
@@ -114,7 +124,7 @@ places _ = []
 
 -- the numbers, and the module that is read by them
 abbrev swapped : Numbers
-swapped = record { number_of = λ space id. some_or (slice_get (places space) id) (Index (Unnumbered space)); local_number = λ id. Err UnnumberedLocal }
+swapped = record { number_of = λ space id. some_or (slice_get (places space) id) (Index (Unnumbered space)); local_number = λ id. Err UnnumberedLocal; balanced = balances (typing_of with_globals) }
 
 abbrev back : Environment
 back = environment (Func [] [] ∷ Entry [] ∷ []) [] places [] 0

@@ -110,6 +110,11 @@ no_alternative : runs (const 0 ∷ if Empty ∷ const 5 ∷ drop ∷ end ∷ nop
     ≡ a_run (executions (0 ∷ 1 ∷ 6 ∷ [])) Returned
 no_alternative = refl
 
+-- an `else` that says nothing executes nothing, as no `else` does
+empty_alternative : runs (const 0 ∷ if Empty ∷ const 5 ∷ drop ∷ else ∷ nop ∷ nop ∷ end ∷ const 3 ∷ return ∷ end ∷ []) (Go ∷ Way false ∷ Go ∷ []) 0
+    ≡ a_run (executions (0 ∷ 1 ∷ 8 ∷ 9 ∷ [])) Returned
+empty_alternative = refl
+
 -- after the `end` of such an `if` its label is gone
 behind_if_alone : runs (block Empty ∷ if Empty ∷ const 5 ∷ end ∷ br 0 ∷ const 7 ∷ end ∷ end ∷ []) (Way false ∷ []) 0 ≡ a_run (executions (0 ∷ 1 ∷ 4 ∷ [])) Returned
 behind_if_alone = refl

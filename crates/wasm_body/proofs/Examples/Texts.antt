@@ -1,20 +1,21 @@
 -- Texts of trees that are given by hand: lawful clauses, exponents, and what can't be written.
-use Rattle.std.specs.Prelude.{◌≡◌, ℕ, ◌^◌, List, [], ◌∷◌, true, false, None, Result, Ok, Err, refl}
+use Rattle.std.specs.Prelude.{◌≡◌, ℕ, ◌^◌, List, [], ◌∷◌, true, false, Some, None, Result, Ok, Err, refl}
+use Rattle.walrus_ir.specs.declared.val_type.ValType.TheVariants.{I32}
 use Rattle.walrus_ir.specs.declared.val_type.InstrSeqType.{InstrSeqType}
 use Rattle.walrus_ir.specs.declared.val_type.InstrSeqType.TheVariants.{Simple, MultiValue}
 use Rattle.walrus_ir.specs.Tree.{no_items, item, Sequences, no_sequences, sequence}
-use Rattle.wasm_operators.specs.declared.types.BlockType.TheVariants.{Empty, FuncType}
+use Rattle.wasm_operators.specs.declared.types.BlockType.TheVariants.{Empty, Value, FuncType}
 use Rattle.wasm_operators.specs.declared.types.Space.TheVariants.{Types, Funcs, Tags}
 use Rattle.wasm_operators.specs.Operations.{RawOperation}
 use Rattle.wasm_body.specs.declared.error.EmitError.{EmitError}
 use Rattle.wasm_body.specs.declared.error.EmitError.TheVariants.{Index, UnnumberedLocal, BranchOutside, BadClauses, TooLarge}
 use Rattle.wasm_body.specs.declared.error.IndexError.TheVariants.{Unnumbered}
 use Rattle.wasm_body.specs.Translation.{Located, at_location}
-use Rattle.wasm_body.specs.FunctionTree.{Depth, Outside, TreeOperation, Head, LegacyClause, handles, handles_all, delegates, Instruction, FunctionTree}
+use Rattle.wasm_body.specs.FunctionTree.{Depth, Outside, TreeOperation, Head, LegacyClause, handles, handles_all, delegates, Instruction, FunctionTree, default_location}
 use Rattle.wasm_body.specs.NormalForm.{head}
 use Rattle.wasm_body.specs.FlatText.{are_lawful, exponent_of}
 use Rattle.wasm_body.specs.Bytes.{Numbers, numbered_text}
-use Rattle.wasm_body.proofs.Examples.Operators.{block, try, catch, rethrow, end, br, br_table, call, local_get, struct_get, try_table, catches}
+use Rattle.wasm_body.proofs.Examples.Operators.{block, if, else, try, catch, rethrow, end, br, br_table, call, local_get, struct_get, try_table, catches}
 use Rattle.wasm_body.proofs.Examples.Modules.{demo_numbers}
 
 -- ---- the clauses of a `try`
@@ -90,7 +91,7 @@ two_sequences = empty_sequence (Simple None) (empty_sequence (Simple None) no_se
 
 -- no id has a number
 abbrev no_numbers : Numbers
-no_numbers = record { number_of = λ space id. Err (Index (Unnumbered space)); local_number = λ id. Err UnnumberedLocal }
+no_numbers = record { number_of = λ space id. Err (Index (Unnumbered space)); local_number = λ id. Err UnnumberedLocal; balanced = λ t. false }
 
 abbrev writes : Numbers → FunctionTree → Result (List (Located RawOperation)) EmitError
 writes to t = numbered_text to t
@@ -99,6 +100,42 @@ writes to t = numbered_text to t
 own_type : writes demo_numbers (of_one (block tt) [] (empty_sequence (MultiValue 3) no_sequences))
     ≡ Ok (at_location (block (FuncType 3)) 0 ∷ at_location end 0 ∷ at_location end 0 ∷ [])
 own_type = refl
+
+-- an empty `if` of a type that has no parameters and no results, or of a function type or an entry type without both, is short; the
+-- type of its consequent decides
+short_if : writes demo_numbers (of_one (if tt) [] two_sequences) ≡ Ok (at_location (if Empty) 0 ∷ at_location end 0 ∷ at_location end 0 ∷ [])
+short_if = refl
+
+short_if_of_function_type : writes demo_numbers (of_one (if tt) [] (empty_sequence (MultiValue 0) (empty_sequence (Simple (Some I32)) no_sequences)))
+    ≡ Ok (at_location (if (FuncType 0)) 0 ∷ at_location end 0 ∷ at_location end 0 ∷ [])
+short_if_of_function_type = refl
+
+short_if_of_entry_type : writes demo_numbers (of_one (if tt) [] (empty_sequence (MultiValue 4) (empty_sequence (MultiValue 4) no_sequences)))
+    ≡ Ok (at_location (if (FuncType 4)) 0 ∷ at_location end 0 ∷ at_location end 0 ∷ [])
+short_if_of_entry_type = refl
+
+-- but not one with a result, with a parameter, or of a type that the module doesn't have
+long_if_with_result : writes demo_numbers (of_one (if tt) [] (empty_sequence (Simple (Some I32)) (empty_sequence (Simple None) no_sequences)))
+    ≡ Ok (at_location (if (Value I32)) 0 ∷ at_location else 0 ∷ at_location end 0 ∷ at_location end 0 ∷ [])
+long_if_with_result = refl
+
+long_if_with_parameter : writes demo_numbers (of_one (if tt) [] (empty_sequence (MultiValue 1) (empty_sequence (MultiValue 1) no_sequences)))
+    ≡ Ok (at_location (if (FuncType 1)) 0 ∷ at_location else 0 ∷ at_location end 0 ∷ at_location end 0 ∷ [])
+long_if_with_parameter = refl
+
+long_if_of_no_type : writes demo_numbers (of_one (if tt) [] (empty_sequence (MultiValue 9) (empty_sequence (MultiValue 9) no_sequences)))
+    ≡ Ok (at_location (if (FuncType 9)) 0 ∷ at_location else 0 ∷ at_location end 0 ∷ at_location end 0 ∷ [])
+long_if_of_no_type = refl
+
+-- the `end` of a short one has the location of the alternative's end, and that of the consequent's only where that is the default
+abbrev ends_at : ℕ → ℕ → Sequences Head Instruction
+ends_at l m = sequence (head (Simple None) l) no_items (sequence (head (Simple None) m) no_items no_sequences)
+
+end_of_alternative : writes demo_numbers (of_one (if tt) [] (ends_at 5 6)) ≡ Ok (at_location (if Empty) 0 ∷ at_location end 6 ∷ at_location end 0 ∷ [])
+end_of_alternative = refl
+
+end_of_consequent : writes demo_numbers (of_one (if tt) [] (ends_at 5 default_location)) ≡ Ok (at_location (if Empty) 0 ∷ at_location end 5 ∷ at_location end 0 ∷ [])
+end_of_consequent = refl
 
 two_handlers : writes demo_numbers (of_one (try tt) (first ∷ []) two_sequences)
     ≡ Ok (at_location (try Empty) 0 ∷ at_location (catch 0) 0 ∷ at_location end 0 ∷ at_location end 0 ∷ [])

@@ -12,20 +12,19 @@ use Rattle.wasm_body.specs.Control.{Marked}
 use Rattle.wasm_body.specs.SourceTree.{Body, body_text}
 use Rattle.wasm_body.specs.Translation.{translate, Located, at_location}
 use Rattle.wasm_body.specs.NormalForm.{Typing, typing_of, normal_form, name_at, named_body}
-use Rattle.wasm_body.specs.FlatText.{Writing, tree_text, then_by, with_names}
-use Rattle.wasm_body.specs.Bytes.{Numbers, numbering, numbered_text}
+use Rattle.wasm_body.specs.FlatText.{Writing, TextTranslation, tree_text, with_names}
+use Rattle.wasm_body.specs.Bytes.{Numbers, with_numbers, numbered_text}
 use Rattle.wasm_body.specs.Typed.{AreTyped}
 use Rattle.wasm_body.specs.TextLaws.{IsNamedBody, IsTextOf}
 use Rattle.wasm_body.specs.Machine.{Event, Executed, Taken, Run}
 use Rattle.wasm_body.specs.Places.{show_event, show_run, run_by_place, shown_by}
 use Rattle.wasm_body.specs.Pairs.{Pair, pairs_from, tree_pairs, location_in}
 use Rattle.wasm_body.specs.ExecutionLaws.{controls, locations_of}
-use Rattle.wasm_body.specs.LocationLaws.{PlacesIncrease, written_run, locations_along, SayLocations, LocationsAreHonest}
+use Rattle.wasm_body.specs.LocationLaws.{BalanceAlike, PlacesIncrease, written_run, locations_along, SayLocations, LocationsAreHonest}
 use Rattle.wasm_body.proofs.Translation.Steps.{bound}
 use Rattle.wasm_body.proofs.Structure.Along.{Each, Tells}
-use Rattle.wasm_body.specs.RewrittenTree.{rewritten_body}
 use Rattle.wasm_body.proofs.NormalForm.Rewritten.{Named}
-use Rattle.wasm_body.proofs.NormalForm.WrittenTexts.{named_by, type_at, answer, tree_text_by}
+use Rattle.wasm_body.proofs.NormalForm.WrittenTexts.{named_by, type_at, answer, anew_by, tree_text_by}
 use Rattle.wasm_body.proofs.NormalForm.NamedTexts.{source_tells}
 use Rattle.wasm_body.proofs.Bytes.LawfulTyped.{lawful_named}
 use Rattle.wasm_body.proofs.Executions.NormalForms.{named_executions_kept}
@@ -108,7 +107,7 @@ run_twice f g h e r = ap (λ es. record { events = es; ending = r.ending }) (sho
 
 -- ---- locations are the same in every way of writing
 
-module _ {M C : Type 0} (w : Writing M C) (m : Typing) where
+module _ {M C : Type 0} (w : TextTranslation M C) (m : Typing) where
   answered_at : (xs : List (Marked Named)) (ys : List (Located (Operation M C))) → gather (map (answer w m) xs) ≡ Ok ys
       → map (λ y. y.location) ys ≡ map (λ x. x.shown.location) xs
   answered_at [] ys e = let same : [] ≡ ys = cc e in ap (λ (l : List (Located (Operation M C))). map (λ y. y.location) l) (sym same)
@@ -122,9 +121,9 @@ module _ {M C : Type 0} (w : Writing M C) (m : Typing) where
       ∙ (ap (λ (y : Located (Operation M C)). y.location ∷ map (λ z. z.location) rest.0) (sym is)
       ∙ ap (λ l. x.shown.location ∷ l) (answered_at xs rest.0 rest.1))
 
-  text_at : (b : Body Named) → Each Tells b.sequence → (ys : List (Located (Operation M C))) → tree_text w (normal_form m b) ≡ Ok ys
-      → map (λ y. y.location) ys ≡ map (λ x. x.shown.location) (body_text (rewritten_body b))
-  text_at b h ys e = answered_at (body_text (rewritten_body b)) ys (sym (tree_text_by w m b h) ∙ e)
+text_at : {M C : Type 0} → (w : Writing M C) (m : Typing) (b : Body Named) → Each Tells b.sequence → (ys : List (Located (Operation M C)))
+    → tree_text w (normal_form m b) ≡ Ok ys → map (λ y. y.location) ys ≡ map (λ x. x.shown.location) (body_text (anew_by w.balanced m b))
+text_at w m b h ys e = answered_at w.translation m (body_text (anew_by w.balanced m b)) ys (sym (tree_text_by w m b h) ∙ e)
 
 -- ---- the laws
 
@@ -134,7 +133,7 @@ locations_of_pairs (x ∷ xs) q = ap (λ l. x.location ∷ l) (locations_of_pair
 
 module _ (m : Typing) (xs : List Named) (b : Body Named) (hx : IsNamedBody xs b) (h : AreTyped m xs)
     (ys : List Named) (text : IsTextOf m (normal_form m b) ys)
-    (to : Numbers) (before : ℕ) (ps : List Pair) (e : tree_pairs to (normal_form m b) before ≡ Ok ps) where
+    (to : Numbers) (alike : BalanceAlike m to) (before : ℕ) (ps : List Pair) (e : tree_pairs to (normal_form m b) before ≡ Ok ps) where
   -- the operators as they are encoded, at the locations of the text
   numbered : (zs : List (Located RawOperation)) × (numbered_text to (normal_form m b) ≡ Ok zs) × (pairs_from before zs ≡ ps)
   numbered = let zs = bound (numbered_text to (normal_form m b)) (λ zs. Ok (pairs_from before zs)) ps e in (zs.0, zs.1, cc zs.2)
@@ -142,7 +141,9 @@ module _ (m : Typing) (xs : List Named) (b : Body Named) (hx : IsNamedBody xs b)
   located_alike : map (λ z. z.location) numbered.0 ≡ map (λ y. y.location) ys
   located_alike =
       let tells = source_tells m xs b hx h in
-      text_at (then_by (numbering to)) m b tells numbered.0 numbered.1 ∙ sym (text_at (with_names m) m b tells ys text)
+      text_at (with_numbers to) m b tells numbered.0 numbered.1
+      ∙ (ap (λ balanced. map (λ x. x.shown.location) (body_text (anew_by balanced m b))) (λ i t. alike t i)
+      ∙ sym (text_at (with_names m) m b tells ys text))
 
   pub pairs_located : map (λ (p : Pair). p.0) ps ≡ map (λ y. y.location) ys
   pairs_located = ap (λ qs. map (λ (p : Pair). p.0) qs) (sym numbered.2) ∙ (locations_of_pairs numbered.0 before ∙ located_alike)

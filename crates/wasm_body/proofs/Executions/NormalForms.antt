@@ -1,17 +1,20 @@
 -- The law of executions: the text of a normal form is the text of a right rewriting of the body.
-use Rattle.std.proofs.Common.{◌≡◌, ℕ, List, map, Some, refl, sym, ap, ◌∙◌}
-use Rattle.wasm_body.specs.Control.{Action, Nop, Plain, Branch, ConditionalBranch, TableBranch, Return, Unreachable, Throw, ThrowRef, Rethrow, TailCall, Control, control_of}
-use Rattle.wasm_body.specs.SourceTree.{Sequence, Empty, Single, Wrapped, IfThen, IfElse, TryCatch, TryDelegate, Clauses, Ended, Catches, CatchesAll, Body}
-use Rattle.wasm_body.specs.NormalForm.{fate, typing_of, name_at, named_body}
+use Rattle.std.proofs.Common.{◌≡◌, ℕ, suc, ◌+◌, List, [], ◌∷◌, length, map, Bool, true, false, Some, refl, sym, ap, ◌∙◌, subst, arith}
+use Rattle.std.specs.Prelude.{◌&&◌}
+use Rattle.wasm_body.specs.Control.{Action, Nop, Plain, Branch, ConditionalBranch, TableBranch, Return, Unreachable, Throw, ThrowRef, Rethrow, TailCall, Control, Does, control_of, with_control}
+use Rattle.wasm_body.specs.SourceTree.{Sequence, Empty, Single, Wrapped, IfThen, IfElse, TryCatch, TryDelegate, Clauses, Ended, Catches, CatchesAll, text, Body}
+use Rattle.wasm_body.specs.FunctionTree.{default_location}
+use Rattle.wasm_body.specs.NormalForm.{Typing, balances, construct_type, normal, fate, typing_of, name_at, named_body}
+use Rattle.wasm_body.specs.Naming.{NamedOperation}
 use Rattle.wasm_body.specs.TextLaws.{IsNamedBody}
-use Rattle.wasm_body.specs.RewrittenTree.{single_with_fate, rewritten, rewritten_clauses, rewritten_body, rewritten_text}
-use Rattle.wasm_body.proofs.NormalForm.Rewritten.{Named}
+use Rattle.wasm_body.specs.RewrittenTree.{single_with_fate, is_empty, written_if, rewritten, rewritten_clauses, rewritten_body, rewritten_text}
+use Rattle.wasm_body.proofs.NormalForm.Rewritten.{Named, emptied, second_holds}
 use Rattle.wasm_body.proofs.NormalForm.NamedTexts.{has_text, text_body}
 use Rattle.wasm_body.proofs.Bytes.LawfulTyped.{lawful_named}
-use Rattle.wasm_body.specs.Machine.{Outcome, run}
+use Rattle.wasm_body.specs.Machine.{Outcome, straight, run}
 use Rattle.wasm_body.specs.Places.{show_run, run_by_place, shown_by}
-use Rattle.wasm_body.specs.ExecutionLaws.{controls, NamedExecutionsKept, ExecutionsKept, RunsShowOperators}
-use Rattle.wasm_body.proofs.Executions.RewritesTo.{RewritesTo, empty, drop_nop, keep, cut, wrapped, if_else, add_else, try_catch, try_delegate, ClausesRewriteTo, ended, catches_one, catches_all, runs_alike}
+use Rattle.wasm_body.specs.ExecutionLaws.{controls, NamedExecutionsKept, ExecutionsKept, RunsShowOperators, EmptyGoesOn}
+use Rattle.wasm_body.proofs.Executions.RewritesTo.{RewritesTo, empty, drop_nop, keep, cut, wrapped, if_then, if_else, add_else, drop_else, try_catch, try_delegate, ClausesRewriteTo, ended, catches_one, catches_all, runs_alike}
 use Rattle.wasm_body.proofs.Executions.Same.{the_count}
 use Rattle.wasm_body.proofs.Executions.Natural.{shown_by-run}
 
@@ -31,20 +34,36 @@ single_rewrites a ThrowRef r r' f = cut refl
 single_rewrites a (Rethrow n) r r' f = cut refl
 single_rewrites a TailCall r r' f = keep f
 
-mutual
-  rewritten_rewrites : (s : Sequence Named) → RewritesTo s (rewritten s)
-  rewritten_rewrites Empty = empty
-  rewritten_rewrites (Single a action r) = single_rewrites a action r (rewritten r) (rewritten_rewrites r)
-  rewritten_rewrites (Wrapped a w b e r) = wrapped (rewritten_rewrites b) (rewritten_rewrites r)
-  rewritten_rewrites (IfThen a b e r) = add_else (rewritten_rewrites b) (rewritten_rewrites r)
-  rewritten_rewrites (IfElse a b l c e r) = if_else (rewritten_rewrites b) (rewritten_rewrites c) (rewritten_rewrites r)
-  rewritten_rewrites (TryCatch a b cs r) = try_catch (rewritten_rewrites b) (clauses_rewrite cs) (rewritten_rewrites r)
-  rewritten_rewrites (TryDelegate a b e n r) = try_delegate (rewritten_rewrites b) (rewritten_rewrites r)
+added_rewrites : (t : Bool) (a e : Named) (b b' : Sequence Named) (l n : ℕ) (r r' : Sequence Named) → RewritesTo b b' → RewritesTo r r'
+    → RewritesTo (IfThen a b e r) (written_if t a b' l Empty n r')
+added_rewrites true a e b b' l n r r' f g = if_then f g
+added_rewrites false a e b b' l n r r' f g = add_else f g
 
-  clauses_rewrite : (cs : Clauses Named) → ClausesRewriteTo cs (rewritten_clauses cs)
-  clauses_rewrite (Ended e) = ended
-  clauses_rewrite (Catches a t b cs) = catches_one (rewritten_rewrites b) (clauses_rewrite cs)
-  clauses_rewrite (CatchesAll a b e) = catches_all (rewritten_rewrites b)
+else_rewrites : (t : Bool) (a i e : Named) (b b' c c' : Sequence Named) (l n : ℕ) (r r' : Sequence Named) → (t ≡ true → c' ≡ Empty)
+    → RewritesTo b b' → RewritesTo c c' → RewritesTo r r' → RewritesTo (IfElse a b i c e r) (written_if t a b' l c' n r')
+else_rewrites true a i e b b' c c' l n r r' none f h g = drop_else f (subst (RewritesTo c) (none refl) h) g
+else_rewrites false a i e b b' c c' l n r r' none f h g = if_else f h g
+
+module _ (balanced : NamedOperation → Bool) where
+  mutual
+    rewritten_rewrites : (s : Sequence Named) → RewritesTo s (rewritten balanced s)
+    rewritten_rewrites Empty = empty
+    rewritten_rewrites (Single a action r) = single_rewrites a action r (rewritten balanced r) (rewritten_rewrites r)
+    rewritten_rewrites (Wrapped a w b e r) = wrapped (rewritten_rewrites b) (rewritten_rewrites r)
+    rewritten_rewrites (IfThen a b e r) =
+        added_rewrites (balanced a.op) a e b (rewritten balanced b) e.location default_location r (rewritten balanced r)
+        (rewritten_rewrites b) (rewritten_rewrites r)
+    rewritten_rewrites (IfElse a b l c e r) =
+        else_rewrites (balanced a.op && is_empty (rewritten balanced c)) a l e b (rewritten balanced b) c (rewritten balanced c) l.location e.location r (rewritten balanced r)
+        (λ h. emptied (rewritten balanced c) (second_holds (balanced a.op) (is_empty (rewritten balanced c)) h))
+        (rewritten_rewrites b) (rewritten_rewrites c) (rewritten_rewrites r)
+    rewritten_rewrites (TryCatch a b cs r) = try_catch (rewritten_rewrites b) (clauses_rewrite cs) (rewritten_rewrites r)
+    rewritten_rewrites (TryDelegate a b e n r) = try_delegate (rewritten_rewrites b) (rewritten_rewrites r)
+
+    clauses_rewrite : (cs : Clauses Named) → ClausesRewriteTo cs (rewritten_clauses balanced cs)
+    clauses_rewrite (Ended e) = ended
+    clauses_rewrite (Catches a t b cs) = catches_one (rewritten_rewrites b) (clauses_rewrite cs)
+    clauses_rewrite (CatchesAll a b e) = catches_all (rewritten_rewrites b)
 
 -- ---- whatever values are shown for the operators of two bodies
 
@@ -64,9 +83,9 @@ shown_alike v b c f xs ys hx hy o t =
 
 pub named_executions_kept : NamedExecutionsKept
 named_executions_kept m xs b hx h =
-    let ys = rewritten_text b in
-    let c = rewritten_body b in
-    let rewrites = rewritten_rewrites b.sequence in
+    let ys = rewritten_text m b in
+    let c = rewritten_body m b in
+    let rewrites = rewritten_rewrites (λ o. balances m (construct_type m o)) b.sequence in
     let hy = text_body m xs b hx h in
     record {
       text = ys;
@@ -86,3 +105,17 @@ runs_by_place xs o t = record {
   operators = shown_by-run (λ x. control_of x.op) (λ x. x.op) xs o t;
   locations = shown_by-run (λ x. control_of x.op) (λ x. x.location) xs o t;
 }
+
+-- ---- a sequence whose normal form is empty
+
+pub empty_goes_on : EmptyGoesOn
+empty_goes_on m Empty h again count k ls o = let e : 0 + count ≡ count = omega arith in ap (λ n. straight again n k ls o) e
+empty_goes_on m (Single a Nop r) h again count k ls o =
+    let e : suc (length (text r [])) + count ≡ suc (length (text r []) + count) = omega arith in
+    ap (λ n. straight again n (with_control a (Does Nop) ∷ text r k) ls o) e ∙ empty_goes_on m r h again count k ls o
+empty_goes_on m (Single a _ r) h again count k ls o = absurd (cc h)
+empty_goes_on m (Wrapped a w b e r) h again count k ls o = absurd (cc h)
+empty_goes_on m (IfThen a b e r) h again count k ls o = absurd (cc h)
+empty_goes_on m (IfElse a b l c e r) h again count k ls o = absurd (cc h)
+empty_goes_on m (TryCatch a b cs r) h again count k ls o = absurd (cc h)
+empty_goes_on m (TryDelegate a b e n r) h again count k ls o = absurd (cc h)

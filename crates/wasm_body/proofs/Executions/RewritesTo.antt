@@ -10,8 +10,8 @@ use Rattle.wasm_body.proofs.Executions.Steps.{weaken, nop_same, kept_same, last_
 use Rattle.wasm_body.proofs.Executions.Constructs.{Closes, wrapped_same, if_outside, if_same, try_same}
 use Rattle.wasm_body.proofs.Executions.Handlers.{Handled, try_outside, handler_outside, ended_handled, delegate_handled, catch_handled, catch_all_handled}
 
--- A `nop` may be dropped, and so may the operators after one that cuts; an empty alternative may be added. The values that are
--- shown for operators that part and close constructs may be any.
+-- A `nop` may be dropped, and so may the operators after one that cuts; an empty alternative may be added, and an alternative
+-- that can be emptied may be left out. The values that are shown for operators that part and close constructs may be any.
 mutual
   pub data RewritesTo {A : Type 0} : Sequence A → Sequence A → Type 0 where
     empty : RewritesTo Empty Empty
@@ -25,6 +25,8 @@ mutual
         → RewritesTo (IfElse a b l c e r) (IfElse a b' l' c' e' r')
     add_else : {a l' e e' : A} {b b' r r' : Sequence A} → RewritesTo b b' → RewritesTo r r'
         → RewritesTo (IfThen a b e r) (IfElse a b' l' Empty e' r')
+    drop_else : {a l e e' : A} {b b' c r r' : Sequence A} → RewritesTo b b' → RewritesTo c Empty → RewritesTo r r'
+        → RewritesTo (IfElse a b l c e r) (IfThen a b' e' r')
     try_catch : {a : A} {b b' r r' : Sequence A} {cs cs' : Clauses A} → RewritesTo b b' → ClausesRewriteTo cs cs'
         → RewritesTo r r' → RewritesTo (TryCatch a b cs r) (TryCatch a b' cs' r')
     try_delegate : {a e e' : A} {n : ℕ} {b b' r r' : Sequence A} → RewritesTo b b' → RewritesTo r r'
@@ -85,6 +87,12 @@ rest_agrees s s' alike t k k' ls ls' agree = record {
   outside = weaken t t _ _ _ _ ls ls' (omega arith) (text_longer s k) (text_longer s' k') agree.outside;
   same = alike t k k' ls ls' agree;
 }
+
+-- a sequence that can be emptied does nothing, and goes on
+does_nothing : {A : Type 0} {c : Sequence A} → RewritesTo c Empty → (t : ℕ) (k r' : List (Marked A)) (labels labels' : List (Label A))
+    → Same t k labels r' labels' → Same t (text c k) labels r' labels'
+does_nothing empty t k r' ls ls' s = s
+does_nothing (drop_nop {a = a} {r = r} f) t k r' ls ls' s = nop_same a t (text r k) r' ls ls' (does_nothing f t k r' ls ls' s)
 
 -- In what follows r and r' are the places after a construct, and agree.
 module _ {A : Type 0} (t : ℕ) (r r' : List (Marked A)) (labels labels' : List (Label A)) (agree : Agree t r labels r' labels') where
@@ -157,6 +165,20 @@ module _ {A : Type 0} (t : ℕ) (r r' : List (Marked A)) (labels labels' : List 
       let cl' = closes_else b' Empty l' e' r' in
       if_alike a e l' End Else tt tt b b' body r (with_control e' End ∷ r') (closes b e End r refl) cl' (omega arith) (omega arith) refl refl
       (λ β u n m o hu hn hm. end_alone e' (label a If (text b' (with_control l' Else ∷ with_control e' End ∷ r'))) cl'.behind β u n m o hu hn hm)
+
+  -- an `end` on the other side only
+  end_first : (e : A) (l : Label A) → behind_closer l.behind ≡ r → Same t (with_control e End ∷ r) (l ∷ labels) r' labels'
+  end_first e l h β u zero m o hu hn hm = absurd (omega arith)
+  end_first e l h β u (suc n) m o hu hn hm = ap (λ k. go β u n k labels o) h ∙ agree.same β u n m o hu (omega arith) hm
+
+  drop_else_alike : (a i e e' : A) (b b' d : Sequence A) → Alike b b' → RewritesTo d Empty
+      → SameOpened If a (text b (with_control i Else ∷ text d (with_control e End ∷ r))) (text b' (with_control e' End ∷ r'))
+  drop_else_alike a i e e' b b' d body none =
+      let c = with_control e End ∷ r in
+      let l = label a If (text b (with_control i Else ∷ text d c)) in
+      let cl = closes_else b d i e r in
+      if_alike a i e' Else End tt tt b b' body (text d c) r' cl (closes b' e' End r' refl) (omega (arith, text_longer d c)) (omega arith) refl refl
+      (does_nothing none t c r' (l ∷ labels) labels' (end_first e l cl.behind))
 
   if_else_alike : (a i i' e e' : A) (b b' d d' : Sequence A) → Alike b b' → Alike d d'
       → SameOpened If a (text b (with_control i Else ∷ text d (with_control e End ∷ r))) (text b' (with_control i' Else ∷ text d' (with_control e' End ∷ r')))
@@ -281,6 +303,8 @@ mutual
       if_else_alike t (text r k) (text r' k') ls ls' (rest_agrees r r' (alike g) t k k' ls ls' agree) a l l' e e' b b' d d' (alike f) (alike h)
   alike (add_else {a = a} {l' = l'} {e = e} {e' = e'} {b = b} {b' = b'} {r = r} {r' = r'} f g) t k k' ls ls' agree =
       add_else_alike t (text r k) (text r' k') ls ls' (rest_agrees r r' (alike g) t k k' ls ls' agree) a e l' e' b b' (alike f)
+  alike (drop_else {a = a} {l = l} {e = e} {e' = e'} {b = b} {b' = b'} {c = d} {r = r} {r' = r'} f h g) t k k' ls ls' agree =
+      drop_else_alike t (text r k) (text r' k') ls ls' (rest_agrees r r' (alike g) t k k' ls ls' agree) a l e e' b b' d (alike f) h
   alike (try_catch {a = a} {b = b} {b' = b'} {r = r} {r' = r'} {cs = cs} {cs' = cs'} f fs g) t k k' ls ls' agree =
       let rest = rest_agrees r r' (alike g) t k k' ls ls' agree in
       try_alike t (text r k) (text r' k') ls ls' rest a b b' cs cs' (alike f) fs (catching fs t (text r k) (text r' k') ls ls' rest)

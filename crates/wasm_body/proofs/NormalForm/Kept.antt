@@ -47,14 +47,14 @@ block_types_lead : (m : Typing) (t : InstrSeqType) (ss : List Signature) → Sta
 block_types_lead m t [] h = tt
 block_types_lead m t (s ∷ ss) h = ((λ c e. ap (λ o. some_or o (Index (Unnumbered Types))) h.0), block_types_lead m t ss h.1)
 
-label_leads : (m : Typing) (n : ℕ) (t : Target) → kept.label n ≡ Ok t → (with_names m).label t ≡ Ok n
-label_leads m n (Depth k) e = let h : Depth k ≡ Depth n = cc in ap (with_names m).label h
+label_leads : (m : Typing) (n : ℕ) (t : Target) → kept.label n ≡ Ok t → (with_names m).translation.label t ≡ Ok n
+label_leads m n (Depth k) e = let h : Depth k ≡ Depth n = cc in ap (with_names m).translation.label h
 label_leads m n Outside e = absurd cc
 
 number_leads : (n k : ℕ) → (let r : Result ℕ ⊥ = Ok n in r) ≡ Ok k → (let r : Result ℕ EmitError = Ok k in r) ≡ Ok n
 number_leads n k e = let h : k ≡ n = cc in ap Ok h
 
-all_lead : (m : Typing) (t : InstrSeqType) → LeadAll kept (typed (with_names m) t) same
+all_lead : (m : Typing) (t : InstrSeqType) → LeadAll kept (typed (with_names m).translation t) same
 all_lead m t = record {
   indices = λ space n. number_leads n;
   locals = number_leads;
@@ -68,11 +68,11 @@ all_lead m t = record {
 
 -- at a sequence whose type has the operator's block type as signature
 pub kept_written : (m : Typing) (t : InstrSeqType) (o : NamedOperation) → StandsFor m t (block_types o.immediates)
-    → translate (typed (with_names m) t) (kept_operation o) ≡ Ok o
+    → translate (typed (with_names m).translation t) (kept_operation o) ≡ Ok o
 kept_written m t o h =
-    after_one (translate_immediates (typed (with_names m) t) (kept_operation o).immediates) (Ok o.immediates)
+    after_one (translate_immediates (typed (with_names m).translation t) (kept_operation o).immediates) (Ok o.immediates)
     (λ is. Ok (record { opcode = o.opcode; immediates = is }))
-    (translate_leads kept (typed (with_names m) t) same o.immediates
-    (lead_all kept (typed (with_names m) t) same (all_lead m t) o.immediates (block_types_lead m t (block_types o.immediates) h))
+    (translate_leads kept (typed (with_names m).translation t) same o.immediates
+    (lead_all kept (typed (with_names m).translation t) same (all_lead m t) o.immediates (block_types_lead m t (block_types o.immediates) h))
     (kept_operation o).immediates (ok-sure (translate_immediates kept o.immediates))
     ∙ translate_same o.immediates)

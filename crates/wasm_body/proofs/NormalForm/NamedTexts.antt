@@ -3,17 +3,17 @@ use Rattle.std.proofs.Common.{◌≡◌, List, [], ◌∷◌, map, Ok, refl, sym
 use Rattle.walrus_ir.specs.declared.val_type.InstrSeqType.{InstrSeqType}
 use Rattle.walrus_ir.specs.Results.{◌>>=◌, gather}
 use Rattle.wasm_body.specs.Control.{role_of, Control, Does, Opens, Else, Catch, CatchAll, End, Delegate, Marked, with_control}
-use Rattle.wasm_body.specs.SourceTree.{Body, body_text}
+use Rattle.wasm_body.specs.SourceTree.{Sequence, Body, body_text}
 use Rattle.wasm_body.specs.Translation.{translate, at_location}
 use Rattle.wasm_body.specs.Naming.{NamedOperation, block_types}
-use Rattle.wasm_body.specs.NormalForm.{Typing, normal_form}
+use Rattle.wasm_body.specs.NormalForm.{Typing, balances, construct_type, normal_form}
 use Rattle.wasm_body.specs.FlatText.{with_names}
 use Rattle.wasm_body.specs.Typed.{StandsFor, IsTypedAs, AreTyped}
 use Rattle.wasm_body.specs.TextLaws.{IsNamedBody, IsTextOf, HaveTexts, mark_named}
 use Rattle.wasm_body.proofs.NormalForm.Kept.{kept_written}
 use Rattle.wasm_body.proofs.Translation.Steps.{after_one, after_two}
 use Rattle.wasm_body.proofs.Structure.Along.{Each, AllMarked, Tells, weaker, along, all_of_each, is_body}
-use Rattle.wasm_body.specs.RewrittenTree.{end_at, rewritten, rewritten_body, rewritten_text}
+use Rattle.wasm_body.specs.RewrittenTree.{end_at, rewritten_body, rewritten_text}
 use Rattle.wasm_body.proofs.NormalForm.Rewritten.{Named, IsTypedBy, typed_told, Sourced, each_rewritten}
 use Rattle.wasm_body.proofs.NormalForm.WrittenTexts.{type_at, answer, named_by, named_written, tree_text_by}
 
@@ -35,13 +35,13 @@ module _ (m : Typing) where
   told a c h = (h.0, stands_at m c a.op (typed_told m a c h))
 
   -- an operator is written with names as itself
-  answered : (a : Named) (t : InstrSeqType) → StandsFor m t (block_types a.op.immediates) → (translate (named_by (with_names m) t) a.op >>= λ x. Ok (at_location x a.location)) ≡ Ok a
-  answered a t h = after_one (translate (named_by (with_names m) t) a.op) (Ok a.op) (λ x. Ok (at_location x a.location)) (sym (named_written (with_names m) t a.op) ∙ kept_written m t a.op h)
+  answered : (a : Named) (t : InstrSeqType) → StandsFor m t (block_types a.op.immediates) → (translate (named_by (with_names m).translation t) a.op >>= λ x. Ok (at_location x a.location)) ≡ Ok a
+  answered a t h = after_one (translate (named_by (with_names m).translation t) a.op) (Ok a.op) (λ x. Ok (at_location x a.location)) (sym (named_written (with_names m).translation t a.op) ∙ kept_written m t a.op h)
 
-  all_answered : (xs : List (Marked Named)) → AllMarked IsTold xs → gather (map (answer (with_names m) m) xs) ≡ Ok (map (λ x. x.shown) xs)
+  all_answered : (xs : List (Marked Named)) → AllMarked IsTold xs → gather (map (answer (with_names m).translation m) xs) ≡ Ok (map (λ x. x.shown) xs)
   all_answered [] h = refl
   all_answered (x ∷ xs) h =
-      after_two (answer (with_names m) m x) (Ok x.shown) (gather (map (answer (with_names m) m) xs)) (Ok (map (λ (y : Marked Named). y.shown) xs)) (λ y ys. Ok (y ∷ ys))
+      after_two (answer (with_names m).translation m x) (Ok x.shown) (gather (map (answer (with_names m).translation m) xs)) (Ok (map (λ (y : Marked Named). y.shown) xs)) (λ y ys. Ok (y ∷ ys))
       (answered x.shown (type_at m x.control x.shown.op) h.0.1) (all_answered xs h.1)
 
 module _ (m : Typing) (xs : List Named) (b : Body Named) (hx : IsNamedBody xs b) (h : AreTyped m xs) where
@@ -51,24 +51,27 @@ module _ (m : Typing) (xs : List Named) (b : Body Named) (hx : IsNamedBody xs b)
   pub source_tells : Each Tells b.sequence
   source_tells = weaker (Sourced m) Tells (λ a c g. g.0) b.sequence sourced
 
-  rewritten_told : Each (IsTold m) (rewritten b.sequence)
+  abbrev written_anew : Sequence Named
+  written_anew = (rewritten_body m b).sequence
+
+  rewritten_told : Each (IsTold m) written_anew
   rewritten_told =
-      each_rewritten (Sourced m) (IsTold m) (λ a action g. told m a (Does action) g) (λ a construct g. told m a (Opens construct) g)
+      each_rewritten (λ o. balances m (construct_type m o)) (Sourced m) (IsTold m) (λ a action g. told m a (Does action) g) (λ a construct g. told m a (Opens construct) g)
       (λ l. (refl, tt)) (λ l. (refl, tt)) (λ a t l g. (refl, tt)) (λ l. (refl, tt)) (λ e n l g. (refl, tt)) b.sequence sourced
 
-  pub has_text : IsTextOf m (normal_form m b) (rewritten_text b)
+  pub has_text : IsTextOf m (normal_form m b) (rewritten_text m b)
   has_text =
       tree_text_by (with_names m) m b source_tells
-      ∙ all_answered m (body_text (rewritten_body b)) (all_of_each (IsTold m) (rewritten b.sequence) (with_control (end_at b.close.location) End ∷ []) rewritten_told ((refl, tt), tt))
+      ∙ all_answered m (body_text (rewritten_body m b)) (all_of_each (IsTold m) written_anew (with_control (end_at b.close.location) End ∷ []) rewritten_told ((refl, tt), tt))
 
-  pub text_body : IsNamedBody (rewritten_text b) (rewritten_body b)
-  text_body = is_body (rewritten_body b) (weaker (IsTold m) Tells (λ a c g. g.0) (rewritten b.sequence) rewritten_told) refl
+  pub text_body : IsNamedBody (rewritten_text m b) (rewritten_body m b)
+  text_body = is_body (rewritten_body m b) (weaker (IsTold m) Tells (λ a c g. g.0) written_anew rewritten_told) refl
 
   -- the text of the normal form is the rewritten body
-  pub text_is_body : (ys : List Named) → IsTextOf m (normal_form m b) ys → IsNamedBody ys (rewritten_body b)
+  pub text_is_body : (ys : List Named) → IsTextOf m (normal_form m b) ys → IsNamedBody ys (rewritten_body m b)
   text_is_body ys hy =
-      let same : Ok (rewritten_text b) ≡ Ok ys = sym has_text ∙ hy in
-      let e : rewritten_text b ≡ ys = cc in ap (map mark_named) (sym e) ∙ text_body
+      let same : Ok (rewritten_text m b) ≡ Ok ys = sym has_text ∙ hy in
+      let e : rewritten_text m b ≡ ys = cc in ap (map mark_named) (sym e) ∙ text_body
 
 pub have_texts : HaveTexts
-have_texts m xs b hx h = record { text = rewritten_text b; body = rewritten_body b; is_text = has_text m xs b hx h; is_body = text_body m xs b hx h }
+have_texts m xs b hx h = record { text = rewritten_text m b; body = rewritten_body m b; is_text = has_text m xs b hx h; is_body = text_body m xs b hx h }

@@ -1,5 +1,5 @@
 -- The bytes of a normal form, read back, give the same tree.
-use Rattle.std.proofs.Common.{◌≡◌, ℕ, List, [], ◌∷◌, ◌++◌, map, true, Some, Ok, refl, sym, ap, ◌∙◌, subst}
+use Rattle.std.proofs.Common.{◌≡◌, ℕ, List, [], ◌∷◌, ◌++◌, map, Bool, true, false, Some, Ok, refl, sym, ap, ◌∙◌, subst}
 use Rattle.std.specs.List.{AllByRecursion}
 use Rattle.walrus_ir.specs.declared.val_type.InstrSeqType.{InstrSeqType}
 use Rattle.walrus_ir.specs.Types.{Signature, ModuleType}
@@ -14,14 +14,15 @@ use Rattle.wasm_body.specs.Control.{Control, End, Marked, with_control}
 use Rattle.wasm_body.specs.SourceTree.{Sequence, text, Body, body_text}
 use Rattle.wasm_body.specs.Frames.{Frame, OfFunction, function_frames, Follows, BodyFollows}
 use Rattle.wasm_body.specs.Translation.{translate_immediates}
-use Rattle.wasm_body.specs.Naming.{Environment, Occurrence}
+use Rattle.wasm_body.specs.Naming.{Environment, NamedOperation, Occurrence}
 use Rattle.wasm_body.specs.Parsing.Accepted.{HasSpelling, placed, mark, IsBody, IsNamed, Lawful, Setting, location_at, has_location, Accepted}
 use Rattle.wasm_body.specs.FunctionTree.{FunctionTree, IsSameTree}
-use Rattle.wasm_body.specs.NormalForm.{Typing, typing_of, normal_form, name_at, named_body}
+use Rattle.wasm_body.specs.NormalForm.{Typing, typing_of, construct_type, normal_form, name_at, named_body}
+use Rattle.wasm_body.specs.FlatText.{with_ids}
 use Rattle.wasm_body.specs.Bytes.{Numbers, tree_bytes}
 use Rattle.wasm_body.specs.TextLaws.{mark_named}
 use Rattle.wasm_body.specs.ReadBack.{EachIn, IsUndone, IsUndoneLocal, IsUndoneType, AreUndone, Undoes, IsReadBack, ReadBack, NormalFormAgain, AreReadable, AcceptedAgain}
-use Rattle.wasm_body.proofs.Structure.Along.{Each, AllMarked, Tells, all_of_each}
+use Rattle.wasm_body.proofs.Structure.Along.{Each, AllMarked, Tells, each_of, all_of_each}
 use Rattle.wasm_body.proofs.Translation.Steps.{bound}
 use Rattle.wasm_body.proofs.Bytes.LawfulTyped.{each_of_follows, lawful_named}
 use Rattle.wasm_operators.proofs.ReadingBytes.{reading_agrees}
@@ -30,12 +31,12 @@ use Rattle.wasm_body.proofs.Structure.ReadFrames.{Goes, body_goes, goes_body}
 use Rattle.wasm_body.proofs.Structure.Reshown.{remarked, text_reshown, is_named_body}
 use Rattle.wasm_body.proofs.Structure.Lifted.{lifted_body}
 use Rattle.wasm_body.proofs.NormalForm.ByNames.{op_of, same_by_names}
-use Rattle.wasm_body.specs.RewrittenTree.{end_at, rewritten, rewritten_body}
-use Rattle.wasm_body.proofs.NormalForm.Rewritten.{Named}
+use Rattle.wasm_body.specs.RewrittenTree.{end_at, rewritten, rewritten_body_by}
+use Rattle.wasm_body.proofs.NormalForm.Rewritten.{Named, each_fewer}
 use Rattle.wasm_body.proofs.NormalForm.NamedTexts.{have_texts}
 use Rattle.wasm_body.proofs.NormalForm.NormalAgain.{again as rewritten_again, normal_again}
 use Rattle.wasm_body.proofs.NormalForm.SameTexts.{same_bytes}
-use Rattle.wasm_body.proofs.NormalForm.WrittenTexts.{type_at, with_type, ids_at, ids_text, numbering_at, spelt_as, IsNumbered, bytes_as, numbered_bytes}
+use Rattle.wasm_body.proofs.NormalForm.WrittenTexts.{type_at, with_type, ids_at, anew_by, ids_text, numbering_at, spelt_as, IsNumbered, bytes_as, numbered_bytes}
 use Rattle.wasm_body.proofs.ReadBack.FrameNames.{map_frames, named_of, IsRuled, has_name}
 use Rattle.wasm_body.proofs.Translation.Kinds.{raw_kinds, kinds_kept}
 use Rattle.wasm_body.proofs.ReadBack.Ranged.{all_again}
@@ -132,8 +133,12 @@ module _ (env : Environment) (xs : List Occurrence) (body : Body Occurrence) (te
   abbrev b : Body Named
   b = named_body body
 
+  -- whether an `else` that says nothing is left out of the construct that an operator opens
+  abbrev leaves_out : NamedOperation → Bool
+  leaves_out o = to.balanced (construct_type m o)
+
   abbrev r : Sequence Named
-  r = rewritten b.sequence
+  r = rewritten leaves_out b.sequence
 
   abbrev last : Marked Named
   last = with_control (end_at b.close.location) End
@@ -153,7 +158,7 @@ module _ (env : Environment) (xs : List Occurrence) (body : Body Occurrence) (te
   source_tells = each_of_follows (IsSound env) Tells (λ fs a c h. h.tells) function_frames b.sequence source_sound
 
   sound : Follows (IsSound env) function_frames r
-  sound = rewritten_sound env function_frames b.sequence source_sound
+  sound = rewritten_sound env leaves_out function_frames b.sequence source_sound
 
   last_sound : IsSound env function_frames last
   last_sound = close_sound env [] OfFunction b.close.location
@@ -164,12 +169,24 @@ module _ (env : Environment) (xs : List Occurrence) (body : Body Occurrence) (te
   numbered : AllByRecursion (IsNumbered to m) ms × (bytes ≡ bytes_as to m ms)
   numbered = numbered_bytes to m b bytes source_tells written
 
+  -- the operators, where no `else` is left out
+  abbrev whole_text : List (Marked Named)
+  whole_text = body_text (anew_by with_ids.balanced m b)
+
+  whole_undone : AllByRecursion (AreUndoneAt back to m) whole_text
+  whole_undone =
+      let ids = undoes.ids (map (ids_at m) whole_text) (ids_text m b source_tells) in
+      all_so (λ x. AreUndone to again (ids_at m x).op.immediates) (AreUndoneAt back to m)
+      (λ x h. all_typed_ids (IsUndone to back) (IsUndoneLocal to back) (IsUndoneType to back) (type_at m x.control x.shown.op) x.shown.op.immediates h) whole_text
+      (all_of_map (ids_at m) (λ x. AreUndone to again x.op.immediates) whole_text ids)
+
+  abbrev IsUndoneThere : Named → Control → Type 0
+  IsUndoneThere a c = AreUndoneAt back to m (with_control a c)
+
   undone : AllByRecursion (AreUndoneAt back to m) ms
   undone =
-      let ids = undoes.ids (map (ids_at m) ms) (ids_text m b source_tells) in
-      all_so (λ x. AreUndone to again (ids_at m x).op.immediates) (AreUndoneAt back to m)
-      (λ x h. all_typed_ids (IsUndone to back) (IsUndoneLocal to back) (IsUndoneType to back) (type_at m x.control x.shown.op) x.shown.op.immediates h) ms
-      (all_of_map (ids_at m) (λ x. AreUndone to again x.op.immediates) ms ids)
+      let each = each_of IsUndoneThere (rewritten (λ o. false) b.sequence) (last ∷ []) whole_undone in
+      all_of_each IsUndoneThere r (last ∷ []) (each_fewer leaves_out IsUndoneThere (λ l. tt) b.sequence each.0) each.1
 
   abbrev IsReady : Named → Control → Type 0
   IsReady a c = IsNumbered to m (with_control a c) × AreUndoneAt back to m (with_control a c)
@@ -195,7 +212,7 @@ module _ (env : Environment) (xs : List Occurrence) (body : Body Occurrence) (te
   all_tell = all_of_each Tells r (last ∷ []) tells (refl, tt)
 
   whole : (c : Body Occurrence) × (body_text c ≡ marks)
-  whole = lifted_body (rewritten_body b) marks (controls_at (spelt_as to m) locate start ms)
+  whole = lifted_body (rewritten_body_by leaves_out b) marks (controls_at (spelt_as to m) locate start ms)
 
   abbrev read : Body Occurrence
   read = whole.0
@@ -215,7 +232,7 @@ module _ (env : Environment) (xs : List Occurrence) (body : Body Occurrence) (te
       let goes = goes_related op_of named_of (IsMadeOf (spelt_as to m) locate IsReady) (IsSound env) (IsNamed back)
       (λ fs gs x y same e p. subst (IsNamed back gs) p.1 (named_there fs gs p.0 x.shown x.control same e p.2))
       (Some function_frames) (Some function_frames) refl ms marks (made_at (spelt_as to m) locate IsReady start ms ready)
-      (body_goes (IsSound env) (rewritten_body b) (sound, last_sound)) in
+      (body_goes (IsSound env) (rewritten_body_by leaves_out b) (sound, last_sound)) in
       goes_body (IsNamed back) read (subst (Goes (IsNamed back) (Some function_frames)) (sym whole.1) goes)
 
   lists : Lists (map placed operators) start bytes []
@@ -225,7 +242,7 @@ module _ (env : Environment) (xs : List Occurrence) (body : Body Occurrence) (te
   same_again =
       let names = ap (map (remarked op_of)) (text_reshown name_at read.sequence (with_control read.close End ∷ []) ∙ ap (map (remarked name_at)) whole.1)
       ∙ names_at (spelt_as to m) locate start ms in
-      same_by_names m (named_body read) (rewritten_body b) names ∙ ap (λ x. sequence m.entry x no_sequences) (rewritten_again m b.sequence)
+      same_by_names m (named_body read) (rewritten_body_by leaves_out b) names ∙ ap (λ x. sequence m.entry x no_sequences) (rewritten_again leaves_out m b.sequence)
 
   by_back : IsReadBack back start locate to (normal_form m b) bytes
   by_back = record {

@@ -1,26 +1,27 @@
 -- Operators that keep the rules in their places, by their names, and that have encodings: those of a lawful body that was
 -- encoded, and those of the rewritten body.
-use Rattle.std.proofs.Common.{◌≡◌, ℕ, List, [], ◌∷◌, map, true, Some, Ok, refl, sym, ap, ◌∙◌, subst, arith}
+use Rattle.std.proofs.Common.{◌≡◌, ℕ, List, [], ◌∷◌, map, Bool, true, false, Some, Ok, refl, sym, ap, ◌∙◌, subst, arith}
+use Rattle.std.specs.Prelude.{◌&&◌}
 use Rattle.std.specs.List.{AllByRecursion}
 use Rattle.walrus_ir.specs.Types.{Signature}
 use Rattle.wasm_operators.specs.declared.types.Opcode.TheVariants.{Byte}
 use Rattle.wasm_operators.specs.Operations.{Immediate, outer, RawOperation}
 use Rattle.wasm_operators.specs.Opcodes.{IsOpcode, kinds_of, kinds_of_byte}
 use Rattle.wasm_operators.specs.Spelling.{Spells}
-use Rattle.wasm_body.specs.Control.{Role, a_delegate, role_of, Control, Does, Else, Catch, CatchAll, End, Delegate, control_of, control_by, Action, Marked, with_control}
+use Rattle.wasm_body.specs.Control.{Role, a_delegate, role_of, Control, Does, Opens, If, Else, Catch, CatchAll, End, Delegate, control_of, control_by, Action, Marked, with_control}
 use Rattle.wasm_body.specs.SourceTree.{Sequence, Empty, Single, Wrapped, IfThen, IfElse, TryCatch, TryDelegate, Clauses, Ended, Catches, CatchesAll}
 use Rattle.wasm_body.specs.Frames.{Frame, OfWrapper, Consequent, Alternative, TryBody, Handler, HandlerOfAll, Follows, FollowsIn, may_stand}
 use Rattle.wasm_body.specs.Translation.{translate, translate_immediates}
 use Rattle.wasm_body.specs.Naming.{Environment, NamedOperation, Occurrence, naming, block_types}
 use Rattle.wasm_body.specs.Parsing.Accepted.{IsNamed}
 use Rattle.wasm_body.specs.NormalForm.{typing_of, name_at, Fate, Drops, Stays, Cuts, fate}
-use Rattle.wasm_body.specs.FunctionTree.{default_location}
+use Rattle.wasm_body.specs.FunctionTree.{default_location, last_location}
 use Rattle.wasm_body.specs.Typed.{StandsFor}
 use Rattle.wasm_body.proofs.Structure.Along.{Tells}
 use Rattle.wasm_body.proofs.Parsing.NamingLemmas.{same_opcode, named_parts}
 use Rattle.wasm_body.proofs.Bytes.NumberedBodies.{HasText, named_kinds}
 use Rattle.wasm_body.proofs.Bytes.LawfulTyped.{named_typed}
-use Rattle.wasm_body.specs.RewrittenTree.{end_at, else_at, catch_at, catch_all_at, delegate_at, single_with_fate, rewritten, rewritten_clauses}
+use Rattle.wasm_body.specs.RewrittenTree.{end_at, else_at, catch_at, catch_all_at, delegate_at, single_with_fate, is_empty, written_if, rewritten, rewritten_clauses}
 use Rattle.wasm_body.proofs.NormalForm.Rewritten.{Named, typed_told}
 use Rattle.wasm_body.proofs.NormalForm.WrittenTexts.{type_at}
 use Rattle.wasm_body.proofs.NormalForm.ByNames.{op_of}
@@ -164,34 +165,31 @@ module _ (env : Environment) where
   fate_sound Stays fs a action r h g = (h, g)
   fate_sound Cuts fs a action r h g = (h, tt)
 
-  mutual
-    pub rewritten_sound : (fs : List (Frame Named)) (s : Sequence Named) → Follows (IsSound env) fs s → Follows (IsSound env) fs (rewritten s)
-    rewritten_sound fs Empty h = tt
-    rewritten_sound fs (Single a action r) h = fate_sound (fate action) fs a action (rewritten r) h.0 (rewritten_sound fs r h.1)
-    rewritten_sound fs (Wrapped a w b e r) h = (h.0, rewritten_sound (OfWrapper a ∷ fs) b h.1, end_sound (OfWrapper a) fs e.location, rewritten_sound fs r h.3)
-    rewritten_sound fs (IfThen a b e r) h = (
-      h.0,
-      rewritten_sound (Consequent a ∷ fs) b h.1,
-      else_sound a fs e.location,
-      tt,
-      end_sound (Alternative a) fs default_location,
-      rewritten_sound fs r h.3,
-    )
-    rewritten_sound fs (IfElse a b l c e r) h = (
-      h.0,
-      rewritten_sound (Consequent a ∷ fs) b h.1,
-      else_sound a fs l.location,
-      rewritten_sound (Alternative a ∷ fs) c h.3,
-      end_sound (Alternative a) fs e.location,
-      rewritten_sound fs r h.5,
-    )
-    rewritten_sound fs (TryCatch a b cs r) h = (h.0, rewritten_sound (TryBody a ∷ fs) b h.1, clauses_sound fs a (TryBody a) cs h.2, rewritten_sound fs r h.3)
-    rewritten_sound fs (TryDelegate a b e n r) h = (h.0, rewritten_sound (TryBody a ∷ fs) b h.1, delegate_sound (TryBody a ∷ fs) e n default_location h.2, rewritten_sound fs r h.3)
+  if_sound : (t : Bool) (fs : List (Frame Named)) (a : Named) (b : Sequence Named) (l : ℕ) (c : Sequence Named) (n : ℕ) (r : Sequence Named)
+      → IsSound env fs (with_control a (Opens If)) → Follows (IsSound env) (Consequent a ∷ fs) b → Follows (IsSound env) (Alternative a ∷ fs) c
+      → Follows (IsSound env) fs r → Follows (IsSound env) fs (written_if t a b l c n r)
+  if_sound true fs a b l c n r h f g k = (h, f, end_sound (Consequent a) fs (last_location l n), k)
+  if_sound false fs a b l c n r h f g k = (h, f, else_sound a fs l, g, end_sound (Alternative a) fs n, k)
 
-    clauses_sound : (fs : List (Frame Named)) (a : Named) (f : Frame Named) (cs : Clauses Named) → FollowsIn (IsSound env) fs a f cs → FollowsIn (IsSound env) fs a f (rewritten_clauses cs)
-    clauses_sound fs a f (Ended e) h = end_sound f fs e.location
-    clauses_sound fs a f (Catches i t b cs) h = (catch_sound (f ∷ fs) i t i.location h.0, rewritten_sound (Handler a ∷ fs) b h.1, clauses_sound fs a (Handler a) cs h.2)
-    clauses_sound fs a f (CatchesAll i b e) h = (catch_all_sound (f ∷ fs) i i.location h.0, rewritten_sound (HandlerOfAll a ∷ fs) b h.1, end_sound (HandlerOfAll a) fs e.location)
+  module _ (balanced : NamedOperation → Bool) where
+    mutual
+      pub rewritten_sound : (fs : List (Frame Named)) (s : Sequence Named) → Follows (IsSound env) fs s → Follows (IsSound env) fs (rewritten balanced s)
+      rewritten_sound fs Empty h = tt
+      rewritten_sound fs (Single a action r) h = fate_sound (fate action) fs a action (rewritten balanced r) h.0 (rewritten_sound fs r h.1)
+      rewritten_sound fs (Wrapped a w b e r) h = (h.0, rewritten_sound (OfWrapper a ∷ fs) b h.1, end_sound (OfWrapper a) fs e.location, rewritten_sound fs r h.3)
+      rewritten_sound fs (IfThen a b e r) h =
+          if_sound (balanced a.op) fs a (rewritten balanced b) e.location Empty default_location (rewritten balanced r)
+          h.0 (rewritten_sound (Consequent a ∷ fs) b h.1) tt (rewritten_sound fs r h.3)
+      rewritten_sound fs (IfElse a b l c e r) h =
+          if_sound (balanced a.op && is_empty (rewritten balanced c)) fs a (rewritten balanced b) l.location (rewritten balanced c) e.location (rewritten balanced r)
+          h.0 (rewritten_sound (Consequent a ∷ fs) b h.1) (rewritten_sound (Alternative a ∷ fs) c h.3) (rewritten_sound fs r h.5)
+      rewritten_sound fs (TryCatch a b cs r) h = (h.0, rewritten_sound (TryBody a ∷ fs) b h.1, clauses_sound fs a (TryBody a) cs h.2, rewritten_sound fs r h.3)
+      rewritten_sound fs (TryDelegate a b e n r) h = (h.0, rewritten_sound (TryBody a ∷ fs) b h.1, delegate_sound (TryBody a ∷ fs) e n default_location h.2, rewritten_sound fs r h.3)
+
+      clauses_sound : (fs : List (Frame Named)) (a : Named) (f : Frame Named) (cs : Clauses Named) → FollowsIn (IsSound env) fs a f cs → FollowsIn (IsSound env) fs a f (rewritten_clauses balanced cs)
+      clauses_sound fs a f (Ended e) h = end_sound f fs e.location
+      clauses_sound fs a f (Catches i t b cs) h = (catch_sound (f ∷ fs) i t i.location h.0, rewritten_sound (Handler a ∷ fs) b h.1, clauses_sound fs a (Handler a) cs h.2)
+      clauses_sound fs a f (CatchesAll i b e) h = (catch_all_sound (f ∷ fs) i i.location h.0, rewritten_sound (HandlerOfAll a ∷ fs) b h.1, end_sound (HandlerOfAll a) fs e.location)
 
   pub close_sound : (fs : List (Frame Named)) (f : Frame Named) (l : ℕ) → IsSound env (f ∷ fs) (with_control (end_at l) End)
   close_sound fs f l = end_sound f fs l

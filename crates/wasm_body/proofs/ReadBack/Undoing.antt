@@ -1,5 +1,5 @@
 -- Maps that map the number of each id that has one to the id undo the numbers of every lawful body's normal form.
-use Rattle.std.proofs.Common.{◌≡◌, ℕ, List, [], ◌∷◌, map, Option, Some, None, Ok, refl, sym, ◌∙◌, subst}
+use Rattle.std.proofs.Common.{◌≡◌, ℕ, List, [], ◌∷◌, map, false, Option, Some, None, Ok, refl, sym, ◌∙◌, subst}
 use Rattle.std.specs.List.{AllByRecursion}
 use Rattle.walrus_ir.specs.declared.val_type.HeapType.{HeapType}
 use Rattle.walrus_ir.specs.declared.val_type.HeapType.TheVariants.{Abstract, Concrete}
@@ -20,9 +20,9 @@ use Rattle.wasm_body.specs.FlatText.{tree_text, with_ids}
 use Rattle.wasm_body.specs.Bytes.{Numbers}
 use Rattle.wasm_body.specs.ReadBack.{EachInHeap, EachInValue, EachInTag, EachIn, IsUndone, IsUndoneLocal, IsUndoneType, AreUndone, IsInverse, InverseUndoes}
 use Rattle.wasm_body.proofs.Structure.Along.{Each, AllMarked, Tells, each_of, all_of_each, each_reshown, weaker}
-use Rattle.wasm_body.specs.RewrittenTree.{end_at, rewritten, rewritten_body}
+use Rattle.wasm_body.specs.RewrittenTree.{end_at, rewritten}
 use Rattle.wasm_body.proofs.NormalForm.Rewritten.{Named, each_rewritten}
-use Rattle.wasm_body.proofs.NormalForm.WrittenTexts.{type_at, with_type, ids_at, ids_text}
+use Rattle.wasm_body.proofs.NormalForm.WrittenTexts.{type_at, with_type, ids_at, anew_by, ids_text}
 use Rattle.wasm_body.proofs.Translation.Kinds.{at_once}
 
 -- ---- ids
@@ -96,13 +96,13 @@ module _ (env : Environment) (xs : List Occurrence) (body : Body Occurrence) (la
   source_kept : Each (λ a c. Tells a c × HasUndoneType a c) (named_body body).sequence
   source_kept = each_reshown (λ a c. Tells a c × HasUndoneType a c) name_at body.sequence kept
 
-  both_kept : Each (λ a c. Tells a c × HasUndoneType a c) (rewritten (named_body body).sequence)
+  both_kept : Each (λ a c. Tells a c × HasUndoneType a c) (rewritten (λ o. false) (named_body body).sequence)
   both_kept =
-      each_rewritten (λ a c. Tells a c × HasUndoneType a c) (λ a c. Tells a c × HasUndoneType a c) (λ a action h. h) (λ a construct h. h)
+      each_rewritten (λ o. false) (λ a c. Tells a c × HasUndoneType a c) (λ a c. Tells a c × HasUndoneType a c) (λ a action h. h) (λ a construct h. h)
       (λ l. (refl, tt)) (λ l. (refl, tt)) (λ a t l h. (refl, tt)) (λ l. (refl, tt)) (λ e n l h. (refl, tt)) (named_body body).sequence source_kept
 
   abbrev ms : List (Marked Named)
-  ms = body_text (rewritten_body (named_body body))
+  ms = body_text (anew_by with_ids.balanced m (named_body body))
 
   ids_undone : (ys : List (Marked Named)) → AllMarked (λ a c. Tells a c × HasUndoneType a c) ys → AllByRecursion (λ x. AreUndone to again x.op.immediates) (map (ids_at m) ys)
   ids_undone [] h = tt
@@ -112,7 +112,7 @@ module _ (env : Environment) (xs : List Occurrence) (body : Body Occurrence) (la
   ids ys e =
       let text = ids_text m (named_body body) (weaker (λ a c. Tells a c × HasUndoneType a c) Tells (λ a c h. h.0) (named_body body).sequence source_kept) in
       let whole : AllByRecursion (λ x. AreUndone to again x.op.immediates) (map (ids_at m) ms) =
-      ids_undone ms (all_of_each (λ a c. Tells a c × HasUndoneType a c) (rewritten (named_body body).sequence) (with_control (end_at body.close.location) End ∷ []) both_kept ((refl, tt), tt)) in
+      ids_undone ms (all_of_each (λ a c. Tells a c × HasUndoneType a c) (rewritten (λ o. false) (named_body body).sequence) (with_control (end_at body.close.location) End ∷ []) both_kept ((refl, tt), tt)) in
       at_once (map (ids_at m) ms) (AllByRecursion (λ x. AreUndone to again x.op.immediates)) whole ys (sym text ∙ e)
 
 pub inverse_undoes : InverseUndoes

@@ -12,7 +12,7 @@ number_others-requires-clause-arguments c = nothing_cut c.args.args.now c.in_ok-
 
 pub returns-in-Err-declarations-clause-err : goal.returns-in-Err-declarations-clause-err
 returns-in-Err-declarations-clause-err c =
-    let to = numbers_by c.args.indices.now [] in
+    let to = numbers_by c.args.module.now.types c.args.indices.now [] in
     let found = c.as_slice-3.ensures.value ∙ (c.in_ok-runs.ensures ∙ ap (λ ls. runs (types_of ls)) c.as_slice-2.ensures.value) in
     elim c.in-Err-declarations.ensures.err [
       | inl memory ↦ inl memory

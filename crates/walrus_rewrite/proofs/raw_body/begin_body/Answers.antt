@@ -7,5 +7,5 @@ pub new-requires : goal.new-requires
 new-requires c =
     let made = c.in-Ok.made in
     let d = c.in-Ok.ensures.ok in
-    let few = few_declarations (numbers_by c.args.indices.now []) (length c.args.function.now.args) d.others made.0.items d.declarations_are in
+    let few = few_declarations (numbers_by c.args.module.now.types c.args.indices.now []) (length c.args.function.now.args) d.others made.0.items d.declarations_are in
     subst (λ (l : List _). length l < 2 ^ 32) (sym c.as_slice.ensures.value) few

@@ -12,13 +12,13 @@ returns-in-Ok-emit_instructions-clause-ok c =
     let f = a.function.now.builder in
     let made = c.in-Ok.made in
     let bytes = c.into_raw_body.result.items in
-    writes a.indices.now a.module.now.locals a.function.now.args (contains (λ x y. x == y) a.used.now) f made.0 made.1.entries c.in-Ok.ensures.ok
+    writes a.module.now.types a.indices.now a.module.now.locals a.function.now.args (contains (λ x y. x == y) a.used.now) f made.0 made.1.entries c.in-Ok.ensures.ok
     (λ to old. Appends f.sequences (first_slot f) to old bytes c.args.map.now.items c.emit_instructions.new.map.0.items)
-    (subst (λ b. Appends f.sequences (first_slot f) (numbers_by a.indices.now made.1.entries) made.0 b c.args.map.now.items c.emit_instructions.new.map.0.items) (sym c.into_raw_body.ensures) c.in-Ok-emit_instructions.ensures.ok)
+    (subst (λ b. Appends f.sequences (first_slot f) (numbers_by a.module.now.types a.indices.now made.1.entries) made.0 b c.args.map.now.items c.emit_instructions.new.map.0.items) (sym c.into_raw_body.ensures) c.in-Ok-emit_instructions.ensures.ok)
 
 pub returns-in-Err-emit_instructions-clause-err : goal.returns-in-Err-emit_instructions-clause-err
 returns-in-Err-emit_instructions-clause-err c =
     let a = c.args in
     let made = c.in-Ok.made in
-    declines a.indices.now a.module.now.locals a.function.now.args (contains (λ x y. x == y) a.used.now) a.function.now.builder made.0 made.1.entries c.in-Ok.ensures.ok
+    declines a.module.now.types a.indices.now a.module.now.locals a.function.now.args (contains (λ x y. x == y) a.used.now) a.function.now.builder made.0 made.1.entries c.in-Ok.ensures.ok
     c.in-Err-emit_instructions.fault c.in-Err-emit_instructions.ensures.err

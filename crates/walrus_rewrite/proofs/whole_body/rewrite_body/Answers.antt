@@ -1,4 +1,4 @@
-use Rattle.std.proofs.Common.{Some, None}
+use Rattle.std.proofs.Common.{Some, None, refl}
 use Rattle.walrus_parser.specs.Bodies.{body_input}
 use Rattle.walrus_rewrite.proofs.RewrittenLemmas.{begins_all, all_with_map, all_without_map, few_operators, refused_all, faults_all, bodies_all}
 use Rattle.walrus_rewrite.proofs.whole_body.rewrite_body.Goals as goal
@@ -11,7 +11,7 @@ finish-requires g c = begins_all g.F.Fn (body_input c.args.module.now c.args.ind
 
 pub returns-in-Some-clause-rewritten : goal.returns-in-Some-clause-rewritten
 returns-in-Some-clause-rewritten g c =
-    rw c.in-Some.is (all_with_map g.F.Fn (body_input c.args.module.now c.args.indices.now c.args.id c.args.ty c.args.body c.args.on_instr_pos g.V.OpCheck.check (g.V.OpCheck.state c.args.validator)) c.args.module.now c.args.out.now c.args.args.items c.parse-parsed.result c.finish_with_map.result c.parse-parsed.ensures.accepted c.parse-parsed.ensures.args c.args.dst.now.items c.finish_with_map.new.dst.items c.in-Some.list _ c.finish_with_map.ensures.ok)
+    rw c.in-Some.is (all_with_map g.F.Fn (body_input c.args.module.now c.args.indices.now c.args.id c.args.ty c.args.body c.args.on_instr_pos g.V.OpCheck.check (g.V.OpCheck.state c.args.validator)) c.args.module.now c.args.out.now c.args.args.items (λ t. refl) c.parse-parsed.result c.finish_with_map.result c.parse-parsed.ensures.accepted c.parse-parsed.ensures.args c.args.dst.now.items c.finish_with_map.new.dst.items c.in-Some.list _ c.finish_with_map.ensures.ok)
 
 pub returns-in-Some-clause-same_pairs : goal.returns-in-Some-clause-same_pairs
 returns-in-Some-clause-same_pairs g c = rw c.in-Some.is c.finish_with_map.ensures.same_pairs
@@ -30,7 +30,7 @@ returns-in-Some-clause-each_fault g c locations f both fault =
 
 pub returns-in-None-clause-rewritten : goal.returns-in-None-clause-rewritten
 returns-in-None-clause-rewritten g c =
-    rw c.in-None.is (all_without_map g.F.Fn (body_input c.args.module.now c.args.indices.now c.args.id c.args.ty c.args.body c.args.on_instr_pos g.V.OpCheck.check (g.V.OpCheck.state c.args.validator)) c.args.module.now c.args.out.now c.args.args.items _ c.parse-parsed.result c.finish.result c.parse-parsed.ensures.accepted c.parse-parsed.ensures.args c.args.dst.now.items c.finish.new.dst.items c.finish.ensures.ok)
+    rw c.in-None.is (all_without_map g.F.Fn (body_input c.args.module.now c.args.indices.now c.args.id c.args.ty c.args.body c.args.on_instr_pos g.V.OpCheck.check (g.V.OpCheck.state c.args.validator)) c.args.module.now c.args.out.now c.args.args.items _ (λ t. refl) c.parse-parsed.result c.finish.result c.parse-parsed.ensures.accepted c.parse-parsed.ensures.args c.args.dst.now.items c.finish.new.dst.items c.finish.ensures.ok)
 
 pub returns-in-None-clause-refused : goal.returns-in-None-clause-refused
 returns-in-None-clause-refused g c =

@@ -40,7 +40,7 @@ returns-clause-err c =
     let used = contains (λ x y. x == y) c.in-Ok.facts.used_locals in
     let made = c.in-Ok-begin_body.made in
     let e = c.in-Err-emit_instructions.fault in
-    let declined = declines a.numbers.now a.module.now.locals a.function.now.args used f made.0 made.1.entries c.in-Ok-begin_body.ensures.ok e c.in-Err-emit_instructions.ensures.err in
+    let declined = declines a.module.now.types a.numbers.now a.module.now.locals a.function.now.args used f made.0 made.1.entries c.in-Ok-begin_body.ensures.ok e c.in-Err-emit_instructions.ensures.err in
     let why = why_not f found.tree found.is_tree used found.holds.used_locals (given a.numbers.now a.module.now a.function.now) e declined in
     no_fault f r.is_parsed e
     (subst (λ (g : Given). (e ≡ Memory) ⊎ ((t : FunctionTree) × HasTree f.sequences (first_slot f) t × HasNoRawBody g t e)) (same_given a.numbers.now a.module.now a.function.now r.numbers_are r.module_is r.args_are) why)
@@ -55,7 +55,7 @@ returns-in-Ok-emit_instructions-clause-ok c b has =
     let made = c.in-Ok-begin_body.made in
     let begins = c.in-Ok-begin_body.ensures.ok in
     let bytes = c.emit_instructions.new.dst in
-    let written = writes a.numbers.now a.module.now.locals a.function.now.args used f made.0 made.1.entries begins
+    let written = writes a.module.now.types a.numbers.now a.module.now.locals a.function.now.args used f made.0 made.1.entries begins
     (λ to old. AppendsBytes f.sequences (first_slot f) to old bytes) c.in-Ok-emit_instructions.ensures.ok in
     let raw = of_bytes f found.tree found.is_tree used found.holds.used_locals (given a.numbers.now a.module.now a.function.now) bytes written in
     normal_bytes f r.is_parsed (given a.numbers.now a.module.now a.function.now) (same_given a.numbers.now a.module.now a.function.now r.numbers_are r.module_is r.args_are)
