@@ -55,6 +55,10 @@ IsDebugName name = (name ≡ codes "sourceMappingURL") ⊎ ((name ≡ codes "ext
 abbrev pub HasDebugName : (contents : List ℕ) → Type 0
 HasDebugName contents = (name behind : List ℕ) × (u32 contents ≡ Ok (length name, name ++ behind)) × IsDebugName name
 
+-- A custom section says where the source map is.
+abbrev pub HasSourceMapName : (contents : List ℕ) → Type 0
+HasSourceMapName contents = (name behind : List ℕ) × (u32 contents ≡ Ok (length name, name ++ behind)) × (name ≡ codes "sourceMappingURL")
+
 -- Of a section that holds no code: contents that are written in the place of its own. Of custom ones it isn't said what
 -- they are.
 pub data IsReplacedBy (changes : Changes) (s : SectionAt) (contents : List ℕ) : Type 0 where
@@ -65,11 +69,11 @@ pub data IsReplacedBy (changes : Changes) (s : SectionAt) (contents : List ℕ) 
 abbrev pub IsCarriedOver : Changes → SectionAt → Type 0
 IsCarriedOver changes s = s.id ≢ 0 → contents_in changes.given.items s.id ≡ None
 
--- Or it is left out: debug information, where that is asked for.
+-- Or it is left out, where that is asked for: debug information, or where the source map is.
 pub record IsLeftOut (changes : Changes) (s : SectionAt) : Type 0 where
-  pub is_asked : changes.leaves_out_debug ≡ true
   pub is_custom : s.id ≡ 0
-  pub is_debug : HasDebugName s.contents
+  pub is_asked :
+      ((changes.leaves_out_debug ≡ true) × HasDebugName s.contents) ⊎ ((changes.leaves_out_source_map ≡ true) × HasSourceMapName s.contents)
 
 -- ---- bodies
 
