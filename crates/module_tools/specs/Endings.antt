@@ -2,12 +2,13 @@
 use Rattle.std.specs.Prelude.{◌≡◌, ℕ, List}
 use Rattle.module_tools.specs.declared.ending.Attempt.{Attempt}
 use Rattle.module_tools.specs.declared.ending.Stop.{Stop}
-use Rattle.module_tools.specs.declared.ending.Stop.TheVariants.{WrongUse, Module, File, Memory}
+use Rattle.module_tools.specs.declared.ending.Stop.TheVariants.{WrongUse, Module, SourceMap, File, Memory}
 
 -- the status of a program that ends so: 2 for wrong use, 1 for all else
 abbrev pub status_of : Stop → ℕ
 status_of (WrongUse _) = 2
 status_of (Module _) = 1
+status_of (SourceMap _ _) = 1
 status_of (File _ _ _) = 1
 status_of Memory = 1
 
@@ -15,5 +16,6 @@ status_of Memory = 1
 abbrev pub IsMemoryOr : Attempt → (path : List ℕ) → Stop → Type 0
 IsMemoryOr tried path (WrongUse _) = ⊥
 IsMemoryOr tried path (Module _) = ⊥
+IsMemoryOr tried path (SourceMap _ _) = ⊥
 IsMemoryOr tried path (File p t _) = (p.now ≡ path) × (t ≡ tried)
 IsMemoryOr tried path Memory = Unit {0}

@@ -29,5 +29,6 @@ ArePathsOf task _ = ⊥
 abbrev pub IsRefusedTask : Task → Stop → Type 0
 IsRefusedTask task (stop.WrongUse wrong) = ArePathsOf task wrong
 IsRefusedTask task (stop.Module _) = ⊥
+IsRefusedTask task (stop.SourceMap _ _) = ⊥
 IsRefusedTask task (stop.File _ tried _) = tried ≡ Write
 IsRefusedTask task stop.Memory = Unit {0}

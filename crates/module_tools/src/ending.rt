@@ -6,6 +6,7 @@ ghost use Rattle.module_tools.specs.Endings.{status_of, IsMemoryOr};
 
 use crate::escaped::Escaped;
 use crate::wrong_use::WrongUse;
+use source_map_json::{SourceMapError, SourceMapFault};
 use std::alloc::{AllocError, AllocFailed, Global};
 use std::process::ExitCode;
 use std::rt::Env;
@@ -165,6 +166,11 @@ pub enum Stop<'w> {
     WrongUse(WrongUse<'w>),
     /// The module is refused.
     Module(Refusal<'w>),
+    /// The source map is refused.
+    SourceMap {
+        path: &'w str,
+        fault: SourceMapFault,
+    },
     /// Something can't be done with a file.
     File {
         path: &'w str,
@@ -191,6 +197,14 @@ impl<'w> Stop<'w> {
         }
     }
 
+    /// The source map that was read from this file is refused.
+    pub fn source_map(path: &'w str, error: SourceMapError) -> Stop<'w> {
+        match error {
+            SourceMapError::Memory => Stop::Memory,
+            SourceMapError::Fault(fault) => Stop::SourceMap { path, fault },
+        }
+    }
+
     /// This can't be done with a file.
     pub fn file(path: &'w str, tried: Attempt, error: io::Error) -> Stop<'w>
         ensures { IsMemoryOr tried path.entry.now result }
@@ -207,6 +221,11 @@ impl fmt::Display for Stop<'_> {
         match self {
             Stop::WrongUse(error) => write!(f, "{error}"),
             Stop::Module(error) => write!(f, "{error}"),
+            Stop::SourceMap { path, fault } => {
+                let path = Shown(path, "standard input");
+                let name = fault.name();
+                write!(f, "{path}: {fault} ({name})")
+            }
             Stop::File { path, tried, error } => {
                 let stream = match tried {
                     Attempt::Open | Attempt::Read => "standard input",

@@ -16,6 +16,17 @@ pub struct Program {
     pub takes_functions: bool,
 }
 
+/// The files of source maps.
+#[derive(Clone, Copy)]
+pub struct MapPaths<'w> {
+    /// The source map of the module that is read.
+    pub input: &'w str,
+    /// Where the source map of the module that is written goes.
+    pub output: &'w str,
+    /// Where that is found, as the module will say; none where the module says what it said before.
+    pub url: Option<&'w str>,
+}
+
 /// What a program is to do. A path is `-` for standard input or output.
 #[derive(Drop)]
 pub struct Task<'w> {
@@ -24,6 +35,8 @@ pub struct Task<'w> {
     pub output: Option<&'w str>,
     /// Where the location map is written.
     pub map: Option<&'w str>,
+    /// The source map that follows the module, if one is asked for.
+    pub source_map: Option<MapPaths<'w>>,
     /// The functions that are asked for, by index or by name.
     pub functions: Vec<&'w str>,
     /// Whether counts and the time are printed.
@@ -49,6 +62,9 @@ enum Choice {
     StripDebug,
     Check,
     Map,
+    SourceMap,
+    OutputSourceMap,
+    SourceMapUrl,
 }
 
 impl Choice {
@@ -61,8 +77,34 @@ impl Choice {
             "--strip-debug" => Some(Choice::StripDebug),
             "--check" if program.takes_check => Some(Choice::Check),
             "--map" => Some(Choice::Map),
+            "--source-map" => Some(Choice::SourceMap),
+            "--output-source-map" => Some(Choice::OutputSourceMap),
+            "--source-map-url" => Some(Choice::SourceMapUrl),
             _ => None,
         }
+    }
+
+    /// The long name of the option.
+    fn name(self) -> &'static str {
+        match self {
+            Choice::Help => "--help",
+            Choice::Version => "--version",
+            Choice::Verbose => "--verbose",
+            Choice::StripDebug => "--strip-debug",
+            Choice::Check => "--check",
+            Choice::Map => "--map",
+            Choice::SourceMap => "--source-map",
+            Choice::OutputSourceMap => "--output-source-map",
+            Choice::SourceMapUrl => "--source-map-url",
+        }
+    }
+
+    /// Whether the option takes a value.
+    fn takes_value(self) -> bool {
+        matches!(
+            self,
+            Choice::Map | Choice::SourceMap | Choice::OutputSourceMap | Choice::SourceMapUrl
+        )
     }
 }
 
@@ -73,8 +115,11 @@ struct Words<'w> {
     strips_debug: bool,
     is_check: bool,
     map: Option<&'w str>,
-    /// Whether the next word is where the map is written.
-    awaits_map: bool,
+    source_map: Option<&'w str>,
+    output_source_map: Option<&'w str>,
+    source_map_url: Option<&'w str>,
+    /// The option whose value is the next word.
+    awaits: Option<Choice>,
     /// Whether `--` came, after which no word is an option.
     has_ended: bool,
     input: Option<&'w str>,
@@ -107,7 +152,10 @@ impl<'w> Words<'w> {
             strips_debug: false,
             is_check: false,
             map: None,
-            awaits_map: false,
+            source_map: None,
+            output_source_map: None,
+            source_map_url: None,
+            awaits: None,
             has_ended: false,
             input: None,
             output: None,
@@ -115,13 +163,37 @@ impl<'w> Words<'w> {
         }
     }
 
-    /// Takes the option `--map`, whose value may be in the next word.
-    fn take_map(&mut self, value: Option<&'w str>) -> Result<(), WrongUse<'w>> {
-        if self.map.is_some() {
-            return Err(WrongUse::GivenTwice("--map"));
+    /// The value of an option that takes one, if it is given.
+    fn value_of(&self, choice: Choice) -> Option<&'w str> {
+        match choice {
+            Choice::Map => self.map,
+            Choice::SourceMap => self.source_map,
+            Choice::OutputSourceMap => self.output_source_map,
+            Choice::SourceMapUrl => self.source_map_url,
+            _ => None,
         }
-        self.awaits_map = value.is_none();
-        self.map = value;
+    }
+
+    /// Sets the value of an option that takes one.
+    fn set_value(&mut self, choice: Choice, value: &'w str) {
+        match choice {
+            Choice::Map => self.map = Some(value),
+            Choice::SourceMap => self.source_map = Some(value),
+            Choice::OutputSourceMap => self.output_source_map = Some(value),
+            Choice::SourceMapUrl => self.source_map_url = Some(value),
+            _ => {}
+        }
+    }
+
+    /// Takes an option with a value, which may be in the next word.
+    fn take_value(&mut self, choice: Choice, value: Option<&'w str>) -> Result<(), WrongUse<'w>> {
+        if self.value_of(choice).is_some() {
+            return Err(WrongUse::GivenTwice(choice.name()));
+        }
+        match value {
+            Some(value) => self.set_value(choice, value),
+            None => self.awaits = Some(choice),
+        }
         Ok(())
     }
 
@@ -135,7 +207,7 @@ impl<'w> Words<'w> {
         let Some(choice) = Choice::named(name, program) else {
             return Err(WrongUse::UnknownOption(name));
         };
-        if value.is_some() && choice != Choice::Map {
+        if value.is_some() && !choice.takes_value() {
             return Err(WrongUse::UnwantedValue(name));
         }
         match choice {
@@ -144,7 +216,7 @@ impl<'w> Words<'w> {
             Choice::Verbose => switch(&mut self.is_verbose, "--verbose")?,
             Choice::StripDebug => switch(&mut self.strips_debug, "--strip-debug")?,
             Choice::Check => switch(&mut self.is_check, "--check")?,
-            Choice::Map => self.take_map(value)?,
+            _ => self.take_value(choice, value)?,
         }
         Ok(None)
     }
@@ -163,9 +235,9 @@ impl<'w> Words<'w> {
 
     /// Takes a word. One that asks for help or the version ends the reading.
     fn take(&mut self, program: &Program, word: &'w str) -> Result<Option<Request<'w>>, Stop<'w>> {
-        if self.awaits_map {
-            self.awaits_map = false;
-            self.map = Some(word);
+        if let Some(choice) = self.awaits {
+            self.awaits = None;
+            self.set_value(choice, word);
         } else if self.has_ended || word == "-" || !word.starts_with('-') {
             self.take_operand(word)?;
         } else if word == "--" {
@@ -180,20 +252,49 @@ impl<'w> Words<'w> {
     fn not_with_check(&self) -> Option<&'static str> {
         match () {
             _ if self.map.is_some() => Some("--map"),
+            _ if self.source_map.is_some() => Some("--source-map"),
+            _ if self.output_source_map.is_some() => Some("--output-source-map"),
+            _ if self.source_map_url.is_some() => Some("--source-map-url"),
             _ if self.strips_debug => Some("--strip-debug"),
+            _ => None,
+        }
+    }
+
+    /// What is wrong with the options of source maps, if something is.
+    fn source_map_fault(&self) -> Option<WrongUse<'w>> {
+        let (input, output) = ("--source-map", "--output-source-map");
+        match (self.source_map, self.output_source_map, self.source_map_url) {
+            (Some(_), None, _) => Some(WrongUse::Requires(input, output)),
+            (None, Some(_), _) => Some(WrongUse::Requires(output, input)),
+            (None, None, Some(_)) => Some(WrongUse::Requires("--source-map-url", input)),
+            _ => None,
+        }
+    }
+
+    /// The files of source maps, if both are given.
+    fn map_paths(&self) -> Option<MapPaths<'w>> {
+        match (self.source_map, self.output_source_map) {
+            (Some(input), Some(output)) => Some(MapPaths {
+                input,
+                output,
+                url: self.source_map_url,
+            }),
             _ => None,
         }
     }
 
     /// What is wrong with all words together, if something is.
     fn fault(&self, program: &Program) -> Option<WrongUse<'w>> {
-        if self.awaits_map {
-            return Some(WrongUse::NoValue("--map"));
+        if let Some(choice) = self.awaits {
+            return Some(WrongUse::NoValue(choice.name()));
         }
         if self.is_check
             && let Some(option) = self.not_with_check()
         {
             return Some(WrongUse::NotWithCheck(option));
+        }
+        if let Some(fault) = self.source_map_fault() {
+            return Some(fault);
         }
         match (self.output, self.functions.first()) {
             (Some(output), _) if self.is_check => Some(WrongUse::Unexpected(output)),
@@ -216,6 +317,7 @@ impl<'w> Words<'w> {
             input,
             output: self.output,
             map: self.map,
+            source_map: self.map_paths(),
             functions: self.functions,
             is_verbose: self.is_verbose,
             strips_debug: self.strips_debug,

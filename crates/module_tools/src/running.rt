@@ -9,6 +9,8 @@ use crate::names::{Bytes, Found, FunctionNames, function_at};
 use crate::places::check_files;
 use crate::program::{Program, Request, Task, read_words};
 use crate::progress::{Progress, Watched};
+use crate::source_map_places::check_source_maps;
+use crate::source_maps::write_with_source_map;
 use crate::warnings::warn;
 use crate::writing::write_module;
 use crate::wrong_use::WrongUse;
@@ -315,7 +317,7 @@ fn rewritten<'w, 'a, R: Eprint + Clock + AllocGlobal, T: Tool>(
 }
 
 /// Writes a module that was made of one, after what is wrong now with its sections is said.
-fn write_made<'w, R: Files + Print + Eprint + AllocGlobal + Drop, B: BodyWriter + Drop>(
+fn write_made<'w, R: Files + Input + Print + Eprint + AllocGlobal + Drop, B: BodyWriter + Drop>(
     rt: &'w R,
     name: &str,
     task: &Task<'w>,
@@ -326,12 +328,15 @@ fn write_made<'w, R: Files + Print + Eprint + AllocGlobal + Drop, B: BodyWriter 
     if task.strips_debug {
         module.leave_out_debug();
     }
-    warn(rt, name, &module.notes, task.strips_debug);
+    if let Some(paths) = task.source_map {
+        return write_with_source_map(rt, name, task, paths, parsed, &mut module, output);
+    }
+    warn(rt, name, &module.notes, task);
     write_module(rt, parsed, &module, task, output)
 }
 
 /// Writes what the program makes of a module.
-fn rewrite<'w, 'a, R: Files + Clock + Print + Eprint + AllocGlobal + Drop, T: Tool>(
+fn rewrite<'w, 'a, R: Files + Input + Clock + Print + Eprint + AllocGlobal + Drop, T: Tool>(
     rt: &'w R,
     tool: &T,
     program: &Program,
@@ -350,7 +355,7 @@ fn rewrite<'w, 'a, R: Files + Clock + Print + Eprint + AllocGlobal + Drop, T: To
 }
 
 /// Does what is asked for with a module that was read, and returns how many bodies are refused.
-fn run_with<'w, 'a, R: Files + Clock + Print + Eprint + AllocGlobal + Drop, T: Tool>(
+fn run_with<'w, 'a, R: Files + Input + Clock + Print + Eprint + AllocGlobal + Drop, T: Tool>(
     rt: &'w R,
     tool: &T,
     program: &Program,
@@ -368,7 +373,7 @@ fn run_with<'w, 'a, R: Files + Clock + Print + Eprint + AllocGlobal + Drop, T: T
 }
 
 /// Does what is asked for with a module of these bytes.
-fn run_over<'w, 'a, R: Files + Clock + Print + Eprint + AllocGlobal + Drop, T: Tool>(
+fn run_over<'w, 'a, R: Files + Input + Clock + Print + Eprint + AllocGlobal + Drop, T: Tool>(
     rt: &'w R,
     tool: &T,
     program: &Program,
@@ -421,6 +426,10 @@ fn run_task<'w, R: Files + Input + Clock + Print + Eprint + AllocGlobal + Drop, 
         return Err(Stop::WrongUse(WrongUse::Terminal));
     }
     match check_files(rt, task) {
+        Ok(()) => {}
+        Err(stop) => return Err(stop),
+    }
+    match check_source_maps(rt, task) {
         Ok(()) => {}
         Err(stop) => return Err(stop),
     }

@@ -9,7 +9,7 @@ use std::rt::Files;
 use wasm_module::{BodyWriter, ParsedModule, RewrittenModule, WriteError};
 
 /// Writes what a buffer still holds.
-fn flush<W: Write>(out: &mut W) -> Result<(), WriteError> {
+pub(crate) fn flush<W: Write>(out: &mut W) -> Result<(), WriteError> {
     match out.flush() {
         Ok(()) => Ok(()),
         Err(error) => Err(WriteError::Io(error)),
@@ -87,7 +87,12 @@ fn write_both_buffered<W: Write, B: BodyWriter>(
 }
 
 /// Why a module that was read from one file isn't written to another.
-fn stop_of<'w>(alloc: Global, input: &'w str, output: &'w str, error: WriteError) -> Stop<'w> {
+pub(crate) fn stop_of<'w>(
+    alloc: Global,
+    input: &'w str,
+    output: &'w str,
+    error: WriteError,
+) -> Stop<'w> {
     match error {
         WriteError::Module(error) => Stop::refused(alloc, input, None, &error),
         WriteError::Io(error) => Stop::file(output, Attempt::Write, error),

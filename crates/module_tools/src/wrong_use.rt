@@ -14,6 +14,8 @@ pub enum WrongUse<'w> {
     NoValue(&'w str),
     /// A value is given with an option that takes none.
     UnwantedValue(&'w str),
+    /// An option is given without another that it requires.
+    Requires(&'static str, &'static str),
     /// An option is given with `--check`, which writes nothing.
     NotWithCheck(&'w str),
     NoInput,
@@ -42,6 +44,7 @@ impl fmt::Display for WrongUse<'_> {
             WrongUse::GivenTwice(name) => write!(f, "option '{name}' is given twice"),
             WrongUse::NoValue(name) => write!(f, "option '{name}' requires a value"),
             WrongUse::UnwantedValue(name) => write!(f, "option '{name}' takes no value"),
+            WrongUse::Requires(name, other) => write!(f, "option '{name}' requires '{other}'"),
             WrongUse::NotWithCheck(name) => {
                 write!(
                     f,
