@@ -53,87 +53,95 @@ pub enum Request<'w> {
     Task(Task<'w>),
 }
 
-/// An option of the programs.
-#[derive(Clone, Copy, PartialEq, Eq)]
-enum Choice {
+/// A page that is printed, in the place of a task.
+#[derive(Clone, Copy)]
+enum Page {
     Help,
     Version,
+}
+
+/// An option that takes no value.
+#[derive(Clone, Copy)]
+enum Switch {
     Verbose,
     StripDebug,
     Check,
+}
+
+/// An option that takes a value.
+#[derive(Clone, Copy)]
+enum Valued {
     Map,
     SourceMap,
     OutputSourceMap,
     SourceMapUrl,
 }
 
-impl Choice {
-    /// The option with this name.
-    fn named(name: &str, program: &Program) -> Option<Choice> {
+impl Valued {
+    fn named(name: &str) -> Option<Valued> {
         match name {
-            "-h" | "--help" => Some(Choice::Help),
-            "-V" | "--version" => Some(Choice::Version),
-            "-v" | "--verbose" => Some(Choice::Verbose),
-            "--strip-debug" => Some(Choice::StripDebug),
-            "--check" if program.takes_check => Some(Choice::Check),
-            "--map" => Some(Choice::Map),
-            "--source-map" => Some(Choice::SourceMap),
-            "--output-source-map" => Some(Choice::OutputSourceMap),
-            "--source-map-url" => Some(Choice::SourceMapUrl),
+            "--map" => Some(Valued::Map),
+            "--source-map" => Some(Valued::SourceMap),
+            "--output-source-map" => Some(Valued::OutputSourceMap),
+            "--source-map-url" => Some(Valued::SourceMapUrl),
             _ => None,
         }
     }
 
-    /// The long name of the option.
     fn name(self) -> &'static str {
         match self {
-            Choice::Help => "--help",
-            Choice::Version => "--version",
-            Choice::Verbose => "--verbose",
-            Choice::StripDebug => "--strip-debug",
-            Choice::Check => "--check",
-            Choice::Map => "--map",
-            Choice::SourceMap => "--source-map",
-            Choice::OutputSourceMap => "--output-source-map",
-            Choice::SourceMapUrl => "--source-map-url",
+            Valued::Map => "--map",
+            Valued::SourceMap => "--source-map",
+            Valued::OutputSourceMap => "--output-source-map",
+            Valued::SourceMapUrl => "--source-map-url",
         }
     }
+}
 
-    /// Whether the option takes a value.
-    fn takes_value(self) -> bool {
-        matches!(
-            self,
-            Choice::Map | Choice::SourceMap | Choice::OutputSourceMap | Choice::SourceMapUrl
-        )
+/// An option of the programs.
+#[derive(Clone, Copy)]
+enum Choice {
+    Page(Page),
+    Switch(Switch),
+    Valued(Valued),
+}
+
+impl Choice {
+    /// The option with this name.
+    fn named(name: &str, program: &Program) -> Option<Choice> {
+        match name {
+            "-h" | "--help" => Some(Choice::Page(Page::Help)),
+            "-V" | "--version" => Some(Choice::Page(Page::Version)),
+            "-v" | "--verbose" => Some(Choice::Switch(Switch::Verbose)),
+            "--strip-debug" => Some(Choice::Switch(Switch::StripDebug)),
+            "--check" if program.takes_check => Some(Choice::Switch(Switch::Check)),
+            _ => match Valued::named(name) {
+                Some(valued) => Some(Choice::Valued(valued)),
+                None => None,
+            },
+        }
     }
 }
 
-/// The words, taken apart.
-#[derive(Drop)]
-struct Words<'w> {
-    is_verbose: bool,
-    strips_debug: bool,
-    is_check: bool,
-    map: Option<&'w str>,
-    source_map: Option<&'w str>,
-    output_source_map: Option<&'w str>,
-    source_map_url: Option<&'w str>,
-    /// The option whose value is the next word.
-    awaits: Option<Choice>,
-    /// Whether `--` came, after which no word is an option.
-    has_ended: bool,
-    input: Option<&'w str>,
-    output: Option<&'w str>,
-    /// The words after these two.
-    functions: Vec<&'w str>,
-}
-
-/// Sets a switch that is given.
-fn switch(is_on: &mut bool, name: &'static str) -> Result<(), WrongUse<'static>> {
-    if *is_on {
+/// Turns a switch on.
+fn turn_on(switch: &mut bool, name: &'static str) -> Result<(), WrongUse<'static>> {
+    if *switch {
         return Err(WrongUse::GivenTwice(name));
     }
-    *is_on = true;
+    *switch = true;
+    Ok(())
+}
+
+/// Gives an option its value, if that is known.
+fn give<'w>(
+    option: &mut Option<&'w str>,
+    value: Option<&'w str>,
+    name: &'static str,
+) -> Result<(), WrongUse<'w>> {
+    if option.is_some() {
+        return Err(WrongUse::GivenTwice(name));
+    }
+    *option = value;
     Ok(())
 }
 
@@ -145,9 +153,23 @@ fn split_option(word: &str) -> (&str, Option<&str>) {
     }
 }
 
-impl<'w> Words<'w> {
-    fn new(alloc: Global) -> Words<'w> {
-        Words {
+/// The options that are given.
+#[derive(Clone, Copy)]
+struct Options<'w> {
+    is_verbose: bool,
+    strips_debug: bool,
+    is_check: bool,
+    map: Option<&'w str>,
+    source_map: Option<&'w str>,
+    output_source_map: Option<&'w str>,
+    source_map_url: Option<&'w str>,
+    /// The option whose value is the next word.
+    awaits: Option<Valued>,
+}
+
+impl<'w> Options<'w> {
+    fn none() -> Options<'w> {
+        Options {
             is_verbose: false,
             strips_debug: false,
             is_check: false,
@@ -156,96 +178,48 @@ impl<'w> Words<'w> {
             output_source_map: None,
             source_map_url: None,
             awaits: None,
-            has_ended: false,
-            input: None,
-            output: None,
-            functions: Vec::new(alloc),
         }
     }
 
-    /// The value of an option that takes one, if it is given.
-    fn value_of(&self, choice: Choice) -> Option<&'w str> {
-        match choice {
-            Choice::Map => self.map,
-            Choice::SourceMap => self.source_map,
-            Choice::OutputSourceMap => self.output_source_map,
-            Choice::SourceMapUrl => self.source_map_url,
-            _ => None,
+    fn take_switch(&mut self, switch: Switch) -> Result<(), WrongUse<'w>> {
+        match switch {
+            Switch::Verbose => turn_on(&mut self.is_verbose, "--verbose"),
+            Switch::StripDebug => turn_on(&mut self.strips_debug, "--strip-debug"),
+            Switch::Check => turn_on(&mut self.is_check, "--check"),
         }
     }
 
-    /// Sets the value of an option that takes one.
-    fn set_value(&mut self, choice: Choice, value: &'w str) {
-        match choice {
-            Choice::Map => self.map = Some(value),
-            Choice::SourceMap => self.source_map = Some(value),
-            Choice::OutputSourceMap => self.output_source_map = Some(value),
-            Choice::SourceMapUrl => self.source_map_url = Some(value),
-            _ => {}
-        }
-    }
-
-    /// Takes an option with a value, which may be in the next word.
-    fn take_value(&mut self, choice: Choice, value: Option<&'w str>) -> Result<(), WrongUse<'w>> {
-        if self.value_of(choice).is_some() {
-            return Err(WrongUse::GivenTwice(choice.name()));
-        }
-        match value {
-            Some(value) => self.set_value(choice, value),
-            None => self.awaits = Some(choice),
-        }
-        Ok(())
-    }
-
-    /// Takes an option.
-    fn take_option(
-        &mut self,
-        program: &Program,
-        word: &'w str,
-    ) -> Result<Option<Request<'w>>, WrongUse<'w>> {
-        let (name, value) = split_option(word);
-        let Some(choice) = Choice::named(name, program) else {
-            return Err(WrongUse::UnknownOption(name));
+    /// Gives an option its value, if that is known; else it is the next word.
+    fn take_value(&mut self, valued: Valued, value: Option<&'w str>) -> Result<(), WrongUse<'w>> {
+        self.awaits = match value {
+            Some(_) => None,
+            None => Some(valued),
         };
-        if value.is_some() && !choice.takes_value() {
-            return Err(WrongUse::UnwantedValue(name));
+        let name = valued.name();
+        match valued {
+            Valued::Map => give(&mut self.map, value, name),
+            Valued::SourceMap => give(&mut self.source_map, value, name),
+            Valued::OutputSourceMap => give(&mut self.output_source_map, value, name),
+            Valued::SourceMapUrl => give(&mut self.source_map_url, value, name),
         }
-        match choice {
-            Choice::Help => return Ok(Some(Request::Help)),
-            Choice::Version => return Ok(Some(Request::Version)),
-            Choice::Verbose => switch(&mut self.is_verbose, "--verbose")?,
-            Choice::StripDebug => switch(&mut self.strips_debug, "--strip-debug")?,
-            Choice::Check => switch(&mut self.is_check, "--check")?,
-            _ => self.take_value(choice, value)?,
-        }
-        Ok(None)
     }
 
-    /// Takes a word that is no option.
-    fn take_operand(&mut self, word: &'w str) -> Result<(), Stop<'w>> {
-        if self.input.is_none() {
-            self.input = Some(word);
-        } else if self.output.is_none() {
-            self.output = Some(word);
-        } else {
-            self.functions.push(word)?;
+    /// Takes an option, and returns the page that it asks for.
+    fn take(&mut self, program: &Program, word: &'w str) -> Result<Option<Page>, WrongUse<'w>> {
+        let (name, value) = split_option(word);
+        match Choice::named(name, program) {
+            None => Err(WrongUse::UnknownOption(name)),
+            Some(Choice::Valued(valued)) => match self.take_value(valued, value) {
+                Ok(()) => Ok(None),
+                Err(wrong) => Err(wrong),
+            },
+            Some(_) if value.is_some() => Err(WrongUse::UnwantedValue(name)),
+            Some(Choice::Switch(switch)) => match self.take_switch(switch) {
+                Ok(()) => Ok(None),
+                Err(wrong) => Err(wrong),
+            },
+            Some(Choice::Page(page)) => Ok(Some(page)),
         }
-        Ok(())
-    }
-
-    /// Takes a word. One that asks for help or the version ends the reading.
-    fn take(&mut self, program: &Program, word: &'w str) -> Result<Option<Request<'w>>, Stop<'w>> {
-        if let Some(choice) = self.awaits {
-            self.awaits = None;
-            self.set_value(choice, word);
-        } else if self.has_ended || word == "-" || !word.starts_with('-') {
-            self.take_operand(word)?;
-        } else if word == "--" {
-            self.has_ended = true;
-        } else {
-            return Ok(self.take_option(program, word)?);
-        }
-        Ok(None)
     }
 
     /// The option that goes with no `--check`, if it is given.
@@ -263,11 +237,27 @@ impl<'w> Words<'w> {
     /// What is wrong with the options of source maps, if something is.
     fn source_map_fault(&self) -> Option<WrongUse<'w>> {
         let (input, output) = ("--source-map", "--output-source-map");
-        match (self.source_map, self.output_source_map, self.source_map_url) {
-            (Some(_), None, _) => Some(WrongUse::Requires(input, output)),
-            (None, Some(_), _) => Some(WrongUse::Requires(output, input)),
-            (None, None, Some(_)) => Some(WrongUse::Requires("--source-map-url", input)),
+        match (self.source_map, self.output_source_map) {
+            (Some(_), None) => Some(WrongUse::Requires(input, output)),
+            (None, Some(_)) => Some(WrongUse::Requires(output, input)),
+            (None, None) if self.source_map_url.is_some() => {
+                Some(WrongUse::Requires("--source-map-url", input))
+            }
             _ => None,
+        }
+    }
+
+    /// What is wrong with the options, if something is.
+    fn fault(&self) -> Option<WrongUse<'w>> {
+        if let Some(valued) = self.awaits {
+            return Some(WrongUse::NoValue(valued.name()));
+        }
+        if !self.is_check {
+            return self.source_map_fault();
+        }
+        match self.not_with_check() {
+            Some(option) => Some(WrongUse::NotWithCheck(option)),
+            None => None,
         }
     }
 
@@ -282,23 +272,80 @@ impl<'w> Words<'w> {
             _ => None,
         }
     }
+}
+
+/// The words, taken apart.
+#[derive(Drop)]
+struct Words<'w> {
+    options: Options<'w>,
+    /// Whether `--` came, after which no word is an option.
+    has_ended: bool,
+    input: Option<&'w str>,
+    output: Option<&'w str>,
+    /// The words after these two.
+    functions: Vec<&'w str>,
+}
+
+impl<'w> Words<'w> {
+    fn new(alloc: Global) -> Words<'w> {
+        Words {
+            options: Options::none(),
+            has_ended: false,
+            input: None,
+            output: None,
+            functions: Vec::new(alloc),
+        }
+    }
+
+    /// Takes a word that is no option.
+    fn take_operand(&mut self, word: &'w str) -> Result<(), Stop<'w>> {
+        if self.input.is_none() {
+            self.input = Some(word);
+        } else if self.output.is_none() {
+            self.output = Some(word);
+        } else {
+            self.functions.push(word)?;
+        }
+        Ok(())
+    }
+
+    /// Takes a word that is no value of an option. One that asks for a page ends the reading.
+    fn take_next(&mut self, program: &Program, word: &'w str) -> Result<Option<Page>, Stop<'w>> {
+        if self.has_ended || word == "-" || !word.starts_with('-') {
+            match self.take_operand(word) {
+                Ok(()) => Ok(None),
+                Err(stop) => Err(stop),
+            }
+        } else if word == "--" {
+            self.has_ended = true;
+            Ok(None)
+        } else {
+            match self.options.take(program, word) {
+                Ok(page) => Ok(page),
+                Err(wrong) => Err(Stop::WrongUse(wrong)),
+            }
+        }
+    }
+
+    /// Takes a word. One that asks for a page ends the reading.
+    fn take(&mut self, program: &Program, word: &'w str) -> Result<Option<Page>, Stop<'w>> {
+        let Some(valued) = self.options.awaits else {
+            return self.take_next(program, word);
+        };
+        match self.options.take_value(valued, Some(word)) {
+            Ok(()) => Ok(None),
+            Err(wrong) => Err(Stop::WrongUse(wrong)),
+        }
+    }
 
     /// What is wrong with all words together, if something is.
     fn fault(&self, program: &Program) -> Option<WrongUse<'w>> {
-        if let Some(choice) = self.awaits {
-            return Some(WrongUse::NoValue(choice.name()));
-        }
-        if self.is_check
-            && let Some(option) = self.not_with_check()
-        {
-            return Some(WrongUse::NotWithCheck(option));
-        }
-        if let Some(fault) = self.source_map_fault() {
+        if let Some(fault) = self.options.fault() {
             return Some(fault);
         }
         match (self.output, self.functions.first()) {
-            (Some(output), _) if self.is_check => Some(WrongUse::Unexpected(output)),
-            (None, _) if !self.is_check => Some(WrongUse::NoOutput),
+            (Some(output), _) if self.options.is_check => Some(WrongUse::Unexpected(output)),
+            (None, _) if !self.options.is_check => Some(WrongUse::NoOutput),
             (_, Some(word)) if !program.takes_functions => Some(WrongUse::Unexpected(*word)),
             (_, None) if program.takes_functions => Some(WrongUse::NoFunctions),
             _ => None,
@@ -316,11 +363,11 @@ impl<'w> Words<'w> {
         Ok(Task {
             input,
             output: self.output,
-            map: self.map,
-            source_map: self.map_paths(),
+            map: self.options.map,
+            source_map: self.options.map_paths(),
             functions: self.functions,
-            is_verbose: self.is_verbose,
-            strips_debug: self.strips_debug,
+            is_verbose: self.options.is_verbose,
+            strips_debug: self.options.strips_debug,
         })
     }
 }
@@ -337,9 +384,15 @@ pub fn read_words<'w>(
 ) -> Result<Request<'w>, Stop<'w>> {
     let mut taken = Words::new(alloc);
     for word in words {
-        if let Some(request) = taken.take(program, word.as_str())? {
-            return Ok(request);
+        match taken.take(program, word.as_str()) {
+            Ok(None) => {}
+            Ok(Some(Page::Help)) => return Ok(Request::Help),
+            Ok(Some(Page::Version)) => return Ok(Request::Version),
+            Err(stop) => return Err(stop),
         }
     }
-    Ok(Request::Task(taken.task(program)?))
+    match taken.task(program) {
+        Ok(task) => Ok(Request::Task(task)),
+        Err(wrong) => Err(Stop::WrongUse(wrong)),
+    }
 }

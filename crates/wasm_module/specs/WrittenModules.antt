@@ -8,7 +8,7 @@ use Rattle.wasm_module.specs.declared.changes.Changes.{Changes}
 use Rattle.wasm_module.specs.declared.changes.Given.{Given}
 use Rattle.wasm_module.specs.declared.parsed.ParsedModule.{ParsedModule}
 use Rattle.wasm_module.specs.declared.rewriting.RewrittenModule.{RewrittenModule}
-use Rattle.wasm_module.specs.CodeSections.{BodyAt, IsCode, code_section}
+use Rattle.wasm_module.specs.CodeSections.{BodyAt, IsCode, code_section, entry}
 use Rattle.wasm_module.specs.Sections.{preamble, section, SectionAt, IsModule, rank, next_rank, id_of}
 
 -- Bytes go to a writer, which may be known to hold some, and a place moves behind them.
@@ -58,6 +58,10 @@ HasDebugName contents = (name behind : List ℕ) × (u32 contents ≡ Ok (length
 -- A custom section says where the source map is.
 abbrev pub HasSourceMapName : (contents : List ℕ) → Type 0
 HasSourceMapName contents = (name behind : List ℕ) × (u32 contents ≡ Ok (length name, name ++ behind)) × (name ≡ codes "sourceMappingURL")
+
+-- what such a section contains, as it is written: its name, and the URL
+abbrev pub url_contents : (url : List ℕ) → List ℕ
+url_contents url = entry (codes "sourceMappingURL") ++ entry url
 
 -- Of a section that holds no code: contents that are written in the place of its own. Of custom ones it isn't said what
 -- they are.

@@ -271,8 +271,8 @@ pub(crate) fn names_source_map(section: &Section<'_>) -> bool
     ensures { IsTrue result → HasSourceMapName section.now.contents.rest.now }
 {
     match section.name() {
-        Ok((name, _)) => name == "sourceMappingURL",
-        Err(_) => false,
+        Ok((name, _)) if name == "sourceMappingURL" => true,
+        _ => false,
     }
 }
 
