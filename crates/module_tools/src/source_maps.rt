@@ -1,45 +1,23 @@
 //! The source map of a module that is written: its mappings follow the operators.
 
+ghost use Rattle.std.specs.List.Sorted.{IsNonDecreasingBy};
+
 use crate::ending::{Attempt, Stop};
 use crate::files::{Target, read_file};
-use crate::program::{MapPaths, Task};
-use crate::warnings::warn;
-use crate::writing::{flush, stop_of};
+use crate::program::MapPaths;
 use source_map::{Move, moved};
 use source_map_json::SourceMap;
 use std::alloc::{AllocError, Global};
 use std::io;
-use std::io::{BufWriter, Write};
+use std::io::Write;
 use std::rt::Files;
-use wasm_module::{
-    BodyWriter, MapLines, ParsedModule, RewrittenModule, Tell, WriteError, WrittenBody,
-    write_source_map_url,
-};
+use wasm_module::{MapLines, Tell, WrittenBody};
 
-/// Nobody is told of bodies.
-#[derive(Clone, Copy, Drop)]
-struct Silent;
-
-impl Tell for Silent {
-    fn wants_pairs(&self) -> bool {
-        false
-    }
-
-    fn tell(&mut self, _body: WrittenBody<'_>) -> io::Result<()> {
-        Ok(())
-    }
-}
-
-/// Appends an operator that is kept. One that isn't after all others in the source is passed over, so
-/// that the old places ascend.
-fn add_move(moves: &mut Vec<Move>, step: Move) -> io::Result<()> {
-    match moves.last() {
-        Some(last) if last.old > step.old => Ok(()),
-        _ => {
-            moves.push(step)?;
-            Ok(())
-        }
-    }
+/// The operators of the source that are kept, with their places, if they are wanted.
+#[derive(Drop)]
+pub(crate) struct Moves {
+    list: Vec<Move>,
+    are_wanted: bool,
 }
 
 /// A place that fits 32 bits, as those of a source map do.
@@ -50,41 +28,84 @@ fn short_place(place: usize) -> io::Result<u32> {
     }
 }
 
-/// A listener that collects where operators are moved, and passes on what it is told.
-#[derive(Drop)]
-struct Listener<'m, L> {
-    moves: &'m mut Vec<Move>,
-    next: L,
-}
+impl Moves {
+    /// None so far.
+    pub fn new(alloc: Global, are_wanted: bool) -> Moves {
+        Moves {
+            list: Vec::new(alloc),
+            are_wanted,
+        }
+    }
 
-impl<L> Listener<'_, L> {
-    /// Adds the operators of a body that are ones of the source.
-    fn add(&mut self, written: WrittenBody<'_>) -> io::Result<()> {
+    /// Appends an operator that is kept. One that was before the last one in the source is passed
+    /// over, so that the old places ascend.
+    fn add(&mut self, step: Move) -> io::Result<()>
+        ensures { IsNonDecreasingBy (λ m. m.old) self.old.list.items
+            → IsNonDecreasingBy (λ m. m.old) self.new.list.items }
+    {
+        match self.list.last() {
+            Some(last) if last.old > step.old => Ok(()),
+            _ => {
+                self.list.push(step)?;
+                Ok(())
+            }
+        }
+    }
+
+    /// Appends the operators of a body that are ones of the source.
+    fn add_body(&mut self, written: WrittenBody<'_>) -> io::Result<()> {
         let body = short_place(written.old_start)?;
         for (location, place) in written.pairs {
             if !location.is_default() {
                 let new = short_place(written.start.saturating_add(*place))?;
                 let old = location.data();
-                add_move(self.moves, Move { old, new, body })?;
+                self.add(Move { old, new, body })?;
             }
         }
         Ok(())
     }
 }
 
-impl<L: Tell> Tell for Listener<'_, L> {
+impl Tell for Moves {
+    fn wants_pairs(&self) -> bool {
+        self.are_wanted
+    }
+
+    fn tell(&mut self, body: WrittenBody<'_>) -> io::Result<()> {
+        match self.are_wanted {
+            true => self.add_body(body),
+            false => Ok(()),
+        }
+    }
+}
+
+/// A listener that collects the operators that are kept, and writes the lines of a location map.
+#[derive(Drop)]
+pub(crate) struct MovesAndLines<'m, M> {
+    pub moves: &'m mut Moves,
+    pub lines: MapLines<'m, M>,
+}
+
+impl<M: Write> Tell for MovesAndLines<'_, M> {
     fn wants_pairs(&self) -> bool {
         true
     }
 
     fn tell(&mut self, body: WrittenBody<'_>) -> io::Result<()> {
-        self.add(body)?;
-        self.next.tell(body)
+        self.moves.tell(body)?;
+        self.lines.tell(body)
     }
 }
 
+/// A source map that was read, and where the one goes that follows the module.
+#[derive(Clone, Copy)]
+pub(crate) struct Following<'s, 'w> {
+    pub map: &'s SourceMap,
+    pub paths: MapPaths<'w>,
+}
+
 /// Reads a source map.
-fn read_source_map<'w, R: Files + Input + AllocGlobal>(
+pub(crate) fn read_source_map<'w, R: Files + Input + AllocGlobal>(
     rt: &R,
     path: &'w str,
 ) -> Result<SourceMap, Stop<'w>> {
@@ -94,92 +115,7 @@ fn read_source_map<'w, R: Files + Input + AllocGlobal>(
     };
     match SourceMap::read(rt.alloc(), &bytes) {
         Ok(map) => Ok(map),
-        Err(error) => Err(Stop::source_map(path, error)),
-    }
-}
-
-/// A source map that was read, and where it goes.
-#[derive(Clone, Copy)]
-struct Following<'s, 'w> {
-    map: &'s SourceMap,
-    paths: MapPaths<'w>,
-}
-
-/// Writes the section that says where the source map is, if that is given.
-fn write_url<W: Write>(alloc: Global, url: Option<&str>, out: &mut W) -> Result<(), WriteError> {
-    match url {
-        Some(url) => write_source_map_url(alloc, url, out),
-        None => Ok(()),
-    }
-}
-
-/// Writes a module, the section that says where its source map is, and what the buffer still holds.
-fn write_out<W: Write, T: Tell, B: BodyWriter>(
-    alloc: Global,
-    parsed: &mut ParsedModule<'_>,
-    module: &RewrittenModule<'_, B>,
-    url: Option<&str>,
-    tell: &mut T,
-    out: &mut W,
-) -> Result<(), WriteError> {
-    match parsed.write_module_telling(module, tell, out) {
-        Ok(()) => {}
-        Err(error) => return Err(error),
-    }
-    match write_url(alloc, url, out) {
-        Ok(()) => flush(out),
-        Err(error) => Err(error),
-    }
-}
-
-/// Writes a module, buffered, and tells of its bodies.
-fn write_buffered<W: Write, T: Tell, B: BodyWriter>(
-    alloc: Global,
-    parsed: &mut ParsedModule<'_>,
-    module: &RewrittenModule<'_, B>,
-    url: Option<&str>,
-    tell: &mut T,
-    target: &mut W,
-) -> Result<(), WriteError> {
-    match BufWriter::new(alloc, target) {
-        Ok(mut out) => write_out(alloc, parsed, module, url, tell, &mut out),
-        Err(error) => Err(WriteError::Io(error)),
-    }
-}
-
-/// Writes a module, and the lines of its location map to a buffer that is lent, and what that still
-/// holds.
-fn write_with_lines<W: Write, M: Write, B: BodyWriter>(
-    alloc: Global,
-    parsed: &mut ParsedModule<'_>,
-    module: &RewrittenModule<'_, B>,
-    url: Option<&str>,
-    moves: &mut Vec<Move>,
-    target: &mut W,
-    lines: &mut M,
-) -> Result<(), WriteError> {
-    let next = MapLines(&mut *lines);
-    let mut listener = Listener { moves, next };
-    match write_buffered(alloc, parsed, module, url, &mut listener, target) {
-        Ok(()) => {}
-        Err(error) => return Err(error),
-    }
-    flush(lines)
-}
-
-/// Writes a module, and the lines of its location map, buffered.
-fn write_with_lines_buffered<W: Write, B: BodyWriter>(
-    alloc: Global,
-    parsed: &mut ParsedModule<'_>,
-    module: &RewrittenModule<'_, B>,
-    url: Option<&str>,
-    moves: &mut Vec<Move>,
-    target: &mut W,
-    lines: &mut W,
-) -> Result<(), WriteError> {
-    match BufWriter::new(alloc, lines) {
-        Ok(mut lines) => write_with_lines(alloc, parsed, module, url, moves, target, &mut lines),
-        Err(error) => Err(WriteError::Io(error)),
+        Err(error) => Err(Stop::source_map(rt.alloc(), path, error)),
     }
 }
 
@@ -189,189 +125,34 @@ fn moved_text(alloc: Global, map: &SourceMap, moves: &[Move]) -> Result<Vec<u8>,
     map.text_with(alloc, &mappings)
 }
 
-/// Writes the source map whose mappings follow these operators.
-fn write_moved<'w, R: Files + Print + AllocGlobal>(
+/// Writes a text to a file, whole or not at all.
+fn write_text<'w, R: Files + Print + AllocGlobal + Drop>(
     rt: &'w R,
-    map: &SourceMap,
-    moves: &[Move],
-    target: &mut Target<'w, R>,
+    path: &'w str,
+    text: &[u8],
 ) -> Result<(), Stop<'w>> {
-    let text = match moved_text(rt.alloc(), map, moves) {
-        Ok(text) => text,
-        Err(_) => return Err(Stop::Memory),
-    };
-    match target.write_all(&text) {
-        Ok(()) => Ok(()),
-        Err(error) => Err(Stop::file(target.path(), Attempt::Write, error)),
-    }
-}
-
-/// Writes a module to a target that is lent.
-fn write_to<'w, R: Files + Print + AllocGlobal + Drop, B: BodyWriter>(
-    rt: &'w R,
-    parsed: &mut ParsedModule<'_>,
-    module: &RewrittenModule<'_, B>,
-    task: &Task<'w>,
-    url: Option<&str>,
-    moves: &mut Vec<Move>,
-    target: &mut Target<'w, R>,
-) -> Result<(), Stop<'w>> {
-    let next = Silent;
-    let mut listener = Listener { moves, next };
-    match write_buffered(rt.alloc(), parsed, module, url, &mut listener, target) {
-        Ok(()) => Ok(()),
-        Err(error) => Err(stop_of(rt.alloc(), task.input, target.path(), error)),
-    }
-}
-
-/// Writes a module and its location map to two targets that are lent.
-fn write_both_to<'w, R: Files + Print + AllocGlobal + Drop, B: BodyWriter>(
-    rt: &'w R,
-    parsed: &mut ParsedModule<'_>,
-    module: &RewrittenModule<'_, B>,
-    task: &Task<'w>,
-    url: Option<&str>,
-    moves: &mut Vec<Move>,
-    target: &mut Target<'w, R>,
-    lines: &mut Target<'w, R>,
-) -> Result<(), Stop<'w>> {
-    match write_with_lines_buffered(rt.alloc(), parsed, module, url, moves, target, lines) {
-        Ok(()) => Ok(()),
-        Err(error) => {
-            let failed = match lines.has_failed() {
-                true => lines.path(),
-                false => target.path(),
-            };
-            Err(stop_of(rt.alloc(), task.input, failed, error))
-        }
-    }
-}
-
-/// Writes a module and its source map to two targets that are lent.
-fn write_following<'w, R: Files + Print + AllocGlobal + Drop, B: BodyWriter>(
-    rt: &'w R,
-    parsed: &mut ParsedModule<'_>,
-    module: &RewrittenModule<'_, B>,
-    task: &Task<'w>,
-    following: Following<'_, 'w>,
-    target: &mut Target<'w, R>,
-    maps: &mut Target<'w, R>,
-) -> Result<(), Stop<'w>> {
-    let mut moves = Vec::new(rt.alloc());
-    let url = following.paths.url;
-    match write_to(rt, parsed, module, task, url, &mut moves, target) {
-        Ok(()) => write_moved(rt, following.map, &moves, maps),
-        Err(stop) => Err(stop),
-    }
-}
-
-/// Writes a module, its location map and its source map to three targets that are lent.
-fn write_both_following<'w, R: Files + Print + AllocGlobal + Drop, B: BodyWriter>(
-    rt: &'w R,
-    parsed: &mut ParsedModule<'_>,
-    module: &RewrittenModule<'_, B>,
-    task: &Task<'w>,
-    following: Following<'_, 'w>,
-    target: &mut Target<'w, R>,
-    maps: &mut Target<'w, R>,
-    lines: &mut Target<'w, R>,
-) -> Result<(), Stop<'w>> {
-    let mut moves = Vec::new(rt.alloc());
-    let url = following.paths.url;
-    match write_both_to(rt, parsed, module, task, url, &mut moves, target, lines) {
-        Ok(()) => write_moved(rt, following.map, &moves, maps),
-        Err(stop) => Err(stop),
-    }
-}
-
-/// Writes a module and its source map to targets that are lent, and the location map, which is put in
-/// its place.
-fn write_with_map<'w, R: Files + Print + AllocGlobal + Drop, B: BodyWriter>(
-    rt: &'w R,
-    parsed: &mut ParsedModule<'_>,
-    module: &RewrittenModule<'_, B>,
-    task: &Task<'w>,
-    following: Following<'_, 'w>,
-    target: &mut Target<'w, R>,
-    maps: &mut Target<'w, R>,
-    lines: &'w str,
-) -> Result<(), Stop<'w>> {
-    let mut lines = match Target::create(rt, lines) {
-        Ok(lines) => lines,
-        Err(stop) => return Err(stop),
-    };
-    let written = write_both_following(
-        rt, parsed, module, task, following, target, maps, &mut lines,
-    );
-    lines.end(written)
-}
-
-/// Writes a module to a target that is lent, and its maps, which are put in their places.
-fn write_with_maps<'w, R: Files + Print + AllocGlobal + Drop, B: BodyWriter>(
-    rt: &'w R,
-    parsed: &mut ParsedModule<'_>,
-    module: &RewrittenModule<'_, B>,
-    task: &Task<'w>,
-    following: Following<'_, 'w>,
-    target: &mut Target<'w, R>,
-) -> Result<(), Stop<'w>> {
-    let mut maps = match Target::create(rt, following.paths.output) {
-        Ok(maps) => maps,
-        Err(stop) => return Err(stop),
-    };
-    let written = match task.map {
-        Some(map) => write_with_map(rt, parsed, module, task, following, target, &mut maps, map),
-        None => write_following(rt, parsed, module, task, following, target, &mut maps),
-    };
-    maps.end(written)
-}
-
-/// Writes a module and its maps, each whole or not at all.
-fn write_all<'w, R: Files + Print + AllocGlobal + Drop, B: BodyWriter>(
-    rt: &'w R,
-    parsed: &mut ParsedModule<'_>,
-    module: &RewrittenModule<'_, B>,
-    task: &Task<'w>,
-    following: Following<'_, 'w>,
-    output: &'w str,
-) -> Result<(), Stop<'w>> {
-    let mut target = match Target::create(rt, output) {
+    let mut target = match Target::create(rt, path) {
         Ok(target) => target,
         Err(stop) => return Err(stop),
     };
-    let written = write_with_maps(rt, parsed, module, task, following, &mut target);
+    let written = match target.write_all(text) {
+        Ok(()) => Ok(()),
+        Err(error) => Err(Stop::file(path, Attempt::Write, error)),
+    };
     target.end(written)
 }
 
-/// Writes a module, after what is wrong now with its sections is said, and its source map, of which
-/// each mapping is moved with its operator; and the location map where that is asked for.
-///
-/// # Errors
-///
-/// What is wrong with the source map; or where one of the files can't be read or written. All files
-/// that are written are then as before; but where one can't be put in its place at the very end, the
-/// maps may be new.
-pub(crate) fn write_with_source_map<
-    'w,
-    R: Files + Input + Print + Eprint + AllocGlobal + Drop,
-    B: BodyWriter,
->(
+/// Writes the source map that follows a module, if one is asked for.
+pub(crate) fn write_source_map<'w, R: Files + Print + AllocGlobal + Drop>(
     rt: &'w R,
-    name: &str,
-    task: &Task<'w>,
-    paths: MapPaths<'w>,
-    parsed: &mut ParsedModule<'_>,
-    module: &mut RewrittenModule<'_, B>,
-    output: &'w str,
+    following: Option<Following<'_, 'w>>,
+    moves: &Moves,
 ) -> Result<(), Stop<'w>> {
-    let map = match read_source_map(rt, paths.input) {
-        Ok(map) => map,
-        Err(stop) => return Err(stop),
+    let Some(Following { map, paths }) = following else {
+        return Ok(());
     };
-    if paths.url.is_some() {
-        module.leave_out_source_map_url();
+    match moved_text(rt.alloc(), map, &moves.list) {
+        Ok(text) => write_text(rt, paths.output, &text),
+        Err(_) => Err(Stop::Memory),
     }
-    warn(rt, name, &module.notes, task);
-    let map = &map;
-    write_all(rt, parsed, module, task, Following { map, paths }, output)
 }
