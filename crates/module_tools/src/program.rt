@@ -1,5 +1,8 @@
 //! What a program's words ask for.
 
+ghost use Rattle.std.specs.Prelude.{◌≡◌, length, nat_lt, true, None, IsNone, IfOk, IfErr};
+ghost use Rattle.module_tools.specs.Words.{ChecksAlone, IsTaskOf, IsRequestOf, IsRefusedRequest};
+
 use crate::ending::Stop;
 use crate::wrong_use::WrongUse;
 use std::alloc::Global;
@@ -223,7 +226,9 @@ impl<'w> Options<'w> {
     }
 
     /// The option that goes with no `--check`, if it is given.
-    fn not_with_check(&self) -> Option<&'static str> {
+    fn not_with_check(&self) -> Option<&'static str>
+        ensures { IsNone result → ChecksAlone self.now }
+    {
         match () {
             _ if self.map.is_some() => Some("--map"),
             _ if self.source_map.is_some() => Some("--source-map"),
@@ -248,7 +253,9 @@ impl<'w> Options<'w> {
     }
 
     /// What is wrong with the options, if something is.
-    fn fault(&self) -> Option<WrongUse<'w>> {
+    fn fault(&self) -> Option<WrongUse<'w>>
+        ensures { IsNone result → self.now.is_check ≡ true → ChecksAlone self.now }
+    {
         if let Some(valued) = self.awaits {
             return Some(WrongUse::NoValue(valued.name()));
         }
@@ -262,7 +269,9 @@ impl<'w> Options<'w> {
     }
 
     /// The files of source maps, if both are given.
-    fn map_paths(&self) -> Option<MapPaths<'w>> {
+    fn map_paths(&self) -> Option<MapPaths<'w>>
+        ensures { self.now.source_map ≡ None → result ≡ None }
+    {
         match (self.source_map, self.output_source_map) {
             (Some(input), Some(output)) => Some(MapPaths {
                 input,
@@ -298,19 +307,26 @@ impl<'w> Words<'w> {
     }
 
     /// Takes a word that is no option.
-    fn take_operand(&mut self, word: &'w str) -> Result<(), Stop<'w>> {
+    fn take_operand(&mut self, word: &'w str) -> Result<(), Stop<'w>>
+        ensures { IfErr result IsRefusedRequest }
+    {
         if self.input.is_none() {
             self.input = Some(word);
         } else if self.output.is_none() {
             self.output = Some(word);
         } else {
-            self.functions.push(word)?;
+            match self.functions.push(word) {
+                Ok(()) => {}
+                Err(_) => return Err(Stop::Memory),
+            }
         }
         Ok(())
     }
 
     /// Takes a word that is no value of an option. One that asks for a page ends the reading.
-    fn take_next(&mut self, program: &Program, word: &'w str) -> Result<Option<Page>, Stop<'w>> {
+    fn take_next(&mut self, program: &Program, word: &'w str) -> Result<Option<Page>, Stop<'w>>
+        ensures { IfErr result IsRefusedRequest }
+    {
         if self.has_ended || word == "-" || !word.starts_with('-') {
             match self.take_operand(word) {
                 Ok(()) => Ok(None),
@@ -328,7 +344,9 @@ impl<'w> Words<'w> {
     }
 
     /// Takes a word. One that asks for a page ends the reading.
-    fn take(&mut self, program: &Program, word: &'w str) -> Result<Option<Page>, Stop<'w>> {
+    fn take(&mut self, program: &Program, word: &'w str) -> Result<Option<Page>, Stop<'w>>
+        ensures { IfErr result IsRefusedRequest }
+    {
         let Some(valued) = self.options.awaits else {
             return self.take_next(program, word);
         };
@@ -338,22 +356,48 @@ impl<'w> Words<'w> {
         }
     }
 
-    /// What is wrong with all words together, if something is.
-    fn fault(&self, program: &Program) -> Option<WrongUse<'w>> {
-        if let Some(fault) = self.options.fault() {
-            return Some(fault);
-        }
-        match (self.output, self.functions.first()) {
-            (Some(output), _) if self.options.is_check => Some(WrongUse::Unexpected(output)),
-            (None, _) if !self.options.is_check => Some(WrongUse::NoOutput),
-            (_, Some(word)) if !program.takes_functions => Some(WrongUse::Unexpected(*word)),
-            (_, None) if program.takes_functions => Some(WrongUse::NoFunctions),
-            _ => None,
+    /// What is wrong with the files, if something is.
+    fn file_fault(&self) -> Option<WrongUse<'w>>
+        ensures { IsNone result → self.now.output ≡ None → self.now.options.is_check ≡ true }
+    {
+        match (self.output, self.options.is_check) {
+            (Some(output), true) => Some(WrongUse::Unexpected(output)),
+            (None, false) => Some(WrongUse::NoOutput),
+            (Some(_), false) | (None, true) => None,
         }
     }
 
+    /// What is wrong with the functions, if something is.
+    fn functions_fault(&self, program: &Program) -> Option<WrongUse<'w>>
+        ensures { IsNone result
+            → nat_lt 0 (length self.now.functions.items) ≡ program.now.takes_functions }
+    {
+        match (self.functions.first(), program.takes_functions) {
+            (Some(word), false) => Some(WrongUse::Unexpected(*word)),
+            (None, true) => Some(WrongUse::NoFunctions),
+            (Some(_), true) | (None, false) => None,
+        }
+    }
+
+    /// What is wrong with all words together, if something is.
+    fn fault(&self, program: &Program) -> Option<WrongUse<'w>>
+        ensures functions { IsNone result
+            → nat_lt 0 (length self.now.functions.items) ≡ program.now.takes_functions }
+        ensures output { IsNone result → self.now.output ≡ None → ChecksAlone self.now.options }
+    {
+        if let Some(fault) = self.options.fault() {
+            return Some(fault);
+        }
+        if let Some(fault) = self.file_fault() {
+            return Some(fault);
+        }
+        self.functions_fault(program)
+    }
+
     /// What the words ask for.
-    fn task(self, program: &Program) -> Result<Task<'w>, WrongUse<'w>> {
+    fn task(self, program: &Program) -> Result<Task<'w>, WrongUse<'w>>
+        ensures { IfOk result (IsTaskOf program.now) }
+    {
         let Some(input) = self.input else {
             return Err(WrongUse::NoInput);
         };
@@ -381,7 +425,10 @@ pub fn read_words<'w>(
     alloc: Global,
     program: &Program,
     words: &'w [String],
-) -> Result<Request<'w>, Stop<'w>> {
+) -> Result<Request<'w>, Stop<'w>>
+    ensures asked { IfOk result (IsRequestOf program.now) }
+    ensures refused { IfErr result IsRefusedRequest }
+{
     let mut taken = Words::new(alloc);
     for word in words {
         match taken.take(program, word.as_str()) {

@@ -336,7 +336,14 @@ fn write_following<'w, R: Files + Input + Print + Eprint + AllocGlobal + Drop, B
     }
     warn(rt, name, &module.notes, task);
     let map = &map;
-    write_module(rt, parsed, module, task, Some(Following { map, paths }), output)
+    write_module(
+        rt,
+        parsed,
+        module,
+        task,
+        Some(Following { map, paths }),
+        output,
+    )
 }
 
 /// Writes a module that was made of one, after what is wrong now with its sections is said.

@@ -125,7 +125,10 @@ const WORDS: [(&str, &str); 33] = [
         "--source-map i --source-map i a b",
         "option '--source-map' is given twice",
     ),
-    ("a b --source-map-url", "option '--source-map-url' requires a value"),
+    (
+        "a b --source-map-url",
+        "option '--source-map-url' requires a value",
+    ),
     (
         "--check --source-map i a",
         "option '--source-map' can't be used with '--check', which writes nothing",

@@ -10,7 +10,9 @@ use crate::bodies::Scratch;
 use crate::body_writer::{BodyWriter, ChangeFunction, Changing, Rewriting};
 use crate::changes::Changes;
 use crate::code::Body;
-use crate::custom::{Followed, Followers, Note, contents_at, follows_code, holds_debug, names_source_map};
+use crate::custom::{
+    Followed, Followers, Note, contents_at, follows_code, holds_debug, names_source_map,
+};
 use crate::fault::ModuleError;
 use crate::output::number_len;
 use crate::parsed::ParsedModule;
