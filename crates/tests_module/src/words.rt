@@ -1,5 +1,5 @@
 //! The arguments of programs.
-use module_tools::{Program, Request, Stop, Task, read_words};
+use module_tools::{MapPaths, Program, Request, Stop, Task, read_words};
 use std::alloc::{AllocError, Global};
 use std::test::Fail;
 
@@ -25,11 +25,15 @@ fn task_text(alloc: Global, task: &Task<'_>) -> Result<String, Fail> {
         input,
         output,
         map,
+        source_map,
         functions,
         is_verbose,
         strips_debug,
     } = task;
     let mut text = format!(in alloc; "{input} {output:?} {map:?}")?;
+    if let Some(MapPaths { input, output, url }) = source_map {
+        write!(text, " source map {input} {output} {url:?}")?;
+    }
     for function in functions {
         write!(text, " {function}")?;
     }
@@ -68,7 +72,7 @@ fn asked(alloc: Global, program: &Program, words: &str) -> Result<String, Fail> 
 }
 
 // Arguments of a program that rewrites, and what they request.
-const WORDS: [(&str, &str); 25] = [
+const WORDS: [(&str, &str); 33] = [
     ("a b", "a Some(\"b\") None"),
     ("- - --verbose", "- Some(\"-\") None verbose"),
     ("-v --strip-debug a b", "a Some(\"b\") None verbose strip"),
@@ -97,6 +101,38 @@ const WORDS: [(&str, &str); 25] = [
     ("--mpa m a b", "unknown option '--mpa'"),
     ("-x a b", "unknown option '-x'"),
     ("-v=1 a b", "unknown option '-v=1'"),
+    (
+        "--source-map i --output-source-map=o a b",
+        "a Some(\"b\") None source map i o None",
+    ),
+    (
+        "a --source-map-url u --output-source-map o b --source-map i --map m",
+        "a Some(\"b\") Some(\"m\") source map i o Some(\"u\")",
+    ),
+    (
+        "--source-map i a b",
+        "option '--source-map' requires '--output-source-map'",
+    ),
+    (
+        "--output-source-map o a b",
+        "option '--output-source-map' requires '--source-map'",
+    ),
+    (
+        "--source-map-url u a b",
+        "option '--source-map-url' requires '--source-map'",
+    ),
+    (
+        "--source-map i --source-map i a b",
+        "option '--source-map' is given twice",
+    ),
+    (
+        "a b --source-map-url",
+        "option '--source-map-url' requires a value",
+    ),
+    (
+        "--check --source-map i a",
+        "option '--source-map' can't be used with '--check', which writes nothing",
+    ),
 ];
 
 // The same for one that takes functions.

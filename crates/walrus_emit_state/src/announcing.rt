@@ -10,13 +10,13 @@ ghost use Rattle.walrus_emit_state.specs.Emission.{is_short, if_scopes, scopes_o
 ghost use Rattle.walrus_emit_state.specs.TreeWriting.Closers.{closing, scopes_of};
 ghost use Rattle.walrus_emit_state.specs.TreeWriting.Announcing.{AreAnnounced, AreUnannounced, Announces, IsUnannounced, HasMore};
 
-use crate::balance::is_balanced;
 use crate::clauses::{closer_before, handler_of};
 use crate::closing::{Closer, SequenceScope};
 use crate::open_scopes::Scopes;
 use walrus_ir::{
     FunctionBuilder, IfElse, Instr, InstrLocId, InstrSeq, InstrSeqId, LegacyCatch, ModuleTypes, Try,
 };
+use walrus_numbering::is_balanced;
 use wasm_body::EmitError;
 
 /// Announces the sequence in a slot, which this closes at the location of its end.
