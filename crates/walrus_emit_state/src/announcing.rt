@@ -94,11 +94,7 @@ fn announce_try(
 fn last_location(first: InstrLocId, second: InstrLocId) -> InstrLocId
     ensures { result ≡ last_location first second }
 {
-    if second.is_default() {
-        first
-    } else {
-        second
-    }
+    if second.is_default() { first } else { second }
 }
 
 /// The sequences in an `if`, each with what closes it. If the alternative says nothing, one `end`

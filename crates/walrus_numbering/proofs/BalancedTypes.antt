@@ -1,13 +1,15 @@
 -- Equal lists of types, by what is left of two lists.
 use Rattle.std.specs.Prelude.{◌≡◌, ◌==◌, ◌&&◌, ℕ, List, [], ◌∷◌, length, Bool, false}
-use Rattle.std.proofs.Common.{refl, ap, arith}
+use Rattle.std.proofs.Common.{rules, refl, sym, ap, arith}
 use Rattle.walrus_ir.specs.declared.val_type.ValType.{ValType}
 use Rattle.walrus_ir.specs.Types.{same_type, same_types}
 
 -- the first list is at its end
 pub at_end : (ts us : List (ValType ℕ)) → length ts ≡ 0 → same_types ts us ≡ (length us == 0)
 at_end [] [] h = refl
-at_end [] (u ∷ us) h = refl
+at_end [] (u ∷ us) h =
+    let none : (length (u ∷ us) == 0) ≡ false = search rules in
+    sym none
 at_end (t ∷ ts) us h = absurd (omega arith)
 
 -- the second is shorter

@@ -121,8 +121,8 @@ module _ (balanced : InstrSeqType → Bool) (around : List ℕ) where
   -- the alternative of an `if` has no instruction in the tree if its sequence has none
   none_counted : {b : List InstrSeq} {xs : List LocatedInstr} {is : Items SequenceAt LocatedInstr} → AreItems b xs is
       → has_none (written_items balanced (items_in around is)) ≡ (length xs == 0)
-  none_counted are_no_items = refl
-  none_counted (are_items inside rest) = refl
+  none_counted are_no_items = search rules
+  none_counted (are_items inside rest) = search rules
 
 -- the first sequence has the same type
 type_of_both : (t : Bool) (h : Head) (is : Items Head Instruction) (g : Head) (js : Items Head Instruction) (r : Sequences Head Instruction)
