@@ -1,6 +1,6 @@
 -- After the events of a tree, its text is written.
 use Rattle.std.specs.Prelude.{◌≡◌, ℕ, ◌+◌, ◌==◌, ◌&&◌, length, List, [], ◌∷◌, ◌++◌, map, slice_get, Option, None, Some, Bool, true, false, if◌then◌else◌, Result, Ok, Err}
-use Rattle.std.proofs.Common.{refl, sym, ap, subst, ◌∙◌, append_assoc, add-zero, arith}
+use Rattle.std.proofs.Common.{rules, refl, sym, ap, subst, ◌∙◌, append_assoc, add-zero, arith}
 use Rattle.std.proofs.lemmas.List.{append-nil, length-append}
 use Rattle.wasm_operators.specs.Shortest.{short}
 use Rattle.walrus_ir.specs.declared.seq.InstrSeq.{InstrSeq}
