@@ -94,7 +94,7 @@ fn announce_try(
 fn last_location(first: InstrLocId, second: InstrLocId) -> InstrLocId
     ensures { result ≡ last_location first second }
 {
-    if second == InstrLocId::default() {
+    if second.is_default() {
         first
     } else {
         second
@@ -164,7 +164,8 @@ fn announce_if(
         builder.seq(construct.consequent),
         builder.seq(construct.alternative),
     );
-    scopes.announce_two(first, second)?;
+    scopes.announce_closed(second.place, second.closer)?;
+    scopes.announce_closed(first.place, first.closer)?;
     Ok(())
 }
 
