@@ -1,4 +1,4 @@
 -- Writing a function's tree.
 pub mod ScopeTables
 pub mod Announcing
-pub mod ShortIfs
+pub mod IfScopes

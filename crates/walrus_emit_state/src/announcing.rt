@@ -160,8 +160,8 @@ fn announce_if(
         builder.seq(construct.consequent),
         builder.seq(construct.alternative),
     );
-    scopes.announce_scope(second)?;
-    scopes.announce_scope(first)?;
+    scopes.announce_closed(second.place, second.closer)?;
+    scopes.announce_closed(first.place, first.closer)?;
     Ok(())
 }
 

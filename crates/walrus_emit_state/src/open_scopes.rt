@@ -88,20 +88,19 @@ impl Scopes {
         in_32_bits(self.entered.len().saturating_sub(level).saturating_sub(1))
     }
 
-    /// Announces two sequences of the builder, before the others. If it fails, nothing is changed.
-    pub fn announce_two(
+    /// Announces a sequence of the builder with what closes it, if something does, before the
+    /// others.
+    pub fn announce_closed(
         &mut self,
-        first: SequenceScope,
-        second: SequenceScope,
+        place: InstrSeqId,
+        closer: Option<(Closer, InstrLocId)>,
     ) -> Result<(), AllocError>
-        requires first { first.place < self.old.count }
-        requires second { second.place < self.old.count }
-        ensures ok { OnOk result (self.new ≡ with_more self.old (first ∷ second ∷ [])) }
+        requires { place < self.old.count }
+        ensures ok { OnOk result (self.new
+            ≡ with_more self.old (record { place = place; closer = closer } ∷ [])) }
         ensures err { OnErr result (self.new ≡ self.old) }
     {
-        self.coming.reserve(2)?;
-        self.coming.push(second).unwrap();
-        self.coming.push(first).unwrap();
+        self.coming.push(SequenceScope { place, closer })?;
         Ok(())
     }
 

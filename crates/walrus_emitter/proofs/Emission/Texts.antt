@@ -1,6 +1,6 @@
 -- After the events of a tree, its text is written.
 use Rattle.std.specs.Prelude.{◌≡◌, ℕ, ◌+◌, ◌==◌, ◌&&◌, length, List, [], ◌∷◌, ◌++◌, map, slice_get, Option, None, Some, Bool, true, false, if◌then◌else◌, Result, Ok, Err}
-use Rattle.std.proofs.Common.{rules, refl, sym, ap, subst, ◌∙◌, append_assoc, add-zero, arith}
+use Rattle.std.proofs.Common.{refl, sym, ap, subst, ◌∙◌, append_assoc, add-zero, arith}
 use Rattle.std.proofs.lemmas.List.{append-nil, length-append}
 use Rattle.wasm_operators.specs.Shortest.{short}
 use Rattle.walrus_ir.specs.declared.seq.InstrSeq.{InstrSeq}
@@ -102,6 +102,9 @@ closed_texts w cs no_sequences k = k
 closed_texts w [] (sequence h is r) k = k
 closed_texts w (c ∷ cs) (sequence h is r) k = text w is (behind_closing w c (closed_texts w cs r k))
 
+some_counted : (x : LocatedInstr) (xs : List LocatedInstr) → false ≡ (length (x ∷ xs) == 0)
+some_counted x xs = let e : (length (x ∷ xs) == 0) ≡ false = grind arith in sym e
+
 module _ (balanced : InstrSeqType → Bool) (around : List ℕ) where
   -- the sequences of the tree that are written
   abbrev those : Sequences SequenceAt LocatedInstr → Sequences Head Instruction
@@ -121,8 +124,8 @@ module _ (balanced : InstrSeqType → Bool) (around : List ℕ) where
   -- the alternative of an `if` has no instruction in the tree if its sequence has none
   none_counted : {b : List InstrSeq} {xs : List LocatedInstr} {is : Items SequenceAt LocatedInstr} → AreItems b xs is
       → has_none (written_items balanced (items_in around is)) ≡ (length xs == 0)
-  none_counted are_no_items = search rules
-  none_counted (are_items inside rest) = search rules
+  none_counted are_no_items = refl
+  none_counted (are_items {x = x} {xs = xs} inside rest) = some_counted x xs
 
 -- the first sequence has the same type
 type_of_both : (t : Bool) (h : Head) (is : Items Head Instruction) (g : Head) (js : Items Head Instruction) (r : Sequences Head Instruction)
