@@ -190,8 +190,8 @@ impl DigestIds {
 }
 
 /// The ids of types of functions and of entries. The first type of each digest is found by it, and
-/// other types of that digest by their lists, in ordered maps: so a module whose types have equal
-/// digests takes more memory, but isn't slow to read.
+/// another one of the same digest by its lists, in an order: so a module whose types have equal
+/// digests is as fast to read, and only takes more memory.
 #[derive(Drop)]
 pub(crate) struct TypeIndex {
     pub firsts: DigestIds,
