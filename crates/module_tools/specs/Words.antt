@@ -1,5 +1,5 @@
 -- What words ask of a program.
-use Rattle.std.specs.Prelude.{◌≡◌, ℕ, List, length, Bool, true, false, nat_lt, Option, None}
+use Rattle.std.specs.Prelude.{◌≡◌, length, false, nat_lt, None}
 use Rattle.module_tools.specs.declared.ending.Stop.{Stop}
 use Rattle.module_tools.specs.declared.ending.Stop.TheVariants as stop
 use Rattle.module_tools.specs.declared.program.Options.{Options}

@@ -38,6 +38,24 @@ fn is_one_file<R: Files + AllocGlobal>(
 }
 
 impl<'w> Two<'w> {
+    /// Both are written.
+    fn written(written: Option<&'w str>, other: Option<&'w str>) -> Two<'w> {
+        Two {
+            written,
+            other,
+            are_written: true,
+        }
+    }
+
+    /// The first is written, and the second is read.
+    fn read(written: Option<&'w str>, other: Option<&'w str>) -> Two<'w> {
+        Two {
+            written,
+            other,
+            are_written: false,
+        }
+    }
+
     /// Checks that they are two, if both are asked for.
     fn check<R: Files + AllocGlobal>(self, rt: &R) -> Result<(), Stop<'w>> {
         let (Some(written), Some(other)) = (self.written, self.other) else {
@@ -64,17 +82,13 @@ fn check_all<'w, R: Files + AllocGlobal>(rt: &R, all: &[Two<'w>]) -> Result<(), 
 
 /// The pairs of a task's paths of which one is that of a source map.
 fn pairs<'w>(task: &Task<'w>, paths: MapPaths<'w>) -> [Two<'w>; 5] {
-    let two = |written, other, are_written| Two {
-        written,
-        other,
-        are_written,
-    };
+    let (input, output) = (Some(paths.input), Some(paths.output));
     [
-        two(Some(paths.output), task.output, true),
-        two(Some(paths.output), task.map, true),
-        two(Some(paths.output), Some(task.input), false),
-        two(task.output, Some(paths.input), false),
-        two(task.map, Some(paths.input), false),
+        Two::written(output, task.output),
+        Two::written(output, task.map),
+        Two::read(output, Some(task.input)),
+        Two::read(task.output, input),
+        Two::read(task.map, input),
     ]
 }
 

@@ -1,7 +1,5 @@
 //! The source map of a module that is written: its mappings follow the operators.
 
-ghost use Rattle.std.specs.List.Sorted.{IsNonDecreasingBy};
-
 use crate::ending::{Attempt, Stop};
 use crate::files::{Target, read_file};
 use crate::program::MapPaths;
@@ -39,10 +37,7 @@ impl Moves {
 
     /// Appends an operator that is kept. One that was before the last one in the source is passed
     /// over, so that the old places ascend.
-    fn add(&mut self, step: Move) -> io::Result<()>
-        ensures { IsNonDecreasingBy (λ m. m.old) self.old.list.items
-            → IsNonDecreasingBy (λ m. m.old) self.new.list.items }
-    {
+    fn add(&mut self, step: Move) -> io::Result<()> {
         match self.list.last() {
             Some(last) if last.old > step.old => Ok(()),
             _ => {
