@@ -3,7 +3,7 @@
 
     python3 operator_rows.py operators.tsv >> stdin
 
-The argument lists all operators: first byte, number behind a prefix, name and immediates, with a tab
+The argument lists all operators: first byte, number after a prefix, name and immediates, with a tab
 between them, and a line of headings first.
 """
 import sys
@@ -30,7 +30,7 @@ IMMEDIATES = {
     "v128": "".join(f"{byte:02x}" for byte in range(240, 256)),
 }
 
-# What stands before and behind operators that stand in constructs.
+# What is before and after the operators of constructs.
 AROUND = {
     "block": ("", "0b"), "loop": ("", "0b"), "if": ("", "0b"), "else": ("0440", "000b"),
     "try": ("", "190b"), "catch": ("0640", "0b"), "catch_all": ("0640", "0b"),

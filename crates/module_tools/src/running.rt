@@ -7,8 +7,10 @@ use crate::ending::{Attempt, Item, Refusal, Stop, exit_code, words};
 use crate::files::read_file;
 use crate::names::{Bytes, Found, FunctionNames, function_at};
 use crate::places::check_files;
-use crate::program::{Program, Request, Task, read_words};
+use crate::program::{MapPaths, Program, Request, Task, read_words};
 use crate::progress::{Progress, Watched};
+use crate::source_map_places::check_source_maps;
+use crate::source_maps::{Following, read_source_map};
 use crate::warnings::warn;
 use crate::writing::write_module;
 use crate::wrong_use::WrongUse;
@@ -314,8 +316,38 @@ fn rewritten<'w, 'a, R: Eprint + Clock + AllocGlobal, T: Tool>(
     }
 }
 
+/// Writes a module that was made of one, after what is wrong now with its sections is said, and its
+/// source map, of which each mapping follows its operator.
+fn write_following<'w, R: Files + Input + Print + Eprint + AllocGlobal + Drop, B: BodyWriter>(
+    rt: &'w R,
+    name: &str,
+    task: &Task<'w>,
+    paths: MapPaths<'w>,
+    parsed: &mut ParsedModule<'_>,
+    module: &mut RewrittenModule<'_, B>,
+    output: &'w str,
+) -> Result<(), Stop<'w>> {
+    let map = match read_source_map(rt, paths.input) {
+        Ok(map) => map,
+        Err(stop) => return Err(stop),
+    };
+    if paths.url.is_some() {
+        module.leave_out_source_map_url();
+    }
+    warn(rt, name, &module.notes, task);
+    let map = &map;
+    write_module(
+        rt,
+        parsed,
+        module,
+        task,
+        Some(Following { map, paths }),
+        output,
+    )
+}
+
 /// Writes a module that was made of one, after what is wrong now with its sections is said.
-fn write_made<'w, R: Files + Print + Eprint + AllocGlobal + Drop, B: BodyWriter + Drop>(
+fn write_made<'w, R: Files + Input + Print + Eprint + AllocGlobal + Drop, B: BodyWriter + Drop>(
     rt: &'w R,
     name: &str,
     task: &Task<'w>,
@@ -326,12 +358,17 @@ fn write_made<'w, R: Files + Print + Eprint + AllocGlobal + Drop, B: BodyWriter 
     if task.strips_debug {
         module.leave_out_debug();
     }
-    warn(rt, name, &module.notes, task.strips_debug);
-    write_module(rt, parsed, &module, task, output)
+    match task.source_map {
+        Some(paths) => write_following(rt, name, task, paths, parsed, &mut module, output),
+        None => {
+            warn(rt, name, &module.notes, task);
+            write_module(rt, parsed, &module, task, None, output)
+        }
+    }
 }
 
 /// Writes what the program makes of a module.
-fn rewrite<'w, 'a, R: Files + Clock + Print + Eprint + AllocGlobal + Drop, T: Tool>(
+fn rewrite<'w, 'a, R: Files + Input + Clock + Print + Eprint + AllocGlobal + Drop, T: Tool>(
     rt: &'w R,
     tool: &T,
     program: &Program,
@@ -350,7 +387,7 @@ fn rewrite<'w, 'a, R: Files + Clock + Print + Eprint + AllocGlobal + Drop, T: To
 }
 
 /// Does what is asked for with a module that was read, and returns how many bodies are refused.
-fn run_with<'w, 'a, R: Files + Clock + Print + Eprint + AllocGlobal + Drop, T: Tool>(
+fn run_with<'w, 'a, R: Files + Input + Clock + Print + Eprint + AllocGlobal + Drop, T: Tool>(
     rt: &'w R,
     tool: &T,
     program: &Program,
@@ -368,7 +405,7 @@ fn run_with<'w, 'a, R: Files + Clock + Print + Eprint + AllocGlobal + Drop, T: T
 }
 
 /// Does what is asked for with a module of these bytes.
-fn run_over<'w, 'a, R: Files + Clock + Print + Eprint + AllocGlobal + Drop, T: Tool>(
+fn run_over<'w, 'a, R: Files + Input + Clock + Print + Eprint + AllocGlobal + Drop, T: Tool>(
     rt: &'w R,
     tool: &T,
     program: &Program,
@@ -409,6 +446,21 @@ where
     }
 }
 
+/// Checks the files of a task before any is opened.
+fn check_task<'w, R: Files + AllocGlobal>(
+    rt: &R,
+    task: &Task<'w>,
+    terminals: Terminals,
+) -> Result<(), Stop<'w>> {
+    if terminals.output && task.output == Some("-") {
+        return Err(Stop::WrongUse(WrongUse::Terminal));
+    }
+    match check_files(rt, task) {
+        Ok(()) => check_source_maps(rt, task),
+        Err(stop) => Err(stop),
+    }
+}
+
 /// Does what is asked for, and shows on a terminal how far it is.
 fn run_task<'w, R: Files + Input + Clock + Print + Eprint + AllocGlobal + Drop, T: Tool>(
     rt: &'w R,
@@ -417,10 +469,7 @@ fn run_task<'w, R: Files + Input + Clock + Print + Eprint + AllocGlobal + Drop, 
     task: &Task<'w>,
     terminals: Terminals,
 ) -> Result<Done, Stop<'w>> {
-    if terminals.output && task.output == Some("-") {
-        return Err(Stop::WrongUse(WrongUse::Terminal));
-    }
-    match check_files(rt, task) {
+    match check_task(rt, task, terminals) {
         Ok(()) => {}
         Err(stop) => return Err(stop),
     }

@@ -43,7 +43,7 @@ lowered_some before k v e =
           omega arith
     ]
 
--- a column that isn't before the one before is moved by an even number
+-- a column that isn't less than the one before is moved by an even number
 even : (n before v : ℕ) → moved_by n before ≡ Some v → before ≤ v → (eqb (n % 2) 0 ≡ true) × (within (before + n / 2) ≡ Some v)
 even n before v e up =
     elim (chosen (eqb (n % 2) 0) (within (before + n / 2)) (cond (eqb n 1) (lowered before (2 ^ 31)) (lowered before (n / 2))) (Some v) e) [

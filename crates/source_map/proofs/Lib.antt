@@ -1,7 +1,7 @@
 -- numbers: their bounds, and what is appended
 pub mod Powers
 pub mod Appending
--- what is read is spelt so, and what is spelt so is read
+-- what is read has the spelling, and what has the spelling is read
 pub mod Steps
 pub mod Digits
 pub mod FieldLaws

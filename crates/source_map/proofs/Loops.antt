@@ -66,7 +66,7 @@ is_done front s total so_far = sym so_far ∙ ap (λ (x : List Mapping). Ok x) (
 
 -- ---- segments that are written
 
--- each segment behind a comma
+-- each segment after a comma
 abbrev pub behind : List (List ℕ) → List ℕ
 behind [] = []
 behind (t ∷ ts) = 44 ∷ (t ++ behind ts)

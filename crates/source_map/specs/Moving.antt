@@ -3,12 +3,12 @@ use Rattle.std.specs.Prelude.{ℕ, List, [], ◌∷◌, nat_lt, if◌then◌else
 use Rattle.source_map.specs.declared.mapping.Mapping.{Mapping}
 use Rattle.source_map.specs.declared.moving.Move.{Move}
 
--- the first operator that is kept and stood at this place or after it
+-- the first operator that still exists and whose old place is this place or after it
 abbrev pub first_kept : List Move → (place : ℕ) → Option Move
 first_kept [] place = None
 first_kept (m ∷ ms) place = if nat_lt m.old place then first_kept ms place else Some m
 
--- its new place, if its function's body began at the place or before it
+-- its new place, if its function's body began at this place or before it
 abbrev pub in_body : (place : ℕ) → Option Move → Option ℕ
 in_body place None = None
 in_body place (Some m) = if nat_lt place m.body then None else Some m.new

@@ -20,7 +20,7 @@ abbrev pub some_or : {A : Type 0} → Option A → MappingsFault → Result A Ma
 some_or (Some x) e = Ok x
 some_or None e = Err e
 
--- What a function returned, seen by `view`, is what reading gives.
+-- The result of a function, seen by `view`, is the result of reading.
 abbrev pub Gives : {X Y : Type 0} → (X → Y) → Result X MappingsFault → Result Y MappingsFault → Type 0
 Gives view (Ok x) read = read ≡ Ok (view x)
 Gives view (Err e) read = read ≡ Err e

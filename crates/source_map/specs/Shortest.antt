@@ -1,4 +1,4 @@
--- The text that is written of mappings: each number by as few digits as can be.
+-- The text that is written for mappings: each number with as few digits as possible.
 use Rattle.std.specs.Prelude.{ℕ, zero, suc, ◌+◌, ◌-◌, ◌*◌, ◌/◌, ◌%◌, List, [], ◌∷◌, ◌++◌, nat_lt, if◌then◌else◌, Option, Some, None}
 use Rattle.std.specs.List.{join_with_byte}
 use Rattle.source_map.specs.declared.mapping.Original.{Original}
@@ -10,12 +10,12 @@ use Rattle.source_map.specs.Spelling.{start, after}
 abbrev pub digit : ℕ → ℕ
 digit n = if nat_lt n 26 then n + 65 else if nat_lt n 52 then n + 71 else if nat_lt n 62 then n - 4 else if nat_lt n 63 then 43 else 47
 
--- at most so many digits before the last
+-- with at most `more` digits before the last
 unfoldable pub short_number : (more n : ℕ) → List ℕ
 short_number zero n = digit (n % 32) ∷ []
 short_number (suc more) n = if nat_lt n 32 then digit n ∷ [] else digit (n % 32 + 32) ∷ short_number more (n / 32)
 
--- the number that moves one field to another
+-- the number that moves one field to another; never 1, which also moves a field, down by 2^31
 abbrev pub difference : (before field : ℕ) → ℕ
 difference before field = if nat_lt field before then 2 * (before - field) + 1 else 2 * (field - before)
 

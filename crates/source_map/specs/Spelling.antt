@@ -1,5 +1,5 @@
--- Mappings as they are spelt (ECMA-426, Source map format specification, mappings structure), of a program of one line, as
--- WebAssembly modules are: segments between commas, each of one, four or five fields.
+-- Mappings as they are spelt (ECMA-426, Source map format specification, mappings structure), for a program of one line, such
+-- as a WebAssembly module: segments between commas, each of one, four or five fields.
 use Rattle.std.specs.Prelude.{◌≡◌, ℕ, ◌≤◌, ◌<◌, ◌^◌, List, [], ◌∷◌, ◌++◌, Option, Some, None, IfSome}
 use Rattle.std.specs.Option.{unwrap_or}
 use Rattle.std.specs.List.{join_with_byte}
@@ -12,7 +12,7 @@ use Rattle.source_map.specs.Vlq.{IsField}
 abbrev pub start : Fields
 start = record { generated = 0; source = 0; line = 0; column = 0; name = 0 }
 
--- the fields after a mapping: those that it has not stay
+-- the fields after a mapping: those that it doesn't have are unchanged
 abbrev pub after_original : Fields → (generated : ℕ) → Option Original → Fields
 after_original s g None = record s { generated = g }
 after_original s g (Some o) = record { generated = g; source = o.source; line = o.line; column = o.column; name = unwrap_or o.name s.name }
@@ -41,7 +41,7 @@ abbrev pub IsOriginalOrNone : Fields → Option Original → List ℕ → Type 0
 IsOriginalOrNone s None text = text ≡ []
 IsOriginalOrNone s (Some o) text = IsOriginal s o text
 
--- the text spells a mapping after others: its column isn't before theirs
+-- the text spells a mapping after others: its column isn't less than theirs
 pub record IsSegment (s : Fields) (m : Mapping) (text : List ℕ) : Type 0 where
   pub generated : List ℕ
   pub original : List ℕ
@@ -61,12 +61,12 @@ AreSegments s _ _ = ⊥
 abbrev pub Spells : List Mapping → (text : List ℕ) → Type 0
 Spells ms text = (segments : List (List ℕ)) × (text ≡ join_with_byte 44 segments) × AreSegments start ms segments
 
--- the columns of mappings don't descend, and none is below this one
+-- the columns of mappings don't descend, and none is less than this one
 abbrev pub AscendFrom : ℕ → List Mapping → Type 0
 AscendFrom least [] = Unit {0}
 AscendFrom least (m ∷ ms) = (least ≤ m.generated) × AscendFrom m.generated ms
 
--- all fields have 32 bits
+-- all fields are less than 2^32
 pub record FitsOriginal (o : Original) : Type 0 where
   pub source : o.source < 2 ^ 32
   pub line : o.line < 2 ^ 32

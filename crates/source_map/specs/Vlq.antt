@@ -1,5 +1,5 @@
--- Numbers in the text of mappings (ECMA-426, Source map format specification, base64 VLQ): digits of base64, five bits of
--- the number in each, the least first.
+-- Numbers in the text of mappings (ECMA-426, Source map format specification, base64 VLQ): digits of base64, with five bits
+-- of the number in each, the lowest first.
 use Rattle.std.specs.Prelude.{◌≡◌, ℕ, ◌+◌, ◌-◌, ◌*◌, ◌/◌, ◌%◌, ◌^◌, ◌<◌, List, [], ◌∷◌, ◌&&◌, ◌==◌, nat_lt, nat_le, if◌then◌else◌, Option, Some, None}
 
 -- the value of a digit of base64, by its character (RFC 4648, section 4): A to Z, a to z, 0 to 9, + and /
@@ -12,27 +12,27 @@ digit_value c =
     else if c == 47 then Some 63
     else None
 
--- The text spells a number by at most so many digits. Bit 5 of a digit says that another follows; the five bits below it
--- are those of the number.
+-- The text spells a number with at most `most` digits. Bit 5 of a digit says that another follows; the five bits below it are
+-- those of the number.
 abbrev pub IsNumber : (most n : ℕ) → List ℕ → Type 0
 IsNumber most n [] = ⊥
 IsNumber most n (c ∷ []) = (n < 32) × (digit_value c ≡ Some n)
 IsNumber most n (c ∷ d ∷ cs) =
     (1 < most) × (low high : ℕ) × (low < 32) × (digit_value c ≡ Some (low + 32)) × (n ≡ low + 32 * high) × IsNumber (most - 1) high (d ∷ cs)
 
--- how many digits a number has at most: seven hold the distance between any two fields of 32 bits, and its sign
+-- how many digits a number has at most: seven are enough for the distance between any two fields of 32 bits, and its sign
 abbrev pub most_digits : ℕ
 most_digits = 7
 
--- what a field may be
+-- the values that a field may have
 abbrev pub within : ℕ → Option ℕ
 within field = if nat_lt field (2 ^ 32) then Some field else None
 
 abbrev pub lowered : (field distance : ℕ) → Option ℕ
 lowered field distance = if nat_lt field distance then None else Some (field - distance)
 
--- How a number moves a field from the one before: bit 0 is the sign, and the bits above it are the distance. Minus zero
--- stands for the distance 2^31.
+-- How a number moves a field from the one before: bit 0 is the sign, and the bits above it are the distance. Minus zero means
+-- the distance 2^31.
 abbrev pub moved_by : (n before : ℕ) → Option ℕ
 moved_by n before =
     if n % 2 == 0 then within (before + n / 2)

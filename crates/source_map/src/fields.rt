@@ -1,22 +1,27 @@
-//! The fields that the next mapping goes on from.
+//! The fields that the next mapping is relative to.
 
 ghost use Rattle.std.specs.Prelude.{◌≡◌};
 ghost use Rattle.source_map.specs.Spelling.{start, after as fields_after};
 
 use crate::mapping::Mapping;
 
-/// The fields of the mappings so far: of each the last one. All are 0 at first.
+/// The fields of the mappings so far: the last value of each. All are 0 at first.
 #[derive(Clone, Copy)]
 pub(crate) struct Fields {
+    /// The column of the generated program.
     pub generated: u32,
+    /// The index of the source.
     pub source: u32,
+    /// The line in the source, from 0 on.
     pub line: u32,
+    /// The column in the source, from 0 on.
     pub column: u32,
+    /// The index of the name.
     pub name: u32,
 }
 
 impl Fields {
-    /// Those before the first mapping.
+    /// The fields before the first mapping.
     pub fn start() -> Fields
         ensures { result ≡ start }
     {
@@ -29,7 +34,7 @@ impl Fields {
         }
     }
 
-    /// Those after a mapping.
+    /// The fields after a mapping.
     pub fn after(self, mapping: Mapping) -> Fields
         ensures { result ≡ fields_after self mapping }
     {

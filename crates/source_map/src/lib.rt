@@ -1,6 +1,6 @@
-//! Mappings of source maps (ECMA-426, Source map format specification) of programs of one line, as
-//! WebAssembly modules are: the text of `mappings` is read and written, and mappings follow the
-//! operators of a program that move. Of the rest of a source map, its JSON, nothing is known here.
+//! Mappings of source maps (ECMA-426, Source map format specification) of programs of one line,
+//! such as WebAssembly modules: the text of `mappings` is read and written, and mappings are moved
+//! when the operators of a program move. The rest of a source map, its JSON, isn't handled here.
 #![tactic(auto)]
 
 mod digit;

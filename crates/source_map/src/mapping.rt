@@ -5,17 +5,20 @@
 pub struct Original {
     /// The index of the source.
     pub source: u32,
+    /// The line, from 0 on.
     pub line: u32,
+    /// The column, from 0 on.
     pub column: u32,
-    /// The index of the name that stands there in the source, if one is given.
+    /// The index of the name that is there in the source, if the source map has one.
     pub name: Option<u32>,
 }
 
-/// What a source map says of a column of the generated program. Of a WebAssembly module that is the
-/// offset of an operator from the start of the module.
+/// What a source map says about a column of the generated program. In a WebAssembly module, a
+/// column is the offset of an operator from the start of the module.
 #[derive(Clone, Copy, Debug, PartialEq, Eq)]
 pub struct Mapping {
+    /// The column of the generated program, from 0 on.
     pub generated: u32,
-    /// None where the program is mapped to no source from here on.
+    /// The position in the source. None if nothing from this column on comes from a source.
     pub original: Option<Original>,
 }

@@ -7,18 +7,19 @@ ghost use Rattle.source_map.specs.Moving.{moved_to, moved_all};
 use crate::mapping::Mapping;
 use std::alloc::{AllocError, Global};
 
-/// An operator of the source that is kept.
+/// An operator of the source that still exists.
 #[derive(Clone, Copy, Debug, PartialEq, Eq)]
 pub struct Move {
-    /// Where it stood, and where it stands now.
+    /// Its old place, a byte offset from the start of the old module.
     pub old: u32,
+    /// Its new place, a byte offset from the start of the new module.
     pub new: u32,
-    /// Where the body of its function began.
+    /// The old place of the first byte of its function's body.
     pub body: u32,
 }
 
-/// The new place of an operator: its own where it is kept, else that of the next one that is kept in
-/// its function's body. None where there is none.
+/// The new place of an operator: its own if it still exists, else that of the next one in its
+/// function's body that does. None if there is none.
 fn new_place(moves: &[Move], place: u32) -> Option<u32>
     ensures { IsNonDecreasingBy (λ m. m.old) moves.now → result ≡ moved_to moves.now place }
 {
@@ -29,9 +30,9 @@ fn new_place(moves: &[Move], place: u32) -> Option<u32>
     }
 }
 
-/// The mappings, each at the new place of its operator, or of the next one that is kept in its
-/// function's body. Those of no such operator go, as do those outside of bodies. Where the operators
-/// are sorted by their old places, the result is what is said here.
+/// The mappings, each at the new place of its operator, or else of the next operator of its
+/// function's body that still exists. A mapping without such an operator is dropped, and so is one
+/// outside of all bodies. The result is as described if `moves` is sorted by old places.
 ///
 /// # Errors
 ///

@@ -10,7 +10,7 @@ use crate::digit::{digit_of, read_digit};
 use crate::fault::MappingsFault;
 use std::alloc::AllocError;
 
-/// A number of at most so many digits at the front, and what follows it.
+/// A number with at most `most` digits at the front of the text, and the text after it.
 #[tactic(auto, using(crate::proofs::Powers::powers), unfolding(crate::specs::Reading::number_at))]
 fn read_number(most: u32, text: &[u8]) -> Result<(u64, &[u8]), MappingsFault>
     requires some { 0 < most }
@@ -46,7 +46,7 @@ fn read_next(text: &[u8]) -> Result<(u64, &[u8]), MappingsFault>
     }
 }
 
-/// The field that a number moves another to.
+/// The field that a number moves `before` to.
 fn moved_field(number: u64, before: u32) -> Result<u32, MappingsFault>
     requires { number < 2 ^ 35 }
     ensures { Gives (λ x. x) result (some_or (moved_by number before) faults.FieldOutOfRange) }
@@ -67,7 +67,7 @@ fn moved_field(number: u64, before: u32) -> Result<u32, MappingsFault>
     }
 }
 
-/// The column that a number moves another to, which isn't before that.
+/// The column that a number moves `before` to; it may not be less.
 fn moved_column(number: u64, before: u32) -> Result<u32, MappingsFault>
     requires { number < 2 ^ 35 }
     ensures { Gives (λ x. x) result (column_after number before) }
@@ -83,7 +83,7 @@ fn moved_column(number: u64, before: u32) -> Result<u32, MappingsFault>
     }
 }
 
-/// The next field of a segment, after the one before, and what follows it.
+/// The next field of a segment, which is relative to `before`, and the text after it.
 #[tactic(auto, unfolding(crate::specs::Reading::field_at))]
 pub(crate) fn read_field(before: u32, text: &[u8]) -> Result<(u32, &[u8]), MappingsFault>
     ensures { Gives (λ x. (x.0, x.1.now)) result (field_at before text.now) }
@@ -93,7 +93,7 @@ pub(crate) fn read_field(before: u32, text: &[u8]) -> Result<(u32, &[u8]), Mappi
     Ok((field, rest))
 }
 
-/// The first field of a segment, after the one before, and what follows it.
+/// The first field of a segment, which is relative to `before`, and the text after it.
 #[tactic(auto, unfolding(crate::specs::Reading::column_at))]
 pub(crate) fn read_column(before: u32, text: &[u8]) -> Result<(u32, &[u8]), MappingsFault>
     ensures { Gives (λ x. (x.0, x.1.now)) result (column_at before text.now) }
@@ -127,7 +127,7 @@ fn write_number(out: &mut Vec<u8>, more: u32, number: u64) -> Result<(), AllocEr
     write_number(out, more - 1, number / 32)
 }
 
-/// Appends a field, after the one before.
+/// Appends a field, relative to `before`.
 pub(crate) fn write_field(out: &mut Vec<u8>, before: u32, field: u32) -> Result<(), AllocError>
     ensures { OnOk result (out.new.items ≡ out.old.items ++ short_field before field) }
 {

@@ -29,7 +29,7 @@ fn read_name(before: u32, text: &[u8]) -> Result<Option<u32>, MappingsFault>
     }
 }
 
-/// The position that the fields of a segment behind the first make.
+/// The position of the fields of a segment after the first.
 #[tactic(auto, unfolding(crate::specs::Reading::original_at))]
 fn read_original(fields: Fields, text: &[u8]) -> Result<Original, MappingsFault>
     ensures { Gives (λ x. x) result (original_at fields text.now) }
@@ -46,7 +46,7 @@ fn read_original(fields: Fields, text: &[u8]) -> Result<Original, MappingsFault>
     })
 }
 
-/// The same, or none where there are no such fields.
+/// The same, or none if there are no such fields.
 #[tactic(auto, unfolding(crate::specs::Reading::original_or_none_at))]
 fn read_original_or_none(fields: Fields, text: &[u8]) -> Result<Option<Original>, MappingsFault>
     ensures { Gives (λ x. x) result (original_or_none_at fields text.now) }
@@ -73,7 +73,7 @@ fn read_segment(fields: Fields, text: &[u8]) -> Result<Mapping, MappingsFault>
     })
 }
 
-/// The text up to the first comma, and what is behind that.
+/// The text up to the first comma, and the text after the comma.
 fn first_segment(text: &[u8]) -> (&[u8], Option<&[u8]>)
     ensures parts { slice_split (λ b. b == 44) text.now
         ≡ result.0.now ∷ parts_of (option_map (λ x. x.now) result.1) }
@@ -109,7 +109,7 @@ fn read_all(alloc: Global, text: &[u8]) -> Result<Vec<Mapping>, MappingsError>
 ///
 /// # Errors
 ///
-/// The first fault, from left to right; or that memory ran out.
+/// The first fault, from left to right; or `Memory`.
 pub fn decode(alloc: Global, text: &[u8]) -> Result<Vec<Mapping>, MappingsError>
     ensures read { IfOk result (λ v. Spells v.items text.now) }
     ensures each { (ms : List AMapping) → Spells ms text.now

@@ -18,7 +18,7 @@ fn write_name(out: &mut Vec<u8>, before: u32, name: Option<u32>) -> Result<(), A
     }
 }
 
-/// Appends the fields of a segment behind the first.
+/// Appends the fields of a segment after the first.
 fn write_original(
     out: &mut Vec<u8>,
     fields: Fields,
@@ -43,8 +43,8 @@ fn write_segment(out: &mut Vec<u8>, fields: Fields, mapping: Mapping) -> Result<
     write_original(out, fields, mapping.original)
 }
 
-/// The text of `mappings`: each number by as few digits as can be. Where the mappings are sorted by
-/// their generated columns, it is read back as the same mappings.
+/// The text of `mappings`: each number with as few digits as possible. If the mappings are sorted
+/// by their generated columns, it is read back as the same mappings.
 ///
 /// # Errors
 ///

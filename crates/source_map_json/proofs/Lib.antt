@@ -1,0 +1,2 @@
+-- what is written after what is there
+pub mod Longer

@@ -15,11 +15,13 @@ pub enum SourceMapFault {
     /// The JSON text isn't an object.
     #[error("this is no source map")]
     NotASourceMap,
+    /// The member `version` isn't the number 3.
     #[error("the version of the source map is not 3")]
     BadSourceMapVersion,
-    /// The object has no text `mappings`. One with `sections` in their place is an index map.
+    /// The object has no text `mappings`. With `sections` instead, it is an index map.
     #[error("the source map has no mappings of its own")]
     NoMappings,
+    /// What is wrong with the text of its mappings.
     #[error("{0}")]
     Mappings(MappingsFault),
 }
@@ -48,12 +50,14 @@ impl SourceMapFault {
 /// Why a source map isn't read.
 #[derive(Clone, Copy, Debug, PartialEq, Eq, Drop)]
 pub enum SourceMapError {
+    /// Memory ran out.
     Memory,
+    /// What is wrong with the source map.
     Fault(SourceMapFault),
 }
 
 impl SourceMapError {
-    /// Why a JSON text isn't read.
+    /// The error of a JSON text that isn't read.
     pub(crate) fn of_json(error: &JsonError) -> SourceMapError {
         if error.is_memory() {
             return SourceMapError::Memory;

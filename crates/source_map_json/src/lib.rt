@@ -1,5 +1,5 @@
-//! Source maps as files (ECMA-426, Source map format specification): JSON texts, of which the
-//! mappings are read and written, and all else is carried over.
+//! Source maps as files (ECMA-426, Source map format specification): JSON texts, whose mappings are
+//! read and written, and whose other members are copied.
 #![tactic(auto)]
 
 mod fault;

@@ -1,11 +1,10 @@
 //! Reading source maps.
 
 ghost use Rattle.std.specs.Prelude.{◌≡◌, List, ℕ, Some, IfOk};
-ghost use Rattle.serde_json.specs.Data.{Data};
 ghost use Rattle.serde_json.specs.View.{view};
 ghost use Rattle.serde_json.specs.Read.{read as read_text};
 ghost use Rattle.source_map.specs.Spelling.{Spells};
-ghost use Rattle.source_map_json.specs.SourceMaps.{IsSourceMap};
+ghost use Rattle.source_map_json.specs.SourceMaps.{IsSourceMap, data_of, mappings_of};
 
 use crate::fault::{SourceMapError, SourceMapFault};
 use serde_json::Value;
@@ -15,7 +14,7 @@ use std::alloc::Global;
 /// A source map that was read.
 #[derive(Drop)]
 pub struct SourceMap {
-    /// All of it. It is an object.
+    /// The whole JSON value, which is an object.
     pub(crate) value: Value,
     pub(crate) mappings: Vec<Mapping>,
 }
@@ -41,15 +40,15 @@ fn read_mappings(alloc: Global, value: &Value) -> Result<Vec<Mapping>, SourceMap
 }
 
 impl SourceMap {
-    /// Reads a source map: a JSON text in UTF-8. Of the generated program, which has one line, a
-    /// column is an offset.
+    /// Reads a source map: a JSON text in UTF-8. The generated program has one line, so a column is
+    /// an offset.
     ///
     /// # Errors
     ///
-    /// What is wrong with it; or that memory ran out.
+    /// What is wrong with it; or `Memory`.
     pub fn read(alloc: Global, bytes: &[u8]) -> Result<SourceMap, SourceMapError>
-        ensures { IfOk result (λ map. (d : Data) × (text : List ℕ) × (read_text bytes.now ≡ Some d)
-            × IsSourceMap d text × Spells map.mappings.items text) }
+        ensures { IfOk result (λ map. (text : List ℕ) × (read_text bytes.now ≡ Some (data_of map))
+            × IsSourceMap (data_of map) text × Spells (mappings_of map) text) }
     {
         let value = match Value::from_slice(alloc, bytes) {
             Ok(value) => value,
@@ -63,7 +62,7 @@ impl SourceMap {
 
     /// Its mappings, sorted by their generated columns.
     pub fn mappings(&self) -> &[Mapping]
-        ensures { result.now ≡ self.now.mappings.items }
+        ensures { result.now ≡ mappings_of self.now }
     {
         self.mappings.as_slice()
     }

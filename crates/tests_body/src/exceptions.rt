@@ -12,7 +12,7 @@ use walrus_ir::{
 };
 
 /// Clauses of a legacy `try` in the tree, and the faults of a `catch` in the order of its rules:
-/// its tag's old index has no id, the tag isn't in the module, its type isn't a function type,
+/// its tag's old index has no id; the tag isn't in the module; its type isn't a function type;
 /// there is no type for the handler.
 #[test]
 fn parses_clauses(rt: HostRuntime) -> Result<(), Fail> {
@@ -58,7 +58,7 @@ enum Clause {
     Delegate,
 }
 
-// Lists of clauses in orders that aren't lawful.
+// Lists of clauses in orders that aren't allowed.
 const UNLAWFUL: [[Clause; 2]; 4] = [
     [Clause::CatchAll(2), Clause::Catch(3)],
     [Clause::CatchAll(2), Clause::CatchAll(3)],
@@ -135,7 +135,7 @@ fn refuses_unlawful(rt: &impl Abort, alloc: Global, ty: &InstrSeqType) -> Result
     Ok(())
 }
 
-/// A `try` whose clauses are in an order that isn't lawful isn't written.
+/// A `try` whose clauses are in an order that isn't allowed isn't written.
 #[test]
 fn refuses_unlawful_clauses(rt: HostRuntime) -> Result<(), Fail> {
     refuses_unlawful(&rt, rt.alloc(), &InstrSeqType::Simple(None))
@@ -147,7 +147,7 @@ fn refuses_unlawful_clauses_of_an_unnumbered_type(rt: HostRuntime) -> Result<(),
     refuses_unlawful(&rt, rt.alloc(), &InstrSeqType::MultiValue(TypeId::new(77)))
 }
 
-/// A `catch_all` alone is lawful.
+/// A `catch_all` alone is allowed.
 #[test]
 fn writes_a_lawful_clause(rt: HostRuntime) -> Result<(), Fail> {
     let ty = InstrSeqType::Simple(None);

@@ -5,7 +5,8 @@ use std::alloc::{AllocError, Global};
 use std::process::Abort;
 use std::test::Fail;
 use walrus_ir::{
-    InstrLocId, InstrSeqType, ModuleLocals, ModuleTags, ModuleTypes, TagId, TypeId, ValType,
+    InstrLocId, InstrSeqType, LocalId, ModuleLocals, ModuleTags, ModuleTypes, TagId, TypeId,
+    ValType,
 };
 
 // A number, or 100 if there is none.
@@ -90,6 +91,32 @@ fn keeps_tags_and_locals(rt: HostRuntime) -> Result<(), Fail> {
     let local = locals.add(ValType::V128)?;
     assert_eq!(rt; local.index(), 1);
     assert_eq!(rt; locals.get(local), Some(ValType::V128));
+    Ok(())
+}
+
+/// Locals that are added together have the numbers after the others, and each has the type of its
+/// run.
+#[test]
+fn keeps_runs_of_locals(rt: HostRuntime) -> Result<(), Fail> {
+    let mut locals = ModuleLocals::new(rt.alloc());
+    let first = locals.add_run(ValType::I32, 2)?;
+    let none = locals.add_run(ValType::F32, 0)?;
+    let one = locals.add(ValType::V128)?;
+    let many = locals.add_run(ValType::I64, 50_000)?;
+    assert_eq!(rt; first.index(), 0);
+    assert_eq!(rt; none.index(), 2);
+    assert_eq!(rt; one.index(), 2);
+    assert_eq!(rt; many.index(), 3);
+    for (id, ty) in [
+        (0, Some(ValType::I32)),
+        (1, Some(ValType::I32)),
+        (2, Some(ValType::V128)),
+        (3, Some(ValType::I64)),
+        (50_002, Some(ValType::I64)),
+        (50_003, None),
+    ] {
+        assert_eq!(rt; locals.get(LocalId::new(id)), ty, "at {id}");
+    }
     Ok(())
 }
 

@@ -11,7 +11,7 @@ use walrus_body::{
 };
 use walrus_ir::{
     DataId, ElementId, FunctionId, GlobalId, Instr, InstrLocId, LocalId, MemoryId, Module,
-    ModuleItems, ModuleTags, ModuleTypes, TableId, TagId, TypeId, ValType,
+    ModuleLocals, ModuleTags, ModuleTypes, TableId, TagId, TypeId, ValType,
 };
 
 /// A module and the ids of its old indices.
@@ -86,7 +86,7 @@ fn module(alloc: Global, code_section_offset: usize) -> Result<Module, AllocErro
     Ok(Module {
         types,
         tags,
-        locals: ModuleItems::new(alloc),
+        locals: ModuleLocals::new(alloc),
         code_section_offset,
     })
 }

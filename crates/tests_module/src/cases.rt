@@ -1,4 +1,4 @@
-//! Tables of modules: what is found about each, as text, beside what is wanted. A module is given
+//! Tables of modules, with the result for each and the expected result, as text. A module is given
 //! as its preamble and its sections in hexadecimal, with spaces between them.
 use crate::tools::{bodies_text, counted_text, snipped_text};
 use crate::whole_modules::{map_or_faults, notes_of, rewritten_text};
@@ -7,7 +7,7 @@ use std::process::Abort;
 use std::test::Fail;
 use wasm_module::{ModuleError, ParsedModule};
 
-/// What is asked about a module.
+/// What is checked about a module.
 #[derive(Clone, Copy)]
 pub(crate) enum Asked<'i> {
     /// Whether it is read.
@@ -16,9 +16,9 @@ pub(crate) enum Asked<'i> {
     Bodies,
     /// The module that is written for it, in hexadecimal.
     Rewritten,
-    /// What is said of its sections when it is rewritten.
+    /// The notes on its sections when it is rewritten.
     Notes,
-    /// Which of its bodies are refused; and its location map where none is.
+    /// The bodies that are refused; if there are none, its location map.
     MapOrFaults,
     /// The module where each function counts its calls, in hexadecimal.
     Counted,
@@ -47,7 +47,7 @@ pub(crate) fn fault_text(alloc: Global, error: ModuleError) -> Result<String, Fa
     Ok(format!(in alloc; "{name} at {}", error.at)?)
 }
 
-// What is found about a module that is read.
+// The result for a module that was read.
 fn answer(alloc: Global, asked: Asked<'_>, parsed: &mut ParsedModule<'_>) -> Result<String, Fail> {
     match asked {
         Asked::Read => Ok("read".to_string(alloc)?),
@@ -60,7 +60,7 @@ fn answer(alloc: Global, asked: Asked<'_>, parsed: &mut ParsedModule<'_>) -> Res
     }
 }
 
-/// What is found about the module of these bytes, or its first fault.
+/// The result for the module with these bytes, or its first fault.
 pub(crate) fn found(alloc: Global, asked: Asked<'_>, bytes: &[u8]) -> Result<String, Fail> {
     match ParsedModule::read(alloc, bytes) {
         Ok(mut parsed) => answer(alloc, asked, &mut parsed),
@@ -73,7 +73,7 @@ fn found_of(alloc: Global, asked: Asked<'_>, module: &str) -> Result<String, Fai
     found(alloc, asked, &bytes)
 }
 
-/// Asks about modules, each of which comes before what is wanted.
+/// Checks modules, each of which comes before its expected result.
 pub(crate) fn check(
     rt: &impl Abort,
     alloc: Global,
@@ -98,7 +98,7 @@ fn check_module(
     check(rt, alloc, asked, &[(module, want.as_str())])
 }
 
-/// The same where what is wanted is a module.
+/// The same if the expected result is a module.
 pub(crate) fn check_modules(
     rt: &impl Abort,
     alloc: Global,

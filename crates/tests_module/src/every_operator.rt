@@ -10,15 +10,15 @@ const TYPES: &str = "0061736d01000000 01120460000060017f0060027f7f017f60017f00";
 /// The type of each function.
 const TYPE: u8 = 2;
 
-/// What comes before the code: a table; a memory; tags of the first two types; a global; an
-/// element segment; and how many data segments there are.
+/// What comes before the code: a table; a memory; tags of the first two types; a global; an element
+/// segment; and the number of data segments.
 const STORAGE: &str = "040401700000 0503010000 0d050200000001 0606017f0141000b 090401010000 0c0101";
 
 /// What comes after the code: a data segment.
 const SEGMENTS: &str = "0b03010100";
 
-/// A body for each operator, in the order of a list of their opcodes, with what it has to be in.
-/// `every_operator.py` prints them.
+/// A body for each operator, in the order of a list of their opcodes, with the constructs that it
+/// has to be in. `every_operator.py` prints them.
 const BODIES: &str = "\
     00000b 00010b 0002400b0b 0003400b0b 0004400b0b 00044005000b0b 000640190b0b 00064007010b0b \
     0008010b 0006401909000b0b 000a0b 000b 000c000b 000d000b 000e0100000b 000f0b 0010010b \
@@ -90,9 +90,9 @@ const BODIES: &str = "\
     00fe470280010b 00fe480280010b 00fe490280010b 00fe4a0280010b 00fe4b0280010b 00fe4c0280010b \
     00fe4d0280010b 00fe4e0280010b";
 
-/// The body that holds a `nop`.
+/// The body with only a `nop`.
 const NOP: &str = "00010b";
-/// The body that holds nothing.
+/// The empty body.
 const NOTHING: &str = "000b";
 
 /// Appends a number in LEB128.
@@ -122,13 +122,13 @@ fn push_section(module: &mut Vec<u8>, id: u8, contents: &[u8]) -> Result<(), All
     push_bytes(module, contents)
 }
 
-/// Appends what a text spells.
+/// Appends the bytes that a text spells.
 fn push_text(module: &mut Vec<u8>, text: &str) -> Result<(), Fail> {
     let bytes = bytes_of(*module.allocator(), text)?;
     Ok(module.extend_from_slice(&bytes)?)
 }
 
-/// Appends the section of so many functions.
+/// Appends the function section for this many functions.
 fn push_functions(module: &mut Vec<u8>, count: usize) -> Result<(), AllocError> {
     let mut types = Vec::new(*module.allocator());
     push_number(&mut types, count)?;
@@ -138,13 +138,14 @@ fn push_functions(module: &mut Vec<u8>, count: usize) -> Result<(), AllocError> 
     push_section(module, 3, &types)
 }
 
-/// Appends a body after its size.
+/// Appends the size of a body, and the body.
 fn push_body(code: &mut Vec<u8>, body: &str) -> Result<(), Fail> {
     let body = hex::decode(*code.allocator(), body)?;
     Ok(push_bytes(code, &body)?)
 }
 
-/// Appends these bodies after their number, where the one that holds a `nop` is this.
+/// Appends the number of these bodies, and the bodies, with `nop` in place of the one with only a
+/// `nop`.
 fn push_bodies(code: &mut Vec<u8>, bodies: &str, nop: &str) -> Result<(), Fail> {
     push_number(code, bodies.split(' ').count())?;
     for body in bodies.split(' ') {
@@ -153,15 +154,15 @@ fn push_bodies(code: &mut Vec<u8>, bodies: &str, nop: &str) -> Result<(), Fail> 
     Ok(())
 }
 
-/// Appends the section of these bodies, of which the one that holds a `nop` is this.
+/// Appends the code section of these bodies, with `nop` in place of the one with only a `nop`.
 fn push_code(module: &mut Vec<u8>, bodies: &str, nop: &str) -> Result<(), Fail> {
     let mut code = Vec::new(*module.allocator());
     push_bodies(&mut code, bodies, nop)?;
     Ok(push_section(module, 10, &code)?)
 }
 
-/// Appends the sections after those of types, with these bodies, of which the one that holds a
-/// `nop` is this.
+/// Appends the sections after the type section, with these bodies, and with `nop` in place of the
+/// one with only a `nop`.
 fn push_sections(module: &mut Vec<u8>, bodies: &str, nop: &str) -> Result<(), Fail> {
     push_functions(module, bodies.split(' ').count())?;
     push_text(module, STORAGE)?;
@@ -169,21 +170,21 @@ fn push_sections(module: &mut Vec<u8>, bodies: &str, nop: &str) -> Result<(), Fa
     push_text(module, SEGMENTS)
 }
 
-/// The module with these bodies, of which the one that holds a `nop` is this.
+/// The module with these bodies, and with `nop` in place of the one with only a `nop`.
 fn module_of(alloc: Global, bodies: &str, nop: &str) -> Result<Vec<u8>, Fail> {
     let mut module = bytes_of(alloc, TYPES)?;
     push_sections(&mut module, bodies, nop)?;
     Ok(module)
 }
 
-/// What is written for the module where this is in the place of the `nop`.
+/// What is written for the module with this body in place of the one with only a `nop`.
 fn rewritten_with(alloc: Global, nop: &str) -> Result<String, Fail> {
     let module = module_of(alloc, BODIES, nop)?;
     found(alloc, Asked::Rewritten, &module)
 }
 
-/// Each operator is written as it is, but for `nop`, which is dropped. What is written is written
-/// again as it is.
+/// Each operator is written unchanged, except `nop`, which is dropped. The written module is
+/// written again unchanged.
 #[test]
 fn rewrites_every_operator(rt: HostRuntime) -> Result<(), Fail> {
     let want = module_of(rt.alloc(), BODIES, NOTHING)?;

@@ -1,5 +1,5 @@
-//! Tests of whole modules: what is written of them, their faults, and the tools that change them. A
-//! function here owns one large value and lends it to the next: one that holds several over calls
+//! Tests of whole modules: what is written for them, their faults, and the tools that change them.
+//! A function here owns one large value and lends it to the next: one that owns several over calls
 //! that may fail takes minutes to prove.
 #![tactic(auto)]
 

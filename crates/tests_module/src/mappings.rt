@@ -1,5 +1,5 @@
-//! The text of mappings, and mappings whose operators move. Expected values are worked out by hand,
-//! by the digits of ECMA-426, and were compared with those of a script in Python.
+//! The text of mappings, and mappings whose operators move. Expected values were worked out by
+//! hand, from the digits of ECMA-426, and compared with those of a script in Python.
 
 use source_map::{Mapping, MappingsError, MappingsFault, Move, Original, decode, encode, moved};
 use std::test::*;
@@ -85,7 +85,7 @@ fn texts_that_are_refused(rt: HostRuntime) {
     }
 }
 
-/// An operator of a body that begins at 10, or at 20.
+/// An operator of a body that begins at 10 or at 20.
 fn step(old: u32, new: u32) -> Move {
     let body = if old < 20 { 10 } else { 20 };
     Move { old, new, body }
@@ -93,7 +93,8 @@ fn step(old: u32, new: u32) -> Move {
 
 #[test]
 fn mappings_follow_operators(rt: HostRuntime) -> Result<(), Fail> {
-    // The operators at 11, 14 and 18 go, of a body that ends at 19; nothing is kept at 27.
+    // The operators at 11, 14 and 18 are dropped, in a body that ends at 19; nothing after 26
+    // remains.
     let moves = [step(12, 12), step(16, 14), step(22, 18), step(26, 22)];
     let places = [9, 10, 11, 12, 14, 16, 18, 19, 20, 22, 26, 27].map(unmapped);
     let wanted = [12, 12, 12, 14, 14, 18, 18, 22].map(unmapped);

@@ -12,12 +12,13 @@ use wasm_module::ParsedModule;
 const FIB: &str = "0061736d01000000 01060160017f017f 03020100 07070103666962 0000 \
     0a1e011c 00 2000410249047f2000052000 41016b100020004102 6b10006a0b0b";
 
-/// The same where it counts: first are global.get 0, i64.const 1, i64.add, global.set 0.
+/// The same after counting is added: its first operators are global.get 0, i64.const 1, i64.add,
+/// global.set 0.
 const FIB_COUNTED: &str = "0061736d01000000 01060160017f017f 03020100 0606017e0142000b \
     070f02036669620000 0563616c6c730300 \
     0a250123 00 230042017c2400 2000410249047f200005200041016b1000200041026b10006a0b0b";
 
-/// The module `FOLLOWED` where its two functions count.
+/// The module `FOLLOWED` after counting is added to its two functions.
 const FOLLOWED_COUNTED: &str =
     "0061736d01000000 01090260017f017f600000 020701016d01660001 0303020001 0606017e0142000b \
     070d0201670001 0563616c6c730300 \
@@ -28,8 +29,8 @@ const FOLLOWED_COUNTED: &str =
     610201000179031601010300056f757465720104636f6e6402046c617374040401010176 \
     001710736f757263654d617070696e6755524c05782e6d6170";
 
-/// The module `FOLLOWED` without the body of its function 1, and so without its hints, its labels'
-/// names and those of its locals, but for the parameter's.
+/// The module `FOLLOWED` without the body of its function 1, so without that function's hints and
+/// names of labels and locals, except the name of the parameter.
 const FOLLOWED_SNIPPED: &str =
     "0061736d01000000 01090260017f017f600000 020701016d01660001 0303020001 07050101670001 \
     001b196d657461646174612e636f64652e6272616e63685f68696e7400 \
@@ -68,14 +69,15 @@ pub(crate) fn snipped_text(
     }
 }
 
-/// A global and its export are added to their sections, or in new ones, and its index is after
-/// those of all others; each body begins with its increment, and what follows the code moves by it.
+/// A global and its export are added to their sections, or to new ones, and the global's index is
+/// after those of all others; each body begins with its increment, and what follows the code moves
+/// by it.
 #[test]
 fn counts_calls(rt: HostRuntime) -> Result<(), Fail> {
     let cases = [
         (FIB, FIB_COUNTED),
         (FOLLOWED, FOLLOWED_COUNTED),
-        // No section of globals, and none of exports.
+        // Neither a section of globals nor one of exports.
         (
             "0061736d01000000 01090260017f017f600000 020701016d01660001 0303020001 \
             0a0b02040020000b040010000b",
@@ -104,7 +106,7 @@ fn counts_calls(rt: HostRuntime) -> Result<(), Fail> {
     check_modules(&rt, rt.alloc(), Asked::Counted, &cases)
 }
 
-/// The name of the global is that of an export, whose place is told; a body is wrong.
+/// An export already has the name of the global, and the fault has its place; a body is refused.
 #[test]
 fn names_faults_of_changes(rt: HostRuntime) -> Result<(), Fail> {
     let cases = [
@@ -117,7 +119,8 @@ fn names_faults_of_changes(rt: HostRuntime) -> Result<(), Fail> {
     check(&rt, rt.alloc(), Asked::Counted, &cases)
 }
 
-/// A body is `unreachable`, and what spoke of its code is gone. All other bodies are rewritten.
+/// The bodies are `unreachable`, and everything about their code is dropped. All other bodies are
+/// rewritten.
 #[test]
 fn snips_bodies(rt: HostRuntime) -> Result<(), Fail> {
     for (functions, module, want) in [

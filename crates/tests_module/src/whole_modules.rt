@@ -5,10 +5,11 @@ use std::io::Write;
 use std::test::Fail;
 use wasm_module::{BodyWriter, Note, ParsedModule, RewrittenModule, Scratch, Sections, WriteError};
 
-/// A section of each kind, in order, with custom sections between them, and bodies that are as they
-/// are written. The types are: from nothing to nothing; from an i32 to an i32; a group of two
+/// A section of each kind, in order, with custom sections between them, and bodies that are written
+/// unchanged. The types are: from nothing to nothing; from an i32 to an i32; a group of two
 /// structs, of which the second is a subtype of the first; an array of i16; from an i32 to nothing.
 /// A function, a table, a memory, a global and a tag are imported. There are tables with a maximum,
+/// with an expression, and with numbers of 64 bits, and element segments of all eight kinds.
 /// with an expression, and with numbers of 64 bits, and element segments of all eight kinds.
 const EVERY_SECTION: &str = "0061736d01000000 0007056669727374ff \
     01260560000060017f017f4e0250005f027f0178004f01025f037f0178006402005e770160017f00 00020161 \
@@ -20,11 +21,12 @@ const EVERY_SECTION: &str = "0061736d01000000 0007056669727374ff \
     077000 0c0103 0a1902040020000b1200410041004100fc080000fc0900fc0d030b 0003016200 \
     0b13030041000b0268690103010203020142000b00 0007046c6173740102";
 
-/// Two functions after an imported one, with names and branch hints. Of functions f, g, h; of
-/// locals imp in f, p, a, unused and b in g, y in h; of g's labels outer, cond, dead and last. The
-/// hints stand at 12, 17 and 28, counted from the first byte of g's body. That declares an i64, an
-/// f32 and an i32, and is: nop, block [ local.get 0, br_if 0, nop, local.get 0, if [ unreachable,
-/// block [ nop ] ] ], local.get 0, if [ i64.const 1, local.set 1 ], local.get 3.
+/// Two functions after an imported one, with names and branch hints. The functions have the names
+/// f, g and h. The locals have the names imp in f; p, a, unused and b in g; y in h. The labels of g
+/// have the names outer, cond, dead and last. The hints are at 12, 17 and 28, counted from the
+/// first byte of g's body. It declares an i64, an f32 and an i32, and is: nop, block [ local.get 0,
+/// br_if 0, nop, local.get 0, if [ unreachable, block [ nop ] ] ], local.get 0, if [ i64.const 1,
+/// local.set 1 ], local.get 3.
 pub(crate) const FOLLOWED: &str =
     "0061736d01000000 01090260017f017f600000 020701016d01660001 0303020001 07050101670001 \
     0026196d657461646174612e636f64652e6272616e63685f68696e740101030c01011101001c0101 \
@@ -45,8 +47,8 @@ pub(crate) const FOLLOWED_REWRITTEN: &str =
     610201000179031601010300056f757465720104636f6e6402046c617374040401010176 \
     001710736f757263654d617070696e6755524c05782e6d6170";
 
-/// Handlers of a legacy `try` with a result: that of the `catch` takes an i32 and gives one, and no
-/// type of the module does.
+/// Handlers of a legacy `try` with a result: that of the `catch` takes an i32 and returns one, and
+/// no type of the module does.
 const HANDLERS: &str =
     "0061736d01000000 010c0360000060017f006000017f 0303020202 0d03010001 0709020167000001680001 \
     0a20021100067f4107080041050700010b41016a0b0c00067f410308001941090b0b";
@@ -56,7 +58,8 @@ const HANDLERS_REWRITTEN: &str =
     "0061736d01000000 010c0360000060017f006000017f 0303020202 0d03010001 0709020167000001680001 \
     0a1d020e00067f4107080007000b41016a0b0c00067f410308001941090b0b";
 
-/// The module that is written, in hexadecimal; or the fault of a change that isn't steady.
+/// The module that is written, in hexadecimal; or the fault of a change that isn't the same both
+/// times.
 pub(crate) fn written_text<B: BodyWriter>(
     alloc: Global,
     parsed: &mut ParsedModule<'_>,
@@ -78,9 +81,9 @@ pub(crate) fn rewritten_text(alloc: Global, parsed: &mut ParsedModule<'_>) -> Re
     }
 }
 
-/// What holds no code is carried over byte for byte; names of locals and labels, and branch hints,
-/// follow the code; a type that only a handler needs is in no bytes. What is written is written
-/// again as it is.
+/// Everything outside the code is copied byte for byte; names of locals and labels, and branch
+/// hints, follow the code; a type that only a handler needs isn't written. The written module is
+/// written again unchanged.
 #[test]
 fn rewrites_modules(rt: HostRuntime) -> Result<(), Fail> {
     let cases = [
@@ -88,7 +91,7 @@ fn rewrites_modules(rt: HostRuntime) -> Result<(), Fail> {
         (EVERY_SECTION, EVERY_SECTION),
         (FOLLOWED, FOLLOWED_REWRITTEN),
         (HANDLERS, HANDLERS_REWRITTEN),
-        // Numbers that are longer than need be, in sections that are carried over and in code.
+        // Numbers that are longer than necessary, in sections that are copied and in code.
         (
             "0061736d01000000 0184800001600000 03020100 0a8b008100870080004181001a0b",
             "0061736d01000000 0184800001600000 03020100 0a0701050041011a0b",
@@ -193,7 +196,7 @@ const FAULTS_OF_BODIES: [(&str, &str); 11] = [
         "0061736d01000000 010401600000 03020100 0a060104000c010b",
         "NoSuchLabel at 23",
     ),
-    // A data segment has an index where the data count section tells of it.
+    // A data segment has an index only if there is a data count section.
     (
         "0061736d01000000 010401600000 03020100 0503010000 0a07010500fc09000b 0b03010100",
         "OutOfRange at 28",
@@ -210,7 +213,7 @@ fn names_faults_of_bodies(rt: HostRuntime) -> Result<(), Fail> {
     check(&rt, rt.alloc(), Asked::Rewritten, &FAULTS_OF_BODIES)
 }
 
-/// Appends where the sections of a module end.
+/// Appends the places where the sections of a module end.
 fn push_ends(ends: &mut Vec<usize>, bytes: &[u8]) -> Result<(), Fail> {
     let sections = match Sections::new(bytes) {
         Ok(sections) => sections,
@@ -225,7 +228,7 @@ fn push_ends(ends: &mut Vec<usize>, bytes: &[u8]) -> Result<(), Fail> {
     Ok(())
 }
 
-/// Where the sections of a module end, and its preamble.
+/// The places where the preamble and the sections of a module end.
 fn section_ends(alloc: Global, bytes: &[u8]) -> Result<Vec<usize>, Fail> {
     let mut ends = vec![in alloc; 8]?;
     push_ends(&mut ends, bytes)?;
@@ -237,7 +240,7 @@ fn is_read(alloc: Global, bytes: &[u8]) -> Result<bool, Fail> {
     Ok(found.as_str() == "read")
 }
 
-/// At which lengths, but for these, what is left of a module is read.
+/// The lengths, other than these, to which a module can be cut and is still read.
 fn lengths_read(alloc: Global, bytes: &[u8], ends: &[usize]) -> Result<Vec<usize>, Fail> {
     let mut lengths = Vec::new(alloc);
     for (len, _) in bytes.iter().enumerate() {
@@ -248,7 +251,7 @@ fn lengths_read(alloc: Global, bytes: &[u8], ends: &[usize]) -> Result<Vec<usize
     Ok(lengths)
 }
 
-/// At which lengths what is left of a module is read, but not where a section ends.
+/// The lengths to which a module can be cut and is still read, other than the ends of its sections.
 fn read_lengths(alloc: Global, module: &str) -> Result<Vec<usize>, Fail> {
     let bytes = bytes_of(alloc, module)?;
     let ends = section_ends(alloc, &bytes)?;
@@ -274,7 +277,7 @@ fn notes_text(alloc: Global, notes: &[Note<'_>]) -> Result<String, Fail> {
     Ok(text)
 }
 
-/// What is said of the sections of a module that is rewritten.
+/// The notes on the sections of a module that is rewritten.
 pub(crate) fn notes_of(alloc: Global, parsed: &mut ParsedModule<'_>) -> Result<String, Fail> {
     match parsed.rewrite_all() {
         Ok(rewritten) => notes_text(alloc, &rewritten.notes),
@@ -304,7 +307,7 @@ fn push_map(alloc: Global, parsed: &mut ParsedModule<'_>, out: &mut Vec<u8>) -> 
     }
 }
 
-/// Appends which bodies are refused.
+/// Appends the bodies that are refused.
 fn push_faults(
     alloc: Global,
     parsed: &mut ParsedModule<'_>,
@@ -319,7 +322,7 @@ fn push_faults(
     Ok(())
 }
 
-/// Appends which bodies are refused; and the location map where none is.
+/// Appends the bodies that are refused; if there are none, the location map.
 fn push_map_or_faults(
     alloc: Global,
     parsed: &mut ParsedModule<'_>,
@@ -332,7 +335,7 @@ fn push_map_or_faults(
     Ok(())
 }
 
-/// Which bodies are refused; and the location map where none is.
+/// The bodies that are refused; if there are none, the location map.
 pub(crate) fn map_or_faults(alloc: Global, parsed: &mut ParsedModule<'_>) -> Result<String, Fail> {
     let mut out = Vec::new(alloc);
     push_map_or_faults(alloc, parsed, &mut out)?;

@@ -19,7 +19,7 @@ use Rattle.std.specs.FinMap.{empty, get, from_entries, get-empty}
 use Rattle.wasm_operators.specs.declared.types.Space.{Space}
 use Rattle.walrus_maps.specs.declared.ids_to_indices.IdsToIndices.{IdsToIndices}
 use Rattle.walrus_maps.specs.IndexMaps.{numbers_in}
-use Rattle.walrus_emitter.specs.TreeWriting.Operators.{fitting, numbers_by}
+use Rattle.walrus_numbering.specs.NumberMaps.{fitting, numbers_by}
 use Rattle.wasm_body.specs.Naming.{Environment, Occurrence}
 use Rattle.wasm_body.specs.FunctionTree.{FunctionTree}
 use Rattle.wasm_body.specs.TreeOfFunction.{HasTree}

@@ -64,7 +64,7 @@ fn push_written(
     push_answer(text, answer, &output)
 }
 
-// The same under the numbers of the demo module.
+// The same with the numbers of the demo module.
 fn push_numbered(text: &mut String, module: &Module, function: &LocalFunction) -> Result<(), Fail> {
     let mut indices = demo::numbers(*text.allocator())?;
     push_written(text, module, &mut indices, function)
@@ -94,7 +94,7 @@ fn parse(alloc: Global, demo: &Demo, setting: Setting, bytes: &[u8]) -> Result<L
     )?)
 }
 
-// Appends what is in a context after the function is written that has this body.
+// Appends what is in a context after the function with this body is written.
 fn push_parsed(text: &mut String, demo: &Demo, setting: Setting, bytes: &[u8]) -> Result<(), Fail>
     requires { demo.now.module.code_section_offset ≡ setting.offset }
 {
@@ -102,7 +102,7 @@ fn push_parsed(text: &mut String, demo: &Demo, setting: Setting, bytes: &[u8]) -
     push_numbered(text, &demo.module, &function)
 }
 
-// The same over the demo module.
+// The same with the demo module.
 fn push_over_demo(text: &mut String, setting: Setting, bytes: &[u8]) -> Result<(), Fail> {
     let demo = Demo::new(*text.allocator(), setting.offset as usize)?;
     push_parsed(text, &demo, setting, bytes)
@@ -115,7 +115,7 @@ fn written(alloc: Global, setting: Setting, body: &str) -> Result<String, Fail> 
     Ok(text)
 }
 
-// Writes functions with bodies, each of which comes before what is wanted.
+// Writes functions with bodies, each of which comes before its expected text.
 fn check(
     rt: &impl Abort,
     alloc: Global,
@@ -129,8 +129,8 @@ fn check(
     Ok(())
 }
 
-/// Functions that are parsed are written with their declarations, and each place is that in the
-/// context's bytes; a refusal leaves bytes and pairs as they were.
+/// Parsed functions are written with their declarations, and each place is that in the context's
+/// bytes; a refusal leaves bytes and pairs unchanged.
 #[test]
 fn writes_entries_of_the_code_section(rt: HostRuntime) -> Result<(), Fail> {
     let cases = [("00010b", "aabb000b 9@9 102@3")];
@@ -169,7 +169,7 @@ fn written_by_hand(alloc: Global, entry: usize, instrs: &[Item]) -> Result<Strin
     Ok(text)
 }
 
-// Writes functions that begin with this sequence, each of which comes before what is wanted.
+// Writes functions that begin with this sequence, each of which comes before its expected text.
 fn check_by_hand(
     rt: &impl Abort,
     alloc: Global,
@@ -224,7 +224,7 @@ fn refuses_a_function_without_an_entry(rt: HostRuntime) -> Result<(), Fail> {
     Ok(())
 }
 
-// What is in a context after a function is written whose entry was never set.
+// What is in a context after writing a function whose entry was never set.
 fn written_without_entry(alloc: Global, instrs: &[Item]) -> Result<String, Fail> {
     let builder = without_entry(alloc, 1, instrs)?;
     let function = LocalFunction::new(Vec::new(alloc), builder);
@@ -233,7 +233,7 @@ fn written_without_entry(alloc: Global, instrs: &[Item]) -> Result<String, Fail>
     Ok(text)
 }
 
-/// Nor is one whose entry was never set.
+/// Neither is one whose entry was never set.
 #[test]
 fn refuses_a_function_whose_entry_was_never_set(rt: HostRuntime) -> Result<(), Fail> {
     let found = written_without_entry(rt.alloc(), &[(0, Made::Drop, 1)])?;

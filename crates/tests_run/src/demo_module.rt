@@ -1,5 +1,5 @@
-//! The program's demo module with locals of more types, with an old index for a function without a
-//! new index, and with one for a local that isn't in the module.
+//! The program's demo module with locals of more types, with an old index of a function that has no
+//! new index, and with one of a local that isn't in the module.
 ghost use Rattle.std.specs.Prelude.{◌≡◌, IfOk};
 
 use std::alloc::{AllocError, Global};

@@ -52,7 +52,7 @@ pub(crate) fn rewritten_location(
     }
 }
 
-// The data of the location at this place of what is written of the body, over the demo module.
+// The number of the location at this place of the bytes written for the body, with the demo module.
 #[cfg(test)]
 fn located(alloc: Global, bytes: &[u8], place: usize) -> Result<Option<u32>, Fail> {
     let demo = Demo::new(alloc, AT_A_HUNDRED.offset as usize)?;
@@ -83,8 +83,8 @@ fn located_over(
     }
 }
 
-// Looks up places of what is written of a body, each of which comes before the location that is
-// wanted.
+// Looks up places of the bytes written for a body, each of which comes before the expected
+// location.
 #[cfg(test)]
 fn check(
     rt: &impl Abort,
@@ -100,8 +100,8 @@ fn check(
     Ok(())
 }
 
-/// 00 01 41 81 00 1a 0b is written as 00 41 01 1a 0b, and stands at 100: the constant at 102, the
-/// `drop` at 105, the `end` at 106. No operator begins at the places 0 and 2.
+/// 00 01 41 81 00 1a 0b is at the place 100 and is written as 00 41 01 1a 0b: the constant was at
+/// 102, the `drop` at 105, the `end` at 106. No operator begins at the places 0 and 2.
 #[test]
 fn looks_up_locations(rt: HostRuntime) -> Result<(), Fail> {
     let cases = [

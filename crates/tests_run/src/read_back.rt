@@ -13,7 +13,7 @@ ghost use Rattle.wasm_body.specs.TreeOfFunction.{HasTree};
 ghost use Rattle.walrus_maps.specs.Environments.{environment_of};
 ghost use Rattle.walrus_body.specs.LocalFunctions.{HasEntry, first_slot};
 ghost use Rattle.walrus_body.specs.EmittedInstructions.{IsUnemitted};
-ghost use Rattle.walrus_emitter.specs.TreeWriting.Operators.{numbers_by};
+ghost use Rattle.walrus_numbering.specs.NumberMaps.{numbers_by};
 ghost use Rattle.walrus_rewrite.specs.declared.error.RewriteError.{RewriteError as Refusal};
 ghost use Rattle.walrus_rewrite.specs.Errors.{WantsMemory};
 ghost use Rattle.tests_run.specs.ReadBack.{reading_by, IsReadAs, IsWrittenAs, HasBytes, HasFault, IsFirstFault, IsRefusedAs};

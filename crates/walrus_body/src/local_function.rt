@@ -17,9 +17,9 @@ ghost use Rattle.walrus_parser.specs.Locating.{MayAsk};
 ghost use Rattle.walrus_parser.specs.Settings.{BothOrNone};
 ghost use Rattle.walrus_facts.specs.Facts.{count, segments, AreFacts, TreeHas};
 ghost use Rattle.walrus_facts.specs.Sizes.{IsTooLarge};
-ghost use Rattle.walrus_emitter.specs.EmittedLocals.{Declares, IsUndeclared};
+ghost use Rattle.walrus_numbering.specs.EmittedLocals.{Declares, IsUndeclared};
 ghost use Rattle.walrus_body.specs.EmittedInstructions.{Emits, IsUnemitted, KeepsPairs};
-ghost use Rattle.walrus_emitter.specs.TreeWriting.Operators.{numbers_by};
+ghost use Rattle.walrus_numbering.specs.NumberMaps.{numbers_by};
 
 use std::marker::Model;
 use std::ops::Range;
@@ -279,7 +279,7 @@ impl LocalFunction {
 
     /// The declarations of the function's locals (WebAssembly core specification 3.0, binary
     /// format, code section), and the number of each local. Arguments have the numbers from 0 on;
-    /// one that is named twice has the number of its last place. The used locals that are not
+    /// one that is listed twice has the number of its last position. The used locals that are not
     /// arguments follow, by type, and by id among those of one type. A declaration is the length of
     /// a run of locals of one type, and that type with the new indices of `indices`.
     ///

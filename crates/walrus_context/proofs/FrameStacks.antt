@@ -37,7 +37,7 @@ end_within : (low : ℕ) (cs : List ControlFrame) (end : ℕ) → StartFrom low 
 end_within low [] end h = omega arith
 end_within low (f ∷ fs) end h = let a = starts_to f.start fs end h.1 in let b = end_within f.start fs end h.1 in omega arith
 
--- one frame less, or one more
+-- one frame fewer, or one more
 pub starts_split : (low : ℕ) (cs : List ControlFrame) (f : ControlFrame) (end : ℕ) → StartFrom low (cs ++ f ∷ []) end → StartFrom low cs f.start × (f.start ≤ end)
 starts_split low [] f end h = (h.0, h.1)
 starts_split low (g ∷ cs) f end h = let r = starts_split g.start cs f end h.1 in ((h.0, r.0), r.1)
@@ -54,7 +54,7 @@ begin_append (g ∷ cs) f end = refl
 abbrev first_in : List LocatedInstr → List ControlFrame → ControlFrame → OpenFrame
 first_in all fs f = frame_with f (part all f.start (begin_of fs (length all)))
 
--- ---- one more frame, or one less
+-- ---- one more frame, or one fewer
 
 pub opened : (all : List LocatedInstr) (outer : List OpenFrame) (cs : List ControlFrame) (f : ControlFrame) → f.start ≡ length all → frames_in all outer (cs ++ f ∷ []) ≡ frame_with f [] ∷ frames_in all outer cs
 opened all outer [] f e = ap (λ xs. frame_with f xs ∷ outer) (part_none all f.start (length all) (omega arith))
@@ -139,7 +139,7 @@ module _ (all : List LocatedInstr) where
   pub all_shown : (cs : List ControlFrame) → AreShown (reverse cs) (frames_in all [] cs)
   all_shown cs = subst (λ xs. AreShown xs (frames_in all [] cs)) (append-nil (reverse cs)) (shown_onto [] [] cs tt)
 
--- a change that changes nothing leaves the frames as they are
+-- the frames are unchanged by a change that does nothing to the n-th frame
 pub unchanged_at : (change : OpenFrame → OpenFrame) (fs : List OpenFrame) (n : ℕ) (f : OpenFrame) → slice_get fs n ≡ Some f → change f ≡ f → changed_at n change fs ≡ fs
 unchanged_at change [] n f at same = refl
 unchanged_at change (g ∷ fs) zero f at same = let is : g ≡ f = cc in ap (λ x. x ∷ fs) (ap change is ∙ same ∙ sym is)
@@ -147,11 +147,11 @@ unchanged_at change (g ∷ fs) (suc n) f at same = ap (λ xs. g ∷ xs) (unchang
 
 -- ---- an instruction after all others, and the starts of the frames after it moved
 
--- frames that begin where the list ends
+-- frames that begin at the end of the list
 abbrev pub AllAtEnd : ℕ → List ControlFrame → Type 0
 AllAtEnd end cs = AllByRecursion (λ f. f.start ≡ end) cs
 
--- frames after the i-th that begin where the list ends
+-- frames after the i-th that begin at the end of the list
 abbrev pub BehindAtEnd : ℕ → ℕ → List ControlFrame → Type 0
 BehindAtEnd end i [] = Unit {0}
 BehindAtEnd end zero (f ∷ fs) = AllAtEnd end fs
@@ -200,7 +200,7 @@ module _ (all : List LocatedInstr) where
     longer : length (all ++ x ∷ []) ≡ length all + 1
     longer = length-append all (x ∷ [])
 
-    -- the start of the frames after one
+    -- the start of the frames after the frame that gets the instruction
     begin_later : (cs : List ControlFrame) → AllAtEnd (length all) cs → begin_of (moved_from 0 cs) (length (all ++ x ∷ [])) ≡ length all + 1
     begin_later cs h = ap (begin_of (moved_from 0 cs)) longer ∙ begin_moved (length all) cs h
 
@@ -214,7 +214,7 @@ module _ (all : List LocatedInstr) where
         ap (λ xs. frames_in (all ++ x ∷ []) (frame_with g xs ∷ outer) (moved_from 0 cs)) (none ∙ sym (part_none all g.start (begin_of cs (length all)) (omega arith)))
         ∙ moved_inner (first_in all cs g ∷ outer) cs h.1
 
-    -- the instruction is added to the frame after which all frames begin where the list ends
+    -- the instruction is added to the frame after which all frames begin at the end of the list
     pub appended : (outer : List OpenFrame) (low : ℕ) (cs : List ControlFrame) (i n : ℕ) (g : ControlFrame) → n + i + 1 ≡ length cs → slice_get cs i ≡ Some g → g.unreachable ≡ false →
         StartFrom low cs (length all) → BehindAtEnd (length all) i cs → frames_in (all ++ x ∷ []) outer (moved_from (suc i) cs) ≡ changed_at n (with_instr x) (frames_in all outer cs)
     appended outer low [] i n g is at alive h e = absurd cc
@@ -273,7 +273,7 @@ moved_length [] i = refl
 moved_length (f ∷ fs) zero = ap suc (moved_length fs 0)
 moved_length (f ∷ fs) (suc i) = ap suc (moved_length fs i)
 
--- one more frame is moved, before those that are moved already
+-- one more frame is moved, before those that have been moved
 module _ (xs cs : List ControlFrame) (k i : ℕ) (moving : cs ≡ moved_from k xs) (next : k ≡ suc i) where
   moving_on : cs ≡ moved_from (suc i) xs
   moving_on = moving ∙ ap (λ n. moved_from n xs) next

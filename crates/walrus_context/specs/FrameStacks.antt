@@ -8,12 +8,12 @@ use Rattle.walrus_context.specs.OpenFrames.{OpenFrame, frame_with}
 abbrev pub part : {A : Type 0} → List A → (from to : ℕ) → List A
 part xs from to = take (to - from) (drop from xs)
 
--- where the first of these frames begins, or else where the list ends
+-- the start of the first of these frames, or the end of the list if there is none
 abbrev pub begin_of : List ControlFrame → (end : ℕ) → ℕ
 begin_of [] end = end
 begin_of (f ∷ fs) end = f.start
 
--- the frames, innermost first, within these; a frame has the instructions from its start to the start of the next
+-- the frames, innermost first, inside these; a frame has the instructions from its start to the start of the next
 abbrev pub frames_in : List LocatedInstr → List OpenFrame → List ControlFrame → List OpenFrame
 frames_in all outer [] = outer
 frames_in all outer (f ∷ fs) = frames_in all (frame_with f (part all f.start (begin_of fs (length all))) ∷ outer) fs

@@ -1,5 +1,5 @@
 -- The normal form of an open construct: its opener, its clauses so far, and its closed sequences. The open sequence has a type,
--- and ends where it is closed.
+-- and its end location is that of the operator that closes it.
 use Rattle.std.specs.Prelude.{ℕ, List, [], ◌∷◌}
 use Rattle.walrus_ir.specs.declared.val_type.InstrSeqType.{InstrSeqType}
 use Rattle.walrus_ir.specs.declared.control.BlockKind.{BlockKind}
@@ -54,7 +54,7 @@ clauses_in (InCatchAll a b gs h) = clauses_behind gs (handles_all ∷ [])
 abbrev pub Named : Type 0
 Named = Located NamedOperation
 
--- sequences after others
+-- sequences followed by others
 abbrev pub sequences_joined : {S I : Type 0} → Sequences S I → Sequences S I → Sequences S I
 sequences_joined no_sequences rs = rs
 sequences_joined (sequence h is r) rs = sequence h is (sequences_joined r rs)
@@ -66,7 +66,7 @@ handlers_behind m o end_location [] rest = rest
 handlers_behind m o end_location (g ∷ gs) rest =
     handlers_behind m o g.mark.location gs (sequence (head (handler_type m o (m.tag_parameters g.tag)) end_location) (normal m g.body) rest)
 
--- where the first clause begins
+-- the location of the first clause
 abbrev pub first_clause_at : (location : ℕ) → List (ClosedClause Named) → ℕ
 first_clause_at location [] = location
 first_clause_at location (g ∷ gs) = first_clause_at g.mark.location gs
@@ -98,7 +98,7 @@ added_in m _ = no_sequences
 abbrev pub sequences_closed : Typing → OpenConstruct Named → Items Head Instruction → (location : ℕ) → Sequences Head Instruction → Sequences Head Instruction
 sequences_closed m p items location rest = sequences_joined (closed_in m p) (sequence (head (type_in m p) location) items rest)
 
--- ---- the same with other items shown
+-- ---- the same, where other items are shown
 
 abbrev pub reshown_clause : {A B : Type 0} → (A → B) → ClosedClause A → ClosedClause B
 reshown_clause f g = closed_clause (f g.mark) g.tag (map_sequence f g.body)

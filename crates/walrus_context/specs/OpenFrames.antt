@@ -1,4 +1,4 @@
--- The open frames as contracts see them, and what single calls do to them.
+-- The form in contracts of the open frames, and the effects of single calls on them.
 use Rattle.std.specs.Prelude.{◌≡◌, ◌<◌, ◌≤◌, ℕ, zero, suc, List, [], ◌∷◌, ◌++◌, length, slice_get, Option, Some, None, option_map, Bool, true, false, cond, take, Result, Ok, Err}
 use Rattle.std.specs.List.{AllByRecursion}
 use Rattle.walrus_ir.specs.declared.control.BlockKind.{BlockKind}
@@ -11,8 +11,8 @@ use Rattle.wasm_body.specs.declared.error.ParseError.{ParseError}
 use Rattle.wasm_body.specs.declared.error.ParseError.TheVariants.{NoFrame, NoSuchLabel, NoTry}
 use Rattle.walrus_context.specs.declared.frame.ControlFrame.{ControlFrame}
 
--- An open frame: its kind, the types of its parameters and results, its sequence, whether it is dead (what follows is dropped),
--- and its instructions.
+-- An open frame: its kind, the types of its parameters and results, its sequence, whether it is dead (the instructions that
+-- follow in it are dropped), and its instructions.
 pub record OpenFrame : Type 0 where
   pub kind : BlockKind
   pub start_types : List (ValType ℕ)
@@ -42,7 +42,7 @@ AreShown (c ∷ cs) (f ∷ fs) = Shows c f × AreShown cs fs
 abbrev pub new_frame : BlockKind → (takes gives : List (ValType ℕ)) → (sequence : ℕ) → OpenFrame
 new_frame kind takes gives sequence = record { kind = kind; start_types = takes; end_types = gives; sequence = sequence; dead = false; instrs = [] }
 
--- the n-th frame changed, and every other as before
+-- the n-th frame is changed, and every other is unchanged
 abbrev pub changed_at : ℕ → (OpenFrame → OpenFrame) → List OpenFrame → List OpenFrame
 changed_at n change [] = []
 changed_at zero change (f ∷ fs) = change f ∷ fs
@@ -55,17 +55,17 @@ killed f = record f { dead = true }
 abbrev pub with_instr : LocatedInstr → OpenFrame → OpenFrame
 with_instr x f = record f { instrs = cond f.dead f.instrs (f.instrs ++ x ∷ []) }
 
--- the n-th frame is changed like this, and every other is as before
+-- the n-th frame is changed in this way, and every other is unchanged
 abbrev pub ChangesAt : ℕ → (OpenFrame → OpenFrame) → (old new : List OpenFrame) → Type 0
 ChangesAt n change old new = (n < length old) × (new ≡ changed_at n change old)
 
--- ---- why there is no frame
+-- ---- the fault if there is no frame
 
 -- no frame is open
 abbrev pub HasNoFrame : List OpenFrame → ParseError → Type 0
 HasNoFrame fs e = (e ≡ NoFrame) × (fs ≡ [])
 
--- no more frames are open than the label counts
+-- at most n frames are open
 abbrev pub HasNoFrameAt : List OpenFrame → (n : ℕ) → ParseError → Type 0
 HasNoFrameAt fs n e = (e ≡ NoSuchLabel) × (length fs ≤ n)
 

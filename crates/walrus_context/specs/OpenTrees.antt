@@ -1,4 +1,4 @@
--- A validation context as contracts see it, and what its calls do.
+-- The form in contracts of a validation context, and the effects of its calls.
 use Rattle.std.specs.Prelude.{◌≡◌, ◌<◌, ℕ, List, ◌∷◌, length, Some, IsSomeAnd, slice_get, Result, Ok, Err}
 use Rattle.std.specs.List.{AllByRecursion}
 use Rattle.walrus_ir.specs.declared.control.BlockKind.{BlockKind}
@@ -39,7 +39,7 @@ pub record Opens (old new : OpenTrees) (kind : BlockKind) (type : InstrSeqType) 
     frames = new_frame kind takes gives id ∷ old.frames;
   }
 
--- what names the parts of a body of this function
+-- the environment of a body of this function
 abbrev pub env_of : OpenTrees → Environment
 env_of c = environment_of c.module c.indices c.function c.builder.type
 
@@ -56,7 +56,7 @@ OpensAs old new kind id (Err e) = ⊥
 abbrev pub OpensBlock : (old new : OpenTrees) → BlockKind → BlockType → (id : ℕ) → Type 0
 OpensBlock old new kind b id = OpensAs old new kind id (name_block (env_of old) b)
 
--- why a block type can't be named, or has no picked type in the module
+-- the fault if a block type can't be named, or has no picked type in the module
 abbrev pub HasNoType : OpenTrees → BlockType → ParseError → Type 0
 HasNoType c b e = opened_type (env_of c) b ≡ Err e
 
@@ -77,7 +77,7 @@ pub record Pops (old new : OpenTrees) (f : ControlFrame) (block : ℕ) : Type 0 
   pub is_block : block ≡ frame.sequence
   pub closes : Closes old new frame
 
--- The n-th frame is changed like this; nothing else changed.
+-- The n-th frame is changed in this way; nothing else changed.
 abbrev pub ChangesFrame : ℕ → (OpenFrame → OpenFrame) → (old new : OpenTrees) → Type 0
 ChangesFrame n change old new = (n < length old.frames) × (new ≡ record old { frames = changed_at n change old.frames })
 

@@ -41,11 +41,11 @@ handler_in fs n = kind_at fs n >>= λ k. unless (is_handler_kind k) RethrowOutsi
 abbrev pub depth_around : List OpenFrame → ℕ → Result ℕ ParseError
 depth_around fs n = unless (nat_lt n (length (drop 1 fs))) NoSuchLabel >>= λ u. Ok n
 
--- whether the types in a block type exist, and the type that it names, if any, is a function type
+-- success if the types in a block type exist, and the type that it names, if any, is a function type
 abbrev pub block_found : Environment → BlockType → Result (Unit {0}) ParseError
 block_found env b = name_block env b >>= λ s. Ok tt
 
--- with these frames open, innermost first
+-- the translation while these frames are open, innermost first
 abbrev pub placing : Environment → List OpenFrame → Translation ℕ BlockType ℕ (Unit {0}) ParseError
 placing env fs = record {
   index = id_at env;

@@ -24,8 +24,9 @@ use walrus_maps::IndicesToIds;
 use wasm_body::ParseError;
 use wasm_operators::{BlockType, RawValType};
 
-/// The sequences of a function during its parse, some of which are open. A contract sees the
-/// sequences, and the open frames with their instructions, innermost first.
+/// The sequences of a function during its parse, some of which are open. In a contract, it is the
+/// module, its maps, the function, its builder, and the open frames with their instructions,
+/// innermost first.
 #[derive(Drop)]
 pub struct ValidationContext<'a> {
     module: &'a Module,
@@ -119,8 +120,12 @@ impl<'a> ValidationContext<'a> {
         self.module
     }
 
-    /// Checks that the types in a block type exist, and that a type which it names by its old index
-    /// is a function type.
+    /// Checks that the types in a block type exist, and that a type that it names by its old index
+    /// is a function type. Allocates nothing.
+    ///
+    /// # Errors
+    ///
+    /// `Index` if an old index has no id; `NotAFunctionType` if the type is not a function type.
     pub fn has_block_type(&self, ty: BlockType) -> Result<(), ParseError>
         ensures { result ≡ block_found (env_of self.now) ty }
     {
@@ -152,7 +157,7 @@ impl<'a> ValidationContext<'a> {
         }
     }
 
-    /// Sets the location of a sequence's end.
+    /// Sets the location of a sequence's end. Requires that the builder has the sequence.
     pub fn end_sequence(&mut self, sequence: InstrSeqId, location: InstrLocId)
         requires { sequence < length self.old.builder.sequences }
         ensures { EndsAt self.old self.new sequence location }
@@ -188,8 +193,8 @@ impl<'a> ValidationContext<'a> {
         }
     }
 
-    /// Opens a frame with these parameters and results. Its sequence has the type in the module
-    /// that is picked for them.
+    /// Opens a frame with these parameters and results, and returns its sequence. The type of the
+    /// sequence is the one that is picked for them in the module.
     ///
     /// # Errors
     ///
@@ -214,7 +219,7 @@ impl<'a> ValidationContext<'a> {
     }
 
     /// Opens a frame with the parameters and results of a function type, which is the type of its
-    /// sequence.
+    /// sequence, and returns the sequence.
     ///
     /// # Errors
     ///
@@ -266,6 +271,12 @@ impl<'a> ValidationContext<'a> {
 
     /// Opens a frame with the parameters and results of a block type (WebAssembly core
     /// specification 3.0, binary format, control instructions), whose old indices are looked up.
+    /// Returns its sequence.
+    ///
+    /// # Errors
+    ///
+    /// `Index` if an old index has no id; `NotAFunctionType` if the type is not a function type;
+    /// `TypeMissing` if the module has no type that can be picked; `Memory` if memory runs out.
     pub fn push_block(&mut self, kind: BlockKind, ty: BlockType) -> Result<InstrSeqId, ParseError>
         ensures ok { IfOk result (λ id. OpensBlock self.old self.new kind ty id) }
         ensures err { IfErr result (λ e. (e ≡ Fault.Memory) ⊎ HasNoType self.old ty e) }
@@ -277,11 +288,12 @@ impl<'a> ValidationContext<'a> {
         }
     }
 
-    /// Closes the innermost frame. Its sequence then has its instructions.
+    /// Closes the innermost frame, and returns it and its sequence. The sequence then has the
+    /// frame's instructions.
     ///
     /// # Errors
     ///
-    /// `NoFrame` if no frame is open; `Memory` if memory runs out. Nothing is changed then.
+    /// `NoFrame` if no frame is open; `Memory` if memory runs out. Nothing is changed.
     pub fn pop_control(&mut self) -> Result<(ControlFrame, InstrSeqId), ParseError>
         ensures ok { IfOk result (λ x. Pops self.old self.new x.0 x.1) }
         ensures err { IfErr result (λ e. (e ≡ Fault.Memory) ⊎ HasNoFrame self.old.frames e) }
@@ -299,7 +311,7 @@ impl<'a> ValidationContext<'a> {
     }
 
     /// Marks the innermost frame as dead: the instructions that follow in it are dropped. The error
-    /// is `NoFrame` if no frame is open.
+    /// is `NoFrame` if no frame is open; nothing is changed.
     pub fn unreachable(&mut self) -> Result<(), ParseError>
         ensures ok { OnOk result (ChangesFrame 0 killed self.old self.new) }
         ensures err { IfErr result (HasNoFrame self.old.frames) }
@@ -327,7 +339,7 @@ impl<'a> ValidationContext<'a> {
     /// # Errors
     ///
     /// `NoSuchLabel` if at most `n` frames are open; `Memory` if memory runs out. Nothing is
-    /// changed then.
+    /// changed.
     pub fn alloc_instr_in_control(
         &mut self,
         n: usize,
@@ -346,7 +358,7 @@ impl<'a> ValidationContext<'a> {
     ///
     /// # Errors
     ///
-    /// `NoFrame` if no frame is open; `Memory` if memory runs out. Nothing is changed then.
+    /// `NoFrame` if no frame is open; `Memory` if memory runs out. Nothing is changed.
     #[inline(always)]
     pub fn alloc_instr(&mut self, instr: Instr, loc: InstrLocId) -> Result<(), ParseError>
         ensures ok { OnOk result (ChangesFrame 0 (with_instr (instr, loc)) self.old self.new) }
@@ -368,7 +380,7 @@ impl<'a> ValidationContext<'a> {
     /// # Errors
     ///
     /// `NoSuchLabel` if there is no frame around the innermost; `NoTry` if that frame doesn't end
-    /// in a `try`; `Memory` if memory runs out. Nothing is changed then.
+    /// in a `try`; `Memory` if memory runs out. Nothing is changed.
     pub fn add_legacy_catch(&mut self, catch: LegacyCatch) -> Result<(), ParseError>
         ensures ok { OnOk result (AddsClauseAround catch self.old self.new) }
         ensures err { IfErr result (λ e. (e ≡ Fault.Memory)
@@ -378,8 +390,8 @@ impl<'a> ValidationContext<'a> {
         self.stack.add_clause(catch)
     }
 
-    /// The function, the open frames, the innermost last, and the list of instructions, which is
-    /// empty if no frame is open.
+    /// The parts of the context: the function; the open frames, the innermost last; and the list of
+    /// instructions, which is empty if no frame is open.
     pub fn into_parts(self) -> (FunctionBuilder, ControlStack, Vec<(Instr, InstrLocId)>)
         ensures function { result.0 ≡ self.entry.builder }
         ensures frames { AreShown (reverse result.1.items) self.entry.frames }

@@ -22,7 +22,7 @@ pub struct ControlFrame {
 /// The open sequences, the innermost last.
 pub type ControlStack = Vec<ControlFrame>;
 
-/// An `if` whose `end` isn't read yet.
+/// An `if` whose `end` has not been read yet.
 #[derive(Clone, Copy)]
 pub struct IfElseState {
     /// The location of the `if`.

@@ -9,7 +9,7 @@ use std::marker::Model;
 use walrus_ir::{BlockKind, Instr, InstrLocId, InstrSeqId, LegacyCatch, ValType};
 use wasm_body::ParseError;
 
-/// Pushes an item. If memory runs out, the list is unchanged.
+/// Pushes an item. The error is `Memory` if memory runs out; the list is unchanged.
 #[inline(always)]
 pub fn pushed<T: Drop>(list: &mut Vec<T>, item: T) -> Result<(), ParseError>
     ensures ok { OnOk result (list.new.items ≡ list.old.items ++ item ∷ []) }
@@ -47,7 +47,7 @@ fn add_clause_in(item: &mut (Instr, InstrLocId), catch: LegacyCatch) -> Result<(
     }
 }
 
-/// Moves the start of every frame from this one on by one instruction.
+/// Moves the start of every frame from this index on by one instruction.
 fn move_starts(controls: &mut ControlStack, from: usize)
     requires within { from ≤ length controls.old.items }
     requires fit { (end : ℕ) × (end + 1 < 2 ^ 64) × StartFrom 0 controls.old.items end }
@@ -60,7 +60,7 @@ fn move_starts(controls: &mut ControlStack, from: usize)
     }
 }
 
-/// The open frames. A contract sees them innermost first.
+/// The open frames. In a contract, they are a list, innermost first.
 #[derive(Drop)]
 pub struct FrameStack {
     controls: ControlStack,
@@ -217,7 +217,7 @@ impl FrameStack {
         add_clause_in(&mut self.instrs[end - 1], catch)
     }
 
-    /// The frames, the innermost last, and the list of instructions, now empty.
+    /// The frames, the innermost last, and the list of instructions, which is emptied.
     pub fn into_parts(self) -> (ControlStack, Vec<(Instr, InstrLocId)>)
         ensures frames { AreShown (reverse result.0.items) self }
         ensures empty { result.1.items ≡ [] }

@@ -8,8 +8,8 @@ use walrus_maps::IndicesToIds;
 use wasm_body::ParseError;
 use wasm_operators::{RawHeapType, RawValType};
 
-/// A heap type with the id of its type, if it is an old index. The error is `Index` if that index
-/// has no id. Allocates nothing.
+/// A heap type of an instruction: an old index of a type is replaced by the id. The error is
+/// `Index` if the index has no id. Allocates nothing.
 pub fn heap_type_of(indices: &IndicesToIds, ty: RawHeapType) -> Result<HeapType, ParseError>
     ensures { result ≡ translate_heap (ids_at indices.now) ty }
 {
@@ -19,8 +19,8 @@ pub fn heap_type_of(indices: &IndicesToIds, ty: RawHeapType) -> Result<HeapType,
     }
 }
 
-/// A value type with the id of its type, if it contains an old index. The error is `Index` if that
-/// index has no id. Allocates nothing.
+/// A value type of an instruction: an old index of a type in it is replaced by the id. The error is
+/// `Index` if the index has no id. Allocates nothing.
 pub fn value_type(indices: &IndicesToIds, ty: RawValType) -> Result<ValType, ParseError>
     ensures { result ≡ translate_value (ids_at indices.now) ty }
 {

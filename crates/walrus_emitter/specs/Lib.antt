@@ -1,3 +1,1 @@
-pub mod Emission
 pub mod TreeWriting
-pub mod EmittedLocals

@@ -1,29 +1,25 @@
 //! Writing a function's tree.
-ghost use Rattle.std.specs.Prelude.{◌≡◌, ◌∷◌, [], ◌<◌, length, None, Ok, OnOk, OnErr, IfOk, IfErr};
+ghost use Rattle.std.specs.Prelude.{◌≡◌, ◌∷◌, [], ◌<◌, ◌^◌, length, None, Ok, OnOk, OnErr, IfOk, IfErr};
 ghost use Rattle.walrus_ir.specs.declared.val_type.InstrSeqType.TheVariants.{Simple};
 ghost use Rattle.walrus_ir.specs.declared.instr.Instr.TheVariants as instruction;
 ghost use Rattle.walrus_ir.specs.Unfolding.{slots_in};
-ghost use Rattle.walrus_emitter.specs.Emission.{first_type_at};
+ghost use Rattle.walrus_emit_state.specs.Emission.{first_type_at};
 ghost use Rattle.wasm_body.specs.InstructionTable.{clauses_of_try};
 ghost use Rattle.wasm_body.specs.FlatText.{are_lawful as lawful_clauses};
-ghost use Rattle.walrus_emitter.specs.TreeWriting.Closers.{places_of};
-ghost use Rattle.walrus_emitter.specs.TreeWriting.Operators.{numbers_of, IsOperatorOf};
+ghost use Rattle.walrus_emit_state.specs.TreeWriting.Closers.{places_of};
+ghost use Rattle.walrus_numbering.specs.NumberMaps.{numbers_of};
+ghost use Rattle.walrus_operators.specs.TreeWriting.Operators.{IsOperatorOf};
 ghost use Rattle.walrus_emitter.specs.TreeWriting.Trees.{IsFirstScope, IsDraftOf, IsUnwritten, Appends, AppendsBytes};
 ghost use Rattle.walrus_emitter.specs.TreeWriting.Emitters.{ClosesWith, IsFaultOfCloser};
 
-use crate::announcing::announce;
-use crate::clauses::are_lawful;
-use crate::closing::Closer;
-use crate::draft::Draft;
-use crate::lists::Lists;
-use crate::number_maps::NumberMaps;
-use crate::open_scopes::Scopes;
-use crate::operators::{closing_operator, memory_argument, operator_of};
 use std::alloc::AllocError;
+use walrus_emit_state::{Closer, Draft, Scopes, announce, are_lawful};
 use walrus_ir::{
     Call, DataId, FunctionBuilder, GlobalGet, GlobalSet, Instr, InstrLocId, InstrSeq, InstrSeqId,
     InstrSeqType, Load, LocalId, RefFunc, Store, Value, Visitor, dfs_in_order,
 };
+use walrus_numbering::{NumberMaps, memory_argument};
+use walrus_operators::{Lists, closing_operator, operator_of};
 use wasm_body::EmitError;
 use wasm_encode::{FunctionEncoder, OutOp};
 
@@ -426,6 +422,7 @@ fn draft_tree(
     base: usize,
     has_map: bool,
 ) -> Result<Draft, EmitError>
+    requires { base < 2 ^ 63 }
     ensures ok { IfOk result (IsDraftOf builder.now.sequences entry (numbers_of numbers.now)
         base has_map) }
     ensures err { IfErr result (IsUnwritten builder.now.sequences entry (numbers_of numbers.now)) }

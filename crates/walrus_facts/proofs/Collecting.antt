@@ -1,4 +1,4 @@
--- What a visitor collects at the events of a walk, in terms of the tree's instructions; with this, the data segments.
+-- The items that a visitor collects at the events of a walk, in terms of the tree's instructions; with this, the data segments.
 use Rattle.std.proofs.Common.{◌≡◌, ◌⊎◌, ℕ, List, [], ◌∷◌, ◌++◌, Bool, true, false, ◌||◌, ◌==◌, cond, refl, sym, ap, ◌∙◌, subst, append-nil, append_assoc, inl, inr}
 use Rattle.std.specs.List.{flat_map}
 use Rattle.std.specs.HashSet.{HashSet, contains}
@@ -20,7 +20,7 @@ use Rattle.walrus_facts.specs.Segments.{holds, named, Collects, WantsMemory, Hol
 use Rattle.walrus_facts.specs.declared.segments.DataSegmentsVisitor.{DataSegmentsVisitor}
 use Rattle.walrus_maps.proofs.EntryMaps.{same_id}
 
--- Nothing is collected where a sequence starts or ends; at an instruction, what the instruction has is collected.
+-- Nothing is collected at the start or end of a sequence; at an instruction, the items of the instruction are collected.
 pub record IsByInstruction {A : Type 0} (at_event : WalkEvent → List A) (at_instruction : LocatedInstr → List A) : Type 0 where
   pub starts : (seq : InstrSeq) → at_event (StartSequence seq) ≡ []
   pub ends : (seq : InstrSeq) → at_event (EndSequence seq) ≡ []
@@ -46,12 +46,12 @@ module _ {A : Type 0} {g : WalkEvent → List A} {f : LocatedInstr → List A} (
       let all = items_collected t.items (EndSequence t.head.seq ∷ []) in
       rw (h.starts t.head.seq, all, h.ends t.head.seq) (append-nil (flat_map f (instructions t.items)))
 
--- Adding two lists one after the other is adding both at once.
+-- To add two lists one after the other is to add both at once.
 pub record IsAdding {A B : Type 0} (add : List A → B → B) : Type 0 where
   pub none : (b : B) → add [] b ≡ b
   pub both : (xs ys : List A) (b : B) → add ys (add xs b) ≡ add (xs ++ ys) b
 
--- adding what each event has is adding what all events have
+-- to add the items of each event is to add the items of all events
 pub folded : {V A B : Type 0} {steps : V → WalkEvent → V → Type 0} {g : WalkEvent → List A} {add : List A → B → B} (has : V → B) → IsAdding add
     → ((v w : V) (e : WalkEvent) → steps v e w → has w ≡ add (g e) (has v))
     → {v w : V} {es : List WalkEvent} → Folds steps v es w → has w ≡ add (flat_map g es) (has v)

@@ -55,7 +55,7 @@ full_of_tree : {b : List InstrSeq} {start : ℕ} {f : WalkError} {n : ℕ} (t : 
 full_of_tree t is_tree all (inl memory) = inl (inl memory)
 full_of_tree t is_tree all (inr h) = let past = h.1 in inr (h.0, record { tree = t; is_tree = is_tree; holds = omega (arith, past, all) })
 
--- A visitor that counts the instructions. It refuses one if memory runs out or the count would pass 64 bits.
+-- A visitor that counts the instructions. It refuses one if memory runs out, or if the count would not fit 64 bits.
 pub record IsCounting {V : Type 0} (steps : V → WalkEvent → V → Type 0) (refuses : V → WalkEvent → WalkError → Type 0) (size : V → ℕ) : Type 0 where
   pub steps_count : (v w : V) (e : WalkEvent) → steps v e w → size w ≡ size v + length (visited e)
   pub refused_for : (v : V) (e : WalkEvent) (f : WalkError) → refuses v e f → IsFull f (size v + length (visited e))

@@ -50,7 +50,7 @@ some_of_both [] ys b = refl
 some_of_both (x ∷ xs) [] b = refl
 some_of_both (x ∷ xs) (y ∷ ys) b = refl
 
--- whether there are any, among those collected and those before
+-- whether there are any, collected or from before
 adding_some : IsAdding (λ (xs : List ℕ) (b : Bool). are_some xs || b)
 adding_some = record { none = λ b. refl; both = some_of_both }
 

@@ -1,4 +1,4 @@
--- The locals that a builder's instructions name are those that its tree names.
+-- The locals that a builder's instructions name are the locals that its tree names.
 use Rattle.std.specs.Prelude.{Option, Some, None}
 use Rattle.std.proofs.Common.{◌≡◌, ℕ, suc, ◌+◌, length, List, [], ◌∷◌, ◌++◌, refl, sym, ap, ◌∙◌}
 use Rattle.std.specs.List.{flat_map}

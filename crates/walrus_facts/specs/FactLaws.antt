@@ -1,4 +1,4 @@
--- How the facts of a function agree with its other calls.
+-- The facts of a function agree with its other calls.
 use Rattle.std.specs.Prelude.{◌≡◌, ◌==◌, ◌↔◌, ℕ, IsTrue, List}
 use Rattle.std.specs.HashSet.{HashSet, contains}
 use Rattle.walrus_ir.specs.declared.seq.InstrSeq.{InstrSeq}
@@ -12,7 +12,7 @@ FactsHaveSize =
     (b : List InstrSeq) (start : ℕ) (f : EmitFacts) (n : ℕ)
     → TreeHas b start (λ t. AreFacts t.items f) → TreeHas b start (λ t. n ≡ count t.items) → f.size ≡ n
 
--- the facts say that data segments are used exactly where `used_data_segments` finds one
+-- the facts say that data segments are used exactly if `used_data_segments` finds one
 abbrev pub FactsUseFound : Type 0 → Type 0
 FactsUseFound S =
     (b : List InstrSeq) (start : ℕ) (f : EmitFacts) (found : HashSet ℕ S)

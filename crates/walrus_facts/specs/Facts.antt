@@ -19,7 +19,7 @@ abbrev mutual
   instructions_inside no_sequences = []
   instructions_inside (sequence head items rest) = instructions items ++ instructions_inside rest
 
--- how many there are
+-- the number of instructions
 abbrev pub count : {S I : Type 0} → Items S I → ℕ
 count items = length (instructions items)
 
@@ -44,7 +44,7 @@ function_of _ = []
 abbrev pub referred : Items SequenceAt LocatedInstr → List ℕ
 referred items = flat_map (λ (x : LocatedInstr). function_of x.0) (instructions items)
 
--- the local that an instruction reads or writes, if it does
+-- the local that an instruction reads or writes, if there is one
 abbrev pub local_of_instr : Instr → List ℕ
 local_of_instr (LocalGet x) = x.local ∷ []
 local_of_instr (LocalSet x) = x.local ∷ []
@@ -67,7 +67,7 @@ pub record AreFacts (items : Items SequenceAt LocatedInstr) (f : EmitFacts) : Ty
   pub ref_funcs : f.ref_funcs.items ≡ referred items
   pub used_locals : (l : ℕ) → contains (λ x y. x == y) f.used_locals l ≡ among l (locals_used items)
 
--- The sequences from this one on are a tree, and this holds of it.
+-- The sequences from this one on are a tree, and it has this property.
 pub record TreeHas (b : List InstrSeq) (start : ℕ) (Holds : Tree SequenceAt LocatedInstr → Type 0) : Type 0 where
   pub tree : Tree SequenceAt LocatedInstr
   pub is_tree : IsTree b start tree

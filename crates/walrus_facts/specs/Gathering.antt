@@ -27,7 +27,7 @@ abbrev pub local_at : WalkEvent → List ℕ
 local_at (NameLocal l) = l ∷ []
 local_at _ = []
 
--- An event adds its instruction, and what that names, to these facts.
+-- An event adds its instruction, and the item that it names, to these facts.
 pub record Adds (s : EmitFacts) (e : WalkEvent) (t : EmitFacts) : Type 0 where
   pub size : t.size ≡ s.size + length (visited e)
   pub uses_data_segments : t.uses_data_segments ≡ (are_some (named e) || s.uses_data_segments)
@@ -51,7 +51,7 @@ pub record SaySame (s t : EmitFacts) : Type 0 where
   pub ref_funcs : t.ref_funcs.items ≡ s.ref_funcs.items
   pub used_locals : (l : ℕ) → uses_local t l ≡ uses_local s l
 
--- both hold facts that say the same
+-- both contain facts that say the same
 abbrev pub HoldsSameFacts : FactsVisitor → FactsVisitor → Type 0
 HoldsSameFacts s t = SaySame s.facts t.facts
 
@@ -74,7 +74,7 @@ chained s t u h k = record {
   used_locals = λ l. k.used_locals l ∙ h.used_locals l;
 }
 
--- where both hold the same before and the same after, a step of one is a step of the other
+-- if both contain the same facts before and the same facts after, a step of one is a step of the other
 pub gather_alike : AreStepsAlike HoldsSameFacts Gathers
 gather_alike s s' t t' e from to step = record {
   size = to.size ∙ (step.size ∙ ap (λ n. n + length (visited e)) (sym from.size));

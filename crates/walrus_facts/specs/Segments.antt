@@ -9,7 +9,7 @@ use Rattle.walrus_ir.specs.Events.{WalkEvent, StartSequence, EndSequence, VisitI
 use Rattle.walrus_ir.specs.Events.{AreStepsAlike, AreRefusalsAlike}
 use Rattle.walrus_facts.specs.declared.segments.DataSegmentsVisitor.{DataSegmentsVisitor}
 
--- whether it holds a data segment
+-- whether it contains a data segment
 abbrev pub holds : DataSegmentsVisitor → ℕ → Bool
 holds s d = contains (λ x y. x == y) s.segments d
 
@@ -26,15 +26,15 @@ abbrev pub WantsMemory : DataSegmentsVisitor → WalkEvent → WalkError → Typ
 WantsMemory s (NameData d) f = f ≡ Memory
 WantsMemory s _ f = ⊥
 
--- both hold the same data segments
+-- both contain the same data segments
 abbrev pub HoldsSame : DataSegmentsVisitor → DataSegmentsVisitor → Type 0
 HoldsSame s t = (d : ℕ) → holds t d ≡ holds s d
 
--- where both hold the same before and the same after, a step of one is a step of the other
+-- if both contain the same segments before and the same segments after, a step of one is a step of the other
 pub collect_alike : AreStepsAlike HoldsSame Collects
 collect_alike s s' t t' e from to step d = to d ∙ (step d ∙ ap (λ b. among d (named e) || b) (sym (from d)))
 
--- whether memory runs out doesn't depend on what they hold
+-- whether memory runs out doesn't depend on the segments that they contain
 pub want_alike : AreRefusalsAlike HoldsSame WantsMemory
 want_alike s s' (StartSequence seq) f from h = h
 want_alike s s' (EndSequence seq) f from h = h

@@ -15,7 +15,7 @@ use walrus_ir::{
 /// Facts of a function's body that are needed before it is written.
 #[derive(Drop)]
 pub struct EmitFacts {
-    /// How many instructions there are.
+    /// The number of instructions.
     pub size: u64,
     /// Whether an instruction names a data segment (`memory.init`, `data.drop`, `array.new_data`,
     /// `array.init_data`).
@@ -132,9 +132,9 @@ pub fn emit_facts(builder: &FunctionBuilder, start: InstrSeqId) -> Result<EmitFa
     Ok(facts)
 }
 
-/// Where each of the calls succeeds, the facts of a function agree with them: the size in the facts
-/// is its size, and they say that data segments are used exactly where its used data segments
-/// contain one. `S` is the hasher of that set.
+/// The facts of a function agree with the other calls, if these succeed: the size in the facts is
+/// the result of `size`, and they say that data segments are used exactly if the result of
+/// `used_data_segments` contains one. `S` is the hasher of that set.
 pub fn law_facts<S>()
     ensures size { FactsHaveSize }
     ensures uses_data_segments { FactsUseFound S }

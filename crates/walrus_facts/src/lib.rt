@@ -1,5 +1,5 @@
-//! Facts of a function's tree: how many instructions it has, and which data segments, functions and
-//! locals they name.
+//! Facts of a function's tree: the number of its instructions, and the data segments, functions and
+//! locals that they name.
 #![tactic(auto)]
 
 mod facts;

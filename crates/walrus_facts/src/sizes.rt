@@ -1,4 +1,4 @@
-//! How large a function is.
+//! The number of instructions of a function.
 ghost use Rattle.std.specs.Prelude.{◌≡◌, ◌⊎◌, IfOk, IfErr};
 ghost use Rattle.walrus_ir.specs.Walk.{HasNoWalk};
 ghost use Rattle.walrus_facts.specs.Facts.{count, TreeHas};
@@ -12,12 +12,12 @@ use walrus_ir::{
 /// Counts the instructions that it visits.
 #[derive(Drop)]
 pub struct SizeVisitor {
-    /// How many instructions were visited.
+    /// The number of instructions visited so far.
     pub size: u64,
 }
 
 impl SizeVisitor {
-    /// A visitor that has visited no instruction.
+    /// A visitor that has visited no instruction. Allocates nothing.
     pub fn new() -> SizeVisitor
         ensures { result.size ≡ 0 }
     {

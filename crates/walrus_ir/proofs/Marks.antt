@@ -1,4 +1,4 @@
--- The marks of the sequences that were reached, and a bound of the steps that the others take.
+-- The marks of the sequences that were reached, and an upper bound on the steps for the others.
 use Rattle.std.proofs.Common.{◌≡◌, ◌<◌, ◌+◌, ℕ, zero, suc, List, [], ◌∷◌, Bool, true, false, ◌||◌, Some, length, get_or, set, replicate, eqb, refl, arith, get_or-set_other}
 use Rattle.std.proofs.lemmas.Grind.{common_steps, get_or-set_at}
 use Rattle.std.proofs.lemmas.Bool.Decides.{nat_tests}
@@ -20,7 +20,7 @@ unmarked (suc n) (suc p) = unmarked n p
 pub all_unmarked : (n : ℕ) (marks : List Bool) → marks ≡ replicate n false → (p : ℕ) → get_or marks p false ≡ false
 all_unmarked n marks e p = rw e (unmarked n p)
 
--- a bound of the steps for the sequences that were not reached
+-- an upper bound on the steps for the sequences that were not reached
 abbrev pub unreached : List Bool → List InstrSeq → ℕ
 unreached [] b = 0
 unreached (m ∷ ms) [] = 0

@@ -10,7 +10,7 @@ use Rattle.walrus_ir.specs.Events.{WalkEvent, StartSequence, EndSequence, VisitI
 use Rattle.walrus_ir.specs.Planning.{IsOrder}
 use Rattle.walrus_ir.specs.Telling.{Frame, started, IsStretch, no_stretch, goes_on, Next, starts, visits, ends}
 
--- the slots of the sequences, in walk order, and then these
+-- the slots of the sequences, in walk order, followed by these
 abbrev mutual
   pub item_slots : Items SequenceAt LocatedInstr → List ℕ → List ℕ
   item_slots no_items later = later
@@ -36,7 +36,7 @@ mutual
 pub slots_in_order : (ss : Sequences SequenceAt LocatedInstr) → reverse (slots_reached_each ss []) ≡ sequence_slots ss []
 slots_in_order ss = sym (append-nil (reverse (slots_reached_each ss []))) ∙ sequences_reached ss [] []
 
--- the innermost open sequence, with the trees that are left in it, and the rest of the stack below it
+-- the innermost open sequence, with the remaining trees in it, and the rest of the stack below it
 pub record Top (b : List InstrSeq) (f : Frame) (Below : List ℕ → List WalkEvent → Type 0) (coming : List ℕ) (left : List WalkEvent) : Type 0 where
   pub slots : List ℕ
   pub inside : Sequences SequenceAt LocatedInstr
@@ -50,7 +50,7 @@ pub record Top (b : List InstrSeq) (f : Frame) (Below : List ℕ → List WalkEv
   pub coming_is : coming ≡ sequence_slots inside (item_slots items later)
   pub left_is : left ≡ sequence_events inside (item_events items (EndSequence f.seq ∷ after))
 
--- with these open sequences and these slots to come, these events are left
+-- with these open sequences and these slots to come, these events remain
 abbrev pub Pending : List InstrSeq → List Frame → List ℕ → List WalkEvent → Type 0
 Pending b [] coming left = (coming ≡ []) × (left ≡ [])
 Pending b (f ∷ fs) coming left = Top b f (Pending b fs) coming left
@@ -72,7 +72,7 @@ just_started b seq fs items later after a below = record {
   left_is = refl;
 }
 
--- the first of the events that are left, and the events after them
+-- the first of the remaining events, and the events after them
 pub record Behind (b : List InstrSeq) (fs : List Frame) (coming : List ℕ) (es left : List WalkEvent) : Type 0 where
   pub more : List WalkEvent
   pub left_is : left ≡ es ++ more
@@ -208,7 +208,7 @@ some_first ss (are_sequences k a r) = omega arith
 pub some_order : {b : List InstrSeq} {start : ℕ} {order : List ℕ} → IsOrder b start order → 0 < length order
 some_order h = rw (order_slots h) (some_first (alone h.tree) h.is_tree.unfolds)
 
--- a bound of the steps for the slots to come, and one for the open sequences
+-- an upper bound on the steps for the slots to come, and one for the open sequences
 abbrev pub work_in : Option InstrSeq → ℕ
 work_in None = 0
 work_in (Some seq) = 2 + length seq.instrs

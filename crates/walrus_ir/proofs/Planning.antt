@@ -18,7 +18,7 @@ use Rattle.walrus_ir.proofs.WalkLaws.{walk_makes_tree}
 use Rattle.walrus_ir.proofs.Marks.{marked, unreached, unreached-set}
 use Rattle.walrus_ir.proofs.Tasks.{agenda_push}
 
--- the walk has reached the marked sequences, in this order, and goes on to these slots
+-- the walk has reached the marked sequences in this order, and goes on to these slots
 pub record Stands (b : List InstrSeq) (start : ℕ) (marks : List Bool) (order next : List ℕ) : Type 0 where
   pub seen : List ℕ
   pub walks : Walks b start seen next
@@ -84,7 +84,7 @@ not_done (Enter p) ts e h (inr r) = inr (refused_fault p e h r)
 not_done (Resume rest) ts e h (inr r) = absurd r
 not_done (Clauses rest) ts e h (inr r) = absurd r
 
--- at the end
+-- at the end of the walk
 pub stands_last : {b : List InstrSeq} {start : ℕ} {marks : List Bool} {order : List ℕ} → Stands b start marks order [] → IsOrder b start order
 stands_last {b = b} {start = start} h =
     let whole = walk_makes_tree b start h.seen h.walks in

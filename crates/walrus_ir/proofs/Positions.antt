@@ -1,4 +1,4 @@
--- The first place that passes, and an `Option`, through maps.
+-- The first position that passes a test, and an `Option`, under a map.
 use Rattle.std.proofs.Common.{◌≡◌, ℕ, ◌+◌, List, [], ◌∷◌, Bool, Option, Some, None, cond, map, refl, ap, not}
 use Rattle.std.specs.Prelude.{position, MatchOption, IsSomeAnd}
 use Rattle.std.specs.Option.{option_map}
@@ -12,13 +12,13 @@ prefix_len-map p f (x ∷ xs) = ap (λ n. cond (p (f x)) (1 + n) 0) (prefix_len-
 pub position-map : {X Y : Type 0} (p : Y → Bool) (f : X → Y) (xs : List X) → position p (map f xs) ≡ position (λ x. p (f x)) xs
 position-map p f xs = rw (prefix_len-map (λ y. not (p y)) f xs, length-map) refl
 
--- what `map` gives
+-- the result of `map`
 pub option_map_is : {X Y : Type 0} (f : X → Y) (o : Option X) (r : Option Y) → MatchOption o (r ≡ None) (λ x. IsSomeAnd r (λ y. y ≡ f x)) → r ≡ option_map f o
 option_map_is f None r h = h
 option_map_is f (Some x) None h = absurd h
 option_map_is f (Some x) (Some y) h = ap Some h
 
--- the same, where each number stays what it is
+-- the same, for the identity on numbers
 pub same_number : (o r : Option ℕ) → MatchOption o (r ≡ None) (λ x. IsSomeAnd r (λ y. y ≡ x)) → r ≡ o
 same_number None r h = option_map_is (λ x. x) None r h
 same_number (Some x) r h = option_map_is (λ x. x) (Some x) r h

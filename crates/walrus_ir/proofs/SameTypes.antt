@@ -1,4 +1,4 @@
--- The test of equal types says whether they are equal.
+-- The test for equal types decides equality.
 use Rattle.std.proofs.Common.{◌≡◌, ℕ, List, [], ◌∷◌, Bool, true, false, ◌&&◌, ◌==◌, Decides, ap, refl}
 use Rattle.std.proofs.lemmas.Bool.Decides.{Decides-eqb, Decides-and}
 use lib.Pointwise.{pointwise, pointwise_decides}

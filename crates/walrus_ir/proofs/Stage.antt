@@ -1,4 +1,4 @@
--- How far the telling of a walk has come.
+-- How much of a walk a visitor has been told about.
 use Rattle.std.proofs.Common.{◌≡◌, ℕ, List, [], ◌∷◌, ◌++◌, Some, refl, sym, ap, ◌∙◌, subst, append_assoc}
 use Rattle.std.proofs.lemmas.List.{append-nil}
 use Rattle.std.specs.Prelude.{slice_get}
@@ -13,7 +13,7 @@ use Rattle.walrus_ir.proofs.Telling.{Folds-append, Stops-append, Stops_behind}
 use Rattle.walrus_ir.proofs.Pending.{Pending, just_started, next_pending, begins}
 
 module _ {V F : Type 0} (b : List InstrSeq) (start : ℕ) (steps : V → WalkEvent → V → Type 0) (refuses : V → WalkEvent → F → Type 0) (same : V → V → Type 0) where
-  -- the visitor was told the first events of the tree; the open sequences and the slots to come give the others
+  -- the visitor was told about the first events of the tree; the open sequences and the slots to come give the others
   pub record Stage (v w : V) (fs : List Frame) (coming : List ℕ) : Type 0 where
     pub tree : Tree SequenceAt LocatedInstr
     pub is_tree : IsTree b start tree

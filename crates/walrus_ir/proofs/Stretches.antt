@@ -1,4 +1,4 @@
--- A stretch of instructions is told, one more at a time.
+-- A visitor is told about a stretch of instructions, one more at a time.
 use Rattle.std.proofs.Common.{◌≡◌, ℕ, List, ◌∷◌, length, subst}
 use Rattle.walrus_ir.specs.Unfolding.{LocatedInstr, slots_in}
 use Rattle.walrus_ir.specs.Events.{WalkEvent, VisitInstruction, names, Folds, Stops}
@@ -6,7 +6,7 @@ use Rattle.walrus_ir.specs.Telling.{IsStretch, goes_on, IsToldStretch, IsRefused
 use Rattle.walrus_ir.proofs.Telling.{Folds-append, Stops_behind}
 
 module _ {V F : Type 0} (steps : V → WalkEvent → V → Type 0) (refuses : V → WalkEvent → F → Type 0) (same : V → V → Type 0) where
-  -- the next instruction is told
+  -- the visitor accepts the next instruction
   pub stretch_told : {v w u : V} {all rest left : List LocatedInstr} {x : LocatedInstr} (n : ℕ) → rest ≡ x ∷ left → n ≡ length (slots_in x.0)
       → IsToldStretch all rest 0 (λ es. Folds steps v es w) → Folds steps w (VisitInstruction x.0 x.1 ∷ names x.0) u → IsToldStretch all left n (λ es. Folds steps v es u)
   stretch_told {all = all} {x = x} n e many h told =
@@ -17,7 +17,7 @@ module _ {V F : Type 0} (steps : V → WalkEvent → V → Type 0) (refuses : V 
         told = Folds-append steps refuses same (VisitInstruction x.0 x.1 ∷ names x.0) h.told told;
       }
 
-  -- the next instruction is refused, or what it names
+  -- the visitor refuses the next instruction, or the item that it names
   pub stretch_refused : {v w u : V} {f : F} {all rest left : List LocatedInstr} {x : LocatedInstr} → rest ≡ x ∷ left
       → IsToldStretch all rest 0 (λ es. Folds steps v es w) → Stops steps refuses same w (VisitInstruction x.0 x.1 ∷ names x.0) u f → IsRefusedStretch all (λ es. Stops steps refuses same v es u f)
   stretch_refused {all = all} {left = left} {x = x} e h stopped =

@@ -1,4 +1,4 @@
--- What a visitor was told, one event after the other.
+-- The events that a visitor was told about, one after the other.
 use Rattle.std.proofs.Common.{◌≡◌, List, [], ◌∷◌, ◌++◌, Result, Ok, Err}
 use Rattle.walrus_ir.specs.Events.{WalkEvent, Folds, through, after, Stops, refused, later, Hears, Tells}
 

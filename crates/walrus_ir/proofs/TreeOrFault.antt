@@ -1,4 +1,4 @@
--- Every function has a tree or a first fault: the walk ends, since each step reaches one sequence more.
+-- Every function has a tree or a first fault: the walk ends, since each step reaches one more sequence.
 use Rattle.std.proofs.Common.{◌≡◌, ◌⊎◌, ◌≤◌, ℕ, zero, suc, List, [], ◌∷◌, Bool, true, false, Option, Some, None, length, replicate, get_or, set, refl, inl, inr, arith}
 use Rattle.std.proofs.lemmas.List.{length-replicate}
 use Rattle.std.specs.Prelude.{slice_get}

@@ -1,4 +1,4 @@
--- Lists of value types that the order of value types doesn't tell apart are equal.
+-- Lists of value types that the order of value types doesn't distinguish are equal.
 use Rattle.std.proofs.Common.{◌≡◌, ℕ, List, Bool, true, false, ◌&&◌, ◌==◌, nat_eq, refl, sym, ap, ◌∙◌}
 use Rattle.std.specs.Ordering.{is_eq}
 use Rattle.std.specs.declared.cmp.Ordering.{Ordering}
@@ -33,7 +33,7 @@ same_key V128 V128 = refl
 same_key (Ref a) (Ref b) = λ i. same_nullable a.nullable b.nullable i && same_heap_key a.heap_type b.heap_type i
 same_key _ _ = refl
 
--- by any comparison that is the order of value types
+-- the same for any comparison that is the order of value types
 pub tie-same_types : (C : ValType ℕ → ValType ℕ → Ordering) → ((t u : ValType ℕ) → C t u ≡ type_order t u)
     → (ts us : List (ValType ℕ)) → is_eq (slice_cmp C ts us) ≡ same_types ts us
 tie-same_types C law ts us =

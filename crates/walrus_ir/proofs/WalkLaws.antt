@@ -66,7 +66,7 @@ tree_is_walked b start t h = sequences_walked [] [] h.unfolds h.apart begun
 
 -- ---- a walk that ends is a tree's
 
--- Q holds for the slots that are reached, whatever unfolds at these
+-- Q holds for the slots that are reached, for any sequences that unfold at these slots
 abbrev Completes : List InstrSeq → List ℕ → (List ℕ → Type 0) → List ℕ → Type 0
 Completes b [] Q seen = Q seen
 Completes b (p ∷ ps) Q seen = (seq : InstrSeq) (items : Items SequenceAt LocatedInstr) → slice_get b p ≡ Some seq → AreItems b seq.instrs items → Completes b ps Q (slots_reached items (p ∷ seen))
@@ -113,7 +113,7 @@ data Ends (b : List InstrSeq) : (seen next : List ℕ) → Option WalkError → 
   is_unknown : {seen next : List ℕ} {p : ℕ} → slice_get b p ≡ None → Ends b seen (p ∷ next) (Some UnknownSequence)
   is_shared : {seen next : List ℕ} {p : ℕ} → among p seen ≡ true → Ends b seen (p ∷ next) (Some SharedSequence)
 
--- the walk has only one way: from the first state it comes to the second
+-- the walk is deterministic: from the first state it gets to the second
 data Leads (b : List InstrSeq) : (seen next seen' next' : List ℕ) → Type 0 where
   stays : {seen next : List ℕ} → Leads b seen next seen next
   goes : {seen next seen' next' : List ℕ} {p : ℕ} {seq : InstrSeq} → slice_get b p ≡ Some seq → among p seen ≡ false
@@ -168,7 +168,7 @@ one_end {b = b} {s = s} {s'' = s''} {n'' = n''} h (goes {next = next} {p = p} {s
     let P : InstrSeq → Type 0 = λ z. Leads b (p ∷ s) (slots_in_all z.instrs ++ next) s'' n'' in
     one_end (known_more b s p seq k h) l (subst P same l') e f
 
--- a state that the walk comes to, and how it ends there
+-- a state that the walk gets to, and how it ends there
 record ComesTo (b : List InstrSeq) (start : ℕ) (x : Option WalkError) : Type 0 where
   pub seen : List ℕ
   pub next : List ℕ

@@ -1,4 +1,4 @@
--- What contracts see of instructions with lists: sequences with clauses, and branch tables.
+-- The form in contracts of instructions with lists: sequences with clauses, and branch tables.
 use Rattle.std.specs.Prelude.{ℕ, List}
 
 -- a sequence with clauses that catch the exceptions thrown in it

@@ -1,4 +1,4 @@
--- The events of a walk, and what it means to tell a visitor of them.
+-- The events of a walk, and what it means to tell a visitor about them.
 use Rattle.std.specs.Prelude.{ℕ, List, [], ◌∷◌, ◌++◌, Result, MatchResult}
 use Rattle.walrus_ir.specs.declared.seq.InstrSeq.{InstrSeq}
 use Rattle.walrus_ir.specs.declared.instr.Instr.{Instr}
@@ -27,7 +27,7 @@ names (ArrayNewData x) = NameData x.data_id ∷ []
 names (ArrayInitData x) = NameData x.data_id ∷ []
 names _ = []
 
--- the events, followed by `later`: an instruction is visited before the item that it names, and that item before the
+-- the events, followed by `later`: an instruction is visited before the item that it names, and this item before the
 -- sequences inside the instruction
 abbrev mutual
   pub item_events : Items SequenceAt LocatedInstr → List WalkEvent → List WalkEvent
@@ -43,34 +43,34 @@ abbrev mutual
 abbrev pub events : Tree SequenceAt LocatedInstr → List WalkEvent
 events t = sequence_events (alone t) []
 
--- The meaning of a visitor: `steps s e t`, in the state s it may take the event e and is then in the state t;
--- `refuses s e f`, in s it may refuse e with the fault f; `same s t`, in t it is as it was in s.
+-- What a visitor's calls do. `steps s e t`: in state s it may accept the event e, and is then in state t.
+-- `refuses s e f`: in state s it may refuse e with the fault f. `same s t`: in state t it is as it was in state s.
 
--- states that are the same take the same steps, and refuse the same events with the same faults
+-- states that are the same have the same steps, and refuse the same events with the same faults
 abbrev pub AreStepsAlike : {V : Type 0} → (V → V → Type 0) → (V → WalkEvent → V → Type 0) → Type 0
 AreStepsAlike {V = V} same steps = (s s' t t' : V) (e : WalkEvent) → same s s' → same t t' → steps s e t → steps s' e t'
 
 abbrev pub AreRefusalsAlike : {V F : Type 0} → (V → V → Type 0) → (V → WalkEvent → F → Type 0) → Type 0
 AreRefusalsAlike {V = V} {F = F} same refuses = (s s' : V) (e : WalkEvent) (f : F) → same s s' → refuses s e f → refuses s' e f
 
--- from one state to another through these events
+-- the visitor accepts these events, and goes from one state to another
 pub data Folds {V : Type 0} (steps : V → WalkEvent → V → Type 0) : V → List WalkEvent → V → Type 0 where
   through : {v : V} → Folds steps v [] v
   after : {v w x : V} {e : WalkEvent} {es : List WalkEvent} → steps v e w → Folds steps w es x → Folds steps v (e ∷ es) x
 
--- from one state to another through the first of these events; the event after those is refused with a fault
+-- the visitor accepts the first of these events, goes from one state to another, and refuses the next event with a fault
 pub data Stops {V F : Type 0} (steps : V → WalkEvent → V → Type 0) (refuses : V → WalkEvent → F → Type 0) (same : V → V → Type 0)
     : V → List WalkEvent → V → F → Type 0 where
   refused : {v w : V} {e : WalkEvent} {es : List WalkEvent} {f : F} → refuses v e f → same v w → Stops steps refuses same v (e ∷ es) w f
   later : {v w x : V} {e : WalkEvent} {es : List WalkEvent} {f : F}
       → steps v e w → Stops steps refuses same w es x f → Stops steps refuses same v (e ∷ es) x f
 
--- the result of one event: the visitor took it, or it refused it and is as it was
+-- the result of one event: the visitor accepted it, or it refused it and is unchanged
 abbrev pub Hears : {V F U : Type 0} → (V → WalkEvent → V → Type 0) → (V → WalkEvent → F → Type 0) → (V → V → Type 0)
     → V → WalkEvent → Result U F → V → Type 0
 Hears steps refuses same v e r w = MatchResult r (λ _. steps v e w) (λ f. refuses v e f × same v w)
 
--- the result of some events: the visitor took them all, or it took the first ones and refused the next
+-- the result of some events: the visitor accepted them all, or it accepted the first ones and refused the next
 abbrev pub Tells : {V F U : Type 0} → (V → WalkEvent → V → Type 0) → (V → WalkEvent → F → Type 0) → (V → V → Type 0)
     → V → List WalkEvent → Result U F → V → Type 0
 Tells steps refuses same v es r w = MatchResult r (λ _. Folds steps v es w) (λ f. Stops steps refuses same v es w f)

@@ -1,4 +1,4 @@
--- What contracts see of a function's builder.
+-- The form in contracts of a function's builder.
 use Rattle.std.specs.Prelude.{ℕ, List, [], ◌∷◌, ◌++◌, Option, None, length, slice_set}
 use Rattle.walrus_ir.specs.declared.seq.InstrSeq.{InstrSeq}
 use Rattle.walrus_ir.specs.declared.val_type.InstrSeqType.{InstrSeqType}
@@ -14,11 +14,11 @@ pub record Function : Type 0 where
 abbrev pub empty_function : (type : ℕ) → Function
 empty_function type = record { type = type; sequences = []; entry = None }
 
--- one more sequence, which is empty, after all others
+-- with an empty sequence after all others
 abbrev pub with_new_sequence : Function → InstrSeqType → Function
 with_new_sequence b ty =
     record b { sequences = b.sequences ++ empty_sequence (length b.sequences) ty ∷ [] }
 
--- the sequence at a slot replaced
+-- with the sequence at a slot replaced
 abbrev pub with_sequence : Function → (slot : ℕ) → InstrSeq → Function
 with_sequence b slot seq = record b { sequences = slice_set b.sequences slot seq }

@@ -1,4 +1,4 @@
--- What contracts see of a sequence of instructions.
+-- The form in contracts of a sequence of instructions.
 use Rattle.std.specs.Prelude.{ℕ, List, []}
 use Rattle.walrus_ir.specs.declared.instr.Instr.{Instr}
 use Rattle.walrus_ir.specs.declared.val_type.InstrSeqType.{InstrSeqType}

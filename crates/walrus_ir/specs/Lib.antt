@@ -1,10 +1,13 @@
 -- results that may be faults, in every crate
 pub mod Results
--- types: of values and of a module, and the pick
+-- the types of values and of a module, and the pick
 pub mod Types
 pub mod TypeOrder
 pub mod TypeEntries
+pub mod TypeDigest
 pub mod TypeIndex
+-- locals, in runs
+pub mod LocalRuns
 -- locations, and what contracts see of instructions with lists, of a sequence and of a builder
 pub mod Locations
 pub mod Clauses
@@ -15,11 +18,11 @@ pub mod Lending
 pub mod Tree
 pub mod Unfolding
 pub mod Faults
--- walks: what a visitor is told, and how a walk ends
+-- walks: the events that a visitor is told about, and how a walk ends
 pub mod Events
 pub mod Sameness
 pub mod Walk
 pub mod WalkLaws
--- the state of a walk while it is planned and told
+-- the state of a walk while it is planned, and while a visitor is told about it
 pub mod Planning
 pub mod Telling

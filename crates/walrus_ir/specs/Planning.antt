@@ -22,7 +22,7 @@ goes_to (Clauses rest) = handlers rest.now
 abbrev pub agenda : List Task → List ℕ
 agenda tasks = flat_map goes_to (reverse tasks)
 
--- a bound of the steps that an instruction, some instructions, a task and the tasks on a stack take, without the steps for
+-- an upper bound on the steps for an instruction, some instructions, a task and the tasks on a stack, without the steps for
 -- the instructions inside the sequences
 abbrev pub work_of : Instr → ℕ
 work_of (Block x) = 1
@@ -54,7 +54,7 @@ pub record IsNextHolder (all : List LocatedInstr) (holder : Instr) (behind : Lis
   pub goes : slots_in_all all ≡ slots_in holder ++ slots_in_all behind
   pub falls : 1 + (work_of holder + work_of_all behind) ≤ work_of_all all
 
--- why a sequence is not reached
+-- the fault if a sequence is not reached
 abbrev pub IsRefusedAt : List InstrSeq → List Bool → ℕ → WalkError → Type 0
 IsRefusedAt b marks p UnknownSequence = slice_get b p ≡ None
 IsRefusedAt b marks p SharedSequence = slice_index_or marks p false ≡ true
@@ -74,7 +74,7 @@ pub record IsEntered (b : List InstrSeq) (p : ℕ) (old new : Plan) : Type 0 whe
   pub adds : Adds old.tasks.items new.tasks.items
       (slots_in_all seq.instrs) (1 + work_of_all seq.instrs)
 
--- nothing is reached, and the tasks go on to the same slots
+-- no sequence is reached, and the tasks go on to the same slots
 pub record IsGoneOn (task : Task) (old new : Plan) : Type 0 where
   pub same_marks : new.reached.items ≡ old.reached.items
   pub same_order : new.order.items ≡ old.order.items
@@ -86,7 +86,7 @@ abbrev pub IsDone : List InstrSeq → Task → Plan → Plan → Type 0
 IsDone b (Enter p) old new = IsEntered b p old new
 IsDone b task old new = IsGoneOn task old new
 
--- why a task is not done
+-- the fault if a task is not done
 abbrev pub IsNotDone : List InstrSeq → List Bool → Task → WalkError → Type 0
 IsNotDone b marks (Enter p) e = IsRefusedAt b marks p e
 IsNotDone b marks _ e = ⊥

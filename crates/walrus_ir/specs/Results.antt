@@ -6,7 +6,7 @@ abbrev pub ◌>>=◌ : {A B E : Type 0} → Result A E → (A → Result B E) �
 (Ok x) >>= f = f x
 (Err e) >>= f = Err e
 
--- no value where the test passes, else the fault
+-- success without a value if the test passes, otherwise the fault
 abbrev pub unless : {E : Type 0} → Bool → E → Result (Unit {0}) E
 unless test e = if test then Ok tt else Err e
 
@@ -34,7 +34,7 @@ abbrev pub sure : {A : Type 0} → Result A ⊥ → A
 sure (Ok x) = x
 sure (Err e) = absurd e
 
--- the second result is the first, with its value seen by `view`
+-- the second result is the first, with its value mapped by `view`
 abbrev pub Gives : {A B E : Type 0} → (A → B) → Result A E → Result B E → Type 0
 Gives view (Ok x) given = given ≡ Ok (view x)
 Gives view (Err e) given = given ≡ Err e

@@ -1,4 +1,4 @@
--- The state of a walk while a visitor is told of it: the sequences that are open, and the slots of those that are to come.
+-- The state of a walk while a visitor is told about it: the sequences that are open, and the slots of those that are to come.
 use Rattle.std.specs.Prelude.{◌≡◌, ℕ, suc, List, [], ◌∷◌, ◌++◌, Some, length, map, reverse, slice_get}
 use Rattle.walrus_ir.specs.declared.seq.InstrSeq.{InstrSeq}
 use Rattle.walrus_ir.specs.declared.walk.Open.{Open}
@@ -29,8 +29,8 @@ pub data IsStretch (all : List LocatedInstr) : (left : List LocatedInstr) (insid
   goes_on : {x : LocatedInstr} {left : List LocatedInstr} {es : List WalkEvent} → IsStretch all (x ∷ left) 0 es
       → IsStretch all left (length (slots_in x.0)) (es ++ VisitInstruction x.0 x.1 ∷ names x.0)
 
--- What comes next in the innermost open sequence: the events that are told, the sequences that are then open in its place,
--- and the slots that are then to come. If a sequence inside the last instruction is to come, it starts. Otherwise a stretch
+-- What comes next in the innermost open sequence: the events, the sequences that are then open in its place, and the slots
+-- that are then to come. If a sequence inside the last instruction is to come, it starts. Otherwise a stretch
 -- of instructions is visited, and the sequence ends if no instruction is left after it.
 pub data Next (b : List InstrSeq) : Frame → (coming : List ℕ) → List WalkEvent → (opened : List Frame) → (coming' : List ℕ) → Type 0 where
   starts : {seq inner : InstrSeq} {rest : List LocatedInstr} {n p : ℕ} {coming : List ℕ} → slice_get b p ≡ Some inner
@@ -42,13 +42,13 @@ pub data Next (b : List InstrSeq) : Frame → (coming : List ℕ) → List WalkE
   ends : {seq : InstrSeq} {rest : List LocatedInstr} {es : List WalkEvent} {coming : List ℕ} → IsStretch rest [] 0 es
       → Next b (record { seq = seq; rest = rest; inside = 0 }) coming (es ++ EndSequence seq ∷ []) [] coming
 
--- a stretch was told
+-- a visitor was told about a stretch
 pub record IsToldStretch (all left : List LocatedInstr) (inside : ℕ) (Told : List WalkEvent → Type 0) : Type 0 where
   pub events : List WalkEvent
   pub stretch : IsStretch all left inside events
   pub told : Told events
 
--- a stretch was told up to an event that was refused, which belongs to its last instruction
+-- a visitor was told about a stretch up to an event that it refused, which belongs to the last instruction of the stretch
 pub record IsRefusedStretch (all : List LocatedInstr) (Stopped : List WalkEvent → Type 0) : Type 0 where
   pub before : List WalkEvent
   pub last : LocatedInstr
@@ -56,7 +56,7 @@ pub record IsRefusedStretch (all : List LocatedInstr) (Stopped : List WalkEvent 
   pub stretch : IsStretch all (last ∷ left) 0 before
   pub stopped : Stopped (before ++ VisitInstruction last.0 last.1 ∷ names last.0)
 
--- what comes next was told
+-- a visitor was told about what comes next
 pub record IsToldNext (b : List InstrSeq) (f : Frame) (coming : List ℕ) (fs : List Frame)
     (Told : List WalkEvent → Type 0) (fs' : List Frame) (coming' : List ℕ) : Type 0 where
   pub events : List WalkEvent
@@ -65,7 +65,7 @@ pub record IsToldNext (b : List InstrSeq) (f : Frame) (coming : List ℕ) (fs : 
   pub told : Told events
   pub stack : fs' ≡ opened ++ fs
 
--- what comes next was told up to an event that was refused
+-- a visitor was told about what comes next, up to an event that it refused
 pub record IsRefusedNext (b : List InstrSeq) (f : Frame) (coming : List ℕ) (Stopped : List WalkEvent → Type 0) : Type 0 where
   pub events : List WalkEvent
   pub opened : List Frame

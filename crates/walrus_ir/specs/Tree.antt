@@ -1,4 +1,4 @@
--- Trees of sequences. A value of `S` is given for each sequence, and a value of `I` for each instruction.
+-- Trees of sequences, with a value of `S` for each sequence and a value of `I` for each instruction.
 
 mutual
   -- the items of a sequence: the first and the rest; an item is an instruction and the sequences in it
@@ -6,7 +6,7 @@ mutual
     no_items : Items S I
     item : (instr : I) (inside : Sequences S I) (rest : Items S I) → Items S I
 
-  -- sequences beside each other: the first, with its items, and the rest
+  -- sibling sequences: the first, with its items, and the rest
   pub data Sequences (S I : Type 0) : Type 0 where
     no_sequences : Sequences S I
     sequence : (head : S) (items : Items S I) (rest : Sequences S I) → Sequences S I
@@ -19,7 +19,7 @@ pub record Tree (S I : Type 0) : Type 0 where
 abbrev pub alone : {S I : Type 0} → Tree S I → Sequences S I
 alone t = sequence t.head t.items no_sequences
 
--- the same shape with something else at each sequence and instruction
+-- the same shape, with another value at each sequence and instruction
 abbrev mutual
   pub map_items : {S I T J : Type 0} → (S → T) → (I → J) → Items S I → Items T J
   map_items f g no_items = no_items

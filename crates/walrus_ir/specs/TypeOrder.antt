@@ -1,4 +1,4 @@
--- The order of value types, in which locals are grouped. No standard defines one; this is the project's own.
+-- The order of value types in which locals are grouped. No standard defines one; this is the project's own.
 use Rattle.std.specs.Prelude.{ℕ, List, [], ◌∷◌, Bool, true, false}
 use Rattle.std.specs.declared.cmp.Ordering.{Ordering}
 use Rattle.std.specs.Ordering.{nat_cmp}
@@ -19,7 +19,7 @@ abbrev pub heap_type_key : HeapType ℕ → List ℕ
 heap_type_key (Abstract a) = 0 ∷ rank_of a ∷ []
 heap_type_key (Concrete id) = 1 ∷ id ∷ []
 
--- the numbers by which a value type is compared, the weightiest first: references come last
+-- the numbers by which a value type is compared, the most significant first: references come last
 abbrev pub type_key : ValType ℕ → List ℕ
 type_key I32 = 0 ∷ []
 type_key I64 = 1 ∷ []

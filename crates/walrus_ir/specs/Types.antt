@@ -1,4 +1,4 @@
--- The types of a module, and which of them a sequence that takes and gives some values has.
+-- The types of a module, and the type of a sequence with given parameters and results.
 use Rattle.std.specs.Prelude.{ℕ, List, [], ◌∷◌, Bool, true, false, ◌&&◌, ◌==◌, Option, Some, None, slice_get, position, option_and_then}
 use Rattle.std.specs.Option.{option_map}
 use Rattle.walrus_ir.specs.declared.val_type.AbstractHeapType.{AbstractHeapType}
@@ -10,7 +10,7 @@ use Rattle.walrus_ir.specs.declared.val_type.ValType.TheVariants.{I32, I64, F32,
 use Rattle.walrus_ir.specs.declared.val_type.InstrSeqType.{InstrSeqType}
 use Rattle.walrus_ir.specs.declared.val_type.InstrSeqType.TheVariants.{Simple, MultiValue}
 
--- What is taken and what is given.
+-- Parameters and results, each in order.
 pub record Signature : Type 0 where
   pub parameters : List (ValType ℕ)
   pub results : List (ValType ℕ)
@@ -18,8 +18,8 @@ pub record Signature : Type 0 where
 abbrev pub signature : List (ValType ℕ) → List (ValType ℕ) → Signature
 signature parameters results = record { parameters = parameters; results = results }
 
--- A type of the module: of functions, of the entry of a function with these results, or a struct or array type,
--- of which nothing is known here. The types of a module are a list, by id.
+-- A type of the module: a function type, the type of the entry of a function with these results, or a struct or array type,
+-- about which nothing else is known here. The types of a module are a list, by id.
 pub data ModuleType : Type 0 where
   Func : (parameters results : List (ValType ℕ)) → ModuleType
   Entry : (results : List (ValType ℕ)) → ModuleType
@@ -30,13 +30,13 @@ signature_in (Func parameters results) = Some (signature parameters results)
 signature_in (Entry results) = Some (signature [] results)
 signature_in Other = None
 
--- what a type of the module stands for; an entry type takes nothing
+-- the signature of a type of the module, if it has one; an entry type has no parameters
 abbrev pub signature_of : List ModuleType → ℕ → Option Signature
 signature_of types id = option_and_then signature_in (slice_get types id)
 
 -- ---- equal types
 
--- the place of an abstract heap type in their order
+-- the rank of an abstract heap type in their order
 abbrev pub rank_of : AbstractHeapType → ℕ
 rank_of abstract.NoExn = 0
 rank_of abstract.NoFunc = 1
@@ -90,16 +90,16 @@ is_entry results (Entry rs) = same_types rs results
 is_entry results (Func ps rs) = false
 is_entry results Other = false
 
--- the first function type with these lists, that is no entry type
+-- the id of the first function type with these lists; entry types don't count
 abbrev pub find : List ModuleType → List (ValType ℕ) → List (ValType ℕ) → Option ℕ
 find types parameters results = position (is_function parameters results) types
 
--- the first entry type with these results
+-- the id of the first entry type with these results
 abbrev pub find_entry : List ModuleType → List (ValType ℕ) → Option ℕ
 find_entry types results = position (is_entry results) types
 
--- The pick: the type of a sequence that takes and gives these. Where it takes nothing and gives at most one value it
--- needs no type of the module; else it has the first function type with these lists.
+-- The pick: the type of a sequence with these parameters and results. Without parameters and with at most one result it
+-- needs no type of the module; otherwise it is the first function type with these lists.
 abbrev pub existing : List ModuleType → List (ValType ℕ) → List (ValType ℕ) → Option InstrSeqType
 existing types [] [] = Some (Simple None)
 existing types [] (t ∷ []) = Some (Simple (Some t))
@@ -109,7 +109,7 @@ existing types (p ∷ ps) results = option_map MultiValue (find types (p ∷ ps)
 abbrev pub pick : List ModuleType → Signature → Option InstrSeqType
 pick types s = existing types s.parameters s.results
 
--- what a sequence of the type takes and gives, where the module has the type
+-- the signature of a sequence of this type, if the module has the type
 abbrev pub signature_of_type : List ModuleType → InstrSeqType → Option Signature
 signature_of_type types (Simple None) = Some (signature [] [])
 signature_of_type types (Simple (Some t)) = Some (signature [] (t ∷ []))

@@ -32,6 +32,6 @@ pub record Reaches (b : List InstrSeq) (start : ℕ) (seen : List ℕ) : Type 0 
   pub is_tree : IsTree b start tree
   pub slots : slots_reached_each (alone tree) [] ≡ seen
 
--- where the walk has no slot left, it has gone through a tree
+-- where the walk has no slot left, it has walked through a tree
 abbrev pub WalkMakesTree : Type 0
 WalkMakesTree = (b : List InstrSeq) (start : ℕ) (seen : List ℕ) → Walks b start seen [] → Reaches b start seen

@@ -1,4 +1,4 @@
-//! The builder of a function, which holds its sequences.
+//! The builder of a function, which contains its sequences.
 ghost use Rattle.std.specs.Prelude.{◌≡◌, ◌<◌, ◌↔◌, length, IsTrue, IfOk, OnErr, slice_get, Some};
 ghost use Rattle.std.specs.Borrow.{sem};
 ghost use Rattle.walrus_ir.specs.Lending.{LendsSequence};
@@ -12,7 +12,7 @@ use std::alloc::{AllocError, Global};
 use std::marker::Model;
 
 /// The sequences of a function. Instructions refer to them by their slots, which are numbered from
-/// 0. A contract sees the function's type, the list of sequences, and the entry.
+/// 0. In a contract, a builder is the function's type, the list of sequences, and the entry.
 #[derive(Drop)]
 pub struct FunctionBuilder {
     ty: TypeId,
@@ -47,8 +47,8 @@ impl FunctionBuilder {
         self.ty
     }
 
-    /// Adds an empty sequence of this type after all others, and returns its slot. Its end has the
-    /// default location.
+    /// Adds an empty sequence of this type after all others, and returns its slot. The location of
+    /// its end is the default location.
     ///
     /// # Errors
     ///
@@ -70,7 +70,7 @@ impl FunctionBuilder {
     }
 
     /// The slot of the sequence that the function begins with, if one was set. The builder need not
-    /// have that sequence.
+    /// contain that sequence.
     pub fn entry(&self) -> Option<InstrSeqId>
         ensures { result ≡ self.now.entry }
     {
@@ -100,7 +100,7 @@ impl FunctionBuilder {
         &self.seqs[index]
     }
 
-    /// The sequence at this slot, to be changed. All other sequences stay as they are.
+    /// The sequence at this slot, to be changed. The other sequences stay unchanged.
     pub fn seq_mut(&mut self, id: InstrSeqId) -> &mut InstrSeq
         requires { id < length self.old.sequences }
         ensures* writes_back { sem 𝓛 (LendsSequence self.entry id result) }

@@ -1,18 +1,23 @@
-//! Instructions of structured control, and branches. A contract sees clauses and targets as lists.
+//! Instructions of structured control, and branches. In a contract, clauses and targets are lists.
 
 use crate::id::{InstrSeqId, TagId};
 use crate::val_type::HeapType;
 use std::marker::Model;
 
-/// What a sequence of instructions is to the construct that holds it.
+/// The role of a sequence of instructions in the construct that contains it.
 #[derive(Clone, Copy, Debug, PartialEq, Eq)]
 pub enum BlockKind {
+    /// The body of a `block`.
     Block,
+    /// The body of a `loop`.
     Loop,
+    /// The sequence of an `if` that runs if the operand isn't zero.
     If,
+    /// The sequence of an `if` that runs if the operand is zero.
     Else,
     /// The body of the function.
     FunctionEntry,
+    /// The body of a `try_table`.
     TryTable,
     /// The body of a legacy `try`.
     Try,
@@ -22,40 +27,50 @@ pub enum BlockKind {
     CatchAll,
 }
 
-/// `block`: a sequence that a branch leaves.
+/// `block`: a sequence; a branch to it leaves it.
 #[derive(Clone, Copy)]
 pub struct Block {
+    /// The body.
     pub seq: InstrSeqId,
 }
 
-/// `loop`: a sequence that a branch begins again.
+/// `loop`: a sequence; a branch to it starts it again.
 #[derive(Clone, Copy)]
 pub struct Loop {
+    /// The body.
     pub seq: InstrSeqId,
 }
 
 /// `if` with its `else`: a choice of two sequences.
 #[derive(Clone, Copy)]
 pub struct IfElse {
+    /// The sequence that runs if the operand isn't zero.
     pub consequent: InstrSeqId,
+    /// The sequence that runs if the operand is zero. It is empty if the source has no `else`.
     pub alternative: InstrSeqId,
 }
 
 /// A catch clause of a `try_table` (WebAssembly core specification 3.0, control instructions): the
-/// exceptions that it catches, and the sequence that it branches to. A clause with `Ref` passes a
-/// reference to the exception too.
+/// exceptions that it catches, and the sequence that it branches to. A clause with `Ref` also
+/// passes a reference to the exception.
 #[derive(Clone, Copy)]
 pub enum TryTableCatch {
+    /// `catch`: exceptions with this tag.
     Catch { tag: TagId, label: InstrSeqId },
+    /// `catch_ref`: exceptions with this tag, with a reference.
     CatchRef { tag: TagId, label: InstrSeqId },
+    /// `catch_all`: all exceptions.
     CatchAll { label: InstrSeqId },
+    /// `catch_all_ref`: all exceptions, with a reference.
     CatchAllRef { label: InstrSeqId },
 }
 
 /// `try_table`: a sequence with clauses that catch exceptions thrown in it.
 #[derive(Drop)]
 pub struct TryTable {
+    /// The body.
     pub seq: InstrSeqId,
+    /// The clauses, in order; the first that matches catches the exception.
     pub catches: Vec<TryTableCatch>,
 }
 
@@ -69,19 +84,24 @@ impl Model for TryTable {
 }
 
 /// A clause of a legacy `try`: the exceptions that it catches, and the sequence that handles them.
-/// `Delegate` has the number of constructs between the `try` and the one that the exception is
+/// `Delegate` contains the number of constructs between the `try` and the one that the exception is
 /// delegated to.
 #[derive(Clone, Copy)]
 pub enum LegacyCatch {
+    /// `catch`: exceptions with this tag.
     Catch { tag: TagId, handler: InstrSeqId },
+    /// `catch_all`: all exceptions.
     CatchAll { handler: InstrSeqId },
+    /// `delegate`: all exceptions go to a construct further out.
     Delegate { relative_depth: u32 },
 }
 
 /// `try` of the legacy exception handling proposal: a sequence with its clauses.
 #[derive(Drop)]
 pub struct Try {
+    /// The body.
     pub seq: InstrSeqId,
+    /// The clauses, in order.
     pub catches: Vec<LegacyCatch>,
 }
 
@@ -97,12 +117,14 @@ impl Model for Try {
 /// `br`: branches to a sequence around it.
 #[derive(Clone, Copy)]
 pub struct Br {
+    /// The sequence that is the target.
     pub block: InstrSeqId,
 }
 
 /// `br_if`: branches to a sequence around it, if its operand isn't zero.
 #[derive(Clone, Copy)]
 pub struct BrIf {
+    /// The sequence that is the target.
     pub block: InstrSeqId,
 }
 
@@ -110,7 +132,9 @@ pub struct BrIf {
 /// default.
 #[derive(Drop)]
 pub struct BrTable {
+    /// The targets for the indices from 0 on.
     pub blocks: Vec<InstrSeqId>,
+    /// The target for all other indices.
     pub default: InstrSeqId,
 }
 
@@ -125,46 +149,60 @@ impl Model for BrTable {
 /// `br_on_null`: branches to a sequence around it, if its operand is null.
 #[derive(Clone, Copy)]
 pub struct BrOnNull {
+    /// The sequence that is the target.
     pub block: InstrSeqId,
 }
 
 /// `br_on_non_null`: branches to a sequence around it, if its operand isn't null.
 #[derive(Clone, Copy)]
 pub struct BrOnNonNull {
+    /// The sequence that is the target.
     pub block: InstrSeqId,
 }
 
-/// `br_on_cast`: branches to a sequence around it, if its operand, of the first type, is of the
-/// second.
+/// `br_on_cast`: branches to a sequence around it, if its operand, which has the first type, has
+/// the second type too.
 #[derive(Clone, Copy)]
 pub struct BrOnCast {
+    /// The sequence that is the target.
     pub block: InstrSeqId,
+    /// Whether the operand's type allows null.
     pub from_nullable: bool,
+    /// The heap type of the operand's type.
     pub from_heap_type: HeapType,
+    /// Whether the type that is tested for allows null.
     pub to_nullable: bool,
+    /// The heap type that is tested for.
     pub to_heap_type: HeapType,
 }
 
-/// `br_on_cast_fail`: branches to a sequence around it, if its operand, of the first type, isn't of
-/// the second.
+/// `br_on_cast_fail`: branches to a sequence around it, if its operand, which has the first type,
+/// doesn't have the second type.
 #[derive(Clone, Copy)]
 pub struct BrOnCastFail {
+    /// The sequence that is the target.
     pub block: InstrSeqId,
+    /// Whether the operand's type allows null.
     pub from_nullable: bool,
+    /// The heap type of the operand's type.
     pub from_heap_type: HeapType,
+    /// Whether the type that is tested for allows null.
     pub to_nullable: bool,
+    /// The heap type that is tested for.
     pub to_heap_type: HeapType,
 }
 
 /// `throw`: throws an exception.
 #[derive(Clone, Copy)]
 pub struct Throw {
+    /// The tag of the exception.
     pub tag: TagId,
 }
 
-/// `rethrow` of the legacy exception handling proposal: throws again the exception that a handler
-/// around it caught. Between the two are `relative_depth` constructs.
+/// `rethrow` of the legacy exception handling proposal: throws the exception again that a handler
+/// around it caught.
 #[derive(Clone, Copy)]
 pub struct Rethrow {
+    /// The number of constructs between this instruction and the handler.
     pub relative_depth: u32,
 }

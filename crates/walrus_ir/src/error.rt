@@ -5,7 +5,7 @@ ghost use Rattle.walrus_ir.specs.declared.error.WalkError.TheVariants.{Memory};
 use std::alloc::{AllocError, AllocFailed};
 use thiserror::Error;
 
-/// Why a walk over a function's sequences was not made, or not finished.
+/// The reason why a walk over a function's sequences was not made, or not finished.
 #[derive(Clone, Copy, Debug, PartialEq, Eq, Error)]
 pub enum WalkError {
     /// An instruction names a sequence that the function's builder doesn't have.
@@ -14,9 +14,10 @@ pub enum WalkError {
     /// A sequence would be entered twice.
     #[error("a sequence is reached twice")]
     SharedSequence,
+    /// Memory ran out.
     #[error("out of memory")]
     Memory,
-    /// A count of a visitor doesn't fit its type. The walk itself never returns this error.
+    /// A visitor's count doesn't fit its type. The walk itself never returns this error.
     #[error("a count is too large")]
     TooLarge,
 }

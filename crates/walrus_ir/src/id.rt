@@ -1,10 +1,11 @@
-//! Ids. A contract sees each as its number.
+//! Ids. In a contract, each is its number.
 ghost use Rattle.std.specs.Prelude.{◌≡◌, ℕ};
 
 use std::collections::{HashMap, HashSet};
 use std::marker::{Model, PhantomData};
 
-/// The number of an item of the kind `K` in its arena. Ids of different arenas aren't told apart.
+/// The number of an item of the kind `K` in its arena. The type doesn't distinguish the ids of
+/// different arenas.
 #[derive_where(Clone, Copy, Debug, PartialEq, Eq, PartialOrd, Ord, Hash)]
 pub struct Id<K> {
     index: usize,
@@ -38,51 +39,62 @@ impl<K> Id<K> {
     }
 }
 
-/// What an id names. No value has such a type: it tells the ids of one kind from those of another.
+/// The kinds of items that ids name. These types have no values; they keep ids of one kind from
+/// being used as ids of another.
 pub mod kind {
+    /// Types of the module.
     pub enum Type {}
 
+    /// Functions.
     pub enum Function {}
 
+    /// Tables.
     pub enum Table {}
 
+    /// Globals.
     pub enum Global {}
 
+    /// Memories.
     pub enum Memory {}
 
+    /// Element segments.
     pub enum Element {}
 
+    /// Data segments.
     pub enum Data {}
 
+    /// Tags.
     pub enum Tag {}
 
+    /// Locals.
     pub enum Local {}
 
+    /// Sequences of instructions of a function's builder.
     pub enum InstrSeq {}
 }
 
-/// A type of the module.
+/// The id of a type of the module.
 pub type TypeId = Id<kind::Type>;
-/// A function of the module.
+/// The id of a function of the module.
 pub type FunctionId = Id<kind::Function>;
-/// A table of the module.
+/// The id of a table of the module.
 pub type TableId = Id<kind::Table>;
-/// A global of the module.
+/// The id of a global of the module.
 pub type GlobalId = Id<kind::Global>;
-/// A memory of the module.
+/// The id of a memory of the module.
 pub type MemoryId = Id<kind::Memory>;
-/// An element segment of the module.
+/// The id of an element segment of the module.
 pub type ElementId = Id<kind::Element>;
-/// A data segment of the module.
+/// The id of a data segment of the module.
 pub type DataId = Id<kind::Data>;
-/// A tag of the module.
+/// The id of a tag of the module.
 pub type TagId = Id<kind::Tag>;
-/// A local of the module; each function has its own.
+/// The id of a local of the module; each function has its own locals.
 pub type LocalId = Id<kind::Local>;
-/// A sequence of instructions, by its slot in its builder.
+/// The id of a sequence of instructions: its slot in its builder.
 pub type InstrSeqId = Id<kind::InstrSeq>;
 
-/// A hashed map from ids.
+/// A hash map from ids.
 pub type IdHashMap<K, V> = HashMap<K, V>;
-/// A hashed set of ids.
+/// A hash set of ids.
 pub type IdHashSet<K> = HashSet<K>;

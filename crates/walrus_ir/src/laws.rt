@@ -1,4 +1,4 @@
-//! Laws of the definitions, which their own contracts state.
+//! Laws of the definitions. Their contracts state them.
 ghost use Rattle.std.specs.Prelude.{◌≡◌, ◌↔◌, ℕ, IsTrue, Some};
 ghost use Rattle.std.specs.Ordering.{nat_cmp};
 ghost use Rattle.walrus_ir.specs.declared.val_type.ValType.{ValType as ValueType};
@@ -10,7 +10,8 @@ use crate::id::Id;
 use crate::val_type::ValType;
 use std::hash::Hash;
 
-/// Ids are equal and are ordered as their numbers, and equal ids hash alike.
+/// Ids are equal if their numbers are, and have the order of their numbers; equal ids have the same
+/// hash.
 pub fn law_ids<K>()
     ensures equality { (m n : ℕ) → IsTrue (⟦<Id<K> as PartialEq>⟧.eq m n) ↔ (m ≡ n) }
     ensures order { (m n : ℕ) → ⟦<Id<K> as Ord>⟧.cmp m n ≡ nat_cmp m n }
@@ -19,8 +20,8 @@ pub fn law_ids<K>()
         → ⟦<Id<K> as Hash>⟧.hash_input m ≡ ⟦<Id<K> as Hash>⟧.hash_input n }
 {}
 
-/// The comparisons of value types: `==` is true exactly of a type and itself, and the order is that
-/// in which locals are grouped.
+/// The comparisons of value types: `==` is true exactly for a type and itself, and the order is the
+/// one in which locals are grouped.
 pub fn law_type_order()
     ensures equality { (t u : ValueType ℕ) → IsTrue (⟦<ValType as PartialEq>⟧.eq t u) ↔ (t ≡ u) }
     ensures order { (t u : ValueType ℕ) → ⟦<ValType as Ord>⟧.cmp t u ≡ type_order t u }
@@ -28,8 +29,8 @@ pub fn law_type_order()
         → ⟦<ValType as PartialOrd>⟧.partial_cmp t u ≡ Some (type_order t u) }
 {}
 
-/// From a sequence on a function has either one tree or one first fault; a tree is walked to its
-/// end, and a walk that comes to its end has gone through a tree.
+/// From each start sequence, a function has either exactly one tree or exactly one first fault. A
+/// tree is walked to its end, and a walk that reaches its end has walked through a tree.
 pub fn law_walk()
     ensures one_tree { OneTree }
     ensures no_fault { TreeHasNoFault }

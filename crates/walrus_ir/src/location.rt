@@ -4,8 +4,8 @@ ghost use Rattle.walrus_ir.specs.Locations.{default_location};
 
 use std::marker::Model;
 
-/// The place of an instruction in its source, as a number whose meaning the reader of the source
-/// chooses. A contract sees the number.
+/// The location of an instruction in its source, as a number whose meaning the reader of the source
+/// chooses. In a contract, it is the number.
 #[derive(Clone, Copy, Debug, PartialEq, Eq, PartialOrd, Ord, Hash)]
 pub struct InstrLocId {
     number: u32,
@@ -20,7 +20,7 @@ impl Model for InstrLocId {
 }
 
 impl InstrLocId {
-    /// The location with this number, which is not that of the default location.
+    /// The location with this number. It must not be the number of the default location.
     pub fn new(number: u32) -> InstrLocId
         requires { number ≢ default_location }
         ensures { result ≡ number }
@@ -28,7 +28,7 @@ impl InstrLocId {
         InstrLocId { number }
     }
 
-    /// The number; the default location has one too.
+    /// The number. The default location has one too.
     pub fn data(self) -> u32
         ensures { result ≡ self }
     {

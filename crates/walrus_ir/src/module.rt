@@ -2,8 +2,8 @@
 ghost use Rattle.std.specs.Prelude.{◌≡◌, List, [], ◌∷◌, ◌++◌, length, slice_get, IfOk, OnErr};
 
 use crate::id::{Id, TypeId, kind};
+use crate::module_locals::ModuleLocals;
 use crate::module_types::ModuleTypes;
-use crate::val_type::ValType;
 use std::alloc::{AllocError, Global};
 use std::marker::{Model, PhantomData};
 
@@ -31,7 +31,7 @@ impl<K, T: Copy> ModuleItems<K, T> {
         }
     }
 
-    /// Adds an item behind the others, and answers its id.
+    /// Adds an item after the others, and returns its id.
     pub fn add(&mut self, item: T) -> Result<Id<K>, AllocError>
         ensures id { IfOk result (λ id. id ≡ length self.old) }
         ensures ok { IfOk result (λ _. self.new ≡ self.old ++ item ∷ []) }
@@ -52,9 +52,6 @@ impl<K, T: Copy> ModuleItems<K, T> {
 
 /// The tags of a module: the type of each.
 pub type ModuleTags = ModuleItems<kind::Tag, TypeId>;
-
-/// The locals of a module: the type of each. Each function has its own.
-pub type ModuleLocals = ModuleItems<kind::Local, ValType>;
 
 /// What a function's body needs to know of its module.
 #[derive(Drop)]

@@ -1,11 +1,14 @@
 //! The types of a module.
-ghost use Rattle.std.specs.Prelude.{◌≡◌, [], ◌∷◌, ◌++◌, length, is_some, IsSome, IsSomeAnd, IfOk, OnErr, Some};
+ghost use Rattle.std.specs.Prelude.{◌≡◌, [], ◌∷◌, ◌++◌, length, slice_get, is_some, IsSome, IsSomeAnd, IfOk, OnErr, Some};
 ghost use Rattle.walrus_ir.specs.Types.{ModuleType, Func, Entry, Other, signature, signature_of};
-ghost use Rattle.walrus_ir.specs.Types.{find, find_entry};
+ghost use Rattle.walrus_ir.specs.Types.{same_types, is_function, is_entry, find, find_entry};
 ghost use Rattle.walrus_ir.specs.TypeEntries.{module_type};
+ghost use Rattle.walrus_ir.specs.TypeIndex.{passes};
 
 use crate::id::TypeId;
-use crate::type_index::{FuncIds, ListIds};
+use crate::laws::law_type_order;
+use crate::type_digest::{entry_digest, func_digest};
+use crate::type_index::TypeIndex;
 use crate::val_type::ValType;
 use std::alloc::{AllocError, Global};
 use std::marker::Model;
@@ -13,20 +16,20 @@ use std::marker::Model;
 /// A type of the module.
 #[derive(Drop)]
 enum TypeEntry {
-    /// Of functions.
+    /// A function type.
     Func {
         params: Vec<ValType>,
         results: Vec<ValType>,
     },
-    /// Of the entry of a function with these results.
+    /// The type of the entry of a function with these results.
     Entry {
         results: Vec<ValType>,
     },
-    /// A struct or array type, of which nothing is known here.
+    /// A struct or array type. Nothing else is known about it here.
     Other,
 }
 
-// The entry of a type of functions.
+// The entry of a function type.
 fn func_entry(
     alloc: Global,
     params: &[ValType],
@@ -40,13 +43,46 @@ fn func_entry(
     })
 }
 
-/// The types of a module, by id. A contract sees their list.
+// Whether the lists are the same.
+fn are_same<'a>(a: &'a [ValType], b: &'a [ValType]) -> bool
+    ensures { result ≡ same_types a.now b.now }
+{
+    // By this law equal lists are those that the order doesn't tell apart.
+    law_type_order();
+    Ord::cmp(&a, &b).is_eq()
+}
+
+impl TypeEntry {
+    // Whether it is a type of functions with these lists.
+    fn is_func_of(&self, params: &[ValType], results: &[ValType]) -> bool
+        ensures { result ≡ is_function params.now results.now (module_type self.now) }
+    {
+        match self {
+            TypeEntry::Func {
+                params: takes,
+                results: gives,
+            } => are_same(takes, params) && are_same(gives, results),
+            _ => false,
+        }
+    }
+
+    // Whether it is the type of entries with these results.
+    fn is_entry_of(&self, results: &[ValType]) -> bool
+        ensures { result ≡ is_entry results.now (module_type self.now) }
+    {
+        match self {
+            TypeEntry::Entry { results: gives } => are_same(gives, results),
+            _ => false,
+        }
+    }
+}
+
+/// The types of a module, by id. In a contract, they are a list.
 #[derive(Drop)]
 pub struct ModuleTypes {
     types: Vec<TypeEntry>,
-    /// The first type of functions with some lists, and the first type of entries with one.
-    func_ids: FuncIds,
-    entry_ids: ListIds,
+    /// The first id of each function type by its lists, and of each entry type by its results.
+    index: TypeIndex,
 }
 
 impl Model for ModuleTypes {
@@ -60,22 +96,26 @@ impl Model for ModuleTypes {
 
     ghost view = { λ m. map module_type m.types.items };
 
-    ghost invariant = { λ m. IsIndexOf (map module_type m.types.items) m.func_ids m.entry_ids };
+    ghost invariant = { λ m. IsIndexOf (map module_type m.types.items) m.index.firsts
+        m.index.func_ids m.index.entry_ids };
 }
 
 impl ModuleTypes {
-    /// No types. It takes no memory.
+    /// A module without types. This allocates nothing.
     pub fn new(alloc: Global) -> ModuleTypes
         ensures { result ≡ [] }
     {
         ModuleTypes {
             types: Vec::new(alloc),
-            func_ids: FuncIds::new(alloc),
-            entry_ids: ListIds::new(alloc),
+            index: TypeIndex::new(alloc),
         }
     }
 
-    /// Adds a type of functions, and returns its id.
+    /// Adds a function type, and returns its id.
+    ///
+    /// # Errors
+    ///
+    /// Out of memory; the types are unchanged.
     pub fn add_func(
         &mut self,
         params: &[ValType],
@@ -85,10 +125,14 @@ impl ModuleTypes {
         ensures ok { IfOk result (λ _. self.new ≡ self.old ++ Func params.now results.now ∷ []) }
         ensures err { OnErr result (self.new ≡ self.old) }
     {
-        let alloc = *self.types.allocator();
+        let entry = func_entry(*self.types.allocator(), params, results)?;
         let id = TypeId::new(self.types.len());
-        self.types.push(func_entry(alloc, params, results)?)?;
-        match self.func_ids.add(params, results, id) {
+        if self.find(params, results).is_some() {
+            self.types.push(entry)?;
+            return Ok(id);
+        }
+        self.types.push(entry)?;
+        match self.index.add_func(params, results, id) {
             Ok(()) => Ok(id),
             Err(fault) => {
                 self.types.truncate(id.index());
@@ -98,18 +142,26 @@ impl ModuleTypes {
     }
 
     /// Adds the type of the entry of a function with these results, and returns its id.
+    ///
+    /// # Errors
+    ///
+    /// Out of memory; the types are unchanged.
     pub fn add_entry(&mut self, results: &[ValType]) -> Result<TypeId, AllocError>
         ensures id { IfOk result (λ id. id ≡ length self.old) }
         ensures ok { IfOk result (λ _. self.new ≡ self.old ++ Entry results.now ∷ []) }
         ensures err { OnErr result (self.new ≡ self.old) }
     {
         let alloc = *self.types.allocator();
-        let id = TypeId::new(self.types.len());
         let entry = TypeEntry::Entry {
             results: Vec::from_slice(alloc, results)?,
         };
+        let id = TypeId::new(self.types.len());
+        if self.find_for_function_entry(results).is_some() {
+            self.types.push(entry)?;
+            return Ok(id);
+        }
         self.types.push(entry)?;
-        match self.entry_ids.add(results, id) {
+        match self.index.add_entry(results, id) {
             Ok(()) => Ok(id),
             Err(fault) => {
                 self.types.truncate(id.index());
@@ -118,7 +170,11 @@ impl ModuleTypes {
         }
     }
 
-    /// Adds a type that is no type of functions, and returns its id.
+    /// Adds a struct or array type, and returns its id.
+    ///
+    /// # Errors
+    ///
+    /// Out of memory; the types are unchanged.
     pub fn add_other(&mut self) -> Result<TypeId, AllocError>
         ensures id { IfOk result (λ id. id ≡ length self.old) }
         ensures ok { IfOk result (λ _. self.new ≡ self.old ++ Other ∷ []) }
@@ -129,7 +185,7 @@ impl ModuleTypes {
         Ok(id)
     }
 
-    /// Whether it is a type of functions or of entries. It takes no memory.
+    /// Whether this is the id of a function type or an entry type. This allocates nothing.
     pub fn is_func(&self, id: TypeId) -> bool
         ensures { result ≡ is_some (signature_of self.now id) }
     {
@@ -139,7 +195,7 @@ impl ModuleTypes {
         )
     }
 
-    /// What is taken, in order. It takes no memory.
+    /// The parameters of a function type, in order; an entry type has none. This allocates nothing.
     pub fn params(&self, id: TypeId) -> &[ValType]
         requires { IsSome (signature_of self.now id) }
         ensures { IsSomeAnd (signature_of self.now id) (λ s. result.now ≡ s.parameters) }
@@ -147,7 +203,7 @@ impl ModuleTypes {
         self.params_results(id).0
     }
 
-    /// What is given, in order. It takes no memory.
+    /// The results of a function type or an entry type, in order. This allocates nothing.
     pub fn results(&self, id: TypeId) -> &[ValType]
         requires { IsSome (signature_of self.now id) }
         ensures { IsSomeAnd (signature_of self.now id) (λ s. result.now ≡ s.results) }
@@ -155,7 +211,7 @@ impl ModuleTypes {
         self.params_results(id).1
     }
 
-    /// What is taken, and what is given, each in order. It takes no memory.
+    /// The parameters and the results, each in order. This allocates nothing.
     pub fn params_results(&self, id: TypeId) -> (&[ValType], &[ValType])
         requires { IsSome (signature_of self.now id) }
         ensures { signature_of self.now id ≡ Some (signature result.0.now result.1.now) }
@@ -167,18 +223,50 @@ impl ModuleTypes {
         }
     }
 
-    /// The first type of functions with these lists, by id. Types of entries don't count. It takes
-    /// no memory.
+    // Whether it is a type of functions with these lists.
+    fn is_func_of(&self, id: TypeId, params: &[ValType], results: &[ValType]) -> bool
+        ensures { result ≡ passes (is_function params.now results.now) (slice_get self.now id) }
+    {
+        match self.types.get(id.index()) {
+            Some(entry) => entry.is_func_of(params, results),
+            None => false,
+        }
+    }
+
+    // Whether it is the type of entries with these results.
+    fn is_entry_of(&self, id: TypeId, results: &[ValType]) -> bool
+        ensures { result ≡ passes (is_entry results.now) (slice_get self.now id) }
+    {
+        match self.types.get(id.index()) {
+            Some(entry) => entry.is_entry_of(results),
+            None => false,
+        }
+    }
+
+    /// The first function type, in the order of ids, with these parameters and results. Entry types
+    /// don't count. This allocates nothing.
     pub fn find(&self, params: &[ValType], results: &[ValType]) -> Option<TypeId>
         ensures { result ≡ find self.now params.now results.now }
     {
-        self.func_ids.get(params, results)
+        match self.index.firsts.get(func_digest(params, results)) {
+            Some(id) => match self.is_func_of(id, params, results) {
+                true => Some(id),
+                false => self.index.func_ids.get(params, results),
+            },
+            None => self.index.func_ids.get(params, results),
+        }
     }
 
-    /// The first type of entries with these results, by id. It takes no memory.
+    /// The first entry type, in the order of ids, with these results. This allocates nothing.
     pub fn find_for_function_entry(&self, results: &[ValType]) -> Option<TypeId>
         ensures { result ≡ find_entry self.now results.now }
     {
-        self.entry_ids.get(results)
+        match self.index.firsts.get(entry_digest(results)) {
+            Some(id) => match self.is_entry_of(id, results) {
+                true => Some(id),
+                false => self.index.entry_ids.get(results),
+            },
+            None => self.index.entry_ids.get(results),
+        }
     }
 }

@@ -15,7 +15,7 @@ use crate::location::InstrLocId;
 use crate::seq::InstrSeq;
 use std::alloc::AllocError;
 
-/// A part of a function that is still to be looked at.
+/// A part of a function that is still to be processed.
 #[derive(Clone, Copy)]
 pub(crate) enum Task<'a> {
     /// The sequence at this slot.
@@ -26,14 +26,14 @@ pub(crate) enum Task<'a> {
     Clauses(&'a [LegacyCatch]),
 }
 
-/// A plan that is being made.
+/// A plan while it is being made.
 #[derive(Drop)]
 pub(crate) struct Plan<'a> {
     /// Whether a sequence was reached, by its slot.
     reached: Vec<bool>,
     /// The sequences that were reached, in walk order.
     order: Vec<InstrSeqId>,
-    /// The parts that are still to be looked at, the next last.
+    /// The parts that are still to be processed; the next one is the last.
     tasks: Vec<Task<'a>>,
 }
 
@@ -96,7 +96,7 @@ fn push_inside<'a>(tasks: &mut Vec<Task<'a>>, instr: &'a Instr) -> Result<(), Al
     Ok(())
 }
 
-// Goes on with a sequence from these instructions on.
+// Continues a sequence with these instructions.
 fn resume<'a>(
     tasks: &mut Vec<Task<'a>>,
     instrs: &'a [(Instr, InstrLocId)],
@@ -111,7 +111,7 @@ fn resume<'a>(
     Ok(())
 }
 
-// Goes on with a legacy `try` from these clauses on.
+// Continues a legacy `try` with these clauses.
 fn handle<'a>(tasks: &mut Vec<Task<'a>>, clauses: &'a [LegacyCatch]) -> Result<(), AllocError>
     ensures { OnOk result
         (Adds tasks.old.items tasks.new.items (handlers clauses.now) (2 * length clauses.now)) }
@@ -181,8 +181,8 @@ impl<'a> Plan<'a> {
 }
 
 /// The slots of the sequences that a walk from `start` enters, in order, if they are a tree.
-/// Besides the result it allocates one mark for each sequence of the builder, and space for the
-/// sequences that are open at once.
+/// Besides the result, it allocates one mark for each sequence of the builder, and space for the
+/// parts that are still to be processed.
 pub(crate) fn walk_order(
     builder: &FunctionBuilder,
     start: InstrSeqId,

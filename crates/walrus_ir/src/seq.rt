@@ -7,8 +7,8 @@ use crate::location::InstrLocId;
 use crate::val_type::InstrSeqType;
 use std::marker::Model;
 
-/// A sequence of instructions. Instructions refer to it by its slot in its function's builder. A
-/// contract sees its instructions as a list.
+/// A sequence of instructions. Instructions refer to it by its slot in its function's builder. In a
+/// contract, its instructions are a list.
 #[derive(Drop)]
 pub struct InstrSeq {
     pub(crate) id: InstrSeqId,

@@ -2,18 +2,20 @@
 ghost use Rattle.std.specs.Prelude.{◌≡◌, [], Some, None, cond, ◌&&◌, OnOk, OnErr};
 ghost use Rattle.std.specs.Option.{option_or};
 ghost use Rattle.walrus_ir.specs.Types.{same_types};
+ghost use Rattle.walrus_ir.specs.TypeDigest.{func_digest, entry_digest};
 ghost use Rattle.walrus_ir.specs.declared.val_type.ValType.{ValType as ValueType};
-ghost use Rattle.walrus_ir.specs.TypeIndex.{at_list, at_lists};
+ghost use Rattle.walrus_ir.specs.TypeIndex.{at_list, at_lists, at_digest, TakesDigest, TakesList, TakesLists, AddsFunc, AddsEntry};
 
 use crate::id::TypeId;
 use crate::laws::law_type_order;
+use crate::type_digest::{entry_digest, func_digest};
 use crate::val_type::ValType;
 use std::alloc::{AllocError, Global};
 use std::collections::BTreeMap;
 use std::marker::Model;
 
 /// Ids by list of value types. The lists are kept in an order, so that none of them is slow to
-/// find. A contract sees each list with its id.
+/// find. In a contract, it is each list with its id.
 #[derive(Drop)]
 pub(crate) struct ListIds {
     ids: BTreeMap<Vec<ValType>, TypeId>,
@@ -32,7 +34,7 @@ impl Model for ListIds {
 impl ListIds {
     ghost use Rattle.std.specs.Prelude.{List, ℕ};
 
-    /// No list has an id. It takes no memory.
+    /// No list has an id. This allocates nothing.
     pub fn new(alloc: Global) -> ListIds
         ensures { result ≡ [] }
     {
@@ -42,7 +44,7 @@ impl ListIds {
         }
     }
 
-    /// The id of this list. It takes no memory.
+    /// The id of this list. This allocates nothing.
     pub fn get(&self, list: &[ValType]) -> Option<TypeId>
         ensures { result ≡ at_list self.now list.now }
     {
@@ -53,8 +55,7 @@ impl ListIds {
 
     /// Gives this list an id, unless it has one.
     pub fn add(&mut self, list: &[ValType], id: TypeId) -> Result<(), AllocError>
-        ensures ok { OnOk result ((other : List (ValueType ℕ)) → at_list self.new other
-            ≡ option_or (at_list self.old other) (cond (same_types list.now other) (Some id) None)) }
+        ensures ok { OnOk result (TakesList list.now id self.old self.new) }
         ensures err { OnErr result (self.new ≡ self.old) }
     {
         if self.get(list).is_some() {
@@ -67,8 +68,8 @@ impl ListIds {
     }
 }
 
-/// Ids by two lists of value types, what is taken and what is given. A contract sees each first
-/// list with the second lists, and these with their ids.
+/// Ids by two lists of value types, what is taken and what is given. In a contract, it is
+/// each first list with the second lists, and these with their ids.
 #[derive(Drop)]
 pub(crate) struct FuncIds {
     ids: BTreeMap<Vec<ValType>, ListIds>,
@@ -87,7 +88,7 @@ impl Model for FuncIds {
 impl FuncIds {
     ghost use Rattle.std.specs.Prelude.{List, ℕ};
 
-    /// No lists have an id. It takes no memory.
+    /// No lists have an id. This allocates nothing.
     pub fn new(alloc: Global) -> FuncIds
         ensures { result ≡ [] }
     {
@@ -97,7 +98,7 @@ impl FuncIds {
         }
     }
 
-    /// The id of these lists. It takes no memory.
+    /// The id of these lists. This allocates nothing.
     pub fn get(&self, params: &[ValType], results: &[ValType]) -> Option<TypeId>
         ensures { result ≡ at_lists self.now params.now results.now }
     {
@@ -115,9 +116,7 @@ impl FuncIds {
         results: &[ValType],
         id: TypeId,
     ) -> Result<(), AllocError>
-        ensures ok { OnOk result ((takes gives : List (ValueType ℕ)) → at_lists self.new takes gives
-            ≡ option_or (at_lists self.old takes gives)
-            (cond (same_types params.now takes && same_types results.now gives) (Some id) None)) }
+        ensures ok { OnOk result (TakesLists params.now results.now id self.old self.new) }
         ensures err { OnErr result (self.new ≡ self.old) }
     {
         law_type_order();
@@ -145,5 +144,105 @@ impl FuncIds {
         let params = Vec::from_slice(self.alloc, params)?;
         self.ids.insert(params, by_results)?;
         Ok(())
+    }
+}
+
+/// Ids by digest. In a contract, it is each digest with its id.
+#[derive(Drop)]
+pub(crate) struct DigestIds {
+    ids: BTreeMap<u64, TypeId>,
+}
+
+impl Model for DigestIds {
+    ghost use Rattle.walrus_ir.specs.TypeIndex.{ByDigest};
+
+    ghost Value = { ByDigest };
+
+    ghost view = { λ m. m.ids.entries };
+}
+
+impl DigestIds {
+    /// No digest has an id. This allocates nothing.
+    pub fn new(alloc: Global) -> DigestIds
+        ensures { result ≡ [] }
+    {
+        DigestIds {
+            ids: BTreeMap::new(alloc),
+        }
+    }
+
+    /// The id of this digest. This allocates nothing.
+    pub fn get(&self, digest: u64) -> Option<TypeId>
+        ensures { result ≡ at_digest self.now digest }
+    {
+        self.ids.get(&digest).copied()
+    }
+
+    /// Gives an id to a digest that has none.
+    pub fn add(&mut self, digest: u64, id: TypeId) -> Result<(), AllocError>
+        requires { at_digest self.old digest ≡ None }
+        ensures ok { OnOk result (TakesDigest digest id self.old self.new) }
+        ensures err { OnErr result (self.new ≡ self.old) }
+    {
+        self.ids.insert(digest, id)?;
+        Ok(())
+    }
+}
+
+/// The ids of types of functions and of entries. The first type of each digest is found by it, and
+/// another one of the same digest by its lists, in an order: so a module whose types have equal
+/// digests is as fast to read, and only takes more memory.
+#[derive(Drop)]
+pub(crate) struct TypeIndex {
+    pub firsts: DigestIds,
+    pub func_ids: FuncIds,
+    pub entry_ids: ListIds,
+}
+
+impl TypeIndex {
+    /// No type has an id. This allocates nothing.
+    pub fn new(alloc: Global) -> TypeIndex
+        ensures firsts { result.firsts ≡ [] }
+        ensures functions { result.func_ids ≡ [] }
+        ensures entries { result.entry_ids ≡ [] }
+    {
+        TypeIndex {
+            firsts: DigestIds::new(alloc),
+            func_ids: FuncIds::new(alloc),
+            entry_ids: ListIds::new(alloc),
+        }
+    }
+
+    /// Gives an id to a type of functions.
+    pub fn add_func(
+        &mut self,
+        params: &[ValType],
+        results: &[ValType],
+        id: TypeId,
+    ) -> Result<(), AllocError>
+        ensures ok { OnOk result (AddsFunc params.now results.now id self.old.firsts self.new.firsts
+            self.old.func_ids self.new.func_ids) }
+        ensures entries { self.new.entry_ids ≡ self.old.entry_ids }
+        ensures err { OnErr result (self.new ≡ self.old) }
+    {
+        let digest = func_digest(params, results);
+        match self.firsts.get(digest) {
+            Some(_) => self.func_ids.add(params, results, id),
+            None => self.firsts.add(digest, id),
+        }
+    }
+
+    /// Gives an id to a type of entries.
+    pub fn add_entry(&mut self, results: &[ValType], id: TypeId) -> Result<(), AllocError>
+        ensures ok { OnOk result (AddsEntry results.now id self.old.firsts self.new.firsts
+            self.old.entry_ids self.new.entry_ids) }
+        ensures functions { self.new.func_ids ≡ self.old.func_ids }
+        ensures err { OnErr result (self.new ≡ self.old) }
+    {
+        let digest = entry_digest(results);
+        match self.firsts.get(digest) {
+            Some(_) => self.entry_ids.add(results, id),
+            None => self.firsts.add(digest, id),
+        }
     }
 }

@@ -7,25 +7,39 @@ use crate::module_types::ModuleTypes;
 /// references to them are sorted.
 #[derive(Clone, Copy, Debug, PartialEq, Eq, PartialOrd, Ord, Hash)]
 pub enum AbstractHeapType {
+    /// `noexn`.
     NoExn,
+    /// `nofunc`.
     NoFunc,
+    /// `noextern`.
     NoExtern,
+    /// `none`.
     None,
+    /// `func`.
     Func,
+    /// `extern`.
     Extern,
+    /// `any`.
     Any,
+    /// `eq`.
     Eq,
+    /// `i31`.
     I31,
+    /// `struct`.
     Struct,
+    /// `array`.
     Array,
+    /// `exn`.
     Exn,
 }
 
 /// What a reference refers to (WebAssembly core specification 3.0, heap types). `T` identifies a
-/// type of the module: it is an id, or a raw index in operators as the binary format has them.
+/// type of the module: an id in instructions, an index in operators of the binary format.
 #[derive(Clone, Copy, Debug, PartialEq, Eq, PartialOrd, Ord, Hash)]
 pub enum HeapType<T = TypeId> {
+    /// An abstract heap type.
     Abstract(AbstractHeapType),
+    /// A type of the module.
     Concrete(T),
 }
 
@@ -34,7 +48,9 @@ pub enum HeapType<T = TypeId> {
 /// come before concrete ones.
 #[derive(Clone, Copy, Debug, PartialEq, Eq, PartialOrd, Ord, Hash)]
 pub struct RefType<T = TypeId> {
+    /// Whether the reference may be null.
     pub nullable: bool,
+    /// What the reference refers to.
     pub heap_type: HeapType<T>,
 }
 
@@ -42,11 +58,17 @@ pub struct RefType<T = TypeId> {
 /// locals are grouped.
 #[derive(Clone, Copy, Debug, PartialEq, Eq, PartialOrd, Ord, Hash)]
 pub enum ValType<T = TypeId> {
+    /// `i32`.
     I32,
+    /// `i64`.
     I64,
+    /// `f32`.
     F32,
+    /// `f64`.
     F64,
+    /// `v128`.
     V128,
+    /// A reference.
     Ref(RefType<T>),
 }
 
@@ -65,8 +87,8 @@ impl InstrSeqType {
     ghost use Rattle.walrus_ir.specs.Types.{existing};
 
     /// The type of a sequence with these parameters and results. Without parameters and with at
-    /// most one result it is simple; otherwise it is the first function type of the module with
-    /// these lists, by id, if there is one. This allocates nothing.
+    /// most one result it is simple; otherwise it is the first function type of the module, in the
+    /// order of ids, with these lists, if there is one. This allocates nothing.
     pub fn existing(
         types: &ModuleTypes,
         params: &[ValType],

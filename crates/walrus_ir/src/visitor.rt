@@ -7,14 +7,14 @@ use crate::location::InstrLocId;
 use crate::reference::RefFunc;
 use crate::seq::InstrSeq;
 
-/// A receiver of the events of a walk. Each call may fail, which ends the walk; it then leaves the
-/// visitor as it was.
+/// Receives the events of a walk. Each call may fail, which ends the walk; a call that fails leaves
+/// the visitor as it was.
 ///
-/// A visitor defines its meaning: `steps s e t`, in the state `s` it may take the event `e` and is
-/// then in the state `t`; `refuses s e f`, in `s` it may refuse `e` with the fault `f`; `same s t`,
-/// in `t` it is as it was in `s`.
+/// A visitor defines what its calls do. `steps s e t`: in state `s` it may accept the event `e`,
+/// and is then in state `t`. `refuses s e f`: in state `s` it may refuse `e` with the fault `f`.
+/// `same s t`: in state `t` it is as it was in state `s`.
 pub trait Visitor {
-    /// The error of a call, or of a walk that isn't made.
+    /// The error of a call, or of a walk that can't be made.
     type Fault: From<WalkError>;
 
     ghost use Rattle.std.specs.Prelude.{◌≡◌};
@@ -36,7 +36,7 @@ pub trait Visitor {
     fn end_instr_seq(&mut self, seq: &InstrSeq) -> Result<(), Self::Fault>
         ensures { Hears steps refuses same self.old (EndSequence seq.now) result self.new };
 
-    /// An instruction, before the item that it names and the sequences in it.
+    /// An instruction. It comes before the item that it names and before the sequences in it.
     fn visit_instr(&mut self, instr: &Instr, loc: &InstrLocId) -> Result<(), Self::Fault>
         ensures { Hears steps refuses same self.old
             (VisitInstruction instr.now loc.now) result self.new };
@@ -49,11 +49,11 @@ pub trait Visitor {
     fn visit_local_id(&mut self, local: &LocalId) -> Result<(), Self::Fault>
         ensures { Hears steps refuses same self.old (NameLocal local.now) result self.new };
 
-    /// The instruction is a `ref.func`.
+    /// A `ref.func`, for the function that it names; `visit_instr` was called for it before.
     fn visit_ref_func(&mut self, instr: &RefFunc) -> Result<(), Self::Fault>
         ensures { Hears steps refuses same self.old (NameFunction instr.now.func) result self.new };
 
-    // `same` is an equivalence, and states that are the same take and refuse the same events.
+    // `same` is an equivalence, and states that are the same accept and refuse the same events.
     ghost reflexive: { (s : Self) → same s s };
 
     ghost symmetric: { (s t : Self) → same s t → same t s };

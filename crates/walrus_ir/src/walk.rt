@@ -25,11 +25,11 @@ pub(crate) struct Open<'a> {
     seq: &'a InstrSeq,
     /// The instructions that are still to be visited.
     rest: &'a [(Instr, InstrLocId)],
-    /// The number of sequences inside the last instruction that are still to come.
+    /// The number of sequences inside the last visited instruction that are still to come.
     inside: usize,
 }
 
-// Tells a visitor the item that an instruction names, if any.
+// Tells a visitor about the item that an instruction names, if any.
 fn tell_names<V: Visitor>(visitor: &mut V, instr: &Instr) -> Result<(), V::Fault>
     ensures { Tells V.steps V.refuses V.same visitor.old (names instr.now) result visitor.new }
 {
@@ -46,7 +46,7 @@ fn tell_names<V: Visitor>(visitor: &mut V, instr: &Instr) -> Result<(), V::Fault
     }
 }
 
-// Tells a visitor an instruction, and then the item that it names, if any.
+// Tells a visitor about an instruction, and then about the item that it names, if any.
 fn tell_instr<V: Visitor>(visitor: &mut V, located: &(Instr, InstrLocId)) -> Result<(), V::Fault>
     ensures { Tells V.steps V.refuses V.same visitor.old
         (VisitInstruction located.now.0 located.now.1 ∷ names located.now.0) result visitor.new }
@@ -80,8 +80,8 @@ fn start_seq<'a, V: Visitor>(
     Ok(())
 }
 
-// Tells a visitor instructions, up to the first that contains sequences. Returns the instructions
-// after it and the number of sequences in it, which is 0 where no instruction is left.
+// Tells a visitor about instructions, up to the first that contains sequences. Returns the
+// instructions after it and the number of sequences in it; the number is 0 if there is none.
 fn tell_stretch<'a, V: Visitor>(
     visitor: &mut V,
     instrs: &'a [(Instr, InstrLocId)],
@@ -106,7 +106,7 @@ fn tell_stretch<'a, V: Visitor>(
 }
 
 // Starts the next sequence inside the last instruction of an open one, which was popped from the
-// stack. Returns the slots that are to come after it.
+// stack. Returns the slots of the sequences after it.
 fn start_inside<'a, 'b, V: Visitor>(
     visitor: &mut V,
     builder: &'a FunctionBuilder,
@@ -139,8 +139,8 @@ fn start_inside<'a, 'b, V: Visitor>(
     Ok(left)
 }
 
-// Tells what comes next in the innermost open sequence, which was popped from the stack. Returns
-// the slots that are to come after that.
+// Tells a visitor about what comes next in the innermost open sequence, which was popped from the
+// stack. Returns the slots of the sequences after that.
 fn tell_next<'a, 'b, V: Visitor>(
     visitor: &mut V,
     builder: &'a FunctionBuilder,
@@ -178,7 +178,7 @@ fn tell_next<'a, 'b, V: Visitor>(
     Ok(coming)
 }
 
-// The slots of the sequences that a walk enters, and room for those that are open at once.
+// The slots of the sequences that a walk enters, and an empty stack with room for all of them.
 fn plan<'a>(
     builder: &'a FunctionBuilder,
     start: InstrSeqId,
@@ -195,14 +195,15 @@ fn plan<'a>(
 }
 
 /// Walks over the sequences of a function from `start` on, in order. Before the first call of the
-/// visitor it is known that the sequences are a tree, and all memory that the walk itself needs is
-/// allocated: a slot and a mark for each sequence, and room for those that are open at once.
+/// visitor, the sequences are known to be a tree, and all memory that the walk itself needs is
+/// allocated: a mark for each sequence of the builder, the tasks of the plan, and for each sequence
+/// of the tree its slot and room on the stack of open sequences.
 ///
 /// # Errors
 ///
 /// If there is no tree, the first fault in walk order; if memory runs out, `WalkError::Memory`.
-/// Both are turned into the visitor's fault, and the visitor was not called. Otherwise the fault of
-/// the visitor's call that failed, which ends the walk.
+/// Both are converted to the visitor's fault, and the visitor was not called. Otherwise the fault
+/// of the visitor's call that failed, which ends the walk.
 pub fn dfs_in_order<V: Visitor>(
     visitor: &mut V,
     builder: &FunctionBuilder,

@@ -9,7 +9,7 @@ use Rattle.std.proofs.lemmas.Bool.{eqb-true}
 use Rattle.std.proofs.lemmas.Map.{lookup-none}
 use Rattle.std.proofs.lemmas.Map.Keys.{IsDistinct-head, IsDistinct-tail}
 
--- how ids are compared: by number, and by kind, of which there is only one
+-- the equality of ids: by number, and by kind, of which there is only one
 abbrev pub same_id : ℕ → ℕ → Bool
 same_id a b = nat_eq a b && true
 
@@ -18,11 +18,11 @@ and_true : (b : Bool) → (b && true) ≡ b
 and_true true = refl
 and_true false = refl
 
--- ids are the same where their order is equal
+-- ids are the same if the order doesn't distinguish them
 tied : (a b : ℕ) → eq_by_cmp nat_cmp a b ≡ same_id a b
 tied a b = unsigned_tied a b ∙ sym (and_true (nat_eq a b))
 
--- comparing in either order
+-- the test is symmetric
 flipped : (a b : ℕ) → same_id a b ≡ same_id b a
 flipped a b = ap (λ t. t && true) (nat_eq_equiv.symm a b)
 
@@ -36,25 +36,25 @@ module _ {X : Type 0} where
   pub get-entries : (es : List (ℕ × X)) (q : ℕ) → get (from_entries {R = nat_cmp} es) q ≡ lookup (same_id q) es
   get-entries es q = get-from_entries nat_cmp_total es q ∙ find-lookup es q
 
-  -- entries that differ only at one id make maps that differ only there
+  -- the maps of entries that differ only at one id differ only there
   pub one_put : (es fs : List (ℕ × X)) (k : ℕ) (v : X) → ((q : ℕ) → lookup (same_id q) fs ≡ cond (same_id k q) (Some v) (lookup (same_id q) es)) → from_entries {R = nat_cmp} fs ≡ insert (from_entries es) k v
   one_put es fs k v h = same_map nat_cmp_total nat_cmp-IsAntisymmetric _ _ (λ q.
       get-entries fs q ∙ h q
       ∙ (λ i. cond ((flipped k q ∙ sym (tied q k)) i) (Some v) (sym (get-entries es q) i))
       ∙ sym (get-insert nat_cmp_total (from_entries es) k v q))
 
-  -- an entry that is there, put again
+  -- an entry that is inserted again
   kept : (b : Bool) (o : Option X) (v : X) → (b ≡ true → o ≡ Some v) → cond b (Some v) o ≡ o
   kept true o v h = sym (h refl)
   kept false o v h = refl
 
-  -- putting again what a map has at a key changes nothing
+  -- inserting the value that a map has at a key changes nothing
   pub insert-same : (m : FinMap nat_cmp X) (k : ℕ) (v : X) → get m k ≡ Some v → insert m k v ≡ m
   insert-same m k v has = same_map nat_cmp_total nat_cmp-IsAntisymmetric _ _ (λ q.
       get-insert nat_cmp_total m k v q
       ∙ kept (eq_by_cmp nat_cmp q k) (get m q) v (λ e. ap (get m) (eqb-true q k (sym (unsigned_tied q k) ∙ e)) ∙ has))
 
-  -- what holds of each key holds of the key of each entry
+  -- a property of each key is a property of the key of each entry
   all_keys : (P : ℕ → Type 0) (es : List (ℕ × X)) → AllByRecursion P (keys_of es) → AllByRecursion (λ e. P e.0) es
   all_keys P [] h = tt
   all_keys P (e ∷ es) h = (h.0, all_keys P es h.1)

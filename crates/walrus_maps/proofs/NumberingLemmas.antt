@@ -18,7 +18,7 @@ use Rattle.walrus_ir.specs.Results.{some_or}
 use Rattle.walrus_ir.proofs.ResultLemmas.{some_or_ok}
 use Rattle.walrus_maps.specs.Numbering.{pushed, AreNumberedInOrder, PushesNumberInOrder}
 
--- what is read from a list with one more item
+-- the item at a position of a list with one more item
 slice_get-push : {X : Type 0} (xs : List X) (x : X) (k : ℕ) → slice_get (xs ++ x ∷ []) k ≡ cond (k == length xs) (Some x) (slice_get xs k)
 slice_get-push [] x zero = refl
 slice_get-push [] x (suc k) = ap (λ b. cond b (Some x) None) (sym (eqb-suc-zero k))
@@ -35,7 +35,7 @@ record ByPlace (ids : List ℕ) (m : FinMap nat_cmp ℕ) : Type 0 where
 abbrev AreNew : FinMap nat_cmp ℕ → List ℕ → Type 0
 AreNew m ids = AllByRecursion (λ id. get m id ≡ None) ids
 
--- the numbers after one more id has one
+-- the numbers after one more id got one
 pub get-numbered : (m : FinMap nat_cmp ℕ) (id q : ℕ) → get (numbered m id) q ≡ cond (q == id) (Some (len m)) (get m q)
 get-numbered m id q = get-insert nat_cmp_total m id (len m) q ∙ ap (λ b. cond b (Some (len m)) (get m q)) (unsigned_tied q id)
 
@@ -73,7 +73,7 @@ all_new (id ∷ ids) = (get-empty nat_cmp id, all_new ids)
 
 -- ---- the maps of a module
 
--- the numbers that were put into a space are in it
+-- the numbers of a space are those that were put into it
 numbers_in-with_numbers : (space : Space) (numbers : FinMap nat_cmp ℕ) (m : IdsToIndices) → numbers_in (with_numbers space numbers m) space ≡ numbers
 numbers_in-with_numbers Tables numbers m = refl
 numbers_in-with_numbers Types numbers m = refl
@@ -84,7 +84,7 @@ numbers_in-with_numbers Elements numbers m = refl
 numbers_in-with_numbers Data numbers m = refl
 numbers_in-with_numbers Tags numbers m = refl
 
--- more ids are pushed after those that have their positions
+-- more ids are pushed after those whose numbers are their positions
 by_place-pushed : (space : Space) (done ids : List ℕ) (m : IdsToIndices) → IsDistinct nat_eq ids → AreNew (numbers_in m space) ids → ByPlace done (numbers_in m space) → ByPlace (done ++ ids) (numbers_in (pushed space ids m) space)
 by_place-pushed space done [] m distinct new places = subst (λ ids. ByPlace ids (numbers_in m space)) (sym (append-nil done)) places
 by_place-pushed space done (id ∷ ids) m distinct new places =

@@ -40,7 +40,7 @@ with_ids_in Elements ids m = record m { elements = ids }
 with_ids_in Data ids m = record m { «data» = ids }
 with_ids_in Tags ids m = record m { tags = ids }
 
--- the same maps with one more id in a space, the last
+-- the same maps with one more id at the end of a space
 abbrev pub with_next_id : Space → (id : ℕ) → IndicesToIds → IndicesToIds
 with_next_id space id m = with_ids_in space (ids_in m space ++ id ∷ []) m
 
@@ -60,7 +60,7 @@ locals_in m function = list_of m.locals function
 abbrev pub with_locals : ℕ → List ℕ → IndicesToIds → IndicesToIds
 with_locals function ids m = record m { locals = insert m.locals function ids }
 
--- the same maps with one more local in a function, the last
+-- the same maps with one more local at the end of a function's list
 abbrev pub with_next_local : (function local : ℕ) → IndicesToIds → IndicesToIds
 with_next_local function local m = record m { locals = with_local function local m.locals }
 
@@ -96,7 +96,7 @@ with_numbers Tags numbers m = record m { tags = numbers }
 abbrev pub with_number : Space → (id number : ℕ) → IdsToIndices → IdsToIndices
 with_number space id number m = with_numbers space (insert (numbers_in m space) id number) m
 
--- the numbers with the next one for an id: the count of ids that have one
+-- the numbers, with the next number for an id: the number of ids that have one
 abbrev pub numbered : FinMap nat_cmp ℕ → ℕ → FinMap nat_cmp ℕ
 numbered numbers id = insert numbers id (len numbers)
 

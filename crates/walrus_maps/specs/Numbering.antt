@@ -1,4 +1,4 @@
--- How pushes number ids.
+-- The numbers that pushes give to ids.
 use Rattle.std.specs.Prelude.{◌≡◌, ℕ, List, [], ◌∷◌, nat_eq, Some, Ok, ◌↔◌, slice_get}
 use Rattle.std.specs.List.{IsDistinct}
 use Rattle.std.specs.FinMap.{empty}

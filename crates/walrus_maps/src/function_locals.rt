@@ -12,8 +12,8 @@ use std::marker::Model;
 use walrus_ir::{FunctionId, IdHashMap, LocalId, kind};
 use wasm_body::IndexError;
 
-/// The locals of each function, by old index. A contract sees a finite map from function to the
-/// list of its locals.
+/// The locals of each function, by old index. In a contract, it is a finite map from function to
+/// the list of its locals.
 #[derive(Drop)]
 pub(crate) struct FunctionLocals {
     lists: IdHashMap<FunctionId, IdList<kind::Local>>,
@@ -29,7 +29,7 @@ impl Model for FunctionLocals {
 }
 
 impl FunctionLocals {
-    /// No function has locals. It takes no memory.
+    /// The map in which no function has locals. This allocates nothing.
     pub fn new(alloc: Global) -> Self
         ensures { result ≡ map.empty }
     {
@@ -39,7 +39,7 @@ impl FunctionLocals {
         }
     }
 
-    /// Adds a local behind the function's others, and answers its index.
+    /// Adds a local after the function's others, and returns its index.
     pub fn push(&mut self, function: FunctionId, local: LocalId) -> Result<u32, IndexError>
         ensures index { IfOk result (λ n. n ≡ length (list_of self.old function)) }
         ensures ok { OnOk result (self.new ≡ with_local function local self.old) }
@@ -52,8 +52,8 @@ impl FunctionLocals {
         }
     }
 
-    // The same for a function that has no list. The list goes in once it holds the local, so that
-    // no empty one stays behind a refusal.
+    // The same for a function that has no list. The list is inserted after the local is in it, so
+    // that no empty list is in the map after a refusal.
     fn push_first(&mut self, function: FunctionId, local: LocalId) -> Result<u32, IndexError>
         ensures index { IfOk result (λ n. n ≡ 0) }
         ensures ok { OnOk result (self.new ≡ map.insert self.old function (local ∷ [])) }
@@ -66,7 +66,7 @@ impl FunctionLocals {
         Ok(index)
     }
 
-    /// The local with this index, or why there is none. It takes no memory.
+    /// The local with this index, or the error if there is none. This allocates nothing.
     pub fn get(&self, function: FunctionId, index: u32) -> Result<LocalId, IndexError>
         ensures { result ≡ local_in self.now function index }
     {

@@ -1,4 +1,4 @@
-//! How an index map grows.
+//! The growth of an index map.
 ghost use Rattle.std.specs.Prelude.{◌≡◌};
 ghost use Rattle.walrus_maps.specs.Growth.{index_behind};
 

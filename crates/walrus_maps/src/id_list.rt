@@ -10,7 +10,7 @@ use walrus_ir::Id;
 use wasm_body::IndexError;
 use wasm_operators::Space;
 
-/// The ids of one kind, by old index. A contract sees their list.
+/// The ids of one kind, by old index. In a contract, they are a list.
 #[derive(Drop)]
 pub(crate) struct IdList<K> {
     ids: Vec<Id<K>>,
@@ -23,7 +23,7 @@ impl<K> Model for IdList<K> {
 }
 
 impl<K> IdList<K> {
-    /// No ids.
+    /// The list without ids.
     pub fn new(alloc: Global) -> Self
         ensures { result ≡ [] }
     {
@@ -51,7 +51,7 @@ impl<K> IdList<K> {
         self.ids.get(index as usize).copied()
     }
 
-    /// The id with this index, or `OutOfRange` with this space.
+    /// The id with this index, or the error `OutOfRange` with this space.
     pub fn get_in(&self, space: Space, index: u32) -> Result<Id<K>, IndexError>
         ensures { result ≡ some_or (slice_get self.now index) (IndexError.OutOfRange space index) }
     {

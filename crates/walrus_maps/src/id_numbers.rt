@@ -13,7 +13,7 @@ use walrus_ir::{Id, IdHashMap};
 use wasm_body::IndexError;
 use wasm_operators::Space;
 
-/// The numbers of the ids of one kind. A contract sees a finite map from id to number.
+/// The numbers of the ids of one kind. In a contract, it is a finite map from id to number.
 #[derive(Drop)]
 pub(crate) struct IdNumbers<K> {
     numbers: IdHashMap<Id<K>, u32>,
@@ -28,7 +28,7 @@ impl<K> Model for IdNumbers<K> {
 }
 
 impl<K> IdNumbers<K> {
-    /// No numbers.
+    /// The map in which no id has a number.
     pub fn new(alloc: Global) -> Self
         ensures { result ≡ map.empty }
     {
@@ -37,14 +37,14 @@ impl<K> IdNumbers<K> {
         }
     }
 
-    // How many ids have a number.
+    // The number of ids that have a number.
     fn len(&self) -> usize
         ensures { result ≡ map.len self.now }
     {
         self.numbers.len()
     }
 
-    /// Gives an id that has no number the next one, which is how many ids have one.
+    /// Gives an id that has no number the next one: the number of ids that have one.
     pub fn push(&mut self, id: Id<K>) -> Result<(), IndexError>
         requires { map.get self.old id ≡ None }
         ensures ok { OnOk result (self.new ≡ map.insert self.old id (map.len self.old)) }
@@ -55,7 +55,7 @@ impl<K> IdNumbers<K> {
         self.set(id, number)
     }
 
-    /// Gives an id this number, and replaces the one it has.
+    /// Gives an id this number. It replaces the number that the id may have.
     pub fn set(&mut self, id: Id<K>, number: u32) -> Result<(), IndexError>
         ensures ok { OnOk result (self.new ≡ map.insert self.old id number) }
         ensures err { OnErr result (self.new ≡ self.old) }
@@ -65,7 +65,7 @@ impl<K> IdNumbers<K> {
         Ok(())
     }
 
-    /// The number of an id, or `Unnumbered` with this space.
+    /// The number of an id, or the error `Unnumbered` with this space.
     pub fn get_in(&self, space: Space, id: Id<K>) -> Result<u32, IndexError>
         ensures { result ≡ some_or (map.get self.now id) (IndexError.Unnumbered space) }
     {

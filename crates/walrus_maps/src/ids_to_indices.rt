@@ -28,12 +28,12 @@ pub struct IdsToIndices {
     elements: IdNumbers<kind::Element>,
     data: IdNumbers<kind::Data>,
     tags: IdNumbers<kind::Tag>,
-    /// The new indices of the locals of each function, set by whoever numbers them.
+    /// The new indices of the locals of each function, set by the code that numbers them.
     pub locals: IdHashMap<FunctionId, IdHashMap<LocalId, u32>>,
 }
 
 impl IdsToIndices {
-    /// No id has a new index. Allocates nothing.
+    /// Maps in which no id has a new index. This allocates nothing.
     pub fn new(alloc: Global) -> IdsToIndices
         ensures numbers { (space : Space) → numbers_in result space ≡ map.empty }
         ensures locals { IsEmpty result.locals }
@@ -128,8 +128,8 @@ impl IdsToIndices {
         self.tags.push(id)
     }
 
-    /// Gives a data segment this new index, and replaces the one it has. The only error is
-    /// `Memory`, if memory runs out.
+    /// Gives a data segment this new index. It replaces the index that the segment may have. The
+    /// only error is `Memory`, if memory runs out.
     pub fn set_data_index(&mut self, id: DataId, index: u32) -> Result<(), IndexError>
         ensures ok { OnOk result (self.new ≡ with_number Data id index self.old) }
         ensures err { OnErr result (self.new ≡ self.old) }
@@ -138,56 +138,56 @@ impl IdsToIndices {
         self.data.set(id, index)
     }
 
-    /// The new index of a table, or `Unnumbered`. Allocates nothing.
+    /// The new index of a table, or the error `Unnumbered`. Allocates nothing.
     pub fn get_table_index(&self, id: TableId) -> Result<u32, IndexError>
         ensures { result ≡ number_of self.now Tables id }
     {
         self.tables.get_in(Space::Tables, id)
     }
 
-    /// The new index of a type, or `Unnumbered`. Allocates nothing.
+    /// The new index of a type, or the error `Unnumbered`. Allocates nothing.
     pub fn get_type_index(&self, id: TypeId) -> Result<u32, IndexError>
         ensures { result ≡ number_of self.now Types id }
     {
         self.types.get_in(Space::Types, id)
     }
 
-    /// The new index of a function, or `Unnumbered`. Allocates nothing.
+    /// The new index of a function, or the error `Unnumbered`. Allocates nothing.
     pub fn get_func_index(&self, id: FunctionId) -> Result<u32, IndexError>
         ensures { result ≡ number_of self.now Funcs id }
     {
         self.funcs.get_in(Space::Funcs, id)
     }
 
-    /// The new index of a global, or `Unnumbered`. Allocates nothing.
+    /// The new index of a global, or the error `Unnumbered`. Allocates nothing.
     pub fn get_global_index(&self, id: GlobalId) -> Result<u32, IndexError>
         ensures { result ≡ number_of self.now Globals id }
     {
         self.globals.get_in(Space::Globals, id)
     }
 
-    /// The new index of a memory, or `Unnumbered`. Allocates nothing.
+    /// The new index of a memory, or the error `Unnumbered`. Allocates nothing.
     pub fn get_memory_index(&self, id: MemoryId) -> Result<u32, IndexError>
         ensures { result ≡ number_of self.now Memories id }
     {
         self.memories.get_in(Space::Memories, id)
     }
 
-    /// The new index of an element segment, or `Unnumbered`. Allocates nothing.
+    /// The new index of an element segment, or the error `Unnumbered`. Allocates nothing.
     pub fn get_element_index(&self, id: ElementId) -> Result<u32, IndexError>
         ensures { result ≡ number_of self.now Elements id }
     {
         self.elements.get_in(Space::Elements, id)
     }
 
-    /// The new index of a data segment, or `Unnumbered`. Allocates nothing.
+    /// The new index of a data segment, or the error `Unnumbered`. Allocates nothing.
     pub fn get_data_index(&self, id: DataId) -> Result<u32, IndexError>
         ensures { result ≡ number_of self.now Data id }
     {
         self.data.get_in(Space::Data, id)
     }
 
-    /// The new index of a tag, or `Unnumbered`. Allocates nothing.
+    /// The new index of a tag, or the error `Unnumbered`. Allocates nothing.
     pub fn get_tag_index(&self, id: TagId) -> Result<u32, IndexError>
         ensures { result ≡ number_of self.now Tags id }
     {

@@ -13,8 +13,9 @@ use walrus_ir::{
 use wasm_body::IndexError;
 use wasm_operators::Space;
 
-/// The ids that the old indices of a module stand for, those of the bytes that it was read from.
-/// Each space counts its indices from 0 on, and so does each function those of its locals.
+/// The ids of the old indices of a module: the indices in the bytes that it is read from. Each
+/// space counts its indices from 0 on, and each function counts its locals from 0 on (WebAssembly
+/// core specification 3.0, structure, modules, indices).
 #[derive(Drop)]
 pub struct IndicesToIds {
     tables: IdList<kind::Table>,
@@ -29,7 +30,7 @@ pub struct IndicesToIds {
 }
 
 impl IndicesToIds {
-    /// No index stands for an id. It takes no memory.
+    /// Maps in which no index has an id. This allocates nothing.
     pub fn new(alloc: Global) -> IndicesToIds
         ensures { result ≡ no_ids }
     {
@@ -46,8 +47,8 @@ impl IndicesToIds {
         }
     }
 
-    /// Adds a table, and answers its index, the next one. Errors: `TooMany` where there are 2^32,
-    /// and `Memory`.
+    /// Adds a table, and returns its index: the next one. Errors: `TooMany` if there are 2^32
+    /// tables, `Memory` if memory runs out.
     pub fn push_table(&mut self, id: TableId) -> Result<u32, IndexError>
         ensures index { IfOk result (λ n. n ≡ length (ids_in self.old Tables)) }
         ensures ok { OnOk result (self.new ≡ with_next_id Tables id self.old) }
@@ -57,8 +58,8 @@ impl IndicesToIds {
         self.tables.push(id)
     }
 
-    /// Adds a type, and answers its index, the next one. Errors: `TooMany` where there are 2^32,
-    /// and `Memory`.
+    /// Adds a type, and returns its index: the next one. Errors: `TooMany` if there are 2^32 types,
+    /// `Memory` if memory runs out.
     pub fn push_type(&mut self, id: TypeId) -> Result<u32, IndexError>
         ensures index { IfOk result (λ n. n ≡ length (ids_in self.old Types)) }
         ensures ok { OnOk result (self.new ≡ with_next_id Types id self.old) }
@@ -68,8 +69,8 @@ impl IndicesToIds {
         self.types.push(id)
     }
 
-    /// Adds a function, and answers its index, the next one. Errors: `TooMany` where there are
-    /// 2^32, and `Memory`.
+    /// Adds a function, and returns its index: the next one. Errors: `TooMany` if there are 2^32
+    /// functions, `Memory` if memory runs out.
     pub fn push_func(&mut self, id: FunctionId) -> Result<u32, IndexError>
         ensures index { IfOk result (λ n. n ≡ length (ids_in self.old Funcs)) }
         ensures ok { OnOk result (self.new ≡ with_next_id Funcs id self.old) }
@@ -79,8 +80,8 @@ impl IndicesToIds {
         self.funcs.push(id)
     }
 
-    /// Adds a global, and answers its index, the next one. Errors: `TooMany` where there are 2^32,
-    /// and `Memory`.
+    /// Adds a global, and returns its index: the next one. Errors: `TooMany` if there are 2^32
+    /// globals, `Memory` if memory runs out.
     pub fn push_global(&mut self, id: GlobalId) -> Result<u32, IndexError>
         ensures index { IfOk result (λ n. n ≡ length (ids_in self.old Globals)) }
         ensures ok { OnOk result (self.new ≡ with_next_id Globals id self.old) }
@@ -90,8 +91,8 @@ impl IndicesToIds {
         self.globals.push(id)
     }
 
-    /// Adds a memory, and answers its index, the next one. Errors: `TooMany` where there are 2^32,
-    /// and `Memory`.
+    /// Adds a memory, and returns its index: the next one. Errors: `TooMany` if there are 2^32
+    /// memories, `Memory` if memory runs out.
     pub fn push_memory(&mut self, id: MemoryId) -> Result<u32, IndexError>
         ensures index { IfOk result (λ n. n ≡ length (ids_in self.old Memories)) }
         ensures ok { OnOk result (self.new ≡ with_next_id Memories id self.old) }
@@ -101,8 +102,8 @@ impl IndicesToIds {
         self.memories.push(id)
     }
 
-    /// Adds an element segment, and answers its index, the next one. Errors: `TooMany` where there
-    /// are 2^32, and `Memory`.
+    /// Adds an element segment, and returns its index: the next one. Errors: `TooMany` if there are
+    /// 2^32 element segments, `Memory` if memory runs out.
     pub fn push_element(&mut self, id: ElementId) -> Result<u32, IndexError>
         ensures index { IfOk result (λ n. n ≡ length (ids_in self.old Elements)) }
         ensures ok { OnOk result (self.new ≡ with_next_id Elements id self.old) }
@@ -112,8 +113,8 @@ impl IndicesToIds {
         self.elements.push(id)
     }
 
-    /// Adds a data segment, and answers its index, the next one. Errors: `TooMany` where there are
-    /// 2^32, and `Memory`.
+    /// Adds a data segment, and returns its index: the next one. Errors: `TooMany` if there are
+    /// 2^32 data segments, `Memory` if memory runs out.
     pub fn push_data(&mut self, id: DataId) -> Result<u32, IndexError>
         ensures index { IfOk result (λ n. n ≡ length (ids_in self.old Data)) }
         ensures ok { OnOk result (self.new ≡ with_next_id Data id self.old) }
@@ -123,8 +124,8 @@ impl IndicesToIds {
         self.data.push(id)
     }
 
-    /// Adds a tag, and answers its index, the next one. Errors: `TooMany` where there are 2^32, and
-    /// `Memory`.
+    /// Adds a tag, and returns its index: the next one. Errors: `TooMany` if there are 2^32 tags,
+    /// `Memory` if memory runs out.
     pub fn push_tag(&mut self, id: TagId) -> Result<u32, IndexError>
         ensures index { IfOk result (λ n. n ≡ length (ids_in self.old Tags)) }
         ensures ok { OnOk result (self.new ≡ with_next_id Tags id self.old) }
@@ -134,8 +135,8 @@ impl IndicesToIds {
         self.tags.push(id)
     }
 
-    /// Adds a local of a function, and answers its index, the next one of the function. Errors:
-    /// `TooMany` where the function has 2^32, and `Memory`.
+    /// Adds a local of a function, and returns its index: the next one of the function. Errors:
+    /// `TooMany` if the function has 2^32 locals, `Memory` if memory runs out.
     pub fn push_local(&mut self, function: FunctionId, local: LocalId) -> Result<u32, IndexError>
         ensures index { IfOk result (λ n. n ≡ length (locals_in self.old function)) }
         ensures ok { OnOk result (self.new ≡ with_next_local function local self.old) }
@@ -145,71 +146,71 @@ impl IndicesToIds {
         self.locals.push(function, local)
     }
 
-    /// The table with this index, or `OutOfRange`. It takes no memory.
+    /// The table with this index, or the error `OutOfRange`. Allocates nothing.
     pub fn get_table(&self, index: u32) -> Result<TableId, IndexError>
         ensures { result ≡ id_of self.now Tables index }
     {
         self.tables.get_in(Space::Tables, index)
     }
 
-    /// The type with this index, or `OutOfRange`. It takes no memory.
+    /// The type with this index, or the error `OutOfRange`. Allocates nothing.
     pub fn get_type(&self, index: u32) -> Result<TypeId, IndexError>
         ensures { result ≡ id_of self.now Types index }
     {
         self.types.get_in(Space::Types, index)
     }
 
-    /// The function with this index, or `OutOfRange`. It takes no memory.
+    /// The function with this index, or the error `OutOfRange`. Allocates nothing.
     pub fn get_func(&self, index: u32) -> Result<FunctionId, IndexError>
         ensures { result ≡ id_of self.now Funcs index }
     {
         self.funcs.get_in(Space::Funcs, index)
     }
 
-    /// The global with this index, or `OutOfRange`. It takes no memory.
+    /// The global with this index, or the error `OutOfRange`. Allocates nothing.
     pub fn get_global(&self, index: u32) -> Result<GlobalId, IndexError>
         ensures { result ≡ id_of self.now Globals index }
     {
         self.globals.get_in(Space::Globals, index)
     }
 
-    /// The memory with this index, or `OutOfRange`. It takes no memory.
+    /// The memory with this index, or the error `OutOfRange`. Allocates nothing.
     pub fn get_memory(&self, index: u32) -> Result<MemoryId, IndexError>
         ensures { result ≡ id_of self.now Memories index }
     {
         self.memories.get_in(Space::Memories, index)
     }
 
-    /// The element segment with this index, or `OutOfRange`. It takes no memory.
+    /// The element segment with this index, or the error `OutOfRange`. Allocates nothing.
     pub fn get_element(&self, index: u32) -> Result<ElementId, IndexError>
         ensures { result ≡ id_of self.now Elements index }
     {
         self.elements.get_in(Space::Elements, index)
     }
 
-    /// The data segment with this index, or `OutOfRange`. It takes no memory.
+    /// The data segment with this index, or the error `OutOfRange`. Allocates nothing.
     pub fn get_data(&self, index: u32) -> Result<DataId, IndexError>
         ensures { result ≡ id_of self.now Data index }
     {
         self.data.get_in(Space::Data, index)
     }
 
-    /// The tag with this index, or `OutOfRange`. It takes no memory.
+    /// The tag with this index, or the error `OutOfRange`. Allocates nothing.
     pub fn get_tag(&self, index: u32) -> Result<TagId, IndexError>
         ensures { result ≡ id_of self.now Tags index }
     {
         self.tags.get_in(Space::Tags, index)
     }
 
-    /// The local of a function with this index, `NoLocals` where the function has no locals, or
-    /// `LocalOutOfRange`. It takes no memory.
+    /// The local of a function with this index. Errors: `NoLocals` if the function has no locals,
+    /// otherwise `LocalOutOfRange`. Allocates nothing.
     pub fn get_local(&self, function: FunctionId, index: u32) -> Result<LocalId, IndexError>
         ensures { result ≡ local_of self.now function index }
     {
         self.locals.get(function, index)
     }
 
-    /// Lets an index that stands for a type stand for another one. It takes no memory.
+    /// Replaces the type of an index that has one. This allocates nothing.
     pub fn remap_type(&mut self, index: u32, id: TypeId)
         requires { index < length (ids_in self.old Types) }
         ensures { self.new ≡ with_id_at Types index id self.old }

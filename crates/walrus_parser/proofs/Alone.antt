@@ -1,5 +1,5 @@
--- How an operator by itself advances a parse: if its ids and labels are found it has a name, and its instruction is added to
--- the normal form so far.
+-- How an operator that makes an instruction by itself advances a parse: if its ids and labels are found it has a name, and
+-- its instruction is added to the normal form so far.
 use Rattle.std.specs.Prelude.{◌≡◌, ◌⊎◌, ◌<◌, ◌≤◌, ℕ, suc, List, [], ◌∷◌, length, Bool, true, false, Some, Result, Ok, Err, OnOk, IfErr}
 use Rattle.std.proofs.Common.{refl, inl, inr, ap, sym, subst, ◌∙◌, arith, reverse}
 use Rattle.walrus_ir.specs.declared.instr.Instr.{Instr}

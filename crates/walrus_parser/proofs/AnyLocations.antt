@@ -1,4 +1,4 @@
--- Which fault is the first doesn't depend on what the location function answers.
+-- Which fault is the first doesn't depend on what the location function returns.
 use Rattle.std.specs.Prelude.{◌≡◌, ℕ, zero, suc, ◌+◌, ◌-◌, List, [], ◌∷◌, length, Bool, true, false, Option, Some, None, Result, Ok, Err}
 use Rattle.std.proofs.Common.{refl, ap, sym, ◌∙◌}
 use Rattle.wasm_numbers.specs.declared.fault.ReadFault.{ReadFault}

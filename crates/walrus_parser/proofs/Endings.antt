@@ -143,7 +143,7 @@ module _ (old mid end : OpenTrees) (ifs : List IfElseState) (s : Sequence Occurr
             ∙ (λ i. changed_at 0 (with_instr (if_else (first i).consequent (adds.is_next i) top.start)) ((ap (λ (z : OpenTrees). z.frames) adds.is ∙ frames_end) i)))
             refl h
 
-  -- ---- what is always there
+  -- ---- what always exists
 
   -- the `if` of the frame
   record HasIf : Type 0 where
@@ -169,7 +169,7 @@ module _ (old mid end : OpenTrees) (ifs : List IfElseState) (s : Sequence Occurr
 
   -- ---- appending the instruction of the `if`
 
-  -- appending is never refused for lack of an `if`
+  -- appending is never refused because there is no `if`
   absurd_if : (k : (c.kind ≡ kind.If) ⊎ (c.kind ≡ kind.Else)) (p : BodyParser) → reverse p.if_else.items ≡ ifs → p.context.frames ≡ mid.frames → (alternative : Option ℕ) → (c.kind ≡ kind.If → (n : ℕ) × (alternative ≡ Some n)) → HasNoIf p alternative → ⊥
   absurd_if k p same frames alternative given (inl none) =
       let h = has_if k in

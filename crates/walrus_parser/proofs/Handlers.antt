@@ -241,7 +241,7 @@ module _ (old mid : OpenTrees) (ifs : List IfElseState) (s : Sequence Occurrence
       ∙ ap (clause_named (env_of old) (frame_of l.construct) (frames_of ls) tag) (stands_behind l.construct ∙ ap has_clauses (sym (within l ls keeps).encloses.kind ∙ kind_is) ∙ other)
 
   module _ (may : has_clauses c.kind ≡ true) where
-    -- lookups give the same as before
+    -- lookups return the same as before
     handled_before : handled (env_of old) tag ≡ handled (env_of mid) tag
     handled_before = ap (λ t. handled (env_of t) tag) (sym popped.closes.is)
 

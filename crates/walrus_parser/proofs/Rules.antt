@@ -1,4 +1,4 @@
--- The name of each operator that opens, parts or closes a construct, or the first rule that it breaks, from the lookups.
+-- The name of each operator that opens, divides or closes a construct, or the first rule that it breaks, from the lookups.
 use Rattle.std.specs.Prelude.{◌≡◌, ℕ, List, [], ◌∷◌, is_some, Bool, true, false, Result, Ok, Err}
 use Rattle.std.proofs.Common.{refl}
 use Rattle.walrus_ir.specs.Types.{Signature, signature}
@@ -47,7 +47,7 @@ module _ (env : Environment) (f : Frame Occurrence) (fs : List (Frame Occurrence
       by_answers (Ok s) e (Err g) d = rw (e, d) refl
       by_answers (Err g) e q d = rw e refl
 
-  -- ---- operators that part a construct
+  -- ---- operators that divide a construct
 
   pub named_else : named_in env (f ∷ fs) else_operation ≡ (unless (is_some (else_moves f)) ElseOutsideIf >>= λ _. Ok else_operation)
   named_else = by_test (is_some (else_moves f)) refl

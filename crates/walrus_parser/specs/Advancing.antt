@@ -43,7 +43,7 @@ abbrev pub IsStep : Environment → ParseState → List (Layer Occurrence) → S
 IsStep env new ls s o place location (Ok u) = Advances env new ls s o place location
 IsStep env new ls s o place location (Err e) = (e ≡ Memory) ⊎ (named_in env (frames_of ls) o ≡ Err e)
 
--- an operator by itself isn't dropped, and `cut` says whether what follows it is
+-- an operator that makes an instruction by itself isn't dropped, and `cut` says whether what follows it is
 abbrev pub IsFate : Fate → Bool → Type 0
 IsFate Drops cut = ⊥
 IsFate Stays cut = cut ≡ false

@@ -4,12 +4,9 @@ use Rattle.walrus_ir.specs.declared.instr.Instr.TheVariants as instr
 use Rattle.walrus_ir.specs.declared.val_type.InstrSeqType.{InstrSeqType}
 use Rattle.walrus_ir.specs.Function.{Function, with_new_sequence}
 use Rattle.walrus_ir.specs.Unfolding.{LocatedInstr}
-use Rattle.wasm_operators.specs.declared.types.RawCast.{RawCast}
-use Rattle.wasm_operators.specs.Operations.{Cast, CatchClause, RawOperation}
-use Rattle.wasm_operators.specs.ReferenceOperations.{cast_of}
+use Rattle.wasm_operators.specs.Operations.{CatchClause, RawOperation}
 use Rattle.wasm_body.specs.declared.error.ParseError.{ParseError}
-use Rattle.wasm_body.specs.declared.error.ParseError.TheVariants.{Memory}
-use Rattle.wasm_body.specs.Translation.{translate, translate_cast, translate_clause}
+use Rattle.wasm_body.specs.Translation.{translate, translate_clause}
 use Rattle.wasm_body.specs.InstructionTable.{PlacedOperation}
 use Rattle.wasm_body.specs.SourceTree.{Sequence, Empty}
 use Rattle.wasm_body.specs.Naming.{Occurrence}
@@ -41,15 +38,6 @@ placed_in p o = translate (placing (env_of p.context) p.context.frames) o
 -- a clause of a `try_table` with the id of its tag, and with the slot of the sequence that its label names
 abbrev pub clause_in : BodyParser → CatchClause ℕ → Result (CatchClause ℕ) ParseError
 clause_in p c = translate_clause (placing (env_of p.context) p.context.frames) c
-
--- the immediates of a branch on a cast, in the same way
-abbrev pub cast_in : BodyParser → RawCast → Result (Cast ℕ) ParseError
-cast_in p c = translate_cast (placing (env_of p.context) p.context.frames) (cast_of c)
-
--- The result, seen by `view`, is this one; or memory ran out.
-abbrev pub GivesOrMemory : {A B : Type 0} → (A → B) → Result A ParseError → Result B ParseError → Type 0
-GivesOrMemory view (Ok x) given = given ≡ Ok (view x)
-GivesOrMemory view (Err e) given = (e ≡ Memory) ⊎ (given ≡ Err e)
 
 -- the innermost `if` has this alternative
 abbrev pub with_alternative : (alternative : ℕ) → List IfElseState → List IfElseState

@@ -5,12 +5,14 @@ ghost use Rattle.walrus_parser.specs.Ranges.{range_at};
 use std::ops::Range;
 
 /// The bytes of a function's body (WebAssembly core specification 3.0, binary format, code
-/// section). Its operators begin at `bytes[ops]`. The place of `bytes[i]`, a byte offset, is `start
-/// + i`.
+/// section): its declarations of locals, and then its operators.
 #[derive(Clone, Copy, Debug)]
 pub struct FunctionBody<'a> {
+    /// The bytes.
     pub bytes: &'a [u8],
+    /// The place of `bytes[0]`, a byte offset; `bytes[i]` is at the place `start + i`.
     pub start: usize,
+    /// The index in `bytes` at which the operators begin.
     pub ops: usize,
 }
 

@@ -6,7 +6,8 @@ ghost use Rattle.wasm_operators.specs.Operations.{operation, block};
 ghost use Rattle.wasm_operators.specs.declared.operator.Op.TheVariants as op;
 ghost use Rattle.wasm_operators.specs.Meaning.{meaning};
 ghost use Rattle.wasm_encode.specs.Writable.{IsWritable};
-ghost use Rattle.walrus_parser.specs.OperatorKinds.{is_instruction, is_cut};
+ghost use Rattle.walrus_instructions.specs.OperatorKinds.{is_instruction};
+ghost use Rattle.walrus_parser.specs.OperatorKinds.{is_cut};
 ghost use Rattle.wasm_body.specs.declared.error.ParseError.{ParseError as ParseFault};
 ghost use Rattle.wasm_body.specs.Control.{end_operation, else_operation};
 ghost use Rattle.walrus_ir.specs.Unfolding.{slots_in};
@@ -17,10 +18,10 @@ ghost use Rattle.walrus_context.specs.OpenFrames.{changed_at};
 ghost use Rattle.walrus_context.specs.OpenTrees.{env_of};
 ghost use Rattle.walrus_parser.specs.BodyParsers.{Begins, IsSameBody, Steps, with_alternative, AppendsIf, HasNoIf, AddsEmpty, Finishes, taking, placed_in};
 
-use crate::instructions::{constant, memory_argument};
 use std::alloc::Global;
 use std::mem;
-use walrus_context::{IfElseState, ValidationContext, pushed, value_type};
+use walrus_context::{IfElseState, ValidationContext, pushed};
+use walrus_instructions::{branch_target, constant, instruction, memory_argument};
 use walrus_ir::{
     Binop, Block, BlockKind, BrIf, Call, FunctionBuilder, FunctionId, GlobalGet, GlobalSet, IfElse,
     Instr, InstrLocId, InstrSeqId, InstrSeqType, Load, LoadKind, Loop, Module, Store, StoreKind,
@@ -265,7 +266,7 @@ impl BodyParser<'_> {
         }
     }
 
-    /// Takes an operator by itself, whose instruction this is.
+    /// Takes an operator that makes an instruction by itself, which is this one.
     #[inline(always)]
     fn take_made(
         &mut self,
@@ -284,7 +285,7 @@ impl BodyParser<'_> {
         self.take(instr, location, cuts)
     }
 
-    /// Takes an operator by itself other than `nop`.
+    /// Takes an operator, other than `nop`, that makes an instruction by itself.
     #[inline(never)]
     fn take_alone(
         &mut self,
@@ -296,13 +297,14 @@ impl BodyParser<'_> {
         ensures step { Steps self.old self.new (meaning operator.now) location result }
         ensures rest { OnOk result (IsSameBody self.old.context self.new.context) }
     {
-        match self.instruction(operator) {
+        match instruction(*self.if_else.allocator(), &self.context, operator) {
             Ok(instr) => self.take_made(operator, instr, location, is_cut(operator)),
             Err(error) => Err(error),
         }
     }
 
-    /// Refuses an operator by itself, which has no instruction because of this error.
+    /// Refuses an operator that makes an instruction by itself, because an index or a label of it
+    /// has this error.
     fn refuse(
         &mut self,
         operator: &Operator<'_>,
@@ -440,7 +442,7 @@ impl BodyParser<'_> {
         ensures step { Steps self.old self.new (meaning operator.now) location result }
         ensures rest { OnOk result (IsSameBody self.old.context self.new.context) }
     {
-        match self.label(label) {
+        match branch_target(&self.context, label) {
             Ok(block) => self.take_made(operator, Instr::BrIf(BrIf { block }), location, false),
             Err(error) => self.refuse(operator, location, error),
         }

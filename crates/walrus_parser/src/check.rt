@@ -5,17 +5,17 @@ use wasm_ops::Operator;
 /// Why a validator refuses an operator.
 #[derive(Clone, Copy, Debug, PartialEq, Eq)]
 pub enum CheckError {
-    /// For a reason of its own, which has this number.
+    /// It refuses the operator for a reason of its own, which has this number.
     Refused(u32),
-    /// No memory was left.
+    /// Memory ran out.
     Memory,
 }
 
-/// A validator, which is asked at each operator in turn.
+/// A validator, which is called for each operator in turn.
 ///
-/// A validator says what it means: `state` is what its answers depend on, and `check` takes a state
-/// and an operator with its place to the next state, or refuses the operator with a number. Besides
-/// it may run out of memory.
+/// A validator says what it means: `state` is the state that its results depend on, and `check`
+/// maps a state and an operator with its place to the next state, or refuses the operator with a
+/// number. It may also run out of memory.
 pub trait OpCheck: Drop {
     ghost use Rattle.std.specs.Prelude.{ℕ, Result};
     ghost use Rattle.wasm_operators.specs.OperatorList.{Placed};
@@ -28,13 +28,17 @@ pub trait OpCheck: Drop {
 
     ghost check: { State → Placed → Result State ℕ };
 
-    /// The next operator, whose first byte stands at `pos`.
+    /// Checks the next operator, whose first byte is at the place `pos`.
+    ///
+    /// # Errors
+    ///
+    /// `Refused` with the number of the meaning; or `Memory`.
     fn op(&mut self, pos: usize, op: &Operator<'_>) -> Result<(), CheckError>
         ensures { Checks check (state self.old)
             (placed_at (meaning op.now) pos) result (state self.new) };
 }
 
-/// The validator that accepts every operator. It takes no memory.
+/// The validator that accepts every operator. It allocates nothing.
 #[derive(Clone, Copy, Debug, Drop)]
 pub struct AcceptAll;
 

@@ -1,19 +1,15 @@
-//! Legacy exception handling: a `try`, its clauses, and `rethrow`.
-ghost use Rattle.std.specs.Prelude.{◌≡◌, ℕ, [], ◌∷◌, IfOk, OnOk};
-ghost use Rattle.walrus_ir.specs.declared.instr.Instr.TheVariants as instr;
+//! Legacy exception handling: a `try` and its clauses.
+ghost use Rattle.std.specs.Prelude.{◌≡◌, ℕ, [], ◌∷◌, OnOk};
 ghost use Rattle.wasm_operators.specs.declared.types.Opcode.TheVariants.{Byte};
-ghost use Rattle.wasm_operators.specs.Operations.{operation, block, handler};
+ghost use Rattle.wasm_operators.specs.Operations.{operation, block};
 ghost use Rattle.wasm_body.specs.Control.{delegate_operation};
-ghost use Rattle.wasm_body.specs.InstructionTable.{operation_of};
-ghost use Rattle.walrus_parser.specs.BodyParsers.{IsSameBody, Steps, placed_in, GivesOrMemory};
+ghost use Rattle.walrus_parser.specs.BodyParsers.{IsSameBody, Steps};
 ghost use Rattle.walrus_parser.specs.Handlers.{clause_operation, handled, handler_kind, clause_of, has_clauses};
 ghost use Rattle.walrus_context.specs.OpenTrees.{env_of};
 ghost use Rattle.walrus_ir.specs.Results.{Gives};
 
 use crate::body_parser::BodyParser;
-use walrus_ir::{
-    BlockKind, Instr, InstrLocId, InstrSeqId, LegacyCatch, Rethrow, TagId, Try, ValType,
-};
+use walrus_ir::{BlockKind, Instr, InstrLocId, InstrSeqId, LegacyCatch, TagId, Try, ValType};
 use wasm_body::ParseError;
 use wasm_ops::BlockType;
 
@@ -152,23 +148,6 @@ impl BodyParser<'_> {
         }
         match self.context.pop_control() {
             Ok((_frame, _block)) => Ok(()),
-            Err(error) => Err(error),
-        }
-    }
-
-    /// The instruction of a `rethrow`, which names an enclosing handler.
-    pub fn rethrow(&self, relative_depth: u32) -> Result<Instr, ParseError>
-        ensures placed { GivesOrMemory operation_of result
-            (placed_in self.now (operation (Byte 0x09) (handler relative_depth ∷ []))) }
-        ensures plain { IfOk result (λ i. i ≡ instr.Rethrow (record {
-          relative_depth = relative_depth;
-        })) }
-    {
-        match self.context.kind_at(relative_depth as usize) {
-            Ok(BlockKind::Catch | BlockKind::CatchAll) => {
-                Ok(Instr::Rethrow(Rethrow { relative_depth }))
-            }
-            Ok(_) => Err(ParseError::RethrowOutsideHandler),
             Err(error) => Err(error),
         }
     }

@@ -4,12 +4,10 @@
 mod body;
 mod body_parser;
 mod check;
-mod instructions;
 mod legacy_try;
 mod locating;
 mod next;
 mod parse;
-mod references;
 mod try_tables;
 
 pub use body::FunctionBody;

@@ -23,7 +23,10 @@ use wasm_ops::{Operator, Reader};
 /// was read.
 #[derive(Drop)]
 pub struct ParsedOperators {
+    /// The function's sequences.
     pub builder: FunctionBuilder,
+    /// For each operator that was read, in order: its place, a byte offset, less the code offset;
+    /// and its location.
     pub instruction_mapping: Vec<(usize, InstrLocId)>,
 }
 

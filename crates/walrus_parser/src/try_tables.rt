@@ -9,6 +9,7 @@ ghost use Rattle.walrus_parser.specs.BodyParsers.{IsSameBody, Steps, clause_in};
 
 use crate::body_parser::BodyParser;
 use walrus_context::pushed;
+use walrus_instructions::branch_target;
 use walrus_ir::{BlockKind, Instr, InstrLocId, InstrSeqId, TagId, TryTable, TryTableCatch};
 use wasm_body::ParseError;
 use wasm_ops::{BlockType, CatchList, RawCatch};
@@ -35,7 +36,7 @@ impl BodyParser<'_> {
             Some(index) => Some(self.context.indices().get_tag(index)?),
             None => None,
         };
-        match self.label(clause.label) {
+        match branch_target(&self.context, clause.label) {
             Ok(label) => Ok(table_clause(tag, clause.by_reference, label)),
             Err(error) => Err(error),
         }

@@ -22,7 +22,7 @@ use Rattle.wasm_body.proofs.Bytes.Faults.{emission_faults, declaration_faults}
 use Rattle.wasm_body.proofs.LocalNumbers.{last_place_get}
 use Rattle.walrus_maps.specs.declared.ids_to_indices.IdsToIndices.{IdsToIndices}
 use Rattle.walrus_maps.specs.IndexMaps.{numbers_in}
-use Rattle.walrus_emitter.specs.TreeWriting.Operators.{fitting, numbers_by}
+use Rattle.walrus_numbering.specs.NumberMaps.{fitting, numbers_by}
 use Rattle.walrus_rewrite.specs.RawBodies.{Given, HasNoRawBody, unknown, undeclared, unwritten, HasNoParsedBody}
 use Rattle.walrus_rewrite.proofs.RawBodyLemmas.{passed}
 

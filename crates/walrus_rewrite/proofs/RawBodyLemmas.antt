@@ -23,11 +23,11 @@ use Rattle.wasm_body.specs.Pairs.{Pair, pairs_from, tree_pairs}
 use Rattle.wasm_body.specs.TreeOfFunction.{tree_of, HasTree}
 use Rattle.wasm_body.proofs.Translation.Steps.{bound, length-each}
 use Rattle.walrus_maps.specs.declared.ids_to_indices.IdsToIndices.{IdsToIndices}
-use Rattle.walrus_emitter.specs.EmittedLocals.{number_in, HasUnknown}
+use Rattle.walrus_numbering.specs.EmittedLocals.{number_in, HasUnknown}
 use Rattle.walrus_facts.specs.Facts.{locals_used}
 use Rattle.walrus_body.specs.LocalFunctions.{first_slot}
 use Rattle.walrus_body.specs.EmittedInstructions.{IsUnemitted}
-use Rattle.walrus_emitter.specs.TreeWriting.Operators.{numbers_by}
+use Rattle.walrus_numbering.specs.NumberMaps.{numbers_by}
 use Rattle.walrus_facts.proofs.LocalsOfTrees.{locals_of_tree}
 use Rattle.walrus_rewrite.proofs.OneTree.{one_function}
 use Rattle.walrus_rewrite.specs.RawBodies.{Given, HasNoRawBody, unknown, undeclared, unwritten, IsRawBodyOf, Begins, IsNotBegun, Writes, WritesBytes, WritesBoth, Declines, not_begun, not_written}

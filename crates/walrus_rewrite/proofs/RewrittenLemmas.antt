@@ -36,7 +36,7 @@ use Rattle.walrus_parser.specs.declared.body.FunctionBody.{FunctionBody}
 use Rattle.walrus_parser.specs.Bodies.{ParseInput, AcceptsBody, RefusesBody, mapped_by, body_operators}
 use Rattle.walrus_parser.specs.Settings.{BothOrNone, locations_in}
 use Rattle.walrus_body.specs.EmittedInstructions.{LentPairs, Left}
-use Rattle.walrus_emitter.specs.TreeWriting.Operators.{numbers_by}
+use Rattle.walrus_numbering.specs.NumberMaps.{numbers_by}
 use Rattle.walrus_facts.proofs.LocalsOfTrees.{count_of_tree}
 use Rattle.walrus_rewrite.specs.declared.error.RewriteError.{RewriteError}
 use Rattle.walrus_rewrite.specs.declared.error.RewriteError.TheVariants.{Parse, Walk, Emit}

@@ -18,14 +18,14 @@ use Rattle.wasm_body.specs.LocalNumbers.{Local, ids_of, AreDeclared, declared, u
 use Rattle.wasm_body.specs.Pairs.{Pair, tree_pairs}
 use Rattle.wasm_body.specs.TreeOfFunction.{HasTree, fault_of_walk}
 use Rattle.walrus_maps.specs.declared.ids_to_indices.IdsToIndices.{IdsToIndices}
-use Rattle.walrus_emitter.specs.EmittedLocals.{Declares, HasUnknown, IsUndeclared}
+use Rattle.walrus_numbering.specs.EmittedLocals.{Declares, HasUnknown, IsUndeclared}
 use Rattle.walrus_body.specs.Emitting.{Written}
 use Rattle.walrus_body.specs.FunctionParts.{FunctionParts}
 use Rattle.walrus_body.specs.LocalFunctions.{first_slot, HasEntry}
 use Rattle.walrus_facts.specs.Sizes.{IsTooLarge}
 use Rattle.walrus_body.specs.EmittedInstructions.{LentPairs, Left, IsUnemitted}
 use Rattle.walrus_emitter.specs.TreeWriting.Trees as trees
-use Rattle.walrus_emitter.specs.TreeWriting.Operators.{numbers_by}
+use Rattle.walrus_numbering.specs.NumberMaps.{numbers_by}
 use Rattle.walrus_rewrite.specs.declared.error.RewriteError.{RewriteError}
 use Rattle.walrus_rewrite.specs.declared.error.RewriteError.TheVariants.{Parse, Walk, Emit}
 

@@ -10,7 +10,7 @@ ghost use Rattle.walrus_parser.specs.Bodies.{body_input, body_setting, body_oper
 ghost use Rattle.walrus_parser.specs.Locating.{MayAsk};
 ghost use Rattle.walrus_parser.specs.Settings.{BothOrNone};
 ghost use Rattle.walrus_body.specs.EmittedInstructions.{KeepsPairs};
-ghost use Rattle.walrus_emitter.specs.TreeWriting.Operators.{numbers_by};
+ghost use Rattle.walrus_numbering.specs.NumberMaps.{numbers_by};
 ghost use Rattle.walrus_rewrite.specs.declared.error.RewriteError.TheVariants.{Parse};
 ghost use Rattle.walrus_rewrite.specs.Errors.{WantsMemory};
 ghost use Rattle.walrus_rewrite.specs.RawBodies.{given, AppendsBytes, AppendsBoth, IsUnappended, IsUnfinished};

@@ -30,7 +30,7 @@ use Rattle.wasm_body.proofs.Bytes.LawfulTyped.{NamedSomewhere, named_somewhere}
 use Rattle.wasm_body.proofs.Bytes.NumberedBodies.{HasNumbers, HasText, translated, body_bytes_ok}
 use Rattle.wasm_body.proofs.Bytes.OtherLocals.{IsOfLocal, Has, named_locals, normal_has, same_block, same_bytes_at}
 use Rattle.wasm_body.proofs.Structure.Along.{AllMarked, each_of, each_reshown}
-use Rattle.walrus_emitter.specs.EmittedLocals.{HasUnknown}
+use Rattle.walrus_numbering.specs.EmittedLocals.{HasUnknown}
 use Rattle.walrus_rewrite.specs.RawBodies.{HasNoRawBody, unknown, undeclared, unwritten}
 use Rattle.walrus_run.specs.Demo.{demo_args, demo_locals, demo_environment, demo_numbers}
 use Rattle.walrus_run.proofs.DemoNumbers.{within, some_of, locals_are, has_indices, has_blocks}

@@ -18,7 +18,7 @@ use Rattle.walrus_ir.specs.Results.{◌>>=◌, unless, with_fault, some_or}
 use Rattle.walrus_maps.specs.IndexMaps.{ids_in, locals_in, with_locals, numbers_in, with_numbers, numbered}
 use Rattle.walrus_maps.specs.Numbering.{pushed}
 use Rattle.walrus_maps.proofs.NumberingLemmas.{get-numbered}
-use Rattle.walrus_emitter.specs.TreeWriting.Operators.{fitting, numbers_by}
+use Rattle.walrus_numbering.specs.NumberMaps.{fitting, numbers_by}
 use Rattle.walrus_run.specs.Demo.{demo_types, demo_indices, demo_numbers}
 
 -- what was put into a map is in it
@@ -86,7 +86,7 @@ space_numbered m h Elements = ap (λ e. in_turn e 1) (h Elements)
 space_numbered m h Data = ap (λ e. insert e 0 0) (h Data) ∙ ap (λ n. insert empty 0 n) (sym (len-empty nat_cmp ℕ))
 space_numbered m h Tags = ap (λ e. in_turn e 2) (h Tags)
 
--- what is given for an id that has this number in its space
+-- the result for an id that has this number in its space
 abbrev given_as : Space → Option ℕ → Result ℕ EmitError
 given_as space o = with_fault Index (some_or o (Unnumbered space) >>= fitting (Unnumbered space))
 

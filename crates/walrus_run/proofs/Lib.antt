@@ -8,6 +8,3 @@ mod RewritingLemmas
 mod NamesAnywhere
 mod Reading
 mod ReadBodies
--- the trace machine: what is ahead of a place; labels, exceptions and steps
-mod Tables
-mod Tracing

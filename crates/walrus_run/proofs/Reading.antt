@@ -11,9 +11,9 @@ use Rattle.wasm_body.specs.declared.error.ParseError.TheVariants.{Memory}
 use Rattle.wasm_body.specs.Translation.{translate}
 use Rattle.wasm_body.specs.Naming.{Environment, NamedOperation, Occurrence}
 use Rattle.wasm_body.specs.Parsing.Accepted.{placed}
-use Rattle.walrus_parser.specs.BodyParsers.{GivesOrMemory}
-use Rattle.walrus_run.specs.declared.named_op.NamedOp.{NamedOp}
-use Rattle.walrus_run.specs.NamedOperators.{named_operation}
+use Rattle.walrus_instructions.specs.Placed.{GivesOrMemory}
+use Rattle.walrus_machine.specs.declared.named_op.NamedOp.{NamedOp}
+use Rattle.walrus_machine.specs.NamedOperators.{named_operation}
 use Rattle.walrus_run.specs.NamedBodies.{BodyNames}
 use Rattle.walrus_run.specs.Namers.{anywhere, HasName, AreLeft, with_next}
 

@@ -38,7 +38,7 @@ use Rattle.walrus_body.specs.LocalFunctions.{first_slot, HasEntry}
 use Rattle.walrus_parser.specs.Bodies.{ParseInput, input_of, setting_with, IsFunction, AcceptsBody}
 use Rattle.walrus_parser.specs.Settings.{BothOrNone}
 use Rattle.walrus_facts.specs.Sizes.{IsTooLarge}
-use Rattle.walrus_emitter.specs.TreeWriting.Operators.{numbers_by}
+use Rattle.walrus_numbering.specs.NumberMaps.{numbers_by}
 use Rattle.walrus_facts.proofs.LocalsOfTrees.{count_of_tree}
 use Rattle.walrus_rewrite.specs.declared.error.RewriteError.{RewriteError}
 use Rattle.walrus_rewrite.specs.declared.error.RewriteError.TheVariants.{Parse}

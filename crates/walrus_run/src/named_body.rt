@@ -8,16 +8,16 @@ ghost use Rattle.wasm_body.specs.Naming.{Occurrence};
 ghost use Rattle.wasm_body.specs.Parsing.Accepted.{Accepted, FirstFault};
 ghost use Rattle.walrus_parser.specs.Bodies.{body_operators};
 ghost use Rattle.walrus_parser.specs.Settings.{operators_of};
-ghost use Rattle.walrus_run.specs.NamedOperators.{named_operation};
+ghost use Rattle.walrus_machine.specs.NamedOperators.{named_operation};
 ghost use Rattle.walrus_run.specs.NamedBodies.{names_of, reading};
 ghost use Rattle.walrus_run.specs.Namers.{env_of, AreLeft, with_next};
 
-use crate::named_op::NamedOp;
 use crate::naming::Namer;
 use std::alloc::Global;
 use std::marker::Model;
 use walrus_body::{AcceptAll, FunctionBody, IndicesToIds, LocalFunction, ParseError, ParseFailure};
 use walrus_ir::{FunctionId, InstrLocId, Module, TypeId};
+use walrus_machine::NamedOp;
 use wasm_ops::Reader;
 
 /// The operators of an accepted body with the names that its module gives them, and the place of
@@ -30,7 +30,7 @@ pub struct NamedBody {
 
 impl Model for NamedBody {
     ghost use Rattle.std.specs.Prelude.{◌≡◌, length, map};
-    ghost use Rattle.walrus_run.specs.NamedOperators.{named_operation};
+    ghost use Rattle.walrus_machine.specs.NamedOperators.{named_operation};
     ghost use Rattle.walrus_run.specs.NamedBodies.{BodyNames};
 
     ghost Value = { BodyNames };

@@ -10,26 +10,30 @@ ghost use Rattle.wasm_operators.specs.ReferenceOperations.{cast_of};
 ghost use Rattle.wasm_body.specs.declared.error.ParseError.{ParseError as ParseFault};
 ghost use Rattle.wasm_body.specs.Naming.{name_block};
 ghost use Rattle.wasm_body.specs.Translation.{translate, translate_access, translate_cast, translate_clause, translate_immediate, translate_immediates, translate_tag};
-ghost use Rattle.walrus_parser.specs.BodyParsers.{GivesOrMemory};
-ghost use Rattle.walrus_run.specs.NamedOperators.{named_index, named_access, named_block, named_clause, named_cast, named_immediates, named_operation};
+ghost use Rattle.walrus_instructions.specs.Placed.{GivesOrMemory};
+ghost use Rattle.walrus_machine.specs.NamedOperators.{named_index, named_access, named_block, named_clause, named_cast, named_immediates, named_operation};
 ghost use Rattle.walrus_run.specs.Namers.{env_of, anywhere};
 
-use crate::named_op::{
-    NamedBlockType, NamedCast, NamedCatch, NamedImmediates, NamedIndex, NamedMemArg, NamedOp,
-};
 use std::alloc::Global;
 use walrus_body::{IndicesToIds, ParseError, heap_type_of, value_type};
 use walrus_ir::{FunctionId, Module, TagId, TypeId, ValType};
+use walrus_machine::{
+    NamedBlockType, NamedCast, NamedCatch, NamedImmediates, NamedIndex, NamedMemArg, NamedOp,
+};
 use wasm_ops::{BlockType, BrTable, CatchList, Immediates, Operator, RawCast, RawMemArg, Space};
 
-/// What operators of a function's body are named with: the function, its type, and the old indices
-/// and the types of its module.
+/// What is needed to name the operators of a function's body.
 #[derive(Clone, Copy)]
 pub(crate) struct Namer<'a> {
+    /// The allocator of the names.
     pub alloc: Global,
+    /// The module, with its types and tags.
     pub module: &'a Module,
+    /// The ids of its old indices.
     pub indices: &'a IndicesToIds,
+    /// The id of the function, whose locals have their own old indices.
     pub function: FunctionId,
+    /// The id of the function's type.
     pub ty: TypeId,
 }
 

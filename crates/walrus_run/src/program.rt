@@ -1,7 +1,7 @@
-//! The program `wbody`, with its words and two writers as arguments.
+//! The program `wbody`, with its arguments and two writers as parameters.
 
 use crate::demo;
-use crate::machine::execute;
+use crate::execution::execute;
 use crate::named_body::NamedBody;
 use crate::names::rewrite_name;
 use crate::rewriting::rewrite_demo;
@@ -109,7 +109,7 @@ fn traced(
     Ok(run_text(alloc, &body, &bytes, &run)?)
 }
 
-/// The lines that these words ask for, without the last line end.
+/// The output for these arguments, without the last line end.
 fn answer(alloc: Global, words: &[String]) -> Result<String, Stop> {
     match words {
         [command, body] if command.as_str() == "rewrite" => rewritten(alloc, body.as_str()),
@@ -123,15 +123,15 @@ fn answer(alloc: Global, words: &[String]) -> Result<String, Stop> {
     }
 }
 
-/// Runs the program with these words, which don't include its own name, and returns its status.
+/// Runs the program with these arguments, which don't include its own name, and returns its status.
 ///
 /// `rewrite HEX` prints the operators that are written for the body that HEX spells, in lower case,
 /// and a line end to `out`; the status is 0. `trace TURNS OUTCOMES HEX` prints the run of the body:
 /// a line for each event, and then how it ended. The line of an event has the place of the operator
 /// and its bytes; or the place of a construct's opener, `taken`, and the number of the clause that
 /// caught an exception. If the body is refused, `refused: ` with the fault's name and its place is
-/// printed to `err`, and the status is 1. For any other words the usage is printed to `err`, and
-/// the status is 2. If a write fails, the status is 1.
+/// printed to `err`, and the status is 1. For any other arguments the usage is printed to `err`,
+/// and the status is 2. If a write fails, the status is 1.
 ///
 /// TURNS is a decimal number. OUTCOMES is `-` for none, or items with commas between them: `g` goes
 /// on, `t` traps, `1` and `0` say whether a branch is taken or a condition holds, `e` with a number

@@ -6,7 +6,7 @@ ghost use Rattle.wasm_body.specs.Naming.{Occurrence};
 ghost use Rattle.wasm_body.specs.NormalForm.{body_tree};
 ghost use Rattle.wasm_body.specs.Parsing.Accepted.{Accepted, FirstFault};
 ghost use Rattle.walrus_parser.specs.Bodies.{IsFunction};
-ghost use Rattle.walrus_emitter.specs.TreeWriting.Operators.{numbers_by};
+ghost use Rattle.walrus_numbering.specs.NumberMaps.{numbers_by};
 ghost use Rattle.walrus_rewrite.specs.declared.error.RewriteError.TheVariants.{Parse};
 ghost use Rattle.walrus_run.specs.Demo.{demo, demo_module, demo_types, demo_indices, demo_args, demo_environment, demo_numbers};
 ghost use Rattle.walrus_run.specs.Rewriting.{IsNormalBytes, IsRewritten, IsParsed, IsFaulty};

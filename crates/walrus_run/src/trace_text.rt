@@ -1,10 +1,10 @@
 //! The text of a run.
 
-use crate::machine::{Ending, Event, Run};
 use crate::named_body::NamedBody;
 use std::alloc::{AllocError, Global};
 use std::collections::BTreeSet;
 use walrus_ir::TagId;
+use walrus_machine::{Ending, Event, Run};
 
 /// The bytes of the operator with this number, in a body that begins at place 0.
 fn operator_bytes<'a>(body: &NamedBody, bytes: &'a [u8], i: usize) -> &'a [u8] {

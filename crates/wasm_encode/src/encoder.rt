@@ -1,4 +1,4 @@
-//! The bytes of a function's body, as they are written.
+//! The bytes of a function's body that is written.
 
 ghost use Rattle.std.specs.Prelude.{◌≡◌, ◌++◌, ◌≤◌, OnOk, take, length};
 ghost use Rattle.std.specs.List.{flat_map};
@@ -12,7 +12,7 @@ use std::alloc::{AllocError, Global};
 use std::marker::Model;
 use wasm_operators::RawValType;
 
-/// Appends the declaration of so many locals of a type.
+/// Appends the declaration of a number of locals of one type.
 #[tactic(auto, using(crate::proofs::Appending::appending))]
 fn write_declaration(out: &mut Vec<u8>, count: u32, ty: RawValType) -> Result<(), AllocError>
     ensures ok { OnOk result (out.new.items ≡ out.old.items ++ short_declaration (count, ty)) }
@@ -35,8 +35,8 @@ fn write_declarations(out: &mut Vec<u8>, locals: &[(u32, RawValType)]) -> Result
     Ok(())
 }
 
-/// The bytes of a function's body: its declarations of locals, and the operators written so far. A
-/// contract sees the list of the bytes.
+/// The bytes of a function's body: its declarations of locals, and the operators written so far. In
+/// a contract, it is the list of the bytes.
 #[derive(Drop)]
 pub struct FunctionEncoder {
     bytes: Vec<u8>,
@@ -57,8 +57,12 @@ impl FunctionEncoder {
     ghost use Rattle.wasm_encode.specs.Declarations.{declarations};
     ghost use Rattle.wasm_encode.specs.Writable.{IsWritable};
 
-    /// An encoder that holds the declarations of these locals: how many pairs there are, and each
-    /// pair of a count and a type.
+    /// An encoder that contains the declarations of these locals (WebAssembly core specification
+    /// 3.0, binary format, code section): the number of pairs, and each pair of a count and a type.
+    ///
+    /// # Errors
+    ///
+    /// Out of memory.
     pub fn new(alloc: Global, locals: &[(u32, RawValType)]) -> Result<Self, AllocError>
         requires { length locals.now < 2 ^ 32 }
         ensures { IfOk result (λ e. e ≡ declarations locals.now) }
@@ -69,7 +73,7 @@ impl FunctionEncoder {
         Ok(FunctionEncoder { bytes })
     }
 
-    /// How many bytes there are. They are in memory, and so fewer than 2^63.
+    /// The number of bytes. They are in memory, so there are fewer than 2^63.
     pub fn byte_len(&self) -> usize
         ensures len { result ≡ length self.now }
         ensures fits { result < 2 ^ 63 }
@@ -77,8 +81,12 @@ impl FunctionEncoder {
         self.bytes.len()
     }
 
-    /// Appends the shortest spelling of an operator. It asks that the exponent of a memory argument
-    /// is at most 31. Where memory runs out the encoder is as before.
+    /// Appends the shortest spelling of an operator. Requires that the exponent of the alignment in
+    /// a memory argument is at most 31.
+    ///
+    /// # Errors
+    ///
+    /// Out of memory; the encoder is unchanged.
     pub fn instruction(&mut self, op: &OutOp<'_>) -> Result<(), AllocError>
         requires { IsWritable (meaning op.now) }
         ensures ok { OnOk result (self.new ≡ self.old ++ short (meaning op.now)) }
@@ -87,7 +95,11 @@ impl FunctionEncoder {
         write_op(op, &mut self.bytes)
     }
 
-    /// Appends the bytes as they are. Where memory runs out the encoder is as before.
+    /// Appends bytes without a change.
+    ///
+    /// # Errors
+    ///
+    /// Out of memory; the encoder is unchanged.
     pub fn raw(&mut self, bytes: &[u8]) -> Result<(), AllocError>
         ensures ok { OnOk result (self.new ≡ self.old ++ bytes.now) }
         ensures err { OnErr result (self.new ≡ self.old) }
@@ -95,14 +107,14 @@ impl FunctionEncoder {
         self.bytes.extend_from_slice(bytes)
     }
 
-    /// The bytes.
+    /// The bytes: declarations and operators, without the size of the body before them.
     pub fn bytes(&self) -> &[u8]
         ensures { result.now ≡ self.now }
     {
         self.bytes.as_slice()
     }
 
-    /// The bytes: declarations and operators, with no size before them.
+    /// The same bytes as `bytes`, which the encoder gives away.
     pub fn into_raw_body(self) -> Vec<u8>
         ensures { result.items ≡ self }
     {

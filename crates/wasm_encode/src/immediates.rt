@@ -1,4 +1,4 @@
-//! What follows an opcode, and how it is written.
+//! Writing the immediates that follow an opcode.
 
 ghost use Rattle.std.specs.Prelude.{◌≡◌, ◌++◌, ◌∷◌, OnOk, take, length};
 ghost use Rattle.wasm_operators.specs.AccessOperations.{access_of};
@@ -60,7 +60,7 @@ fn cast_flags(from_nullable: bool, to_nullable: bool) -> u8
     }
 }
 
-/// Appends what follows the opcode of a branch on a cast.
+/// Appends the immediates of a branch on a cast.
 #[tactic(auto, using(crate::proofs::Appending::appending), unfolding(wasm_operators::specs::Shortest::short_cast))]
 fn write_cast(out: &mut Vec<u8>, cast: RawCast) -> Result<(), AllocError>
     ensures ok { OnOk result (out.new.items ≡ out.old.items ++ short_cast (cast_of cast)) }
@@ -132,7 +132,7 @@ fn write_clauses(out: &mut Vec<u8>, clauses: &[RawCatch]) -> Result<(), AllocErr
     Ok(())
 }
 
-/// Appends what follows an opcode.
+/// Appends the immediates that follow an opcode.
 #[inline(always)]
 #[tactic(auto, using(crate::proofs::Appending::appending))]
 pub(crate) fn write_immediates(

@@ -143,14 +143,14 @@ fn law_fit(immediates: OutImmediates<'_>)
     }
 }
 
-/// What follows an opcode.
+/// The immediates that follow an opcode.
 macro_rules! behind {
     (() $opcode:expr, $immediates:expr) => {
         $immediates
     };
 }
 
-/// What follows the opcode of an operator.
+/// The immediates that follow the opcode of an operator.
 fn behind_opcode<'a>(op: &OutOp<'a>) -> OutImmediates<'a>
     ensures { immediates_of result ≡ (meaning op.now).immediates }
 {
@@ -174,8 +174,8 @@ fn law_numbers(op: &OutOp<'_>)
 }
 
 /// If the lists of an operator have fewer than 2^32 items and the exponent of its alignment is
-/// below 32, its shortest spelling is one of its spellings. So reading the written bytes gives the
-/// operator back.
+/// below 32, its shortest spelling is one of its spellings. So the operator is read back from the
+/// written bytes.
 pub fn law_written(op: &OutOp<'_>)
     requires { AreSpeakable (meaning op.now).immediates }
     ensures { Spells (meaning op.now) (short (meaning op.now)) }

@@ -37,8 +37,8 @@ fn write_unsigned(out: &mut Vec<u8>, more: u32, n: u64) -> Result<(), AllocError
 ///
 /// # Errors
 ///
-/// `AllocError` if memory runs out. The bytes that were in `out` before are unchanged, and some
-/// bytes of the number may follow them.
+/// Out of memory. The bytes that were in `out` before are unchanged, and some bytes of the number
+/// may follow them.
 #[inline(always)]
 #[tactic(auto, unfolding(wasm_operators::specs::Shortest::short_unsigned))]
 pub fn write_number(out: &mut Vec<u8>, n: u64) -> Result<(), AllocError>
@@ -51,7 +51,7 @@ pub fn write_number(out: &mut Vec<u8>, n: u64) -> Result<(), AllocError>
     write_unsigned(out, 9, n)
 }
 
-/// How far a negative number is below -1.
+/// The distance of a negative number from -1.
 fn flip(z: i64) -> u64
     requires { z <ℤ pos 0 }
     ensures flipped { z ≡ negsuc result }
@@ -60,7 +60,7 @@ fn flip(z: i64) -> u64
     (-(z + 1)) as u64
 }
 
-/// The number that is this far below -1.
+/// The number at this distance below -1.
 fn below(n: u64) -> i64
     requires { n < 2 ^ 63 }
     ensures { result ≡ negsuc n }
@@ -68,7 +68,7 @@ fn below(n: u64) -> i64
     -(n as i64) - 1
 }
 
-/// The low seven bits of a number, and the number that the other bits make.
+/// The low seven bits of a number, and the number of the other bits.
 fn parted(z: i64) -> (u8, i64)
     ensures low { result.0 ≡ low_bits z }
     ensures bits { result.0 < 128 }

@@ -30,7 +30,7 @@ fn write_opcode(out: &mut Vec<u8>, opcode: Opcode) -> Result<(), AllocError>
     }
 }
 
-/// Appends an opcode, and what follows it.
+/// Appends an opcode, and the immediates that follow it.
 #[inline(always)]
 #[tactic(auto, using(crate::proofs::Appending::appending))]
 fn write_parts(
@@ -46,14 +46,14 @@ fn write_parts(
     write_immediates(out, immediates)
 }
 
-/// Appends an opcode, and what follows it.
+/// Appends an opcode, and the immediates that follow it.
 macro_rules! written {
     (($out:ident) $opcode:expr, $immediates:expr) => {
         write_parts($out, $opcode, &$immediates)
     };
 }
 
-/// Appends the bytes of an operator, or only the first of them if memory runs out.
+/// Appends the bytes of an operator. If memory runs out, only some of the first bytes are appended.
 #[inline(always)]
 #[tactic(auto, using(crate::proofs::Appending::appending))]
 fn write_whole(out: &mut Vec<u8>, op: &OutOp<'_>) -> Result<(), AllocError>
@@ -78,7 +78,7 @@ fn write_whole(out: &mut Vec<u8>, op: &OutOp<'_>) -> Result<(), AllocError>
 ///
 /// # Errors
 ///
-/// `AllocError` if memory runs out. `out` is then unchanged.
+/// Out of memory; `out` is unchanged.
 #[inline(always)]
 pub fn write_op(op: &OutOp<'_>, out: &mut Vec<u8>) -> Result<(), AllocError>
     requires { IsWritable (meaning op.now) }

@@ -1,14 +1,16 @@
-//! Operators as they are written.
+//! Operators to be written.
 
 use std::marker::Model;
 use wasm_operators::{Immediates, Op, RawCatch};
 
-/// The labels of a `br_table`, to be written. A contract sees the labels and the default.
+/// The labels of a `br_table` to be written. In a contract, it is the list of labels and the
+/// default.
 #[derive(Clone, Debug, Drop)]
 pub struct OutTable<'a> {
-    /// The labels, as depths, which the operand selects.
+    /// The labels, as depths, that the operand selects from.
     pub targets: &'a [u32],
-    /// The label, as a depth, for every operand that is not below the number of `targets`.
+    /// The default label, as a depth: the target for every operand that is not below the number of
+    /// `targets`.
     pub default: u32,
 }
 
@@ -20,7 +22,7 @@ impl<'a> Model for OutTable<'a> {
     ghost view = { λ t. (t.targets.now, t.default) };
 }
 
-/// The clauses of a `try_table`, to be written. A contract sees the list of them.
+/// The clauses of a `try_table` to be written. In a contract, they are a list.
 #[derive(Clone, Debug, Drop)]
 pub struct OutClauses<'a> {
     /// The clauses, in order.
@@ -39,5 +41,5 @@ impl<'a> Model for OutClauses<'a> {
 /// An operator to be written. Its lists are borrowed slices.
 pub type OutOp<'a> = Op<OutTable<'a>, OutClauses<'a>>;
 
-/// What follows the opcode of an operator to be written.
+/// The immediates that follow the opcode of an operator to be written.
 pub(crate) type OutImmediates<'a> = Immediates<OutTable<'a>, OutClauses<'a>>;

@@ -39,7 +39,7 @@ pub(crate) fn write_heap_type(out: &mut Vec<u8>, heap: RawHeapType) -> Result<()
     }
 }
 
-/// Appends a reference type. A nullable reference to an abstract heap type has one byte.
+/// Appends a reference type. A nullable reference to an abstract heap type is written as one byte.
 #[tactic(auto, using(crate::proofs::Appending::appending))]
 fn write_reference(out: &mut Vec<u8>, nullable: bool, heap: RawHeapType) -> Result<(), AllocError>
     ensures ok { OnOk result (out.new.items ≡ out.old.items ++ short_reference nullable heap) }

@@ -12,13 +12,13 @@ use Rattle.wasm_module.specs.Sections.{SectionAt}
 use Rattle.wasm_module.specs.WrittenModules.{Puts, Writes, AreWritten, IsWrittenCode, count_bodies}
 use Rattle.wasm_module.proofs.WritingLemmas.{puts_then, puts_same}
 
--- ---- one more behind others
+-- ---- one more after others
 
 entries_more : (raws : List (List ℕ)) (raw : List ℕ) → entries (raws ++ raw ∷ []) ≡ entries raws ++ entry raw
 entries_more [] raw = append-nil (entry raw)
 entries_more (r ∷ raws) raw = ap (λ (x : List ℕ). entry r ++ x) (entries_more raws raw) ∙ sym (append_assoc (entry r) (entries raws) (entry raw))
 
--- these bodies stand in front of what is left
+-- these bodies come first, and then what is left
 abbrev pub StandBefore : (end : ℕ) → (text : List ℕ) → List BodyAt → (left : List ℕ) → Type 0
 StandBefore end text [] left = text ≡ left
 StandBefore end text (b ∷ bs) left =
@@ -35,7 +35,7 @@ stand_alone : (end : ℕ) (text : List ℕ) (bs : List BodyAt) (left : List ℕ)
 stand_alone end text [] left h e = h ∙ e
 stand_alone end text (b ∷ bs) left h e = (h.0, h.1, h.2, stand_alone end h.0 bs left h.3 e)
 
--- as many functions of the source have a body
+-- the number of functions with a body is that of the source
 same_bodies : (source now : ParsedModule) → Extends source now → count_bodies now ≡ count_bodies source
 same_bodies source now x = ap (λ ts. length ts.items - now.imported) x.func_types ∙ ap (λ (n : ℕ). length source.func_types.items - n) x.imported
 
@@ -56,9 +56,9 @@ module _ (writes : Writes) (source : ParsedModule) where
   same_count f (a ∷ bs) [] h = absurd h
   same_count f (a ∷ bs) (w ∷ raws) h = ap (λ (n : ℕ). suc n) (same_count (f + 1) bs raws h.1)
 
-  -- ---- so many bodies are written
+  -- ---- the first bodies are written
 
-  -- Of the text behind the number of bodies, which ends at this place, so many bodies are written behind the number.
+  -- Of the text after the number of bodies, which ends at this place, the first bodies are written after the number.
   pub record CodeSoFar (stop : ℕ) (text : List ℕ) (left : Bodies) (counter count : ℕ) (old now : Option (List ℕ)) (at end : ℕ) : Type 0 where
     pub bodies : List BodyAt
     pub stand_before : StandBefore stop text bodies left.left.rest.now

@@ -1,4 +1,4 @@
--- What reading leaves stands at the end of what was there.
+-- The bytes that a reader leaves are the last of those that it was given.
 use Rattle.std.proofs.Common.{◌≡◌, ℕ, zero, suc, Bool, List, [], ◌∷◌, ◌++◌, length, take, drop, ◌-◌, Result, Ok, Err, refl, sym, ap, ◌∙◌, append_assoc, inl, inr, arith, length-append}
 use Rattle.std.proofs.Math.Seq.{take-append_seam}
 use Rattle.walrus_ir.specs.Results.{◌>>=◌}
@@ -26,7 +26,7 @@ integer_leaves g w bytes v rest e = let t = number_takes g w bytes v rest e in (
 behind_both : (bytes first middle second rest : List ℕ) → bytes ≡ first ++ middle → middle ≡ second ++ rest → bytes ≡ (first ++ second) ++ rest
 behind_both bytes first middle second rest p q = p ∙ ap (λ (l : List ℕ). first ++ l) q ∙ sym (append_assoc first second rest)
 
--- a reader, and another behind it
+-- a reader, and another after it
 then_leaves : {A B : Type 0} (r : Reader A) (s : A → Reader B) → Leaves r → ((a : A) → Leaves (s a)) → Leaves (then_read r s)
 then_leaves {A} {B} r s p q bytes v rest e =
     let x = bind_ok (r bytes) (λ x. s x.0 x.1 >>= λ y. Ok ((x.0, y.0), y.1)) (v, rest) e in

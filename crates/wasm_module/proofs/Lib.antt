@@ -3,7 +3,7 @@ pub mod NumberLemmas
 pub mod Leaving
 pub mod LocalLemmas
 pub mod SpaceLemmas
--- what is kept of a module
+-- what doesn't change of a module
 pub mod ModuleLemmas
 pub mod RewritingLemmas
 pub mod RefusalLemmas

@@ -15,9 +15,9 @@ use Rattle.walrus_maps.specs.declared.indices_to_ids.IndicesToIds.{IndicesToIds}
 use Rattle.wasm_module.proofs.Leaving.{groups_leave, dropped}
 use Rattle.wasm_module.specs.Declarations.{group, groups, named_group, expanded, HaveLocals, HasNoLocals, most_locals, parameters_of, DeclaresGroup, HasNoGroup}
 
--- ---- one more behind others
+-- ---- one more after others
 
--- the next step of one that did not fail
+-- the next step after one that did not fail
 bind_is : {A B E : Type 0} (r : Result A E) (f : A → Result B E) (x : A) (y : Result B E) → r ≡ Ok x → f x ≡ y → (r >>= f) ≡ y
 bind_is r f x y e h = ap (λ q. q >>= f) e ∙ h
 
@@ -54,7 +54,7 @@ expanded_more : (gs : List (ℕ × ValType ℕ)) (g : ℕ × ValType ℕ) → ex
 expanded_more [] g = append-nil (replicate g.0 g.1)
 expanded_more (h ∷ gs) g = ap (λ (l : List (ValType ℕ)). replicate h.0 h.1 ++ l) (expanded_more gs g) ∙ sym (append_assoc (replicate h.0 h.1) (expanded gs) (replicate g.0 g.1))
 
--- ---- so many groups, which stand in front of these bytes, and the locals with those that they declare
+-- ---- the first groups, which these bytes follow, and the locals with those that they declare
 
 pub record DeclareSoFar (indices : IndicesToIds) (n : ℕ) (text now : List ℕ) (before types : List (ValType ℕ)) : Type 0 where
   pub declared : List (ℕ × ValType ℕ)
@@ -110,7 +110,7 @@ pub on_ok_so : {A E P Q : Type 0} (r : Result A E) → OnOk r P → (P → Q) �
 on_ok_so (Ok x) p f = f p
 on_ok_so (Err e) p f = tt
 
--- ---- the operators are what the declarations leave
+-- ---- the operators are what follows the declarations
 
 pub operators_left :
     (indices : IndicesToIds) (parameters given : List (ValType ℕ)) (all rest before bytes : List ℕ) (locals : List (ValType ℕ)) → given ≡ parameters →
@@ -120,9 +120,9 @@ operators_left indices parameters given all rest before bytes locals e have b s 
     let operators : rest ≡ drop (length before) bytes = sym (rw (b, s) (dropped all front.0 rest front.1)) in
     subst (λ (left : List ℕ). HaveLocals indices parameters all left locals) operators (subst (λ (ps : List (ValType ℕ)). HaveLocals indices ps all rest locals) e have)
 
--- ---- where no more groups are declared
+-- ---- if no more groups are declared
 
--- what stands behind some of those that are read
+-- the item that follows some of those that are read
 pub record NextRead {A : Type 0} (one : Reader A) (xs ys : List A) (behind : List ℕ) : Type 0 where
   pub item : A
   pub others : List A
@@ -168,7 +168,7 @@ many_at {A} one (suc k) (suc n) bytes xs behind ys end less h e =
           ∙ ap (λ (p : List A × List ℕ). p.0 ++ r.item ∷ r.others) before;
     }
 
--- what one of those that are mapped becomes
+-- the result for one of the items that are mapped
 pub record NextMapped {A B E : Type 0} (f : A → Result B E) (x : A) (ys zs : List B) : Type 0 where
   pub item : B
   pub others : List B
@@ -225,7 +225,7 @@ none_behind indices k n bytes text now before types count e less p is_count none
     let are = ap (λ (l : List (ℕ × ValType ℕ)). length (expanded l)) m.are in
     omega (arith, too_many, all, so_far, longer, are, is_count)
 
--- the same of a function that has this type
+-- the same for a function of this type
 pub none_of_type :
     (indices : IndicesToIds) (types : List ModuleType) (found : Option ℕ) (type : ℕ) (given : List (ValType ℕ)) (bytes : List ℕ) → found ≡ Some type →
     given ≡ parameters_of types type → HasNoLocals indices given bytes →

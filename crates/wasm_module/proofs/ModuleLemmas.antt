@@ -1,4 +1,4 @@
--- What is kept of a module while its bodies are rewritten.
+-- What doesn't change of a module while its bodies are rewritten.
 use Rattle.std.proofs.Common.{◌≡◌, ℕ, List, [], ◌∷◌, ◌++◌, Result, Ok, Err, OnOk, refl, sym, ap, ◌∙◌, append_assoc}
 use Rattle.std.proofs.lemmas.List.{append-nil}
 use Rattle.walrus_ir.specs.declared.val_type.ValType.{ValType}
@@ -8,14 +8,14 @@ use Rattle.wasm_module.specs.declared.spaces.Spaces.{Spaces}
 use Rattle.wasm_module.specs.RewrittenCode.{HasOtherLocals, Extends}
 use Rattle.wasm_module.proofs.SpaceLemmas.{others_same, others_then, others_kept}
 
--- Of two modules that agree in all but the types and the locals.
+-- Two modules with the same bytes, tags, function types and number of imported functions.
 pub record Alike (a b : ParsedModule) : Type 0 where
   pub bytes : b.bytes.now ≡ a.bytes.now
   pub tags : b.module.tags ≡ a.module.tags
   pub func_types : b.func_types ≡ a.func_types
   pub imported : b.imported ≡ a.imported
 
--- other locals are given, and no type is added
+-- the locals are replaced, and no type is added
 pub extends_locals : (a b : ParsedModule) → Alike a b → b.module.types ≡ a.module.types → HasOtherLocals a.spaces b.spaces → Extends a b
 extends_locals a b alike types others = record {
   bytes = alike.bytes;
@@ -40,7 +40,7 @@ extends_types a added types e = record {
   imported = refl;
 }
 
--- none is added
+-- no type is added
 pub extends_no_types : (a : ParsedModule) (types : List ModuleType) → types ≡ a.module.types → Extends a (record a { «module» = record a.module { types = types } })
 extends_no_types a types e =
     extends_locals a (record a { «module» = record a.module { types = types } }) (record { bytes = refl; tags = refl; func_types = refl; imported = refl }) e (others_same a.spaces)
@@ -58,7 +58,7 @@ extends_then a b c p q = record {
   imported = q.imported ∙ p.imported;
 }
 
--- nothing of this changes it
+-- a step that adds no type, and changes no index space
 pub extends_kept :
     (a b c : ParsedModule) → Extends a b → Alike b c → c.module.types ≡ b.module.types → c.spaces.indices ≡ b.spaces.indices → c.spaces.numbers ≡ b.spaces.numbers →
     Extends a c
@@ -71,7 +71,7 @@ extends_kept a b c p alike types indices numbers = record {
   imported = alike.imported ∙ p.imported;
 }
 
--- ---- where something succeeded
+-- ---- if something succeeded
 
 pub then_ok : {A E P : Type 0} (r : Result A E) → P → OnOk r P
 then_ok (Ok x) p = p

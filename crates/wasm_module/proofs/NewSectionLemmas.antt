@@ -78,7 +78,7 @@ module _ (all : List SectionAt) (r : ℕ) (s t : Sections) (o : Option (Result S
       let found = rank_found r f.0 f.1 (subst (λ (n : ℕ). r < n) (sym f.3) h) in
       sym f.3 ∙ sym found ∙ ap (λ (ss : List SectionAt). next_rank r ss) (sym f.2) ∙ p.same
 
--- where no section is left
+-- if no section is left
 nothing_left : (end : ℕ) (text : List ℕ) (left : List SectionAt) → AreSections end text left → text ≡ [] → left ≡ []
 nothing_left end text [] a e = refl
 nothing_left end text (y ∷ ys) a e = let e : [] ≡ y.id ∷ a.1.sized = sym e ∙ a.1.id_is in absurd cc
@@ -91,7 +91,7 @@ none_found all r s t o p i takes =
 
 -- ---- given contents, one after the other
 
--- So many of the given sections were looked at, and those that stand between two ranks were written.
+-- The first `i` of the given sections were looked at, and those between the two ranks were written.
 pub record NewSoFar (first second : ℕ) (gs : List Given) (i : ℕ) (old now : Option (List ℕ)) (at end : ℕ) : Type 0 where
   pub text : List ℕ
   pub puts : Puts old now at end text
@@ -110,7 +110,7 @@ pub stands_behind : (first middle second : ℕ) → first < middle → second �
 stands_behind first middle second p q = ap (λ (b : Bool). b && nat_lt middle second) (lt-ltb first middle p) ∙ le-ltb middle second q
 
 module _ (first second : ℕ) (gs : List Given) (i : ℕ) (g : Given) (within : i < length gs) (is : g ≡ get_or gs i g) where
-  -- what is written of this one and of those behind it
+  -- what is written for this section and for those after it
   step :
       (b : Bool) → stands_between first second g ≡ b →
       between first second (drop i gs) ≡ (if b then section (id_of g.kind) g.contents.items ++ between first second (drop (i + 1) gs) else between first second (drop (i + 1) gs))
@@ -148,7 +148,7 @@ all_new first second gs i old now at end p h =
     let none = ap (λ (l : List Given). p.text ++ between first second l) (drop_all i gs h) in
     puts_same old now at end p.text (between first second gs) (sym (append-nil p.text) ∙ sym none ∙ p.same) p.puts
 
--- ---- behind a section
+-- ---- after a section
 
 pub behind_other :
     (writes : Writes) (source : ParsedModule) (changes : Changes) (all : List SectionAt) (r : ℕ) → r ≢ 0 →

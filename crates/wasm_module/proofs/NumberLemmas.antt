@@ -1,4 +1,4 @@
--- Reading a number takes some bytes from the front.
+-- Reading a number takes at least one byte from the front.
 use Rattle.std.proofs.Common.{◌≡◌, ℕ, ◌+◌, ◌-◌, ◌<◌, cond, ltb, leb, List, [], ◌∷◌, ◌++◌, length, take, length-append, Option, Some, None, Result, Ok, Err, refl, sym, ap, ◌∙◌, arith, inl, inr}
 use Rattle.std.proofs.Math.Seq.{take-append_seam}
 use Rattle.walrus_ir.specs.Results.{◌>>=◌}
@@ -12,7 +12,7 @@ last_rest : {V : Type 0} (o : Option V) (bs : List ℕ) (v : V) (rest : List ℕ
 last_rest None bs v rest e = absurd cc
 last_rest {V} (Some x) bs v rest e = ap (λ (p : V × List ℕ). p.1) (ok_is (x, bs) (v, rest) e)
 
--- the bytes are some in front, and these
+-- the bytes are at least one byte, and then these
 pub record HasFront (bytes rest : List ℕ) : Type 0 where
   pub front : List ℕ
   pub is_some : 0 < length front
@@ -39,7 +39,7 @@ number_takes {V} g w (b ∷ bs) v rest e =
 pub is_shorter : (bytes rest : List ℕ) → HasFront bytes rest → length rest < length bytes
 is_shorter bytes rest h = let all = ap length h.parts ∙ length-append h.front rest in let some = h.is_some in omega arith
 
--- what stands before the last bytes of a list
+-- the bytes before the last bytes of a list
 pub before_last : (bytes front last : List ℕ) → bytes ≡ front ++ last → take (length bytes - length last) bytes ++ last ≡ bytes
 before_last bytes front last e =
     let len : length bytes - length last ≡ length front = let all = ap length e ∙ length-append front last in omega arith in

@@ -1,4 +1,4 @@
--- A body that is refused: what parsing and rewriting promise of it.
+-- A body that is refused: what the contracts of parsing and rewriting say about it.
 use Rattle.std.proofs.Common.{◌≡◌, ◌⊎◌, ℕ, List, [], Option, Some, None, Result, Ok, Err, IfErr, inl, inr, subst, ◌∙◌}
 use Rattle.std.specs.Borrow.{Bor}
 use Rattle.std.specs.Fn.{Shared}
@@ -10,7 +10,7 @@ use Rattle.wasm_body.specs.Parsing.Accepted.{Setting, Accepted, FirstFault}
 use Rattle.walrus_parser.specs.declared.body.FunctionBody.{FunctionBody}
 use Rattle.walrus_parser.specs.Bodies.{body_input, body_setting, body_operators}
 use Rattle.walrus_parser.specs.Settings.{BothOrNone}
-use Rattle.walrus_emitter.specs.TreeWriting.Operators.{numbers_by}
+use Rattle.walrus_numbering.specs.NumberMaps.{numbers_by}
 use Rattle.walrus_rewrite.specs.declared.error.RewriteError.{RewriteError}
 use Rattle.walrus_rewrite.specs.declared.error.RewriteError.TheVariants.{Parse, Walk, Emit}
 use Rattle.walrus_rewrite.specs.Errors.{WantsMemory}
@@ -53,7 +53,7 @@ refused source now function b type id args count body f e enters is_first r want
 abbrev nothing_asked : (F : Type 0) → Option (Bor F)
 nothing_asked F = None
 
--- where no location function is handed in there is none
+-- without a location function there is none
 accepted_without :
     (F : Type 0) (given : Option (ℕ → ℕ) → Setting ℕ) (bytes : List ℕ) (tree : Body Occurrence) (locations : Option (ℕ → ℕ)) → BothOrNone (nothing_asked F) locations →
     Accepted (given locations) bytes tree → Accepted (given None) bytes tree
@@ -101,7 +101,7 @@ not_rewritten F asks source now function b type id args count body start (Emit x
       )
     ]
 
--- ---- of a module that the source was before
+-- ---- in a module that extends the source
 
 fault_then : (source a now : ParsedModule) (function : ℕ) (b : BodyAt) (at : ℕ) → Extends source a → HasFaultAt a function b now at → HasFaultAt source function b now at
 fault_then source a now function b at e p = record {

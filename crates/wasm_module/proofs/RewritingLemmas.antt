@@ -1,4 +1,4 @@
--- A body that is rewritten: what `rewrite_body` promises of it.
+-- A body that is rewritten: what the contract of `rewrite_body` says about it.
 use Rattle.std.proofs.Common.{◌≡◌, ℕ, List, [], ◌++◌, slice_get, Option, None, Result, Ok, Err, OnOk, IfOk, refl, sym, ap, subst, ◌∙◌}
 use Rattle.std.specs.Borrow.{Bor}
 use Rattle.std.specs.Fn.{Shared}
@@ -8,7 +8,7 @@ use Rattle.walrus_parser.specs.declared.body.FunctionBody.{FunctionBody}
 use Rattle.walrus_body.specs.FunctionParts.{FunctionParts}
 use Rattle.walrus_parser.specs.Bodies.{AcceptsBody, body_input}
 use Rattle.walrus_body.specs.EmittedInstructions.{LentPairs, Left}
-use Rattle.walrus_emitter.specs.TreeWriting.Operators.{numbers_by}
+use Rattle.walrus_numbering.specs.NumberMaps.{numbers_by}
 use Rattle.walrus_rewrite.specs.RawBodies.{Given, given, IsRawBodyOf, AppendsBoth}
 use Rattle.walrus_rewrite.specs.RewrittenBodies.{Rewrites}
 use Rattle.wasm_module.specs.declared.parsed.ParsedModule.{ParsedModule}
@@ -121,7 +121,7 @@ parsed_ok source a now function b (Err x) e p = tt
 
 -- ---- a function that is changed
 
--- what is written where nothing stood
+-- what is written into empty lists
 pub written_alone :
     (by : Given) (f : Function) (old new : List ℕ) (old_pairs new_pairs : List Pair) → old ≡ [] → old_pairs ≡ [] → AppendsBoth by f old new old_pairs new_pairs →
     IsRawBodyOf by f new new_pairs

@@ -11,9 +11,9 @@ use Rattle.wasm_module.specs.declared.changes.Changes.{Changes}
 use Rattle.wasm_module.specs.WrittenModules.{Puts, Writes, new_behind, IsWrittenAt, AreWrittenAt, IsWrittenModule}
 use Rattle.wasm_module.proofs.WritingLemmas.{puts_then, puts_same}
 
--- ---- one more behind others
+-- ---- one more after others
 
--- these sections stand in front of what is left
+-- these sections come first, and then what is left
 abbrev pub StandBefore : (end : ℕ) → (text : List ℕ) → List SectionAt → (left : List ℕ) → Type 0
 StandBefore end text [] left = text ≡ left
 StandBefore end text (s ∷ ss) left = (behind : List ℕ) × Begins end text s behind × StandBefore end behind ss left
@@ -36,7 +36,7 @@ module _ (writes : Writes) (source : ParsedModule) (changes : Changes) (all : Li
   written_more (a ∷ ss) text s more h w =
       (h.0, h.1 ++ more, ap (λ (l : List ℕ). l ++ more) h.2 ∙ append_assoc h.0 h.1 more, h.3, written_more ss h.1 s more h.4 w)
 
--- ---- so many sections are written
+-- ---- the first sections are written
 
 -- The sections before those that are left are these.
 pub record ReadSoFar (stop : ℕ) (text : List ℕ) (left : Sections) (ss : List SectionAt) : Type 0 where
@@ -44,7 +44,7 @@ pub record ReadSoFar (stop : ℕ) (text : List ℕ) (left : Sections) (ss : List
   pub stop_is : left.left.end ≡ stop
 
 module _ (writes : Writes) (source : ParsedModule) (changes : Changes) where
-  -- Of the text behind the preamble, which ends at this place, the sections before those that are left are written.
+  -- Of the text after the preamble, which ends at this place, the sections before those that are left are written.
   pub record ModuleSoFar (stop : ℕ) (text : List ℕ) (left : Sections) (old now : Option (List ℕ)) (at end : ℕ) : Type 0 where
     pub sections : List SectionAt
     pub are_read : ReadSoFar stop text left sections

@@ -1,4 +1,4 @@
--- The locals that indices stand for, one more at a time.
+-- Indices of locals and their ids, one more at a time.
 use Rattle.std.proofs.Common.{◌≡◌, ℕ, zero, suc, ◌+◌, ◌<◌, ◌≤◌, List, [], ◌∷◌, ◌++◌, length, slice_get, unwrap_or, get_or, inl, inr, Option, Some, None, Ok, nat_lt, Bool, true, if◌then◌else◌, ◌^◌, refl, sym, ap, ◌∙◌, length-append, arith, add-one}
 use Rattle.std.proofs.Math.Nat.{eq-or-lt_of_le}
 use Rattle.std.proofs.Math.ListN.{get_or-append}
@@ -17,7 +17,7 @@ use Rattle.wasm_module.specs.declared.spaces.Spaces.{Spaces}
 use Rattle.wasm_module.specs.Declarations.{first_numbers}
 use Rattle.wasm_module.specs.RewrittenCode.{HasOtherLocals}
 
--- ---- nothing else is another
+-- ---- nothing else differs
 
 pub others_same : (a : Spaces) → HasOtherLocals a a
 others_same a = record { locals = a.indices.locals; indices = refl; numbers = refl }
@@ -73,9 +73,9 @@ local_of_list (Some l) n i e h = ap (λ (o : Option ℕ). some_or o (LocalOutOfR
 pub stands_for_itself : (m : IndicesToIds) (n i : ℕ) → locals_in m 0 ≡ first_numbers n → i < n → local_of m 0 i ≡ Ok i
 stands_for_itself m n i e h = local_of_list (get m.locals 0) n i e h
 
--- ---- where no more local is taken
+-- ---- if no more locals are added
 
--- with fewer locals than indices there are, only memory can be wanted
+-- with fewer locals than there are indices, the only error is that memory ran out
 pub wants_memory :
     (m : IndicesToIds) (list n count : ℕ) (e : IndexError) → list ≡ 0 → locals_in m 0 ≡ first_numbers n → n < count → count ≤ 2 ^ 32 →
     e ≡ (if nat_lt (length (locals_in m list)) (2 ^ 32) then Memory else TooMany) → e ≡ Memory

@@ -2,6 +2,7 @@
 use Rattle.std.proofs.Common.{◌≡◌, ℕ, ◌+◌, List, [], ◌∷◌, ◌++◌, length, Option, Some, None, Result, Ok, Err, IfOk, refl, sym, ap, subst, ◌∙◌, append_assoc, length-append, arith}
 use Rattle.std.proofs.lemmas.List.{append-nil}
 use Rattle.std.specs.Io.KnownBytes.{Appends}
+use Rattle.wasm_module.specs.Sections.{section}
 use Rattle.wasm_module.specs.WrittenModules.{Puts}
 
 -- ---- to a writer
@@ -30,7 +31,12 @@ puts_then a b c at middle end first second p q = record {
 pub puts_same : (a b : Option (List ℕ)) (at end : ℕ) (bytes others : List ℕ) → bytes ≡ others → Puts a b at end bytes → Puts a b at end others
 puts_same a b at end bytes others e p = subst (λ (l : List ℕ). Puts a b at end l) e p
 
--- ---- of an answer
+-- a section of these contents
+pub appends_section :
+    (a b : Option (List ℕ)) (at end id : ℕ) (contents others : List ℕ) → contents ≡ others → Puts a b at end (section id contents) → Appends a b (section id others)
+appends_section a b at end id contents others e p = subst (λ (l : List ℕ). Appends a b (section id l)) e p.appends
+
+-- ---- of a result
 
 pub if_so : {A E : Type 0} {P Q : A → Type 0} (r : Result A E) → IfOk r P → ((a : A) → P a → Q a) → IfOk r Q
 if_so (Ok a) p f = f a p

@@ -1,5 +1,5 @@
 -- The code section (WebAssembly core specification 3.0, binary format, code section): the number of bodies, and each body
--- behind its size.
+-- after its size.
 use Rattle.std.specs.Prelude.{◌≡◌, ◌+◌, ◌-◌, ℕ, List, [], ◌∷◌, ◌++◌, length, Option, Some, None, Ok}
 use Rattle.wasm_numbers.specs.Numbers.{u32}
 use Rattle.wasm_operators.specs.Shortest.{short_number}
@@ -8,7 +8,7 @@ use Rattle.wasm_module.specs.declared.code.Body.{Body}
 
 -- ---- as it is written: with the shortest spelling of each size
 
--- an entry: a body behind its size
+-- an entry: the size of a body, and the body
 abbrev pub entry : List ℕ → List ℕ
 entry raw = short_number (length raw) ++ raw
 
@@ -27,18 +27,18 @@ pub record BodyAt : Type 0 where
   pub start : ℕ
   pub bytes : List ℕ
 
--- The text, which ends at this place of the file, is these bodies, each behind its size.
+-- The text, which ends at this place of the file, is these bodies, each after its size.
 abbrev pub AreBodies : (end : ℕ) → (text : List ℕ) → List BodyAt → Type 0
 AreBodies end text [] = text ≡ []
 AreBodies end text (b ∷ bs) =
     (behind : List ℕ) × (u32 text ≡ Ok (length b.bytes, b.bytes ++ behind)) × (b.start ≡ end - length (b.bytes ++ behind))
     × AreBodies end behind bs
 
--- The contents of a section, which end at this place of the file, are these bodies behind their number.
+-- The contents of a section, which end at this place of the file, are the number of these bodies, and the bodies.
 abbrev pub IsCode : (end : ℕ) → (contents : List ℕ) → List BodyAt → Type 0
 IsCode end contents bodies = (text : List ℕ) × (u32 contents ≡ Ok (length bodies, text)) × AreBodies end text bodies
 
--- ---- as the code holds it
+-- ---- in the words of the code
 
 abbrev pub bytes_of : Body → List ℕ
 bytes_of b = b.input.rest.now

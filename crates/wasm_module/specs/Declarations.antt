@@ -14,7 +14,7 @@ use Rattle.walrus_context.specs.Placing.{ids_at}
 
 -- ---- as they are spelt
 
--- so many locals of a type
+-- a group: a number of locals, and their type
 abbrev pub group : Reader (ℕ × ValType ℕ)
 group = then_read u32 (λ count. value_type)
 
@@ -28,7 +28,7 @@ groups bytes = u32 bytes >>= λ n. many group n.0 n.1
 abbrev pub named_group : IndicesToIds → ℕ × ValType ℕ → Result (ℕ × ValType ℕ) ParseError
 named_group indices g = translate_value (ids_at indices) g.1 >>= λ type. Ok (g.0, type)
 
--- each local by itself
+-- one type for each local
 abbrev pub expanded : List (ℕ × ValType ℕ) → List (ValType ℕ)
 expanded [] = []
 expanded (g ∷ gs) = replicate g.0 g.1 ++ expanded gs
@@ -39,12 +39,12 @@ abbrev pub parameters_in : Option Signature → List (ValType ℕ)
 parameters_in None = []
 parameters_in (Some s) = s.parameters
 
--- what a function of this type takes
+-- the parameters of a function of this type
 abbrev pub parameters_of : List ModuleType → (type : ℕ) → List (ValType ℕ)
 parameters_of types type = parameters_in (signature_of types type)
 
--- The bytes of a body begin with declarations, behind which these operators stand; and these are the types of the
--- function's locals: of those that it takes, and of those that are declared.
+-- The bytes of a body begin with declarations, and these operators follow. The types of the function's locals are those of
+-- its parameters, and then those of the declarations.
 pub record HaveLocals (indices : IndicesToIds) (parameters : List (ValType ℕ)) (bytes operators : List ℕ) (locals : List (ValType ℕ)) : Type 0 where
   pub declared : List (ℕ × ValType ℕ)
   pub are_read : groups bytes ≡ Ok (declared, operators)
@@ -52,11 +52,11 @@ pub record HaveLocals (indices : IndicesToIds) (parameters : List (ValType ℕ))
   pub are_named : each (named_group indices) declared ≡ Ok named
   pub locals_are : locals ≡ parameters ++ expanded named
 
--- how many locals a function has at most, what it takes among them, as engines have it
+-- how many locals a function has at most, parameters included: the limit that engines have
 abbrev pub most_locals : ℕ
 most_locals = 50000
 
--- No declarations stand in front; or with them the function has too many locals.
+-- The bytes don't begin with declarations; or with them the function has too many locals.
 abbrev pub HasNoLocals : IndicesToIds → (parameters : List (ValType ℕ)) → (bytes : List ℕ) → Type 0
 HasNoLocals indices parameters bytes = (operators : List ℕ) (locals : List (ValType ℕ)) → HaveLocals indices parameters bytes operators locals → most_locals < length locals
 
@@ -67,7 +67,7 @@ first_numbers (suc n) = first_numbers n ++ n ∷ []
 
 -- ---- group by group
 
--- A group stands in front: so many locals of its type are added.
+-- The bytes begin with a group: its number of locals of its type is added.
 pub record DeclaresGroup (indices : IndicesToIds) (bytes behind : List ℕ) (old new : List (ValType ℕ)) : Type 0 where
   pub declared : ℕ × ValType ℕ
   pub is_read : group bytes ≡ Ok (declared, behind)
@@ -75,7 +75,7 @@ pub record DeclaresGroup (indices : IndicesToIds) (bytes behind : List ℕ) (old
   pub is_named : named_group indices declared ≡ Ok named
   pub new_are : new ≡ old ++ replicate named.0 named.1
 
--- No group stands in front; or with it there are too many locals behind so many.
+-- The bytes don't begin with a group; or with it, after this number of locals, there are too many.
 abbrev pub HasNoGroup : IndicesToIds → (bytes : List ℕ) → (count : ℕ) → Type 0
 HasNoGroup indices bytes count =
     (behind : List ℕ) (declared named : ℕ × ValType ℕ) → group bytes ≡ Ok (declared, behind) → named_group indices declared ≡ Ok named → most_locals < count + named.0

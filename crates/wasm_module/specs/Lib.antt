@@ -1,6 +1,6 @@
 -- what the validator of locals means
 pub mod LocalsBelow
--- where a body stands, and what its declarations say
+-- where the operators of a body are, and what its declarations mean
 pub mod Bodies
 pub mod Declarations
 -- the code section and its bodies, as they are read and as they are written

@@ -1,5 +1,5 @@
--- Bodies that are refused: for want of memory, or for the first fault of the body (WebAssembly core specification 3.0, binary
--- format, code section).
+-- Bodies that are refused: because memory ran out, or for the first fault of the body (WebAssembly core specification 3.0,
+-- binary format, code section).
 use Rattle.std.specs.Prelude.{◌≡◌, ◌⊎◌, ◌<◌, ℕ, List, [], length, slice_get, Some, None}
 use Rattle.walrus_ir.specs.declared.val_type.ValType.{ValType}
 use Rattle.wasm_body.specs.SourceTree.{Body}
@@ -11,7 +11,7 @@ use Rattle.wasm_body.specs.Parsing.Accepted.{Accepted, FirstFault}
 use Rattle.walrus_parser.specs.declared.body.FunctionBody.{FunctionBody}
 use Rattle.walrus_maps.specs.Environments.{environment_of}
 use Rattle.walrus_parser.specs.Bodies.{body_setting, body_operators}
-use Rattle.walrus_emitter.specs.TreeWriting.Operators.{numbers_by}
+use Rattle.walrus_numbering.specs.NumberMaps.{numbers_by}
 use Rattle.walrus_rewrite.specs.declared.error.RewriteError.{RewriteError}
 use Rattle.walrus_rewrite.specs.declared.error.RewriteError.TheVariants.{Parse, Walk, Emit}
 use Rattle.walrus_rewrite.specs.RawBodies.{HasNoParsedBody}
@@ -23,13 +23,13 @@ use Rattle.wasm_module.specs.Declarations.{parameters_of, HaveLocals, most_local
 use Rattle.wasm_module.specs.LocalsBelow.{locals_below}
 use Rattle.wasm_module.specs.RewrittenCode.{Enters}
 
--- where a fault stands in the file, of a body that begins at this place
+-- the place in the file of a fault of a body that begins at this place
 abbrev pub place_in_file : ℕ → RewriteError → ℕ
 place_in_file start (Parse f) = f.at
 place_in_file start (Walk w) = start
 place_in_file start (Emit e) = start
 
--- The function has no type, or no declarations stand in front, or with them it has too many locals.
+-- The function has no type, or its body doesn't begin with declarations, or with them it has too many locals.
 abbrev pub HasNoFront : ParsedModule → (function : ℕ) → (bytes : List ℕ) → Type 0
 HasNoFront now function bytes =
     (type : ℕ) (operators : List ℕ) (locals : List (ValType ℕ)) → slice_get now.func_types.items function ≡ Some type →
@@ -50,7 +50,7 @@ pub record HasFaultAt (source : ParsedModule) (function : ℕ) (b : BodyAt) (now
 abbrev pub IsRefused : ParsedModule → ℕ → BodyAt → ParsedModule → ModuleError → Type 0
 IsRefused source function b now e = (e.fault ≡ Memory) ⊎ (HasNoFront now function b.bytes ⊎ HasFaultAt source function b now e.at)
 
--- The operators are accepted, and what is written of them has no bytes, for a reason for which a parsed body has none.
+-- The operators are accepted, but what is written for them has no bytes, for a reason for which a parsed body has none.
 pub record HasNoBytes (source : ParsedModule) (function : ℕ) (b : BodyAt) (now : ParsedModule) : Type 0 where
   pub type : ℕ
   pub args : List ℕ

@@ -1,4 +1,4 @@
--- Bodies that are rewritten: each as `walrus_run::rewrite_body` writes the one that stood there (WebAssembly core
+-- Bodies that are rewritten: each as `walrus_rewrite::rewrite_body` writes the body of the source (WebAssembly core
 -- specification 3.0, binary format, code section).
 use Rattle.std.specs.Prelude.{◌≡◌, ◌+◌, ◌-◌, ◌<◌, ℕ, List, [], ◌∷◌, ◌++◌, length, slice_get, Some, None, Ok}
 use Rattle.std.specs.Ordering.{nat_cmp}
@@ -14,7 +14,7 @@ use Rattle.walrus_maps.specs.Environments.{environment_of}
 use Rattle.walrus_maps.specs.IndexMaps.{local_of}
 use Rattle.walrus_body.specs.FunctionParts.{FunctionParts}
 use Rattle.walrus_parser.specs.Bodies.{IsFunction, body_setting, body_operators}
-use Rattle.walrus_emitter.specs.TreeWriting.Operators.{numbers_by}
+use Rattle.walrus_numbering.specs.NumberMaps.{numbers_by}
 use Rattle.walrus_rewrite.specs.RawBodies.{given, IsRawBody, IsRawBodyOf}
 use Rattle.walrus_rewrite.specs.RewrittenBodies.{KeepsSource}
 use Rattle.wasm_module.specs.declared.parsed.ParsedModule.{ParsedModule}
@@ -25,13 +25,13 @@ use Rattle.wasm_module.specs.LocalsBelow.{locals_below}
 
 -- ---- the module, as bodies are rewritten one after the other
 
--- nothing but the locals of a function is another
+-- only the locals of a function differ
 pub record HasOtherLocals (old new : Spaces) : Type 0 where
   pub locals : FinMap nat_cmp (List ℕ)
   pub indices : new.indices ≡ record old.indices { locals = locals }
   pub numbers : new.numbers ≡ old.numbers
 
--- Everything that the source says is kept; types may be added behind its own, and locals are those of one body at a time.
+-- Everything of the source is unchanged; types may be added after its own, and the locals are those of one body at a time.
 pub record Extends (source now : ParsedModule) : Type 0 where
   pub bytes : now.bytes.now ≡ source.bytes.now
   pub types : (more : List ModuleType) × (now.module.types ≡ source.module.types ++ more)
@@ -42,8 +42,9 @@ pub record Extends (source now : ParsedModule) : Type 0 where
 
 -- ---- one body
 
--- The body of this function of the source is parsed so: with the function's type, with its parameters as arguments, with the
--- locals that its declarations add to them, each under its index as id, and from the operators behind the declarations on.
+-- The body of this function of the source is parsed in this way: with the function's type, with its parameters as arguments,
+-- with the locals that its declarations add to them, each with its index as id, and from the first operator after the
+-- declarations.
 pub record Enters (source : ParsedModule) (function : ℕ) (b : BodyAt) (now : ParsedModule) (type : ℕ) (args : List ℕ) (count : ℕ) (body : FunctionBody) : Type 0 where
   pub extends : Extends source now
   pub is_type : slice_get source.func_types.items function ≡ Some type
@@ -54,9 +55,9 @@ pub record Enters (source : ParsedModule) (function : ℕ) (b : BodyAt) (now : P
   pub count_is : count ≡ length now.module.locals
   pub local_ids : (local : ℕ) → local < count → local_of now.spaces.indices 0 local ≡ Ok local
 
--- The operators of the body are accepted, in the module and its index maps, by the validator that knows of so many locals;
--- and these bytes are the raw body of their normal form. It executes the operators of the source and ends alike, and its
--- pairs hold their locations, which are places in the file.
+-- The operators of the body are accepted, in the module and its index maps, by the validator that knows this number of
+-- locals; and these bytes are the raw body of their normal form. It executes the operators of the source and ends in the same
+-- way, and its pairs contain their locations, which are places in the file.
 pub record IsRewrittenAs (now : ParsedModule) (type : ℕ) (args : List ℕ) (count : ℕ) (source : FunctionBody) (raw : List ℕ) (pairs : List Pair) : Type 0 where
   pub body : Body Occurrence
   pub accepted : Accepted (body_setting now.module now.spaces.indices 0 type source locals_below count None) (body_operators source) body
@@ -95,8 +96,8 @@ pub record IsParsed (source : ParsedModule) (function : ℕ) (b : BodyAt) (now :
   pub enters : Enters source function b now type args count body
   pub is_parsed : IsParsedAs now type args count body made
 
--- The body of this function of the source is parsed, its function is changed, and these bytes are the raw body of what it is
--- then.
+-- The body of this function of the source is parsed, its function is changed, and these bytes are the raw body of the changed
+-- function.
 pub record IsChanged (changes : ℕ → (old new : FunctionParts) → Type 0) (source : ParsedModule) (function : ℕ) (b : BodyAt) (raw : List ℕ) : Type 0 where
   pub now : ParsedModule
   pub parsed : FunctionParts

@@ -9,7 +9,7 @@ use Rattle.wasm_module.specs.declared.sections.SectionKind.{SectionKind}
 use Rattle.wasm_module.specs.declared.sections.SectionKind.TheVariants as kind
 use Rattle.wasm_module.specs.declared.sections.Sections.{Sections}
 
--- what a module begins with: the magic number, and the version
+-- the bytes that a module begins with: the magic number, and the version
 abbrev pub preamble : List ℕ
 preamble = 0x00 ∷ 0x61 ∷ 0x73 ∷ 0x6d ∷ 0x01 ∷ 0x00 ∷ 0x00 ∷ 0x00 ∷ []
 
@@ -20,14 +20,14 @@ section id contents = id ∷ (short_number (length contents) ++ contents)
 
 -- ---- as they are read: with any spelling of the size
 
--- a section in a file: its id, its contents and the place behind them, and all of its bytes
+-- a section in a file: its id, its contents, the place where they end, and all of its bytes
 pub record SectionAt : Type 0 where
   pub id : ℕ
   pub contents : List ℕ
   pub end : ℕ
   pub whole : List ℕ
 
--- This section stands at the front of a text that ends at this place of the file, and this is behind it.
+-- A text that ends at this place of the file begins with this section, and these bytes follow it.
 pub record Begins (end : ℕ) (text : List ℕ) (s : SectionAt) (behind : List ℕ) : Type 0 where
   pub sized : List ℕ
   pub id_is : text ≡ s.id ∷ sized
@@ -46,17 +46,17 @@ IsModule file ss = (text : List ℕ) × (file ≡ preamble ++ text) × AreSectio
 
 -- ---- their order
 
--- The rank of a section, by its id: one that isn't custom stands before those of a greater rank. Custom ones stand anywhere.
--- Tags stand behind memories, and the data count behind elements.
+-- The rank of a section, by its id: one that isn't custom comes before those of a greater rank. Custom ones may be anywhere.
+-- Tags come after memories, and the data count after elements.
 abbrev pub rank : (id : ℕ) → ℕ
 rank id = get_or (0 ∷ 1 ∷ 2 ∷ 3 ∷ 4 ∷ 5 ∷ 7 ∷ 8 ∷ 9 ∷ 10 ∷ 12 ∷ 13 ∷ 11 ∷ 6 ∷ []) id 0
 
--- the first rank of these sections that is greater than this one; 14 where there is none
+-- the first rank of these sections that is greater than this one; 14 if there is none
 abbrev pub next_rank : ℕ → List SectionAt → ℕ
 next_rank r [] = 14
 next_rank r (s ∷ ss) = if nat_lt r (rank s.id) then rank s.id else next_rank r ss
 
--- ---- as the code holds them
+-- ---- in the words of the code
 
 abbrev pub id_of : SectionKind → ℕ
 id_of kind.Custom = 0
@@ -77,7 +77,7 @@ id_of kind.Tag = 13
 abbrev pub section_at : Section → SectionAt
 section_at s = record { id = id_of s.kind; contents = s.contents.rest.now; end = s.contents.end; whole = s.whole.now }
 
--- A section is taken from those that are left; none where nothing is left.
+-- A section is taken from those that are left; none if nothing is left.
 abbrev pub TakesSection : Sections → Option (Result Section ModuleError) → Sections → Type 0
 TakesSection s None t = s.left.rest.now ≡ []
 TakesSection s (Some (Err e)) t = Unit {0}

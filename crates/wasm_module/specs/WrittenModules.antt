@@ -8,7 +8,7 @@ use Rattle.wasm_module.specs.declared.changes.Changes.{Changes}
 use Rattle.wasm_module.specs.declared.changes.Given.{Given}
 use Rattle.wasm_module.specs.declared.parsed.ParsedModule.{ParsedModule}
 use Rattle.wasm_module.specs.declared.rewriting.RewrittenModule.{RewrittenModule}
-use Rattle.wasm_module.specs.CodeSections.{BodyAt, IsCode, code_section}
+use Rattle.wasm_module.specs.CodeSections.{BodyAt, IsCode, code_section, entry}
 use Rattle.wasm_module.specs.Sections.{preamble, section, SectionAt, IsModule, rank, next_rank, id_of}
 
 -- Bytes go to a writer, which may be known to hold some, and a place moves behind them.
@@ -55,6 +55,14 @@ IsDebugName name = (name ≡ codes "sourceMappingURL") ⊎ ((name ≡ codes "ext
 abbrev pub HasDebugName : (contents : List ℕ) → Type 0
 HasDebugName contents = (name behind : List ℕ) × (u32 contents ≡ Ok (length name, name ++ behind)) × IsDebugName name
 
+-- A custom section says where the source map is.
+abbrev pub HasSourceMapName : (contents : List ℕ) → Type 0
+HasSourceMapName contents = (name behind : List ℕ) × (u32 contents ≡ Ok (length name, name ++ behind)) × (name ≡ codes "sourceMappingURL")
+
+-- what such a section contains, as it is written: its name, and the URL
+abbrev pub url_contents : (url : List ℕ) → List ℕ
+url_contents url = entry (codes "sourceMappingURL") ++ entry url
+
 -- Of a section that holds no code: contents that are written in the place of its own. Of custom ones it isn't said what
 -- they are.
 pub data IsReplacedBy (changes : Changes) (s : SectionAt) (contents : List ℕ) : Type 0 where
@@ -65,11 +73,11 @@ pub data IsReplacedBy (changes : Changes) (s : SectionAt) (contents : List ℕ) 
 abbrev pub IsCarriedOver : Changes → SectionAt → Type 0
 IsCarriedOver changes s = s.id ≢ 0 → contents_in changes.given.items s.id ≡ None
 
--- Or it is left out: debug information, where that is asked for.
+-- Or it is left out, where that is asked for: debug information, or where the source map is.
 pub record IsLeftOut (changes : Changes) (s : SectionAt) : Type 0 where
-  pub is_asked : changes.leaves_out_debug ≡ true
   pub is_custom : s.id ≡ 0
-  pub is_debug : HasDebugName s.contents
+  pub is_asked :
+      ((changes.leaves_out_debug ≡ true) × HasDebugName s.contents) ⊎ ((changes.leaves_out_source_map ≡ true) × HasSourceMapName s.contents)
 
 -- ---- bodies
 

@@ -9,10 +9,10 @@ use crate::sections::{Section, SectionKind};
 use std::alloc::Global;
 use walrus_ir::GlobalId;
 
-/// The kind of exported globals.
+/// The kind of exported globals (WebAssembly core specification 3.0, binary format, exports).
 const EXPORTED_GLOBAL: u8 = 3;
 
-/// The contents of a section with one item more, behind the others.
+/// The contents of a section with one more item, after the others.
 fn with_item(alloc: Global, contents: &[u8], item: &[u8]) -> Result<Vec<u8>, ModuleError> {
     let mut items = Input::new(contents);
     let count = items.number()? as usize;
@@ -36,7 +36,7 @@ impl<'a> ParsedModule<'a> {
         Ok(None)
     }
 
-    /// Puts an item behind the others of the section of this kind, or into a new one.
+    /// Appends an item to the section of this kind, or to a new one.
     fn add_item(
         &self,
         changes: &mut Changes,
@@ -51,11 +51,11 @@ impl<'a> ParsedModule<'a> {
         changes.give(kind, contents)
     }
 
-    /// Adds a global behind all others. Its bytes are its type and a constant expression.
+    /// Adds a global after all others. Its bytes are its type and a constant expression.
     ///
     /// # Errors
     ///
-    /// The first fault of its bytes, with its place among them; `TooGreat` where there are too many
+    /// The first fault of its bytes, with its place among them; `TooGreat` if there are too many
     /// globals; or `Memory`.
     pub fn add_global(
         &mut self,
@@ -78,8 +78,8 @@ impl<'a> ParsedModule<'a> {
     ///
     /// # Errors
     ///
-    /// `ExportTaken`, with its place, where an export of the source has this name; `TooGreat` where
-    /// the global's index or the number of exports doesn't fit 32 bits; or `Memory`.
+    /// `ExportTaken`, with its place, if an export of the source has this name; `TooGreat` if the
+    /// global's index or the number of exports doesn't fit 32 bits; or `Memory`.
     pub fn export_global(
         &self,
         changes: &mut Changes,
@@ -96,7 +96,7 @@ impl<'a> ParsedModule<'a> {
         self.add_item(changes, SectionKind::Export, &item)
     }
 
-    /// `ExportTaken` where one of these exports has this name.
+    /// `ExportTaken` if one of these exports has this name.
     fn refuse_export(&self, mut exports: Input<'a>, name: &str) -> Result<(), ModuleError> {
         for _ in 0..exports.number()? {
             let begin = exports;

@@ -1,4 +1,4 @@
-//! Bodies of a module: parsed, rewritten, and written.
+//! Bodies of a module: how they are parsed, rewritten and written.
 
 ghost use Rattle.std.specs.Prelude.{OnOk, IfOk, IfErr};
 ghost use Rattle.walrus_rewrite.specs.RawBodies.{given, IsRawBodyOf};
@@ -16,20 +16,20 @@ use walrus_body::{EmitError, LocalFunction, ParseError};
 use walrus_ir::{Instr, InstrLocId};
 use walrus_rewrite::{RewriteError, append_raw_body_with_map, rewrite_body};
 
-/// What is lent to one body after the other, and what was made of the last.
+/// Memory that is lent to one body after the other, and the result of the last.
 #[derive(Drop)]
 pub struct Scratch {
     instrs: Vec<(Instr, InstrLocId)>,
     /// The raw body that was written last.
     pub raw: Vec<u8>,
-    /// Its location pairs, if they were asked for: the location of each operator that was written,
+    /// Its location pairs, if they were requested: for each operator that was written its location,
     /// which is its old place in the file, and its new place, counted from the first byte of the
     /// body.
     pub pairs: Vec<(InstrLocId, usize)>,
 }
 
 impl Scratch {
-    /// Nothing is lent yet. It takes no memory.
+    /// An empty one. It allocates nothing.
     pub fn new(alloc: Global) -> Scratch {
         Scratch {
             instrs: Vec::new(alloc),
@@ -39,12 +39,12 @@ impl Scratch {
     }
 }
 
-/// Whether a body wants a type that the module doesn't have.
+/// Whether a body needs a type that the module doesn't have.
 fn wants_type(error: &ModuleError) -> bool {
     error.fault == ModuleFault::Parse(ParseError::TypeMissing)
 }
 
-/// Rewrites a body as it is, with a list of location pairs or none.
+/// Rewrites a body unchanged, with a list of location pairs or none.
 macro_rules! rewrite_once {
     ($parsed:ident, $body:ident, $instrs:expr, $raw:expr, $map:expr) => {{
         let Entered {
@@ -109,15 +109,15 @@ impl<'a> ParsedModule<'a> {
         rewrite_once!(self, body, instrs, raw, Some(pairs))
     }
 
-    /// Rewrites a body: its declarations of locals and its operators, as `walrus_run::rewrite_body`
-    /// does. Types that only a handler of it needs, and the module lacks, are added after the others;
-    /// they are in no bytes.
+    /// Rewrites a body: its declarations of locals and its operators, as
+    /// `walrus_rewrite::rewrite_body` does. Types that only one of its handlers needs, and that the
+    /// module lacks, are added after the others; they are not written.
     ///
     /// # Errors
     ///
     /// The first fault of its declarations or of its operators, or why it can't be written, or
-    /// `Memory`. The module is then as before, but for added types and the locals, which are those of
-    /// one body at a time.
+    /// `Memory`. The module is then unchanged, except for added types and the locals, which are
+    /// those of one body at a time.
     pub fn rewrite(
         &mut self,
         body: Body<'a>,
@@ -141,7 +141,7 @@ impl<'a> ParsedModule<'a> {
         }
     }
 
-    /// The same, with its location pairs.
+    /// The same as `rewrite`, with its location pairs.
     ///
     /// # Errors
     ///
@@ -210,8 +210,8 @@ impl<'a> ParsedModule<'a> {
     ///
     /// # Errors
     ///
-    /// The first fault of its declarations or of its operators, or `Memory`. The module is then as
-    /// before, but for added types and the locals, which are those of one body at a time.
+    /// The first fault of its declarations or of its operators, or `Memory`. The module is then
+    /// unchanged, except for added types and the locals, which are those of one body at a time.
     pub fn parse(
         &mut self,
         body: Body<'a>,
@@ -235,12 +235,13 @@ impl<'a> ParsedModule<'a> {
         }
     }
 
-    /// Writes the raw body of a function, which is the one that was parsed last, whatever was
-    /// changed in it since, and its location pairs.
+    /// Writes the raw body of a function and its location pairs. The function has to be the one
+    /// that was parsed last, since the module has the locals of one body at a time; it may have
+    /// been changed since.
     ///
     /// # Errors
     ///
-    /// Why it can't be written, at the place `start` where its body began; or `Memory`.
+    /// Why it can't be written, at the place `start`, where its body began; or `Memory`.
     pub fn write(
         &self,
         function: &LocalFunction,

@@ -1,4 +1,4 @@
-//! What is written of bodies: what they are rewritten as, or what a caller makes of their functions.
+//! What is written for bodies: as they are rewritten, or what a caller makes of their functions.
 
 ghost use Rattle.std.specs.Prelude.{ℕ, List, OnOk};
 ghost use Rattle.walrus_body.specs.FunctionParts.{FunctionParts};
@@ -12,14 +12,15 @@ use crate::fault::ModuleError;
 use crate::parsed::ParsedModule;
 use walrus_body::LocalFunction;
 
-/// What is written of each body of a module. It is asked twice for a body: before anything is
-/// written, to learn of its faults, its size and what follows it, and when it is written.
+/// What is written for each body of a module. It is called twice for a body: before anything is
+/// written, to find its faults, its size and what follows it, and when it is written.
 pub trait BodyWriter {
-    // Of this function of the source, this body is written as these bytes.
+    // For this body, of this function of the source, these bytes are written.
     ghost writes: { Self → Parsed → ℕ → BodyAt → List ℕ → Type 0 };
 
     /// Makes the raw body that is written for one of the module that was read, and its location
-    /// pairs where they are wanted, and leaves both in the scratch. Answers the function that it is.
+    /// pairs if they are requested, and puts both into the scratch. Returns the function of the
+    /// body.
     ///
     /// # Errors
     ///
@@ -37,7 +38,7 @@ pub trait BodyWriter {
             scratch.new.raw.items) };
 }
 
-/// Each body is rewritten as `walrus_run::rewrite_body` does.
+/// Each body is rewritten as `walrus_rewrite::rewrite_body` does.
 #[derive(Clone, Copy, Debug, Drop)]
 pub struct Rewriting;
 
@@ -60,12 +61,12 @@ impl BodyWriter for Rewriting {
 
 /// A change of the functions of a module.
 pub trait ChangeFunction {
-    // The function with this index, as it was made of its body, and as it is written.
+    // The function with this index, as it was parsed, and as it is written.
     ghost changes: { Self → ℕ → FunctionParts → FunctionParts → Type 0 };
 
-    /// Changes the function with this index, which counts behind imported ones. A location that it
-    /// leaves is the place in the source of the operator that the instruction still stands for. It
-    /// is asked twice for each function, and answers alike.
+    /// Changes the function with this index; imported functions have the first indices. A location
+    /// in the changed function is the place in the source of the operator that the instruction
+    /// comes from. This is called twice for each function, and has to do the same both times.
     ///
     /// # Errors
     ///
@@ -74,7 +75,7 @@ pub trait ChangeFunction {
         ensures { OnOk result (changes self.now index function.old function.new) };
 }
 
-/// Each body is that of its function as this changes it.
+/// Each body is that of its function as the field changes it.
 #[derive(Clone, Copy, Debug, Drop)]
 pub struct Changing<C>(pub C);
 

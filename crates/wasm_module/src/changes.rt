@@ -22,6 +22,8 @@ pub struct Changes {
     pub(crate) given: Vec<Given>,
     /// Whether custom sections with debug information are left out.
     pub(crate) leaves_out_debug: bool,
+    /// Whether the custom section `sourceMappingURL` is left out.
+    pub(crate) leaves_out_source_map: bool,
 }
 
 impl Changes {
@@ -32,6 +34,7 @@ impl Changes {
         Changes {
             given: Vec::new(alloc),
             leaves_out_debug: false,
+            leaves_out_source_map: false,
         }
     }
 

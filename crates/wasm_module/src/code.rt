@@ -11,7 +11,7 @@ use walrus_ir::FunctionId;
 /// The body of a function in the source: its declarations of locals, and its operators.
 #[derive(Clone, Copy)]
 pub struct Body<'a> {
-    /// The index of the function, behind those of imported ones.
+    /// The index of the function; imported functions have the first indices.
     pub func: usize,
     pub(crate) input: Input<'a>,
 }
@@ -46,8 +46,8 @@ pub struct Bodies<'a> {
 }
 
 impl<'a> Bodies<'a> {
-    /// Those of a section with these contents, whose first is the body of this function; and how
-    /// many are told there.
+    /// The number of bodies and the bodies of a section with these contents. The first is the body
+    /// of the function with the index `first`.
     pub(crate) fn of_section(
         contents: Input<'a>,
         first: usize,
@@ -64,14 +64,14 @@ impl<'a> Bodies<'a> {
         }
     }
 
-    /// `Trailing` where bytes are left.
+    /// `Trailing` if bytes are left.
     pub(crate) fn finish(&self) -> Result<(), ModuleError>
         ensures { OnOk result (self.now.left.rest.now ≡ []) }
     {
         self.left.finish()
     }
 
-    /// Those of no section.
+    /// The bodies of a module without a code section.
     pub(crate) fn none() -> Bodies<'static> {
         Bodies {
             left: Input::new(&[]),

@@ -4,7 +4,7 @@ use crate::fault::{ModuleError, ModuleFault};
 use crate::input::Input;
 use wasm_ops::{Operator, Reader};
 
-/// Whether an operator opens, parts or leaves a construct.
+/// Whether an operator opens, divides or leaves a construct.
 fn is_control(operator: &Operator<'_>) -> bool {
     matches!(
         operator,
@@ -21,13 +21,13 @@ fn is_control(operator: &Operator<'_>) -> bool {
 }
 
 impl Input<'_> {
-    /// Passes a constant expression (WebAssembly core specification 3.0, binary format,
-    /// expressions): operators up to the `end`. Which operators are constant is not looked at, but
-    /// none of a construct is.
+    /// Reads past a constant expression (WebAssembly core specification 3.0, binary format,
+    /// expressions): operators up to the `end`. It isn't checked whether an operator is constant,
+    /// but none may open, divide or leave a construct.
     pub fn constant(&mut self) -> Result<(), ModuleError> {
         let rest = self.rest();
         let mut reader = Reader::new(rest, self.at());
-        // An operator takes a byte at least.
+        // An operator has at least one byte.
         for _ in 0..rest.len() {
             let at = reader.original_position();
             let operator = match reader.read() {

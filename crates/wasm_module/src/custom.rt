@@ -2,7 +2,7 @@
 //! hints). They follow the code that is written.
 
 ghost use Rattle.std.specs.Prelude.{IsTrue};
-ghost use Rattle.wasm_module.specs.WrittenModules.{HasFollowedName, HasDebugName};
+ghost use Rattle.wasm_module.specs.WrittenModules.{HasFollowedName, HasDebugName, HasSourceMapName};
 
 use crate::bodies::Scratch;
 use crate::code::Body;
@@ -263,6 +263,16 @@ pub(crate) fn holds_debug(section: &Section<'_>) -> bool
                 || name.starts_with(".debug_")
         }
         Err(_) => false,
+    }
+}
+
+/// Whether a custom section says where the source map is, by its name.
+pub(crate) fn names_source_map(section: &Section<'_>) -> bool
+    ensures { IsTrue result → HasSourceMapName section.now.contents.rest.now }
+{
+    match section.name() {
+        Ok((name, _)) if name == "sourceMappingURL" => true,
+        _ => false,
     }
 }
 

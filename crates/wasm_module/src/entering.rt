@@ -19,10 +19,13 @@ use walrus_ir::{LocalId, ModuleLocals, TypeId};
 /// What a function is parsed with.
 #[derive(Drop)]
 pub(crate) struct Entered<'a> {
+    /// The type of the function.
     pub ty: TypeId,
+    /// The ids of its parameters, which are their indices.
     pub args: Vec<LocalId>,
+    /// Its bytes, their place in the file, and the offset of its operators.
     pub body: FunctionBody<'a>,
-    /// How many locals it has, its parameters among them.
+    /// How many locals it has, its parameters included.
     pub locals: usize,
 }
 
@@ -91,7 +94,7 @@ impl<'a> ParsedModule<'a> {
             Err(error) => return Err(ModuleError::of_index(error, entered.body.start)),
         }
         self.module.locals = types;
-        // Places count from the start of the file.
+        // Places are offsets from the start of the file.
         self.module.code_section_offset = 0;
         Ok(entered)
     }

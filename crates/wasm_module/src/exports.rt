@@ -4,7 +4,7 @@ use crate::fault::{ModuleError, ModuleFault};
 use crate::input::Input;
 use walrus_body::{IndexError, IndicesToIds, Space};
 
-/// The space in which exports of this kind have their index.
+/// The index space of what an export of this kind names.
 fn exported_space(kind: u8) -> Option<Space> {
     match kind {
         0 => Some(Space::Funcs),
@@ -16,7 +16,7 @@ fn exported_space(kind: u8) -> Option<Space> {
     }
 }
 
-/// `OutOfRange` where nothing in the space has this index.
+/// `OutOfRange` if nothing in the space has this index.
 fn check_index(indices: &IndicesToIds, space: Space, index: u32) -> Result<(), IndexError> {
     match space {
         Space::Tables => indices.get_table(index).map(|_| ()),
@@ -31,7 +31,7 @@ fn check_index(indices: &IndicesToIds, space: Space, index: u32) -> Result<(), I
 }
 
 impl Input<'_> {
-    /// Passes an index of this space.
+    /// Reads past an index of this space; `IndexOutOfRange` if nothing has it.
     pub fn index_in(&mut self, indices: &IndicesToIds, space: Space) -> Result<(), ModuleError> {
         let begin = *self;
         let index = self.number()?;
@@ -41,7 +41,7 @@ impl Input<'_> {
         }
     }
 
-    /// Passes an export.
+    /// Reads past an export; `BadExportKind` if no export is of its kind.
     pub fn export(&mut self, indices: &IndicesToIds) -> Result<(), ModuleError> {
         self.name()?;
         let begin = *self;

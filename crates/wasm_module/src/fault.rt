@@ -33,77 +33,87 @@ pub enum ModuleFault {
     /// No section has this id.
     #[error("no section has this id")]
     UnknownSection,
-    /// A section comes after one that it has to come before, or twice.
+    /// A section comes after one that it has to come before, or there are two of its kind; or a
+    /// caller gives contents for a custom section or for the code section.
     #[error("a section is out of order")]
     SectionOutOfOrder,
-    /// Bytes are left after the last item of a section, or of bytes that are handed in.
+    /// Bytes are left after the last item of a section, or of bytes that a caller passed.
     #[error("bytes are left after the last item of a section")]
     Trailing,
     /// A name isn't UTF-8.
     #[error("a name is not UTF-8")]
     BadName,
+    /// The kind of an import isn't 0 to 4.
     #[error("no import is of this kind")]
     BadImportKind,
+    /// The kind of an export isn't 0 to 4.
     #[error("no export is of this kind")]
     BadExportKind,
+    /// The flags of limits are greater than 7, or a shared memory has no maximum.
     #[error("the flags of limits are not allowed")]
     BadLimits,
+    /// The mutability of a global or of a field is neither 0 nor 1.
     #[error("the mutability is neither 0 nor 1")]
     BadMutability,
+    /// The attribute of a tag isn't 0.
     #[error("the attribute of a tag is not 0")]
     BadTagAttribute,
+    /// The flags of an element segment are greater than 7, or those of a data segment greater than
+    /// 2.
     #[error("the flags of a segment are not allowed")]
     BadSegmentFlags,
+    /// The kind of the elements of a segment isn't 0.
     #[error("the kind of an element is not 0")]
     BadElementKind,
-    /// A constant expression has an operator that opens or parts a construct.
+    /// A constant expression has an operator that opens, divides or leaves a construct.
     #[error("this operator is not allowed in a constant expression")]
     BadConstant,
-    /// An index names nothing that the module has.
+    /// Nothing in the module has this index.
     #[error("{}", IndexError::OutOfRange {space: *space, index: *index})]
     IndexOutOfRange { space: Space, index: u32 },
-    /// The code section hasn't as many bodies as the function section has functions.
+    /// The code section doesn't have as many bodies as the function section has functions.
     #[error("there are not as many bodies as functions")]
     BodyCount,
     /// The data count section doesn't have the number of data segments.
     #[error("the data count is not the number of data segments")]
     DataCount,
-    /// A function has more than 50,000 locals, its parameters among them.
+    /// A function has more than 50,000 locals, its parameters included.
     #[error("a function has more than 50000 locals")]
     TooManyLocals,
     /// An operator names a local that the function doesn't have.
     #[error("an index is out of bounds for the function's locals")]
     LocalOutOfRange,
-    /// A number, a type or an operator can't be read. Of a number or a type that the bytes end in,
+    /// A number, a type or an operator can't be read. If the bytes end inside a number or a type,
     /// outside of code, the fault is `Truncated`.
     #[error(transparent)]
     Read(ReadFault),
-    /// Code names an index that nothing has, or an id has no index.
+    /// Nothing has an index that code contains, or an id has no index.
     #[error(transparent)]
     Index(IndexError),
-    /// A body isn't accepted; or `NotAFunctionType` where the type of a function or of a tag is none.
-    /// No call of a parsed module is known to return `TypeMissing`: the types that handlers require
-    /// are added.
+    /// A body isn't accepted; or `NotAFunctionType` if the type of a function or of a tag isn't a
+    /// function type. No call of a parsed module is known to return `TypeMissing`: the types that
+    /// handlers require are added.
     #[error(transparent)]
     Parse(ParseError),
     /// A function can't be written.
     #[error(transparent)]
     Emit(EmitError),
-    /// An export that is to be added has the name of one that is there.
+    /// An export that is to be added has the name of an existing one.
     #[error("an export has this name already")]
     ExportTaken,
-    /// The code takes another number of bytes when it is written than before, so that a function
-    /// was changed otherwise.
+    /// The code has another size when it is written than before, so a function was changed
+    /// differently the second time.
     #[error("a function is changed otherwise than before")]
     UnsteadyChange,
-    /// A count or a size doesn't fit 32 bits, or 2^32 items are there.
+    /// A count or a size doesn't fit 32 bits, or there are 2^32 items.
     #[error("a count is too great")]
     TooGreat,
+    /// Memory ran out.
     #[error("out of memory")]
     Memory,
 }
 
-/// Writes the first word of what it is given, and leaves out all else.
+/// Writes the first word of a text, and leaves out everything else.
 #[derive(Drop)]
 struct FirstWord<'f, W> {
     out: &'f mut W,
@@ -150,7 +160,7 @@ impl fmt::Display for FaultName {
 }
 
 impl ModuleFault {
-    /// Why code names an index or an id that isn't found.
+    /// The fault of an index or an id in code that isn't found.
     fn of_index(error: IndexError) -> ModuleFault {
         match error {
             IndexError::Memory => ModuleFault::Memory,
@@ -159,7 +169,8 @@ impl ModuleFault {
         }
     }
 
-    /// Why a body isn't accepted. The validator refuses locals that the function doesn't have.
+    /// The fault of a body that isn't accepted. The validator refuses locals that the function
+    /// doesn't have.
     fn of_parse(error: ParseError) -> ModuleFault
         ensures { error ≡ parse.Memory → result ≡ Memory }
     {
@@ -172,7 +183,7 @@ impl ModuleFault {
         }
     }
 
-    /// Why a function isn't walked over.
+    /// The fault of a function that can't be walked over.
     fn of_walk(error: WalkError) -> ModuleFault
         ensures { error ≡ walk.Memory → result ≡ Memory }
     {
@@ -182,7 +193,7 @@ impl ModuleFault {
         }
     }
 
-    /// Why a function can't be written.
+    /// The fault of a function that can't be written.
     fn of_emit(error: EmitError) -> ModuleFault
         ensures { error ≡ emit.Memory → result ≡ Memory }
     {
@@ -201,11 +212,12 @@ impl ModuleFault {
     }
 }
 
-/// A fault of a module, and its place, a byte offset from the start of the file. The place of
-/// `Memory` means nothing.
+/// A fault of a module, and its place.
 #[derive(Clone, Copy, Debug, PartialEq, Eq)]
 pub struct ModuleError {
+    /// What is wrong.
     pub fault: ModuleFault,
+    /// The place: a byte offset from the start of the file. It is meaningless for `Memory`.
     pub at: usize,
 }
 
@@ -226,7 +238,8 @@ impl ModuleError {
         at: 0,
     };
 
-    /// Why a section's index isn't found in an index map, or the map can't grow, at this place.
+    /// The error, at this place, of an index of a section that isn't found in an index map, or of a
+    /// map that can't grow.
     pub(crate) fn of_index(error: IndexError, at: usize) -> ModuleError
         ensures { error ≡ index.Memory → result.fault ≡ Memory }
     {
@@ -243,7 +256,7 @@ impl ModuleError {
         ModuleError { fault, at }
     }
 
-    /// Why a type names none of the module's, at this place.
+    /// The error, at this place, of a type that names no type of the module.
     pub(crate) fn of_type(error: ParseError, at: usize) -> ModuleError {
         match error {
             ParseError::Index(error) => ModuleError::of_index(error, at),
@@ -254,7 +267,7 @@ impl ModuleError {
         }
     }
 
-    /// Why a body isn't parsed.
+    /// The error of a body that isn't parsed.
     pub(crate) fn of_parse(failure: ParseFailure) -> ModuleError
         ensures memory { failure.error ≡ parse.Memory → result.fault ≡ Memory }
         ensures place { result.at ≡ failure.at }
@@ -265,7 +278,7 @@ impl ModuleError {
         }
     }
 
-    /// Why an operator isn't read.
+    /// The error of an operator that isn't read.
     pub(crate) fn of_read(error: ReadError) -> ModuleError {
         ModuleError::of_parse(ParseFailure {
             error: ParseError::Read(error),
@@ -273,7 +286,7 @@ impl ModuleError {
         })
     }
 
-    /// Why the body that begins at this place isn't rewritten.
+    /// The error of a body that isn't rewritten; the body begins at this place.
     pub(crate) fn of_body(error: RewriteError, start: usize) -> ModuleError
         ensures memory { WantsMemory error → result.fault ≡ Memory }
         ensures place { result.at ≡ place_in_file start error }

@@ -1,7 +1,7 @@
 //! Items of functions in custom sections: a vector with, for each of some functions, its index and
 //! a vector of items, each a number and a vector of bytes. Names of locals and of labels are such
 //! items (WebAssembly core specification 3.0, custom sections, name section), and so is the
-//! metadata of code, as branch hints.
+//! metadata of code, such as branch hints.
 
 use crate::fault::{ModuleError, ModuleFault};
 use crate::input::Input;
@@ -11,8 +11,8 @@ use std::alloc::Global;
 /// An item: its number, and its bytes.
 pub(crate) type Item<'a> = (u32, &'a [u8]);
 
-/// Items of functions, in ascending order of functions: those that are left in the source, and
-/// those that are written.
+/// Items of functions, in ascending order of functions: those of the source that are left, and
+/// those that were written.
 #[derive(Drop)]
 pub(crate) struct FunctionItems<'a> {
     left: Input<'a>,
@@ -20,7 +20,7 @@ pub(crate) struct FunctionItems<'a> {
     functions: u32,
 }
 
-/// Passes the items of one function.
+/// Reads past the items of one function.
 fn pass_items(input: &mut Input<'_>) -> Result<(), ModuleError> {
     for _ in 0..input.number()? {
         input.number()?;
@@ -29,7 +29,7 @@ fn pass_items(input: &mut Input<'_>) -> Result<(), ModuleError> {
     Ok(())
 }
 
-/// Passes the index of a function, and its items.
+/// Reads past the index of a function, and its items.
 fn pass_function(input: &mut Input<'_>) -> Result<(), ModuleError> {
     match input.number() {
         Ok(_) => pass_items(input),
@@ -53,7 +53,8 @@ impl<'a> FunctionItems<'a> {
     ///
     /// # Errors
     ///
-    /// `Truncated`, `BadNumber` or `Trailing`; `SectionOutOfOrder` where functions don't ascend.
+    /// `Truncated`, `BadNumber` or `Trailing`; `SectionOutOfOrder` if functions aren't in ascending
+    /// order.
     pub fn read(alloc: Global, part: Input<'a>) -> Result<FunctionItems<'a>, ModuleError> {
         let mut input = part;
         let count = input.number()?;
@@ -78,7 +79,7 @@ impl<'a> FunctionItems<'a> {
         })
     }
 
-    /// The function whose items are next.
+    /// The index of the function whose items are next.
     fn next_func(&self) -> Option<usize> {
         let mut input = self.left;
         match input.number() {
@@ -87,7 +88,7 @@ impl<'a> FunctionItems<'a> {
         }
     }
 
-    /// Carries over the items of the next function, as they are.
+    /// Copies the items of the next function unchanged.
     fn carry(&mut self) -> Result<(), ModuleError> {
         let mut input = self.left;
         match pass_function(&mut input) {
@@ -100,9 +101,9 @@ impl<'a> FunctionItems<'a> {
         Ok(())
     }
 
-    /// Carries over the items of functions before this one.
+    /// Copies the items of functions before this one.
     pub fn carry_before(&mut self, func: usize) -> Result<(), ModuleError> {
-        // A function's items take two bytes at least.
+        // The items of a function have at least two bytes.
         for _ in 0..self.left.rest().len() {
             match self.next_func() {
                 Some(next) if next < func => {}
@@ -146,7 +147,7 @@ impl<'a> FunctionItems<'a> {
         }
     }
 
-    /// Writes items of a function, in ascending order; nothing where there are none.
+    /// Writes items of a function, in ascending order; nothing if there are none.
     pub fn put(&mut self, func: usize, items: &mut Vec<Item<'a>>) -> Result<(), ModuleError> {
         if items.is_empty() {
             return Ok(());
@@ -185,8 +186,8 @@ impl<'a> FunctionItems<'a> {
         }
     }
 
-    /// Carries over what is left, and appends all: the number of functions, and their items, after
-    /// the size of all where one is written.
+    /// Copies the items that are left, and appends all: the number of functions, and their items,
+    /// after the size of all if one is written.
     pub fn finish(&mut self, is_sized: bool, out: &mut Vec<u8>) -> Result<(), ModuleError> {
         match self.carry_before(usize::MAX) {
             Ok(()) => {}

@@ -3,20 +3,23 @@
 use crate::fault::{ModuleError, ModuleFault};
 use crate::input::Input;
 
-/// What an import is, as far as bodies of functions speak of it.
+/// What an import is, as far as bodies of functions can refer to it.
 #[derive(Clone, Copy)]
 pub(crate) enum Imported {
     /// A function, with the index of its type.
     Func(u32),
+    /// A table.
     Table,
+    /// A memory.
     Memory,
+    /// A global.
     Global,
     /// A tag, with the index of its type.
     Tag(u32),
 }
 
 impl Input<'_> {
-    /// An import, and the place of what stands behind its names.
+    /// An import, and the place of the first byte after its names.
     pub fn import(&mut self) -> Result<(Imported, usize), ModuleError> {
         self.name()?;
         self.name()?;

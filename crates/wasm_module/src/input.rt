@@ -1,5 +1,5 @@
-//! Bytes of a module, read from the front (WebAssembly core specification 3.0, binary format,
-//! values and types).
+//! Bytes of a module, read from the first one on (WebAssembly core specification 3.0, binary
+//! format, values and types).
 ghost use Rattle.std.specs.Prelude.{◌≡◌, ◌==◌, ◌<◌, ◌≤◌, ◌+◌, ◌-◌, ◌++◌, ◌∷◌, ◌^◌, [], length, take, OnOk, OnErr, IsErr, IfOk, Ok};
 ghost use Rattle.wasm_numbers.specs.Numbers.{u32 as a_u32};
 ghost use Rattle.wasm_operators.specs.Types.{value_type as a_value_type};
@@ -42,6 +42,7 @@ impl<'a> Input<'a> {
         self.rest
     }
 
+    /// Whether no bytes are left.
     pub fn is_empty(&self) -> bool
         ensures { result ≡ (length self.now.rest.now == 0) }
     {
@@ -56,7 +57,7 @@ impl<'a> Input<'a> {
         }
     }
 
-    /// The next so many bytes, as a part of its own.
+    /// The next `len` bytes, as a part of its own; `Truncated` if fewer are left.
     pub fn part(&mut self, len: usize) -> Result<Input<'a>, ModuleError>
         ensures parts { IfOk result
             (λ part. self.old.rest.now ≡ part.rest.now ++ self.new.rest.now) }
@@ -86,7 +87,7 @@ impl<'a> Input<'a> {
         }
     }
 
-    /// The bytes that are left here and no more there; none where more are left there.
+    /// The bytes that are left here but no longer there; none if more are left there.
     pub fn until(&self, later: &Input<'a>) -> &'a [u8]
         ensures { result.now ≡ take (length self.now.rest.now - length later.now.rest.now)
             self.now.rest.now }
@@ -97,7 +98,7 @@ impl<'a> Input<'a> {
         }
     }
 
-    /// Goes on at this place of the file.
+    /// Skips to this place of the file; `Truncated` if it isn't among the bytes that are left.
     pub fn skip_to(&mut self, place: usize) -> Result<(), ModuleError> {
         match place.checked_sub(self.at()) {
             Some(len) => {
@@ -108,7 +109,7 @@ impl<'a> Input<'a> {
         }
     }
 
-    /// `Trailing` where bytes are left.
+    /// `Trailing` if bytes are left.
     pub fn finish(&self) -> Result<(), ModuleError>
         ensures { OnOk result (self.now.rest.now ≡ []) }
     {
@@ -118,6 +119,7 @@ impl<'a> Input<'a> {
         }
     }
 
+    /// The next byte.
     pub fn byte(&mut self) -> Result<u8, ModuleError>
         ensures value { IfOk result (λ b. self.old.rest.now ≡ b ∷ self.new.rest.now) }
         ensures same_end { self.new.end ≡ self.old.end }
@@ -131,8 +133,8 @@ impl<'a> Input<'a> {
         }
     }
 
-    /// Why the next item can't be read: a fault stands where the bytes end, if they end inside it,
-    /// else where it begins.
+    /// The error of an item that can't be read: at the end of the bytes, if they end inside the
+    /// item, and else where it begins.
     fn unread(&self, fault: ReadFault) -> ModuleError {
         match fault {
             ReadFault::Truncated => self.ended().fault(ModuleFault::Truncated),

@@ -1,5 +1,5 @@
-//! Names of labels. The label of a construct is known by how many constructs are opened before it
-//! in the body.
+//! Names of labels. The index of a construct's label is the number of constructs that are opened
+//! before it in the body.
 
 use crate::custom::RewrittenBody;
 use crate::fault::ModuleError;
@@ -9,7 +9,8 @@ use std::alloc::Global;
 use walrus_ir::InstrLocId;
 use wasm_ops::{BlockType, Operator, Reader};
 
-/// The type of the construct that an operator opens, which has a label, if it opens one.
+/// The type of the construct that an operator opens, and which has a label; `None` if it opens
+/// none.
 pub(crate) fn opened(operator: &Operator<'_>) -> Option<BlockType> {
     match operator {
         Operator::Block { ty }
@@ -27,7 +28,7 @@ fn openers(alloc: Global, body: Input<'_>) -> Result<Vec<usize>, ModuleError> {
     let mut input = body;
     input.pass_declarations()?;
     let mut reader = Reader::new(input.rest(), input.at());
-    // An operator takes a byte at least.
+    // An operator has at least one byte.
     for _ in 0..input.rest().len() {
         let at = reader.original_position();
         match reader.read() {
@@ -39,7 +40,7 @@ fn openers(alloc: Global, body: Input<'_>) -> Result<Vec<usize>, ModuleError> {
     Ok(found)
 }
 
-/// The old and the new index of each label that is still there, ascending.
+/// The old and the new index of each label that remains, in ascending order.
 fn label_numbers(
     alloc: Global,
     old: &[usize],
@@ -61,7 +62,7 @@ fn label_numbers(
     Ok(numbers)
 }
 
-/// The names of labels that are still there, under their new indices.
+/// The names of labels that remain, with their new indices.
 pub(crate) fn follow_labels<'a>(
     alloc: Global,
     items: &[Item<'a>],

@@ -65,16 +65,14 @@ impl Locals {
         Ok(locals)
     }
 
-    /// Adds so many locals of a type.
+    /// Adds so many locals of a type. Its cost doesn't grow with their number.
     fn add(&mut self, count: u32, ty: &ValType) -> Result<(), ModuleError>
         requires { self.old.count + count ≤ most_locals }
         ensures types { OnOk result (self.new.types ≡ self.old.types ++ replicate count ty.now) }
         ensures count { OnOk result (self.new.count ≡ self.old.count + count) }
         ensures refused { IfErr result (λ e. e.fault ≡ Memory) }
     {
-        'locals: for _ in 0..count {
-            self.types.add(*ty)?;
-        }
+        self.types.add_run(*ty, count as usize)?;
         self.count += count as usize;
         Ok(())
     }

@@ -1,4 +1,4 @@
-//! Types that handlers of legacy `try` constructs need, and the module lacks.
+//! Types that handlers of legacy `try` constructs need, and that the module lacks.
 
 ghost use Rattle.std.specs.Prelude.{◌≡◌, IfErr};
 ghost use Rattle.wasm_module.specs.declared.fault.ModuleFault.TheVariants.{Memory};
@@ -14,7 +14,7 @@ use walrus_ir::{InstrSeqType, TypeId, ValType};
 use wasm_ops::{BlockType, Operator, Reader};
 
 impl<'a> ParsedModule<'a> {
-    /// What functions of this type take; nothing where it is no type of functions.
+    /// The parameters of functions of this type; none if it isn't a function type.
     pub(crate) fn params(&self, ty: TypeId) -> &[ValType]
         ensures { result.now ≡ parameters_of self.now.«module».types ty }
     {
@@ -25,7 +25,7 @@ impl<'a> ParsedModule<'a> {
         }
     }
 
-    /// What a block of this type gives; nothing where it isn't known.
+    /// The results of a block of this type; none if the type isn't known.
     fn results_of(&self, ty: BlockType) -> Result<Vec<ValType>, ModuleError>
         ensures { IfErr result (λ e. e.fault ≡ Memory) }
     {
@@ -48,7 +48,7 @@ impl<'a> ParsedModule<'a> {
         Ok(results)
     }
 
-    /// What the handler of a `catch` takes; nothing where the tag isn't known.
+    /// The parameters of the handler of a `catch`; none if the tag isn't known.
     fn caught(&self, tag: u32) -> Result<Vec<ValType>, ModuleError>
         ensures { IfErr result (λ e. e.fault ≡ Memory) }
     {
@@ -61,7 +61,7 @@ impl<'a> ParsedModule<'a> {
         Ok(caught)
     }
 
-    /// Adds a function type, where the module has none with these lists and a sequence needs one.
+    /// Adds a function type, if the module has none with these lists and a sequence needs one.
     fn add_type_for(&mut self, params: &[ValType], results: &[ValType]) -> Result<(), ModuleError>
         ensures extends { Extends self.old self.new }
         ensures refused { IfErr result (λ e. e.fault ≡ Memory) }
@@ -75,7 +75,7 @@ impl<'a> ParsedModule<'a> {
         }
     }
 
-    /// Adds the type of a handler that takes this, in a construct of this type.
+    /// Adds the type of a handler with these parameters, in a construct of this type.
     fn add_handler_type(&mut self, caught: &[ValType], ty: BlockType) -> Result<(), ModuleError>
         ensures extends { Extends self.old self.new }
         ensures refused { IfErr result (λ e. e.fault ≡ Memory) }
@@ -93,8 +93,8 @@ impl<'a> ParsedModule<'a> {
         self.add_handler_type(&caught, ty)
     }
 
-    /// Adds the type that an operator needs, behind operators that have opened constructs of these
-    /// types and left them open.
+    /// Adds the type that an operator needs. `open` has the types of the constructs that the
+    /// operators before it opened and didn't end.
     fn add_type_at(
         &mut self,
         operator: &Operator<'_>,
@@ -121,8 +121,9 @@ impl<'a> ParsedModule<'a> {
         }
     }
 
-    /// Adds the types that the handlers of a body's `try` constructs need: what the tag carries, to
-    /// the results of the construct. No handler's type is written, so that they have no index.
+    /// Adds the types that the handlers of a body's `try` constructs need: from what the tag
+    /// carries to the results of the construct. A handler's type is never written, so it has no
+    /// index.
     pub(crate) fn add_missing_types(&mut self, body: Body<'a>) -> Result<(), ModuleError>
         ensures extends { Extends self.old self.new }
         ensures refused { IfErr result (λ e. e.fault ≡ Memory) }
@@ -133,7 +134,7 @@ impl<'a> ParsedModule<'a> {
         }
         let mut open = Vec::new(self.alloc);
         let mut reader = Reader::new(declarations.rest(), declarations.at());
-        // An operator takes a byte at least.
+        // An operator has at least one byte.
         'operators: for _ in 0..body.bytes().len() {
             let Ok(operator) = reader.read() else {
                 break 'operators;

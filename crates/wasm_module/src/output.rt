@@ -20,11 +20,11 @@ pub(crate) fn number_len(number: usize) -> usize
     }
 }
 
-/// Appends an unsigned number in LEB128, by as few bytes as can be.
+/// Appends an unsigned number in LEB128, with as few bytes as possible.
 ///
 /// # Errors
 ///
-/// `TooGreat` where it doesn't fit 32 bits; or `Memory`.
+/// `TooGreat` if it doesn't fit 32 bits; or `Memory`.
 pub(crate) fn write_number(out: &mut Vec<u8>, number: usize) -> Result<(), ModuleError>
     ensures { OnOk result (out.new.items ≡ out.old.items ++ short_number number) }
 {

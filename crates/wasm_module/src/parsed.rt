@@ -15,9 +15,10 @@ use walrus_body::{IndexError, ParseError, Space, value_type};
 use walrus_ir::{FunctionId, Module, ModuleLocals, ModuleTags, ModuleTypes, TypeId, ValType};
 use wasm_ops::RawValType;
 
-/// A module that was read: what the bodies of its functions need to know of it, and where they
-/// stand. Ids of types are their indices behind those of the entry types, which are in no module;
-/// other ids are the indices. Places are offsets from the start of the file.
+/// A module that was read: what is needed to parse the bodies of its functions, and where they are.
+/// The first ids of types are those of the entry types, which are in no module; the id of another
+/// type is its index plus the number of entry types. All other ids are the indices. Places are byte
+/// offsets from the start of the file.
 #[derive(Drop)]
 pub struct ParsedModule<'a> {
     pub(crate) alloc: Global,
@@ -30,11 +31,11 @@ pub struct ParsedModule<'a> {
     imported: usize,
     /// The contents of the code section.
     code: Option<Input<'a>>,
-    /// What the data count section tells, and where.
+    /// What the data count section says, and the place of that number.
     data_count: Option<(u32, usize)>,
 }
 
-/// What was added at this place, or why it wasn't.
+/// Success, or the error of an index map at this place.
 fn added_at(answer: Result<(), IndexError>, place: usize) -> Result<(), ModuleError> {
     match answer {
         Ok(()) => Ok(()),
@@ -42,7 +43,7 @@ fn added_at(answer: Result<(), IndexError>, place: usize) -> Result<(), ModuleEr
     }
 }
 
-/// Passes an item of a section of this kind, which is no import, export, function or tag.
+/// Reads past an item of a section of this kind, which isn't an import, export, function or tag.
 fn pass_item(kind: SectionKind, input: &mut Input<'_>) -> Result<(), ModuleError> {
     match kind {
         SectionKind::Table => input.table(),
@@ -79,8 +80,8 @@ impl<'a> ParsedModule<'a> {
         };
         match parsed.read_sections() {
             Ok(()) => {
-                // They are these already; said here, nothing has to be said of it by what reads
-                // sections.
+                // It has these bytes already. They are set here, so no contract of a function that
+                // reads sections has to say so.
                 parsed.bytes = bytes;
                 Ok(parsed)
             }
@@ -104,7 +105,7 @@ impl<'a> ParsedModule<'a> {
         Sections::new(self.bytes)
     }
 
-    /// The rank of the first of its sections that has a greater rank than this, or `RANKS`.
+    /// The rank of its first section with a greater rank than this; `RANKS` if there is none.
     pub(crate) fn next_rank(&self, rank: u8) -> Result<u8, ModuleError>
         ensures { (all : List SectionAt) → IsModule self.now.bytes.now all
             → IfOk result (λ next. next ≡ next_rank rank all) }
@@ -158,7 +159,7 @@ impl<'a> ParsedModule<'a> {
         self.func_types.len().saturating_sub(self.imported)
     }
 
-    /// Reads all sections, and looks at what they tell of one another.
+    /// Reads all sections, and checks that they agree with each other.
     fn read_sections(&mut self) -> Result<(), ModuleError> {
         for section in Sections::new(self.bytes)? {
             match section {
@@ -194,7 +195,7 @@ impl<'a> ParsedModule<'a> {
         input.finish()
     }
 
-    /// One of the items of a section.
+    /// Reads one item of a section of this kind.
     fn read_item(&mut self, kind: SectionKind, input: &mut Input<'a>) -> Result<(), ModuleError> {
         let place = input.at();
         match kind {
@@ -215,7 +216,7 @@ impl<'a> ParsedModule<'a> {
         }
     }
 
-    /// Gives an item of a section of this kind its index.
+    /// Gives the next index of its space to an item of a section of this kind.
     fn count_item(&mut self, kind: SectionKind) -> Result<(), IndexError> {
         match kind {
             SectionKind::Table => self.spaces.add_table(),
@@ -223,7 +224,7 @@ impl<'a> ParsedModule<'a> {
             SectionKind::Global => self.spaces.add_global(),
             SectionKind::Element => self.spaces.add_element(),
             _ if self.data_count.is_some() => self.spaces.add_data(),
-            // No operator may name a data segment.
+            // No operator may name a data segment without a data count section.
             _ => Ok(()),
         }
     }
@@ -305,7 +306,7 @@ impl<'a> ParsedModule<'a> {
         Ok(made)
     }
 
-    /// The different lists of results of function types.
+    /// The distinct lists of results of function types, sorted.
     fn result_lists<'t>(&self, types: &'t [RawType]) -> Result<Vec<&'t [RawValType]>, ModuleError> {
         let mut lists: Vec<&'t [RawValType]> = Vec::new(self.alloc);
         for ty in types {
@@ -318,7 +319,7 @@ impl<'a> ParsedModule<'a> {
         Ok(lists)
     }
 
-    /// Adds the types of the type section, behind the entry types that bodies of functions of these
+    /// Adds the types of the type section, after the entry types that bodies of functions of these
     /// types need.
     fn add_types(&mut self, types: &[RawType]) -> Result<(), ModuleError> {
         let lists = self.result_lists(types)?;
@@ -347,7 +348,7 @@ impl<'a> ParsedModule<'a> {
         Ok(())
     }
 
-    /// Keeps the bodies of the code section, and answers what follows them.
+    /// Remembers where the bodies of the code section are, and returns what follows them.
     fn read_code(&mut self, mut input: Input<'a>) -> Result<Input<'a>, ModuleError> {
         let begin = input;
         let count = input.number()?;
@@ -362,7 +363,8 @@ impl<'a> ParsedModule<'a> {
         Ok(input)
     }
 
-    /// Whether functions have their bodies, and there are as many data segments as were told.
+    /// Whether functions have their bodies, and there are as many data segments as the data count
+    /// says.
     fn check_counts(&self) -> Result<(), ModuleError> {
         if self.body_count() > 0 && self.code.is_none() {
             return Err(ModuleError {

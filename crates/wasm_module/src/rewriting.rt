@@ -10,7 +10,9 @@ use crate::bodies::Scratch;
 use crate::body_writer::{BodyWriter, ChangeFunction, Changing, Rewriting};
 use crate::changes::Changes;
 use crate::code::Body;
-use crate::custom::{Followed, Followers, Note, contents_at, follows_code, holds_debug};
+use crate::custom::{
+    Followed, Followers, Note, contents_at, follows_code, holds_debug, names_source_map,
+};
 use crate::fault::ModuleError;
 use crate::output::number_len;
 use crate::parsed::ParsedModule;
@@ -55,11 +57,27 @@ impl<B> RewrittenModule<'_, B> {
         self.changes.leaves_out_debug = true;
     }
 
+    /// Leaves out the custom section `sourceMappingURL`, which says where the source map is, when the
+    /// module is written.
+    pub fn leave_out_source_map_url(&mut self)
+        ensures changes { self.new.changes
+            ≡ record self.old.changes { leaves_out_source_map = true } }
+        ensures bodies { self.new.bodies ≡ self.old.bodies }
+    {
+        self.changes.leaves_out_source_map = true;
+    }
+
     /// Whether a section is left out.
     pub(crate) fn leaves_out(&self, section: &Section<'_>) -> bool
         ensures { IsTrue result → IsLeftOut self.now.changes (section_at section.now) }
     {
-        self.changes.leaves_out_debug && section.kind == SectionKind::Custom && holds_debug(section)
+        if section.kind != SectionKind::Custom {
+            return false;
+        }
+        if self.changes.leaves_out_debug && holds_debug(section) {
+            return true;
+        }
+        self.changes.leaves_out_source_map && names_source_map(section)
     }
 }
 

@@ -6,35 +6,49 @@ ghost use Rattle.wasm_module.specs.Sections.{preamble, section_at, Begins};
 use crate::fault::{ModuleError, ModuleFault};
 use crate::input::Input;
 
-/// What a module begins with: the magic number, and the version.
+/// The bytes that a module begins with: the magic number, and the version.
 pub(crate) const PREAMBLE: [u8; 8] = *b"\0asm\x01\0\0\0";
 
-/// One behind the greatest rank of a section.
+/// One more than the greatest rank of a section.
 pub(crate) const RANKS: u8 = 14;
 
-/// What a section holds.
+/// What a section contains.
 #[derive(Clone, Copy, Debug, PartialEq, Eq)]
 pub enum SectionKind {
+    /// Bytes with a name, such as names, debug information and metadata of code.
     Custom,
+    /// Recursive groups of types.
     Type,
+    /// Imports.
     Import,
+    /// The type indices of the functions that have a body.
     Function,
+    /// Tables.
     Table,
+    /// Memories.
     Memory,
+    /// Tags.
     Tag,
+    /// Globals, with their initial values.
     Global,
+    /// Exports.
     Export,
+    /// The index of the function that is called at the start.
     Start,
+    /// Element segments.
     Element,
+    /// The number of data segments.
     DataCount,
+    /// The bodies of functions.
     Code,
+    /// Data segments.
     Data,
 }
 
 impl SectionKind {
     ghost use Rattle.wasm_module.specs.Sections.{id_of, rank};
 
-    /// What a section with this id holds.
+    /// What a section with this id contains.
     fn of_id(id: u8) -> Option<SectionKind>
         ensures { IfSome result (λ kind. id_of kind ≡ id) }
     {
@@ -79,8 +93,8 @@ impl SectionKind {
         }
     }
 
-    /// Its rank: one that isn't custom stands before those of a greater rank. Tags stand behind
-    /// memories, and the data count behind elements.
+    /// Its rank: a section that isn't custom comes before those of a greater rank. Tags come after
+    /// memories, and the data count after elements.
     pub(crate) fn rank(self) -> u8
         ensures { result ≡ rank (id_of self) }
     {
@@ -106,7 +120,7 @@ impl SectionKind {
 /// A section of a module.
 #[derive(Clone, Copy)]
 pub struct Section<'a> {
-    /// What it holds.
+    /// What it contains.
     pub kind: SectionKind,
     /// All of its bytes: its id, its size, and its contents.
     pub whole: &'a [u8],
@@ -117,7 +131,7 @@ pub struct Section<'a> {
 }
 
 impl<'a> Section<'a> {
-    /// Its contents, behind its id and its size.
+    /// Its contents, without its id and its size.
     pub fn contents(&self) -> &'a [u8] {
         self.contents.rest()
     }
@@ -127,7 +141,7 @@ impl<'a> Section<'a> {
         self.contents.at()
     }
 
-    /// The name of a custom section, and what stands behind it.
+    /// The name of a custom section, and the contents that follow it.
     ///
     /// # Errors
     ///
@@ -142,7 +156,7 @@ impl<'a> Section<'a> {
     }
 }
 
-/// The section at the front, and what follows it.
+/// The section at the beginning, and what follows it.
 fn read_section(mut left: Input<'_>) -> Result<(Section<'_>, Input<'_>), ModuleError>
     ensures begins { IfOk result (λ x. Begins left.entry.end left.entry.rest.now (section_at x.0)
         x.1.rest.now) }
@@ -165,9 +179,9 @@ fn read_section(mut left: Input<'_>) -> Result<(Section<'_>, Input<'_>), ModuleE
     Ok((section, left))
 }
 
-/// The sections of a module, in the order in which they stand. A fault is the last item:
-/// `UnknownSection`, `BadNumber`, `Truncated`, or `SectionOutOfOrder` where a section stands behind
-/// one that it has to stand before, or where there was one of its kind.
+/// The sections of a module, in order. A fault is the last item: `UnknownSection`, `BadNumber`,
+/// `Truncated`, or `SectionOutOfOrder` if a section comes after one that it has to come before, or
+/// if there was one of its kind.
 #[derive(Clone, Copy)]
 pub struct Sections<'a> {
     left: Input<'a>,
@@ -175,7 +189,7 @@ pub struct Sections<'a> {
 }
 
 impl<'a> Sections<'a> {
-    /// Those of a module of these bytes.
+    /// The sections of a module with these bytes.
     ///
     /// # Errors
     ///
@@ -197,7 +211,7 @@ impl<'a> Sections<'a> {
     }
 }
 
-/// The rank of the last section that isn't custom, when one more was read.
+/// The rank of the last section that isn't custom, after one more was read.
 fn rank_after(before: u8, section: &Section<'_>) -> Result<u8, ModuleError> {
     let rank = section.kind.rank();
     if section.kind == SectionKind::Custom {

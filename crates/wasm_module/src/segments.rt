@@ -14,7 +14,7 @@ impl Input<'_> {
         Ok(flags)
     }
 
-    /// Passes the kind of an element segment's elements, which is a byte 0 for functions, or their
+    /// Reads past the kind of an element segment's elements: a byte 0 for functions, or their
     /// reference type.
     fn element_kind(&mut self, is_type: bool) -> Result<(), ModuleError> {
         if is_type {
@@ -28,7 +28,7 @@ impl Input<'_> {
         }
     }
 
-    /// Passes the index of a table or of a memory.
+    /// Reads past the index of a table, memory or function, which isn't looked up.
     fn pass_index(&mut self) -> Result<(), ModuleError> {
         match self.number() {
             Ok(_) => Ok(()),
@@ -36,11 +36,11 @@ impl Input<'_> {
         }
     }
 
-    /// Passes what is before the elements of a segment with these flags.
+    /// Reads past everything before the elements of a segment with these flags.
     fn before_elements(&mut self, flags: u32) -> Result<(), ModuleError> {
         let is_active = flags % 2 == 0;
         let has_more = flags % 4 != 0;
-        // An active segment names its table where bit 1 says so.
+        // An active segment names its table if bit 1 says so.
         if is_active && has_more {
             match self.pass_index() {
                 Ok(()) => {}
@@ -59,7 +59,7 @@ impl Input<'_> {
         }
     }
 
-    /// Passes the elements of a segment: expressions, or indices of functions.
+    /// Reads past the elements of a segment: expressions, or indices of functions.
     fn elements(&mut self, are_expressions: bool) -> Result<(), ModuleError> {
         let count = match self.number() {
             Ok(count) => count,
@@ -78,7 +78,7 @@ impl Input<'_> {
         Ok(())
     }
 
-    /// Passes an element segment.
+    /// Reads past an element segment.
     pub fn element_segment(&mut self) -> Result<(), ModuleError> {
         let flags = match self.segment_flags(7) {
             Ok(flags) => flags,
@@ -90,7 +90,7 @@ impl Input<'_> {
         }
     }
 
-    /// Passes a data segment.
+    /// Reads past a data segment.
     pub fn data_segment(&mut self) -> Result<(), ModuleError> {
         let flags = self.segment_flags(2)?;
         if flags == 2 {

@@ -1,4 +1,4 @@
-//! The index spaces of a module: what stands in each keeps its index.
+//! The index spaces of a module: everything in them keeps its index.
 
 ghost use Rattle.std.specs.Prelude.{◌≡◌, ◌<◌, ◌≤◌, ◌^◌, ℕ, Ok, OnOk, IfErr};
 ghost use Rattle.wasm_body.specs.declared.error.IndexError.TheVariants as index;
@@ -11,7 +11,7 @@ use walrus_ir::{
     DataId, ElementId, FunctionId, GlobalId, LocalId, MemoryId, TableId, TagId, TypeId,
 };
 
-/// How many things stand in each index space but those of types, functions and locals.
+/// How many items each index space has, except those of types, functions and locals.
 #[derive(Clone, Copy, Default)]
 struct Counts {
     tables: usize,
@@ -23,18 +23,20 @@ struct Counts {
 }
 
 /// The ids of a module's indices, and the indices of its ids, which are the same in the source and
-/// in what is written.
+/// in the module that is written.
 #[derive(Drop)]
 pub(crate) struct Spaces {
+    /// The ids of the indices.
     pub indices: IndicesToIds,
+    /// The indices of the ids.
     pub numbers: IdsToIndices,
     counts: Counts,
-    /// How many indices of locals stand for ids, which are the indices.
+    /// How many indices of locals have ids, which equal the indices.
     locals: usize,
     ghost local_ids: { locals_in indices 0 ≡ first_numbers locals },
 }
 
-/// Gives an id the next index of its space, in the source and in what is written.
+/// Gives an id the next index of its space, in the source and in the module that is written.
 macro_rules! add {
     ($spaces:ident, $id:expr, $push:ident, $number_of:ident) => {{
         let id = $id;
@@ -46,7 +48,7 @@ macro_rules! add {
     }};
 }
 
-/// The same of what has its index as id, which is the count of its space.
+/// The same for an item whose id is its index, which is the number of items in its space.
 macro_rules! add_next {
     ($spaces:ident, $kind:ident, $count:ident, $push:ident, $number_of:ident) => {{
         let index = $spaces.counts.$count;
@@ -58,7 +60,7 @@ macro_rules! add_next {
 impl Spaces {
     ghost use Rattle.wasm_module.specs.RewrittenCode.{HasOtherLocals};
 
-    /// Nothing has an index. It takes no memory.
+    /// Empty index spaces. This allocates nothing.
     pub fn new(alloc: Global) -> Spaces {
         Spaces {
             indices: IndicesToIds::new(alloc),
@@ -121,15 +123,15 @@ impl Spaces {
         self.counts.data
     }
 
-    /// The function under whose id the locals of all functions are found: those of each are
-    /// numbered alike, so that one list serves for all.
+    /// The function whose list in the maps has the locals of all functions. They are numbered in
+    /// the same way in each, so one list is enough.
     pub fn local_lists(&self) -> FunctionId
         ensures { result ≡ 0 }
     {
         FunctionId::new(0)
     }
 
-    /// Lets so many first indices of locals stand for ids, which are the indices.
+    /// Gives each of the first `count` indices of locals an id, which equals the index.
     pub fn reach_locals(&mut self, count: usize) -> Result<(), IndexError>
         ensures others { HasOtherLocals self.old self.new }
         ensures ids { OnOk result ((local : ℕ) → local < count

@@ -5,7 +5,7 @@ use crate::fault::{ModuleError, ModuleFault};
 use crate::input::Input;
 
 impl Input<'_> {
-    /// Passes a mutability.
+    /// Reads past a mutability.
     pub fn mutability(&mut self) -> Result<(), ModuleError> {
         let begin = *self;
         match self.byte()? {
@@ -14,8 +14,8 @@ impl Input<'_> {
         }
     }
 
-    /// Passes limits, whose flags say whether there is a maximum, whether a memory is shared, which
-    /// has a maximum (the proposal for threads), and whether the numbers have 64 bits.
+    /// Reads past limits. Their flags say whether there is a maximum, whether a memory is shared,
+    /// which requires a maximum (the proposal for threads), and whether the numbers have 64 bits.
     pub fn limits(&mut self) -> Result<(), ModuleError> {
         let begin = *self;
         let flags = self.byte()?;
@@ -32,7 +32,7 @@ impl Input<'_> {
         Ok(())
     }
 
-    /// Passes the type of a table.
+    /// Reads past the type of a table.
     pub fn table_type(&mut self) -> Result<(), ModuleError> {
         match self.reference_type() {
             Ok(_) => self.limits(),
@@ -40,7 +40,7 @@ impl Input<'_> {
         }
     }
 
-    /// Passes a table: its type, which a constant expression for its elements may follow.
+    /// Reads past a table: its type, and the constant expression of its elements, if it has one.
     pub fn table(&mut self) -> Result<(), ModuleError> {
         if let [0x40, 0x00, ..] = self.rest() {
             self.part(2)?;
@@ -50,7 +50,7 @@ impl Input<'_> {
         self.table_type()
     }
 
-    /// Passes the type of a global.
+    /// Reads past the type of a global.
     pub fn global_type(&mut self) -> Result<(), ModuleError> {
         match self.value_type() {
             Ok(_) => self.mutability(),
@@ -58,7 +58,7 @@ impl Input<'_> {
         }
     }
 
-    /// Passes a global: its type, and a constant expression.
+    /// Reads past a global: its type, and a constant expression.
     pub fn global(&mut self) -> Result<(), ModuleError> {
         match self.global_type() {
             Ok(()) => self.constant(),
@@ -66,7 +66,7 @@ impl Input<'_> {
         }
     }
 
-    /// The type index of a tag, behind its attribute.
+    /// The type index of a tag, which follows its attribute.
     pub fn tag(&mut self) -> Result<u32, ModuleError> {
         let begin = *self;
         match self.byte()? {

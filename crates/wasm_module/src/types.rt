@@ -7,9 +7,10 @@ use walrus_body::Space;
 use walrus_ir::{HeapType, RefType, ValType};
 use wasm_ops::{RawValType, ReadFault};
 
-/// A composite type, as far as bodies of functions speak of it: with raw type indices.
+/// A composite type, as far as bodies of functions use it: with raw type indices.
 #[derive(Drop)]
 pub(crate) enum RawType {
+    /// A function type.
     Func {
         params: Vec<RawValType>,
         results: Vec<RawValType>,
@@ -19,7 +20,7 @@ pub(crate) enum RawType {
 }
 
 impl Input<'_> {
-    /// Why a type names no other.
+    /// The error of a type index that no type has.
     fn no_type(&self, index: u32) -> ModuleError {
         self.fault(ModuleFault::IndexOutOfRange {
             space: Space::Types,
@@ -28,7 +29,7 @@ impl Input<'_> {
     }
 }
 
-/// Reads types that may name so many types.
+/// Reads types, whose type indices have to be less than `count`.
 #[derive(Drop)]
 struct TypeReader<'a> {
     input: Input<'a>,
@@ -36,7 +37,7 @@ struct TypeReader<'a> {
 }
 
 impl TypeReader<'_> {
-    /// A value type that names one of the types, if it names one.
+    /// A value type, whose type index, if it has one, has to be less than `count`.
     fn value_type(&mut self) -> Result<RawValType, ModuleError> {
         let begin = self.input;
         let ty = self.input.value_type()?;
@@ -61,7 +62,7 @@ impl TypeReader<'_> {
         Ok(types)
     }
 
-    /// Passes the type of a field: a value type, or one of 8 or 16 bits, and its mutability.
+    /// Reads past the type of a field: a value type, or one of 8 or 16 bits, and its mutability.
     fn field(&mut self) -> Result<(), ModuleError> {
         if matches!(self.input.rest(), [0x77 | 0x78, ..]) {
             return match self.input.byte() {
@@ -98,7 +99,7 @@ impl TypeReader<'_> {
         }
     }
 
-    /// A subtype: what it is a subtype of isn't kept.
+    /// A subtype, without its supertypes.
     fn subtype(&mut self, alloc: Global) -> Result<RawType, ModuleError> {
         if let [0x4f | 0x50, ..] = self.input.rest() {
             self.input.byte()?;
@@ -128,7 +129,7 @@ impl TypeReader<'_> {
     }
 }
 
-/// The types of a section that may name so many types.
+/// The types of a section, whose type indices have to be less than `count`.
 fn read_naming(
     alloc: Global,
     section: Input<'_>,
@@ -150,10 +151,10 @@ fn read_naming(
 ///
 /// # Errors
 ///
-/// `Truncated`, `BadNumber`, `BadType`, `BadMutability`, `Trailing`; else `IndexOutOfRange` where a
-/// type names one that the section doesn't have; or `Memory`.
+/// `Truncated`, `BadNumber`, `BadType`, `BadMutability`, `Trailing`; else `IndexOutOfRange` if a
+/// type contains a type index that the section doesn't have; or `Memory`.
 pub(crate) fn read_types(alloc: Global, section: Input<'_>) -> Result<Vec<RawType>, ModuleError> {
-    // How many there are isn't known before all are read.
+    // The number of types is known only when all are read.
     let count = read_naming(alloc, section, usize::MAX)?.len();
     read_naming(alloc, section, count)
 }

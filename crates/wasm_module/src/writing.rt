@@ -19,7 +19,7 @@ use crate::output::write_number;
 use crate::parsed::ParsedModule;
 use crate::rewriting::RewrittenModule;
 use crate::sections::{PREAMBLE, Section, SectionKind, Sections};
-use crate::telling::{MapLines, Nobody, Tell};
+use crate::telling::{MapLines, Nobody, Tell, WrittenBody};
 use std::alloc::Global;
 use std::io;
 use std::io::Write;
@@ -96,7 +96,7 @@ fn put_header<W: Write>(
 }
 
 /// Writes a section of these contents.
-fn put_section<W: Write>(
+pub(crate) fn put_section<W: Write>(
     alloc: Global,
     kind: SectionKind,
     contents: &[u8],
@@ -152,7 +152,13 @@ impl<'a> ParsedModule<'a> {
         bodies.write_body(self, body, tell.wants_pairs(), scratch)?;
         let raw = scratch.raw.as_slice();
         let start = put_number(self.alloc, raw.len(), at, out)?;
-        tell.tell(&scratch.pairs, start)?;
+        let old_start = body.start();
+        let pairs = scratch.pairs.as_slice();
+        tell.tell(WrittenBody {
+            old_start,
+            start,
+            pairs,
+        })?;
         put(raw, start, out)
     }
 
@@ -341,5 +347,24 @@ impl<'a> ParsedModule<'a> {
             × Appends (W.contents out.old) (W.contents out.new) new) }
     {
         self.write_telling(rewritten, &mut MapLines(map), out)
+    }
+
+    /// The same, with a listener, who is told of each body.
+    ///
+    /// # Errors
+    ///
+    /// Those of `write_module`, and those of the listener.
+    pub fn write_module_telling<B: BodyWriter, T: Tell, W: Write>(
+        &mut self,
+        rewritten: &RewrittenModule<'_, B>,
+        tell: &mut T,
+        out: &mut W,
+    ) -> Result<(), WriteError>
+        ensures extends { OnOk result (Extends self.old self.new) }
+        ensures written { OnOk result ((new : List ℕ)
+            × IsWrittenModule (B.writes rewritten.now.bodies) self.old rewritten.now.changes new
+            × Appends (W.contents out.old) (W.contents out.new) new) }
+    {
+        self.write_telling(rewritten, tell, out)
     }
 }

@@ -1,4 +1,5 @@
--- How reading and spellings agree: what is read is spelt by the bytes that are taken, and what is spelt at the front is read.
+-- How reading and spellings agree: a value that is read is spelt by the bytes that are taken, and a value that is spelt at
+-- the front is read.
 use Rattle.std.proofs.Common.{◌≡◌, ℕ, zero, suc, ◌<◌, Bool, true, false, cond, List, [], ◌∷◌, ◌++◌, get_or, Result, Ok, refl, sym, ap, subst, ◌∙◌, append_assoc, inl, inr, ◌⊎◌}
 use Rattle.std.proofs.lemmas.List.{append_cancel_right}
 use Rattle.walrus_ir.proofs.ResultLemmas.{bind_ok}
@@ -18,19 +19,19 @@ done x = Ok x
 pub ok_is : {A : Type 0} (x y : A) → done x ≡ done y → x ≡ y
 ok_is x y e = cc
 
--- which way a test went
+-- the result of a test
 pub chosen : {A : Type 0} (b : Bool) (x y z : A) → cond b x y ≡ z → ((b ≡ true) × (x ≡ z)) ⊎ ((b ≡ false) × (y ≡ z))
 chosen true x y z e = inl (refl, e)
 chosen false x y z e = inr (refl, e)
 
--- The bytes begin with a spelling of this value, which reading takes.
+-- The bytes begin with a spelling of this value, and reading takes it.
 pub record Takes {V : Type 0} (Spells : V → List ℕ → Type 0) (bytes : List ℕ) (v : V) (rest : List ℕ) : Type 0 where
   pub text : List ℕ
   pub parts : bytes ≡ text ++ rest
   pub spelt : Spells v text
   pub rest_fits : IsBytes rest
 
--- What is read is spelt by the bytes that are taken, and what is spelt at the front is read, whatever follows.
+-- A value that is read is spelt by the bytes that are taken, and a value that is spelt at the front is read, whatever follows.
 pub record Agrees {V : Type 0} (Spells : V → List ℕ → Type 0) (read : List ℕ → Result (V × List ℕ) ReadFault) : Type 0 where
   pub takes : (bytes : List ℕ) (v : V) (rest : List ℕ) → IsBytes bytes → read bytes ≡ Ok (v, rest) → Takes Spells bytes v rest
   pub again : (v : V) (text rest : List ℕ) → Spells v text → read (text ++ rest) ≡ Ok (v, rest)

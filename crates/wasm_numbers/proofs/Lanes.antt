@@ -1,4 +1,4 @@
--- This many bytes are read if there are as many.
+-- A given number of bytes is read if there are at least that many.
 use Rattle.std.proofs.Common.{◌≡◌, ℕ, zero, suc, ◌<◌, ◌≤◌, List, [], ◌∷◌, length, take, drop, Ok, Err, refl, arith}
 use Rattle.wasm_numbers.specs.declared.fault.ReadFault.TheVariants.{Truncated}
 use Rattle.wasm_numbers.specs.Reading.{many}

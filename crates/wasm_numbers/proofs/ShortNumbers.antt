@@ -15,7 +15,7 @@ last_high bits byte wide high =
     let fits : 128 ≤ byte + 2 ^ (bits - 1) = omega (arith, pow_64 bits wide) in
     rw (le-ltb byte 64 high, le-leb 128 (byte + 2 ^ (bits - 1)) fits) refl
 
--- what follows the first byte, read as a slice
+-- the bytes after the first, read as a slice
 abbrev pub behind : List ℕ → List ℕ
 behind bytes = take (length bytes - 1) (drop 1 bytes)
 

@@ -6,8 +6,8 @@ use Rattle.wasm_numbers.specs.declared.fault.ReadFault.TheVariants.{Truncated, B
 use Rattle.wasm_numbers.specs.Reading.{Spelling, Reader, Many, many, Made, made}
 use Rattle.walrus_ir.specs.Results.{◌>>=◌}
 
--- How bytes make a number. Of a last byte, below 128, with this many bits left: its number, if it is allowed there. Of a byte
--- from 128 on: the number that its low seven bits and the number spelt after it make.
+-- How bytes make a number. `last`: the number of a last byte, which is below 128, where this many bits are left, if the byte
+-- is allowed there. `more`: the number of a byte from 128 on, from its low seven bits and the number that is spelt after it.
 pub record Encoding (V : Type 0) : Type 0 where
   pub last : (bits byte : ℕ) → Option V
   pub more : (low : ℕ) (high : V) → V
@@ -28,8 +28,8 @@ signed_last bits byte =
 abbrev pub signed : Encoding ℤ
 signed = record { last = signed_last; more = λ low high. pos low +ℤ (pos 128 *ℤ high) }
 
--- The bytes spell a number of this many bits. A byte from 128 on is followed by a number of seven bits less. So the limits of
--- length and of unused bits follow, and longer spellings than needed are allowed within them.
+-- The bytes spell a number of this many bits. A byte from 128 on is followed by a number with seven bits fewer. The limits of
+-- length and of unused bits follow from this. Within them, longer spellings than needed are allowed.
 abbrev pub IsInteger : {V : Type 0} → Encoding V → (bits : ℕ) → Spelling V
 IsInteger e bits v [] = ⊥
 IsInteger e bits v (b ∷ []) = (b < 128) × (e.last bits b ≡ Some v)
@@ -47,7 +47,7 @@ integer e bits (b ∷ bs) =
     else if nat_le bits 7 then Err BadNumber
     else (integer e (bits - 7) bs >>= λ high. Ok (e.more (b - 128) high.0, high.1))
 
--- the five kinds
+-- the five kinds of integers
 abbrev pub IsU32 : Spelling ℕ
 IsU32 = IsInteger unsigned 32
 

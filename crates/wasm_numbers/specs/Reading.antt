@@ -1,4 +1,4 @@
--- Spellings one after the other, and reading them from left to right: the first part that can't be read is the fault. A
+-- Spellings one after the other, and reading them from left to right: the first part that can't be read decides the fault. A
 -- spelling is a relation between a value and the bytes that spell it. Reading is a function from bytes to the value that they
 -- begin with and the bytes that follow its spelling. Each pair of definitions below is one way to combine spellings and their
 -- readings.
@@ -10,7 +10,7 @@ use Rattle.wasm_numbers.specs.declared.fault.ReadFault.{ReadFault}
 abbrev pub Spelling : Type 0 → Type 1
 Spelling A = A → List ℕ → Type 0
 
--- the value at the front and the bytes that follow it, or why there is none
+-- the value at the front and the bytes that follow it, or the fault if there is none
 abbrev pub Reader : Type 0 → Type 0
 Reader A = List ℕ → Result (A × List ℕ) ReadFault
 
@@ -22,7 +22,7 @@ Then First Second v text = (first second : List ℕ) × (text ≡ first ++ secon
 abbrev pub then_read : {A B : Type 0} → Reader A → (A → Reader B) → Reader (A × B)
 then_read first second bytes = first bytes >>= λ x. second x.0 x.1 >>= λ y. Ok ((x.0, y.0), y.1)
 
--- ---- the spelt value makes another value, or is refused
+-- ---- the value that is spelt is turned into another value, or is refused
 
 abbrev pub Made : {A B : Type 0} → Spelling A → (A → Result B ReadFault) → Spelling B
 Made {A} Raw make v text = (raw : A) × (make raw ≡ Ok v) × Raw raw text

@@ -1,5 +1,5 @@
 //! The spellings of WebAssembly's numbers and how they are read: integers in LEB128, bits, bytes
-//! and lanes; and why an operator can't be read.
+//! and lanes; and the reasons why an operator can't be read.
 #![tactic(auto)]
 
 mod fault;

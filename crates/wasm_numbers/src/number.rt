@@ -8,7 +8,7 @@ ghost use Rattle.wasm_numbers.specs.Numbers.{unsigned, signed, unsigned_last, si
 
 use crate::fault::ReadFault;
 
-/// The number of a last byte in an unsigned number with this many bits left.
+/// The number of a last byte of an unsigned number, where this many bits are left.
 #[tactic(auto, using(crate::proofs::Powers::powers))]
 fn last_unsigned(bits: u32, byte: u8) -> Option<u64>
     requires { byte < 128 }
@@ -24,7 +24,7 @@ fn last_unsigned(bits: u32, byte: u8) -> Option<u64>
     }
 }
 
-/// The number of a last byte in a signed number with this many bits left.
+/// The number of a last byte of a signed number, where this many bits are left.
 #[tactic(auto, using(crate::proofs::Powers::powers))]
 fn last_signed(bits: u32, byte: u8) -> Option<i64>
     requires some { 0 < bits }
@@ -43,7 +43,7 @@ fn last_signed(bits: u32, byte: u8) -> Option<i64>
     }
 }
 
-/// The number of `bits` bits that has these low seven bits and this number above them.
+/// The number of `bits` bits with these low seven bits and this number above them.
 fn join_unsigned(bits: u32, low: u8, high: u64) -> u64
     requires long { 7 < bits }
     requires wide { bits ≤ 64 }
@@ -55,7 +55,7 @@ fn join_unsigned(bits: u32, low: u8, high: u64) -> u64
     low as u64 + 128 * high
 }
 
-/// The signed number of `bits` bits that has these low seven bits and this number above them.
+/// The signed number of `bits` bits with these low seven bits and this number above them.
 #[inline(always)]
 fn join_signed(bits: u32, low: u8, high: i64) -> i64
     requires long { 7 < bits }
@@ -98,6 +98,10 @@ fn read_unsigned(bits: u32, bytes: &[u8]) -> Result<(u64, &[u8]), ReadFault>
 
 /// Reads a signed number of `bits` bits at the front (WebAssembly core specification 3.0, binary
 /// format, values). Returns it and the bytes that follow.
+///
+/// # Errors
+///
+/// Those of `read_u32`.
 #[tactic(auto, using(crate::proofs::Powers::powers), unfolding(crate::specs::Numbers::integer))]
 pub fn read_signed(bits: u32, bytes: &[u8]) -> Result<(i64, &[u8]), ReadFault>
     requires some { 0 < bits }
@@ -190,7 +194,11 @@ fn read_s32_of_any_length(bytes: &[u8]) -> Result<(i32, &[u8]), ReadFault>
 }
 
 /// Reads an `s32` at the front (WebAssembly core specification 3.0, binary format, values). Returns
-/// it and the bytes that follow. Fastest for one byte.
+/// it and the bytes that follow. Fastest for one byte. Allocates nothing.
+///
+/// # Errors
+///
+/// Those of `read_u32`.
 #[inline(always)]
 #[tactic(auto, using(crate::proofs::Powers::powers), unfolding(crate::specs::Numbers::integer))]
 pub fn read_s32(bytes: &[u8]) -> Result<(i32, &[u8]), ReadFault>
@@ -216,7 +224,11 @@ fn read_s64_of_any_length(bytes: &[u8]) -> Result<(i64, &[u8]), ReadFault>
 }
 
 /// Reads an `s64` at the front (WebAssembly core specification 3.0, binary format, values). Returns
-/// it and the bytes that follow. Fastest for one byte.
+/// it and the bytes that follow. Fastest for one byte. Allocates nothing.
+///
+/// # Errors
+///
+/// Those of `read_u32`.
 #[inline(always)]
 #[tactic(auto, using(crate::proofs::Powers::powers), unfolding(crate::specs::Numbers::integer))]
 pub fn read_s64(bytes: &[u8]) -> Result<(i64, &[u8]), ReadFault>
@@ -234,7 +246,8 @@ pub fn read_s64(bytes: &[u8]) -> Result<(i64, &[u8]), ReadFault>
 }
 
 /// Reads an unsigned number of up to three bytes at the front, if there is one (WebAssembly core
-/// specification 3.0, binary format, values). Returns it and the bytes that follow.
+/// specification 3.0, binary format, values). Returns it and the bytes that follow. The number is
+/// the same as a `u32` and as a `u64`.
 #[inline(always)]
 #[tactic(auto, using(crate::proofs::Powers::powers), unfolding(crate::specs::Numbers::integer))]
 pub fn read_short_unsigned(bytes: &[u8]) -> Option<(u32, &[u8])>
@@ -264,7 +277,7 @@ pub fn read_short_unsigned(bytes: &[u8]) -> Option<(u32, &[u8])>
     None
 }
 
-/// The number of a last byte in a signed number with seven bits or more left.
+/// The number of a last byte of a signed number, where seven bits or more are left.
 #[inline(always)]
 fn wide_last_signed(byte: u8) -> i64
     requires { byte < 128 }
@@ -331,8 +344,11 @@ pub fn read_short_s64(bytes: &[u8]) -> Option<(i64, &[u8])>
     read_short_signed(bytes)
 }
 
-/// Reads a byte at the front. Returns it and the bytes that follow. The error is `Truncated` if
-/// there is no byte.
+/// Reads a byte at the front. Returns it and the bytes that follow.
+///
+/// # Errors
+///
+/// `Truncated` if there is no byte.
 pub fn read_byte(bytes: &[u8]) -> Result<(u8, &[u8]), ReadFault>
     ensures { Gives (λ x. (x.0, x.1.now)) result (byte_at bytes.now) }
 {
@@ -342,7 +358,7 @@ pub fn read_byte(bytes: &[u8]) -> Result<(u8, &[u8]), ReadFault>
     }
 }
 
-/// The number of `count` bytes that has this low byte and this number above it.
+/// The number of `count` bytes with this low byte and this number above it.
 fn join_bytes(count: u32, low: u8, high: u128) -> u128
     requires some { 0 < count }
     requires few { count ≤ 16 }
@@ -371,6 +387,10 @@ fn read_bits(count: u32, bytes: &[u8]) -> Result<(u128, &[u8]), ReadFault>
 
 /// Reads the bits of an `f32` at the front (WebAssembly core specification 3.0, binary format,
 /// values). Returns them and the bytes that follow.
+///
+/// # Errors
+///
+/// `Truncated` if there are fewer than 4 bytes.
 pub fn read_f32(bytes: &[u8]) -> Result<(u32, &[u8]), ReadFault>
     ensures { Gives (λ x. (x.0, x.1.now)) result (some_bits 4 bytes.now) }
 {
@@ -380,6 +400,10 @@ pub fn read_f32(bytes: &[u8]) -> Result<(u32, &[u8]), ReadFault>
 
 /// Reads the bits of an `f64` at the front (WebAssembly core specification 3.0, binary format,
 /// values). Returns them and the bytes that follow.
+///
+/// # Errors
+///
+/// `Truncated` if there are fewer than 8 bytes.
 pub fn read_f64(bytes: &[u8]) -> Result<(u64, &[u8]), ReadFault>
     ensures { Gives (λ x. (x.0, x.1.now)) result (some_bits 8 bytes.now) }
 {
@@ -387,14 +411,24 @@ pub fn read_f64(bytes: &[u8]) -> Result<(u64, &[u8]), ReadFault>
     Ok((bits as u64, rest))
 }
 
-/// Reads the bits of a `v128` at the front. Returns them and the bytes that follow.
+/// Reads the bits of a `v128` at the front, the least significant byte first. Returns them and the
+/// bytes that follow.
+///
+/// # Errors
+///
+/// `Truncated` if there are fewer than 16 bytes.
 pub fn read_v128(bytes: &[u8]) -> Result<(u128, &[u8]), ReadFault>
     ensures { Gives (λ x. (x.0, x.1.now)) result (some_bits 16 bytes.now) }
 {
     read_bits(16, bytes)
 }
 
-/// Reads sixteen lanes at the front. Returns them and the bytes that follow.
+/// Reads the sixteen lanes of `i8x16.shuffle` at the front, one byte each. Returns them and the
+/// bytes that follow.
+///
+/// # Errors
+///
+/// `Truncated` if there are fewer than 16 bytes.
 #[tactic(auto, using(crate::proofs::Lanes::reading_lanes))]
 pub fn read_lanes(bytes: &[u8]) -> Result<(&[u8; 16], &[u8]), ReadFault>
     ensures { Gives (λ x. (x.0.now, x.1.now)) result (many byte_at 16 bytes.now) }

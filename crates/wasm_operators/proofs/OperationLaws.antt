@@ -62,7 +62,7 @@ opcodes_agree = record { takes = opcode_takes; again = opcode_again }
 
 -- ---- operators
 
--- what was read after an opcode
+-- the immediates that were read after an opcode
 record Read (o : Opcode) (kinds : Option (List Kind)) (bytes : List ℕ) (v : RawOperation) (rest : List ℕ) : Type 0 where
   asked : List Kind
   known : kinds ≡ Some asked
@@ -110,6 +110,6 @@ unfolding read_operation
 operation_again v text rest h =
     ap read_operation (parted text rest h.first h.others h.parts) ∙ rw (opcodes_agree.again v.opcode h.first (h.others ++ rest) h.opcode, h.kinds, immediates_again v.immediates h.others rest h.immediates) refl
 
--- what is read is spelt by the bytes that are taken, and what is spelt at the front is read
+-- an operator that is read is spelt by the bytes that are taken, and one that is spelt at the front is read
 pub operations_agree : Agrees Spells read_operation
 operations_agree = record { takes = operation_takes; again = operation_again }

@@ -31,7 +31,7 @@ refused_or false fault others v e = (refl, e)
 
 -- ---- memory accesses
 
--- what flags mean: an exponent below 32; if a memory index follows, the flags are 64 more
+-- the meaning of flags: an exponent below 32; if a memory index follows, the flags are 64 more
 pub record AreFlags (k : ℕ) (flags : ℕ × Bool) : Type 0 where
   pub small : flags.0 < 32
   pub is : k ≡ cond flags.1 (flags.0 + 64) flags.0
@@ -130,7 +130,7 @@ pub short_indexed : (a : Access) → eqb a.memory 0 ≡ false → short_access a
 unfolding short_access
 short_indexed a e = rw e (append_assoc (short_number (a.alignment + 64)) (short_number a.memory) (short_number a.offset))
 
--- a small exponent has one byte
+-- a small exponent is spelt in one byte
 small_length : (n : ℕ) → n < 32 → length (short_number n) ≡ 1
 unfolding short_unsigned
 small_length n h = let lt : n < 128 = omega arith in rw (lt-ltb n 128 lt) refl
@@ -139,7 +139,7 @@ some_length : (n : ℕ) (text : List ℕ) → IsU32 n text → 0 < length text
 some_length n [] h = absurd h
 some_length n (b ∷ text) h = omega arith
 
--- with no index
+-- without an index
 plainly : (a : Access) (text : List ℕ) → IsPlain a text → IsAccess a (short_access a) × IsLeast (short_access a) text
 plainly a text p =
     let flags = (least_u32 a.alignment).is p.flags p.flags_spelt in

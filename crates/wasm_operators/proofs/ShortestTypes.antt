@@ -25,7 +25,7 @@ abbrev pub EachRow : {V : Type 0} → (ℕ → V → Type 0) → List (ℕ × V)
 EachRow P [] = Unit {0}
 EachRow P (row ∷ rows) = P row.0 row.1 × EachRow P rows
 
--- what holds of each row holds of the value of the table at a number
+-- a property of each row is a property of the value of the table at a number
 pub row_holds : {V : Type 0} (P : ℕ → V → Type 0) (rows : List (ℕ × V)) → EachRow P rows → (n : ℕ) (v : V) → row_at rows n ≡ Some v → P n v
 row_holds P [] each n v e = absurd cc
 row_holds {V} P (row ∷ rows) each n v e =
@@ -145,7 +145,7 @@ pub heap_below : (a : AbstractHeapType) → heap_byte a < 256
 heap_below abstract.NoExn = omega arith
 heap_below _ = omega arith
 
--- what is shorter than a least text is least too
+-- a text that is shorter than a least one is least too
 least_below : (short long text : List ℕ) → length short < length long → IsLeast long text → IsLeast short text
 least_below short long text lt (inl e) = inr (omega (arith, ap length e))
 least_below short long text lt (inr h) = inr (omega arith)

@@ -39,7 +39,7 @@ module _ {A B : Type 0} (First : A → List ℕ → Type 0) (Second : A → B �
   pub least_then : Least (Then First Second (a, b)) (x ++ y)
   least_then = record { is = then_is }
 
--- only one thing makes the value
+-- only one value is turned into this value
 pub least_made : {A B : Type 0} (Raw : A → List ℕ → Type 0) (make : A → Result B ReadFault) (v : B) (raw : A) (short : List ℕ)
     → ((text : List ℕ) → Made Raw make v text → (make raw ≡ Ok v) × Raw raw text) → Least (Raw raw) short → Least (Made Raw make v) short
 least_made Raw make v raw short only least = record {

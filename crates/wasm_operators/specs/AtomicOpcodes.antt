@@ -11,7 +11,7 @@ use Rattle.wasm_operators.specs.declared.types.Opcode.{Opcode}
 use Rattle.wasm_operators.specs.declared.types.Opcode.TheVariants.{Prefixed}
 use Rattle.wasm_operators.specs.Operations.{Access, access, Operation, operation}
 
--- the position of a width among the seven
+-- the position of a width in the order of the seven opcodes
 abbrev pub width_number : AtomicWidth → ℕ
 width_number I32 = 0
 width_number I64 = 1
@@ -21,7 +21,7 @@ width_number I64_8 = 4
 width_number I64_16 = 5
 width_number I64_32 = 6
 
--- the first of the seven
+-- the number of the first of the seven opcodes
 abbrev pub first_atomic : AtomicOp → ℕ
 first_atomic Add = 0x1e
 first_atomic Sub = 0x25

@@ -18,7 +18,7 @@ replace_opcode (binary.F32x4ReplaceLane idx) = Some (Prefixed 0xfd 32)
 replace_opcode (binary.F64x2ReplaceLane idx) = Some (Prefixed 0xfd 34)
 replace_opcode _ = None
 
--- 0xfd 171 on
+-- 0xfd from 171 on
 abbrev pub high_vector_binary_opcode : BinaryOp → Option Opcode
 high_vector_binary_opcode binary.I32x4Shl = Some (Prefixed 0xfd 171)
 high_vector_binary_opcode binary.I32x4ShrS = Some (Prefixed 0xfd 172)

@@ -9,7 +9,7 @@ use Rattle.wasm_operators.specs.declared.types.BlockType.{BlockType}
 use Rattle.wasm_operators.specs.declared.types.BlockType.TheVariants.{Empty, Value, FuncType}
 use Rattle.wasm_operators.specs.Operations.{CatchClause, RawImmediate, index, local, label, handler, outer, number, branch_table, clauses, access, block, heap, value, cast, i32, i64, f32, f64, v128, lane, lanes, zero_byte}
 
--- What an immediate needs besides numbers that fit their types.
+-- What an immediate requires besides numbers that fit their types.
 abbrev pub IsSpeakable : RawImmediate → Type 0
 IsSpeakable (access a) = a.alignment < 32
 IsSpeakable (branch_table targets default) = length targets < 2 ^ 32

@@ -12,7 +12,7 @@ abbrev pub AreBytes : List ℕ → Type 0
 AreBytes bytes = AllByRecursion (λ b. b < 256) bytes
 
 -- An operator that is spelt at the front is read there, whatever follows. An operator that is read at the front of some bytes
--- is spelt by what is taken, and bytes follow.
+-- is spelt by the bytes that are taken, and the rest are bytes too.
 pub record ReadingAgrees : Type 0 where
   pub again : (o : RawOperation) (text rest : List ℕ) → Spells o text → read_operation (text ++ rest) ≡ Ok (o, rest)
   pub takes : (bytes : List ℕ) (o : RawOperation) (rest : List ℕ) → AreBytes bytes → read_operation bytes ≡ Ok (o, rest) → (text : List ℕ) × (bytes ≡ text ++ rest) × Spells o text × AreBytes rest

@@ -14,8 +14,8 @@ use Rattle.wasm_operators.specs.VectorAccessOpcodes.{vector_access_operation}
 use Rattle.wasm_operators.specs.AtomicOpcodes.{atomic_operation}
 use Rattle.wasm_operators.specs.ReferenceOperations.{reference_operation}
 
--- An operator with its lists, as a contract sees it. Lists that are read refer to the input, lists that are written are slices;
--- a contract sees both as lists.
+-- The form in contracts of an operator with its lists. Lists that are read refer to the input, and lists that are written are
+-- slices; in a contract, both are lists.
 abbrev pub Listed : Type 0
 Listed = Op Table (List (CatchClause ℕ))
 

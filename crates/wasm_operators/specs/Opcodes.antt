@@ -1,4 +1,4 @@
--- Which opcodes there are, and which immediates follow each: one row for each opcode or range of opcodes (WebAssembly core
+-- The opcodes, and the immediates that follow each: one row for each opcode or range of opcodes (WebAssembly core
 -- specification 3.0, binary format, instructions). An operator is supported if its opcode has a row here.
 use Rattle.std.specs.Prelude.{◌≡◌, ℕ, ◌<◌, Bool, true, false, ◌||◌, List, [], ◌∷◌, Option, Some, None, Ok, Err, nat_le, ◌==◌, if◌then◌else◌}
 use Rattle.wasm_numbers.specs.declared.fault.ReadFault.TheVariants.{Truncated}
@@ -149,7 +149,7 @@ vector_ranges =
     (34, Some (a_lane ∷ [])) ∷  -- extract or replace a lane
     (83, Some []) ∷  -- comparisons, operators on all bits
     (91, Some (an_access ∷ a_lane ∷ [])) ∷  -- loads and stores of one lane
-    (93, Some (an_access ∷ [])) ∷  -- loads that fill up with zeros
+    (93, Some (an_access ∷ [])) ∷  -- loads that pad with zeros
     (153, Some []) ∷
     (154, None) ∷
     (161, Some []) ∷

@@ -10,8 +10,8 @@ use Rattle.wasm_operators.specs.declared.immediates.ReferenceImmediates.TheVaria
 use Rattle.wasm_operators.specs.AccessOperations.{access_of, memarg_of}
 use Rattle.wasm_operators.specs.ReferenceOperations.{cast_of, raw_cast_of}
 
--- The immediates after an opcode, as a contract sees them. Lists that are read refer to the input, lists that are written are
--- slices; a contract sees both as lists.
+-- The form in contracts of the immediates after an opcode. Lists that are read refer to the input, and lists that are written
+-- are slices; in a contract, both are lists.
 abbrev pub ListedImmediates : Type 0
 ListedImmediates = Immediates Table (List (CatchClause ℕ))
 

@@ -13,7 +13,7 @@ use Rattle.wasm_operators.specs.declared.types.Opcode.{Opcode}
 use Rattle.wasm_operators.specs.declared.types.Opcode.TheVariants.{Byte, Prefixed}
 use Rattle.wasm_operators.specs.Operations.{Access, CatchClause, Cast, RawImmediate, index, local, label, handler, outer, number, access, branch_table, clauses, block, heap, value, cast, i32, i64, f32, f64, v128, lane, lanes, zero_byte, RawOperation}
 
--- It is the text, or the text is longer.
+-- The shortest text is this text, or this text is longer.
 abbrev pub IsLeast : (shortest text : List ℕ) → Type 0
 IsLeast shortest text = (shortest ≡ text) ⊎ (length shortest < length text)
 

@@ -8,8 +8,8 @@ use Rattle.wasm_operators.specs.Immediates.{Kind, kind_of, SpellsImmediates, imm
 use Rattle.wasm_operators.specs.Opcodes.{kinds_of, IsOpcode, opcode}
 use Rattle.walrus_ir.specs.Results.{◌>>=◌}
 
--- The bytes are a spelling of the operator: of its opcode, and then of each of its immediates, whose kinds are those of the
--- opcode.
+-- The bytes are a spelling of the operator: of its opcode, and then of each of its immediates; the kinds of these are those of
+-- the opcode.
 pub record Spells (o : RawOperation) (text : List ℕ) : Type 0 where
   pub first : List ℕ
   pub others : List ℕ

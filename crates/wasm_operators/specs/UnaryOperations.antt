@@ -20,7 +20,7 @@ extract_opcode (unary.F32x4ExtractLane idx) = Some (Prefixed 0xfd 31)
 extract_opcode (unary.F64x2ExtractLane idx) = Some (Prefixed 0xfd 33)
 extract_opcode _ = None
 
--- 0xfd 128 on
+-- 0xfd from 128 on
 abbrev pub high_vector_unary_opcode : UnaryOp → Option Opcode
 high_vector_unary_opcode unary.I16x8Abs = Some (Prefixed 0xfd 128)
 high_vector_unary_opcode unary.I16x8Neg = Some (Prefixed 0xfd 129)

@@ -1,4 +1,4 @@
--- Vector loads that splat, widen or fill up with zeros, and loads and stores of one lane: the opcode of each (WebAssembly core
+-- Vector loads that splat, extend or pad with zeros, and loads and stores of one lane: the opcode of each (WebAssembly core
 -- specification 3.0, binary format, vector instructions).
 use Rattle.std.specs.Prelude.{List, [], ◌∷◌}
 use Rattle.walrus_ir.specs.declared.memory.LoadSimdKind.{LoadSimdKind}

@@ -7,7 +7,7 @@ use crate::types::Opcode::Prefixed;
 use crate::types::{AtomicKind, Opcode};
 use walrus_ir::{AtomicOp, AtomicWidth};
 
-/// The position of a width among the seven.
+/// The position of a width in the order of the seven opcodes of an operator.
 fn width_number(width: AtomicWidth) -> u32
     ensures gives { result ≡ the_width_number width }
     ensures small { result ≤ 6 }
@@ -23,7 +23,7 @@ fn width_number(width: AtomicWidth) -> u32
     }
 }
 
-/// The number of the first of the seven.
+/// The number after 0xfe of the first of the seven opcodes of an operator.
 fn first_atomic(op: AtomicOp) -> u32
     ensures gives { result ≡ the_first_atomic op }
     ensures small { result ≤ 0x41 }

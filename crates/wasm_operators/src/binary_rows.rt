@@ -204,7 +204,7 @@ fn low_vector_binary_opcode(op: BinaryOp) -> Option<Opcode>
     }
 }
 
-/// 0xfd 171 on.
+/// 0xfd from 171 on.
 fn high_vector_binary_opcode(op: BinaryOp) -> Option<Opcode>
     ensures { result ≡ the_high_vector_binary_opcode op }
 {
@@ -309,7 +309,7 @@ pub fn binary_opcode(op: BinaryOp) -> Opcode
     }
 }
 
-/// The lane of an operator that replaces one; else none.
+/// The index of the lane that an operator replaces, if it replaces one.
 pub fn replace_lane(op: BinaryOp) -> Option<u8>
     ensures { lane_immediates result ≡ the_replace_lane op }
 {

@@ -4,7 +4,8 @@ use std::fmt;
 use std::marker::Model;
 use wasm_numbers::{ReadFault, read_u32};
 
-/// The labels of a `br_table`, borrowed from the input. A contract sees the labels and the default.
+/// The labels of a `br_table`, borrowed from the input. In a contract, it is the list of labels and
+/// the default.
 #[derive(Clone, Drop)]
 pub struct BrTable<'a> {
     len: u32,
@@ -23,7 +24,7 @@ impl<'a> Model for BrTable<'a> {
     ghost invariant = { λ t. AreLabels t.len t.labels.now };
 }
 
-/// The labels of a table, one after the other. A contract sees those that remain.
+/// An iterator over the labels of a table. In a contract, it is the list of the remaining ones.
 #[derive(Drop)]
 pub struct Targets<'a> {
     left: u32,
@@ -66,7 +67,7 @@ impl<'a> Iterator for Targets<'a> {
 impl<'a> BrTable<'a> {
     ghost use Rattle.std.specs.Prelude.{◌≡◌, length};
 
-    /// The same labels.
+    /// A copy: the same labels.
     pub(crate) fn again(&self) -> BrTable<'a>
         ensures { result ≡ self.now }
     {
@@ -77,14 +78,14 @@ impl<'a> BrTable<'a> {
         }
     }
 
-    /// How many labels there are without the default.
+    /// The number of labels, without the default.
     pub fn len(&self) -> u32
         ensures { result ≡ length self.now.0 }
     {
         self.len
     }
 
-    /// The label, as a depth, for every operand that is not below `len`.
+    /// The default label, as a depth: the target for every operand that is not below `len`.
     pub fn default(&self) -> u32
         ensures { result ≡ self.now.1 }
     {
@@ -111,7 +112,7 @@ impl<'a> fmt::Debug for BrTable<'a> {
     }
 }
 
-/// Shows the labels that remain.
+/// Shows the remaining labels.
 impl<'a> fmt::Debug for Targets<'a> {
     fn fmt<W: fmt::Write>(&self, f: &mut fmt::Formatter<W>) -> fmt::Result {
         let left = Targets {
@@ -183,7 +184,12 @@ fn skip_labels(count: u32, bytes: &[u8]) -> Result<&[u8], ReadFault>
 }
 
 /// Reads the labels of a `br_table` at the front (WebAssembly core specification 3.0, binary
-/// format, control instructions). Returns them and the bytes that follow.
+/// format, control instructions). Returns them and the bytes that follow. Allocates nothing.
+///
+/// # Errors
+///
+/// `BadNumber` or `Truncated`: the fault of the first number, from left to right, that can't be
+/// read.
 #[tactic(auto, unfolding(crate::specs::Immediates::label_table))]
 pub fn read_table(bytes: &[u8]) -> Result<(BrTable<'_>, &[u8]), ReadFault>
     ensures { Gives (λ x. (x.0, x.1.now)) result (label_table bytes.now) }

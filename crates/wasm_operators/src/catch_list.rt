@@ -5,7 +5,7 @@ use std::fmt;
 use std::marker::Model;
 use wasm_numbers::{ReadFault, read_byte, read_u32};
 
-/// The clauses of a `try_table`, borrowed from the input. A contract sees the list of them.
+/// The clauses of a `try_table`, borrowed from the input. In a contract, they are a list.
 #[derive(Clone, Drop)]
 pub struct CatchList<'a> {
     len: u32,
@@ -24,7 +24,7 @@ impl<'a> Model for CatchList<'a> {
     ghost invariant = { λ t. HoldClauses t.len t.clauses.now };
 }
 
-/// Clauses, one after the other. A contract sees those that remain.
+/// An iterator over clauses. In a contract, it is the list of the remaining ones.
 #[derive(Drop)]
 pub struct Catches<'a> {
     left: u32,
@@ -99,7 +99,7 @@ impl<'a> Iterator for Catches<'a> {
 impl<'a> CatchList<'a> {
     ghost use Rattle.std.specs.Prelude.{◌≡◌, length};
 
-    /// The same clauses.
+    /// A copy: the same clauses.
     pub(crate) fn again(&self) -> CatchList<'a>
         ensures { result ≡ self.now }
     {
@@ -109,7 +109,7 @@ impl<'a> CatchList<'a> {
         }
     }
 
-    /// How many clauses there are.
+    /// The number of clauses.
     pub fn len(&self) -> u32
         ensures { result ≡ length self.now }
     {
@@ -182,7 +182,12 @@ fn skip_clauses(count: u32, bytes: &[u8]) -> Result<&[u8], ReadFault>
 }
 
 /// Reads the clauses of a `try_table` at the front (WebAssembly core specification 3.0, binary
-/// format, control instructions). Returns them and the bytes that follow.
+/// format, control instructions). Returns them and the bytes that follow. Allocates nothing.
+///
+/// # Errors
+///
+/// The fault of the first part, from left to right, that can't be read: `BadNumber`, `BadCatchKind`
+/// or `Truncated`.
 #[tactic(auto, unfolding(crate::specs::Immediates::catch_clauses))]
 pub fn read_clauses(bytes: &[u8]) -> Result<(CatchList<'_>, &[u8]), ReadFault>
     ensures { Gives (λ x. (x.0, x.1.now)) result (catch_clauses bytes.now) }

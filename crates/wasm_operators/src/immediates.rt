@@ -15,13 +15,13 @@ pub enum Immediates<T, C> {
     Pair(Space, u32, Space, u32),
     /// An index in a space, and a number.
     IndexNumber(Space, u32, u32),
-    /// A local.
+    /// An index of a local.
     Local(u32),
-    /// A label.
+    /// A label, as a depth.
     Label(u32),
-    /// The depth of an enclosing handler, of a `rethrow`.
+    /// The depth of the handler that a `rethrow` is in.
     Handler(u32),
-    /// A label counted from outside its construct, of a `delegate`.
+    /// The label of a `delegate`, as a depth counted from outside its own `try`.
     Outer(u32),
     /// The labels of a `br_table`.
     Table(T),
@@ -39,9 +39,9 @@ pub enum Immediates<T, C> {
     Value(RawValType),
     /// The immediates of a branch on a cast.
     Cast(RawCast),
-    /// A constant.
+    /// The value of a constant.
     I32(i32),
-    /// A constant.
+    /// The value of a constant.
     I64(i64),
     /// The bits of a constant.
     F32(u32),
@@ -51,7 +51,7 @@ pub enum Immediates<T, C> {
     V128(u128),
     /// A lane.
     Lane(u8),
-    /// The lanes of a shuffle.
+    /// The lanes of `i8x16.shuffle`.
     Lanes([u8; 16]),
     /// The byte after `atomic.fence`, which is 0.
     ZeroByte,
@@ -68,7 +68,7 @@ pub enum ReferenceImmediates {
     Pair(Space, u32, Space, u32),
     /// An index in a space, and a number.
     IndexNumber(Space, u32, u32),
-    /// A label.
+    /// A label, as a depth.
     Label(u32),
     /// A heap type.
     Heap(RawHeapType),

@@ -1,4 +1,4 @@
-//! Laws of spellings, each the contract of a function that does nothing.
+//! Laws of spellings. Each is the contract of a function that does nothing.
 
 ghost use Rattle.std.specs.Prelude.{◌≡◌, true};
 ghost use Rattle.wasm_operators.specs.Meaning.{meaning};
@@ -14,7 +14,7 @@ use crate::operator::Operator;
 use crate::types::{BlockType, Opcode, RawCast, RawHeapType, RawValType, Space};
 
 /// An operator that is spelt at the front of some bytes is read there, and an operator that is read
-/// at the front is spelt by the bytes that are taken.
+/// at the front of some bytes is spelt by the bytes that are taken.
 pub fn law_reading()
     ensures { ReadingAgrees }
 {}

@@ -8,7 +8,10 @@ use walrus_ir::{BinaryOp, LoadKind, LoadSimdKind, StoreKind, TernaryOp, UnaryOp}
 
 /// An operator as it is spelt (WebAssembly core specification 3.0, binary format, instructions):
 /// with raw indices, and labels as depths. `T` is the type of a `br_table`'s labels, and `C` that
-/// of a `try_table`'s clauses.
+/// of a `try_table`'s clauses. The fields `tag`, `func`, `local`, `global`, `table`, `memory`,
+/// `element` and `data` are indices; `ty` is a block type, the index of a type, or the type of a
+/// `select`; `label` and `depth` are depths; `target` and `source` are indices of tables or of
+/// memories.
 #[derive(Drop)]
 pub enum Op<T, C> {
     /// `unreachable`
@@ -41,7 +44,7 @@ pub enum Op<T, C> {
     Throw {
         tag: u32,
     },
-    /// `rethrow`: the depth of an enclosing handler
+    /// `rethrow`, with the depth of an enclosing handler
     Rethrow {
         depth: u32,
     },
@@ -87,7 +90,7 @@ pub enum Op<T, C> {
     ReturnCallRef {
         ty: u32,
     },
-    /// `delegate`: the depth of an enclosing construct, counted from outside its own
+    /// `delegate`, with the depth of an enclosing construct, counted from outside its own `try`
     Delegate {
         depth: u32,
     },
@@ -134,22 +137,22 @@ pub enum Op<T, C> {
     TableSet {
         table: u32,
     },
-    /// a load, as `i32.load8_s`
+    /// a load, such as `i32.load8_s`
     Load {
         kind: LoadKind,
         memarg: RawMemArg,
     },
-    /// a store, as `i64.store`
+    /// a store, such as `i64.store`
     Store {
         kind: StoreKind,
         memarg: RawMemArg,
     },
-    /// a vector access other than a plain load or store, as `v128.load8_splat`
+    /// a vector access other than a plain load or store, such as `v128.load8_splat`
     LoadSimd {
         kind: LoadSimdKind,
         memarg: RawMemArg,
     },
-    /// an atomic access other than a plain load or store, as `i32.atomic.rmw.add`
+    /// an atomic access other than a plain load or store, such as `i32.atomic.rmw.add`
     Atomic {
         kind: AtomicKind,
         memarg: RawMemArg,
@@ -172,19 +175,19 @@ pub enum Op<T, C> {
     I64Const {
         value: i64,
     },
-    /// `f32.const`, by its bits
+    /// `f32.const`, with its bits
     F32Const {
         bits: u32,
     },
-    /// `f64.const`, by its bits
+    /// `f64.const`, with its bits
     F64Const {
         bits: u64,
     },
-    /// an operator of one operand, as `i32.eqz`
+    /// an operator of one operand, such as `i32.eqz`
     Unop(UnaryOp),
-    /// an operator of two operands, as `i32.add`
+    /// an operator of two operands, such as `i32.add`
     Binop(BinaryOp),
-    /// an operator of three operands
+    /// an operator of three operands, such as `f32x4.relaxed_madd`
     TernOp(TernaryOp),
     /// `memory.init`
     MemoryInit {
@@ -238,7 +241,7 @@ pub enum Op<T, C> {
     I64MulWideS,
     /// `i64.mul_wide_u`
     I64MulWideU,
-    /// `v128.const`, by its bits
+    /// `v128.const`, with its bits
     V128Const {
         bits: u128,
     },
@@ -250,10 +253,10 @@ pub enum Op<T, C> {
     I8x16Swizzle,
     /// `v128.bitselect`
     V128Bitselect,
-    /// an operator on references, structs or arrays, as `ref.is_null`
+    /// an operator on references, structs or arrays, such as `ref.is_null`
     Reference(ReferenceOp),
 }
 
-/// An operator as it is read. Its lists are borrowed from the input. Two are equal if they mean the
-/// same, whatever their spellings.
+/// An operator as it is read. Its lists are borrowed from the input. Two operators are equal if
+/// they mean the same, even if they are spelt differently.
 pub type Operator<'a> = Op<BrTable<'a>, CatchList<'a>>;

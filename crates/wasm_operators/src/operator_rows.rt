@@ -146,9 +146,9 @@ macro_rules! behind_reference {
     };
 }
 
-/// Takes an operator apart, and passes its opcode and its immediates to the macro `$each`, after
-/// that macro's other arguments. The rows of operators with lists are arguments, since lists differ
-/// between operators that are read and operators that are written.
+/// Splits an operator into its opcode and its immediates, and passes these to the macro `$each`,
+/// after that macro's other arguments. The rows of operators with lists are arguments, since lists
+/// differ between operators that are read and operators that are written.
 #[macro_export]
 macro_rules! parts_of {
     (

@@ -16,7 +16,7 @@ use crate::reference_operator::ReferenceOp;
 use crate::types::Opcode::{Byte, Prefixed};
 use crate::types::{Opcode, Space};
 
-/// The opcode of a test or cast: the second number if a reference may be null.
+/// The opcode of a test or cast: it has the second number if the reference may be null.
 fn by_null(nullable: bool, number: u32, nullable_number: u32) -> Opcode
     ensures { result ≡ the_opcode_by_null nullable number nullable_number }
 {
@@ -27,7 +27,7 @@ fn by_null(nullable: bool, number: u32, nullable_number: u32) -> Opcode
     }
 }
 
-/// The opcode of an operator: the rows, and those of the other operators.
+/// The opcode of an operator: the rows that are passed, and those of the other operators.
 macro_rules! opcode_row {
     (
         ($op:ident, $($others:tt)*)
@@ -52,7 +52,7 @@ macro_rules! indices_of {
     };
 }
 
-/// The immediates of an operator: the rows, and those of the other operators.
+/// The immediates of an operator: the rows that are passed, and those of the other operators.
 macro_rules! immediates_row {
     (
         ($op:ident, $($others:tt)*)

@@ -1,4 +1,4 @@
-//! Types and other immediates as they are spelt: with raw indices.
+//! Types and other immediates as they are spelt, with raw indices.
 
 use std::fmt;
 use std::marker::Model;
@@ -49,7 +49,7 @@ pub struct RawCast {
     pub target: RawHeapType,
 }
 
-/// What an atomic access other than a plain load or store does (the proposal for threads).
+/// An atomic access other than a plain load or store (the proposal for threads).
 #[derive(Clone, Copy, Debug)]
 pub enum AtomicKind {
     /// `memory.atomic.notify`
@@ -58,22 +58,30 @@ pub enum AtomicKind {
     Wait32,
     /// `memory.atomic.wait64`
     Wait64,
-    /// A read, a change and a write, as `i32.atomic.rmw.add`.
+    /// A read, a change and a write, such as `i32.atomic.rmw.add`.
     Rmw(AtomicOp, AtomicWidth),
-    /// A read, a comparison and a write, as `i32.atomic.rmw.cmpxchg`.
+    /// A read, a comparison and a write, such as `i32.atomic.rmw.cmpxchg`.
     Cmpxchg(AtomicWidth),
 }
 
 /// The index spaces of a module (WebAssembly core specification 3.0, structure, modules, indices).
 #[derive(Clone, Copy, Debug, PartialEq, Eq, Hash)]
 pub enum Space {
+    /// Tables.
     Tables,
+    /// Types.
     Types,
+    /// Functions.
     Funcs,
+    /// Globals.
     Globals,
+    /// Memories.
     Memories,
+    /// Element segments.
     Elements,
+    /// Data segments.
     Data,
+    /// Tags.
     Tags,
 }
 
@@ -102,12 +110,12 @@ pub enum Opcode {
 }
 
 /// A clause of `try_table`, as it is spelt (WebAssembly core specification 3.0, binary format,
-/// control instructions). A contract sees the clause.
+/// control instructions). In a contract, it is a `CatchClause`.
 #[derive(Clone, Copy, Debug, PartialEq, Eq)]
 pub struct RawCatch {
     /// Whether it passes a reference to the exception, as `catch_ref` and `catch_all_ref` do.
     pub by_reference: bool,
-    /// The raw index of its tag; none if it catches all.
+    /// The raw index of its tag; `None` if it catches all exceptions.
     pub tag: Option<u32>,
     /// Its label, as a depth.
     pub label: u32,

@@ -112,7 +112,7 @@ fn low_vector_unary_opcode(op: UnaryOp) -> Option<Opcode>
     }
 }
 
-/// 0xfd 128 on.
+/// 0xfd from 128 on.
 fn high_vector_unary_opcode(op: UnaryOp) -> Option<Opcode>
     ensures { result ≡ the_high_vector_unary_opcode op }
 {
@@ -202,7 +202,7 @@ pub fn unary_opcode(op: UnaryOp) -> Opcode
     }
 }
 
-/// The lane of an operator that extracts one; else none.
+/// The index of the lane that an operator extracts, if it extracts one.
 pub fn extract_lane(op: UnaryOp) -> Option<u8>
     ensures { lane_immediates result ≡ the_extract_lane op }
 {

@@ -37,7 +37,7 @@ pub fn vector_access_opcode(kind: LoadSimdKind) -> Opcode
     }
 }
 
-/// The lane of an access, if it has one.
+/// The index of the lane of a vector access, if it accesses one lane.
 pub fn access_lane(kind: LoadSimdKind) -> Option<u8>
     ensures { lane_immediates result ≡ the_access_lane kind }
 {

@@ -1,4 +1,4 @@
--- What reading the front of the bytes says about the spellings there.
+-- The relation between reading at the front of bytes and the spellings there.
 use Rattle.std.proofs.Common.{◌≡◌, ℕ, ◌+◌, ◌-◌, List, ◌++◌, length, Result, Ok, Err, ap, sym, ◌∙◌, arith}
 use Rattle.std.proofs.lemmas.List.{length-append}
 use Rattle.std.specs.Prelude.{IfOk, IsOkAnd}
@@ -24,7 +24,7 @@ front_only view (Ok x) bytes given o text rest spelt parts =
     let both = ok_is (view x) (o, rest) (sym given ∙ ap read_operation parts ∙ operations_agree.again o text rest spelt) in
     (ap (λ (p : RawOperation × List ℕ). p.0) both, ap (λ (p : RawOperation × List ℕ). p.1) both)
 
--- A reader at the start of a text that takes it moves past it.
+-- A reader that is at the start of a text and takes it moves past it.
 pub moved : (old : Position) (bytes : List ℕ) (place : ℕ) (after text rest : List ℕ) → record { rest = bytes; place = place } ≡ old → old.rest ≡ text ++ rest → after ≡ rest
     → Moves old text (record { rest = after; place = place + (length bytes - length after) })
 moved old bytes place after text rest view parts same =

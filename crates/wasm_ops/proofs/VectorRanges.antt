@@ -1,4 +1,4 @@
--- What follows 0xfd and a number in a range of the vector table all of whose numbers have an operator.
+-- Reading after 0xfd and a number in a range of the vector table, where each number in the range has an operator.
 use Rattle.std.proofs.Common.{◌≡◌, ℕ, ◌+◌, ◌<◌, ◌≤◌, List, [], ◌∷◌, ◌++◌, take, drop, Bool, true, false, Option, Some, None, Ok, Err, refl, sym, ap, ◌∙◌, arith}
 use Rattle.std.proofs.lemmas.Bool.{le-leb, lt-leb, ltb-true}
 use Rattle.std.specs.Prelude.{◌&&◌, nat_le, nat_lt, if◌then◌else◌}
@@ -17,7 +17,7 @@ abbrev pub all_below : {V : Type 0} → ℕ → List (ℕ × V) → Bool
 all_below low [] = true
 all_below low (row ∷ rows) = nat_lt row.0 low && all_below low rows
 
--- A number after the ranges before, and not after the next one, has the value of that one.
+-- A number that is after the ranges `before`, and not after the next range, has the value of that range.
 range_in : {V : Type 0} (before behind : List (ℕ × Option V)) (v : Option V) (low high n : ℕ) → all_below low before ≡ true → low ≤ n → n ≤ high
     → range_at (before ++ ((high, v) ∷ behind)) n ≡ v
 range_in [] behind v low high n below from to =

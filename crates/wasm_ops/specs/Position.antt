@@ -1,4 +1,4 @@
--- Where a reader is.
+-- The position of a reader.
 use Rattle.std.specs.Prelude.{◌≡◌, ℕ, ◌+◌, List, ◌++◌, length}
 
 -- The remaining bytes, and the place of the first of them.

@@ -1,4 +1,4 @@
-//! Reading loads and stores: their memory arguments, and the kinds that their opcodes have.
+//! Reading loads and stores: their memory arguments, and the kinds of their opcodes.
 
 ghost use Rattle.std.specs.Prelude.{◌≡◌, ◌≤◌, IfSome, Ok};
 ghost use Rattle.walrus_ir.specs.Results.{Gives};
@@ -25,7 +25,7 @@ fn exponent(flags: u32) -> Result<(u32, bool), ReadFault>
     }
 }
 
-/// Reads the index of the memory if it follows; otherwise it is 0. Returns it and the bytes that
+/// Reads the index of the memory if one follows; otherwise it is 0. Returns it and the bytes that
 /// follow.
 fn read_memory(flags: (u32, bool), bytes: &[u8]) -> Result<(u32, &[u8]), ReadFault>
     ensures { Gives (λ x. (x.0, x.1.now)) result (memory_behind flags bytes.now) }
@@ -37,8 +37,8 @@ fn read_memory(flags: (u32, bool), bytes: &[u8]) -> Result<(u32, &[u8]), ReadFau
     }
 }
 
-/// Reads a memory argument at the front if it is of memory 0, its flags have one byte and its
-/// offset has at most three. Returns it and the bytes that follow.
+/// Reads a memory argument at the front if its memory is 0, its flags have one byte and its offset
+/// has at most three bytes. Returns it and the bytes that follow.
 #[inline(always)]
 #[tactic(auto, using(wasm_numbers::proofs::Powers::powers), unfolding(wasm_operators::specs::Immediates::memory_access, wasm_numbers::specs::Numbers::integer))]
 pub(crate) fn read_short_memarg(bytes: &[u8]) -> Option<(RawMemArg, &[u8])>
@@ -78,7 +78,7 @@ pub(crate) fn read_memarg(bytes: &[u8]) -> Result<(RawMemArg, &[u8]), ReadFault>
     ))
 }
 
-/// What the load of a byte from 0x28 to 0x35 reads.
+/// The kind of the load with an opcode from 0x28 to 0x35.
 #[inline(always)]
 pub(crate) fn load_kind(byte: u8) -> LoadKind
     requires low { 0x28 ≤ byte }
@@ -103,7 +103,7 @@ pub(crate) fn load_kind(byte: u8) -> LoadKind
     }
 }
 
-/// What the store of a byte from 0x36 to 0x3e writes.
+/// The kind of the store with an opcode from 0x36 to 0x3e.
 #[inline(always)]
 pub(crate) fn store_kind(byte: u8) -> StoreKind
     requires low { 0x36 ≤ byte }

@@ -1,4 +1,5 @@
-//! Reading what follows 0xfe: atomic accesses, by ranges of their numbers, and the fence.
+//! Reading the rest of an operator after 0xfe: atomic accesses, by ranges of their numbers, and the
+//! fence.
 
 ghost use Rattle.std.specs.Prelude.{◌≡◌, ◌≤◌};
 ghost use Rattle.walrus_ir.specs.Results.{Gives};
@@ -14,7 +15,7 @@ use walrus_ir::{AtomicOp, AtomicWidth, LoadKind, StoreKind};
 use wasm_numbers::ReadFault;
 use wasm_operators::{AtomicKind, Opcode, Operator};
 
-/// The width at this position among the seven.
+/// The width at this position in the order of the seven opcodes of an operator.
 fn width_at(place: u32) -> AtomicWidth
     requires { place ≤ 6 }
     ensures { the_width_number result ≡ place }
@@ -30,7 +31,7 @@ fn width_at(place: u32) -> AtomicWidth
     }
 }
 
-/// What the access with a number from 0x1e to 0x4e does.
+/// The kind of the access with a number from 0x1e to 0x4e after 0xfe.
 fn rmw_kind(number: u32) -> AtomicKind
     requires low { 0x1e ≤ number }
     requires high { number ≤ 0x4e }
@@ -47,7 +48,7 @@ fn rmw_kind(number: u32) -> AtomicKind
     }
 }
 
-/// What the atomic load with a number from 0x10 to 0x16 reads.
+/// The kind of the atomic load with a number from 0x10 to 0x16 after 0xfe.
 fn atomic_load_kind(number: u32) -> LoadKind
     requires low { 0x10 ≤ number }
     requires high { number ≤ 0x16 }
@@ -74,7 +75,7 @@ fn atomic_load_kind(number: u32) -> LoadKind
     }
 }
 
-/// What the atomic store with a number from 0x17 to 0x1d writes.
+/// The kind of the atomic store with a number from 0x17 to 0x1d after 0xfe.
 fn atomic_store_kind(number: u32) -> StoreKind
     requires low { 0x17 ≤ number }
     requires high { number ≤ 0x1d }
@@ -91,7 +92,7 @@ fn atomic_store_kind(number: u32) -> StoreKind
     }
 }
 
-/// Reads what follows 0xfe and a number from 0x10 to 0x16.
+/// Reads the rest of an operator with 0xfe and a number from 0x10 to 0x16.
 #[tactic(auto, unfolding(wasm_operators::specs::Opcodes::kinds_behind))]
 fn read_atomic_load(number: u32, bytes: &[u8]) -> Result<(Operator<'_>, &[u8]), ReadFault>
     requires low { 0x10 ≤ number }
@@ -104,7 +105,7 @@ fn read_atomic_load(number: u32, bytes: &[u8]) -> Result<(Operator<'_>, &[u8]), 
     Ok((Operator::Load { kind, memarg }, rest))
 }
 
-/// Reads what follows 0xfe and a number from 0x17 to 0x1d.
+/// Reads the rest of an operator with 0xfe and a number from 0x17 to 0x1d.
 #[tactic(auto, unfolding(wasm_operators::specs::Opcodes::kinds_behind))]
 fn read_atomic_store(number: u32, bytes: &[u8]) -> Result<(Operator<'_>, &[u8]), ReadFault>
     requires low { 0x17 ≤ number }
@@ -117,7 +118,7 @@ fn read_atomic_store(number: u32, bytes: &[u8]) -> Result<(Operator<'_>, &[u8]),
     Ok((Operator::Store { kind, memarg }, rest))
 }
 
-/// Reads what follows 0xfe and a number from 0x1e to 0x4e.
+/// Reads the rest of an operator with 0xfe and a number from 0x1e to 0x4e.
 #[tactic(auto, unfolding(wasm_operators::specs::Opcodes::kinds_behind))]
 fn read_rmw(number: u32, bytes: &[u8]) -> Result<(Operator<'_>, &[u8]), ReadFault>
     requires low { 0x1e ≤ number }
@@ -130,7 +131,7 @@ fn read_rmw(number: u32, bytes: &[u8]) -> Result<(Operator<'_>, &[u8]), ReadFaul
     Ok((Operator::Atomic { kind, memarg }, rest))
 }
 
-/// Reads what follows the opcode of a fence.
+/// Reads the rest of an `atomic.fence`: a zero byte.
 #[tactic(auto, unfolding(wasm_operators::specs::Opcodes::kinds_behind))]
 fn read_fence(bytes: &[u8]) -> Result<(Operator<'_>, &[u8]), ReadFault>
     ensures { Gives (λ x. (meaning x.0, x.1.now)) result
@@ -148,7 +149,7 @@ fn read_fence(bytes: &[u8]) -> Result<(Operator<'_>, &[u8]), ReadFault>
     }
 }
 
-/// Reads what follows 0xfe and a number.
+/// Reads the rest of an operator with 0xfe and a number.
 #[tactic(auto, unfolding(wasm_operators::specs::Opcodes::kinds_behind))]
 pub(crate) fn read_behind_fe(number: u32, bytes: &[u8]) -> Result<(Operator<'_>, &[u8]), ReadFault>
     ensures { Gives (λ x. (meaning x.0, x.1.now)) result

@@ -13,7 +13,7 @@ use crate::type_reader::{read_block_type, read_selected};
 use wasm_numbers::{ReadFault, read_f32, read_f64, read_s32, read_s64, read_u32};
 use wasm_operators::{Opcode, Operator, index_rows, read_clauses, read_table};
 
-/// Reads what follows the opcode of a `try_table`: its block type and its clauses.
+/// Reads the rest of a `try_table`: its block type and its clauses.
 #[tactic(auto, unfolding(wasm_operators::specs::Opcodes::kinds_of_byte))]
 fn read_try_table(bytes: &[u8]) -> Result<(Operator<'_>, &[u8]), ReadFault>
     ensures { Gives (λ x. (meaning x.0, x.1.now)) result (operands (Opcode.Byte 0x1f) bytes.now) }
@@ -23,7 +23,7 @@ fn read_try_table(bytes: &[u8]) -> Result<(Operator<'_>, &[u8]), ReadFault>
     Ok((Operator::TryTable { ty, catches }, rest))
 }
 
-/// Reads the control operator with this byte: calls, and others.
+/// Reads the control operator with this opcode: calls, and others.
 macro_rules! read_control_byte {
     (
         ($byte:ident $bytes:ident)
@@ -60,7 +60,7 @@ macro_rules! read_control_byte {
     };
 }
 
-/// Reads what follows an opcode from 0x00 to 0x1f.
+/// Reads the rest of an operator with an opcode from 0x00 to 0x1f.
 #[tactic(auto, unfolding(wasm_operators::specs::Opcodes::kinds_of_byte))]
 fn read_control(byte: u8, bytes: &[u8]) -> Result<(Operator<'_>, &[u8]), ReadFault>
     requires { byte ≤ 0x1f }
@@ -69,7 +69,7 @@ fn read_control(byte: u8, bytes: &[u8]) -> Result<(Operator<'_>, &[u8]), ReadFau
     index_rows!(read_control_byte, byte bytes)
 }
 
-/// Reads the operator with this byte, on locals, globals and tables.
+/// Reads the operator with this opcode, on locals, globals or tables.
 macro_rules! read_variable_byte {
     (
         ($byte:ident $bytes:ident)
@@ -87,7 +87,7 @@ macro_rules! read_variable_byte {
     };
 }
 
-/// Reads what follows an opcode from 0x20 to 0x27.
+/// Reads the rest of an operator with an opcode from 0x20 to 0x27.
 #[tactic(auto, unfolding(wasm_operators::specs::Opcodes::kinds_of_byte))]
 fn read_variable(byte: u8, bytes: &[u8]) -> Result<(Operator<'_>, &[u8]), ReadFault>
     requires low { 0x20 ≤ byte }
@@ -97,7 +97,7 @@ fn read_variable(byte: u8, bytes: &[u8]) -> Result<(Operator<'_>, &[u8]), ReadFa
     index_rows!(read_variable_byte, byte bytes)
 }
 
-/// Reads what follows the opcode of a load, from 0x28 to 0x35.
+/// Reads the rest of a load with an opcode from 0x28 to 0x35.
 #[tactic(auto, unfolding(wasm_operators::specs::Opcodes::kinds_of_byte))]
 fn read_load(byte: u8, bytes: &[u8]) -> Result<(Operator<'_>, &[u8]), ReadFault>
     requires low { 0x28 ≤ byte }
@@ -109,7 +109,7 @@ fn read_load(byte: u8, bytes: &[u8]) -> Result<(Operator<'_>, &[u8]), ReadFault>
     Ok((Operator::Load { kind, memarg }, rest))
 }
 
-/// Reads what follows the opcode of a store, from 0x36 to 0x3e.
+/// Reads the rest of a store with an opcode from 0x36 to 0x3e.
 #[tactic(auto, unfolding(wasm_operators::specs::Opcodes::kinds_of_byte))]
 fn read_store(byte: u8, bytes: &[u8]) -> Result<(Operator<'_>, &[u8]), ReadFault>
     requires low { 0x36 ≤ byte }
@@ -121,7 +121,7 @@ fn read_store(byte: u8, bytes: &[u8]) -> Result<(Operator<'_>, &[u8]), ReadFault
     Ok((Operator::Store { kind, memarg }, rest))
 }
 
-/// Reads the operator with this byte: `memory.size`, `memory.grow` or a constant.
+/// Reads the operator with this opcode: `memory.size`, `memory.grow` or a constant.
 macro_rules! read_constant_byte {
     (
         ($byte:ident $bytes:ident)
@@ -140,7 +140,7 @@ macro_rules! read_constant_byte {
     };
 }
 
-/// Reads what follows an opcode from 0x3f to 0x44.
+/// Reads the rest of an operator with an opcode from 0x3f to 0x44.
 #[tactic(auto, unfolding(wasm_operators::specs::Opcodes::kinds_of_byte))]
 fn read_constant(byte: u8, bytes: &[u8]) -> Result<(Operator<'_>, &[u8]), ReadFault>
     requires low { 0x3f ≤ byte }
@@ -150,7 +150,7 @@ fn read_constant(byte: u8, bytes: &[u8]) -> Result<(Operator<'_>, &[u8]), ReadFa
     index_rows!(read_constant_byte, byte bytes)
 }
 
-/// Reads what follows an opcode of one byte.
+/// Reads the rest of an operator with an opcode of one byte.
 #[tactic(auto, unfolding(wasm_operators::specs::Opcodes::kinds_of_byte))]
 pub(crate) fn read_behind_byte(byte: u8, bytes: &[u8]) -> Result<(Operator<'_>, &[u8]), ReadFault>
     ensures { Gives (λ x. (meaning x.0, x.1.now)) result (operands (Opcode.Byte byte) bytes.now) }

@@ -1,6 +1,6 @@
 //! Reading WebAssembly operators, and the numbers and types that other parts of a module contain
-//! too. The values that are read are defined in the crates below, whose names this crate exports
-//! too.
+//! too. The values that are read are defined in the crates below this one, which exports their
+//! names too.
 #![tactic(auto)]
 
 mod access_reader;

@@ -7,7 +7,7 @@ ghost use Rattle.wasm_operators.specs.Meaning.{meaning};
 use walrus_ir::{BinaryOp, UnaryOp};
 use wasm_operators::{Opcode, Operator};
 
-/// The operator with a byte from 0x45 to 0x66: a test or a comparison.
+/// The operator with an opcode from 0x45 to 0x66: a test or a comparison.
 #[inline(always)]
 fn comparison(byte: u8) -> Operator<'static>
     requires low { 0x45 ≤ byte }
@@ -52,7 +52,7 @@ fn comparison(byte: u8) -> Operator<'static>
     }
 }
 
-/// The operator with a byte from 0x67 to 0x8a: integer arithmetic.
+/// The operator with an opcode from 0x67 to 0x8a: integer arithmetic.
 #[inline(always)]
 fn integer_arithmetic(byte: u8) -> Operator<'static>
     requires low { 0x67 ≤ byte }
@@ -99,7 +99,7 @@ fn integer_arithmetic(byte: u8) -> Operator<'static>
     }
 }
 
-/// The operator with a byte from 0x8b to 0xa6: floating-point arithmetic.
+/// The operator with an opcode from 0x8b to 0xa6: floating-point arithmetic.
 #[inline(always)]
 fn float_arithmetic(byte: u8) -> Operator<'static>
     requires low { 0x8b ≤ byte }
@@ -138,7 +138,7 @@ fn float_arithmetic(byte: u8) -> Operator<'static>
     }
 }
 
-/// The operator with a byte from 0xa7 to 0xc4: a conversion.
+/// The operator with an opcode from 0xa7 to 0xc4: a conversion.
 #[inline(always)]
 fn conversion(byte: u8) -> Operator<'static>
     requires low { 0xa7 ≤ byte }
@@ -179,7 +179,7 @@ fn conversion(byte: u8) -> Operator<'static>
     }
 }
 
-/// The operator with a byte from 0x45 to 0xc4: a numeric one.
+/// The operator with an opcode from 0x45 to 0xc4: a numeric operator.
 #[inline(always)]
 pub(crate) fn numeric(byte: u8) -> Operator<'static>
     requires low { 0x45 ≤ byte }

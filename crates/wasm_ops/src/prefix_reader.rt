@@ -39,7 +39,7 @@ macro_rules! read_number {
     };
 }
 
-/// Reads what follows 0xfc and a number.
+/// Reads the rest of an operator with 0xfc and a number.
 #[tactic(auto, unfolding(wasm_operators::specs::Opcodes::kinds_behind))]
 pub(crate) fn read_behind_fc(number: u32, bytes: &[u8]) -> Result<(Operator<'_>, &[u8]), ReadFault>
     ensures { Gives (λ x. (meaning x.0, x.1.now)) result
@@ -48,7 +48,7 @@ pub(crate) fn read_behind_fc(number: u32, bytes: &[u8]) -> Result<(Operator<'_>,
     index_rows!(read_number, number bytes)
 }
 
-/// Reads what follows 0xfd and a number.
+/// Reads the rest of an operator with 0xfd and a number.
 #[tactic(auto, unfolding(wasm_operators::specs::Opcodes::kinds_behind))]
 pub(crate) fn read_behind_fd(number: u32, bytes: &[u8]) -> Result<(Operator<'_>, &[u8]), ReadFault>
     ensures { Gives (λ x. (meaning x.0, x.1.now)) result

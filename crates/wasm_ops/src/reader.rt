@@ -55,7 +55,7 @@ fn read_front(bytes: &[u8]) -> Result<(Operator<'_>, &[u8]), ReadFault>
         → IsOkAnd result (λ x. (meaning x.0 ≡ o) × (x.1.now ≡ rest)) }
     // The result, as a function of the bytes.
     ensures answer { IfOk result (λ x. read_operation bytes.now ≡ Ok (meaning x.0, x.1.now)) }
-    // Which fault there is.
+    // The fault.
     ensures fault { IfErr result (λ e. read_operation bytes.now ≡ Err e) }
 {
     read_operator(bytes)
@@ -68,7 +68,7 @@ fn law_front(bytes: &[u8])
         → (text : List ℕ) × (bytes.now ≡ text ++ rest) × Spells o text }
 {}
 
-/// Returns an operator that is spelt at the front, and moves past it.
+/// Returns the operator that is spelt at the front, and moves past it.
 macro_rules! answer {
     ($reader:expr, $operator:expr, $rest:expr) => {{
         let operator = $operator;
@@ -77,7 +77,8 @@ macro_rules! answer {
     }};
 }
 
-/// Returns the operator made from what was read, if there is any, and moves past it.
+/// Returns the operator that is made from the immediates that were read, if any were, and moves
+/// past it.
 macro_rules! answer_made {
     ($reader:expr, $read:expr, $part:pat => $operator:expr) => {
         if let Some(($part, rest)) = $read {
@@ -86,8 +87,8 @@ macro_rules! answer_made {
     };
 }
 
-/// Returns the operator with this byte and this number: those on locals, globals and tables, and
-/// others.
+/// Returns the operator with this opcode of one byte and this number after it: one on locals,
+/// globals or tables, or another.
 macro_rules! answer_index {
     (
         ($reader:expr, $byte:ident $number:ident $rest:ident)
@@ -115,7 +116,7 @@ macro_rules! answer_index {
 }
 
 /// Reads operators one after the other (WebAssembly core specification 3.0, binary format,
-/// instructions). A contract sees the remaining bytes and the place of the first of them.
+/// instructions). In a contract, it is the remaining bytes and the place of the first of them.
 #[derive(Drop)]
 pub struct Reader<'a> {
     rest: &'a [u8],
@@ -140,7 +141,7 @@ impl<'a> Reader<'a> {
     ghost use Rattle.wasm_ops.specs.Position.{Position, Moves};
     ghost use Rattle.wasm_operators.specs.Meaning.{meaning};
 
-    /// A reader of these bytes. `start` is the place of the first byte, its offset.
+    /// A reader of these bytes. `start` is the place of the first byte: its byte offset.
     pub fn new(bytes: &'a [u8], start: usize) -> Self
         requires { start + length bytes.now < 2 ^ 64 }
         ensures { result ≡ record { rest = bytes.now; place = start } }
@@ -193,7 +194,7 @@ impl<'a> Reader<'a> {
             → IsOkAnd result (λ x. (meaning x ≡ o) × Moves self.old text self.new) }
         // The result, as a function of the bytes.
         ensures answer { IfOk result (λ x. read_operation self.old.rest ≡ Ok (meaning x, self.new.rest)) }
-        // Which fault there is, and where.
+        // The fault, and the place of the operator.
         ensures fault { IfErr result (λ e. (read_operation self.old.rest ≡ Err e.fault) × (e.at ≡ self.old.place)) }
         ensures err { OnErr result (self.new ≡ self.old) }
     {
@@ -226,7 +227,7 @@ impl<'a> Reader<'a> {
             → IsOkAnd result (λ x. (meaning x ≡ o) × Moves self.old text self.new) }
         // The result, as a function of the bytes.
         ensures answer { IfOk result (λ x. read_operation self.old.rest ≡ Ok (meaning x, self.new.rest)) }
-        // Which fault there is, and where.
+        // The fault, and the place of the operator.
         ensures fault { IfErr result (λ e. (read_operation self.old.rest ≡ Err e.fault) × (e.at ≡ self.old.place)) }
         ensures err { OnErr result (self.new ≡ self.old) }
     {
@@ -265,8 +266,8 @@ impl<'a> Reader<'a> {
                 }
             }
         }
-        // Matching on the result gives it a place of its own in memory; the operators returned
-        // above are built in registers.
+        // Matching on the result gives it memory of its own; the operators that are returned above
+        // are built in registers.
         match self.read_at_length() {
             Ok(operator) => Ok(operator),
             Err(error) => Err(error),

@@ -45,7 +45,7 @@ fn read_cast(bytes: &[u8]) -> Result<(RawCast, &[u8]), ReadFault>
     Ok((cast, rest))
 }
 
-/// Reads what follows an opcode from 0xd0 to 0xd6.
+/// Reads the rest of an operator with an opcode from 0xd0 to 0xd6.
 #[tactic(auto, unfolding(wasm_operators::specs::Opcodes::kinds_of_byte))]
 pub(crate) fn read_reference(byte: u8, bytes: &[u8]) -> Result<(Operator<'_>, &[u8]), ReadFault>
     requires low { 0xd0 ≤ byte }
@@ -70,7 +70,8 @@ pub(crate) fn read_reference(byte: u8, bytes: &[u8]) -> Result<(Operator<'_>, &[
     }
 }
 
-/// Reads what follows 0xfb and a number from 20 to 30: tests, casts and conversions.
+/// Reads the rest of an operator with 0xfb and a number from 20 to 30: tests, casts and
+/// conversions.
 #[tactic(auto, unfolding(wasm_operators::specs::Opcodes::kinds_behind))]
 fn read_conversion(number: u32, bytes: &[u8]) -> Result<(Operator<'_>, &[u8]), ReadFault>
     requires low { 20 ≤ number }
@@ -138,7 +139,7 @@ macro_rules! read_number {
     };
 }
 
-/// Reads what follows 0xfb and a number.
+/// Reads the rest of an operator with 0xfb and a number.
 #[tactic(auto, unfolding(wasm_operators::specs::Opcodes::kinds_behind))]
 pub(crate) fn read_behind_fb(number: u32, bytes: &[u8]) -> Result<(Operator<'_>, &[u8]), ReadFault>
     ensures { Gives (λ x. (meaning x.0, x.1.now)) result

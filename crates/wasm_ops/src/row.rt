@@ -1,4 +1,4 @@
-//! How a row of the readers is read.
+//! Reading the operator of a row.
 
 ghost use Rattle.walrus_ir.specs.Results.{Gives};
 ghost use Rattle.wasm_numbers.specs.Reading.{Then, then_read};
@@ -15,7 +15,8 @@ pub(crate) fn read_pair(bytes: &[u8]) -> Result<((u32, u32), &[u8]), ReadFault>
     Ok(((first, second), rest))
 }
 
-/// The operator made from what was read and the bytes that follow; or the fault.
+/// The operator that is made from the immediates that were read, and the bytes that follow; or the
+/// fault.
 macro_rules! made {
     ($read:expr, $part:pat => $operator:expr) => {
         match $read {

@@ -63,7 +63,7 @@ fn value_of(byte: u8) -> Option<RawValType>
     }
 }
 
-/// Whether a reference is nullable, if this byte comes before its heap type.
+/// Whether a reference is nullable, if this byte can come before its heap type.
 #[tactic(auto, unfolding(wasm_operators::specs::Types::nullable_at))]
 fn nullable_of(byte: u8) -> Option<bool>
     ensures { result ≡ nullable_at byte }
@@ -75,7 +75,7 @@ fn nullable_of(byte: u8) -> Option<bool>
     }
 }
 
-/// Whether a value type can begin with the byte.
+/// Whether the byte can be the first of a value type.
 fn starts_value_type(byte: u8) -> bool
     ensures { result ≡ is_value_byte byte }
 {

@@ -12,7 +12,7 @@ use walrus_ir::LoadSimdKind;
 use wasm_numbers::{ReadFault, read_byte};
 use wasm_operators::{Opcode, Operator};
 
-/// What the load with a number from 1 to 10 does: it widens or splats.
+/// The kind of the load with a number from 1 to 10: it extends or splats.
 fn wide_load_kind(number: u32) -> LoadSimdKind
     requires low { 1 ≤ number }
     requires high { number ≤ 10 }
@@ -33,7 +33,7 @@ fn wide_load_kind(number: u32) -> LoadSimdKind
     }
 }
 
-/// What the access with a number from 84 to 91 does with a lane.
+/// The kind of the access of this lane with a number from 84 to 91.
 fn lane_kind(number: u32, lane: u8) -> LoadSimdKind
     requires low { 84 ≤ number }
     requires high { number ≤ 91 }
@@ -52,7 +52,7 @@ fn lane_kind(number: u32, lane: u8) -> LoadSimdKind
     }
 }
 
-/// Reads what follows 0xfd and a number from 1 to 10.
+/// Reads the rest of an operator with 0xfd and a number from 1 to 10.
 #[tactic(auto, unfolding(wasm_operators::specs::Opcodes::kinds_behind))]
 pub(crate) fn read_wide_load(number: u32, bytes: &[u8]) -> Result<(Operator<'_>, &[u8]), ReadFault>
     requires low { 1 ≤ number }
@@ -65,7 +65,7 @@ pub(crate) fn read_wide_load(number: u32, bytes: &[u8]) -> Result<(Operator<'_>,
     Ok((Operator::LoadSimd { kind, memarg }, rest))
 }
 
-/// Reads what follows 0xfd and a number from 84 to 91.
+/// Reads the rest of an operator with 0xfd and a number from 84 to 91.
 #[tactic(auto, unfolding(wasm_operators::specs::Opcodes::kinds_behind))]
 pub(crate) fn read_lane_access(
     number: u32,

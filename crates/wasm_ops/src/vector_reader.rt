@@ -11,7 +11,7 @@ use walrus_ir::{BinaryOp, TernaryOp, UnaryOp};
 use wasm_numbers::{ReadFault, read_byte};
 use wasm_operators::{Opcode, Operator};
 
-/// Reads what follows 0xfd and a number from 14 to 20: `i8x16.swizzle` and splats.
+/// Reads the rest of an operator with 0xfd and a number from 14 to 20: `i8x16.swizzle` and splats.
 #[tactic(auto, unfolding(wasm_operators::specs::Opcodes::kinds_behind))]
 pub(crate) fn read_splat(number: u32, bytes: &[u8]) -> Result<(Operator<'_>, &[u8]), ReadFault>
     requires low { 14 ≤ number }
@@ -54,7 +54,8 @@ fn lane(number: u32, idx: u8) -> Operator<'static>
     }
 }
 
-/// Reads what follows 0xfd and a number from 21 to 34: operators that extract or replace a lane.
+/// Reads the rest of an operator with 0xfd and a number from 21 to 34: operators that extract or
+/// replace a lane.
 #[tactic(auto, unfolding(wasm_operators::specs::Opcodes::kinds_behind))]
 pub(crate) fn read_lane(number: u32, bytes: &[u8]) -> Result<(Operator<'_>, &[u8]), ReadFault>
     requires low { 21 ≤ number }
@@ -161,7 +162,7 @@ fn vector_comparison(number: u32) -> Operator<'static>
     }
 }
 
-/// Reads what follows 0xfd and a number from 35 to 76: comparisons.
+/// Reads the rest of an operator with 0xfd and a number from 35 to 76: comparisons.
 #[tactic(auto, unfolding(wasm_operators::specs::Opcodes::kinds_behind))]
 pub(crate) fn read_vector_comparison(
     number: u32,
@@ -175,7 +176,7 @@ pub(crate) fn read_vector_comparison(
     Ok((vector_comparison(number), bytes))
 }
 
-/// Reads what follows 0xfd and a number from 77 to 83: operators on all bits.
+/// Reads the rest of an operator with 0xfd and a number from 77 to 83: operators on all bits.
 #[tactic(auto, unfolding(wasm_operators::specs::Opcodes::kinds_behind))]
 pub(crate) fn read_bitwise(number: u32, bytes: &[u8]) -> Result<(Operator<'_>, &[u8]), ReadFault>
     requires low { 77 ≤ number }
@@ -262,7 +263,7 @@ fn i8x16_bound(number: u32) -> Operator<'static>
 }
 
 /// The operator with 0xfd and a number from 128 to 138: one on lanes of two bytes, or one that
-/// narrows or widens to them.
+/// narrows or extends to them.
 fn i16x8_by_lane(number: u32) -> Operator<'static>
     requires low { 128 ≤ number }
     requires high { number ≤ 138 }
@@ -325,8 +326,8 @@ fn narrow_vector(number: u32) -> Operator<'static>
     }
 }
 
-/// Reads what follows 0xfd and a number from 94 to 153: floating-point conversions, operators on
-/// lanes of one or two bytes, and others.
+/// Reads the rest of an operator with 0xfd and a number from 94 to 153: floating-point conversions,
+/// operators on lanes of one or two bytes, and others.
 #[tactic(auto, unfolding(wasm_operators::specs::Opcodes::kinds_behind))]
 pub(crate) fn read_narrow_vector(
     number: u32,
@@ -340,8 +341,8 @@ pub(crate) fn read_narrow_vector(
     Ok((narrow_vector(number), bytes))
 }
 
-/// Reads what follows 0xfd and a number from 155 to 159: averages and extended products of lanes of
-/// two bytes.
+/// Reads the rest of an operator with 0xfd and a number from 155 to 159: averages and extended
+/// products of lanes of two bytes.
 #[tactic(auto, unfolding(wasm_operators::specs::Opcodes::kinds_behind))]
 pub(crate) fn read_i16x8_product(
     number: u32,
@@ -361,7 +362,8 @@ pub(crate) fn read_i16x8_product(
     }
 }
 
-/// Reads what follows 0xfd and a number from 160 to 191: operators on lanes of four bytes.
+/// Reads the rest of an operator with 0xfd and a number from 160 to 191: operators on lanes of four
+/// bytes.
 #[tactic(auto, unfolding(wasm_operators::specs::Opcodes::kinds_behind))]
 pub(crate) fn read_i32x4(number: u32, bytes: &[u8]) -> Result<(Operator<'_>, &[u8]), ReadFault>
     requires low { 160 ≤ number }
@@ -397,7 +399,8 @@ pub(crate) fn read_i32x4(number: u32, bytes: &[u8]) -> Result<(Operator<'_>, &[u
     }
 }
 
-/// Reads what follows 0xfd and a number from 192 to 223: operators on lanes of eight bytes.
+/// Reads the rest of an operator with 0xfd and a number from 192 to 223: operators on lanes of
+/// eight bytes.
 #[tactic(auto, unfolding(wasm_operators::specs::Opcodes::kinds_behind))]
 pub(crate) fn read_i64x2(number: u32, bytes: &[u8]) -> Result<(Operator<'_>, &[u8]), ReadFault>
     requires low { 192 ≤ number }
@@ -434,8 +437,8 @@ pub(crate) fn read_i64x2(number: u32, bytes: &[u8]) -> Result<(Operator<'_>, &[u
     }
 }
 
-/// Reads what follows 0xfd and a number from 224 to 237: operators on floating-point lanes of four
-/// bytes, `f64x2.abs` and `f64x2.neg`.
+/// Reads the rest of an operator with 0xfd and a number from 224 to 237: operators on
+/// floating-point lanes of four bytes, `f64x2.abs` and `f64x2.neg`.
 #[tactic(auto, unfolding(wasm_operators::specs::Opcodes::kinds_behind))]
 pub(crate) fn read_f32x4(number: u32, bytes: &[u8]) -> Result<(Operator<'_>, &[u8]), ReadFault>
     requires low { 224 ≤ number }
@@ -556,8 +559,8 @@ fn f64x2_or_relaxed(number: u32) -> Operator<'static>
     }
 }
 
-/// Reads what follows 0xfd and a number from 239 to 275: operators on floating-point lanes of eight
-/// bytes, conversions, and relaxed operators.
+/// Reads the rest of an operator with 0xfd and a number from 239 to 275: operators on
+/// floating-point lanes of eight bytes, conversions, and relaxed operators.
 #[tactic(auto, unfolding(wasm_operators::specs::Opcodes::kinds_behind))]
 pub(crate) fn read_f64x2_or_relaxed(
     number: u32,

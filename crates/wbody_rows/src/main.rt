@@ -27,8 +27,8 @@ struct Answer {
     err: Vec<u8>,
 }
 
-/// A case: words with one space between them, the expected status, and the expected standard output
-/// and standard error. Each of these is empty, or lines with `;` between them.
+/// A case: arguments with one space between them, the expected status, and the expected standard
+/// output and standard error. Each of these two is empty, or lines with `;` between them.
 #[derive(Clone, Copy)]
 struct Row<'a> {
     words: &'a str,
@@ -79,7 +79,7 @@ struct Counts {
     bodies_differ: u64,
 }
 
-/// The list of words that have one space between them.
+/// The list of arguments that have one space between them.
 fn list(alloc: Global, words: &str) -> Result<Vec<String>, AllocError> {
     let mut list = Vec::new(alloc);
     for word in words.split(' ') {
@@ -88,7 +88,7 @@ fn list(alloc: Global, words: &str) -> Result<Vec<String>, AllocError> {
     Ok(list)
 }
 
-/// The result of the program for these words, which have one space between them.
+/// The result of the program for these arguments, which have one space between them.
 fn answer_to(alloc: Global, words: &str) -> Result<Answer, AllocError> {
     let words = list(alloc, words)?;
     let mut out: Vec<u8> = Vec::new(alloc);
@@ -131,7 +131,7 @@ fn check_source(alloc: Global, demo: &Demo, source: Body<'_>) -> Result<(), Faul
     }
 }
 
-/// Reads back the bytes written for the body that the last of these words spells, and runs both
+/// Reads back the bytes written for the body that the last of these arguments spells, and runs both
 /// bodies; then checks that no proper prefix of its operators is accepted.
 fn check_body(alloc: Global, demo: &Demo, words: &str) -> Result<(), Fault> {
     let bytes = hex::decode(alloc, words.rsplit(' ').next().unwrap_or(""))?;
@@ -139,7 +139,7 @@ fn check_body(alloc: Global, demo: &Demo, words: &str) -> Result<(), Fault> {
     are_refused(alloc, demo, &bytes)
 }
 
-/// What is wrong with the body of these words, if anything.
+/// What is wrong with the body of these arguments, if anything.
 fn body_fault(alloc: Global, demo: &Demo, words: &str) -> Result<Option<Fault>, AllocError> {
     match check_body(alloc, demo, words) {
         Ok(()) => Ok(None),
@@ -148,7 +148,7 @@ fn body_fault(alloc: Global, demo: &Demo, words: &str) -> Result<Option<Fault>, 
     }
 }
 
-/// Prints the result for these words.
+/// Prints the result for these arguments.
 fn print(rt: &HostRuntime, words: &str, answer: &Answer) -> io::Result<()> {
     let out = String::from_utf8_lossy(rt.alloc(), &answer.out)?;
     let err = String::from_utf8_lossy(rt.alloc(), &answer.err)?;
@@ -173,7 +173,7 @@ impl Counts {
         Ok(answer.status)
     }
 
-    /// Counts an accepted body, and prints its words and what is wrong with it, if anything.
+    /// Counts an accepted body, and prints its arguments and what is wrong with it, if anything.
     fn take_body(&mut self, rt: &HostRuntime, demo: &Demo, words: &str) -> io::Result<()> {
         self.bodies = self.bodies.saturating_add(1);
         if let Some(fault) = body_fault(rt.alloc(), demo, words)? {

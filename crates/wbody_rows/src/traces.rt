@@ -63,7 +63,7 @@ fn add_outcome(
     Ok(false)
 }
 
-/// Outcomes that a body takes in this many turns. Another seed mostly gives others.
+/// Outcomes that a body takes in this many turns. Another seed usually gives other outcomes.
 fn outcomes(
     alloc: Global,
     source: &NamedBody,
@@ -83,7 +83,7 @@ fn outcomes(
     Ok(outcomes)
 }
 
-/// Whether both bodies have an operator at these positions, and it is the same one.
+/// Whether both bodies have an operator at these positions, and it is the same operator.
 fn is_same_operator(source: &NamedBody, i: usize, text: &NamedBody, j: usize) -> bool {
     match (source.ops().get(i), text.ops().get(j)) {
         (Some(operator), Some(other)) => operator == other,
@@ -137,7 +137,7 @@ fn compare(source: &NamedBody, run: &Run, text: &NamedBody, other: &Run) -> Resu
 }
 
 /// Runs a body and the bytes written for it, for several lists of outcomes and numbers of turns,
-/// and checks that they execute the same operators and end alike.
+/// and checks that they execute the same operators and end in the same way.
 pub(crate) fn compare_runs(
     alloc: Global,
     source: &NamedBody,

@@ -26,7 +26,7 @@ use Rattle.wasm_body.specs.TreeOfFunction.{tree_of, head_of, instruction_in, ite
 use Rattle.wasm_body.specs.FlatText.{TextOperation, TextTranslation, then_by, closers, if_closers, try_closers, are_handlers, are_lawful, has_none, one_or_both, written_in_if, written_inside, written_items, written_sequences, first_type, opened, written, text, texts}
 use Rattle.wasm_body.specs.Bytes.{Numbers, numbering, bytes_of, numbered_text}
 use Rattle.wasm_body.specs.Pairs.{pairs_from}
-use Rattle.walrus_emitter.specs.Emission.{Scope, scopes_at, if_scopes, is_short, scopes_inside, first_type_at, Output, Emitter, slots_of, first_emitter, output_of, output_behind, with_operator, emitter_behind_all}
+use Rattle.walrus_emit_state.specs.Emission.{Scope, scopes_at, if_scopes, is_short, scopes_inside, first_type_at, Output, Emitter, slots_of, first_emitter, output_of, output_behind, with_operator, emitter_behind_all}
 
 abbrev Written : Type 0
 Written = Result (Located RawOperation) EmitError

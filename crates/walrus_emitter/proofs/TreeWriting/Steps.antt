@@ -19,12 +19,12 @@ use Rattle.wasm_body.specs.InstructionTable.{clauses_of_try}
 use Rattle.wasm_body.specs.TreeOfFunction.{instruction_in}
 use Rattle.wasm_body.specs.FlatText.{are_lawful, then_by, opened}
 use Rattle.wasm_body.specs.Bytes.{Numbers, numbering}
-use Rattle.walrus_emitter.specs.declared.closing.SequenceScope.{SequenceScope}
-use Rattle.walrus_emitter.specs.Emission.{Scope, Emitter, slots_of, closers_in, scopes_at, scopes_inside, first_type_at, with_operator, emitter_behind}
-use Rattle.walrus_emitter.specs.TreeWriting.Closers.{scope_of, scopes_of, places_of}
-use Rattle.walrus_emitter.specs.TreeWriting.Drafts.{Drafted, behind}
-use Rattle.walrus_emitter.specs.TreeWriting.ScopeLists.{ScopeLists, with_more}
-use Rattle.walrus_emitter.specs.TreeWriting.Operators.{numbered_operator, IsOperatorOf}
+use Rattle.walrus_emit_state.specs.declared.closing.SequenceScope.{SequenceScope}
+use Rattle.walrus_emit_state.specs.Emission.{Scope, Emitter, slots_of, closers_in, scopes_at, scopes_inside, first_type_at, with_operator, emitter_behind}
+use Rattle.walrus_emit_state.specs.TreeWriting.Closers.{scope_of, scopes_of, places_of}
+use Rattle.walrus_emit_state.specs.TreeWriting.Drafts.{Drafted, behind}
+use Rattle.walrus_emit_state.specs.TreeWriting.ScopeLists.{ScopeLists, with_more}
+use Rattle.walrus_operators.specs.TreeWriting.Operators.{numbered_operator, IsOperatorOf}
 use Rattle.walrus_emitter.specs.TreeWriting.Emitters.{emitter_at}
 
 -- ---- an instruction: its type, its operator, its sequences

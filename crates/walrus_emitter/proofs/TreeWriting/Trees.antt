@@ -18,12 +18,12 @@ use Rattle.wasm_body.specs.Translation.{Located, at_location}
 use Rattle.wasm_body.specs.TreeOfFunction.{tree_of, fault_of_walk}
 use Rattle.wasm_body.specs.Bytes.{Numbers, numbered_text, bytes_of}
 use Rattle.wasm_body.specs.Pairs.{Pair, pairs_from}
-use Rattle.walrus_emitter.specs.declared.closing.Closer.TheVariants.{End}
+use Rattle.walrus_emit_state.specs.declared.closing.Closer.TheVariants.{End}
 use Rattle.walrus_emitter.specs.declared.emit.EmitVisitor.{EmitVisitor}
-use Rattle.walrus_emitter.specs.Emission.{Emitter, emitter_behind, emitter_behind_all, first_emitter, Output, output_of}
-use Rattle.walrus_emitter.specs.TreeWriting.Drafts.{Drafted}
+use Rattle.walrus_emit_state.specs.Emission.{Emitter, emitter_behind, emitter_behind_all, first_emitter, Output, output_of}
+use Rattle.walrus_emit_state.specs.TreeWriting.Drafts.{Drafted}
 use Rattle.walrus_emitter.specs.TreeWriting.Emitters.{emitter_at, IsFaultAt}
-use Rattle.walrus_emitter.specs.TreeWriting.ScopeLists.{ScopeLists, ending, with_more}
+use Rattle.walrus_emit_state.specs.TreeWriting.ScopeLists.{ScopeLists, ending, with_more}
 use Rattle.walrus_emitter.specs.TreeWriting.Trees.{IsDraftOf, IsFirstScope, Appends, AppendsBytes, IsUnwritten}
 use Rattle.walrus_emitter.specs.TreeWriting.Visiting.{emitter_of, Steps, Refuses, Same}
 use Rattle.walrus_emitter.proofs.Emission.Texts.{last_emitter, tree_told}

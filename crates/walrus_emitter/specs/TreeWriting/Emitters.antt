@@ -5,11 +5,11 @@ use Rattle.walrus_ir.specs.Events.{WalkEvent}
 use Rattle.wasm_body.specs.declared.error.EmitError.{EmitError}
 use Rattle.wasm_body.specs.declared.error.EmitError.TheVariants.{Memory}
 use Rattle.wasm_body.specs.Bytes.{Numbers}
-use Rattle.walrus_emitter.specs.declared.closing.Closer.{Closer}
-use Rattle.walrus_emitter.specs.Emission.{Emitter, with_closer, emitter_behind}
-use Rattle.walrus_emitter.specs.TreeWriting.Closers.{closer_at, scopes_of}
-use Rattle.walrus_emitter.specs.TreeWriting.Drafts.{Drafted}
-use Rattle.walrus_emitter.specs.TreeWriting.ScopeLists.{ScopeLists}
+use Rattle.walrus_emit_state.specs.declared.closing.Closer.{Closer}
+use Rattle.walrus_emit_state.specs.Emission.{Emitter, with_closer, emitter_behind}
+use Rattle.walrus_emit_state.specs.TreeWriting.Closers.{closer_at, scopes_of}
+use Rattle.walrus_emit_state.specs.TreeWriting.Drafts.{Drafted}
+use Rattle.walrus_emit_state.specs.TreeWriting.ScopeLists.{ScopeLists}
 
 -- the emitter for these sequences, under these numbers
 abbrev pub emitter_at : List InstrSeq → Numbers → ScopeLists → Drafted → Emitter

@@ -11,10 +11,10 @@ use Rattle.wasm_body.specs.FunctionTree.{FunctionTree}
 use Rattle.wasm_body.specs.TreeOfFunction.{HasTree, fault_of_walk}
 use Rattle.wasm_body.specs.Bytes.{Numbers, numbered_text, tree_bytes}
 use Rattle.wasm_body.specs.Pairs.{Pair, tree_pairs}
-use Rattle.walrus_emitter.specs.Emission.{output_of}
-use Rattle.walrus_emitter.specs.TreeWriting.Drafts.{Drafted}
-use Rattle.walrus_emitter.specs.declared.closing.Closer.TheVariants.{End}
-use Rattle.walrus_emitter.specs.TreeWriting.ScopeLists.{ScopeLists, ending}
+use Rattle.walrus_emit_state.specs.Emission.{output_of}
+use Rattle.walrus_emit_state.specs.TreeWriting.Drafts.{Drafted}
+use Rattle.walrus_emit_state.specs.declared.closing.Closer.TheVariants.{End}
+use Rattle.walrus_emit_state.specs.TreeWriting.ScopeLists.{ScopeLists, ending}
 
 -- the draft of the tree from a sequence on, with `base` bytes before it
 pub record IsDraftOf (b : List InstrSeq) (entry : ℕ) (to : Numbers) (base : ℕ) (has_map : Bool)

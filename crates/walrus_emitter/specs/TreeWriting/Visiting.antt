@@ -3,12 +3,12 @@ use Rattle.std.specs.Prelude.{◌≡◌, List, Ok}
 use Rattle.std.proofs.Common.{sym, ap, subst, ◌∙◌}
 use Rattle.walrus_ir.specs.Events.{WalkEvent, AreStepsAlike, AreRefusalsAlike}
 use Rattle.wasm_body.specs.declared.error.EmitError.{EmitError}
-use Rattle.walrus_emitter.specs.declared.closing.SequenceScope.{SequenceScope}
+use Rattle.walrus_emit_state.specs.declared.closing.SequenceScope.{SequenceScope}
 use Rattle.walrus_emitter.specs.declared.emit.EmitVisitor.{EmitVisitor}
-use Rattle.walrus_emitter.specs.Emission.{Emitter, emitter_behind}
+use Rattle.walrus_emit_state.specs.Emission.{Emitter, emitter_behind}
 use Rattle.walrus_emitter.specs.TreeWriting.Emitters.{emitter_at, IsFaultAt}
-use Rattle.walrus_emitter.specs.TreeWriting.ScopeLists.{with_more}
-use Rattle.walrus_emitter.specs.TreeWriting.Operators.{numbers_of}
+use Rattle.walrus_emit_state.specs.TreeWriting.ScopeLists.{with_more}
+use Rattle.walrus_numbering.specs.NumberMaps.{numbers_of}
 
 abbrev pub emitter_of : EmitVisitor → Emitter
 emitter_of v = emitter_at v.builder.now.sequences (numbers_of v.numbers) v.scopes v.draft

@@ -1,6 +1,6 @@
 use Rattle.std.proofs.Common.{sym, subst, inl}
 use Rattle.walrus_maps.specs.Environments.{environment_of}
-use Rattle.walrus_emitter.specs.TreeWriting.Operators.{numbers_by}
+use Rattle.walrus_numbering.specs.NumberMaps.{numbers_by}
 use Rattle.tests_run.specs.ReadBack.{HasBytes}
 use Rattle.tests_run.proofs.ReadBackLemmas.{has_itself}
 use Rattle.tests_run.proofs.read_back.rewritten_twice.Goals as goal

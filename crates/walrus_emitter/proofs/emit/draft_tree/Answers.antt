@@ -1,5 +1,5 @@
 use Rattle.std.proofs.Common.{rules, ◌≡◌, false, refl}
-use Rattle.walrus_emitter.specs.TreeWriting.Operators.{numbers_of}
+use Rattle.walrus_numbering.specs.NumberMaps.{numbers_of}
 use Rattle.walrus_emitter.proofs.TreeWriting.Trees.{is_first, draft_is, unwritten_is, none_there, entry_missing}
 use Rattle.walrus_emitter.proofs.emit.draft_tree.Goals as goal
 

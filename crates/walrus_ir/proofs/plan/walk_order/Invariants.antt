@@ -1,4 +1,4 @@
--- The walk goes on to the slots of the tasks; each task lowers the bound of the steps that are left.
+-- The walk goes on to the slots of the tasks; each task lowers the bound on the remaining steps.
 use Rattle.std.proofs.Common.{◌+◌}
 use Rattle.walrus_ir.specs.Planning.{agenda, work}
 use Rattle.walrus_ir.proofs.Marks.{unreached}

@@ -1,5 +1,5 @@
--- The events told so far and those of the open sequences and the slots to come make up the tree's events; the stack has room
--- for the sequences to come.
+-- The events so far, followed by those of the open sequences and the slots to come, are the tree's events; the stack has
+-- room for the sequences to come.
 use Rattle.std.proofs.Common.{◌+◌, ◌≤◌, length, vec_len, vec_capacity}
 use Rattle.walrus_ir.specs.Telling.{frames}
 use Rattle.walrus_ir.proofs.Pending.{work_to_come, work_open}

@@ -1,4 +1,4 @@
--- The visitor was told of the instructions so far, and none of them contains sequences.
+-- The visitor was told about the instructions so far, and none of them contains sequences.
 use Rattle.std.proofs.Common.{length, List}
 use Rattle.walrus_ir.specs.Events.{WalkEvent, Folds}
 use Rattle.walrus_ir.specs.Telling.{IsToldStretch}

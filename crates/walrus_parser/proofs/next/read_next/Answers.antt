@@ -7,7 +7,7 @@ use Rattle.wasm_operators.specs.Spelling.{Spells}
 use Rattle.wasm_operators.proofs.ListLaws.{spelt_length}
 use Rattle.walrus_parser.proofs.next.read_next.Goals as goal
 
--- The reader has moved past an operator: the place has moved by as many bytes as were taken.
+-- The reader has moved past an operator: its place has moved by the number of bytes that were taken.
 abbrev IsBehind : Position → Position → Type 0
 IsBehind old new = (new.place + length new.rest ≡ old.place + length old.rest) × (length new.rest < length old.rest)
 

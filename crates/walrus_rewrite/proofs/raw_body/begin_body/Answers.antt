@@ -1,5 +1,5 @@
 use Rattle.std.proofs.Common.{◌<◌, ◌^◌, List, [], length, subst, sym}
-use Rattle.walrus_emitter.specs.TreeWriting.Operators.{numbers_by}
+use Rattle.walrus_numbering.specs.NumberMaps.{numbers_by}
 use Rattle.walrus_rewrite.proofs.RawBodyLemmas.{few_declarations}
 use Rattle.walrus_rewrite.proofs.raw_body.begin_body.Goals as goal
 

@@ -1,7 +1,7 @@
 use Rattle.std.proofs.Common.{◌==◌, sym, subst}
 use Rattle.std.specs.HashSet.{contains}
 use Rattle.walrus_body.specs.LocalFunctions.{first_slot}
-use Rattle.walrus_emitter.specs.TreeWriting.Operators.{numbers_by}
+use Rattle.walrus_numbering.specs.NumberMaps.{numbers_by}
 use Rattle.walrus_emitter.specs.TreeWriting.Trees.{AppendsBytes}
 use Rattle.walrus_rewrite.proofs.RawBodyLemmas.{writes, declines}
 use Rattle.walrus_rewrite.proofs.raw_body.raw_body.Goals as goal

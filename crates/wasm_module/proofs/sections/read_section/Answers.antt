@@ -1,4 +1,4 @@
--- Behind the id stands a number, and behind it as many bytes.
+-- A number follows the id, and as many bytes follow it.
 use Rattle.std.proofs.Common.{◌≡◌, ℕ, ◌-◌, List, ◌∷◌, ◌++◌, length, take, Ok, sym, ap, subst, ◌∙◌, append_assoc, arith}
 use Rattle.wasm_numbers.specs.Numbers.{unsigned, u32}
 use Rattle.wasm_module.proofs.NumberLemmas.{number_takes, before_last}

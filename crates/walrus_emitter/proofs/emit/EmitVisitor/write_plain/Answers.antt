@@ -1,4 +1,4 @@
-use Rattle.walrus_emitter.specs.TreeWriting.Operators.{numbers_of}
+use Rattle.walrus_numbering.specs.NumberMaps.{numbers_of}
 use Rattle.walrus_emitter.proofs.TreeWriting.Steps.{plain_visited, on_ok}
 use Rattle.walrus_emitter.proofs.emit.EmitVisitor.write_plain.Goals as goal
 

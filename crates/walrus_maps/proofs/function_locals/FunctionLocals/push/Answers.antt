@@ -11,7 +11,7 @@ there c =
     let found = get-entries c.self.inside.lists.entries c.args.function in
     grind (c.self.view_is, found, c.get_mut.ensures.value, c.in-Some.is, rules)
 
--- what is pushed to is the function's list
+-- the list that grows is the function's list
 written : (c : goal.After-self-in-Some-1) → from_entries {R = nat_cmp} (c.get_mut.follows.lender c.push.new.self).entries ≡ insert c.args.self.now c.args.function c.push.new.self
 written c =
     let put = (c.get_mut.follows.holds c.push.new.self).3 (grind (c.get_mut.ensures.value, c.in-Some.is, rules)) in

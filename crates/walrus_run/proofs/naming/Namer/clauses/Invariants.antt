@@ -3,7 +3,7 @@ use Rattle.std.proofs.Common.{◌≡◌, map}
 use Rattle.walrus_ir.specs.Results.{each}
 use Rattle.wasm_body.specs.Translation.{translate_clause}
 use Rattle.walrus_maps.proofs.Listed.{behind_these}
-use Rattle.walrus_run.specs.NamedOperators.{named_clause}
+use Rattle.walrus_machine.specs.NamedOperators.{named_clause}
 use Rattle.walrus_run.specs.Namers.{env_of, anywhere}
 use Rattle.walrus_run.proofs.naming.Namer.clauses.Given as goal
 

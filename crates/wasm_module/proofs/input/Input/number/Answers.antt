@@ -1,4 +1,4 @@
--- What is read is a number, and a number takes a byte at least.
+-- What is read is a number, and a number has at least one byte.
 use Rattle.wasm_numbers.specs.Numbers.{unsigned}
 use Rattle.wasm_module.proofs.NumberLemmas.{number_takes, is_shorter}
 use Rattle.wasm_module.proofs.input.Input.number.Goals as goal

@@ -1,4 +1,4 @@
--- A group is its count and its type, and the type has an id where it names one.
+-- A group is its count and its type, and a type index of the type has an id.
 use Rattle.std.proofs.Common.{sym, ◌∙◌}
 use Rattle.wasm_module.proofs.LocalLemmas.{reads_group, names_group, on_ok_so}
 use Rattle.wasm_module.proofs.locals.Locals.declare.Goals as goal

@@ -1,4 +1,4 @@
--- The operators are what the declarations leave.
+-- The operators are what follows the declarations.
 use Rattle.std.proofs.Common.{slice_get, sym, ◌∙◌, inl, inr}
 use Rattle.std.proofs.lemmas.Result.{err_from_is_err_and}
 use Rattle.wasm_module.specs.Declarations.{parameters_of}

@@ -1,0 +1,2 @@
+-- writing a function's tree
+pub mod TreeWriting

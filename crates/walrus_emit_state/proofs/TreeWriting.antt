@@ -1,0 +1,4 @@
+-- Writing a function's tree.
+pub mod ScopeTables
+pub mod Announcing
+pub mod IfScopes

@@ -1,0 +1,15 @@
+-- Bytes and location pairs that are written aside, as contracts see them.
+use Rattle.std.specs.Prelude.{ℕ, Bool}
+use Rattle.wasm_operators.specs.Operations.{RawOperation}
+use Rattle.wasm_body.specs.Translation.{Located}
+use Rattle.walrus_emit_state.specs.Emission.{Output, output_behind}
+
+-- The output, the number of bytes before it, and whether pairs are kept.
+pub record Drafted : Type 0 where
+  pub base : ℕ
+  pub has_map : Bool
+  pub output : Output
+
+-- with an operator after it
+abbrev pub behind : Drafted → Located RawOperation → Drafted
+behind d x = record d { output = output_behind d.has_map d.base d.output x }

@@ -1,0 +1,3 @@
+-- The instructions of operators.
+pub mod OperatorKinds
+pub mod Placed

@@ -1,0 +1,15 @@
+use Rattle.std.proofs.Common.{true}
+use Rattle.walrus_machine.specs.Controls.{control_meaning}
+use Rattle.walrus_machine.proofs.Tables.{read_ahead, past_all, as_many}
+use Rattle.walrus_machine.proofs.machine.table.Table.part.Goals as goal
+
+pub returns-in-Some : goal.returns-in-Some
+returns-in-Some c =
+    let inside = c.self.inside in
+    (read_ahead c.args.self.now _ inside.ahead.items c.deref.result.now _ _ c.self.view_is c.self.invariant.0 c.deref.ensures.value
+    c.in-Some.ensures.lookup.3.0 c.in-Some.ensures.lookup.1).part
+
+pub returns-in-None : goal.returns-in-None
+returns-in-None c =
+    let inside = c.self.inside in
+    past_all c.args.self.now _ (as_many _ c.args.self.now control_meaning inside.controls.items inside.ahead.items c.deref.result.now _ c.self.view_is c.self.invariant.1 c.deref.ensures.value c.in-None.ensures.lookup.3) (λ c. true)

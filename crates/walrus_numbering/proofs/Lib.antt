@@ -1,0 +1,4 @@
+-- numbering locals
+pub mod LocalNumbering
+-- the exponent of an alignment
+pub mod Exponents

@@ -1,0 +1,10 @@
+use Rattle.walrus_numbering.proofs.LocalNumbering.{argument_numbered, none_numbered}
+use Rattle.walrus_numbering.proofs.local_numbers.number_arguments.Goals as goal
+
+pub loop-place-init : goal.loop-place-init
+loop-place-init c = none_numbered _ c.new-numbers.ensures.empty
+
+pub loop-place-preserved : goal.loop-place-preserved
+loop-place-preserved c =
+    argument_numbered c.args.args.now c.loop-place.place c.index-args-place.result c.cut_number.result c.loop-place.numbers.entries c.insert.new.self.entries
+    c.loop-place-test.true c.index-args-place.is c.cut_number.ensures c.in_ok-insert.ensures.updates.0 c.loop-place.invariant

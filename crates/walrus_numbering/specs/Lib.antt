@@ -1,0 +1,2 @@
+pub mod NumberMaps
+pub mod EmittedLocals

@@ -1,0 +1,15 @@
+//! The numbers that are written: those of ids and of types, the exponents of alignments, and the
+//! numbers and declarations of a function's locals.
+#![tactic(auto)]
+
+mod balance;
+mod local_numbers;
+mod memory_arguments;
+mod number_maps;
+mod written_types;
+
+pub use balance::is_balanced;
+pub use local_numbers::emit_locals;
+pub use memory_arguments::memory_argument;
+pub use number_maps::NumberMaps;
+pub use written_types::{block_type, heap_type, value_type};

@@ -1,0 +1,2 @@
+-- Writing a function's tree.
+pub mod Labels

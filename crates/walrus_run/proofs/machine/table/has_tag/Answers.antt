@@ -1,6 +1,0 @@
-use Rattle.std.proofs.Common.{◌∙◌}
-use Rattle.walrus_run.proofs.Tables.{has_any}
-use Rattle.walrus_run.proofs.machine.table.has_tag.Goals as goal
-
-pub returns : goal.returns
-returns c = c.contains.ensures ∙ has_any _ c.law_ids.ensures.order c.args.tags.now.keys c.args.tag
