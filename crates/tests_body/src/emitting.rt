@@ -359,6 +359,11 @@ fn choice(
     Ok(function)
 }
 
+// The type of a sequence with the parameters and results of this type of the module.
+fn of_type(id: usize) -> InstrSeqType {
+    InstrSeqType::MultiValue(TypeId::new(id))
+}
+
 /// An `else` is left out where the alternative has no instruction and the results of the `if` are
 /// its parameters: also if it has some (type 2), or is of an entry type (type 4, which has no
 /// number); but not if only the numbers of its parameters and results are the same (type 5), or if
@@ -368,7 +373,6 @@ fn choice(
 fn leaves_out_an_else_that_says_nothing(rt: HostRuntime) -> Result<(), Fail> {
     let none = InstrLocId::default();
     let at = InstrLocId::new(78);
-    let of_type = |id| InstrSeqType::MultiValue(TypeId::new(id));
     for (ty, end, says_something, want) in [
         (InstrSeqType::Simple(None), at, false, "0004401a0b0b 9@9 1@1 2@3 78@4 -@5"),
         (InstrSeqType::Simple(None), none, false, "0004401a0b0b 9@9 1@1 2@3 77@4 -@5"),
