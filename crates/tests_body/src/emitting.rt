@@ -158,10 +158,7 @@ fn writes_what_is_made_by_hand(rt: HostRuntime) -> Result<(), Fail> {
             nested.as_slice(),
             "001a02400c0110000b0b 9@9 1@1 2@2 3@4 4@6 -@8 -@9",
         ),
-        (
-            choice.as_slice(),
-            "0041ac0204400b0b 9@9 1@1 2@4 -@6 -@7",
-        ),
+        (choice.as_slice(), "0041ac0204400b0b 9@9 1@1 2@4 -@6 -@7"),
         (unknown.as_slice(), "UnknownSequence 00 9@9"),
         (own.as_slice(), "SharedSequence 00 9@9"),
         (shared.as_slice(), "SharedSequence 00 9@9"),
@@ -258,12 +255,7 @@ fn writes_exponents_of_alignments(rt: HostRuntime) -> Result<(), Fail> {
 fn writes_what_is_parsed(rt: HostRuntime) -> Result<(), Fail> {
     for (offset, before, body, want) in [
         (90, 10, "00010b", "000b 9@9 102@1"),
-        (
-            0,
-            0,
-            "00410104400b0b",
-            "00410104400b0b 9@9 1@1 3@3 5@5 6@6",
-        ),
+        (0, 0, "00410104400b0b", "00410104400b0b 9@9 1@1 3@3 5@5 6@6"),
     ] {
         let setting = Setting {
             ty: 0,
@@ -374,8 +366,18 @@ fn leaves_out_an_else_that_says_nothing(rt: HostRuntime) -> Result<(), Fail> {
     let none = InstrLocId::default();
     let at = InstrLocId::new(78);
     for (ty, end, says_something, want) in [
-        (InstrSeqType::Simple(None), at, false, "0004401a0b0b 9@9 1@1 2@3 78@4 -@5"),
-        (InstrSeqType::Simple(None), none, false, "0004401a0b0b 9@9 1@1 2@3 77@4 -@5"),
+        (
+            InstrSeqType::Simple(None),
+            at,
+            false,
+            "0004401a0b0b 9@9 1@1 2@3 78@4 -@5",
+        ),
+        (
+            InstrSeqType::Simple(None),
+            none,
+            false,
+            "0004401a0b0b 9@9 1@1 2@3 77@4 -@5",
+        ),
         (
             InstrSeqType::Simple(None),
             at,
@@ -402,8 +404,18 @@ fn leaves_out_an_else_that_says_nothing(rt: HostRuntime) -> Result<(), Fail> {
             false,
             "Index(Unnumbered { space: Types }) 00 9@9",
         ),
-        (of_type(5), at, false, "0004031a050b0b 9@9 1@1 2@3 77@4 78@5 -@6"),
-        (of_type(8), none, false, "0004001a050b0b 9@9 1@1 2@3 77@4 -@5 -@6"),
+        (
+            of_type(5),
+            at,
+            false,
+            "0004031a050b0b 9@9 1@1 2@3 77@4 78@5 -@6",
+        ),
+        (
+            of_type(8),
+            none,
+            false,
+            "0004001a050b0b 9@9 1@1 2@3 77@4 -@5 -@6",
+        ),
     ] {
         let function = choice(rt.alloc(), ty, end, says_something)?;
         let mut text = String::new(rt.alloc());

@@ -134,11 +134,6 @@ fn looks_up_the_locations_of_an_added_else(rt: HostRuntime) -> Result<(), Fail> 
 /// the location of the source's, at 107, and not that of its `else`, at 105.
 #[test]
 fn looks_up_the_location_of_a_short_if(rt: HostRuntime) -> Result<(), Fail> {
-    let cases = [
-        (3, Some(103)),
-        (5, Some(107)),
-        (6, Some(108)),
-        (7, None),
-    ];
+    let cases = [(3, Some(103)), (5, Some(107)), (6, Some(108)), (7, None)];
     check(&rt, rt.alloc(), "004101044005010b0b", &cases)
 }

@@ -63,8 +63,13 @@ fn write(alloc: Global, demo: &Demo, function: &LocalFunction) -> Result<Written
     let mut encoder = FunctionEncoder::new(alloc, &declarations)?;
     let operators = encoder.byte_len();
     let types = &demo.module.types;
-    if let Err(error) = function.emit_instructions(types, &demo.numbers, &locals, &mut encoder, None)
-    {
+    if let Err(error) = function.emit_instructions(
+        types,
+        &demo.numbers,
+        &locals,
+        &mut encoder,
+        None,
+    ) {
         return Err(Fault::from(error));
     }
     match indices(alloc, &by_number(alloc, &locals)?) {
