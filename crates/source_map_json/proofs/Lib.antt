@@ -1,2 +1,0 @@
--- what is written after what is there
-pub mod Longer

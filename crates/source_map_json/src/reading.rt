@@ -1,10 +1,11 @@
 //! Reading source maps.
 
 ghost use Rattle.std.specs.Prelude.{◌≡◌, List, ℕ, Some, IfOk};
+ghost use Rattle.serde_json.specs.Data.{Data};
 ghost use Rattle.serde_json.specs.View.{view};
 ghost use Rattle.serde_json.specs.Read.{read as read_text};
 ghost use Rattle.source_map.specs.Spelling.{Spells};
-ghost use Rattle.source_map_json.specs.SourceMaps.{IsSourceMap, data_of, mappings_of};
+ghost use Rattle.source_map_json.specs.SourceMaps.{IsSourceMap};
 
 use crate::fault::{SourceMapError, SourceMapFault};
 use serde_json::Value;
@@ -47,8 +48,8 @@ impl SourceMap {
     ///
     /// What is wrong with it; or that memory ran out.
     pub fn read(alloc: Global, bytes: &[u8]) -> Result<SourceMap, SourceMapError>
-        ensures { IfOk result (λ map. (text : List ℕ) × (read_text bytes.now ≡ Some (data_of map))
-            × IsSourceMap (data_of map) text × Spells (mappings_of map) text) }
+        ensures { IfOk result (λ map. (d : Data) × (text : List ℕ) × (read_text bytes.now ≡ Some d)
+            × IsSourceMap d text × Spells map.mappings.items text) }
     {
         let value = match Value::from_slice(alloc, bytes) {
             Ok(value) => value,
@@ -62,7 +63,7 @@ impl SourceMap {
 
     /// Its mappings, sorted by their generated columns.
     pub fn mappings(&self) -> &[Mapping]
-        ensures { result.now ≡ mappings_of self.now }
+        ensures { result.now ≡ self.now.mappings.items }
     {
         self.mappings.as_slice()
     }
