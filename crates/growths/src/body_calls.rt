@@ -152,7 +152,8 @@ impl OfBody<'_> {
 
     fn parse<V: OpCheck>(&mut self, validator: V) -> Result<LocalFunction, ParseFailure> {
         let args = self.next_args();
-        self.demo.parse(args, self.source, validator, &mut self.instrs)
+        self.demo
+            .parse(args, self.source, validator, &mut self.instrs)
     }
 
     fn rewrite(&mut self) -> Result<LocalFunction, RewriteError> {

@@ -155,7 +155,12 @@ fn open_try(context: &mut ValidationContext<'_>, instr: Instr) -> Result<(), Par
 }
 
 /// Fills such frames by so many calls.
-fn fill(context: &mut ValidationContext<'_>, instr: Instr, kind: Kind, count: usize) -> Result<(), ParseError> {
+fn fill(
+    context: &mut ValidationContext<'_>,
+    instr: Instr,
+    kind: Kind,
+    count: usize,
+) -> Result<(), ParseError> {
     open_try(context, instr)?;
     for _ in 0..count {
         call_on(context, kind)?;
@@ -202,7 +207,12 @@ fn run_one(
     let catches = Vec::new(alloc);
     let context = without_frame(alloc, demo);
     let mut of = OfContext { context, kind };
-    match fill(&mut of.context, Instr::Try(Try { seq, catches }), kind, count) {
+    match fill(
+        &mut of.context,
+        Instr::Try(Try { seq, catches }),
+        kind,
+        count,
+    ) {
         Ok(()) => selection.run(call, row, &mut of)?,
         Err(_) => return Err(io::Error::from(AllocError)),
     }
@@ -212,18 +222,63 @@ fn run_one(
 /// The calls, each with a row and how many calls are made before: so that a list grows which is
 /// empty, or has room for four items, which are there.
 const CALLS: [(&str, &str, Kind, usize); 12] = [
-    ("ValidationContext::push_control", "first", Kind::PushControl, 0),
-    ("ValidationContext::push_control", "full", Kind::PushControl, 2),
-    ("ValidationContext::push_control_with_ty", "first", Kind::PushControlWithTy, 0),
-    ("ValidationContext::push_control_with_ty", "full", Kind::PushControlWithTy, 2),
+    (
+        "ValidationContext::push_control",
+        "first",
+        Kind::PushControl,
+        0,
+    ),
+    (
+        "ValidationContext::push_control",
+        "full",
+        Kind::PushControl,
+        2,
+    ),
+    (
+        "ValidationContext::push_control_with_ty",
+        "first",
+        Kind::PushControlWithTy,
+        0,
+    ),
+    (
+        "ValidationContext::push_control_with_ty",
+        "full",
+        Kind::PushControlWithTy,
+        2,
+    ),
     ("ValidationContext::push_block", "first", Kind::PushBlock, 0),
     ("ValidationContext::push_block", "full", Kind::PushBlock, 2),
-    ("ValidationContext::pop_control", "first", Kind::PopControl, 0),
-    ("ValidationContext::pop_control", "last", Kind::PopControl, 1),
+    (
+        "ValidationContext::pop_control",
+        "first",
+        Kind::PopControl,
+        0,
+    ),
+    (
+        "ValidationContext::pop_control",
+        "last",
+        Kind::PopControl,
+        1,
+    ),
     ("ValidationContext::alloc_instr", "full", Kind::Append, 2),
-    ("ValidationContext::alloc_instr_in_control", "full", Kind::AppendIn, 2),
-    ("ValidationContext::add_legacy_catch", "first", Kind::AddClause, 0),
-    ("ValidationContext::add_legacy_catch", "full", Kind::AddClause, 4),
+    (
+        "ValidationContext::alloc_instr_in_control",
+        "full",
+        Kind::AppendIn,
+        2,
+    ),
+    (
+        "ValidationContext::add_legacy_catch",
+        "first",
+        Kind::AddClause,
+        0,
+    ),
+    (
+        "ValidationContext::add_legacy_catch",
+        "full",
+        Kind::AddClause,
+        4,
+    ),
 ];
 
 /// Runs the scenarios of these calls that are selected.

@@ -89,7 +89,10 @@ fn push_numbers(text: &mut String, numbers: &IdHashMap<LocalId, u32>) -> Result<
 /// Appends the declarations of a function's locals, and their numbers.
 fn push_locals(text: &mut String, of: &Numbered<'_>) -> Result<(), AllocError> {
     let demo = of.demo;
-    match of.function.emit_locals(&demo.module, &demo.numbers, of.used) {
+    match of
+        .function
+        .emit_locals(&demo.module, &demo.numbers, of.used)
+    {
         Ok((declarations, numbers)) => {
             write!(text, " {declarations:?}")?;
             push_numbers(text, &numbers)

@@ -46,7 +46,10 @@ impl Items {
     /// Adds an item, and returns its number.
     fn add(&mut self) -> Result<usize, AllocError> {
         let number = match self.item {
-            Item::Func => self.types.add_func(&[ValType::I64], &[ValType::F32])?.index(),
+            Item::Func => self
+                .types
+                .add_func(&[ValType::I64], &[ValType::F32])?
+                .index(),
             Item::Entry => self.types.add_entry(&[ValType::F64])?.index(),
             Item::Other => self.types.add_other()?.index(),
             Item::Tag => self.tags.add(TypeId::new(7))?.index(),

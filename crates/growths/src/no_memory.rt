@@ -83,10 +83,18 @@ fn look_up(text: &mut String, demo: &Demo, mut indices: IndicesToIds) -> Result<
     for space in SPACES {
         for index in [0, 9] {
             write!(text, " {:?}", id_of(&indices, space, index).ok())?;
-            write!(text, " {:?}", new_index(&demo.numbers, space, index as usize).ok())?;
+            write!(
+                text,
+                " {:?}",
+                new_index(&demo.numbers, space, index as usize).ok()
+            )?;
         }
     }
-    write!(text, " {:?}", indices.get_local(function(), 2).map(LocalId::index).ok())?;
+    write!(
+        text,
+        " {:?}",
+        indices.get_local(function(), 2).map(LocalId::index).ok()
+    )?;
     if indices.get_type(3).is_ok() {
         indices.remap_type(3, TypeId::new(8));
     }
@@ -129,9 +137,19 @@ fn make_collections(text: &mut String, alloc: Global) -> Result<(), AllocError> 
     push_id(text, ModuleTags::new(alloc).get(TagId::new(0)))?;
     write!(text, " {:?}", ModuleLocals::new(alloc).get(LocalId::new(0)))?;
     write!(text, " {:?}", IndicesToIds::new(alloc).get_table(0).is_ok())?;
-    write!(text, " {:?}", IdsToIndices::new(alloc).get_tag_index(TagId::new(0)).is_ok())?;
+    write!(
+        text,
+        " {:?}",
+        IdsToIndices::new(alloc)
+            .get_tag_index(TagId::new(0))
+            .is_ok()
+    )?;
     let builder = FunctionBuilder::without_entry(alloc, function_type());
-    write!(text, " {}", LocalFunction::new(Vec::new(alloc), builder).has_entry())?;
+    write!(
+        text,
+        " {}",
+        LocalFunction::new(Vec::new(alloc), builder).has_entry()
+    )?;
     write!(text, " {}", FactsVisitor::new(alloc).facts.size)?;
     write!(text, " {}", SizeVisitor::new().size)?;
     write!(text, " {}", DataSegmentsVisitor::new(alloc).segments.len())
@@ -153,7 +171,13 @@ fn push_blocks(text: &mut String, function: &LocalFunction) -> Result<(), AllocE
         let id = InstrSeqId::new(slot);
         if builder.has(id) && function.has_block(id) {
             let (seq, same) = (function.block(id), builder.seq(id));
-            write!(text, " {} {} {} ", seq.id().index(), seq.len(), same.is_empty())?;
+            write!(
+                text,
+                " {} {} {} ",
+                seq.id().index(),
+                seq.len(),
+                same.is_empty()
+            )?;
             push_location(text, seq.end)?;
         }
     }
@@ -166,7 +190,12 @@ fn look_at_function(text: &mut String, mut function: LocalFunction) -> Result<()
     let entry = function.builder().entry().map(InstrSeqId::index);
     write!(text, " {} {entry:?}", function.ty().index())?;
     if function.has_entry() {
-        write!(text, " {} {}", function.entry_block().index(), function.is_const())?;
+        write!(
+            text,
+            " {} {}",
+            function.entry_block().index(),
+            function.is_const()
+        )?;
     }
     push_blocks(text, &function)
 }
@@ -176,9 +205,18 @@ fn look_at_frames(
     text: &mut String,
     context: &mut ValidationContext<'_>,
 ) -> Result<(), AllocError> {
-    write!(text, " {:?}", context.has_block_type(BlockType::FuncType(1)))?;
+    write!(
+        text,
+        " {:?}",
+        context.has_block_type(BlockType::FuncType(1))
+    )?;
     write!(text, " {:?}", context.local(2).map(LocalId::index))?;
-    write!(text, " {:?} {}", context.kind_at(0), context.control(1).is_ok())?;
+    write!(
+        text,
+        " {:?} {}",
+        context.kind_at(0),
+        context.control(1).is_ok()
+    )?;
     write!(text, " {:?}", context.unreachable())?;
     if let Ok(frame) = context.control(0) {
         write!(text, " {}", frame.unreachable)?;
@@ -204,7 +242,13 @@ fn look_at_encoder(text: &mut String, encoder: FunctionEncoder) -> Result<(), Al
 }
 
 fn look_at_named(text: &mut String, named: &NamedBody) -> Result<(), AllocError> {
-    write!(text, " {} {:?} {:?}", named.ops().len(), named.place(1), named.place(9))
+    write!(
+        text,
+        " {} {:?} {:?}",
+        named.ops().len(),
+        named.place(1),
+        named.place(9)
+    )
 }
 
 impl Scenario for WithoutMemory<'_> {
@@ -243,7 +287,7 @@ fn maps(alloc: Global) -> Result<IndicesToIds, AllocError> {
 }
 
 /// What the calls of a row are made on.
-fn object<'a>(alloc: Global, demo: &'a Demo, row: &str) -> io::Result<Object<'a>> {
+fn make_object<'a>(alloc: Global, demo: &'a Demo, row: &str) -> io::Result<Object<'a>> {
     let object = match row {
         "module" => Object::Module,
         "collections" => Object::Collections(alloc),
@@ -272,7 +316,7 @@ const ROWS: [&str; 8] = [
 pub(crate) fn run(selection: Selection<'_>, demo: &Demo) -> io::Result<()> {
     for row in ROWS {
         if selection.has("no-memory", row) {
-            let object = object(selection.alloc(), demo, row)?;
+            let object = make_object(selection.alloc(), demo, row)?;
             let mut calls = WithoutMemory { demo, object };
             selection.run("no-memory", row, &mut calls)?;
         }
