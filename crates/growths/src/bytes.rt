@@ -66,18 +66,28 @@ impl Scenario for Output {
     }
 }
 
-const CALLS: [(&str, Kind); 6] = [
-    ("write_op-const", Kind::Const),
-    ("write_op-table", Kind::Table),
-    ("write_op-clauses", Kind::Clauses),
-    ("FunctionEncoder::new", Kind::New),
-    ("FunctionEncoder::instruction", Kind::Instruction),
-    ("FunctionEncoder::raw", Kind::Raw),
+/// The calls, each with a row and how many calls are made before: so that a list grows which is
+/// empty, or whose room is used up.
+const CALLS: [(&str, &str, Kind, usize); 11] = [
+    ("write_op-const", "first", Kind::Const, 0),
+    ("write_op-const", "full", Kind::Const, 2),
+    ("write_op-table", "first", Kind::Table, 0),
+    ("write_op-table", "full", Kind::Table, 2),
+    ("write_op-clauses", "first", Kind::Clauses, 0),
+    ("write_op-clauses", "full", Kind::Clauses, 2),
+    ("FunctionEncoder::new", "first", Kind::New, 0),
+    (
+        "FunctionEncoder::instruction",
+        "first",
+        Kind::Instruction,
+        0,
+    ),
+    ("FunctionEncoder::instruction", "full", Kind::Instruction, 3),
+    ("FunctionEncoder::raw", "first", Kind::Raw, 0),
+    ("FunctionEncoder::raw", "full", Kind::Raw, 3),
 ];
 
-/// The rows: how many calls were made before.
-const ROWS: [(&str, usize); 2] = [("empty", 0), ("full", 2)];
-
+/// Runs a scenario after so many calls of it.
 fn run_one(
     selection: Selection<'_>,
     call: &str,
@@ -96,11 +106,9 @@ fn run_one(
 
 /// Runs the scenarios of these calls that are selected.
 pub(crate) fn run(selection: Selection<'_>) -> io::Result<()> {
-    for (call, kind) in CALLS {
-        for (row, count) in ROWS {
-            if selection.has(call, row) {
-                run_one(selection, call, row, kind, count)?;
-            }
+    for (call, row, kind, count) in CALLS {
+        if selection.has(call, row) {
+            run_one(selection, call, row, kind, count)?;
         }
     }
     Ok(())

@@ -34,11 +34,11 @@ impl Scenario for Entry<'_> {
 const CALL: &str = "CodeEntry::emit";
 
 /// Writes a function after two bytes and a pair of something else.
-fn run_with(
+fn run_with<'a>(
     selection: Selection<'_>,
-    demo: &Demo,
-    function: &LocalFunction,
-    indices: &mut IdsToIndices,
+    demo: &'a Demo,
+    function: &'a LocalFunction,
+    indices: &'a mut IdsToIndices,
     row: &str,
 ) -> io::Result<()> {
     let alloc = selection.alloc();

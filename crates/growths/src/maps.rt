@@ -186,11 +186,11 @@ const CALLS: [(&str, Kind); 17] = [
 ];
 
 /// The first scenario of a call adds to an empty map, the second to a full one: a list has room for
-/// four ids first, and a hashed map for seven.
+/// four ids first, and a hashed map for nine.
 fn full(kind: Kind) -> usize {
     match kind {
         Kind::Old(_) | Kind::OldLocal => 4,
-        Kind::New(_) => 7,
+        Kind::New(_) => 9,
     }
 }
 

@@ -54,7 +54,6 @@ fn make_once<S: Scenario>(
     before: &str,
     returned: &mut String,
 ) -> io::Result<()> {
-    println!(rt; "before:{before}")?;
     println!(rt; "try")?;
     if scenario.call(returned).is_err() {
         make_again(rt, scenario, before, returned)?;
@@ -108,7 +107,7 @@ impl<'a> Selection<'a> {
     ) -> io::Result<()> {
         let (rt, alloc) = (self.rt, self.alloc());
         let before = shown(alloc, scenario)?;
-        println!(rt; "call: {call} {row}")?;
+        println!(rt; "call: {call} {row}\nbefore:{before}")?;
         make_once(
             rt,
             scenario,

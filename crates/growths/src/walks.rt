@@ -9,7 +9,7 @@ use walrus_ir::{
 };
 
 /// Why a walk isn't made, or ends early.
-#[derive(Clone, Copy, Debug, PartialEq, Eq)]
+#[derive(Clone, Copy)]
 enum Stop {
     /// The walk's own fault.
     Walk(WalkError),
@@ -23,16 +23,9 @@ impl From<WalkError> for Stop {
     }
 }
 
-/// An event of a walk.
-#[derive(Clone, Copy, Debug, PartialEq, Eq)]
-enum Event {
-    Start(usize),
-    End(usize),
-    At(u32),
-    Data(usize),
-    Local(usize),
-    Func(usize),
-}
+/// An event of a walk: a letter for its kind, and the number of its sequence or id, or the location
+/// of its instruction.
+type Event = (char, usize);
 
 /// A visitor that keeps the events, and counts its calls.
 #[derive(Drop)]
@@ -42,9 +35,9 @@ struct Recorder {
 }
 
 impl Recorder {
-    fn note(&mut self, event: Event) -> Result<(), Stop> {
+    fn note(&mut self, kind: char, number: usize) -> Result<(), Stop> {
         self.calls = self.calls.saturating_add(1);
-        match self.events.push(event) {
+        match self.events.push((kind, number)) {
             Ok(()) => Ok(()),
             Err(_) => Err(Stop::Full),
         }
@@ -71,27 +64,27 @@ impl Visitor for Recorder {
     ghost refuses_alike = { λ _ _ _ _ _ _. tt };
 
     fn start_instr_seq(&mut self, seq: &InstrSeq) -> Result<(), Stop> {
-        self.note(Event::Start(seq.id().index()))
+        self.note('s', seq.id().index())
     }
 
     fn end_instr_seq(&mut self, seq: &InstrSeq) -> Result<(), Stop> {
-        self.note(Event::End(seq.id().index()))
+        self.note('e', seq.id().index())
     }
 
     fn visit_instr(&mut self, _instr: &Instr, loc: &InstrLocId) -> Result<(), Stop> {
-        self.note(Event::At(loc.data()))
+        self.note('i', loc.data() as usize)
     }
 
     fn visit_data_id(&mut self, data_id: &DataId) -> Result<(), Stop> {
-        self.note(Event::Data(data_id.index()))
+        self.note('d', data_id.index())
     }
 
     fn visit_local_id(&mut self, local: &LocalId) -> Result<(), Stop> {
-        self.note(Event::Local(local.index()))
+        self.note('l', local.index())
     }
 
     fn visit_ref_func(&mut self, instr: &RefFunc) -> Result<(), Stop> {
-        self.note(Event::Func(instr.func.index()))
+        self.note('f', instr.func.index())
     }
 }
 
@@ -104,20 +97,20 @@ struct Walk<'a> {
     stop: Option<Stop>,
 }
 
-/// Whether the visitor has the events that come first, all but the one that it refused; or none,
-/// where the walk was refused.
+/// Whether the visitor has kept so many events of so many calls: all but the one that it refused; or
+/// none, where the walk was refused.
+fn is_kept(stop: Option<Stop>, events: usize, calls: usize) -> bool {
+    match stop {
+        Some(Stop::Walk(_)) => calls == 0,
+        Some(Stop::Full) => events.saturating_add(1) == calls,
+        None => events == calls,
+    }
+}
+
+/// Whether the visitor has the events that come first, and no others.
 fn is_front(walk: &Walk<'_>) -> bool {
     let events = walk.recorder.events.as_slice();
-    let calls = walk.recorder.calls;
-    let is_whole = match walk.stop {
-        Some(Stop::Walk(_)) => calls == 0,
-        Some(Stop::Full) => events.len().saturating_add(1) == calls,
-        None => events.len() == calls,
-    };
-    match walk.all.get(..events.len()) {
-        Some(front) => is_whole && front == events,
-        None => false,
-    }
+    is_kept(walk.stop, events.len(), walk.recorder.calls) && walk.all.starts_with(events)
 }
 
 fn visit(recorder: &mut Recorder, builder: &FunctionBuilder) -> Result<(), Stop> {
@@ -128,16 +121,11 @@ impl Scenario for Walk<'_> {
     fn call(&mut self, returned: &mut String) -> Result<(), AllocError> {
         self.recorder.events.clear();
         self.recorder.calls = 0;
-        self.stop = None;
-        match visit(&mut self.recorder, self.builder) {
-            Ok(()) => write!(returned, " {:?}", self.recorder.events),
-            Err(stop) => {
-                self.stop = Some(stop);
-                if stop == Stop::Full {
-                    return Err(AllocError);
-                }
-                push_error(returned, &stop, &Stop::Walk(WalkError::Memory))
-            }
+        self.stop = visit(&mut self.recorder, self.builder).err();
+        match self.stop {
+            None => write!(returned, " {:?}", self.recorder.events),
+            Some(Stop::Walk(fault)) => push_error(returned, &fault, &WalkError::Memory),
+            Some(Stop::Full) => Err(AllocError),
         }
     }
 
@@ -146,7 +134,7 @@ impl Scenario for Walk<'_> {
         if is_front(self) {
             Ok(())
         } else {
-            write!(text, " {:?} {:?}", self.stop, self.recorder.events)
+            write!(text, " {:?}", self.recorder.events)
         }
     }
 }
