@@ -1,0 +1,117 @@
+//! Parts of a module and of a function, to which items are added.
+
+use crate::scenario::{Scenario, Selection};
+use std::alloc::{AllocError, Global};
+use std::io;
+use walrus_ir::{
+    FunctionBuilder, InstrSeqType, LocalId, ModuleLocals, ModuleTags, ModuleTypes, TagId, TypeId,
+    ValType,
+};
+
+/// What is added.
+#[derive(Clone, Copy)]
+enum Item {
+    Func,
+    Entry,
+    Other,
+    Tag,
+    Local,
+    Sequence,
+}
+
+#[derive(Drop)]
+struct Items {
+    types: ModuleTypes,
+    tags: ModuleTags,
+    locals: ModuleLocals,
+    builder: FunctionBuilder,
+    item: Item,
+}
+
+/// How many items are shown.
+const SHOWN: usize = 12;
+
+impl Items {
+    /// No items.
+    fn new(alloc: Global, item: Item) -> Items {
+        Items {
+            types: ModuleTypes::new(alloc),
+            tags: ModuleTags::new(alloc),
+            locals: ModuleLocals::new(alloc),
+            builder: FunctionBuilder::without_entry(alloc, TypeId::new(0)),
+            item,
+        }
+    }
+
+    /// Adds an item, and returns its number.
+    fn add(&mut self) -> Result<usize, AllocError> {
+        let number = match self.item {
+            Item::Func => self
+                .types
+                .add_func(&[ValType::I64], &[ValType::F32])?
+                .index(),
+            Item::Entry => self.types.add_entry(&[ValType::F64])?.index(),
+            Item::Other => self.types.add_other()?.index(),
+            Item::Tag => self.tags.add(TypeId::new(7))?.index(),
+            Item::Local => self.locals.add(ValType::V128)?.index(),
+            Item::Sequence => self.builder.alloc(InstrSeqType::Simple(None))?.index(),
+        };
+        Ok(number)
+    }
+}
+
+fn push_types(text: &mut String, types: &ModuleTypes) -> Result<(), AllocError> {
+    for id in 0..SHOWN {
+        let id = TypeId::new(id);
+        if types.is_func(id) {
+            let (params, results) = types.params_results(id);
+            write!(text, " {params:?}{results:?}")?;
+        }
+    }
+    Ok(())
+}
+
+impl Scenario for Items {
+    fn call(&mut self, returned: &mut String) -> Result<(), AllocError> {
+        let number = self.add()?;
+        write!(returned, " {number}")
+    }
+
+    fn show(&self, text: &mut String) -> Result<(), AllocError> {
+        push_types(text, &self.types)?;
+        for id in 0..SHOWN {
+            if let Some(ty) = self.tags.get(TagId::new(id)) {
+                write!(text, " tag{}", ty.index())?;
+            }
+            if let Some(ty) = self.locals.get(LocalId::new(id)) {
+                write!(text, " {ty:?}")?;
+            }
+        }
+        write!(text, " {}", self.builder.count())
+    }
+}
+
+const CALLS: [(&str, Item); 6] = [
+    ("ModuleTypes::add_func", Item::Func),
+    ("ModuleTypes::add_entry", Item::Entry),
+    ("ModuleTypes::add_other", Item::Other),
+    ("ModuleTags::add", Item::Tag),
+    ("ModuleLocals::add", Item::Local),
+    ("FunctionBuilder::alloc", Item::Sequence),
+];
+
+/// The rows: how many items there are. A list has room for four first.
+const ROWS: [(&str, usize); 2] = [("empty", 0), ("full", 4)];
+
+/// Runs the scenarios of these calls that are selected.
+pub(crate) fn run(selection: Selection<'_>) -> io::Result<()> {
+    for (call, item) in CALLS {
+        for (row, count) in ROWS {
+            if selection.has(call, row) {
+                let mut items = Items::new(selection.alloc(), item);
+                selection.run_after(count, call, row, &mut items)?;
+            }
+        }
+    }
+    Ok(())
+}
