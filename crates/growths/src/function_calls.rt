@@ -110,8 +110,13 @@ fn emit(
     if !of.function.has_entry() {
         return Err(EmitError::UnknownSequence);
     }
-    of.function
-        .emit_instructions(&of.demo.module.types, &of.demo.numbers, of.numbers, encoder, map)
+    of.function.emit_instructions(
+        &of.demo.module.types,
+        &of.demo.numbers,
+        of.numbers,
+        encoder,
+        map,
+    )
 }
 
 fn push_emitted(text: &mut String, emitted: Result<(), EmitError>) -> Result<(), AllocError> {
