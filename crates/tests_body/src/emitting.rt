@@ -324,6 +324,16 @@ fn changes_one_sequence(rt: HostRuntime) -> Result<(), Fail> {
     Ok(())
 }
 
+// Sets the type and the end of a sequence, if there is one in this slot.
+fn set_head(function: &mut LocalFunction, slot: InstrSeqId, ty: InstrSeqType, end: InstrLocId) {
+    if !function.has_block(slot) {
+        return;
+    }
+    let sequence = function.block_mut(slot);
+    sequence.ty = ty;
+    sequence.end = end;
+}
+
 // A function with an `if` whose sequences have this type, and whose ends have the locations 77 and
 // this one. The alternative has an instruction if it is to say something.
 fn choice(
@@ -340,14 +350,8 @@ fn choice(
     let count = if says_something { 3 } else { 2 };
     let builder = function(alloc, 3, &items[..count])?;
     let mut function = LocalFunction::new(Vec::new(alloc), builder);
-    for (slot, end) in [(1, InstrLocId::new(77)), (2, end)] {
-        let slot = InstrSeqId::new(slot);
-        if function.has_block(slot) {
-            let sequence = function.block_mut(slot);
-            sequence.ty = ty;
-            sequence.end = end;
-        }
-    }
+    set_head(&mut function, InstrSeqId::new(1), ty, InstrLocId::new(77));
+    set_head(&mut function, InstrSeqId::new(2), ty, end);
     Ok(function)
 }
 
