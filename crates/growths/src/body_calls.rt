@@ -195,6 +195,15 @@ impl Scenario for OfBody<'_> {
     }
 }
 
+/// Gives a call its arguments, twice, and something that its output follows.
+fn fill(alloc: Global, of: &mut OfBody<'_>) -> Result<(), AllocError> {
+    of.args.push(arguments(alloc)?)?;
+    of.args.push(arguments(alloc)?)?;
+    of.bytes.extend_from_slice(&[0xaa, 0xbb])?;
+    of.pairs.push((InstrLocId::new(9), 9))?;
+    Ok(())
+}
+
 /// What a call on a body is made on.
 fn of_body<'a>(
     alloc: Global,
@@ -202,18 +211,17 @@ fn of_body<'a>(
     source: &'a [u8],
     kind: Kind,
 ) -> Result<OfBody<'a>, AllocError> {
-    let args = vec![in alloc; arguments(alloc)?, arguments(alloc)?]?;
-    let bytes = vec![in alloc; 0xaa, 0xbb]?;
-    let pairs = vec![in alloc; (InstrLocId::new(9), 9)]?;
-    Ok(OfBody {
+    let mut of = OfBody {
         demo,
         source,
-        args,
+        args: Vec::new(alloc),
         instrs: Vec::new(alloc),
-        bytes,
-        pairs,
+        bytes: Vec::new(alloc),
+        pairs: Vec::new(alloc),
         kind,
-    })
+    };
+    fill(alloc, &mut of)?;
+    Ok(of)
 }
 
 const CALLS: [(&str, Kind); 5] = [
@@ -235,17 +243,17 @@ fn run_row(selection: Selection<'_>, demo: &Demo, row: &str, operators: &str) ->
     Ok(())
 }
 
-/// Runs the scenarios of these calls that are selected.
-pub(crate) fn run(selection: Selection<'_>, demo: &Demo) -> io::Result<()> {
-    for (row, operators) in ACCEPTED {
-        if selection.has_row(row) {
-            run_row(selection, demo, row, operators)?;
-        }
-    }
-    for (row, operators) in REFUSED {
+fn run_rows(selection: Selection<'_>, demo: &Demo, rows: &[(&str, &str)]) -> io::Result<()> {
+    for (row, operators) in rows {
         if selection.has_row(row) {
             run_row(selection, demo, row, operators)?;
         }
     }
     Ok(())
+}
+
+/// Runs the scenarios of these calls that are selected.
+pub(crate) fn run(selection: Selection<'_>, demo: &Demo) -> io::Result<()> {
+    run_rows(selection, demo, &ACCEPTED)?;
+    run_rows(selection, demo, &REFUSED)
 }

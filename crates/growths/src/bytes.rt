@@ -25,6 +25,14 @@ struct Output {
     kind: Kind,
 }
 
+fn write_const(bytes: &mut Vec<u8>) -> Result<(), AllocError> {
+    write_op(&OutOp::I32Const { value: 624485 }, bytes)
+}
+
+fn add_instruction(encoder: &mut FunctionEncoder) -> Result<(), AllocError> {
+    encoder.instruction(&OutOp::V128Const { bits: 1 })
+}
+
 fn write_table(bytes: &mut Vec<u8>) -> Result<(), AllocError> {
     let targets = &[0, 300];
     let default = 1;
@@ -51,11 +59,11 @@ fn declaring(bytes: &Vec<u8>) -> Result<FunctionEncoder, AllocError> {
 impl Scenario for Output {
     fn call(&mut self, returned: &mut String) -> Result<(), AllocError> {
         match self.kind {
-            Kind::Const => write_op(&OutOp::I32Const { value: 624485 }, &mut self.bytes),
+            Kind::Const => write_const(&mut self.bytes),
             Kind::Table => write_table(&mut self.bytes),
             Kind::Clauses => write_clauses(&mut self.bytes),
             Kind::New => push_bytes(returned, declaring(&self.bytes)?.bytes()),
-            Kind::Instruction => self.encoder.instruction(&OutOp::V128Const { bits: 1 }),
+            Kind::Instruction => add_instruction(&mut self.encoder),
             Kind::Raw => self.encoder.raw(&[1, 2, 3, 4, 5, 6, 7, 8]),
         }
     }

@@ -224,15 +224,19 @@ fn look_at_frames(
     Ok(())
 }
 
+/// The lengths of the parts of a context.
+fn lengths(context: ValidationContext<'_>) -> [usize; 3] {
+    let (builder, controls, instrs) = context.into_parts();
+    [builder.count(), controls.len(), instrs.len()]
+}
+
 /// Looks at a context, and takes it apart.
 fn look_at_context(
     text: &mut String,
     mut context: ValidationContext<'_>,
 ) -> Result<(), AllocError> {
     look_at_frames(text, &mut context)?;
-    let (builder, controls, instrs) = context.into_parts();
-    let lengths = [builder.count(), controls.len(), instrs.len()];
-    write!(text, " {lengths:?}")
+    write!(text, " {:?}", lengths(context))
 }
 
 /// Looks at an encoder, and takes its bytes.
