@@ -14,6 +14,7 @@ use crate::source_maps::{Following, read_source_map};
 use crate::warnings::warn;
 use crate::writing::write_module;
 use crate::wrong_use::WrongUse;
+use source_map_json::SourceMap;
 use std::alloc::{AllocError, Global};
 use std::io;
 use std::process::ExitCode;
@@ -316,55 +317,52 @@ fn rewritten<'w, 'a, R: Eprint + Clock + AllocGlobal, T: Tool>(
     }
 }
 
-/// Writes a module that was made of one, after what is wrong now with its sections is said, and its
-/// source map, of which each mapping follows its operator.
-fn write_following<'w, R: Files + Input + Print + Eprint + AllocGlobal + Drop, B: BodyWriter>(
-    rt: &'w R,
-    name: &str,
+/// The source map that is read, if one is.
+fn given_source_map<'w, R: Files + Input + AllocGlobal>(
+    rt: &R,
     task: &Task<'w>,
-    paths: MapPaths<'w>,
-    parsed: &mut ParsedModule<'_>,
-    module: &mut RewrittenModule<'_, B>,
-    output: &'w str,
-) -> Result<(), Stop<'w>> {
-    let map = match read_source_map(rt, paths.input) {
-        Ok(map) => map,
-        Err(stop) => return Err(stop),
+) -> Result<Option<SourceMap>, Stop<'w>> {
+    let Some(paths) = task.source_map else {
+        return Ok(None);
     };
-    if paths.url.is_some() {
-        module.leave_out_source_map_url();
+    match read_source_map(rt, paths.input) {
+        Ok(map) => Ok(Some(map)),
+        Err(stop) => Err(stop),
     }
-    warn(rt, name, &module.notes, task);
-    let map = &map;
-    write_module(
-        rt,
-        parsed,
-        module,
-        task,
-        Some(Following { map, paths }),
-        output,
-    )
 }
 
-/// Writes a module that was made of one, after what is wrong now with its sections is said.
-fn write_made<'w, R: Files + Input + Print + Eprint + AllocGlobal + Drop, B: BodyWriter + Drop>(
+/// The source map that was read, with the files of the task.
+fn following<'m, 'w>(task: &Task<'w>, map: &'m Option<SourceMap>) -> Option<Following<'m, 'w>> {
+    match (task.source_map, map) {
+        (Some(paths), Some(map)) => Some(Following { map, paths }),
+        _ => None,
+    }
+}
+
+/// Leaves out what the task asks to leave out.
+fn leave_out<B: BodyWriter>(task: &Task<'_>, module: &mut RewrittenModule<'_, B>) {
+    if task.strips_debug {
+        module.leave_out_debug();
+    }
+    if let Some(MapPaths { url: Some(_), .. }) = task.source_map {
+        module.leave_out_source_map_url();
+    }
+}
+
+/// Writes a module that was made of one, after what is wrong now with its sections is said, and the
+/// source map, if there is one, of which each mapping follows its operator.
+fn write_made<'w, R: Files + Print + Eprint + AllocGlobal + Drop, B: BodyWriter + Drop>(
     rt: &'w R,
     name: &str,
     task: &Task<'w>,
+    following: Option<Following<'_, 'w>>,
     parsed: &mut ParsedModule<'_>,
     mut module: RewrittenModule<'_, B>,
     output: &'w str,
 ) -> Result<(), Stop<'w>> {
-    if task.strips_debug {
-        module.leave_out_debug();
-    }
-    match task.source_map {
-        Some(paths) => write_following(rt, name, task, paths, parsed, &mut module, output),
-        None => {
-            warn(rt, name, &module.notes, task);
-            write_module(rt, parsed, &module, task, None, output)
-        }
-    }
+    leave_out(task, &mut module);
+    warn(rt, name, &module.notes, task);
+    write_module(rt, parsed, &module, task, following, output)
 }
 
 /// Writes what the program makes of a module.
@@ -377,10 +375,15 @@ fn rewrite<'w, 'a, R: Files + Input + Clock + Print + Eprint + AllocGlobal + Dro
     output: &'w str,
     progress: &'a Progress<'a, R>,
 ) -> Result<(), Stop<'w>> {
-    match rewritten(rt, tool, task, parsed, progress) {
-        Ok(module) => {
-            progress.clear();
-            write_made(rt, program.name, task, parsed, module, output)
+    let module = match rewritten(rt, tool, task, parsed, progress) {
+        Ok(module) => module,
+        Err(stop) => return Err(stop),
+    };
+    progress.clear();
+    match given_source_map(rt, task) {
+        Ok(map) => {
+            let following = following(task, &map);
+            write_made(rt, program.name, task, following, parsed, module, output)
         }
         Err(stop) => Err(stop),
     }
