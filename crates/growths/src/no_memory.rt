@@ -130,29 +130,62 @@ fn look_at_module(text: &mut String, demo: &Demo) -> Result<(), AllocError> {
     write!(text, " {:?}", demo.module.locals.get(LocalId::new(1)))
 }
 
-/// Makes empty collections.
-fn make_collections(text: &mut String, alloc: Global) -> Result<(), AllocError> {
-    let types = ModuleTypes::new(alloc);
-    push_id(text, types.find(&[], &[]))?;
-    push_id(text, ModuleTags::new(alloc).get(TagId::new(0)))?;
-    write!(text, " {:?}", ModuleLocals::new(alloc).get(LocalId::new(0)))?;
-    write!(text, " {:?}", IndicesToIds::new(alloc).get_table(0).is_ok())?;
-    write!(
-        text,
-        " {:?}",
-        IdsToIndices::new(alloc)
-            .get_tag_index(TagId::new(0))
-            .is_ok()
-    )?;
+/// The type that an empty list of types has for no parameters and no results.
+fn found_type(alloc: Global) -> Option<TypeId> {
+    ModuleTypes::new(alloc).find(&[], &[])
+}
+
+/// The type of the first tag of none.
+fn tag_type(alloc: Global) -> Option<TypeId> {
+    ModuleTags::new(alloc).get(TagId::new(0))
+}
+
+/// The type of the first local of none.
+fn local_type(alloc: Global) -> Option<ValType> {
+    ModuleLocals::new(alloc).get(LocalId::new(0))
+}
+
+/// Whether empty index maps have a table.
+fn has_table(alloc: Global) -> bool {
+    IndicesToIds::new(alloc).get_table(0).is_ok()
+}
+
+/// Whether empty index maps have a number for a tag.
+fn has_tag_index(alloc: Global) -> bool {
+    IdsToIndices::new(alloc)
+        .get_tag_index(TagId::new(0))
+        .is_ok()
+}
+
+/// Whether a function without sequences has an entry.
+fn has_entry(alloc: Global) -> bool {
     let builder = FunctionBuilder::without_entry(alloc, function_type());
+    LocalFunction::new(Vec::new(alloc), builder).has_entry()
+}
+
+/// The size that a visitor begins with.
+fn first_size(alloc: Global) -> u64 {
+    FactsVisitor::new(alloc).facts.size
+}
+
+/// How many segments a visitor begins with.
+fn first_segments(alloc: Global) -> usize {
+    DataSegmentsVisitor::new(alloc).segments.len()
+}
+
+/// Makes empty collections. Each is made by a function of its own.
+fn make_collections(text: &mut String, alloc: Global) -> Result<(), AllocError> {
+    push_id(text, found_type(alloc))?;
+    push_id(text, tag_type(alloc))?;
+    write!(text, " {:?}", local_type(alloc))?;
+    write!(text, " {:?} {:?}", has_table(alloc), has_tag_index(alloc))?;
+    write!(text, " {} {}", has_entry(alloc), first_size(alloc))?;
     write!(
         text,
-        " {}",
-        LocalFunction::new(Vec::new(alloc), builder).has_entry()
-    )?;
-    write!(text, " {}", FactsVisitor::new(alloc).facts.size)?;
-    write!(text, " {}", SizeVisitor::new().size)?;
-    write!(text, " {}", DataSegmentsVisitor::new(alloc).segments.len())
+        " {} {}",
+        SizeVisitor::new().size,
+        first_segments(alloc)
+    )
 }
 
 /// Sets the entry of a function to what it is, and changes the end of its second sequence.
@@ -185,8 +218,8 @@ fn push_blocks(text: &mut String, function: &LocalFunction) -> Result<(), AllocE
 }
 
 /// Looks at a function.
-fn look_at_function(text: &mut String, mut function: LocalFunction) -> Result<(), AllocError> {
-    change(&mut function);
+fn look_at_function(text: &mut String, function: &mut LocalFunction) -> Result<(), AllocError> {
+    change(function);
     let entry = function.builder().entry().map(InstrSeqId::index);
     write!(text, " {} {entry:?}", function.ty().index())?;
     if function.has_entry() {
@@ -197,7 +230,7 @@ fn look_at_function(text: &mut String, mut function: LocalFunction) -> Result<()
             function.is_const()
         )?;
     }
-    push_blocks(text, &function)
+    push_blocks(text, function)
 }
 
 /// Looks at a context with one open frame, of a loop.
@@ -262,7 +295,7 @@ impl Scenario for WithoutMemory<'_> {
             Object::Module => look_at_module(returned, self.demo),
             Object::Collections(alloc) => make_collections(returned, alloc),
             Object::Maps(indices) => look_up(returned, self.demo, indices),
-            Object::Function(function) => look_at_function(returned, function),
+            Object::Function(mut function) => look_at_function(returned, &mut function),
             Object::Context(context) => look_at_context(returned, context),
             Object::Encoder(encoder) => look_at_encoder(returned, encoder),
             Object::Named(named) => look_at_named(returned, &named),
