@@ -79,10 +79,10 @@ fn read_operators(text: &mut String) -> Result<(), AllocError> {
 }
 
 /// Looks up indices and ids that are there, and some that aren't; then changes one.
-fn look_up(text: &mut String, demo: &Demo, mut indices: IndicesToIds) -> Result<(), AllocError> {
+fn look_up(text: &mut String, demo: &Demo, indices: &mut IndicesToIds) -> Result<(), AllocError> {
     for space in SPACES {
         for index in [0, 9] {
-            write!(text, " {:?}", id_of(&indices, space, index).ok())?;
+            write!(text, " {:?}", id_of(indices, space, index).ok())?;
             write!(
                 text,
                 " {:?}",
@@ -294,7 +294,7 @@ impl Scenario for WithoutMemory<'_> {
             Object::Bytes => read_operators(returned),
             Object::Module => look_at_module(returned, self.demo),
             Object::Collections(alloc) => make_collections(returned, alloc),
-            Object::Maps(indices) => look_up(returned, self.demo, indices),
+            Object::Maps(mut indices) => look_up(returned, self.demo, &mut indices),
             Object::Function(mut function) => look_at_function(returned, &mut function),
             Object::Context(context) => look_at_context(returned, context),
             Object::Encoder(encoder) => look_at_encoder(returned, encoder),
