@@ -115,17 +115,29 @@ fn push_lengths(text: &mut String, types: &ModuleTypes, id: TypeId) -> Result<()
     write!(text, " {params:?} {results:?} {takes:?} {gives:?}")
 }
 
-/// Looks at types, tags and locals.
-fn look_at_module(text: &mut String, demo: &Demo) -> Result<(), AllocError> {
-    let types = &demo.module.types;
-    match InstrSeqType::existing(types, &[ValType::I32], &[]) {
-        Some(InstrSeqType::MultiValue(id)) => push_id(text, Some(id))?,
-        _ => push_id(text, None)?,
+/// The id in the type of a sequence, if there is one.
+fn id_in(ty: Option<InstrSeqType>) -> Option<TypeId> {
+    match ty {
+        Some(InstrSeqType::MultiValue(id)) => Some(id),
+        _ => None,
     }
+}
+
+/// Looks at types.
+fn look_at_types(text: &mut String, types: &ModuleTypes) -> Result<(), AllocError> {
+    push_id(
+        text,
+        id_in(InstrSeqType::existing(types, &[ValType::I32], &[])),
+    )?;
     push_id(text, types.find(&[], &[]))?;
     push_id(text, types.find_for_function_entry(&[]))?;
     push_lengths(text, types, TypeId::new(2))?;
-    push_lengths(text, types, TypeId::new(9))?;
+    push_lengths(text, types, TypeId::new(9))
+}
+
+/// Looks at types, tags and locals.
+fn look_at_module(text: &mut String, demo: &Demo) -> Result<(), AllocError> {
+    look_at_types(text, &demo.module.types)?;
     push_id(text, demo.module.tags.get(TagId::new(1)))?;
     write!(text, " {:?}", demo.module.locals.get(LocalId::new(1)))
 }
@@ -238,23 +250,14 @@ fn look_at_frames(
     text: &mut String,
     context: &mut ValidationContext<'_>,
 ) -> Result<(), AllocError> {
-    write!(
-        text,
-        " {:?}",
-        context.has_block_type(BlockType::FuncType(1))
-    )?;
-    write!(text, " {:?}", context.local(2).map(LocalId::index))?;
-    write!(
-        text,
-        " {:?} {}",
-        context.kind_at(0),
-        context.control(1).is_ok()
-    )?;
-    write!(text, " {:?}", context.unreachable())?;
-    if let Ok(frame) = context.control(0) {
-        write!(text, " {}", frame.unreachable)?;
-    }
-    Ok(())
+    let has_type = context.has_block_type(BlockType::FuncType(1)).is_ok();
+    let local = context.local(2).map(LocalId::index).ok();
+    let kind = context.kind_at(0).ok();
+    let has_outer = context.control(1).is_ok();
+    let is_cut = context.unreachable().is_ok();
+    let is_dead = matches!(context.control(0), Ok(frame) if frame.unreachable);
+    write!(text, " {has_type} {local:?} {kind:?}")?;
+    write!(text, " {has_outer} {is_cut} {is_dead}")
 }
 
 /// The lengths of the parts of a context.
