@@ -325,21 +325,28 @@ fn changes_one_sequence(rt: HostRuntime) -> Result<(), Fail> {
 }
 
 // Sets the type and the end of a sequence, if there is one in this slot.
-fn set_head(function: &mut LocalFunction, slot: InstrSeqId, ty: InstrSeqType, end: InstrLocId) {
+fn set_head(function: &mut LocalFunction, slot: usize, ty: &InstrSeqType, end: &InstrLocId) {
+    let slot = InstrSeqId::new(slot);
     if !function.has_block(slot) {
         return;
     }
     let sequence = function.block_mut(slot);
-    sequence.ty = ty;
-    sequence.end = end;
+    sequence.ty = *ty;
+    sequence.end = *end;
+}
+
+// The same for both sequences of the `if` of a function. The first one ends at the location 77.
+fn set_heads(function: &mut LocalFunction, ty: &InstrSeqType, end: &InstrLocId) {
+    set_head(function, 1, ty, &InstrLocId::new(77));
+    set_head(function, 2, ty, end);
 }
 
 // A function with an `if` whose sequences have this type, and whose ends have the locations 77 and
 // this one. The alternative has an instruction if it is to say something.
 fn choice(
     alloc: Global,
-    ty: InstrSeqType,
-    end: InstrLocId,
+    ty: &InstrSeqType,
+    end: &InstrLocId,
     says_something: bool,
 ) -> Result<LocalFunction, AllocError> {
     let items = [
@@ -347,11 +354,14 @@ fn choice(
         (1, Made::Drop, 2),
         (2, Made::Const(5), 3),
     ];
-    let count = if says_something { 3 } else { 2 };
-    let builder = function(alloc, 3, &items[..count])?;
+    let items = if says_something {
+        &items[..]
+    } else {
+        &items[..2]
+    };
+    let builder = function(alloc, 3, items)?;
     let mut function = LocalFunction::new(Vec::new(alloc), builder);
-    set_head(&mut function, InstrSeqId::new(1), ty, InstrLocId::new(77));
-    set_head(&mut function, InstrSeqId::new(2), ty, end);
+    set_heads(&mut function, ty, end);
     Ok(function)
 }
 
@@ -421,7 +431,7 @@ fn leaves_out_an_else_that_says_nothing(rt: HostRuntime) -> Result<(), Fail> {
             "0004001a050b0b 9@9 1@1 2@3 77@4 -@5 -@6",
         ),
     ] {
-        let function = choice(rt.alloc(), ty, end, says_something)?;
+        let function = choice(rt.alloc(), &ty, &end, says_something)?;
         let mut text = String::new(rt.alloc());
         push_written(&mut text, &function)?;
         assert_eq!(rt; text.as_str(), want);
