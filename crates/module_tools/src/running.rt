@@ -7,14 +7,11 @@ use crate::ending::{Attempt, Item, Refusal, Stop, exit_code, words};
 use crate::files::read_file;
 use crate::names::{Bytes, Found, FunctionNames, function_at};
 use crate::places::check_files;
-use crate::program::{MapPaths, Program, Request, Task, read_words};
+use crate::program::{Program, Request, Task, read_words};
 use crate::progress::{Progress, Watched};
-use crate::source_map_places::check_source_maps;
-use crate::source_maps::{Following, read_source_map};
 use crate::warnings::warn;
 use crate::writing::write_module;
 use crate::wrong_use::WrongUse;
-use source_map_json::SourceMap;
 use std::alloc::{AllocError, Global};
 use std::io;
 use std::process::ExitCode;
@@ -317,56 +314,24 @@ fn rewritten<'w, 'a, R: Eprint + Clock + AllocGlobal, T: Tool>(
     }
 }
 
-/// The source map that is read, if one is.
-fn given_source_map<'w, R: Files + Input + AllocGlobal>(
-    rt: &R,
-    task: &Task<'w>,
-) -> Result<Option<SourceMap>, Stop<'w>> {
-    let Some(paths) = task.source_map else {
-        return Ok(None);
-    };
-    match read_source_map(rt, paths.input) {
-        Ok(map) => Ok(Some(map)),
-        Err(stop) => Err(stop),
-    }
-}
-
-/// The source map that was read, with the files of the task.
-fn following<'m, 'w>(task: &Task<'w>, map: &'m Option<SourceMap>) -> Option<Following<'m, 'w>> {
-    match (task.source_map, map) {
-        (Some(paths), Some(map)) => Some(Following { map, paths }),
-        _ => None,
-    }
-}
-
-/// Leaves out what the task asks to leave out.
-fn leave_out<B: BodyWriter>(task: &Task<'_>, module: &mut RewrittenModule<'_, B>) {
-    if task.strips_debug {
-        module.leave_out_debug();
-    }
-    if let Some(MapPaths { url: Some(_), .. }) = task.source_map {
-        module.leave_out_source_map_url();
-    }
-}
-
-/// Writes a module that was made of one, after what is wrong now with its sections is said, and the
-/// source map, if there is one, of which each mapping follows its operator.
+/// Writes a module that was made of one, after what is wrong now with its sections is said.
 fn write_made<'w, R: Files + Print + Eprint + AllocGlobal + Drop, B: BodyWriter + Drop>(
     rt: &'w R,
     name: &str,
     task: &Task<'w>,
-    following: Option<Following<'_, 'w>>,
     parsed: &mut ParsedModule<'_>,
     mut module: RewrittenModule<'_, B>,
     output: &'w str,
 ) -> Result<(), Stop<'w>> {
-    leave_out(task, &mut module);
-    warn(rt, name, &module.notes, task);
-    write_module(rt, parsed, &module, task, following, output)
+    if task.strips_debug {
+        module.leave_out_debug();
+    }
+    warn(rt, name, &module.notes, task.strips_debug);
+    write_module(rt, parsed, &module, task, output)
 }
 
 /// Writes what the program makes of a module.
-fn rewrite<'w, 'a, R: Files + Input + Clock + Print + Eprint + AllocGlobal + Drop, T: Tool>(
+fn rewrite<'w, 'a, R: Files + Clock + Print + Eprint + AllocGlobal + Drop, T: Tool>(
     rt: &'w R,
     tool: &T,
     program: &Program,
@@ -375,22 +340,17 @@ fn rewrite<'w, 'a, R: Files + Input + Clock + Print + Eprint + AllocGlobal + Dro
     output: &'w str,
     progress: &'a Progress<'a, R>,
 ) -> Result<(), Stop<'w>> {
-    let module = match rewritten(rt, tool, task, parsed, progress) {
-        Ok(module) => module,
-        Err(stop) => return Err(stop),
-    };
-    progress.clear();
-    match given_source_map(rt, task) {
-        Ok(map) => {
-            let following = following(task, &map);
-            write_made(rt, program.name, task, following, parsed, module, output)
+    match rewritten(rt, tool, task, parsed, progress) {
+        Ok(module) => {
+            progress.clear();
+            write_made(rt, program.name, task, parsed, module, output)
         }
         Err(stop) => Err(stop),
     }
 }
 
 /// Does what is asked for with a module that was read, and returns how many bodies are refused.
-fn run_with<'w, 'a, R: Files + Input + Clock + Print + Eprint + AllocGlobal + Drop, T: Tool>(
+fn run_with<'w, 'a, R: Files + Clock + Print + Eprint + AllocGlobal + Drop, T: Tool>(
     rt: &'w R,
     tool: &T,
     program: &Program,
@@ -408,7 +368,7 @@ fn run_with<'w, 'a, R: Files + Input + Clock + Print + Eprint + AllocGlobal + Dr
 }
 
 /// Does what is asked for with a module of these bytes.
-fn run_over<'w, 'a, R: Files + Input + Clock + Print + Eprint + AllocGlobal + Drop, T: Tool>(
+fn run_over<'w, 'a, R: Files + Clock + Print + Eprint + AllocGlobal + Drop, T: Tool>(
     rt: &'w R,
     tool: &T,
     program: &Program,
@@ -449,21 +409,6 @@ where
     }
 }
 
-/// Checks the files of a task before any is opened.
-fn check_task<'w, R: Files + AllocGlobal>(
-    rt: &R,
-    task: &Task<'w>,
-    terminals: Terminals,
-) -> Result<(), Stop<'w>> {
-    if terminals.output && task.output == Some("-") {
-        return Err(Stop::WrongUse(WrongUse::Terminal));
-    }
-    match check_files(rt, task) {
-        Ok(()) => check_source_maps(rt, task),
-        Err(stop) => Err(stop),
-    }
-}
-
 /// Does what is asked for, and shows on a terminal how far it is.
 fn run_task<'w, R: Files + Input + Clock + Print + Eprint + AllocGlobal + Drop, T: Tool>(
     rt: &'w R,
@@ -472,7 +417,10 @@ fn run_task<'w, R: Files + Input + Clock + Print + Eprint + AllocGlobal + Drop, 
     task: &Task<'w>,
     terminals: Terminals,
 ) -> Result<Done, Stop<'w>> {
-    match check_task(rt, task, terminals) {
+    if terminals.output && task.output == Some("-") {
+        return Err(Stop::WrongUse(WrongUse::Terminal));
+    }
+    match check_files(rt, task) {
         Ok(()) => {}
         Err(stop) => return Err(stop),
     }

@@ -1,15 +1,12 @@
-//! Writing the module that a program makes, its location map, and its source map.
+//! Writing the module that a program makes, and its location map.
 
 use crate::ending::{Attempt, Stop};
 use crate::files::Target;
 use crate::program::Task;
-use crate::source_maps::{Following, Moves, MovesAndLines, write_source_map};
 use std::alloc::Global;
 use std::io::{BufWriter, Write};
 use std::rt::Files;
-use wasm_module::{
-    BodyWriter, MapLines, ParsedModule, RewrittenModule, Tell, WriteError, write_source_map_url,
-};
+use wasm_module::{BodyWriter, ParsedModule, RewrittenModule, WriteError};
 
 /// Writes what a buffer still holds.
 fn flush<W: Write>(out: &mut W) -> Result<(), WriteError> {
@@ -19,63 +16,59 @@ fn flush<W: Write>(out: &mut W) -> Result<(), WriteError> {
     }
 }
 
-/// Writes the section that says where the source map is, if that is given.
-fn write_url<W: Write>(alloc: Global, url: Option<&str>, out: &mut W) -> Result<(), WriteError> {
-    match url {
-        Some(url) => write_source_map_url(alloc, url, out),
-        None => Ok(()),
-    }
-}
-
-/// Writes a module, the section that says where its source map is, and what the buffer still holds.
-fn write_out<W: Write, T: Tell, B: BodyWriter>(
-    alloc: Global,
+/// Writes a module, and what a buffer still holds.
+fn write_out<W: Write, B: BodyWriter>(
     parsed: &mut ParsedModule<'_>,
     module: &RewrittenModule<'_, B>,
-    url: Option<&str>,
-    tell: &mut T,
     out: &mut W,
 ) -> Result<(), WriteError> {
-    match parsed.write_module_telling(module, tell, out) {
-        Ok(()) => {}
-        Err(error) => return Err(error),
-    }
-    match write_url(alloc, url, out) {
+    match parsed.write_module(module, out) {
         Ok(()) => flush(out),
         Err(error) => Err(error),
     }
 }
 
-/// Writes a module, buffered, and tells of its bodies.
-fn write_buffered<W: Write, T: Tell, B: BodyWriter>(
+/// Writes a module, buffered.
+fn write_buffered<W: Write, B: BodyWriter>(
     alloc: Global,
     parsed: &mut ParsedModule<'_>,
     module: &RewrittenModule<'_, B>,
-    url: Option<&str>,
-    tell: &mut T,
     target: &mut W,
 ) -> Result<(), WriteError> {
     match BufWriter::new(alloc, target) {
-        Ok(mut out) => write_out(alloc, parsed, module, url, tell, &mut out),
+        Ok(mut out) => write_out(parsed, module, &mut out),
         Err(error) => Err(WriteError::Io(error)),
     }
 }
 
-/// Writes a module, and its location map to a buffer that is lent, and what that still holds.
-fn write_with_lines<W: Write, M: Write, B: BodyWriter>(
+/// Writes a module and its location map, and what the buffers still hold.
+fn write_both_out<W: Write, M: Write, B: BodyWriter>(
+    parsed: &mut ParsedModule<'_>,
+    module: &RewrittenModule<'_, B>,
+    out: &mut W,
+    map: &mut M,
+) -> Result<(), WriteError> {
+    match parsed.write_module_with_map(module, out, map) {
+        Ok(()) => {}
+        Err(error) => return Err(error),
+    }
+    match flush(map) {
+        Ok(()) => flush(out),
+        Err(error) => Err(error),
+    }
+}
+
+/// Writes a module, whose buffer is lent, and its location map, buffered.
+fn write_map_buffered<W: Write, M: Write, B: BodyWriter>(
     alloc: Global,
     parsed: &mut ParsedModule<'_>,
     module: &RewrittenModule<'_, B>,
-    url: Option<&str>,
-    moves: &mut Moves,
-    target: &mut W,
-    map: &mut M,
+    out: &mut W,
+    map_target: &mut M,
 ) -> Result<(), WriteError> {
-    let lines = MapLines(&mut *map);
-    let mut tell = MovesAndLines { moves, lines };
-    match write_buffered(alloc, parsed, module, url, &mut tell, target) {
-        Ok(()) => flush(map),
-        Err(error) => Err(error),
+    match BufWriter::new(alloc, map_target) {
+        Ok(mut map) => write_both_out(parsed, module, out, &mut map),
+        Err(error) => Err(WriteError::Io(error)),
     }
 }
 
@@ -84,13 +77,11 @@ fn write_both_buffered<W: Write, B: BodyWriter>(
     alloc: Global,
     parsed: &mut ParsedModule<'_>,
     module: &RewrittenModule<'_, B>,
-    url: Option<&str>,
-    moves: &mut Moves,
     target: &mut W,
     map_target: &mut W,
 ) -> Result<(), WriteError> {
-    match BufWriter::new(alloc, map_target) {
-        Ok(mut map) => write_with_lines(alloc, parsed, module, url, moves, target, &mut map),
+    match BufWriter::new(alloc, target) {
+        Ok(mut out) => write_map_buffered(alloc, parsed, module, &mut out, map_target),
         Err(error) => Err(WriteError::Io(error)),
     }
 }
@@ -103,52 +94,37 @@ fn stop_of<'w>(alloc: Global, input: &'w str, output: &'w str, error: WriteError
     }
 }
 
-/// Where the source map is found that follows a module, as the module will say.
-fn url_of<'w>(task: &Task<'w>) -> Option<&'w str> {
-    match task.source_map {
-        Some(paths) => paths.url,
-        None => None,
-    }
-}
-
-/// Writes a module to a target that is lent, and then its source map, if one follows it.
+/// Writes a module to a target that is lent.
 fn write_to<'w, R: Files + Print + AllocGlobal + Drop, B: BodyWriter>(
     rt: &'w R,
     parsed: &mut ParsedModule<'_>,
     module: &RewrittenModule<'_, B>,
-    task: &Task<'w>,
-    following: Option<Following<'_, 'w>>,
+    input: &'w str,
     target: &mut Target<'w, R>,
 ) -> Result<(), Stop<'w>> {
-    let mut moves = Moves::new(rt.alloc(), following.is_some());
-    let url = url_of(task);
-    match write_buffered(rt.alloc(), parsed, module, url, &mut moves, target) {
-        Ok(()) => write_source_map(rt, following, &moves),
-        Err(error) => Err(stop_of(rt.alloc(), task.input, target.path(), error)),
+    match write_buffered(rt.alloc(), parsed, module, target) {
+        Ok(()) => Ok(()),
+        Err(error) => Err(stop_of(rt.alloc(), input, target.path(), error)),
     }
 }
 
-/// Writes a module and its location map to two targets that are lent, and then its source map, if
-/// one follows it.
+/// Writes a module and its location map to two targets that are lent.
 fn write_both_to<'w, R: Files + Print + AllocGlobal + Drop, B: BodyWriter>(
     rt: &'w R,
     parsed: &mut ParsedModule<'_>,
     module: &RewrittenModule<'_, B>,
-    task: &Task<'w>,
-    following: Option<Following<'_, 'w>>,
+    input: &'w str,
     target: &mut Target<'w, R>,
     map: &mut Target<'w, R>,
 ) -> Result<(), Stop<'w>> {
-    let mut moves = Moves::new(rt.alloc(), following.is_some());
-    let url = url_of(task);
-    match write_both_buffered(rt.alloc(), parsed, module, url, &mut moves, target, map) {
-        Ok(()) => write_source_map(rt, following, &moves),
+    match write_both_buffered(rt.alloc(), parsed, module, target, map) {
+        Ok(()) => Ok(()),
         Err(error) => {
             let failed = match map.has_failed() {
                 true => map.path(),
                 false => target.path(),
             };
-            Err(stop_of(rt.alloc(), task.input, failed, error))
+            Err(stop_of(rt.alloc(), input, failed, error))
         }
     }
 }
@@ -158,8 +134,7 @@ fn write_with_map<'w, R: Files + Print + AllocGlobal + Drop, B: BodyWriter>(
     rt: &'w R,
     parsed: &mut ParsedModule<'_>,
     module: &RewrittenModule<'_, B>,
-    task: &Task<'w>,
-    following: Option<Following<'_, 'w>>,
+    input: &'w str,
     target: &mut Target<'w, R>,
     map: &'w str,
 ) -> Result<(), Stop<'w>> {
@@ -167,24 +142,21 @@ fn write_with_map<'w, R: Files + Print + AllocGlobal + Drop, B: BodyWriter>(
         Ok(map) => map,
         Err(stop) => return Err(stop),
     };
-    let written = write_both_to(rt, parsed, module, task, following, target, &mut map);
+    let written = write_both_to(rt, parsed, module, input, target, &mut map);
     map.end(written)
 }
 
-/// Writes a module, and its location map and the source map that follows it where these are asked
-/// for, each whole or not at all.
+/// Writes a module, and its location map where that is asked for, each whole or not at all.
 ///
 /// # Errors
 ///
-/// Where one of them can't be written. All files are then as before; but where one of them can't be
-/// put in its place at the very end, those before it are new: first the source map, then the
-/// location map, then the module.
+/// Where one of them can't be written. Both files are then as before; but where the module can't be
+/// put in its place at the very end the map is new.
 pub(crate) fn write_module<'w, R: Files + Print + AllocGlobal + Drop, B: BodyWriter>(
     rt: &'w R,
     parsed: &mut ParsedModule<'_>,
     module: &RewrittenModule<'_, B>,
     task: &Task<'w>,
-    following: Option<Following<'_, 'w>>,
     output: &'w str,
 ) -> Result<(), Stop<'w>> {
     let mut target = match Target::create(rt, output) {
@@ -192,8 +164,8 @@ pub(crate) fn write_module<'w, R: Files + Print + AllocGlobal + Drop, B: BodyWri
         Err(stop) => return Err(stop),
     };
     let written = match task.map {
-        Some(map) => write_with_map(rt, parsed, module, task, following, &mut target, map),
-        None => write_to(rt, parsed, module, task, following, &mut target),
+        Some(map) => write_with_map(rt, parsed, module, task.input, &mut target, map),
+        None => write_to(rt, parsed, module, task.input, &mut target),
     };
     target.end(written)
 }

@@ -341,28 +341,56 @@ fn set_heads(function: &mut LocalFunction, ty: &InstrSeqType, end: &InstrLocId) 
     set_head(function, 2, ty, end);
 }
 
-// A function with an `if` whose sequences have this type, and whose ends have the locations 77 and
-// this one. The alternative has an instruction if it is to say something.
-fn choice(
-    alloc: Global,
-    ty: &InstrSeqType,
-    end: &InstrLocId,
-    says_something: bool,
-) -> Result<LocalFunction, AllocError> {
+// The sequences of a function with an `if` whose alternative has an instruction.
+fn saying(alloc: Global) -> Result<FunctionBuilder, AllocError> {
     let items = [
         (0, Made::IfElse(1, 2), 1),
         (1, Made::Drop, 2),
         (2, Made::Const(5), 3),
     ];
-    let items = if says_something {
-        &items[..]
+    function(alloc, 3, &items)
+}
+
+// The same with an alternative that has none.
+fn saying_nothing(alloc: Global) -> Result<FunctionBuilder, AllocError> {
+    let items = [(0, Made::IfElse(1, 2), 1), (1, Made::Drop, 2)];
+    function(alloc, 3, &items)
+}
+
+// The one or the other.
+fn choice(alloc: Global, says_something: bool) -> Result<FunctionBuilder, AllocError> {
+    if says_something {
+        saying(alloc)
     } else {
-        &items[..2]
-    };
-    let builder = function(alloc, 3, items)?;
+        saying_nothing(alloc)
+    }
+}
+
+// A function with an `if` whose sequences have this type, and whose ends have the locations 77 and
+// this one.
+fn choosing(
+    alloc: Global,
+    builder: FunctionBuilder,
+    ty: &InstrSeqType,
+    end: &InstrLocId,
+) -> LocalFunction {
     let mut function = LocalFunction::new(Vec::new(alloc), builder);
     set_heads(&mut function, ty, end);
-    Ok(function)
+    function
+}
+
+// What is written of it.
+fn written_choice(
+    alloc: Global,
+    ty: &InstrSeqType,
+    end: &InstrLocId,
+    says_something: bool,
+) -> Result<String, AllocError> {
+    let builder = choice(alloc, says_something)?;
+    let function = choosing(alloc, builder, ty, end);
+    let mut text = String::new(alloc);
+    push_written(&mut text, &function)?;
+    Ok(text)
 }
 
 // The type of a sequence with the parameters and results of this type of the module.
@@ -431,9 +459,7 @@ fn leaves_out_an_else_that_says_nothing(rt: HostRuntime) -> Result<(), Fail> {
             "0004001a050b0b 9@9 1@1 2@3 77@4 -@5 -@6",
         ),
     ] {
-        let function = choice(rt.alloc(), &ty, &end, says_something)?;
-        let mut text = String::new(rt.alloc());
-        push_written(&mut text, &function)?;
+        let text = written_choice(rt.alloc(), &ty, &end, says_something)?;
         assert_eq!(rt; text.as_str(), want);
     }
     Ok(())
