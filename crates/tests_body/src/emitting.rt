@@ -8,8 +8,8 @@ use std::alloc::{AllocError, Global};
 use std::test::Fail;
 use walrus_body::{EmitError, IdsToIndices, IndexError, LocalFunction, Space};
 use walrus_ir::{
-    BrTable, IdHashMap, Instr, InstrLocId, InstrSeqId, InstrSeqType, LocalId, ModuleTypes, TypeId,
-    ValType,
+    BrTable, FunctionBuilder, IdHashMap, Instr, InstrLocId, InstrSeqId, InstrSeqType, LocalId,
+    ModuleTypes, TypeId, ValType,
 };
 use wasm_encode::FunctionEncoder;
 
