@@ -385,7 +385,7 @@ fn written_choice(
     ty: &InstrSeqType,
     end: &InstrLocId,
     says_something: bool,
-) -> Result<String, AllocError> {
+) -> Result<String, Fail> {
     let builder = choice(alloc, says_something)?;
     let function = choosing(alloc, builder, ty, end);
     let mut text = String::new(alloc);
