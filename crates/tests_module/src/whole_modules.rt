@@ -362,8 +362,8 @@ fn maps_and_checks(rt: HostRuntime) -> Result<(), Fail> {
     let cases = [
         (
             FOLLOWED,
-            "5c 59\n5e 5b\n60 5d\n63 5f\n65 61\n67 63\n6c 64\n6d 66\n6e 67\n70 69\n72 6b\n74 6d\n\
-            76 6f\n77 71\n79 73\n7f 78\n81 7a\n82 7b\n",
+            "5c 59\n5e 5b\n60 5d\n63 5f\n65 61\n67 63\n6c 64\n6d 65\n6e 66\n70 68\n72 6a\n74 6c\n\
+            76 6e\n77 6f\n79 71\n7f 76\n81 78\n82 79\n",
         ),
         (
             "0061736d01000000 010401600000 020701016d01660000 030403000000 \
