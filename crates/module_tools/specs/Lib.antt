@@ -6,3 +6,5 @@ pub mod FunctionChanges
 pub mod Endings
 -- which paths lead to one file
 pub mod Places
+-- what words ask for
+pub mod Words

@@ -28,6 +28,6 @@ ArePathsOf task _ = ⊥
 -- The map would go where another file of the task is, or it can't be written, or memory ran out.
 abbrev pub IsRefusedTask : Task → Stop → Type 0
 IsRefusedTask task (stop.WrongUse wrong) = ArePathsOf task wrong
-IsRefusedTask task (stop.Module _) = ⊥
+IsRefusedTask task (stop.Refused _) = ⊥
 IsRefusedTask task (stop.File _ tried _) = tried ≡ Write
 IsRefusedTask task stop.Memory = Unit {0}

@@ -6,6 +6,7 @@ ghost use Rattle.module_tools.specs.Endings.{status_of, IsMemoryOr};
 
 use crate::escaped::Escaped;
 use crate::wrong_use::WrongUse;
+use source_map_json::{SourceMapError, SourceMapFault};
 use std::alloc::{AllocError, AllocFailed, Global};
 use std::process::ExitCode;
 use std::rt::Env;
@@ -73,7 +74,7 @@ impl fmt::Display for Shown<'_> {
     }
 }
 
-/// A fault of the module that was read from a file.
+/// A fault of what was read from a file: of a module, or of a source map.
 #[derive(Drop)]
 pub struct Refusal<'w> {
     pub path: &'w str,
@@ -83,6 +84,12 @@ pub struct Refusal<'w> {
     pub item: Option<Item>,
     /// Its text, and its name.
     pub fault: String,
+}
+
+/// The text of a fault of a source map, and its name.
+fn source_map_fault_text(alloc: Global, fault: SourceMapFault) -> Result<String, AllocError> {
+    let name = fault.name();
+    format!(in alloc; "{fault} ({name})")
 }
 
 /// The text of a fault, and its name.
@@ -116,6 +123,27 @@ impl<'w> Refusal<'w> {
                 path,
                 at,
                 item,
+                fault,
+            }),
+            Err(error) => Err(error),
+        }
+    }
+}
+
+impl<'w> Refusal<'w> {
+    /// A fault of the source map that was read from this file, which has no place.
+    fn of_source_map(
+        alloc: Global,
+        path: &'w str,
+        fault: SourceMapFault,
+    ) -> Result<Refusal<'w>, AllocError>
+        ensures { IfOk result (λ refusal. refusal.path.now ≡ path.entry.now) }
+    {
+        match source_map_fault_text(alloc, fault) {
+            Ok(fault) => Ok(Refusal {
+                path,
+                at: None,
+                item: None,
                 fault,
             }),
             Err(error) => Err(error),
@@ -163,8 +191,8 @@ impl fmt::Display for Refusal<'_> {
 #[derive(Drop)]
 pub enum Stop<'w> {
     WrongUse(WrongUse<'w>),
-    /// The module is refused.
-    Module(Refusal<'w>),
+    /// The module, or its source map, is refused.
+    Refused(Refusal<'w>),
     /// Something can't be done with a file.
     File {
         path: &'w str,
@@ -186,7 +214,18 @@ impl<'w> Stop<'w> {
             return Stop::Memory;
         }
         match Refusal::new(alloc, path, item, error) {
-            Ok(refusal) => Stop::Module(refusal),
+            Ok(refusal) => Stop::Refused(refusal),
+            Err(_) => Stop::Memory,
+        }
+    }
+
+    /// The source map that was read from this file is refused.
+    pub fn source_map(alloc: Global, path: &'w str, error: SourceMapError) -> Stop<'w> {
+        let SourceMapError::Fault(fault) = error else {
+            return Stop::Memory;
+        };
+        match Refusal::of_source_map(alloc, path, fault) {
+            Ok(refusal) => Stop::Refused(refusal),
             Err(_) => Stop::Memory,
         }
     }
@@ -206,7 +245,7 @@ impl fmt::Display for Stop<'_> {
     fn fmt<W: fmt::Write>(&self, f: &mut fmt::Formatter<W>) -> fmt::Result {
         match self {
             Stop::WrongUse(error) => write!(f, "{error}"),
-            Stop::Module(error) => write!(f, "{error}"),
+            Stop::Refused(error) => write!(f, "{error}"),
             Stop::File { path, tried, error } => {
                 let stream = match tried {
                     Attempt::Open | Attempt::Read => "standard input",
@@ -268,7 +307,7 @@ fn status(stop: &Stop<'_>) -> u8
 {
     match stop {
         Stop::WrongUse(_) => 2,
-        Stop::Module(_) => 1,
+        Stop::Refused(_) => 1,
         Stop::File { .. } => 1,
         Stop::Memory => 1,
     }

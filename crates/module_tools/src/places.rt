@@ -23,7 +23,7 @@ const MOST_LINKS: u8 = 40;
 
 /// Where a path leads: to a file that is there, or, with a name, to one in a folder that isn't.
 #[derive(Clone, Copy)]
-struct Place {
+pub(crate) struct Place {
     device: u64,
     node: u64,
     /// Whether a file is there that holds what is written to it.
@@ -117,7 +117,7 @@ fn new_place(
 }
 
 /// Where a path leads, or this stream for `-`; the name of a file that isn't there is appended.
-fn place_of<R: Files + AllocGlobal>(
+pub(crate) fn place_of<R: Files + AllocGlobal>(
     rt: &R,
     path: &str,
     stream: &str,
@@ -133,15 +133,15 @@ fn place_of<R: Files + AllocGlobal>(
 
 /// Where what is written to a path goes.
 #[derive(Clone, Copy)]
-struct Written<'n> {
-    place: Option<Place>,
-    name: &'n str,
+pub(crate) struct Written<'n> {
+    pub place: Option<Place>,
+    pub name: &'n str,
 }
 
 impl Written<'_> {
     /// Whether another path leads there too, or this stream for `-`; a stream counts where a file is
     /// read from it, or `is_any` says that any does.
-    fn is_at<R: Files + AllocGlobal>(
+    pub fn is_at<R: Files + AllocGlobal>(
         self,
         rt: &R,
         path: &str,
@@ -192,7 +192,7 @@ fn path_of_map<'w, R: Files + AllocGlobal>(
 
 /// Checks that standard output is open where a path is `-`: else the next file that is opened gets
 /// its number, and what is written to both.
-fn check_stdout<'w>(rt: &impl Files, path: &'w str) -> Result<(), Stop<'w>>
+pub(crate) fn check_stdout<'w>(rt: &impl Files, path: &'w str) -> Result<(), Stop<'w>>
     ensures { IfErr result (IsMemoryOr attempt.Write path.entry.now) }
 {
     if path != "-" {

@@ -1,5 +1,8 @@
 //! What a program's words ask for.
 
+ghost use Rattle.std.specs.Prelude.{◌≡◌, length, nat_lt, true, None, IsNone, IfOk, IfErr};
+ghost use Rattle.module_tools.specs.Words.{ChecksAlone, IsTaskOf, IsRequestOf, IsRefusedRequest};
+
 use crate::ending::Stop;
 use crate::wrong_use::WrongUse;
 use std::alloc::Global;
@@ -16,6 +19,17 @@ pub struct Program {
     pub takes_functions: bool,
 }
 
+/// The files of source maps.
+#[derive(Clone, Copy)]
+pub struct MapPaths<'w> {
+    /// The source map of the module that is read.
+    pub input: &'w str,
+    /// Where the source map of the module that is written goes.
+    pub output: &'w str,
+    /// Where that is found, as the module will say; none where the module says what it said before.
+    pub url: Option<&'w str>,
+}
+
 /// What a program is to do. A path is `-` for standard input or output.
 #[derive(Drop)]
 pub struct Task<'w> {
@@ -24,6 +38,8 @@ pub struct Task<'w> {
     pub output: Option<&'w str>,
     /// Where the location map is written.
     pub map: Option<&'w str>,
+    /// The source map that follows the module, if one is asked for.
+    pub source_map: Option<MapPaths<'w>>,
     /// The functions that are asked for, by index or by name.
     pub functions: Vec<&'w str>,
     /// Whether counts and the time are printed.
@@ -40,55 +56,95 @@ pub enum Request<'w> {
     Task(Task<'w>),
 }
 
-/// An option of the programs.
-#[derive(Clone, Copy, PartialEq, Eq)]
-enum Choice {
+/// A page that is printed, in the place of a task.
+#[derive(Clone, Copy)]
+enum Page {
     Help,
     Version,
+}
+
+/// An option that takes no value.
+#[derive(Clone, Copy)]
+enum Switch {
     Verbose,
     StripDebug,
     Check,
+}
+
+/// An option that takes a value.
+#[derive(Clone, Copy)]
+enum Valued {
     Map,
+    SourceMap,
+    OutputSourceMap,
+    SourceMapUrl,
+}
+
+impl Valued {
+    fn named(name: &str) -> Option<Valued> {
+        match name {
+            "--map" => Some(Valued::Map),
+            "--source-map" => Some(Valued::SourceMap),
+            "--output-source-map" => Some(Valued::OutputSourceMap),
+            "--source-map-url" => Some(Valued::SourceMapUrl),
+            _ => None,
+        }
+    }
+
+    fn name(self) -> &'static str {
+        match self {
+            Valued::Map => "--map",
+            Valued::SourceMap => "--source-map",
+            Valued::OutputSourceMap => "--output-source-map",
+            Valued::SourceMapUrl => "--source-map-url",
+        }
+    }
+}
+
+/// An option of the programs.
+#[derive(Clone, Copy)]
+enum Choice {
+    Page(Page),
+    Switch(Switch),
+    Valued(Valued),
 }
 
 impl Choice {
     /// The option with this name.
     fn named(name: &str, program: &Program) -> Option<Choice> {
         match name {
-            "-h" | "--help" => Some(Choice::Help),
-            "-V" | "--version" => Some(Choice::Version),
-            "-v" | "--verbose" => Some(Choice::Verbose),
-            "--strip-debug" => Some(Choice::StripDebug),
-            "--check" if program.takes_check => Some(Choice::Check),
-            "--map" => Some(Choice::Map),
-            _ => None,
+            "-h" | "--help" => Some(Choice::Page(Page::Help)),
+            "-V" | "--version" => Some(Choice::Page(Page::Version)),
+            "-v" | "--verbose" => Some(Choice::Switch(Switch::Verbose)),
+            "--strip-debug" => Some(Choice::Switch(Switch::StripDebug)),
+            "--check" if program.takes_check => Some(Choice::Switch(Switch::Check)),
+            _ => match Valued::named(name) {
+                Some(valued) => Some(Choice::Valued(valued)),
+                None => None,
+            },
         }
     }
 }
 
-/// The words, taken apart.
-#[derive(Drop)]
-struct Words<'w> {
-    is_verbose: bool,
-    strips_debug: bool,
-    is_check: bool,
-    map: Option<&'w str>,
-    /// Whether the next word is where the map is written.
-    awaits_map: bool,
-    /// Whether `--` came, after which no word is an option.
-    has_ended: bool,
-    input: Option<&'w str>,
-    output: Option<&'w str>,
-    /// The words after these two.
-    functions: Vec<&'w str>,
-}
-
-/// Sets a switch that is given.
-fn switch(is_on: &mut bool, name: &'static str) -> Result<(), WrongUse<'static>> {
-    if *is_on {
+/// Turns a switch on.
+fn turn_on(switch: &mut bool, name: &'static str) -> Result<(), WrongUse<'static>> {
+    if *switch {
         return Err(WrongUse::GivenTwice(name));
     }
-    *is_on = true;
+    *switch = true;
+    Ok(())
+}
+
+/// Gives an option its value, if that is known.
+fn give<'w>(
+    option: &mut Option<&'w str>,
+    value: Option<&'w str>,
+    name: &'static str,
+) -> Result<(), WrongUse<'w>> {
+    if option.is_some() {
+        return Err(WrongUse::GivenTwice(name));
+    }
+    *option = value;
     Ok(())
 }
 
@@ -100,14 +156,149 @@ fn split_option(word: &str) -> (&str, Option<&str>) {
     }
 }
 
-impl<'w> Words<'w> {
-    fn new(alloc: Global) -> Words<'w> {
-        Words {
+/// The options that are given.
+#[derive(Clone, Copy)]
+struct Options<'w> {
+    is_verbose: bool,
+    strips_debug: bool,
+    is_check: bool,
+    map: Option<&'w str>,
+    source_map: Option<&'w str>,
+    output_source_map: Option<&'w str>,
+    source_map_url: Option<&'w str>,
+    /// The option whose value is the next word.
+    awaits: Option<Valued>,
+}
+
+impl<'w> Options<'w> {
+    fn none() -> Options<'w> {
+        Options {
             is_verbose: false,
             strips_debug: false,
             is_check: false,
             map: None,
-            awaits_map: false,
+            source_map: None,
+            output_source_map: None,
+            source_map_url: None,
+            awaits: None,
+        }
+    }
+
+    fn take_switch(&mut self, switch: Switch) -> Result<(), WrongUse<'w>> {
+        match switch {
+            Switch::Verbose => turn_on(&mut self.is_verbose, "--verbose"),
+            Switch::StripDebug => turn_on(&mut self.strips_debug, "--strip-debug"),
+            Switch::Check => turn_on(&mut self.is_check, "--check"),
+        }
+    }
+
+    /// Gives an option its value, if that is known; else it is the next word.
+    fn take_value(&mut self, valued: Valued, value: Option<&'w str>) -> Result<(), WrongUse<'w>> {
+        self.awaits = match value {
+            Some(_) => None,
+            None => Some(valued),
+        };
+        let name = valued.name();
+        match valued {
+            Valued::Map => give(&mut self.map, value, name),
+            Valued::SourceMap => give(&mut self.source_map, value, name),
+            Valued::OutputSourceMap => give(&mut self.output_source_map, value, name),
+            Valued::SourceMapUrl => give(&mut self.source_map_url, value, name),
+        }
+    }
+
+    /// Takes an option, and returns the page that it asks for.
+    fn take(&mut self, program: &Program, word: &'w str) -> Result<Option<Page>, WrongUse<'w>> {
+        let (name, value) = split_option(word);
+        match Choice::named(name, program) {
+            None => Err(WrongUse::UnknownOption(name)),
+            Some(Choice::Valued(valued)) => match self.take_value(valued, value) {
+                Ok(()) => Ok(None),
+                Err(wrong) => Err(wrong),
+            },
+            Some(_) if value.is_some() => Err(WrongUse::UnwantedValue(name)),
+            Some(Choice::Switch(switch)) => match self.take_switch(switch) {
+                Ok(()) => Ok(None),
+                Err(wrong) => Err(wrong),
+            },
+            Some(Choice::Page(page)) => Ok(Some(page)),
+        }
+    }
+
+    /// The option that goes with no `--check`, if it is given.
+    fn not_with_check(&self) -> Option<&'static str>
+        ensures { IsNone result → ChecksAlone self.now }
+    {
+        match () {
+            _ if self.map.is_some() => Some("--map"),
+            _ if self.source_map.is_some() => Some("--source-map"),
+            _ if self.output_source_map.is_some() => Some("--output-source-map"),
+            _ if self.source_map_url.is_some() => Some("--source-map-url"),
+            _ if self.strips_debug => Some("--strip-debug"),
+            _ => None,
+        }
+    }
+
+    /// What is wrong with the options of source maps, if something is.
+    fn source_map_fault(&self) -> Option<WrongUse<'w>> {
+        let (input, output) = ("--source-map", "--output-source-map");
+        match (self.source_map, self.output_source_map) {
+            (Some(_), None) => Some(WrongUse::Requires(input, output)),
+            (None, Some(_)) => Some(WrongUse::Requires(output, input)),
+            (None, None) if self.source_map_url.is_some() => {
+                Some(WrongUse::Requires("--source-map-url", input))
+            }
+            _ => None,
+        }
+    }
+
+    /// What is wrong with the options, if something is.
+    fn fault(&self) -> Option<WrongUse<'w>>
+        ensures { IsNone result → self.now.is_check ≡ true → ChecksAlone self.now }
+    {
+        if let Some(valued) = self.awaits {
+            return Some(WrongUse::NoValue(valued.name()));
+        }
+        if !self.is_check {
+            return self.source_map_fault();
+        }
+        match self.not_with_check() {
+            Some(option) => Some(WrongUse::NotWithCheck(option)),
+            None => None,
+        }
+    }
+
+    /// The files of source maps, if both are given.
+    fn map_paths(&self) -> Option<MapPaths<'w>>
+        ensures { self.now.source_map ≡ None → result ≡ None }
+    {
+        match (self.source_map, self.output_source_map) {
+            (Some(input), Some(output)) => Some(MapPaths {
+                input,
+                output,
+                url: self.source_map_url,
+            }),
+            _ => None,
+        }
+    }
+}
+
+/// The words, taken apart.
+#[derive(Drop)]
+struct Words<'w> {
+    options: Options<'w>,
+    /// Whether `--` came, after which no word is an option.
+    has_ended: bool,
+    input: Option<&'w str>,
+    output: Option<&'w str>,
+    /// The words after these two.
+    functions: Vec<&'w str>,
+}
+
+impl<'w> Words<'w> {
+    fn new(alloc: Global) -> Words<'w> {
+        Words {
+            options: Options::none(),
             has_ended: false,
             input: None,
             output: None,
@@ -115,97 +306,98 @@ impl<'w> Words<'w> {
         }
     }
 
-    /// Takes the option `--map`, whose value may be in the next word.
-    fn take_map(&mut self, value: Option<&'w str>) -> Result<(), WrongUse<'w>> {
-        if self.map.is_some() {
-            return Err(WrongUse::GivenTwice("--map"));
-        }
-        self.awaits_map = value.is_none();
-        self.map = value;
-        Ok(())
-    }
-
-    /// Takes an option.
-    fn take_option(
-        &mut self,
-        program: &Program,
-        word: &'w str,
-    ) -> Result<Option<Request<'w>>, WrongUse<'w>> {
-        let (name, value) = split_option(word);
-        let Some(choice) = Choice::named(name, program) else {
-            return Err(WrongUse::UnknownOption(name));
-        };
-        if value.is_some() && choice != Choice::Map {
-            return Err(WrongUse::UnwantedValue(name));
-        }
-        match choice {
-            Choice::Help => return Ok(Some(Request::Help)),
-            Choice::Version => return Ok(Some(Request::Version)),
-            Choice::Verbose => switch(&mut self.is_verbose, "--verbose")?,
-            Choice::StripDebug => switch(&mut self.strips_debug, "--strip-debug")?,
-            Choice::Check => switch(&mut self.is_check, "--check")?,
-            Choice::Map => self.take_map(value)?,
-        }
-        Ok(None)
-    }
-
     /// Takes a word that is no option.
-    fn take_operand(&mut self, word: &'w str) -> Result<(), Stop<'w>> {
+    fn take_operand(&mut self, word: &'w str) -> Result<(), Stop<'w>>
+        ensures { IfErr result IsRefusedRequest }
+    {
         if self.input.is_none() {
             self.input = Some(word);
         } else if self.output.is_none() {
             self.output = Some(word);
         } else {
-            self.functions.push(word)?;
+            match self.functions.push(word) {
+                Ok(()) => {}
+                Err(_) => return Err(Stop::Memory),
+            }
         }
         Ok(())
     }
 
-    /// Takes a word. One that asks for help or the version ends the reading.
-    fn take(&mut self, program: &Program, word: &'w str) -> Result<Option<Request<'w>>, Stop<'w>> {
-        if self.awaits_map {
-            self.awaits_map = false;
-            self.map = Some(word);
-        } else if self.has_ended || word == "-" || !word.starts_with('-') {
-            self.take_operand(word)?;
+    /// Takes a word that is no value of an option. One that asks for a page ends the reading.
+    fn take_next(&mut self, program: &Program, word: &'w str) -> Result<Option<Page>, Stop<'w>>
+        ensures { IfErr result IsRefusedRequest }
+    {
+        if self.has_ended || word == "-" || !word.starts_with('-') {
+            match self.take_operand(word) {
+                Ok(()) => Ok(None),
+                Err(stop) => Err(stop),
+            }
         } else if word == "--" {
             self.has_ended = true;
+            Ok(None)
         } else {
-            return Ok(self.take_option(program, word)?);
+            match self.options.take(program, word) {
+                Ok(page) => Ok(page),
+                Err(wrong) => Err(Stop::WrongUse(wrong)),
+            }
         }
-        Ok(None)
     }
 
-    /// The option that goes with no `--check`, if it is given.
-    fn not_with_check(&self) -> Option<&'static str> {
-        match () {
-            _ if self.map.is_some() => Some("--map"),
-            _ if self.strips_debug => Some("--strip-debug"),
-            _ => None,
+    /// Takes a word. One that asks for a page ends the reading.
+    fn take(&mut self, program: &Program, word: &'w str) -> Result<Option<Page>, Stop<'w>>
+        ensures { IfErr result IsRefusedRequest }
+    {
+        let Some(valued) = self.options.awaits else {
+            return self.take_next(program, word);
+        };
+        match self.options.take_value(valued, Some(word)) {
+            Ok(()) => Ok(None),
+            Err(wrong) => Err(Stop::WrongUse(wrong)),
+        }
+    }
+
+    /// What is wrong with the files, if something is.
+    fn file_fault(&self) -> Option<WrongUse<'w>>
+        ensures { IsNone result → self.now.output ≡ None → self.now.options.is_check ≡ true }
+    {
+        match (self.output, self.options.is_check) {
+            (Some(output), true) => Some(WrongUse::Unexpected(output)),
+            (None, false) => Some(WrongUse::NoOutput),
+            (Some(_), false) | (None, true) => None,
+        }
+    }
+
+    /// What is wrong with the functions, if something is.
+    fn functions_fault(&self, program: &Program) -> Option<WrongUse<'w>>
+        ensures { IsNone result
+            → nat_lt 0 (length self.now.functions.items) ≡ program.now.takes_functions }
+    {
+        match (self.functions.first(), program.takes_functions) {
+            (Some(word), false) => Some(WrongUse::Unexpected(*word)),
+            (None, true) => Some(WrongUse::NoFunctions),
+            (Some(_), true) | (None, false) => None,
         }
     }
 
     /// What is wrong with all words together, if something is.
-    fn fault(&self, program: &Program) -> Option<WrongUse<'w>> {
-        if self.awaits_map {
-            return Some(WrongUse::NoValue("--map"));
+    fn fault(&self, program: &Program) -> Option<WrongUse<'w>>
+        ensures functions { IsNone result
+            → nat_lt 0 (length self.now.functions.items) ≡ program.now.takes_functions }
+        ensures output { IsNone result → self.now.output ≡ None → ChecksAlone self.now.options }
+    {
+        if let Some(fault) = self.options.fault() {
+            return Some(fault);
         }
-        if self.is_check
-            && let Some(option) = self.not_with_check()
-        {
-            return Some(WrongUse::NotWithCheck(option));
+        if let Some(fault) = self.file_fault() {
+            return Some(fault);
         }
-        match (self.output, self.functions.first()) {
-            (Some(output), _) if self.is_check => Some(WrongUse::Unexpected(output)),
-            (None, _) if !self.is_check => Some(WrongUse::NoOutput),
-            (_, Some(word)) if !program.takes_functions => Some(WrongUse::Unexpected(*word)),
-            (_, None) if program.takes_functions => Some(WrongUse::NoFunctions),
-            _ => None,
-        }
+        self.functions_fault(program)
     }
 
     /// What the words ask for.
-    fn task(self, program: &Program) -> Result<Task<'w>, WrongUse<'w>> {
+    fn task(self, program: &Program) -> Result<Task<'w>, WrongUse<'w>>
+        ensures { IfOk result (IsTaskOf program.now) }
+    {
         let Some(input) = self.input else {
             return Err(WrongUse::NoInput);
         };
@@ -215,10 +407,11 @@ impl<'w> Words<'w> {
         Ok(Task {
             input,
             output: self.output,
-            map: self.map,
+            map: self.options.map,
+            source_map: self.options.map_paths(),
             functions: self.functions,
-            is_verbose: self.is_verbose,
-            strips_debug: self.strips_debug,
+            is_verbose: self.options.is_verbose,
+            strips_debug: self.options.strips_debug,
         })
     }
 }
@@ -232,12 +425,21 @@ pub fn read_words<'w>(
     alloc: Global,
     program: &Program,
     words: &'w [String],
-) -> Result<Request<'w>, Stop<'w>> {
+) -> Result<Request<'w>, Stop<'w>>
+    ensures asked { IfOk result (IsRequestOf program.now) }
+    ensures refused { IfErr result IsRefusedRequest }
+{
     let mut taken = Words::new(alloc);
     for word in words {
-        if let Some(request) = taken.take(program, word.as_str())? {
-            return Ok(request);
+        match taken.take(program, word.as_str()) {
+            Ok(None) => {}
+            Ok(Some(Page::Help)) => return Ok(Request::Help),
+            Ok(Some(Page::Version)) => return Ok(Request::Version),
+            Err(stop) => return Err(stop),
         }
     }
-    Ok(Request::Task(taken.task(program)?))
+    match taken.task(program) {
+        Ok(task) => Ok(Request::Task(task)),
+        Err(wrong) => Err(Stop::WrongUse(wrong)),
+    }
 }

@@ -7,11 +7,14 @@ use crate::ending::{Attempt, Item, Refusal, Stop, exit_code, words};
 use crate::files::read_file;
 use crate::names::{Bytes, Found, FunctionNames, function_at};
 use crate::places::check_files;
-use crate::program::{Program, Request, Task, read_words};
+use crate::program::{MapPaths, Program, Request, Task, read_words};
 use crate::progress::{Progress, Watched};
+use crate::source_map_places::check_source_maps;
+use crate::source_maps::read_source_map;
 use crate::warnings::warn;
 use crate::writing::write_module;
 use crate::wrong_use::WrongUse;
+use source_map_json::SourceMap;
 use std::alloc::{AllocError, Global};
 use std::io;
 use std::process::ExitCode;
@@ -314,28 +317,53 @@ fn rewritten<'w, 'a, R: Eprint + Clock + AllocGlobal, T: Tool>(
     }
 }
 
-/// Writes a module that was made of one, after what is wrong now with its sections is said.
+/// The source map that is read, if one is.
+fn given_source_map<'w, R: Files + Input + AllocGlobal>(
+    rt: &R,
+    task: &Task<'w>,
+) -> Result<Option<SourceMap>, Stop<'w>> {
+    let Some(paths) = task.source_map else {
+        return Ok(None);
+    };
+    match read_source_map(rt, paths.input) {
+        Ok(map) => Ok(Some(map)),
+        Err(stop) => Err(stop),
+    }
+}
+
+/// Leaves out what the task asks to leave out.
+fn leave_out<B: BodyWriter>(task: &Task<'_>, module: &mut RewrittenModule<'_, B>) {
+    if task.strips_debug {
+        module.leave_out_debug();
+    }
+    if let Some(MapPaths { url: Some(_), .. }) = task.source_map {
+        module.leave_out_source_map_url();
+    }
+}
+
+/// Writes a module that was made of one, after what is wrong now with its sections is said, and the
+/// source map, if there is one, of which each mapping follows its operator.
 fn write_made<'w, R: Files + Print + Eprint + AllocGlobal + Drop, B: BodyWriter + Drop>(
     rt: &'w R,
     name: &str,
     task: &Task<'w>,
+    source: &Option<SourceMap>,
     parsed: &mut ParsedModule<'_>,
     mut module: RewrittenModule<'_, B>,
     output: &'w str,
 ) -> Result<(), Stop<'w>> {
-    if task.strips_debug {
-        module.leave_out_debug();
-    }
-    warn(rt, name, &module.notes, task.strips_debug);
-    write_module(rt, parsed, &module, task, output)
+    leave_out(task, &mut module);
+    warn(rt, name, &module.notes, task);
+    write_module(rt, parsed, &module, task, source, output)
 }
 
-/// Writes what the program makes of a module.
+/// Writes what the program makes of a module, and the source map that follows it, if there is one.
 fn rewrite<'w, 'a, R: Files + Clock + Print + Eprint + AllocGlobal + Drop, T: Tool>(
     rt: &'w R,
     tool: &T,
     program: &Program,
     task: &Task<'w>,
+    source: &Option<SourceMap>,
     parsed: &mut ParsedModule<'a>,
     output: &'w str,
     progress: &'a Progress<'a, R>,
@@ -343,14 +371,34 @@ fn rewrite<'w, 'a, R: Files + Clock + Print + Eprint + AllocGlobal + Drop, T: To
     match rewritten(rt, tool, task, parsed, progress) {
         Ok(module) => {
             progress.clear();
-            write_made(rt, program.name, task, parsed, module, output)
+            write_made(rt, program.name, task, source, parsed, module, output)
         }
         Err(stop) => Err(stop),
     }
 }
 
+/// Writes what the program makes of a module, after the source map is read, if one is given.
+fn rewrite_with<'w, 'a, R: Files + Input + Clock + Print + Eprint + AllocGlobal + Drop, T: Tool>(
+    rt: &'w R,
+    tool: &T,
+    program: &Program,
+    task: &Task<'w>,
+    parsed: &mut ParsedModule<'a>,
+    output: &'w str,
+    progress: &'a Progress<'a, R>,
+) -> Result<usize, Stop<'w>> {
+    let map = match given_source_map(rt, task) {
+        Ok(map) => map,
+        Err(stop) => return Err(stop),
+    };
+    match rewrite(rt, tool, program, task, &map, parsed, output, progress) {
+        Ok(()) => Ok(0),
+        Err(stop) => Err(stop),
+    }
+}
+
 /// Does what is asked for with a module that was read, and returns how many bodies are refused.
-fn run_with<'w, 'a, R: Files + Clock + Print + Eprint + AllocGlobal + Drop, T: Tool>(
+fn run_with<'w, 'a, R: Files + Input + Clock + Print + Eprint + AllocGlobal + Drop, T: Tool>(
     rt: &'w R,
     tool: &T,
     program: &Program,
@@ -359,16 +407,13 @@ fn run_with<'w, 'a, R: Files + Clock + Print + Eprint + AllocGlobal + Drop, T: T
     progress: &'a Progress<'a, R>,
 ) -> Result<usize, Stop<'w>> {
     match task.output {
-        Some(output) => match rewrite(rt, tool, program, task, parsed, output, progress) {
-            Ok(()) => Ok(0),
-            Err(stop) => Err(stop),
-        },
+        Some(output) => rewrite_with(rt, tool, program, task, parsed, output, progress),
         None => check_bodies(rt, program, parsed, task.input, progress),
     }
 }
 
 /// Does what is asked for with a module of these bytes.
-fn run_over<'w, 'a, R: Files + Clock + Print + Eprint + AllocGlobal + Drop, T: Tool>(
+fn run_over<'w, 'a, R: Files + Input + Clock + Print + Eprint + AllocGlobal + Drop, T: Tool>(
     rt: &'w R,
     tool: &T,
     program: &Program,
@@ -409,6 +454,21 @@ where
     }
 }
 
+/// Checks the files of a task before any is opened.
+fn check_task<'w, R: Files + AllocGlobal>(
+    rt: &R,
+    task: &Task<'w>,
+    terminals: Terminals,
+) -> Result<(), Stop<'w>> {
+    if terminals.output && task.output == Some("-") {
+        return Err(Stop::WrongUse(WrongUse::Terminal));
+    }
+    match check_files(rt, task) {
+        Ok(()) => check_source_maps(rt, task),
+        Err(stop) => Err(stop),
+    }
+}
+
 /// Does what is asked for, and shows on a terminal how far it is.
 fn run_task<'w, R: Files + Input + Clock + Print + Eprint + AllocGlobal + Drop, T: Tool>(
     rt: &'w R,
@@ -417,10 +477,7 @@ fn run_task<'w, R: Files + Input + Clock + Print + Eprint + AllocGlobal + Drop, 
     task: &Task<'w>,
     terminals: Terminals,
 ) -> Result<Done, Stop<'w>> {
-    if terminals.output && task.output == Some("-") {
-        return Err(Stop::WrongUse(WrongUse::Terminal));
-    }
-    match check_files(rt, task) {
+    match check_task(rt, task, terminals) {
         Ok(()) => {}
         Err(stop) => return Err(stop),
     }

@@ -1,6 +1,7 @@
 //! Warnings of sections that aren't true any more.
 
 use crate::escaped::Escaped;
+use crate::program::Task;
 use std::fmt;
 use wasm_module::{Note, NoteKind};
 
@@ -12,7 +13,9 @@ impl fmt::Display for Warning<'_> {
     fn fmt<W: fmt::Write>(&self, f: &mut fmt::Formatter<W>) -> fmt::Result {
         let name = Escaped(self.0.name);
         match self.0.kind {
-            NoteKind::SourceMap => f.write_str("source map is out of date: use --strip-debug"),
+            NoteKind::SourceMap => {
+                f.write_str("source map is out of date: use --source-map or --strip-debug")
+            }
             NoteKind::DebugInfo => {
                 write!(
                     f,
@@ -35,15 +38,19 @@ impl fmt::Display for Warning<'_> {
     }
 }
 
-/// Whether a section that holds debug information is left out, so that it isn't wrong.
-fn is_left_out(note: &Note<'_>, strips_debug: bool) -> bool {
-    strips_debug && matches!(note.kind, NoteKind::SourceMap | NoteKind::DebugInfo)
+/// Whether a section isn't wrong, since it is left out, or since the source map is written anew.
+fn is_mended(note: &Note<'_>, task: &Task<'_>) -> bool {
+    match note.kind {
+        NoteKind::SourceMap => task.strips_debug || task.source_map.is_some(),
+        NoteKind::DebugInfo => task.strips_debug,
+        _ => false,
+    }
 }
 
 /// Prints to standard error what is wrong now in a module that is written, and what helps.
-pub(crate) fn warn(rt: &impl Eprint, program: &str, notes: &[Note<'_>], strips_debug: bool) {
+pub(crate) fn warn(rt: &impl Eprint, program: &str, notes: &[Note<'_>], task: &Task<'_>) {
     for note in notes {
-        if !is_left_out(note, strips_debug) {
+        if !is_mended(note, task) {
             let warning = Warning(*note);
             // The module is written all the same where standard error can't be.
             let _ = eprintln!(rt; "{program}: warning: {warning}");

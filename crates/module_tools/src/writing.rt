@@ -1,12 +1,16 @@
-//! Writing the module that a program makes, and its location map.
+//! Writing the module that a program makes, its location map, and its source map.
 
 use crate::ending::{Attempt, Stop};
 use crate::files::Target;
 use crate::program::Task;
+use crate::source_maps::{Moves, MovesAndLines, write_source_map};
+use source_map_json::SourceMap;
 use std::alloc::Global;
 use std::io::{BufWriter, Write};
 use std::rt::Files;
-use wasm_module::{BodyWriter, ParsedModule, RewrittenModule, WriteError};
+use wasm_module::{
+    BodyWriter, MapLines, ParsedModule, RewrittenModule, Tell, WriteError, write_source_map_url,
+};
 
 /// Writes what a buffer still holds.
 fn flush<W: Write>(out: &mut W) -> Result<(), WriteError> {
@@ -16,59 +20,63 @@ fn flush<W: Write>(out: &mut W) -> Result<(), WriteError> {
     }
 }
 
-/// Writes a module, and what a buffer still holds.
-fn write_out<W: Write, B: BodyWriter>(
-    parsed: &mut ParsedModule<'_>,
-    module: &RewrittenModule<'_, B>,
-    out: &mut W,
-) -> Result<(), WriteError> {
-    match parsed.write_module(module, out) {
-        Ok(()) => flush(out),
-        Err(error) => Err(error),
+/// Writes the section that says where the source map is, if that is given.
+fn write_url<W: Write>(alloc: Global, url: Option<&str>, out: &mut W) -> Result<(), WriteError> {
+    match url {
+        Some(url) => write_source_map_url(alloc, url, out),
+        None => Ok(()),
     }
 }
 
-/// Writes a module, buffered.
-fn write_buffered<W: Write, B: BodyWriter>(
+/// Writes a module, the section that says where its source map is, and what the buffer still holds.
+fn write_out<W: Write, T: Tell, B: BodyWriter>(
     alloc: Global,
     parsed: &mut ParsedModule<'_>,
     module: &RewrittenModule<'_, B>,
-    target: &mut W,
-) -> Result<(), WriteError> {
-    match BufWriter::new(alloc, target) {
-        Ok(mut out) => write_out(parsed, module, &mut out),
-        Err(error) => Err(WriteError::Io(error)),
-    }
-}
-
-/// Writes a module and its location map, and what the buffers still hold.
-fn write_both_out<W: Write, M: Write, B: BodyWriter>(
-    parsed: &mut ParsedModule<'_>,
-    module: &RewrittenModule<'_, B>,
+    url: Option<&str>,
+    tell: &mut T,
     out: &mut W,
-    map: &mut M,
 ) -> Result<(), WriteError> {
-    match parsed.write_module_with_map(module, out, map) {
+    match parsed.write_module_telling(module, tell, out) {
         Ok(()) => {}
         Err(error) => return Err(error),
     }
-    match flush(map) {
+    match write_url(alloc, url, out) {
         Ok(()) => flush(out),
         Err(error) => Err(error),
     }
 }
 
-/// Writes a module, whose buffer is lent, and its location map, buffered.
-fn write_map_buffered<W: Write, M: Write, B: BodyWriter>(
+/// Writes a module, buffered, and tells of its bodies.
+fn write_buffered<W: Write, T: Tell, B: BodyWriter>(
     alloc: Global,
     parsed: &mut ParsedModule<'_>,
     module: &RewrittenModule<'_, B>,
-    out: &mut W,
-    map_target: &mut M,
+    url: Option<&str>,
+    tell: &mut T,
+    target: &mut W,
 ) -> Result<(), WriteError> {
-    match BufWriter::new(alloc, map_target) {
-        Ok(mut map) => write_both_out(parsed, module, out, &mut map),
+    match BufWriter::new(alloc, target) {
+        Ok(mut out) => write_out(alloc, parsed, module, url, tell, &mut out),
         Err(error) => Err(WriteError::Io(error)),
+    }
+}
+
+/// Writes a module, and its location map to a buffer that is lent, and what that still holds.
+fn write_with_lines<W: Write, M: Write, B: BodyWriter>(
+    alloc: Global,
+    parsed: &mut ParsedModule<'_>,
+    module: &RewrittenModule<'_, B>,
+    url: Option<&str>,
+    moves: &mut Moves,
+    target: &mut W,
+    map: &mut M,
+) -> Result<(), WriteError> {
+    let lines = MapLines(&mut *map);
+    let mut tell = MovesAndLines { moves, lines };
+    match write_buffered(alloc, parsed, module, url, &mut tell, target) {
+        Ok(()) => flush(map),
+        Err(error) => Err(error),
     }
 }
 
@@ -77,11 +85,13 @@ fn write_both_buffered<W: Write, B: BodyWriter>(
     alloc: Global,
     parsed: &mut ParsedModule<'_>,
     module: &RewrittenModule<'_, B>,
+    url: Option<&str>,
+    moves: &mut Moves,
     target: &mut W,
     map_target: &mut W,
 ) -> Result<(), WriteError> {
-    match BufWriter::new(alloc, target) {
-        Ok(mut out) => write_map_buffered(alloc, parsed, module, &mut out, map_target),
+    match BufWriter::new(alloc, map_target) {
+        Ok(mut map) => write_with_lines(alloc, parsed, module, url, moves, target, &mut map),
         Err(error) => Err(WriteError::Io(error)),
     }
 }
@@ -94,37 +104,52 @@ fn stop_of<'w>(alloc: Global, input: &'w str, output: &'w str, error: WriteError
     }
 }
 
-/// Writes a module to a target that is lent.
+/// Where the source map is found that follows a module, as the module will say.
+fn url_of<'w>(task: &Task<'w>) -> Option<&'w str> {
+    match task.source_map {
+        Some(paths) => paths.url,
+        None => None,
+    }
+}
+
+/// Writes a module to a target that is lent, and then its source map, if one follows it.
 fn write_to<'w, R: Files + Print + AllocGlobal + Drop, B: BodyWriter>(
     rt: &'w R,
     parsed: &mut ParsedModule<'_>,
     module: &RewrittenModule<'_, B>,
-    input: &'w str,
+    task: &Task<'w>,
+    source: &Option<SourceMap>,
     target: &mut Target<'w, R>,
 ) -> Result<(), Stop<'w>> {
-    match write_buffered(rt.alloc(), parsed, module, target) {
-        Ok(()) => Ok(()),
-        Err(error) => Err(stop_of(rt.alloc(), input, target.path(), error)),
+    let mut moves = Moves::new(rt.alloc(), source.is_some());
+    let url = url_of(task);
+    match write_buffered(rt.alloc(), parsed, module, url, &mut moves, target) {
+        Ok(()) => write_source_map(rt, task, source, &moves),
+        Err(error) => Err(stop_of(rt.alloc(), task.input, target.path(), error)),
     }
 }
 
-/// Writes a module and its location map to two targets that are lent.
+/// Writes a module and its location map to two targets that are lent, and then its source map, if
+/// one follows it.
 fn write_both_to<'w, R: Files + Print + AllocGlobal + Drop, B: BodyWriter>(
     rt: &'w R,
     parsed: &mut ParsedModule<'_>,
     module: &RewrittenModule<'_, B>,
-    input: &'w str,
+    task: &Task<'w>,
+    source: &Option<SourceMap>,
     target: &mut Target<'w, R>,
     map: &mut Target<'w, R>,
 ) -> Result<(), Stop<'w>> {
-    match write_both_buffered(rt.alloc(), parsed, module, target, map) {
-        Ok(()) => Ok(()),
+    let mut moves = Moves::new(rt.alloc(), source.is_some());
+    let url = url_of(task);
+    match write_both_buffered(rt.alloc(), parsed, module, url, &mut moves, target, map) {
+        Ok(()) => write_source_map(rt, task, source, &moves),
         Err(error) => {
             let failed = match map.has_failed() {
                 true => map.path(),
                 false => target.path(),
             };
-            Err(stop_of(rt.alloc(), input, failed, error))
+            Err(stop_of(rt.alloc(), task.input, failed, error))
         }
     }
 }
@@ -134,7 +159,8 @@ fn write_with_map<'w, R: Files + Print + AllocGlobal + Drop, B: BodyWriter>(
     rt: &'w R,
     parsed: &mut ParsedModule<'_>,
     module: &RewrittenModule<'_, B>,
-    input: &'w str,
+    task: &Task<'w>,
+    source: &Option<SourceMap>,
     target: &mut Target<'w, R>,
     map: &'w str,
 ) -> Result<(), Stop<'w>> {
@@ -142,21 +168,24 @@ fn write_with_map<'w, R: Files + Print + AllocGlobal + Drop, B: BodyWriter>(
         Ok(map) => map,
         Err(stop) => return Err(stop),
     };
-    let written = write_both_to(rt, parsed, module, input, target, &mut map);
+    let written = write_both_to(rt, parsed, module, task, source, target, &mut map);
     map.end(written)
 }
 
-/// Writes a module, and its location map where that is asked for, each whole or not at all.
+/// Writes a module, and its location map and the source map that follows it where these are asked
+/// for, each whole or not at all.
 ///
 /// # Errors
 ///
-/// Where one of them can't be written. Both files are then as before; but where the module can't be
-/// put in its place at the very end the map is new.
+/// Where one of them can't be written. All files are then as before; but where one of them can't be
+/// put in its place at the very end, those before it are new: first the source map, then the
+/// location map, then the module.
 pub(crate) fn write_module<'w, R: Files + Print + AllocGlobal + Drop, B: BodyWriter>(
     rt: &'w R,
     parsed: &mut ParsedModule<'_>,
     module: &RewrittenModule<'_, B>,
     task: &Task<'w>,
+    source: &Option<SourceMap>,
     output: &'w str,
 ) -> Result<(), Stop<'w>> {
     let mut target = match Target::create(rt, output) {
@@ -164,8 +193,8 @@ pub(crate) fn write_module<'w, R: Files + Print + AllocGlobal + Drop, B: BodyWri
         Err(stop) => return Err(stop),
     };
     let written = match task.map {
-        Some(map) => write_with_map(rt, parsed, module, task.input, &mut target, map),
-        None => write_to(rt, parsed, module, task.input, &mut target),
+        Some(map) => write_with_map(rt, parsed, module, task, source, &mut target, map),
+        None => write_to(rt, parsed, module, task, source, &mut target),
     };
     target.end(written)
 }

@@ -4,7 +4,7 @@ use crate::escaped::Escaped;
 use std::fmt;
 
 /// What is wrong with the words of a program.
-#[derive(Clone, Copy, Debug)]
+#[derive(Clone, Copy)]
 pub enum WrongUse<'w> {
     /// The program takes no option with this name.
     UnknownOption(&'w str),
@@ -14,6 +14,8 @@ pub enum WrongUse<'w> {
     NoValue(&'w str),
     /// A value is given with an option that takes none.
     UnwantedValue(&'w str),
+    /// An option is given without another that it requires.
+    Requires(&'static str, &'static str),
     /// An option is given with `--check`, which writes nothing.
     NotWithCheck(&'w str),
     NoInput,
@@ -35,45 +37,90 @@ pub enum WrongUse<'w> {
     Ambiguous(&'w str, usize, usize),
 }
 
+/// The line for a wrong use: texts, with a word after the first and one after the second.
+#[derive(Clone, Copy)]
+struct Line<'w> {
+    first: &'static str,
+    word: &'w str,
+    second: &'static str,
+    other: &'w str,
+    third: &'static str,
+}
+
+impl<'w> Line<'w> {
+    /// A line with no word.
+    fn text(text: &'static str) -> Line<'w> {
+        Line::with(text, "", "")
+    }
+
+    /// A line with one word, between two texts.
+    fn with(before: &'static str, word: &'w str, after: &'static str) -> Line<'w> {
+        Line {
+            first: before,
+            word,
+            second: after,
+            other: "",
+            third: "",
+        }
+    }
+
+    /// The line for a wrong use; of an ambiguous name its end, after the functions that have it.
+    fn of(wrong: WrongUse<'w>) -> Line<'w> {
+        match wrong {
+            WrongUse::UnknownOption(name) => Line::with("unknown option '", name, "'"),
+            WrongUse::GivenTwice(name) => Line::with("option '", name, "' is given twice"),
+            WrongUse::NoValue(name) => Line::with("option '", name, "' requires a value"),
+            WrongUse::UnwantedValue(name) => Line::with("option '", name, "' takes no value"),
+            WrongUse::Requires(name, other) => Line {
+                first: "option '",
+                word: name,
+                second: "' requires '",
+                other,
+                third: "'",
+            },
+            WrongUse::NotWithCheck(name) => Line::with(
+                "option '",
+                name,
+                "' can't be used with '--check', which writes nothing",
+            ),
+            WrongUse::NoInput => Line::text("no file to read is given"),
+            WrongUse::NoOutput => Line::text("no file to write is given"),
+            WrongUse::NoFunctions => Line::text("no function is given"),
+            WrongUse::Unexpected(word) => Line::with("unexpected word '", word, "'"),
+            WrongUse::SameFile(word, other) => Line {
+                first: "'",
+                word,
+                second: "' and '",
+                other,
+                third: "' are the same file",
+            },
+            WrongUse::Terminal => {
+                Line::text("standard output is a terminal, and a module isn't text")
+            }
+            WrongUse::NotUtf8 => Line::text("a word is not UTF-8"),
+            WrongUse::NoFunction(word) => Line::with("the module has no function '", word, "'"),
+            WrongUse::Imported(word) => {
+                Line::with("function '", word, "' is imported, so that it has no body")
+            }
+            WrongUse::Ambiguous(word, _, _) => Line::with("'", word, "': give an index"),
+        }
+    }
+}
+
+impl fmt::Display for Line<'_> {
+    fn fmt<W: fmt::Write>(&self, f: &mut fmt::Formatter<W>) -> fmt::Result {
+        let (word, other) = (Escaped(self.word), Escaped(self.other));
+        let (first, second, third) = (self.first, self.second, self.third);
+        write!(f, "{first}{word}{second}{other}{third}")
+    }
+}
+
 impl fmt::Display for WrongUse<'_> {
     fn fmt<W: fmt::Write>(&self, f: &mut fmt::Formatter<W>) -> fmt::Result {
-        match *self {
-            WrongUse::UnknownOption(name) => write!(f, "unknown option '{name}'"),
-            WrongUse::GivenTwice(name) => write!(f, "option '{name}' is given twice"),
-            WrongUse::NoValue(name) => write!(f, "option '{name}' requires a value"),
-            WrongUse::UnwantedValue(name) => write!(f, "option '{name}' takes no value"),
-            WrongUse::NotWithCheck(name) => {
-                write!(
-                    f,
-                    "option '{name}' can't be used with '--check', which writes nothing"
-                )
-            }
-            WrongUse::NoInput => f.write_str("no file to read is given"),
-            WrongUse::NoOutput => f.write_str("no file to write is given"),
-            WrongUse::NoFunctions => f.write_str("no function is given"),
-            WrongUse::Unexpected(word) => write!(f, "unexpected word '{word}'"),
-            WrongUse::SameFile(first, second) => {
-                write!(f, "'{first}' and '{second}' are the same file")
-            }
-            WrongUse::Terminal => {
-                f.write_str("standard output is a terminal, and a module isn't text")
-            }
-            WrongUse::NotUtf8 => f.write_str("a word is not UTF-8"),
-            WrongUse::NoFunction(word) => {
-                let word = Escaped(word);
-                write!(f, "the module has no function '{word}'")
-            }
-            WrongUse::Imported(word) => {
-                let word = Escaped(word);
-                write!(f, "function '{word}' is imported, so that it has no body")
-            }
-            WrongUse::Ambiguous(word, first, second) => {
-                let word = Escaped(word);
-                write!(
-                    f,
-                    "functions {first} and {second} are both named '{word}': give an index"
-                )
-            }
+        if let WrongUse::Ambiguous(_, first, second) = *self {
+            write!(f, "functions {first} and {second} are both named ")?;
         }
+        let line = Line::of(*self);
+        write!(f, "{line}")
     }
 }

@@ -34,7 +34,7 @@ digit_again c d e = rw (no_semicolon c d e, e) refl
 
 -- ---- numbers
 
--- what a reader took from the front
+-- the digits that a reader took from the front
 pub record Takes (Is : List ℕ → Type 0) (text rest : List ℕ) : Type 0 where
   pub front : List ℕ
   pub parts : text ≡ front ++ rest

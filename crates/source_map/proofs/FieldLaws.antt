@@ -72,7 +72,7 @@ column_ok n before v e =
 column_some : (n before v : ℕ) → moved_by n before ≡ Some v → before ≤ v → column_after n before ≡ Ok v
 column_some n before v e up = let h = even n before v e up in rw (h.0, h.1) refl
 
--- how a column is spelt after the one before
+-- how a column is encoded after the one before
 abbrev pub IsColumn : (before v : ℕ) → List ℕ → Type 0
 IsColumn before v text = (before ≤ v) × IsField before v text
 

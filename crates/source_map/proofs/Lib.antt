@@ -1,13 +1,13 @@
--- numbers: their bounds, and what is appended
+-- numbers: their bounds, and the text that is appended
 pub mod Powers
 pub mod Appending
--- what is read has the spelling, and what has the spelling is read
+-- a text that is read is an encoding, and an encoding is read: digits, fields, segments, whole texts
 pub mod Steps
 pub mod Digits
 pub mod FieldLaws
 pub mod Segments
 pub mod Wholes
--- what is written is a spelling
+-- the text that is written is an encoding
 pub mod Short
 -- loops: over segments, and over moves
 pub mod Loops

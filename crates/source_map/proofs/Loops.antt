@@ -34,7 +34,7 @@ first_comma text at lt is h =
 
 -- ---- segments that are read
 
--- what was read before, and what is still read
+-- the mappings that were read before, and those that are still read
 abbrev pub with_front : List Mapping → Result (List Mapping) MappingsFault → Result (List Mapping) MappingsFault
 with_front front read = read >>= λ ms. Ok (front ++ ms)
 

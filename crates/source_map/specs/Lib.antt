@@ -1,4 +1,4 @@
--- how a mapping is spelt, and lists of them
+-- how a mapping is encoded, and lists of them
 pub mod Vlq
 pub mod Spelling
 -- reading a text from left to right, with the first fault

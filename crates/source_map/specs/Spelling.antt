@@ -1,4 +1,4 @@
--- Mappings as they are spelt (ECMA-426, Source map format specification, mappings structure), for a program of one line, such
+-- Mappings as they are encoded (ECMA-426, Source map format specification, mappings structure), for a program of one line, such
 -- as a WebAssembly module: segments between commas, each of one, four or five fields.
 use Rattle.std.specs.Prelude.{◌≡◌, ℕ, ◌≤◌, ◌<◌, ◌^◌, List, [], ◌∷◌, ◌++◌, Option, Some, None, IfSome}
 use Rattle.std.specs.Option.{unwrap_or}
@@ -41,7 +41,7 @@ abbrev pub IsOriginalOrNone : Fields → Option Original → List ℕ → Type 0
 IsOriginalOrNone s None text = text ≡ []
 IsOriginalOrNone s (Some o) text = IsOriginal s o text
 
--- the text spells a mapping after others: its column isn't less than theirs
+-- the text encodes a mapping after others: its column isn't less than theirs
 pub record IsSegment (s : Fields) (m : Mapping) (text : List ℕ) : Type 0 where
   pub generated : List ℕ
   pub original : List ℕ
@@ -57,7 +57,7 @@ AreSegments s [] [] = Unit {0}
 AreSegments s (m ∷ ms) (t ∷ ts) = IsSegment s m t × AreSegments (after s m) ms ts
 AreSegments s _ _ = ⊥
 
--- the text spells these mappings
+-- the text encodes these mappings
 abbrev pub Spells : List Mapping → (text : List ℕ) → Type 0
 Spells ms text = (segments : List (List ℕ)) × (text ≡ join_with_byte 44 segments) × AreSegments start ms segments
 

@@ -12,7 +12,7 @@ digit_value c =
     else if c == 47 then Some 63
     else None
 
--- The text spells a number with at most `most` digits. Bit 5 of a digit says that another follows; the five bits below it are
+-- The text encodes a number with at most `most` digits. Bit 5 of a digit says that another follows; the five bits below it are
 -- those of the number.
 abbrev pub IsNumber : (most n : ℕ) → List ℕ → Type 0
 IsNumber most n [] = ⊥
@@ -39,6 +39,6 @@ moved_by n before =
     else if n == 1 then lowered before (2 ^ 31)
     else lowered before (n / 2)
 
--- the text spells how the field after another differs from it
+-- the text encodes how the field after another differs from it
 abbrev pub IsField : (before field : ℕ) → List ℕ → Type 0
 IsField before field text = (n : ℕ) × (moved_by n before ≡ Some field) × IsNumber most_digits n text

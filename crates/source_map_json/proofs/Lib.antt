@@ -1,2 +1,2 @@
--- what is written after what is there
+-- text that is appended to a text
 pub mod Longer

@@ -18,7 +18,7 @@ pub record IsSourceMap (d : Data) (mappings : List ℕ) : Type 0 where
   pub version_is : version d ≡ Some 3
   pub mappings_are : mappings_text d ≡ Some mappings
 
--- ---- as the code holds them
+-- ---- as values of the code
 
 -- the value of the JSON text that a source map was read from
 abbrev pub data_of : SourceMap → Data

@@ -18,7 +18,8 @@ comma_after before = if nat_lt 1 (length before) then 44 ∷ [] else []
 abbrev pub with_member : (before name value : List ℕ) → List ℕ
 with_member before name value = before ++ (comma_after before ++ (in_quotes name ++ 58 ∷ value))
 
--- A member is put after others, with a text of its value that has each item and member once and in order; none if there is no value.
+-- A member is put after others, with a text of its value that has each item and member once and in order; none if there is no
+-- value.
 pub data IsPut (name : List ℕ) (found : Option Data) (before after : List ℕ) : Type 0 where
   absent : found ≡ None → after ≡ before → IsPut name found before after
   present : (d : Data) (value : List ℕ) → found ≡ Some d → IsInOrder value d → after ≡ with_member before name value → IsPut name found before after
@@ -32,7 +33,7 @@ ArePut d (name ∷ names) before after = (next : List ℕ) × IsPut name (get na
 abbrev pub order : List (List ℕ)
 order = codes "version" ∷ codes "file" ∷ codes "sourceRoot" ∷ codes "sources" ∷ codes "sourcesContent" ∷ codes "names" ∷ []
 
--- Something may be written after what is there.
+-- Something may be appended to the text.
 pub record IsLonger (before after : List ℕ) : Type 0 where
   pub more : List ℕ
   pub after_is : after ≡ before ++ more

@@ -40,7 +40,7 @@ fn put_quoted(out: &mut Vec<u8>, text: &[u8]) -> Result<(), AllocError>
     Ok(())
 }
 
-/// Appends a member to those before. Of its name nothing has to be escaped; its value is given as a
+/// Appends a member to those before. No character of its name has to be escaped; its value is a
 /// JSON text.
 fn put_member(out: &mut Vec<u8>, name: &str, value: &[u8]) -> Result<(), AllocError>
     ensures { OnOk result (out.new.items ≡ with_member out.old.items name.now value.now) }
@@ -64,7 +64,7 @@ fn put_named(alloc: Global, out: &mut Vec<u8>, value: &Value, name: &str) -> Res
     put_member(out, name, &text)
 }
 
-/// Appends the members that have their place in the order, but for the mappings.
+/// Appends the members that have a place in the order, except the mappings.
 fn put_ordered(alloc: Global, out: &mut Vec<u8>, value: &Value) -> Result<(), AllocError>
     ensures { OnOk result (ArePut (view value.now) order out.old.items out.new.items) }
 {
@@ -131,10 +131,10 @@ fn put_rest(alloc: Global, out: &mut Vec<u8>, value: &Value) -> Result<(), Alloc
 }
 
 impl SourceMap {
-    /// The JSON text of the source map with other mappings, which have to be sorted by their generated
-    /// columns. All other members are copied: those that the specification names in the order
-    /// `version`, `file`, `sourceRoot`, `sources`, `sourcesContent`, `names`, `mappings`, the only
-    /// order that some programs read, and then the others, in the order of their names.
+    /// The JSON text of the source map with other mappings, which have to be sorted by their
+    /// generated columns. All other members are copied: those that the specification names in the
+    /// order `version`, `file`, `sourceRoot`, `sources`, `sourcesContent`, `names`, `mappings`, the
+    /// only order that some programs read, and then the others, in the order of their names.
     ///
     /// # Errors
     ///

@@ -20,7 +20,7 @@ word_of (instr.IfElse x) = word.IfElse
 word_of (instr.Try x) = word.Try
 word_of _ = word.Other
 
--- the id of a sequence where it starts, and its length where it ends; the location of an instruction; the number of the id that
+-- the id of a sequence at its start, and its length at its end; the location of an instruction; the number of the id that
 -- is named
 abbrev pub note_of : WalkEvent → Note
 note_of (StartSequence seq) = record { word = word.Start; number = seq.id }

@@ -11,33 +11,49 @@ use walrus_ir::{
 /// An instruction, with the numbers of its ids.
 #[derive(Clone, Copy)]
 pub(crate) enum Made {
+    /// `drop`.
     Drop,
+    /// `i32.const` of this value.
     Const(u16),
+    /// A block with the sequence in this slot.
     Block(usize),
+    /// An `if` with the consequent and the alternative in these slots.
     IfElse(usize, usize),
+    /// A branch to the sequence in this slot.
     Br(usize),
+    /// A call of this function.
     Call(usize),
+    /// An access to this local.
     Local(Access, usize),
+    /// `ref.func` of this function.
     RefFunc(usize),
+    /// A use of this data segment.
     Data(Use, usize),
     /// An `i32.load` with this alignment, in bytes.
     Load(u32),
 }
 
-/// What is done with a local.
+/// An access to a local.
 #[derive(Clone, Copy)]
 pub(crate) enum Access {
+    /// `local.get`.
     Get,
+    /// `local.set`.
     Set,
+    /// `local.tee`.
     Tee,
 }
 
-/// What is done with a data segment.
+/// A use of a data segment.
 #[derive(Clone, Copy)]
 pub(crate) enum Use {
+    /// `memory.init`.
     Init,
+    /// `data.drop`.
     Drop,
+    /// `array.new_data`.
     NewArray,
+    /// `array.init_data`.
     InitArray,
 }
 

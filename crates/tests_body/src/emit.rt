@@ -113,7 +113,7 @@ fn emitted(alloc: Global) -> Result<String, Fail> {
     emitted_in(alloc, &module)
 }
 
-/// A refused part leaves what was written before it unchanged.
+/// A refused part leaves the bytes before it unchanged.
 #[test]
 fn a_refused_part_leaves_what_was_written(rt: HostRuntime) -> Result<(), Fail> {
     let found = emitted(rt.alloc())?;

@@ -379,7 +379,7 @@ fn choosing(
     function
 }
 
-// What is written of it.
+// The bytes that are written for it.
 fn written_choice(
     alloc: Global,
     ty: &InstrSeqType,
@@ -398,7 +398,7 @@ fn of_type(id: usize) -> InstrSeqType {
     InstrSeqType::MultiValue(TypeId::new(id))
 }
 
-/// An `else` is left out where the alternative has no instruction and the results of the `if` are
+/// An `else` is left out if the alternative has no instruction and the results of the `if` are
 /// its parameters: also if it has some (type 2), or is of an entry type (type 4, which has no
 /// number); but not if only the numbers of its parameters and results are the same (type 5), or if
 /// the module doesn't have its type (type 8). Its `end` has the location of the alternative's end,

@@ -1,8 +1,8 @@
-//! Tests of reading, parsing, walking and writing, for what no contract says: worked rows and cases
-//! from outside, printed texts, the calls of the laws, and that each call that allocates succeeds
-//! if there is memory. A test is a table of texts or of functions made by hand, each with the
-//! expected text (`cases`). A function here owns one large value and lends it to the next: one that
-//! owns several over calls that may fail takes minutes to prove.
+//! Tests of reading, parsing, walking and writing, for claims that no contract makes: worked rows
+//! and cases from outside, printed texts, the calls of the laws, and that each call that allocates
+//! succeeds if there is memory. A test is a table of texts or of functions made by hand, each with
+//! the expected text (`cases`). A function here owns one large value and lends it to the next: one
+//! that owns several over calls that may fail takes minutes to prove.
 #![tactic(auto)]
 
 #[cfg(test)]

@@ -78,7 +78,7 @@ const UNKNOWN_INDICES: [(&str, &str); 24] = [
 ];
 
 /// The fault names the space and the old index that has no id. If there are several, it is the
-/// first in the spelling.
+/// first in the encoding.
 #[test]
 fn names_the_space_of_an_index(rt: HostRuntime) -> Result<(), Fail> {
     check(

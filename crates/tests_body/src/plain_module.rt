@@ -13,7 +13,7 @@ use walrus_ir::{
     TypeId, ValType,
 };
 
-/// How many locals there are.
+/// The number of locals.
 const LOCALS: usize = 16;
 
 fn reference(nullable: bool, heap_type: HeapType) -> ValType {

@@ -9,23 +9,36 @@ use walrus_ir::{DataId, Instr, InstrLocId, InstrSeq, LocalId, RefFunc, Visitor, 
 /// The kind of an event: a call, or the instruction that was visited.
 #[derive(Clone, Copy)]
 pub enum Word {
+    /// A sequence starts.
     Start,
+    /// A sequence ends.
     End,
+    /// A constant is visited.
     Const,
+    /// A `drop` is visited.
     Drop,
+    /// A block is visited.
     Block,
+    /// An `if` is visited.
     IfElse,
+    /// A legacy `try` is visited.
     Try,
+    /// Any other instruction is visited.
     Other,
+    /// The function of a `ref.func`.
     Func,
+    /// The local of an instruction.
     Local,
+    /// The data segment of an instruction.
     Data,
 }
 
 /// The record of an event.
 #[derive(Clone, Copy)]
 pub struct Note {
+    /// The kind of the event.
     pub word: Word,
+    /// The number of the id, the length or the location, by the kind.
     pub number: usize,
 }
 
@@ -51,7 +64,9 @@ impl fmt::Display for Note {
 /// Records the events that it visits, a note for each call, until no calls remain; then it refuses.
 #[derive(Drop)]
 pub struct Recorder {
+    /// The notes so far, in order.
     pub told: Vec<Note>,
+    /// The number of calls that are accepted from now on.
     pub calls_left: u32,
 }
 

@@ -17,7 +17,9 @@ use walrus_ir::{
 /// A module and the ids of its old indices.
 #[derive(Drop)]
 pub(crate) struct Example {
+    /// The module.
     pub module: Module,
+    /// The ids of its old indices.
     pub indices: IndicesToIds,
 }
 

@@ -6,6 +6,7 @@ use wasm_ops::Operator;
 /// Accepts `left` operators, and refuses the next with 7.
 #[derive(Drop)]
 pub struct Counting {
+    /// The number of operators that are still accepted.
     pub left: u32,
 }
 
@@ -31,6 +32,7 @@ impl OpCheck for Counting {
 /// Records the places of the operators, and refuses the fourth operator with 9.
 #[derive(Drop)]
 pub struct Keeping {
+    /// The places of the operators so far.
     pub places: Vec<usize>,
 }
 
@@ -58,6 +60,7 @@ impl OpCheck for Keeping {
 /// Appends the place of each operator to a list of the caller's.
 #[derive(Drop)]
 pub struct Telling<'a> {
+    /// The list of the places.
     pub told: &'a mut Vec<usize>,
 }
 

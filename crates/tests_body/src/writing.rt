@@ -44,7 +44,7 @@ fn write_plain(out: &mut Vec<u8>) -> Result<(), AllocError> {
     write_op(&OutOp::CallIndirect { ty: 3, table: 1 }, out)
 }
 
-/// The shortest spellings of operators without lists.
+/// The shortest encodings of operators without lists.
 #[test]
 fn writes_operators(rt: HostRuntime) -> Result<(), Fail> {
     let mut out = Vec::new(rt.alloc());
@@ -83,7 +83,7 @@ fn write_listed(out: &mut Vec<u8>) -> Result<(), AllocError> {
     write_op(&OutOp::TryTable { ty, catches }, out)
 }
 
-/// The shortest spellings of operators with lists.
+/// The shortest encodings of operators with lists.
 #[test]
 fn writes_lists(rt: HostRuntime) -> Result<(), Fail> {
     let mut out = Vec::new(rt.alloc());

@@ -3,18 +3,18 @@ use crate::cases::{Asked, bytes_of, found};
 use std::alloc::{AllocError, Global};
 use std::test::Fail;
 
-/// What comes before the functions: types from nothing to nothing, from an i32 to nothing, from
-/// two i32s to one, and from an i32 to nothing.
+/// The preamble and the types: from nothing to nothing, from an i32 to nothing, from two i32s to
+/// one, and from an i32 to nothing.
 const TYPES: &str = "0061736d01000000 01120460000060017f0060027f7f017f60017f00";
 
 /// The type of each function.
 const TYPE: u8 = 2;
 
-/// What comes before the code: a table; a memory; tags of the first two types; a global; an element
-/// segment; and the number of data segments.
+/// The sections before the code: a table; a memory; tags of the first two types; a global; an
+/// element segment; and the number of data segments.
 const STORAGE: &str = "040401700000 0503010000 0d050200000001 0606017f0141000b 090401010000 0c0101";
 
-/// What comes after the code: a data segment.
+/// The section after the code: a data segment.
 const SEGMENTS: &str = "0b03010100";
 
 /// A body for each operator, in the order of a list of their opcodes, with the constructs that it
@@ -122,7 +122,7 @@ fn push_section(module: &mut Vec<u8>, id: u8, contents: &[u8]) -> Result<(), All
     push_bytes(module, contents)
 }
 
-/// Appends the bytes that a text spells.
+/// Appends the bytes of hexadecimal text.
 fn push_text(module: &mut Vec<u8>, text: &str) -> Result<(), Fail> {
     let bytes = bytes_of(*module.allocator(), text)?;
     Ok(module.extend_from_slice(&bytes)?)
@@ -177,7 +177,7 @@ fn module_of(alloc: Global, bodies: &str, nop: &str) -> Result<Vec<u8>, Fail> {
     Ok(module)
 }
 
-/// What is written for the module with this body in place of the one with only a `nop`.
+/// The module that is written for the one with this body in place of the one with only a `nop`.
 fn rewritten_with(alloc: Global, nop: &str) -> Result<String, Fail> {
     let module = module_of(alloc, BODIES, nop)?;
     found(alloc, Asked::Rewritten, &module)

@@ -70,8 +70,8 @@ pub(crate) fn snipped_text(
 }
 
 /// A global and its export are added to their sections, or to new ones, and the global's index is
-/// after those of all others; each body begins with its increment, and what follows the code moves
-/// by it.
+/// after those of all others; each body begins with its increment, and custom sections are changed
+/// along with the code.
 #[test]
 fn counts_calls(rt: HostRuntime) -> Result<(), Fail> {
     let cases = [

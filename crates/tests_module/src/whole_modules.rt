@@ -1,4 +1,4 @@
-//! Whole modules: their sections, and what follows their code.
+//! Whole modules: their sections, and the custom sections that are changed along with their code.
 use crate::cases::{Asked, bytes_of, check, check_modules, fault_text, found};
 use std::alloc::Global;
 use std::io::Write;
@@ -9,7 +9,6 @@ use wasm_module::{BodyWriter, Note, ParsedModule, RewrittenModule, Scratch, Sect
 /// unchanged. The types are: from nothing to nothing; from an i32 to an i32; a group of two
 /// structs, of which the second is a subtype of the first; an array of i16; from an i32 to nothing.
 /// A function, a table, a memory, a global and a tag are imported. There are tables with a maximum,
-/// with an expression, and with numbers of 64 bits, and element segments of all eight kinds.
 /// with an expression, and with numbers of 64 bits, and element segments of all eight kinds.
 const EVERY_SECTION: &str = "0061736d01000000 0007056669727374ff \
     01260560000060017f017f4e0250005f027f0178004f01025f037f0178006402005e770160017f00 00020161 \
@@ -36,9 +35,9 @@ pub(crate) const FOLLOWED: &str =
     756e757365640301620201000179031c01010400056f757465720104636f6e6402046465616403046c61737404\
     0401010176 001710736f757263654d617070696e6755524c05782e6d6170";
 
-/// The same, rewritten: the i32 stands before the i64, the f32 isn't declared, and the block after
-/// `unreachable` is dropped. So b is the local 1, and a is 2; last is the label 2; and the hints
-/// stand at 9, 13 and 20.
+/// The same, rewritten: the i32 is declared before the i64, the f32 isn't declared, and the block
+/// after `unreachable` is dropped. So b is the local 1, and a is 2; last is the label 2; and the
+/// hints are at 9, 13 and 20.
 pub(crate) const FOLLOWED_REWRITTEN: &str =
     "0061736d01000000 01090260017f017f600000 020701016d01660001 0303020001 07050101670001 \
     0026196d657461646174612e636f64652e6272616e63685f68696e740101030901010d0100140101 \
@@ -53,7 +52,7 @@ const HANDLERS: &str =
     "0061736d01000000 010c0360000060017f006000017f 0303020202 0d03010001 0709020167000001680001 \
     0a20021100067f4107080041050700010b41016a0b0c00067f410308001941090b0b";
 
-/// The same without what can't be reached.
+/// The same without the operators that can't be reached.
 const HANDLERS_REWRITTEN: &str =
     "0061736d01000000 010c0360000060017f006000017f 0303020202 0d03010001 0709020167000001680001 \
     0a1d020e00067f4107080007000b41016a0b0c00067f410308001941090b0b";
@@ -82,8 +81,8 @@ pub(crate) fn rewritten_text(alloc: Global, parsed: &mut ParsedModule<'_>) -> Re
 }
 
 /// Everything outside the code is copied byte for byte; names of locals and labels, and branch
-/// hints, follow the code; a type that only a handler needs isn't written. The written module is
-/// written again unchanged.
+/// hints, are changed along with the code; a type that only a handler needs isn't written. The
+/// written module is written again unchanged.
 #[test]
 fn rewrites_modules(rt: HostRuntime) -> Result<(), Fail> {
     let cases = [
@@ -285,7 +284,7 @@ pub(crate) fn notes_of(alloc: Global, parsed: &mut ParsedModule<'_>) -> Result<S
     }
 }
 
-/// Appends the location map of what is written for a module.
+/// Appends the location map of the module that is written for a source.
 fn push_map_with<B: BodyWriter>(
     alloc: Global,
     parsed: &mut ParsedModule<'_>,
@@ -342,7 +341,7 @@ pub(crate) fn map_or_faults(alloc: Global, parsed: &mut ParsedModule<'_>) -> Res
     Ok(String::from_utf8_lossy(alloc, &out)?)
 }
 
-/// Sections with old offsets, and those that can't be followed: names of locals that are cut off.
+/// Sections with old offsets, and one that can't be read: names of locals that are cut off.
 #[test]
 fn notes_sections(rt: HostRuntime) -> Result<(), Fail> {
     let cases = [

@@ -1,5 +1,5 @@
-//! The words of programs.
-use module_tools::{Program, Request, Stop, Task, read_words};
+//! The arguments of programs.
+use module_tools::{MapPaths, Program, Request, Stop, Task, read_words};
 use std::alloc::{AllocError, Global};
 use std::test::Fail;
 
@@ -19,17 +19,21 @@ const SNIPS: Program = Program {
     takes_functions: true,
 };
 
-/// What a task is, as text.
+/// A task, as text.
 fn task_text(alloc: Global, task: &Task<'_>) -> Result<String, Fail> {
     let Task {
         input,
         output,
         map,
+        source_map,
         functions,
         is_verbose,
         strips_debug,
     } = task;
     let mut text = format!(in alloc; "{input} {output:?} {map:?}")?;
+    if let Some(MapPaths { input, output, url }) = source_map {
+        write!(text, " source map {input} {output} {url:?}")?;
+    }
     for function in functions {
         write!(text, " {function}")?;
     }
@@ -42,7 +46,7 @@ fn task_text(alloc: Global, task: &Task<'_>) -> Result<String, Fail> {
     Ok(text)
 }
 
-/// What words ask for, as text.
+/// What arguments request, as text.
 fn request_text(alloc: Global, request: Result<Request<'_>, Stop<'_>>) -> Result<String, Fail> {
     match request {
         Ok(Request::Help) => Ok(String::from_str(alloc, "help")?),
@@ -67,8 +71,8 @@ fn asked(alloc: Global, program: &Program, words: &str) -> Result<String, Fail> 
     request_text(alloc, read_words(alloc, program, &list))
 }
 
-// Words of a program that rewrites, and what they ask for.
-const WORDS: [(&str, &str); 25] = [
+// Arguments of a program that rewrites, and what they request.
+const WORDS: [(&str, &str); 33] = [
     ("a b", "a Some(\"b\") None"),
     ("- - --verbose", "- Some(\"-\") None verbose"),
     ("-v --strip-debug a b", "a Some(\"b\") None verbose strip"),
@@ -97,9 +101,41 @@ const WORDS: [(&str, &str); 25] = [
     ("--mpa m a b", "unknown option '--mpa'"),
     ("-x a b", "unknown option '-x'"),
     ("-v=1 a b", "unknown option '-v=1'"),
+    (
+        "--source-map i --output-source-map=o a b",
+        "a Some(\"b\") None source map i o None",
+    ),
+    (
+        "a --source-map-url u --output-source-map o b --source-map i --map m",
+        "a Some(\"b\") Some(\"m\") source map i o Some(\"u\")",
+    ),
+    (
+        "--source-map i a b",
+        "option '--source-map' requires '--output-source-map'",
+    ),
+    (
+        "--output-source-map o a b",
+        "option '--output-source-map' requires '--source-map'",
+    ),
+    (
+        "--source-map-url u a b",
+        "option '--source-map-url' requires '--source-map'",
+    ),
+    (
+        "--source-map i --source-map i a b",
+        "option '--source-map' is given twice",
+    ),
+    (
+        "a b --source-map-url",
+        "option '--source-map-url' requires a value",
+    ),
+    (
+        "--check --source-map i a",
+        "option '--source-map' can't be used with '--check', which writes nothing",
+    ),
 ];
 
-// The same of one that takes functions.
+// The same for one that takes functions.
 const WORDS_WITH_FUNCTIONS: [(&str, &str); 4] = [
     ("a b 1 main", "a Some(\"b\") None 1 main"),
     ("a 1 --map m 2 -- -3", "a Some(\"1\") Some(\"m\") 2 -3"),
@@ -107,7 +143,7 @@ const WORDS_WITH_FUNCTIONS: [(&str, &str); 4] = [
     ("--check a", "unknown option '--check'"),
 ];
 
-/// The words of programs.
+/// The arguments of programs.
 #[test]
 fn takes_words(rt: HostRuntime) -> Result<(), Fail> {
     for (words, want) in &WORDS {

@@ -9,12 +9,19 @@ use walrus_ir::{
 /// An instruction, with the number of its id.
 #[derive(Clone, Copy)]
 pub(crate) enum Made {
+    /// `drop`.
     Drop,
+    /// A block with the sequence in this slot.
     Block(usize),
+    /// A branch to the sequence in this slot.
     Br(usize),
+    /// A call of this function.
     Call(usize),
+    /// `local.get` of this local.
     Get(usize),
+    /// `local.set` of this local.
     Set(usize),
+    /// `local.tee` of this local.
     Tee(usize),
 }
 

@@ -52,7 +52,7 @@ fn push_answer(
     Ok(push_output(text, &output.bytes, &output.pairs)?)
 }
 
-// Appends what is in a context after a function is written, and before that the fault.
+// Appends the fault, if there is one, and the contents of a context after a function is written.
 fn push_written(
     text: &mut String,
     module: &Module,
@@ -94,7 +94,7 @@ fn parse(alloc: Global, demo: &Demo, setting: Setting, bytes: &[u8]) -> Result<L
     )?)
 }
 
-// Appends what is in a context after the function with this body is written.
+// Appends the contents of a context after the function with this body is written.
 fn push_parsed(text: &mut String, demo: &Demo, setting: Setting, bytes: &[u8]) -> Result<(), Fail>
     requires { demo.now.module.code_section_offset ≡ setting.offset }
 {
@@ -150,7 +150,7 @@ fn writes_entries_of_the_code_section(rt: HostRuntime) -> Result<(), Fail> {
     check(&rt, rt.alloc(), AT_ZERO, &cases)
 }
 
-// Appends what is in a context after a function is written.
+// Appends the contents of a context after a function is written.
 fn push_by_hand(text: &mut String, function: &LocalFunction) -> Result<(), Fail> {
     let module = module(*text.allocator(), 0)?;
     push_numbered(text, &module, function)
@@ -224,7 +224,7 @@ fn refuses_a_function_without_an_entry(rt: HostRuntime) -> Result<(), Fail> {
     Ok(())
 }
 
-// What is in a context after writing a function whose entry was never set.
+// The contents of a context after writing a function whose entry was never set.
 fn written_without_entry(alloc: Global, instrs: &[Item]) -> Result<String, Fail> {
     let builder = without_entry(alloc, 1, instrs)?;
     let function = LocalFunction::new(Vec::new(alloc), builder);
@@ -233,7 +233,7 @@ fn written_without_entry(alloc: Global, instrs: &[Item]) -> Result<String, Fail>
     Ok(text)
 }
 
-/// Neither is one whose entry was never set.
+/// A function whose entry was never set isn't written.
 #[test]
 fn refuses_a_function_whose_entry_was_never_set(rt: HostRuntime) -> Result<(), Fail> {
     let found = written_without_entry(rt.alloc(), &[(0, Made::Drop, 1)])?;

@@ -9,7 +9,7 @@ use walrus_ir::{
 };
 use walrus_run::demo;
 
-/// How many locals there are.
+/// The number of locals.
 const LOCALS: usize = 16;
 
 /// An id of a local that isn't in the module.
@@ -18,7 +18,9 @@ const UNKNOWN: usize = 99;
 /// A module and the ids of its old indices.
 #[derive(Drop)]
 pub(crate) struct Demo {
+    /// The module.
     pub module: Module,
+    /// The ids of its old indices.
     pub indices: IndicesToIds,
 }
 

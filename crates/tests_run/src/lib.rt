@@ -1,7 +1,8 @@
-//! Tests of rewriting and running bodies, for what no contract says: worked cases from outside,
-//! printed texts, and that each call that allocates succeeds if there is memory. A function here
-//! owns one large value and lends it to the next: one that owns several over calls that may fail
-//! takes minutes to prove. The output of the program `wbody` is tested by the rows of `wbody_rows`.
+//! Tests of rewriting and running bodies, for claims that no contract makes: worked cases from
+//! outside, printed texts, and that each call that allocates succeeds if there is memory. A
+//! function here owns one large value and lends it to the next: one that owns several over calls
+//! that may fail takes minutes to prove. The output of the program `wbody` is tested by the rows of
+//! `wbody_rows`.
 #![tactic(auto)]
 
 #[cfg(test)]

@@ -49,7 +49,7 @@ fn blocks_around_a_loop(alloc: Global) -> Result<NamedBody, Fail> {
     named(alloc, &ops)
 }
 
-// How many events a run with this many turns has, and whether it ends because no turns remain.
+// The number of events of a run with this many turns, and whether it ends because no turns remain.
 fn run(alloc: Global, turns: u64) -> Result<(usize, bool), Fail> {
     let body = blocks_around_a_loop(alloc)?;
     let run = execute(&body, &[], turns)?;

@@ -345,10 +345,10 @@ fn compared_with(alloc: Global, one: &NamedBody, other: &[u8]) -> Result<(bool, 
     Ok(compared(one, &other))
 }
 
-/// Operators are the same if only their spellings and the numbers of their block types differ.
+/// Operators are the same if only their encodings and the numbers of their block types differ.
 #[test]
 fn compares_operators(rt: HostRuntime) -> Result<(), Fail> {
-    // block [ i32.const 1, drop ], with the shortest spellings.
+    // block [ i32.const 1, drop ], with the shortest encodings.
     let shortest = named(
         rt.alloc(),
         AT_ZERO,

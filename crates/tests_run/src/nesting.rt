@@ -2,7 +2,7 @@
 
 use std::alloc::{AllocError, Global};
 
-/// How many constructs are nested.
+/// The number of nested constructs.
 const DEPTH: usize = 100_000;
 
 /// A body of nested constructs that begin with these bytes, with others inside.

@@ -13,7 +13,9 @@ use walrus_run::{RewriteError, demo, rewrite_body};
 /// Bytes, and the location and the place of each operator.
 #[derive(Drop)]
 pub(crate) struct Output {
+    /// The bytes.
     pub bytes: Vec<u8>,
+    /// The location pairs.
     pub pairs: Vec<(InstrLocId, usize)>,
 }
 

@@ -35,8 +35,9 @@ use wasm_body::{EmitError, ParseFailure};
 use wasm_encode::FunctionEncoder;
 use wasm_ops::RawValType;
 
-/// A function of a module that has a body (WebAssembly core specification 3.0, functions). A
-/// contract sees the values of its lists and of its builder.
+/// A function of a module that has a body (WebAssembly core specification 3.0, functions): its
+/// arguments and the tree of its instructions. In a contract, it is the values of its lists and of
+/// its builder.
 #[derive(Drop)]
 pub struct LocalFunction {
     builder: FunctionBuilder,
@@ -93,6 +94,26 @@ impl LocalFunction {
     /// The body's first fault, with its place. For an operator it is the fault of decoding it, then
     /// `PlaceTooGreat`, then the validator's refusal, then the first rule that it breaks. Or
     /// `Memory`, if a list can't grow or the validator returns that.
+    ///
+    /// # Example
+    ///
+    /// As in `tests_body/src/small_module.rt`; the location of an operator is twice its place:
+    ///
+    /// ```text
+    /// let body = FunctionBody { bytes: &bytes, start, ops };
+    /// let locate = |place: &usize| doubled(*place);
+    /// let function = LocalFunction::parse(
+    ///     &module,
+    ///     &indices,
+    ///     id,
+    ///     ty,
+    ///     args,
+    ///     body,
+    ///     Some(&locate),
+    ///     AcceptAll,
+    ///     &mut instrs,
+    /// )?;
+    /// ```
     pub fn parse<V: OpCheck, F: Fn(&usize) -> InstrLocId>(
         module: &Module,
         indices: &IndicesToIds,
@@ -215,7 +236,7 @@ impl LocalFunction {
         self.builder.seq(id)
     }
 
-    /// The sequence at this slot, to be changed. All other sequences stay as they are.
+    /// The sequence at this slot, to be changed. All other sequences stay unchanged.
     pub fn block_mut(&mut self, id: InstrSeqId) -> &mut InstrSeq
         requires { id < length self.old.builder.sequences }
         ensures* writes_back { sem 𝓛 (LendsBlock self.entry id result) }
@@ -248,6 +269,18 @@ impl LocalFunction {
     /// `UnknownSequence` or `SharedSequence` if the sequences are not a tree, the first in walk
     /// order; otherwise the first fault in the order of writing; or `Memory`. The encoder and the
     /// list are then unchanged.
+    ///
+    /// # Example
+    ///
+    /// A raw body, as `walrus_rewrite` makes it:
+    ///
+    /// ```text
+    /// let used = function.emit_facts()?.used_locals;
+    /// let (declarations, numbers) = function.emit_locals(module, indices, &used)?;
+    /// let mut encoder = FunctionEncoder::new(alloc, declarations.as_slice())?;
+    /// function.emit_instructions(&module.types, indices, &numbers, &mut encoder, None)?;
+    /// let raw = encoder.into_raw_body();
+    /// ```
     pub fn emit_instructions(
         &self,
         types: &ModuleTypes,

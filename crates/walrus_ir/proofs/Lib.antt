@@ -1,21 +1,24 @@
 -- results that may be faults, in every crate
 pub mod ResultLemmas
--- types: equality, the first position that passes a test, and the index
+-- types: the test for equal types decides equality; the first position that passes a test, for the pick; lists that the order
+-- of value types doesn't distinguish are equal; the index of types, one type more at a time
 pub mod SameTypes
 pub mod Positions
 pub mod TypeKeys
 pub mod TypeIndex
--- locals, in runs
+-- locals in runs, one run more at a time
 pub mod LocalRuns
--- the laws of trees, faults and walks
+-- the laws of trees, faults and walks: there is either a tree or a first fault
 pub mod WalkLaws
 pub mod TreeOrFault
--- the plan of a walk
+-- the plan of a walk (`walk_order`): its stack of tasks, the marks of reached sequences, the clauses with handlers, task by
+-- task
 pub mod Tasks
 pub mod Marks
 pub mod Handlers
 pub mod Planning
--- a visitor is told about a walk
+-- the walk itself (`dfs_in_order`): the events of a stretch of instructions, the step that comes next, the events that remain,
+-- and the part of a walk that the visitor was told about
 pub mod Telling
 pub mod Stretches
 pub mod Next

@@ -176,7 +176,7 @@ next_within : {b : List InstrSeq} (slots : List ℕ) (inside : Sequences Sequenc
 next_within slots inside coming later are_no_sequences some e = absurd (omega arith)
 next_within {b = b} slots inside coming later (are_sequences {p = p} {seq = seq} k a r) some e = rw e (omega arith, slice_get_within b p seq k)
 
--- the next slot is known, where a sequence inside the last instruction is to come
+-- the next slot is known, if a sequence inside the last instruction is to come
 pub next_comes : (b : List InstrSeq) (f : Frame) (fs : List Frame) (coming : List ℕ) (left : List WalkEvent) → Pending b (f ∷ fs) coming left → 0 < f.inside
     → (0 < length coming) × (slice_index coming 0 < length b)
 next_comes b f fs coming left h some = next_within h.slots h.inside coming (item_slots h.items h.later) h.are_inside (rw h.many some) h.coming_is

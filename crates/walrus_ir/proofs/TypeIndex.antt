@@ -63,7 +63,7 @@ kept true (Some y) x h = refl
 kept false None x h = refl
 kept false (Some y) x h = refl
 
--- a value that is added where there is none
+-- a value that is added if there is none
 put : {A : Type 0} (b : Bool) (o : Option A) (x : A) → (b ≡ true → is_some o ≡ false) → cond b (Some x) o ≡ option_or o (cond b (Some x) None)
 put true None x h = refl
 put true (Some y) x h = let no = h refl in cc
@@ -225,12 +225,12 @@ or_later test types (Some id) f c =
       | false ↦ refl
     ]
 
--- the first id of a digest is found where its type passes
+-- the first id of a digest is found if its type passes
 pub found_first : (test : ModuleType → Bool) (types : List ModuleType) (o f r : Option ℕ) (id : ℕ) → o ≡ Some id → passes test (slice_get types id) ≡ true
     → first_or test types o f ≡ r → Some id ≡ r
 found_first test types o f r id there here is = sym (ap (λ b. cond b (Some id) f) here) ∙ (ap (λ o. first_or test types o f) (sym there) ∙ is)
 
--- the new type is found where it is the first that passes
+-- the new type is found if it is the first that passes
 chosen : (c : Bool) (o f : Option ℕ) (n : ℕ) → f ≡ o → (c ≡ true → o ≡ None) → cond c (Some n) f ≡ option_or o (cond c (Some n) None)
 chosen true o f n same none = ap (λ p. option_or p (Some n)) (sym (none refl))
 chosen false o f n same none = same ∙ sym (or_none o)
@@ -241,7 +241,7 @@ module _ (types : List ModuleType) (t : ModuleType) where
   grown test (Some id) f within = ap (λ g. cond (passes test g) (Some id) f) (get-front types (t ∷ []) id (within id refl))
 
   module _ (test : ModuleType → Bool) where
-    -- nothing changes where the type is there, or doesn't pass
+    -- nothing changes if the type is there, or doesn't pass
     stays : (o f : Option ℕ) → ((id : ℕ) → o ≡ Some id → id < length types) → (test t ≡ true → is_some (position test types) ≡ true)
         → first_or test types o f ≡ position test types → first_or test (types ++ t ∷ []) o f ≡ position test (types ++ t ∷ [])
     stays o f within there is =
@@ -330,7 +330,7 @@ index-same types firsts seconds functions others entries lists f l e is =
     (subst (λ (ls : ByList (ByList ℕ)). IsIndexOf types firsts ls lists) l (subst (λ (es : ByList ℕ). IsIndexOf types firsts functions es) e is))
 
 module _ (types : List ModuleType) (firsts : ByDigest) (functions : ByList (ByList ℕ)) (entries : ByList ℕ) (is : IsIndexOf types firsts functions entries) where
-  -- a type of functions, or another one, where nothing is said of entries
+  -- a function type, or another one, without a claim about entry types
   entries_stay : (t : ModuleType) → ((gives : Types) → is_entry gives t ≡ false) → (gives : Types)
       → first_or (is_entry gives) (types ++ t ∷ []) (at_digest firsts (entry_digest gives)) (at_list entries gives) ≡ find_entry (types ++ t ∷ []) gives
   entries_stay t fails gives =
@@ -351,7 +351,7 @@ module _ (types : List ModuleType) (firsts : ByDigest) (functions : ByList (ByLi
   }
 
   module _ (params results : Types) where
-    -- what these lists find, others that are equal find
+    -- equal lists are found with the same result
     found_alike : (takes gives : Types) → is_function takes gives (Func params results) ≡ true → find types params results ≡ find types takes gives
     found_alike takes gives same = let both = both_same params results takes gives same in λ i. find types (both.0 i) (both.1 i)
 

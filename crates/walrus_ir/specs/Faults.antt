@@ -1,11 +1,11 @@
--- The first fault of a walk, where a function has no tree.
+-- The first fault of a walk, if a function has no tree.
 use Rattle.std.specs.Prelude.{◌≡◌, ℕ, List, [], ◌∷◌, ◌++◌, true, false, Some, None, slice_get}
 use Rattle.walrus_ir.specs.declared.seq.InstrSeq.{InstrSeq}
 use Rattle.walrus_ir.specs.declared.error.WalkError.{WalkError}
 use Rattle.walrus_ir.specs.declared.error.WalkError.TheVariants.{UnknownSequence, SharedSequence}
 use Rattle.walrus_ir.specs.Unfolding.{slots_in_all, among}
 
--- The walk in its order, where there need not be a tree: it has reached the sequences `seen`, the last first, which are all
+-- The walk in its order; there need not be a tree: it has reached the sequences `seen`, the last first, which are all
 -- known and distinct, and goes on to the slots `next`. The slots in a sequence come after its own slot, and before the slots
 -- that followed it.
 pub data Walks (b : List InstrSeq) (start : ℕ) : (seen next : List ℕ) → Type 0 where

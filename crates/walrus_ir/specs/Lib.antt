@@ -1,24 +1,27 @@
--- results that may be faults, in every crate
+-- results that may be faults, from left to right, in every crate
 pub mod Results
--- the types of values and of a module, and the pick
+-- the types of values and of a module, and the pick; the order of value types; the table of types, digests of lists and the
+-- index
 pub mod Types
 pub mod TypeOrder
 pub mod TypeEntries
 pub mod TypeDigest
 pub mod TypeIndex
--- locals, in runs
+-- the types of locals, in runs
 pub mod LocalRuns
--- locations, and what contracts see of instructions with lists, of a sequence and of a builder
+-- the default location; the form in contracts of instructions with lists, of a sequence and of a builder; a builder that lends
+-- a sequence
 pub mod Locations
 pub mod Clauses
 pub mod InstructionSequence
 pub mod Function
 pub mod Lending
--- the tree of a function, or its first fault
+-- trees of sequences; the tree of a function, its builder unfolded; the first fault if there is no tree
 pub mod Tree
 pub mod Unfolding
 pub mod Faults
--- walks: the events that a visitor is told about, and how a walk ends
+-- walks: the events that a visitor is told about; the laws of a visitor whose `same` is equality; how a walk ends; the laws of
+-- walks
 pub mod Events
 pub mod Sameness
 pub mod Walk

@@ -29,7 +29,7 @@ abbrev pub gather : {A E : Type 0} → List (Result A E) → Result (List A) E
 gather [] = Ok []
 gather (r ∷ rs) = r >>= λ x. gather rs >>= λ xs. Ok (x ∷ xs)
 
--- the value, where there can be no fault
+-- the value, if there can be no fault
 abbrev pub sure : {A : Type 0} → Result A ⊥ → A
 sure (Ok x) = x
 sure (Err e) = absurd e

@@ -1,4 +1,4 @@
--- Where `same` is equality, the laws of a visitor hold for all `steps` and `refuses`.
+-- If `same` is equality, the laws of a visitor hold for all `steps` and `refuses`.
 use Rattle.std.specs.Prelude.{◌≡◌}
 use Rattle.std.proofs.Common.{subst}
 use Rattle.walrus_ir.specs.Events.{WalkEvent, AreStepsAlike, AreRefusalsAlike}

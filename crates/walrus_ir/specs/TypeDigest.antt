@@ -1,5 +1,5 @@
--- The digest of lists of value types: a number by which most lists are told apart without being compared. Equal lists
--- have equal digests; nothing else is said of it.
+-- The digest of lists of value types: a number that differs for most pairs of lists, so that few lists have to be compared.
+-- Equal lists have equal digests; nothing else is said about it.
 use Rattle.std.specs.Prelude.{ℕ, List, ◌+◌, ◌*◌, ◌%◌, ◌^◌, cond, fold}
 use Rattle.walrus_ir.specs.declared.val_type.HeapType.{HeapType}
 use Rattle.walrus_ir.specs.declared.val_type.HeapType.TheVariants.{Abstract, Concrete}
@@ -7,7 +7,7 @@ use Rattle.walrus_ir.specs.declared.val_type.ValType.{ValType}
 use Rattle.walrus_ir.specs.declared.val_type.ValType.TheVariants.{I32, I64, F32, F64, V128, Ref}
 use Rattle.walrus_ir.specs.Types.{rank_of}
 
--- the digest of one number more
+-- the digest after one more number
 abbrev pub mixed : (digest number : ℕ) → ℕ
 mixed digest number = (digest + number) % 2 ^ 64 * 11400714819323198485 % 2 ^ 64
 
@@ -23,14 +23,14 @@ type_number F64 = 4
 type_number V128 = 5
 type_number (Ref r) = mixed (cond r.nullable 7 6) (heap_number r.heap_type)
 
--- the digest of these after what has this one
+-- the digest of a list, after something with the digest `before`
 abbrev pub digest_of : (before : ℕ) → List (ValType ℕ) → ℕ
 digest_of before list = fold (λ made ty. mixed made (type_number ty)) before list
 
--- of a type of functions with these lists
+-- the digest of the function type with these lists
 abbrev pub func_digest : (parameters results : List (ValType ℕ)) → ℕ
 func_digest parameters results = digest_of (mixed (digest_of 0 parameters) 0) results
 
--- of a type of entries with these results
+-- the digest of the entry type with these results
 abbrev pub entry_digest : (results : List (ValType ℕ)) → ℕ
 entry_digest results = digest_of 1 results

@@ -34,7 +34,7 @@ ByDigest = List (ℕ × ℕ)
 abbrev pub at_digest : ByDigest → (digest : ℕ) → Option ℕ
 at_digest m digest = lookup (is_at (nat_cmp digest)) m
 
--- ---- what is added
+-- ---- additions
 
 -- a digest that had no id gets this one
 abbrev pub TakesDigest : (digest id : ℕ) → (old new : ByDigest) → Type 0
@@ -49,16 +49,16 @@ abbrev pub TakesLists : (parameters results : List (ValType ℕ)) → (id : ℕ)
 TakesLists parameters results id old new =
     (takes gives : List (ValType ℕ)) → at_lists new takes gives ≡ option_or (at_lists old takes gives) (cond (same_types parameters takes && same_types results gives) (Some id) None)
 
--- a type of functions gets this id, by its lists or by its digest
+-- a function type gets this id, by its lists or by its digest
 abbrev pub AddsFunc : (parameters results : List (ValType ℕ)) → (id : ℕ) → (old new : ByDigest) → (old_lists new_lists : ByList (ByList ℕ)) → Type 0
 AddsFunc parameters results id old new old_lists new_lists =
     ((new ≡ old) × TakesLists parameters results id old_lists new_lists) ⊎ (TakesDigest (func_digest parameters results) id old new × (new_lists ≡ old_lists))
 
--- a type of entries
+-- an entry type gets this id, by its results or by its digest
 abbrev pub AddsEntry : (results : List (ValType ℕ)) → (id : ℕ) → (old new : ByDigest) → (old_list new_list : ByList ℕ) → Type 0
 AddsEntry results id old new old_list new_list = ((new ≡ old) × TakesList results id old_list new_list) ⊎ (TakesDigest (entry_digest results) id old new × (new_list ≡ old_list))
 
--- ---- what is found
+-- ---- look-ups
 
 -- whether a type is there and passes
 abbrev pub passes : (test : ModuleType → Bool) → Option ModuleType → Bool
@@ -70,8 +70,8 @@ abbrev pub first_or : (test : ModuleType → Bool) → List ModuleType → (firs
 first_or test types None other = other
 first_or test types (Some id) other = cond (passes test (slice_get types id)) (Some id) other
 
--- Where the first id of the digest isn't that of such a type, two lists have the id of the first type of functions with
--- these lists, and a list that of the first type of entries with these results.
+-- If the first id of the digest isn't that of such a type, two lists have the id of the first function type with these lists,
+-- and a list has that of the first entry type with these results.
 pub record IsIndexOf (types : List ModuleType) (firsts : ByDigest) (functions : ByList (ByList ℕ)) (entries : ByList ℕ) : Type 0 where
   pub functions_are : (parameters results : List (ValType ℕ))
       → first_or (is_function parameters results) types (at_digest firsts (func_digest parameters results)) (at_lists functions parameters results) ≡ find types parameters results

@@ -21,7 +21,7 @@ abbrev pub TreeOrFault : Type 0
 TreeOrFault =
     (b : List InstrSeq) (start : ℕ) → ((t : Tree SequenceAt LocatedInstr) × IsTree b start t) ⊎ ((e : WalkError) × FirstWalkFault b start e)
 
--- where there is a tree, the walk reaches the tree's slots in the tree's order, and then has none left
+-- if there is a tree, the walk reaches the tree's slots in the tree's order, and then has none left
 abbrev pub TreeIsWalked : Type 0
 TreeIsWalked =
     (b : List InstrSeq) (start : ℕ) (t : Tree SequenceAt LocatedInstr) → IsTree b start t → Walks b start (slots_reached_each (alone t) []) []
@@ -32,6 +32,6 @@ pub record Reaches (b : List InstrSeq) (start : ℕ) (seen : List ℕ) : Type 0 
   pub is_tree : IsTree b start tree
   pub slots : slots_reached_each (alone tree) [] ≡ seen
 
--- where the walk has no slot left, it has walked through a tree
+-- if the walk has no slot left, it has walked through a tree
 abbrev pub WalkMakesTree : Type 0
 WalkMakesTree = (b : List InstrSeq) (start : ℕ) (seen : List ℕ) → Walks b start seen [] → Reaches b start seen

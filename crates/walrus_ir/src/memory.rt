@@ -4,7 +4,7 @@
 /// instructions).
 #[derive(Clone, Copy)]
 pub struct MemArg {
-    /// The alignment in bytes: a power of two where it comes from a module.
+    /// The alignment in bytes: a power of two if it comes from a module.
     pub align: u32,
     /// The number of bytes that is added to the address.
     pub offset: u64,

@@ -7,7 +7,7 @@ use crate::module_types::ModuleTypes;
 use std::alloc::{AllocError, Global};
 use std::marker::{Model, PhantomData};
 
-/// The items of one kind, by id. A contract sees their list.
+/// The items of one kind in a module, by id. In a contract, they are a list.
 #[derive(Drop)]
 pub struct ModuleItems<K, T> {
     items: Vec<T>,
@@ -21,7 +21,7 @@ impl<K, T> Model for ModuleItems<K, T> {
 }
 
 impl<K, T: Copy> ModuleItems<K, T> {
-    /// No items. It takes no memory.
+    /// No items. This allocates nothing.
     pub fn new(alloc: Global) -> Self
         ensures { result ≡ [] }
     {
@@ -32,6 +32,10 @@ impl<K, T: Copy> ModuleItems<K, T> {
     }
 
     /// Adds an item after the others, and returns its id.
+    ///
+    /// # Errors
+    ///
+    /// Out of memory; the items are unchanged.
     pub fn add(&mut self, item: T) -> Result<Id<K>, AllocError>
         ensures id { IfOk result (λ id. id ≡ length self.old) }
         ensures ok { IfOk result (λ _. self.new ≡ self.old ++ item ∷ []) }
@@ -42,7 +46,7 @@ impl<K, T: Copy> ModuleItems<K, T> {
         Ok(id)
     }
 
-    /// The item with this id, if there is one. It takes no memory.
+    /// The item with this id, if there is one. This allocates nothing.
     pub fn get(&self, id: Id<K>) -> Option<T>
         ensures { result ≡ slice_get self.now id }
     {
@@ -50,7 +54,7 @@ impl<K, T: Copy> ModuleItems<K, T> {
     }
 }
 
-/// The tags of a module: the type of each.
+/// The tags of a module: the function type of each, by id.
 pub type ModuleTags = ModuleItems<kind::Tag, TypeId>;
 
 /// What a function's body needs to know of its module.
@@ -62,6 +66,7 @@ pub struct Module {
     pub tags: ModuleTags,
     /// Locals of all functions, by id.
     pub locals: ModuleLocals,
-    /// The place in the source where the code section begins.
+    /// The place in the source where the code section begins, as a byte offset. The places in the
+    /// mapping of a parsed function count from it.
     pub code_section_offset: usize,
 }

@@ -11,7 +11,7 @@ use std::marker::Model;
 #[derive(Clone, Copy)]
 struct LocalRun {
     ty: ValType,
-    /// How many locals there are, these and those before them.
+    /// The number of locals up to the end of the run, those before it included.
     end: usize,
 }
 
@@ -28,7 +28,7 @@ fn type_at(runs: &[LocalRun], place: usize) -> Option<ValType>
 /// The locals of a module: the type of each, by id. Each function has its own. In a contract, they
 /// are the list of the types.
 ///
-/// Locals that were added together take the memory of one.
+/// Locals that were added by one call of `add_run` take the memory of one.
 #[derive(Drop)]
 pub struct ModuleLocals {
     runs: Vec<LocalRun>,
@@ -72,8 +72,8 @@ impl ModuleLocals {
         self.add_run(ty, 1)
     }
 
-    /// Adds so many locals of a type after the others, and returns the id of the first of them. Its
-    /// cost doesn't grow with the count.
+    /// Adds `count` locals of a type after the others, and returns the id of the first of them.
+    /// This takes constant time.
     ///
     /// # Errors
     ///

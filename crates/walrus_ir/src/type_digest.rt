@@ -1,14 +1,15 @@
-//! Digests of lists of value types: numbers by which most lists are told apart without being compared.
+//! Digests of lists of value types: numbers that differ for most pairs of lists, so that few lists
+//! have to be compared.
 ghost use Rattle.std.specs.Prelude.{◌≡◌};
 ghost use Rattle.walrus_ir.specs.Types.{rank_of};
 ghost use Rattle.walrus_ir.specs.TypeDigest.{mixed, heap_number, type_number, digest_of, func_digest, entry_digest};
 
 use crate::val_type::{AbstractHeapType, HeapType, ValType};
 
-/// 2^64 divided by the golden ratio: an odd number with ones and zeros all over.
+/// 2^64 divided by the golden ratio: an odd number whose bits have no pattern.
 const FACTOR: u64 = 0x9e37_79b9_7f4a_7c15;
 
-/// The digest of one number more.
+/// The digest after one more number.
 fn mixed(digest: u64, number: u64) -> u64
     ensures { result ≡ mixed digest number }
 {
@@ -56,7 +57,7 @@ fn type_number(ty: &ValType) -> u64
     }
 }
 
-/// The digest of these after what has the digest `before`.
+/// The digest of a list, after something with the digest `before`.
 fn digest_of(before: u64, list: &[ValType]) -> u64
     ensures { result ≡ digest_of before list.now }
 {
@@ -67,14 +68,14 @@ fn digest_of(before: u64, list: &[ValType]) -> u64
     made
 }
 
-/// The digest of a type of functions with these lists.
+/// The digest of the function type with these lists.
 pub(crate) fn func_digest(params: &[ValType], results: &[ValType]) -> u64
     ensures { result ≡ func_digest params.now results.now }
 {
     digest_of(mixed(digest_of(0, params), 0), results)
 }
 
-/// The digest of a type of entries with these results.
+/// The digest of the entry type with these results.
 pub(crate) fn entry_digest(results: &[ValType]) -> u64
     ensures { result ≡ entry_digest results.now }
 {

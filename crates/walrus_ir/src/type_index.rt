@@ -1,4 +1,4 @@
-//! The ids of a module's types, by what the types take and give.
+//! The ids of a module's types, by the types of their parameters and results.
 ghost use Rattle.std.specs.Prelude.{◌≡◌, [], Some, None, cond, ◌&&◌, OnOk, OnErr};
 ghost use Rattle.std.specs.Option.{option_or};
 ghost use Rattle.walrus_ir.specs.Types.{same_types};
@@ -14,8 +14,8 @@ use std::alloc::{AllocError, Global};
 use std::collections::BTreeMap;
 use std::marker::Model;
 
-/// Ids by list of value types. The lists are kept in an order, so that none of them is slow to
-/// find. In a contract, it is each list with its id.
+/// Ids by list of value types, in an ordered map, so that each list is found in logarithmic time.
+/// In a contract, it is each list with its id.
 #[derive(Drop)]
 pub(crate) struct ListIds {
     ids: BTreeMap<Vec<ValType>, TypeId>,
@@ -53,7 +53,7 @@ impl ListIds {
         self.ids.get(list).copied()
     }
 
-    /// Gives this list an id, unless it has one.
+    /// Gives this list an id, unless it has one. If memory runs out nothing changes.
     pub fn add(&mut self, list: &[ValType], id: TypeId) -> Result<(), AllocError>
         ensures ok { OnOk result (TakesList list.now id self.old self.new) }
         ensures err { OnErr result (self.new ≡ self.old) }
@@ -68,8 +68,8 @@ impl ListIds {
     }
 }
 
-/// Ids by two lists of value types, what is taken and what is given. In a contract, it is
-/// each first list with the second lists, and these with their ids.
+/// Ids by two lists of value types: parameters and results. In a contract, it is each list of
+/// parameters with the lists of results, and these with their ids.
 #[derive(Drop)]
 pub(crate) struct FuncIds {
     ids: BTreeMap<Vec<ValType>, ListIds>,
@@ -109,7 +109,7 @@ impl FuncIds {
         }
     }
 
-    /// Gives these lists an id, unless they have one.
+    /// Gives these lists an id, unless they have one. If memory runs out nothing changes.
     pub fn add(
         &mut self,
         params: &[ValType],
@@ -126,7 +126,7 @@ impl FuncIds {
         }
     }
 
-    // The same where no type takes these. Their entry goes in once it has the id.
+    // The same if no type has these parameters. Their entry is added when it contains the id.
     fn add_first(
         &mut self,
         params: &[ValType],
@@ -178,7 +178,7 @@ impl DigestIds {
         self.ids.get(&digest).copied()
     }
 
-    /// Gives an id to a digest that has none.
+    /// Gives an id to a digest that has none. If memory runs out nothing changes.
     pub fn add(&mut self, digest: u64, id: TypeId) -> Result<(), AllocError>
         requires { at_digest self.old digest ≡ None }
         ensures ok { OnOk result (TakesDigest digest id self.old self.new) }
@@ -189,13 +189,16 @@ impl DigestIds {
     }
 }
 
-/// The ids of types of functions and of entries. The first type of each digest is found by it, and
-/// another one of the same digest by its lists, in an order: so a module whose types have equal
-/// digests is as fast to read, and only takes more memory.
+/// The ids of function types and of entry types. The first type of each digest is found by its
+/// digest, and others with the same digest by their lists, in ordered maps. So a module whose types
+/// have equal digests takes more memory, and not more time.
 #[derive(Drop)]
 pub(crate) struct TypeIndex {
+    /// The first id of each digest.
     pub firsts: DigestIds,
+    /// The ids of further function types, by their lists.
     pub func_ids: FuncIds,
+    /// The ids of further entry types, by their results.
     pub entry_ids: ListIds,
 }
 
@@ -213,7 +216,7 @@ impl TypeIndex {
         }
     }
 
-    /// Gives an id to a type of functions.
+    /// Gives an id to a function type, unless it has one. If memory runs out nothing changes.
     pub fn add_func(
         &mut self,
         params: &[ValType],
@@ -232,7 +235,7 @@ impl TypeIndex {
         }
     }
 
-    /// Gives an id to a type of entries.
+    /// Gives an id to an entry type, unless it has one. If memory runs out nothing changes.
     pub fn add_entry(&mut self, results: &[ValType], id: TypeId) -> Result<(), AllocError>
         ensures ok { OnOk result (AddsEntry results.now id self.old.firsts self.new.firsts
             self.old.entry_ids self.new.entry_ids) }

@@ -204,6 +204,16 @@ fn plan<'a>(
 /// If there is no tree, the first fault in walk order; if memory runs out, `WalkError::Memory`.
 /// Both are converted to the visitor's fault, and the visitor was not called. Otherwise the fault
 /// of the visitor's call that failed, which ends the walk.
+///
+/// # Example
+///
+/// The events of a function, noted by a visitor, as in `tests_body/src/walk.rt`:
+///
+/// ```text
+/// let mut recorder = Recorder::new(alloc, calls);
+/// dfs_in_order(&mut recorder, builder, InstrSeqId::new(0))?;
+/// recorder.push_text(&mut text)?;
+/// ```
 pub fn dfs_in_order<V: Visitor>(
     visitor: &mut V,
     builder: &FunctionBuilder,

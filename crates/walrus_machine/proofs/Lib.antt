@@ -1,3 +1,4 @@
--- the trace machine: what is ahead of a place; labels, exceptions and steps
+-- the closers and parts after a place, passed back over one operator, and searches from part to part
 mod Tables
+-- labels, exceptions, steps and turns
 mod Tracing

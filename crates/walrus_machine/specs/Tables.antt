@@ -23,7 +23,7 @@ pub record IsAhead (cs : List C.Control) (depth : ℕ) (place : ℕ) (a : Ahead)
   pub part : place_at cs a.part ≡ (seek (λ c. true) depth 0 (place_at cs place)).rest
   pub behind : place_at cs a.behind ≡ tail (seek (λ c. false) depth 0 (place_at cs place)).rest
 
--- the same in each construct around a place; where there is no construct, nothing is ahead
+-- the same in each construct around a place; outside of all constructs, nothing is ahead
 abbrev pub nothing_ahead : ℕ → Ahead
 nothing_ahead end = record { part = end; behind = end }
 
@@ -47,6 +47,6 @@ parts _ = false
 abbrev pub is_part : C.Control → Bool
 is_part c = parts (shape_of c)
 
--- whether a search for what passes the test continues past this part or closer
+-- whether a search for a part that passes the test continues past this part or closer
 abbrev pub passes : (C.Control → Bool) → C.Control → Bool
 passes test c = is_part c && not (test c)

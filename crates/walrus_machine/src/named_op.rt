@@ -8,7 +8,7 @@ use walrus_ir::{
 use wasm_operators::Opcode;
 
 /// A named operator. Two operators of different bodies are the same if these are, whatever their
-/// old indices, the numbers of their block types and their spellings.
+/// old indices, the numbers of their block types and their encodings.
 #[derive(Debug, Drop, PartialEq, Eq)]
 pub struct NamedOp {
     /// Its opcode.
@@ -107,7 +107,7 @@ pub enum NamedImmediates {
     Table(Vec<u32>, u32),
     /// A memory argument.
     Access(NamedMemArg),
-    /// A memory argument, and a lane.
+    /// A memory argument, and the index of a lane.
     LaneAccess(NamedMemArg, u8),
     /// The type of a block.
     Block(NamedBlockType),
@@ -119,17 +119,17 @@ pub enum NamedImmediates {
     Value(ValType),
     /// The immediates of a branch on a cast.
     Cast(NamedCast),
-    /// A constant.
+    /// The value of `i32.const`.
     I32(i32),
-    /// A constant.
+    /// The value of `i64.const`.
     I64(i64),
-    /// The bits of a constant.
+    /// The bits of the value of `f32.const`.
     F32(u32),
-    /// The bits of a constant.
+    /// The bits of the value of `f64.const`.
     F64(u64),
-    /// The bits of a constant.
+    /// The bits of the value of `v128.const`.
     V128(u128),
-    /// A lane.
+    /// The index of a lane.
     Lane(u8),
     /// The lanes of a shuffle.
     Lanes([u8; 16]),

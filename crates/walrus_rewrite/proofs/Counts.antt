@@ -24,7 +24,7 @@ items_count is = length (instructions is)
 abbrev inside_count : Sequences Head Instruction → ℕ
 inside_count ss = length (instructions_inside ss)
 
--- an instruction, those inside of it, and those behind
+-- an instruction, those inside of it, and those after it
 one_more : (i : Instruction) (ss : Sequences Head Instruction) (r : Items Head Instruction) → items_count (item i ss r) ≡ suc (inside_count ss + items_count r)
 one_more i ss r = ap suc (length-append (instructions_inside ss) (instructions r))
 

@@ -17,13 +17,13 @@ place_of p = p.1
 abbrev pair_at : List Pair → ℕ → Pair
 pair_at ps i = get_or ps i (0, 0)
 
--- within the list it doesn't matter what is said of places beyond it
+-- inside the list, places beyond it make no difference
 pub same_default : (ps : List Pair) (i : ℕ) (d e : Pair) → i < length ps → get_or ps i d ≡ get_or ps i e
 same_default [] i d e l = absurd (omega arith)
 same_default (p ∷ ps) zero d e l = refl
 same_default (p ∷ ps) (suc i) d e l = same_default ps i d e (omega arith)
 
--- ---- where a pair is found, and where none is
+-- ---- if a pair is found, and if none is
 
 pub found : (ps : List Pair) (place i : ℕ) → i < length ps → (pair_at ps i).1 ≡ place → ((j : ℕ) → j < i → (pair_at ps j).1 < place)
     → location_in ps place ≡ Some (pair_at ps i).0

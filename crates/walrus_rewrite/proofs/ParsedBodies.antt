@@ -39,7 +39,7 @@ by_number space None = tt
 pub are_id_numbers : (ms : List ModuleType) (out : IdsToIndices) → AreIdNumbers (numbers_by ms out [])
 are_id_numbers ms out space id = by_number space (get (numbers_in out space) id)
 
--- ---- numbers of locals are, where they can be declared
+-- ---- locals that can be declared have numbers
 
 at_most : (m n : ℕ) → nat_le m n ≡ true → m ≤ n
 at_most m n h = grind arith

@@ -1,4 +1,4 @@
--- The raw body of a function: what its parts write, and why they don't.
+-- The raw body of a function: the bytes that its parts write, and why they don't write any.
 use Rattle.std.proofs.Common.{◌≡◌, ◌⊎◌, ◌++◌, ◌+◌, ◌<◌, ◌≤◌, ◌^◌, ℕ, List, [], ◌∷◌, Bool, Result, Ok, Err, length, refl, sym, ap, subst, ◌∙◌, inl, inr, arith}
 use Rattle.std.specs.Prelude.{nat_lt, ◌&&◌, true, false}
 use Rattle.std.specs.List.{list_all, AllByRecursion}
@@ -45,7 +45,7 @@ first_true false b h = absurd cc
 below : (m n : ℕ) → nat_lt m n ≡ true → m < n
 below m n h = grind arith
 
--- declarations that a function has are as many as fit 32 bits
+-- the number of declarations of a function fits 32 bits
 pub few_declarations : (to : Numbers) (arguments : ℕ) (others : List Local) (ds : List (ℕ × ValType ℕ)) → declared to arguments others ≡ Ok ds → length ds < 2 ^ 32
 few_declarations to arguments others ds h =
     let rs = runs (types_of others) in
@@ -63,7 +63,7 @@ same_numbers ms out entries args others h =
       balanced = (numbers_by ms out []).balanced;
     }
 
--- ---- what the calls in it answer
+-- ---- the results of the calls
 
 module _ (ms : List ModuleType) (out : IdsToIndices) (types : List (ValType ℕ)) (args : List ℕ) (used : ℕ → Bool) (f : Function) where
   abbrev by : Given
@@ -195,7 +195,7 @@ raw_pairs_within by f bytes pairs r =
     let same : pairs_from before xs.0 ≡ pairs = let both : Ok (pairs_from before xs.0) ≡ Ok pairs = xs.2 in cc in
     subst (AreWithin (length bytes)) same (pairs_within xs.0 before (length bytes) fits)
 
--- behind so many bytes they end below another place
+-- moved up by this number of bytes they end below another place
 pub moved_within : (base end last : ℕ) (ps : List Pair) → base + last ≤ end → AreWithin last ps → AllByRecursion (λ (p : Pair). base + p.1 ≤ end) ps
 moved_within base end last [] h w = tt
 moved_within base end last (p ∷ ps) h w = (omega (arith, h, w.0), moved_within base end last ps h w.1)

@@ -1,4 +1,4 @@
--- Rewriting a body: what is appended is that of the accepted body, and keeps its source.
+-- Rewriting a body: the appended bytes are those of the accepted body, and execute as its source does.
 use Rattle.std.specs.Prelude.{◌≡◌, ◌⊎◌, ◌++◌, ◌+◌, ◌<◌, ◌^◌, ℕ, List, [], ◌∷◌, length, map, Option, Some, None, IsErr, IfOk, IfErr, Result, Ok, Err}
 use Rattle.std.specs.Borrow.{Bor}
 use Rattle.std.specs.Fn.{Shared}
@@ -28,6 +28,7 @@ use Rattle.wasm_body.proofs.Bytes.LawfulTyped.{lawful_named}
 use Rattle.wasm_body.proofs.Executions.Locations.{places_increase, pairs_located, say_locations}
 use Rattle.wasm_body.proofs.Executions.NormalForms.{named_executions_kept}
 use Rattle.wasm_body.proofs.NormalForm.NamedTexts.{has_text}
+use Rattle.wasm_body.proofs.Validity.ValidNormalForms.{text_stays_valid}
 use Rattle.walrus_facts.specs.Facts.{count}
 use Rattle.walrus_maps.specs.declared.ids_to_indices.IdsToIndices.{IdsToIndices}
 use Rattle.walrus_body.specs.FunctionParts.{FunctionParts}
@@ -47,12 +48,12 @@ use Rattle.walrus_rewrite.specs.RewrittenBodies.{KeepsSource, Rewrites, IsAccept
 use Rattle.walrus_rewrite.specs.Errors.{WantsMemory}
 use Rattle.walrus_rewrite.proofs.OneTree.{from_slot, only_tree, begins}
 
--- operators that bytes list have spellings
+-- operators that bytes list have encodings
 listed_spelt : (xs : List Occurrence) (place : ℕ) (bytes rest : List ℕ) → Lists (map placed xs) place bytes rest → AllByRecursion HasSpelling xs
 listed_spelt [] place bytes rest l = tt
 listed_spelt (x ∷ xs) place bytes rest l = ((l.1, l.4), listed_spelt xs _ l.2 rest l.5)
 
--- ---- what is kept of the source
+-- ---- relation to the source
 
 pub keeps_source : (env : Environment) (xs : List Occurrence) (b : Body Occurrence) → AllByRecursion HasSpelling xs → Lawful env xs b →
     (to : Numbers) → BalanceAlike (typing_of env) to → (before : ℕ) (ps : List Pair) → tree_pairs to (body_tree env b) before ≡ Ok ps → KeepsSource env xs b ps
@@ -66,6 +67,7 @@ keeps_source env xs b spelt lawful to alike before ps e =
       is_text = kept.is_text;
       is_rewritten = cc both;
       executes = kept.alike;
+      stays_valid = text_stays_valid m (map name_at xs) (named_body b) named.0 named.1 kept.text kept.is_text;
       locations = pairs_located m (map name_at xs) (named_body b) named.0 named.1 kept.text kept.is_text to alike before ps e;
       places = places_increase to (body_tree env b) before ps e;
       honest = say_locations m (map name_at xs) (named_body b) named.0 named.1 kept.text kept.is_text to alike before ps e;
@@ -124,7 +126,7 @@ module _ {S F : Type 0} (asks : Shared F (Bor ℕ × Unit {0}) ℕ) (i : ParseIn
 pub few_operators : (body : FunctionBody) → body.start + length body.bytes.now < 2 ^ 64 → length (body_operators body) < 2 ^ 64
 few_operators body fits = omega (arith, fits, length-drop body.ops body.bytes.now)
 
--- ---- of what a parse answered
+-- ---- after a parse
 
 module _ {S F : Type 0} (asks : Shared F (Bor ℕ × Unit {0}) ℕ) (i : ParseInput S F) (m : Module) (out : IdsToIndices) (args : List ℕ) where
   abbrev by : Given
@@ -180,7 +182,7 @@ module _ {S F : Type 0} (asks : Shared F (Bor ℕ × Unit {0}) ℕ) (i : ParseIn
   refused_all r a f g few (Ok made) h = tt
   refused_all r a f g few (Err e) h = refuses_all r a f g few e h
 
-  -- a fault of the parse is answered
+  -- a fault of the parse is returned
   pub faults_all : (r : Result FunctionParts ParseFailure) (p : ParseFailure) → IsErr r × IfErr r (λ q. (q.error ≡ parse.Memory) ⊎ (q ≡ p))
       → (P : FunctionParts → Type 0) (s : Result FunctionParts RewriteError) → IfOk s (λ made. (r ≡ Ok made) × P made) → IfErr s (IsUnfinished (given out m) r) → IsErr s × IfErr s (λ e. WantsMemory e ⊎ (e ≡ Parse p))
   faults_all (Ok q) p h P s ok err = absurd (let no = h.0 in cc)

@@ -1,4 +1,4 @@
--- A result has one answer; and what holds of each answer.
+-- A result is one value, and whatever holds for each value holds for it.
 use Rattle.std.specs.Prelude.{◌≡◌, IsErr, IfOk, IfErr, Result, Ok, Err}
 use Rattle.std.proofs.Common.{refl, sym, ◌∙◌}
 
@@ -11,7 +11,7 @@ same_refusal {A} {E} r x y e d = let both : (let q : Result A E = Err x in q) �
 pub not_both : {A E : Type 0} (r : Result A E) (x : A) (y : E) → r ≡ Ok x → r ≡ Err y → ⊥
 not_both {A} {E} r x y e d = let both : (let q : Result A E = Ok x in q) ≡ Err y = sym e ∙ d in cc
 
--- ---- what an answer has
+-- ---- properties of a result
 
 pub if_ok : {A E : Type 0} (P Q : A → Type 0) → ((x : A) → P x → Q x) → (r : Result A E) → IfOk r P → IfOk r Q
 if_ok P Q f (Ok x) h = f x h

@@ -29,13 +29,13 @@ use Rattle.walrus_numbering.specs.NumberMaps.{numbers_by}
 use Rattle.walrus_rewrite.specs.declared.error.RewriteError.{RewriteError}
 use Rattle.walrus_rewrite.specs.declared.error.RewriteError.TheVariants.{Parse, Walk, Emit}
 
--- What a body is written with: the numbers of ids, the types of the module's locals, and the function's arguments.
+-- The input of writing a body: the numbers of ids, the types of the module's locals, and the function's arguments.
 pub record Given : Type 0 where
   pub to : Numbers
   pub types : List (ValType ℕ)
   pub args : List ℕ
 
--- of a function in a module, with the numbers of index maps
+-- the same for a function in a module, with the numbers of index maps
 abbrev pub given : IdsToIndices → Module → FunctionParts → Given
 given out m f = record { to = numbers_by m.types out []; types = m.locals; args = f.args }
 
@@ -62,14 +62,14 @@ pub data HasNoRawBody (by : Given) (t : FunctionTree) (e : EmitError) : Type 0 w
       declared by.to (length by.args) others ≡ Ok declarations → tree_bytes (with_locals by.to by.args (ids_of others)) t ≡ Err e →
       HasNoRawBody by t e
 
--- The reason is one that a tree which a parse made can have: a used local isn't known; or the declarations count too many
+-- The tree of a parsed body has no raw body for these reasons only: a used local isn't known; the declarations count too many
 -- locals, or name a type without a number; or an operator names an id or a local without a number.
 abbrev pub IsOfParsed : (by : Given) (t : FunctionTree) (e : EmitError) → HasNoRawBody by t e → Type 0
 IsOfParsed by t e (unknown is missing) = Unit {0}
 IsOfParsed by t e (undeclared others are_declared fault) = (e ≡ TooLarge) ⊎ IsUnnumbered e
 IsOfParsed by t e (unwritten others declarations are_declared declarations_are fault) = IsUnnumbered e
 
--- This is why a tree that a parse made has no raw body.
+-- This is why the tree of a parsed body has no raw body.
 pub record HasNoParsedBody (by : Given) (t : FunctionTree) (e : EmitError) : Type 0 where
   pub has_none : HasNoRawBody by t e
   pub is_of_parsed : IsOfParsed by t e has_none
@@ -82,11 +82,11 @@ pub record IsRawBodyOf (by : Given) (f : Function) (bytes : List ℕ) (pairs : L
   pub has_tree : HasTree f.sequences (first_slot f) tree
   pub is_raw_body : IsRawBody by tree bytes pairs
 
--- a pair behind so many bytes more
+-- a pair whose place is moved up by this number of bytes
 abbrev pub moved : ℕ → Pair → Pair
 moved n p = (p.0, n + p.1)
 
--- ---- of a function whose used locals are handed in
+-- ---- of a function, with the list of its used locals given
 
 -- These locals are declared so in an encoder, and they and the arguments have these numbers.
 pub record Begins (by : Given) (used : ℕ → Bool) (encoder : List ℕ) (numbers : List (ℕ × ℕ)) : Type 0 where
@@ -97,7 +97,7 @@ pub record Begins (by : Given) (used : ℕ → Bool) (encoder : List ℕ) (numbe
 abbrev pub IsNotBegun : Given → (ℕ → Bool) → EmitError → Type 0
 IsNotBegun by used e = IsUndeclared by.to by.types by.args used e
 
--- Behind the declarations stands what is written with the numbers of the locals.
+-- The operators, written with the numbers of the locals, follow the declarations.
 pub record Writes (by : Given) (used : ℕ → Bool) (IsWritten : Numbers → List ℕ → Type 0) : Type 0 where
   pub others : List Local
   pub are_declared : AreDeclared by.types by.args used others
@@ -120,20 +120,20 @@ pub data Declines (by : Given) (used : ℕ → Bool) (f : Function) (e : EmitErr
 
 -- ---- appended
 
--- the pairs stand behind those of the list, if there is one
+-- The pairs are appended to the list, if there is one.
 abbrev pub AppendsPairs : {Z : Type 0} → List Pair → (entry : Option (LentPairs Z)) → (exit : Left (LentPairs Z)) → Type 0
 AppendsPairs pairs None (inl none) = Unit {0}
 AppendsPairs pairs (Some list) (inr (inl left)) = left.0.now.items ≡ list.now.items ++ pairs
 AppendsPairs pairs _ _ = ⊥
 
--- The function's raw body stands behind what stood there.
+-- The function's raw body is appended.
 pub record AppendsBytes (by : Given) (f : Function) (old new : List ℕ) : Type 0 where
   pub raw : List ℕ
   pub pairs : List Pair
   pub is_raw_body : IsRawBodyOf by f raw pairs
   pub appends : new ≡ old ++ raw
 
--- And its pairs behind others.
+-- And its pairs are appended to a list of pairs.
 pub record AppendsBoth (by : Given) (f : Function) (old new : List ℕ) (old_pairs new_pairs : List Pair) : Type 0 where
   pub raw : List ℕ
   pub pairs : List Pair
@@ -147,33 +147,33 @@ IsUnappended by f (Parse p) = ⊥
 IsUnappended by f (Walk w) = HasNoWalk f.sequences (first_slot f) w ⊎ IsTooLarge f.sequences (first_slot f) w
 IsUnappended by f (Emit e) = (e ≡ Memory) ⊎ ((t : FunctionTree) × HasTree f.sequences (first_slot f) t × HasNoRawBody by t e)
 
--- Of what a parse answered: its failure, or why the raw body of its function isn't appended.
+-- After a parse: its failure, or why the raw body of its function isn't appended.
 abbrev pub IsUnfinished : (FunctionParts → Given) → Result FunctionParts ParseFailure → RewriteError → Type 0
 IsUnfinished by (Ok made) e = IsUnappended (by made) made.builder e
 IsUnfinished by (Err f) e = e ≡ Parse f
 
 -- ---- the entry of a function in the code section
 
--- The function has an entry, the bytes are its raw body, and the pairs are its own after so many bytes.
+-- The function has an entry, the bytes are its raw body, and the pairs are its own, moved up by the number of bytes before.
 pub record WritesEntry (by : Given) (f : Function) (before : ℕ) (written : Written) : Type 0 where
   pub has_entry : HasEntry f
   pub pairs : List Pair
   pub is_raw_body : IsRawBodyOf by f written.bytes pairs
   pub are_moved : written.code_transform ≡ map (moved before) pairs
 
--- Both stand behind what stood there.
+-- Both are appended.
 pub record AppendsEntry (by : Given) (f : Function) (old new : List ℕ) (old_pairs new_pairs : List Pair) : Type 0 where
   pub written : Written
   pub writes : WritesEntry by f (length old) written
   pub appends : new ≡ old ++ written.bytes
   pub appends_pairs : new_pairs ≡ old_pairs ++ written.code_transform
 
--- Of a function that has an entry: memory ran out, or there is no walk, or too many instructions, or no raw body.
+-- Why a function with an entry isn't appended: memory ran out, or there is no walk, or too many instructions, or no raw body.
 abbrev pub RefusesEntry : Given → Function → EmitError → Type 0
 RefusesEntry by f e =
     (e ≡ Memory) ⊎ (((w : WalkError) × (HasNoWalk f.sequences (first_slot f) w ⊎ IsTooLarge f.sequences (first_slot f) w) × (e ≡ fault_of_walk w))
     ⊎ ((t : FunctionTree) × HasTree f.sequences (first_slot f) t × HasNoRawBody by t e))
 
--- And of a function that has none: its entry is no sequence.
+-- And why any function isn't: its entry isn't a sequence of its builder, or one of these.
 abbrev pub RefusesAnyEntry : Given → Function → EmitError → Type 0
 RefusesAnyEntry by f e = (HasEntry f × RefusesEntry by f e) ⊎ ((HasEntry f → ⊥) × (e ≡ UnknownSequence))

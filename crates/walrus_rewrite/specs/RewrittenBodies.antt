@@ -1,4 +1,4 @@
--- Rewriting a body: what is written of an accepted one, what it keeps of its source, and why there is none.
+-- Rewriting a body: the bytes of an accepted one, how they execute as their source does, and why a body isn't rewritten.
 use Rattle.std.specs.Prelude.{◌≡◌, ◌⊎◌, ℕ, List, ◌++◌, map, Option}
 use Rattle.std.specs.Fn.{Shared}
 use Rattle.std.specs.Borrow.{Bor}
@@ -15,6 +15,7 @@ use Rattle.wasm_body.specs.RewrittenTree.{rewritten_text}
 use Rattle.wasm_body.specs.TextLaws.{IsTextOf}
 use Rattle.wasm_body.specs.ExecutionLaws.{ExecuteAlike}
 use Rattle.wasm_body.specs.LocationLaws.{SayLocations}
+use Rattle.wasm_body.specs.ValidityLaws.{KnownOperand, StaysValid}
 use Rattle.wasm_body.specs.Pairs.{Pair}
 use Rattle.wasm_body.specs.Parsing.Accepted.{Accepted}
 use Rattle.walrus_parser.specs.Bodies.{ParseInput, setting_with, AcceptsBody, RefusesBody, AreGiven}
@@ -23,29 +24,30 @@ use Rattle.walrus_rewrite.specs.declared.error.RewriteError.{RewriteError}
 use Rattle.walrus_rewrite.specs.declared.error.RewriteError.TheVariants.{Parse, Walk, Emit}
 use Rattle.walrus_rewrite.specs.RawBodies.{Given, IsRawBody, HasNoParsedBody, AppendsPairs}
 
--- ---- what is kept
+-- ---- relation to the source
 
 -- The places of location pairs strictly increase.
 abbrev pub PlacesRise : List Pair → Type 0
 PlacesRise pairs = IsStrictlyIncreasing (map (λ (p : Pair). p.1) pairs)
 
--- What is written of a body of these operators, by the text of its normal form: for every list of outcomes and every bound on
--- turns it executes the same operators and ends alike; it is the text of the rewritten body, which says of each operator that is
--- written which one of the source it is and which location it has; its pairs hold these locations; and so along every run.
+-- The operators that are written for this body of these operators are the text of its normal form. For every list of outcomes
+-- and every bound on turns they execute the same operators and end alike; they are valid if the source's are. They are the text
+-- of the rewritten body, which gives for each of them the operator of the source that it comes from, and its location. The pairs
+-- contain these locations; and along every run they give the locations of the source's run.
 pub record KeepsSource (env : Environment) (xs : List Occurrence) (b : Body Occurrence) (pairs : List Pair) : Type 0 where
   pub text : List (Located NamedOperation)
   pub is_text : IsTextOf (typing_of env) (body_tree env b) text
   pub is_rewritten : text ≡ rewritten_text (typing_of env) (named_body b)
   pub executes : ExecuteAlike (map name_at xs) text
+  pub stays_valid : StaysValid KnownOperand (typing_of env) (map name_at xs) text
   pub locations : map (λ (p : Pair). p.0) pairs ≡ map (λ y. y.location) text
   pub places : PlacesRise pairs
   pub honest : SayLocations pairs text (map name_at xs)
 
--- ---- what is written
+-- ---- the bytes
 
 module _ {S F : Type 0} (asks : Shared F (Bor ℕ × Unit {0}) ℕ) (i : ParseInput S F) (by : Given) where
-  -- The bytes are accepted as a body, the function is the one that a parse makes of it, and the raw body of its normal form
-  -- stands behind what stood there.
+  -- The bytes are accepted as a body, the function is the parsed one, and the raw body of its normal form is appended.
   pub record Rewrites {Z : Type 0} (made : Function) (mapping : List (ℕ × ℕ)) (old new : List ℕ) (entry : Option (LentPairs Z)) (exit : Left (LentPairs Z))
       : Type 0 where
     pub accepts : AcceptsBody asks i made mapping
@@ -56,7 +58,7 @@ module _ {S F : Type 0} (asks : Shared F (Bor ℕ × Unit {0}) ℕ) (i : ParseIn
     pub bytes : new ≡ old ++ raw
     pub appends_pairs : AppendsPairs pairs entry exit
 
-  -- the bytes are accepted as this body, with some location function if the caller handed one in
+  -- the bytes are accepted as this body, with some location function if the caller passed one
   pub record IsAcceptedAs (b : Body Occurrence) : Type 0 where
     pub locations : Option (ℕ → ℕ)
     pub are_given : AreGiven asks i locations

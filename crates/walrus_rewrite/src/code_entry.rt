@@ -10,7 +10,7 @@ use std::alloc::{AllocError, Global};
 use walrus_body::{Emit, EmitContext, EmitError, IdsToIndices, LocalFunction};
 use walrus_ir::{InstrLocId, Module};
 
-/// Pairs with so much added to their places, none of which passes the end.
+/// Pairs whose places are moved up by `base`. None of them is then greater than the end.
 fn moved_pairs(
     alloc: Global,
     pairs: &[(InstrLocId, usize)],
@@ -29,11 +29,12 @@ fn moved_pairs(
     Ok(made)
 }
 
-/// Appends the raw body of a function, and its pairs with places behind the old bytes.
+/// Appends the raw body of a function to the bytes, and its location pairs to the list. Their
+/// places count from the first of all bytes.
 ///
 /// # Errors
 ///
-/// Those of `CodeEntry`. Both are then as before.
+/// Those of `CodeEntry`. Both lists are then unchanged.
 fn append_entry(
     function: &LocalFunction,
     module: &Module,
@@ -73,8 +74,8 @@ fn append_entry(
 ///
 /// # Errors
 ///
-/// `UnknownSequence` where the function has no entry; else the first fault of its sequences in walk
-/// order; `TooLarge` where the number of instructions doesn't fit 64 bits; else the refusals of
+/// `UnknownSequence` if the function has no entry; else the first fault of its sequences in walk
+/// order; `TooLarge` if the number of instructions doesn't fit 64 bits; else the errors of
 /// `LocalFunction::emit_locals` and then of `LocalFunction::emit_instructions`; or `Memory`.
 #[derive(Clone, Copy)]
 pub struct CodeEntry<'a> {

@@ -8,13 +8,13 @@ use walrus_ir::WalkError;
 /// Why a body isn't rewritten.
 #[derive(Clone, Copy, Debug, PartialEq, Eq, Error)]
 pub enum RewriteError {
-    /// It isn't parsed.
+    /// The body isn't accepted: its first fault, and the place.
     #[error(transparent)]
     Parse(ParseFailure),
-    /// No facts about it are found.
+    /// The tree of the function can't be walked over, so no facts about it are found.
     #[error(transparent)]
     Walk(WalkError),
-    /// It isn't written.
+    /// The function can't be written.
     #[error(transparent)]
     Emit(EmitError),
 }

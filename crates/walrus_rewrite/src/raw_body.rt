@@ -9,8 +9,8 @@ use walrus_body::{EmitError, IdsToIndices, LocalFunction};
 use walrus_ir::{IdHashMap, IdHashSet, InstrLocId, LocalId, Module};
 use wasm_encode::FunctionEncoder;
 
-/// An encoder that holds the declarations of a function that uses these locals, and the number of
-/// each local.
+/// An encoder with the declarations of the locals of a function that uses these, and the number of
+/// each local: its new index in the function.
 ///
 /// # Errors
 ///
@@ -65,8 +65,8 @@ pub(crate) fn raw_body(
     }
 }
 
-/// The same with the location of each operator, and its place in the raw body, behind what stands in
-/// the list.
+/// The same with the location pairs: each operator's location and its place in the raw body are
+/// appended to the list.
 ///
 /// # Errors
 ///

@@ -22,7 +22,7 @@ use std::alloc::AllocError;
 use walrus_body::{FunctionBody, IdsToIndices, IndicesToIds, LocalFunction, OpCheck, ParseFailure};
 use walrus_ir::{FunctionId, Instr, InstrLocId, LocalId, Module, TypeId};
 
-/// Appends both, or nothing where memory runs out.
+/// Appends the bytes and the pairs, or neither if memory runs out.
 pub(crate) fn append_both(
     dst: &mut Vec<u8>,
     map: &mut Vec<(InstrLocId, usize)>,
@@ -44,8 +44,8 @@ pub(crate) fn append_both(
 ///
 /// # Errors
 ///
-/// `Walk` where facts about the function can't be gathered, and then `Emit` where it can't be
-/// written. `dst` is then as before.
+/// `Walk` if the tree of the function can't be walked over, else `Emit` if it can't be written.
+/// `dst` is then unchanged.
 pub fn append_raw_body(
     function: &LocalFunction,
     module: &Module,
@@ -75,12 +75,12 @@ pub fn append_raw_body(
     }
 }
 
-/// The same with the location pairs of the function: the places count from the first byte that is
-/// appended.
+/// The same with the location pairs of the function, which are appended to `map`. Their places
+/// count from the first byte that is appended.
 ///
 /// # Errors
 ///
-/// Those of `append_raw_body`. `dst` and `map` are then as before.
+/// Those of `append_raw_body`. `dst` and `map` are then unchanged.
 pub fn append_raw_body_with_map(
     function: &LocalFunction,
     module: &Module,
@@ -109,11 +109,11 @@ pub fn append_raw_body_with_map(
     }
 }
 
-/// Appends the raw body of the function that a parse answered.
+/// Appends the raw body of the function that a parse returned.
 ///
 /// # Errors
 ///
-/// `Parse` where it answered none, else those of `append_raw_body`.
+/// `Parse` if the parse failed, else those of `append_raw_body`.
 fn finish(
     parsed: Result<LocalFunction, ParseFailure>,
     module: &Module,
@@ -140,7 +140,7 @@ fn finish(
 ///
 /// # Errors
 ///
-/// `Parse` where the parse answered none, else those of `append_raw_body_with_map`.
+/// `Parse` if the parse failed, else those of `append_raw_body_with_map`.
 fn finish_with_map(
     parsed: Result<LocalFunction, ParseFailure>,
     module: &Module,
@@ -166,15 +166,41 @@ fn finish_with_map(
 }
 
 /// Rewrites a function's body: parses it as `LocalFunction::parse` does, and appends to `dst` the
-/// declarations of the function's locals and the shortest spellings of what the parse made of its
-/// operators, with the new indices of `out`. Each operator's location goes to the list `map`, if
-/// there is one, with its place, counted from the first byte that is appended. Answers the function.
+/// declarations of the function's locals and the operators of the normal form, in their shortest
+/// encodings, with the new indices of `out`. If there is a list `map`, each operator's location is
+/// appended to it, with its place, counted from the first byte that is appended. Returns the
+/// function.
 ///
 /// # Errors
 ///
-/// `Parse` with the body's first fault and its place; else `Emit` where a used local, a number or a
-/// count is missing or too large; or the `Memory` of these and of `Walk`. `dst` and `map` are then as
-/// before.
+/// `Parse` with the body's first fault and its place; else `Emit` if a used local or a new index is
+/// missing, or a count is too large; or `Memory` of these or of `Walk`. `dst` and `map` are then
+/// unchanged.
+///
+/// # Example
+///
+/// The location of the operator at `place` of the new body, as in `tests_run/src/locating.rt`:
+///
+/// ```text
+/// let mut instrs = Vec::new(alloc);
+/// let mut raw = Vec::new(alloc);
+/// let mut pairs = Vec::new(alloc);
+/// rewrite_body(
+///     module,
+///     indices,
+///     FunctionId::new(0),
+///     TypeId::new(1),
+///     args,
+///     body,
+///     None::<&fn(&usize) -> InstrLocId>,
+///     AcceptAll,
+///     &mut instrs,
+///     out,
+///     &mut raw,
+///     Some(&mut pairs),
+/// )?;
+/// locate(&pairs, place)
+/// ```
 pub fn rewrite_body<V: OpCheck, F: Fn(&usize) -> InstrLocId>(
     module: &Module,
     indices: &IndicesToIds,
@@ -194,9 +220,9 @@ pub fn rewrite_body<V: OpCheck, F: Fn(&usize) -> InstrLocId>(
     requires fits { body.start + length body.bytes.now < 2 ^ 64 }
     requires may_ask { MayAsk F.pre on_instr_pos (body.start + body.ops)
         (body.start + length body.bytes.now) }
-    // What is appended is the raw body of the normal form of the accepted body: for every list of
+    // The appended bytes are the raw body of the accepted body's normal form: for every list of
     // outcomes and bound on turns it executes the operators of the source and ends alike, and its
-    // pairs hold their locations. What is refused is so for the first reason.
+    // pairs contain their locations. A refusal is for the first reason.
     ensures rewritten { IfOk result (λ made. Rewrites F.Fn (body_input «module».now indices.now
         id ty body.entry on_instr_pos.entry V.check (V.state validator)) (record {
           to = numbers_by «module».now.types out.now [];
@@ -209,8 +235,7 @@ pub fn rewrite_body<V: OpCheck, F: Fn(&usize) -> InstrLocId>(
           types = «module».now.locals;
           args = args.items;
         })) }
-    // No accepted body is refused by the parse, want of memory aside, and each first fault is the
-    // answer.
+    // Unless memory runs out, the parse refuses no accepted body, and each first fault is returned.
     ensures each_body { (locations : Option (ℕ → ℕ)) (b : Body Occurrence)
         → BothOrNone on_instr_pos.entry locations
         → Accepted (body_setting «module».now indices.now id ty body.entry V.check
@@ -223,7 +248,7 @@ pub fn rewrite_body<V: OpCheck, F: Fn(&usize) -> InstrLocId>(
         → IsErr result × IfErr result (λ e. WantsMemory e ⊎ (e ≡ Parse f)) }
     ensures same_bytes { OnErr result (dst.new.items ≡ dst.old.items) }
     ensures same_pairs { OnErr result (KeepsPairs map.entry map.exit) }
-    // The function is as a parse gives it.
+    // The arguments of the function are these.
     ensures args { IfOk result (λ made. made.args ≡ args.items) }
     ensures range { IfOk result (λ made. made.original_range
         ≡ Some (range_at body.entry.start (length body.entry.bytes.now)

@@ -21,7 +21,7 @@ use Rattle.walrus_maps.proofs.NumberingLemmas.{get-numbered}
 use Rattle.walrus_numbering.specs.NumberMaps.{fitting, numbers_by}
 use Rattle.walrus_run.specs.Demo.{demo_types, demo_indices, demo_numbers}
 
--- what was put into a map is in it
+-- a value that was put into a map is in it
 pub locals_in-with_locals : (function : ℕ) (ids : List ℕ) (m : IndicesToIds) → locals_in (with_locals function ids m) function ≡ ids
 locals_in-with_locals function ids m = grind (gets, rules)
 
@@ -125,7 +125,7 @@ none_numbered id = let none : get (from_entries {R = nat_cmp} []) id ≡ None = 
 all_are_demo : (m : IdsToIndices) → IsEmptyMap m → numbers_by demo_types (all_numbered m) [] ≡ demo_numbers
 all_are_demo m h = λ i. record { number_of = same_numbers _ _ (number_is m h) i; local_number = λ id. none_numbered id i; balanced = demo_numbers.balanced }
 
--- what was numbered in three steps
+-- ids that were numbered in three steps
 pub demo_numbers_are : (m n o p : IdsToIndices) → IsEmptyMap m → n ≡ types_numbered m → o ≡ functions_numbered n → p ≡ storage_numbered o → numbers_by demo_types p [] ≡ demo_numbers
 demo_numbers_are m n o p none types functions storage =
     ap (λ q. numbers_by demo_types q []) (storage ∙ ap storage_numbered (functions ∙ ap functions_numbered types)) ∙ all_are_demo m none

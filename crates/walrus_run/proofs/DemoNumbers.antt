@@ -119,7 +119,7 @@ has_block (FuncType n) s e = let id = bound (id_at demo_environment Types n) (fu
 pub locals_are : get demo_indices.locals 0 ≡ Some (0 ∷ 1 ∷ 2 ∷ 3 ∷ [])
 locals_are = grind (gets, rules)
 
--- ---- what has numbers
+-- ---- ids with numbers
 
 pub has_indices : (space : Space) (n id : ℕ) → demo_environment.id_of space n ≡ Ok id → IsOk ((numbers_in_32_bits demo_numbers).number_of space id)
 has_indices space n id at = ap is_ok (has_index space n id at)

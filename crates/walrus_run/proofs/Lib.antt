@@ -1,10 +1,11 @@
--- the demo module's maps and numbers
+-- the demo module's maps; each id of an old index has a number; the used locals are there, can be declared, and have numbers
 mod DemoMaps
 mod DemoNumbers
 mod DemoLocals
--- what is parsed, and the bytes written for it
+-- an accepted body over the demo module can be written, and the result is that of the accepted body
 mod RewritingLemmas
--- the operators of an accepted body are read and named
+-- an operator of an accepted body has its name in any frames; the remaining operators are read one by one; the result is that
+-- of the accepted body
 mod NamesAnywhere
 mod Reading
 mod ReadBodies

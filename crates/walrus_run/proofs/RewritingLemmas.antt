@@ -1,4 +1,4 @@
--- Bodies in the demo module: what is parsed can be written, and a result is that of an accepted body.
+-- Bodies in the demo module: a parsed body can be written, and a result is that of an accepted body.
 use Rattle.std.specs.Prelude.{◌≡◌, ◌⊎◌, ℕ, List, [], ◌∷◌, length, drop, map, Option, None, Ok}
 use Rattle.std.specs.Borrow.{Bor}
 use Rattle.std.specs.Fn.{Shared}
@@ -56,7 +56,7 @@ demo_tree b = body_tree demo_environment b
 
 -- ---- an accepted body can be written
 
--- the operators that bytes list have spellings
+-- the operators that bytes list have encodings
 listed_texts : (xs : List Occurrence) (place : ℕ) (bytes rest : List ℕ) → Lists (map placed xs) place bytes rest → AllByRecursion HasText xs
 listed_texts [] place bytes rest l = tt
 listed_texts (x ∷ xs) place bytes rest l = ((l.1, l.4), listed_texts xs _ l.2 rest l.5)

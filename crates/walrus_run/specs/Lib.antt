@@ -1,6 +1,6 @@
--- the module in which the program parses, and the bytes written for a body
+-- the demo module, and the numbers that are written for it; the contract of rewriting over it
 pub mod Demo
 pub mod Rewriting
--- bodies with their names
+-- the environment in which a body is read, and the names and places of its operators; naming without the rules of labels
 pub mod NamedBodies
 pub mod Namers

@@ -18,7 +18,7 @@ pub use program::run_words;
 pub use rewriting::rewrite_demo;
 pub use walrus_body::{
     law_accepted_again, law_any_locations, law_emission_faults, law_empty_goes_on, law_executions,
-    law_inverse_undoes, law_locations, law_read_back,
+    law_inverse_undoes, law_locations, law_read_back, law_validity,
 };
 pub use walrus_machine::{
     Ending, Event, NamedBlockType, NamedCast, NamedCatch, NamedImmediates, NamedIndex, NamedMemArg,

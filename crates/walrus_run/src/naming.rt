@@ -22,7 +22,7 @@ use walrus_machine::{
 };
 use wasm_ops::{BlockType, BrTable, CatchList, Immediates, Operator, RawCast, RawMemArg, Space};
 
-/// What is needed to name the operators of a function's body.
+/// The environment in which the operators of a function's body are named.
 #[derive(Clone, Copy)]
 pub(crate) struct Namer<'a> {
     /// The allocator of the names.
@@ -237,8 +237,8 @@ impl Namer<'_> {
         }
     }
 
-    /// The name of an operator. Its labels are not looked up: they are labels of open constructs if
-    /// a parse accepts the operator.
+    /// The name of an operator, or the first fault of its immediates. Its labels are not looked up:
+    /// they are labels of open constructs if a parse accepts the operator.
     pub fn name(&self, operator: &Operator<'_>) -> Result<NamedOp, ParseError>
         ensures { GivesOrMemory named_operation result
             (translate (anywhere (env_of self.now)) (meaning operator.now)) }

@@ -125,13 +125,13 @@ fn answer(alloc: Global, words: &[String]) -> Result<String, Stop> {
 
 /// Runs the program with these arguments, which don't include its own name, and returns its status.
 ///
-/// `rewrite HEX` prints the operators that are written for the body that HEX spells, in lower case,
-/// and a line end to `out`; the status is 0. `trace TURNS OUTCOMES HEX` prints the run of the body:
-/// a line for each event, and then how it ended. The line of an event has the place of the operator
-/// and its bytes; or the place of a construct's opener, `taken`, and the number of the clause that
-/// caught an exception. If the body is refused, `refused: ` with the fault's name and its place is
-/// printed to `err`, and the status is 1. For any other arguments the usage is printed to `err`,
-/// and the status is 2. If a write fails, the status is 1.
+/// `rewrite HEX` prints the operators that are written for the body that HEX encodes, in lower
+/// case, and a line end to `out`; the status is 0. `trace TURNS OUTCOMES HEX` prints the run of the
+/// body: a line for each event, and then how it ended. The line of an event has the place of the
+/// operator and its bytes; or the place of a construct's opener, `taken`, and the number of the
+/// clause that caught an exception. If the body is refused, `refused: ` with the fault's name and
+/// its place is printed to `err`, and the status is 1. For any other arguments the usage is printed
+/// to `err`, and the status is 2. If a write fails, the status is 1.
 ///
 /// TURNS is a decimal number. OUTCOMES is `-` for none, or items with commas between them: `g` goes
 /// on, `t` traps, `1` and `0` say whether a branch is taken or a condition holds, `e` with a number

@@ -29,7 +29,7 @@ fn behind(alloc: Global, encoder: &FunctionEncoder, count: usize) -> Result<Vec<
     Ok(bytes)
 }
 
-/// The operators of a function that a parse in the demo module made, with the locals numbered by
+/// The operators of a function that was parsed in the demo module, with the locals numbered by
 /// their use.
 fn written_operators(
     alloc: Global,

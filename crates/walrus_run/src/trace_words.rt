@@ -1,4 +1,4 @@
-//! Turns and outcomes, as the program's arguments spell them.
+//! Turns and outcomes in the program's arguments.
 
 use std::alloc::{AllocError, Global};
 use std::collections::BTreeSet;
@@ -15,7 +15,7 @@ fn digits(text: &str) -> Option<u64> {
     text.parse().ok()
 }
 
-/// The number of turns that an argument spells; none if it isn't a number.
+/// The number of turns in an argument; none if it isn't a number.
 pub(crate) fn turns(word: &str) -> Option<u64> {
     digits(word)
 }
@@ -37,7 +37,7 @@ fn tags(alloc: Global, text: &str) -> Result<Option<BTreeSet<TagId>>, AllocError
     Ok(Some(tags))
 }
 
-/// The outcome that an item spells; none if it isn't an outcome.
+/// The outcome in an item; none if it isn't an outcome.
 fn outcome(alloc: Global, item: &str) -> Result<Option<Outcome>, AllocError> {
     let outcome = match item {
         "g" => Some(Outcome::Go),
@@ -59,8 +59,8 @@ fn outcome(alloc: Global, item: &str) -> Result<Option<Outcome>, AllocError> {
     Ok(outcome)
 }
 
-/// The outcomes that an argument spells: `-` for no outcomes, otherwise items with a comma between
-/// them. None if the argument doesn't spell outcomes.
+/// The outcomes in an argument: `-` for no outcomes, otherwise items with a comma between
+/// them. None if the argument isn't of this form.
 pub(crate) fn outcomes(alloc: Global, word: &str) -> Result<Option<Vec<Outcome>>, AllocError> {
     let mut outcomes = Vec::new(alloc);
     if word == "-" {

@@ -15,3 +15,4 @@ pub mod Rewritings
 pub mod Pairs
 pub mod Premises
 pub mod LocalNumbers
+pub mod ValidBodies

@@ -86,7 +86,7 @@ pub data Action : Type 0 where
   Rethrow : (n : ℕ) → Action
   TailCall : Action
 
--- a clause of `try_table`: its tag, or none where it catches all, and its label
+-- a clause of `try_table`: its tag, or none if it catches all, and its label
 pub record Clause : Type 0 where
   pub tag : Option ℕ
   pub label : ℕ

@@ -24,8 +24,8 @@ TextOperation = Operation Target InstrSeqType
 abbrev pub TextTranslation : Type 0 → Type 0 → Type 0
 TextTranslation M C = Translation Target InstrSeqType M C EmitError
 
--- A way of writing: how each operator is written, and which types of sequences are balanced (their results are their parameters),
--- so that an `else` may be left out.
+-- A way of writing: how each operator is written, and which types of sequences are balanced (their results are their
+-- parameters), so that an `else` may be left out.
 pub record Writing (M C : Type 0) : Type 0 where
   pub translation : TextTranslation M C
   pub balanced : InstrSeqType → Bool
@@ -36,7 +36,7 @@ abbrev pub has_none : {S I : Type 0} → Items S I → Bool
 has_none no_items = true
 has_none (item i ss r) = false
 
--- The head of the consequent, where one `end` closes both sequences of an `if`: the `end` has the location of the alternative's
+-- The head of the consequent, if one `end` closes both sequences of an `if`: the `end` has the location of the alternative's
 -- end, and that of the consequent's only if the alternative's is the default location.
 abbrev pub closed_once : Head → Head → Head
 closed_once h g = record { type = h.type; end_location = last_location h.end_location g.end_location }
@@ -112,7 +112,7 @@ closers _ cs ss = []
 abbrev pub written : {M C : Type 0} → TextTranslation M C → TextOperation → ℕ → Result (Located (Operation M C)) EmitError
 written w o l = translate w o >>= λ x. Ok (at_location x l)
 
--- the same translation, where each block type is this one
+-- the same translation, with this block type for each
 abbrev pub typed : {M C : Type 0} → TextTranslation M C → InstrSeqType → Translation Target (Unit {0}) M C EmitError
 typed w t = record {
   index = w.index;
@@ -195,7 +195,7 @@ then_by f = record {
   count = f.count;
 }
 
--- from ids and types of sequences to names, where the module has the types
+-- from ids and types of sequences to names, if the module has the types
 abbrev pub names : Typing → Translation ℕ InstrSeqType ℕ Signature EmitError
 names m = record {
   index = λ space n. Ok n;

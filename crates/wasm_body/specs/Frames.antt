@@ -19,7 +19,7 @@ Rule A = List (Frame A) → Marked A → Type 0
 
 -- ---- a rule along a tree
 
--- The rule holds at each operator of a sequence, where these are the frames around the operators, the sequence's own included.
+-- The rule holds at each operator of a sequence, inside these frames, the sequence's own included.
 abbrev mutual
   pub Follows : {A : Type 0} → Rule A → List (Frame A) → Sequence A → Type 0
   Follows R fs Empty = Unit {0}
@@ -85,7 +85,7 @@ abbrev pub delegate_moves : {A : Type 0} → List (Frame A) → Frame A → Opti
 delegate_moves fs (TryBody a) = Some fs
 delegate_moves fs _ = None
 
--- The frames after an operator, or none where the operator is not allowed. An operator that opens a construct adds a frame;
+-- The frames after an operator, or none if the operator is not allowed. An operator that opens a construct adds a frame;
 -- `else`, `catch` and `catch_all` change the innermost frame; an operator that closes a construct removes it.
 abbrev pub moves : {A : Type 0} → Control → A → List (Frame A) → Option (List (Frame A))
 moves c a [] = None

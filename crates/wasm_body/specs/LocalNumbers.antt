@@ -48,7 +48,7 @@ uses_local t id = among id (locals_of t)
 
 -- ---- the locals that are declared, and their order
 
--- by type, and by id where the types are the same
+-- by type, and by id if the types are the same
 abbrev pub local_order : Local → Local → Ordering
 local_order l m = ordering_then (type_order l.0 m.0) (nat_cmp l.1 m.1)
 
@@ -105,7 +105,7 @@ abbrev pub declarations : Numbers → List (ℕ × ValType ℕ) → Result (List
 declarations to rs =
     unless (nat_lt (length rs) (2 ^ 32) && list_all (λ run. nat_lt run.0 (2 ^ 32)) rs) TooLarge >>= λ _. each (declaration to) rs
 
--- The declarations of these locals after so many arguments. The number of each argument and local has to fit 32 bits.
+-- The declarations of these locals after this number of arguments. The number of each argument and local has to fit 32 bits.
 abbrev pub declared : Numbers → (arguments : ℕ) → List Local → Result (List (ℕ × ValType ℕ)) EmitError
 declared to arguments locals =
     unless (nat_le (arguments + length locals) (2 ^ 32)) TooLarge >>= λ _. declarations to (runs (types_of locals))

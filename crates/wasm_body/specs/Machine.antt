@@ -27,7 +27,7 @@ pub data Outcome : Type 0 where
   Entry : (k : ℕ) → Outcome  -- the entry of a branch table
 
 -- an operator was executed; or the construct that an operator opened caught an exception, by its clause with this number,
--- counted from 0, and with this tag, or none where the clause catches all
+-- counted from 0, and with this tag, or none if the clause catches all
 pub data Event (A : Type 0) : Type 0 where
   Executed : (shown : A) → Event A
   Taken : (opener : A) (clause : ℕ) (tag : Option ℕ) → Event A
@@ -139,7 +139,7 @@ branch again go n [] outcomes = ends Returned
 branch again go zero (l ∷ ls) outcomes = arrive again go l.construct l ls outcomes
 branch again go (suc n) (l ∷ ls) outcomes = branch again go n ls outcomes
 
--- the label of an entry of a branch table: the default where there is no such entry
+-- the label of an entry of a branch table: the default if there is no such entry
 abbrev pub target : List ℕ → ℕ → ℕ → ℕ
 target targets default k = slice_index_or targets k default
 
@@ -201,7 +201,7 @@ responds_as tags Try None behind = try_responds tags (seek (catches tags) 0 0 be
 abbrev pub responds : {A : Type 0} → Tags → Label A → Response A
 responds tags l = responds_as tags l.construct l.caught l.behind
 
--- A clause that catches is an event, also where no turn is left for its branch. A handler remembers the tags. `outward n` goes
+-- A clause that catches is an event, also if no turn is left for its branch. A handler remembers the tags. `outward n` goes
 -- on outwards, from label n on, counted from outside the construct.
 abbrev pub react : {A : Type 0} → (again go : From A) → (outward : ℕ → Run A) → Tags → Label A → List (Label A) → List Outcome → Response A → Run A
 react again go outward tags l ls outcomes Passes = outward 0
@@ -228,7 +228,7 @@ rethrow raised (Some tags) = raised tags
 
 -- ---- asking for an outcome: a missing one, or one of another kind, ends the run before the operator is executed
 
--- Go, Trap where the operator may trap, or Raise of tags that it may throw
+-- Go, Trap if the operator may trap, or Raise of tags that it may throw
 abbrev pub ask : {A : Type 0} → (may_raise : Tags → Bool) → (may_trap : Bool) → A → (List Outcome → Run A) → (Tags → List Outcome → Run A) → List Outcome → Run A
 ask may_raise may_trap a on raised [] = ends OutcomesOut
 ask may_raise may_trap a on raised (Go ∷ outcomes) = on outcomes
@@ -292,7 +292,7 @@ other_at go l ls outcomes (x ∷ xs) = cond (is_else x.control) (go xs (l ∷ ls
 abbrev pub other_way : {A : Type 0} → (go : From A) → Label A → List (Label A) → List Outcome → Found A → Run A
 other_way go l ls outcomes f = other_at go l ls outcomes f.rest
 
--- An opener opens a label. Only `if` asks for an outcome: Way, where true enters the consequent.
+-- An opener opens a label. Only `if` asks for an outcome: Way. True enters the consequent.
 abbrev pub enter : {A : Type 0} → (go : From A) → Construct → A → List (Marked A) → List (Label A) → List Outcome → Run A
 enter go Block a rest ls outcomes = then (Executed a) (go rest (label a Block rest ∷ ls) outcomes)
 enter go Loop a rest ls outcomes = then (Executed a) (go rest (label a Loop rest ∷ ls) outcomes)
@@ -320,7 +320,7 @@ straight again zero rest ls outcomes = ends Returned
 straight again (suc n) [] ls outcomes = ends Returned
 straight again (suc n) (x ∷ xs) ls outcomes = step again (straight again n) x.control x.shown xs ls outcomes
 
--- a run with this many turns left, where `bound` gives a bound of the operators of a turn from the place where the turn begins
+-- a run with this many turns left; `bound` gives a bound on the operators of a turn, from the place where the turn begins
 abbrev pub bounded_run : {A : Type 0} → (bound : List (Marked A) → ℕ) → (turns : ℕ) → From A
 bounded_run bound zero rest ls outcomes = straight (λ r l o. ends TurnsOut) (bound rest) rest ls outcomes
 bounded_run bound (suc turns) rest ls outcomes = straight (bounded_run bound turns) (bound rest) rest ls outcomes

@@ -112,7 +112,7 @@ abbrev pub tag_type : Environment → ℕ → Result Signature ParseError
 tag_type env tag = some_or (slice_get env.tags tag) UnknownId >>= λ type. function_type env type
 
 -- The module has the type of the sequence that an operator opens. The sequence of a construct has the parameters and results
--- of its block type. A handler has the parameters of its tag, or none where it catches all, and the results of its `try`.
+-- of its block type. A handler has the parameters of its tag, or none if it catches all, and the results of its `try`.
 abbrev pub has_types : Environment → List (Frame Occurrence) → Control → NamedOperation → Result (Unit {0}) ParseError
 has_types env fs (Opens construct) o = has_pick env (block_signature o)
 has_types env fs (Catch tag) o = tag_type env tag >>= λ s. has_pick env (signature s.parameters (construct_results fs))

@@ -26,7 +26,7 @@ pub record Typing : Type 0 where
 abbrev pub is_balanced : Signature → Bool
 is_balanced s = same_types s.parameters s.results
 
--- where the module has the type
+-- if the module has the type
 abbrev pub is_balanced_type : Option Signature → Bool
 is_balanced_type (Some s) = is_balanced s
 is_balanced_type None = false

@@ -17,7 +17,7 @@ abbrev pub pairs_from : (place : ℕ) → List (Located RawOperation) → List P
 pairs_from place [] = []
 pairs_from place (x ∷ xs) = (x.location, place) ∷ pairs_from (place + length (short x.op)) xs
 
--- The location pairs of a tree with these numbers, where `before` bytes come before its own; or the first fault in the order of
+-- The location pairs of a tree with these numbers, if `before` bytes come before its own; or the first fault in the order of
 -- writing.
 abbrev pub tree_pairs : Numbers → FunctionTree → (before : ℕ) → Result (List Pair) EmitError
 tree_pairs to t before = numbered_text to t >>= λ xs. Ok (pairs_from before xs)

@@ -54,19 +54,16 @@ abbrev pub written_if : (is_short : Bool) → Located NamedOperation → Sequenc
 written_if true a b l c m rest = IfThen a b (end_at (last_location l m)) rest
 written_if false a b l c m rest = IfElse a b (else_at l) c (end_at m) rest
 
--- Sequence by sequence, in this order of clauses, where `balanced` says of an operator that opens a construct whether the type
--- of its sequences is balanced:
--- An empty sequence stays empty.
--- An instruction that is not a construct is written, or isn't, as above.
--- A `block`, `loop` or `try_table` is written as it is, and its `end` at the location of the source's `end`.
--- An `if` without `else` is written as it is. If it is balanced its `end` has the location of the source's `end`. If it isn't, it
--- gets an empty `else`: that has the location of the source's `end`, and the `end` after it has the default location.
--- An `if` with `else` is written as it is, its `else` and its `end` at the locations of the source's. But if it is balanced, and
--- nothing of its alternative is written, it is written without `else`, its `end` at the location of the source's `end`; only if
--- that is the default location, at the location of the source's `else`.
--- A `try` with handlers is written as it is, and then its clauses.
--- A `try` with `delegate` is written as it is, and its `delegate`, of the same depth, at the default location.
--- Clauses end with an `end`, at the location of the source's; a `catch` of a tag and a `catch_all` are written at theirs.
+-- Sequence by sequence, in this order of clauses; `balanced` says of an operator that opens a construct whether the type of its
+-- sequences is balanced: An empty sequence stays empty. An instruction that is not a construct is written, or isn't, as above.
+-- A `block`, `loop` or `try_table` is written as it is, and its `end` at the location of the source's `end`. An `if` without
+-- `else` is written as it is. If it is balanced its `end` has the location of the source's `end`. If it isn't, it gets an empty
+-- `else`: that has the location of the source's `end`, and the `end` after it has the default location. An `if` with `else` is
+-- written as it is, its `else` and its `end` at the locations of the source's. But if it is balanced, and nothing of its
+-- alternative is written, it is written without `else`, its `end` at the location of the source's `end`; only if that is the
+-- default location, at the location of the source's `else`. A `try` with handlers is written as it is, and then its clauses. A
+-- `try` with `delegate` is written as it is, and its `delegate`, of the same depth, at the default location. Clauses end with
+-- an `end`, at the location of the source's; a `catch` of a tag and a `catch_all` are written at theirs.
 abbrev mutual
   pub rewritten : (NamedOperation → Bool) → Sequence (Located NamedOperation) → Sequence (Located NamedOperation)
   rewritten balanced Empty = Empty

@@ -17,7 +17,7 @@ abbrev pub deeper : Target → Target
 deeper (Depth n) = Depth (suc n)
 deeper Outside = Outside
 
--- the target that a place becomes, where the sequences at these places are open, innermost first
+-- the target that a place becomes, if the sequences at these places are open, innermost first
 abbrev pub target_in : List ℕ → ℕ → Target
 target_in [] place = Outside
 target_in (p ∷ ps) place = if place == p then Depth 0 else deeper (target_in ps place)

@@ -140,7 +140,9 @@ impl From<IndexError> for ParseError {
 #[derive(Clone, Copy, Debug, PartialEq, Eq, Error)]
 #[error("{error} at {at}")]
 pub struct ParseFailure {
+    /// What is wrong.
     pub error: ParseError,
+    /// The place: the byte offset of the operator that is refused, or at which reading stopped.
     pub at: usize,
 }
 

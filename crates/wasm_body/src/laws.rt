@@ -3,6 +3,7 @@ ghost use Rattle.wasm_body.specs.ExecutionLaws.{NamedExecutionsKept, ExecutionsK
 ghost use Rattle.wasm_body.specs.LocationLaws.{PlacesIncrease, PairsMatchText, TextIsRewritten, NamedLocationsAreHonest, LocationsAreHonest};
 ghost use Rattle.wasm_body.specs.ReadBack.{ReadBack, NormalFormAgain, SameBytes, InverseUndoes, AcceptedAgain};
 ghost use Rattle.wasm_body.specs.TextLaws.{LawfulAreTyped, HaveTexts, NormalAgain, OneBody, OneSequence, SameTexts};
+ghost use Rattle.wasm_body.specs.ValidityLaws.{NamedValidityKept, ValidityKept};
 ghost use Rattle.wasm_body.specs.LocalNumbers.{OneDeclared, OneLocalEach, PlacesAreNumbers, RunsAreMaximal};
 ghost use Rattle.wasm_body.specs.EmissionFaults.{EmissionFaults, DeclarationFaults};
 ghost use Rattle.wasm_body.specs.Parsing.Laws.{OneBodyAccepted, AcceptedHasNoFault, OneFirstFault, AcceptedOrFault, LongestFront, AnyLocations};
@@ -75,13 +76,13 @@ pub fn law_empty_goes_on()
 /// strictly increase. The pairs of a body's normal form are one for each operator of its text, with
 /// the operator's location, if the numbers and the names are those of one module. That text is the
 /// text of the rewritten body: an operator is left out, or written as it is, at its location; an
-/// `else`, a clause or an `end` is written at the location of the one of the source in its place; an
-/// `else` that says nothing is left out, and its `if` is closed at the location of the source's
-/// `end`, or of the source's `else` where that is the default location; an `else` that is added has
-/// the location of the source's `end`; and the `end` after it, and each `delegate`, have the default
-/// location. Whatever comes before the bytes, for each event of a run of the text the pair at the
-/// place of its operator has the location of the operator of the same event in the source's run.
-/// (The operator of an exception that is caught is the one that opened the construct.)
+/// `else`, a clause or an `end` is written at the location of the one of the source in its place;
+/// an `else` that says nothing is left out, and its `if` is closed at the location of the source's
+/// `end`, or of the source's `else` if that is the default location; an `else` that is added has
+/// the location of the source's `end`; and the `end` after it, and each `delegate`, have the
+/// default location. Whatever comes before the bytes, for each event of a run of the text the pair
+/// at the place of its operator has the location of the operator of the same event in the source's
+/// run. (The operator of an exception that is caught is the one that opened the construct.)
 pub fn law_locations()
     ensures increase { PlacesIncrease }
     ensures of_text { PairsMatchText }
@@ -115,7 +116,7 @@ pub fn law_accepted_again<V, W>()
 {}
 
 /// The locals that a function declares, and their order, are unique. No two locals have the same
-/// number; and where no argument is named twice, the number of a local is its place in the list of
+/// number; and if no argument is named twice, the number of a local is its place in the list of
 /// the arguments followed by the declared locals. Declarations are the maximal runs of one type.
 pub fn law_local_numbers()
     ensures one_declared { OneDeclared }
@@ -131,4 +132,14 @@ pub fn law_local_numbers()
 pub fn law_emission_faults()
     ensures operators { EmissionFaults }
     ensures declarations { DeclarationFaults }
+{}
+
+/// What was valid stays valid: the normal form of a body has a text, and if the validation algorithm of
+/// the standard accepts the operators of the body, it accepts those of the text, under any rules for
+/// operands and in any function. This holds for each typed body of named operators, and so for every
+/// accepted body. `T` is what is known of an operand. Nothing is said the other way: a body that is
+/// refused for code that can't be reached may have a valid text.
+pub fn law_validity<T>()
+    ensures named { NamedValidityKept T }
+    ensures accepted { ValidityKept T }
 {}

@@ -18,7 +18,7 @@ entries_more : (raws : List (List ℕ)) (raw : List ℕ) → entries (raws ++ ra
 entries_more [] raw = append-nil (entry raw)
 entries_more (r ∷ raws) raw = ap (λ (x : List ℕ). entry r ++ x) (entries_more raws raw) ∙ sym (append_assoc (entry r) (entries raws) (entry raw))
 
--- these bodies come first, and then what is left
+-- these bodies come first, and then the bytes that are left
 abbrev pub StandBefore : (end : ℕ) → (text : List ℕ) → List BodyAt → (left : List ℕ) → Type 0
 StandBefore end text [] left = text ≡ left
 StandBefore end text (b ∷ bs) left =

@@ -84,7 +84,7 @@ groups_leave bytes v rest e =
     let second = many_leaves group n.0.0 group_leaves n.0.1 v rest n.2 in
     (first.0 ++ second.0, behind_both bytes first.0 n.0.1 second.0 rest first.1 second.1)
 
--- ---- what is left, by how many bytes are before it
+-- ---- the bytes that are left, by the number of bytes before them
 
 drop_front : (front rest : List ℕ) → drop (length front) (front ++ rest) ≡ rest
 drop_front [] rest = refl

@@ -1,13 +1,15 @@
--- numbers, and declarations of locals
+-- reading takes bytes from the front, so that the bytes that are left are an end of those before
 pub mod NumberLemmas
 pub mod Leaving
+-- declarations of locals, group by group; indices of locals, one more at a time
 pub mod LocalLemmas
 pub mod SpaceLemmas
--- what doesn't change of a module
+-- the parts of a module that don't change; the contracts of `rewrite_body` and `parse` for one body, rewritten or refused
 pub mod ModuleLemmas
 pub mod RewritingLemmas
 pub mod RefusalLemmas
--- what is written
+-- the bytes that are written, piece by piece: to a writer; one body after the other; new sections in their places; one section
+-- after the other
 pub mod WritingLemmas
 pub mod CodeLemmas
 pub mod NewSectionLemmas

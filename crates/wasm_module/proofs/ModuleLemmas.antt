@@ -1,4 +1,4 @@
--- What doesn't change of a module while its bodies are rewritten.
+-- The parts of a module that don't change while its bodies are rewritten.
 use Rattle.std.proofs.Common.{◌≡◌, ℕ, List, [], ◌∷◌, ◌++◌, Result, Ok, Err, OnOk, refl, sym, ap, ◌∙◌, append_assoc}
 use Rattle.std.proofs.lemmas.List.{append-nil}
 use Rattle.walrus_ir.specs.declared.val_type.ValType.{ValType}

@@ -110,7 +110,7 @@ pub stands_behind : (first middle second : ℕ) → first < middle → second �
 stands_behind first middle second p q = ap (λ (b : Bool). b && nat_lt middle second) (lt-ltb first middle p) ∙ le-ltb middle second q
 
 module _ (first second : ℕ) (gs : List Given) (i : ℕ) (g : Given) (within : i < length gs) (is : g ≡ get_or gs i g) where
-  -- what is written for this section and for those after it
+  -- the bytes for this section and for those after it
   step :
       (b : Bool) → stands_between first second g ≡ b →
       between first second (drop i gs) ≡ (if b then section (id_of g.kind) g.contents.items ++ between first second (drop (i + 1) gs) else between first second (drop (i + 1) gs))

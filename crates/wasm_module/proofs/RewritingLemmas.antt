@@ -21,7 +21,7 @@ use Rattle.wasm_module.proofs.ModuleLemmas.{extends_then}
 abbrev nothing_asked : (F : Type 0) → Option (Bor F)
 nothing_asked F = None
 
--- what is written into an empty list
+-- bytes that are appended to an empty list
 pub rewritten :
     {F Z : Type 0} {asks : Shared F (Bor ℕ × Unit {0}) ℕ} {made : Function} {mapping : List (ℕ × ℕ)} {entry : Option (LentPairs Z)} {exit : Left (LentPairs Z)}
     (source now : ParsedModule) (function : ℕ) (b : BodyAt) (type id : ℕ) (args : List ℕ) (count : ℕ) (body : FunctionBody) (old raw : List ℕ) →
@@ -48,7 +48,7 @@ rewritten {F} {Z} {asks} {made} {mapping} {entry} {exit} source now function b t
       is_rewritten = subst (λ (l : List ℕ). IsRewrittenAs now type args count body l x.pairs) all is_rewritten;
     }
 
--- what a parse makes
+-- the function that a parse returns
 pub parsed :
     {F : Type 0} {asks : Shared F (Bor ℕ × Unit {0}) ℕ}
     (source now : ParsedModule) (function : ℕ) (b : BodyAt) (type id : ℕ) (args : List ℕ) (count : ℕ) (body : FunctionBody) (made : FunctionParts) →
@@ -121,7 +121,7 @@ parsed_ok source a now function b (Err x) e p = tt
 
 -- ---- a function that is changed
 
--- what is written into empty lists
+-- bytes and pairs that are appended to empty lists
 pub written_alone :
     (by : Given) (f : Function) (old new : List ℕ) (old_pairs new_pairs : List Pair) → old ≡ [] → old_pairs ≡ [] → AppendsBoth by f old new old_pairs new_pairs →
     IsRawBodyOf by f new new_pairs

@@ -13,7 +13,7 @@ use Rattle.wasm_module.proofs.WritingLemmas.{puts_then, puts_same}
 
 -- ---- one more after others
 
--- these sections come first, and then what is left
+-- these sections come first, and then the bytes that are left
 abbrev pub StandBefore : (end : ℕ) → (text : List ℕ) → List SectionAt → (left : List ℕ) → Type 0
 StandBefore end text [] left = text ≡ left
 StandBefore end text (s ∷ ss) left = (behind : List ℕ) × Begins end text s behind × StandBefore end behind ss left

@@ -6,7 +6,7 @@ use Rattle.wasm_operators.specs.Shortest.{short_number}
 use Rattle.wasm_module.specs.declared.code.Bodies.{Bodies}
 use Rattle.wasm_module.specs.declared.code.Body.{Body}
 
--- ---- as it is written: with the shortest spelling of each size
+-- ---- as it is written: with the shortest encoding of each size
 
 -- an entry: the size of a body, and the body
 abbrev pub entry : List ℕ → List ℕ
@@ -20,9 +20,9 @@ entries (raw ∷ raws) = entry raw ++ entries raws
 abbrev pub code_section : List (List ℕ) → List ℕ
 code_section raws = short_number (length raws) ++ entries raws
 
--- ---- as it is read: with any spelling of a size
+-- ---- as it is read: with any encoding of a size
 
--- a body in a file: the place of its first byte, and its bytes, without their number
+-- a body in a file: the place of its first byte, and its bytes, without its size
 pub record BodyAt : Type 0 where
   pub start : ℕ
   pub bytes : List ℕ
@@ -38,7 +38,7 @@ AreBodies end text (b ∷ bs) =
 abbrev pub IsCode : (end : ℕ) → (contents : List ℕ) → List BodyAt → Type 0
 IsCode end contents bodies = (text : List ℕ) × (u32 contents ≡ Ok (length bodies, text)) × AreBodies end text bodies
 
--- ---- in the words of the code
+-- ---- for values of the code
 
 abbrev pub bytes_of : Body → List ℕ
 bytes_of b = b.input.rest.now

@@ -12,7 +12,7 @@ use Rattle.wasm_body.specs.Translation.{translate_value}
 use Rattle.walrus_maps.specs.declared.indices_to_ids.IndicesToIds.{IndicesToIds}
 use Rattle.walrus_context.specs.Placing.{ids_at}
 
--- ---- as they are spelt
+-- ---- as they are encoded
 
 -- a group: a number of locals, and their type
 abbrev pub group : Reader (ℕ × ValType ℕ)

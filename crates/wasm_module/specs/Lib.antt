@@ -1,13 +1,14 @@
--- what the validator of locals means
+-- the meaning of the validator of locals
 pub mod LocalsBelow
--- where the operators of a body are, and what its declarations mean
+-- the bytes of the operators of a body, and the meaning of its declarations
 pub mod Bodies
 pub mod Declarations
--- the code section and its bodies, as they are read and as they are written
+-- the code section and its bodies, as they are read and as they are written; how a module may change while its bodies are
+-- rewritten (`Extends`), and a body that is parsed, rewritten or changed
 pub mod CodeSections
 pub mod RewrittenCode
 -- why a body is refused
 pub mod Refusals
--- sections, and the module that is written
+-- sections and their ranks; the bytes that are written for a section and after it, and the module that is written
 pub mod Sections
 pub mod WrittenModules

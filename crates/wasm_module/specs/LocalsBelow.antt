@@ -1,4 +1,4 @@
--- What the validator of locals means: it refuses, with 0, an operator that names a local which isn't below the count.
+-- The meaning of the validator of locals: it refuses, with 0, an operator that names a local which isn't below the count.
 use Rattle.std.specs.Prelude.{ℕ, List, [], ◌∷◌, nat_lt, cond, Result, Ok, Err}
 use Rattle.wasm_operators.specs.OperatorList.{Placed}
 use Rattle.wasm_operators.specs.Operations.{RawImmediate, local}

@@ -50,7 +50,7 @@ pub record HasFaultAt (source : ParsedModule) (function : ℕ) (b : BodyAt) (now
 abbrev pub IsRefused : ParsedModule → ℕ → BodyAt → ParsedModule → ModuleError → Type 0
 IsRefused source function b now e = (e.fault ≡ Memory) ⊎ (HasNoFront now function b.bytes ⊎ HasFaultAt source function b now e.at)
 
--- The operators are accepted, but what is written for them has no bytes, for a reason for which a parsed body has none.
+-- The operators are accepted, but their normal form has no raw body, for one of the reasons why that of a parsed body has none.
 pub record HasNoBytes (source : ParsedModule) (function : ℕ) (b : BodyAt) (now : ParsedModule) : Type 0 where
   pub type : ℕ
   pub args : List ℕ

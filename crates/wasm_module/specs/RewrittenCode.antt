@@ -87,7 +87,7 @@ pub record IsParsedAs (now : ParsedModule) (type : ℕ) (args : List ℕ) (count
   pub is_function : IsFunction made.builder (body_tree (environment_of now.module now.spaces.indices 0 type) body)
   pub args_are : made.args ≡ args
 
--- The function is made of the body of this function of the source.
+-- The function is the parsed body of this function of the source.
 pub record IsParsed (source : ParsedModule) (function : ℕ) (b : BodyAt) (now : ParsedModule) (made : FunctionParts) : Type 0 where
   pub type : ℕ
   pub args : List ℕ

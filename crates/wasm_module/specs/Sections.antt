@@ -13,12 +13,12 @@ use Rattle.wasm_module.specs.declared.sections.Sections.{Sections}
 abbrev pub preamble : List ℕ
 preamble = 0x00 ∷ 0x61 ∷ 0x73 ∷ 0x6d ∷ 0x01 ∷ 0x00 ∷ 0x00 ∷ 0x00 ∷ []
 
--- ---- as they are written: with the shortest spelling of the size
+-- ---- as they are written: with the shortest encoding of the size
 
 abbrev pub section : (id : ℕ) → (contents : List ℕ) → List ℕ
 section id contents = id ∷ (short_number (length contents) ++ contents)
 
--- ---- as they are read: with any spelling of the size
+-- ---- as they are read: with any encoding of the size
 
 -- a section in a file: its id, its contents, the place where they end, and all of its bytes
 pub record SectionAt : Type 0 where
@@ -56,7 +56,7 @@ abbrev pub next_rank : ℕ → List SectionAt → ℕ
 next_rank r [] = 14
 next_rank r (s ∷ ss) = if nat_lt r (rank s.id) then rank s.id else next_rank r ss
 
--- ---- in the words of the code
+-- ---- for values of the code
 
 abbrev pub id_of : SectionKind → ℕ
 id_of kind.Custom = 0

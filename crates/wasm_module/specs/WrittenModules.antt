@@ -1,6 +1,6 @@
--- Modules that are written (WebAssembly core specification 3.0, binary format, modules): section by section, each as it was,
--- but for the code, for those that are given new contents, for custom sections that follow the code, and for debug information that is
--- left out.
+-- Modules that are written (WebAssembly core specification 3.0, binary format, modules), section by section. Each is unchanged,
+-- except the code section, sections that are given new contents, custom sections that are changed along with the code, and
+-- debug information that is left out.
 use Rattle.std.specs.Prelude.{◌≡◌, ◌≢◌, ◌⊎◌, ◌+◌, ◌-◌, ℕ, zero, suc, List, [], ◌∷◌, ◌++◌, length, Bool, true, ◌==◌, ◌&&◌, nat_lt, if◌then◌else◌, Option, Some, None, Ok, codes}
 use Rattle.std.specs.Io.KnownBytes.{Appends}
 use Rattle.wasm_numbers.specs.Numbers.{u32}
@@ -11,69 +11,70 @@ use Rattle.wasm_module.specs.declared.rewriting.RewrittenModule.{RewrittenModule
 use Rattle.wasm_module.specs.CodeSections.{BodyAt, IsCode, code_section, entry}
 use Rattle.wasm_module.specs.Sections.{preamble, section, SectionAt, IsModule, rank, next_rank, id_of}
 
--- Bytes go to a writer, which may be known to hold some, and a place moves behind them.
+-- Bytes go to a writer, whose contents may be known, and the place moves from `at` to `end`, after them.
 pub record Puts (old new : Option (List ℕ)) (at end : ℕ) (bytes : List ℕ) : Type 0 where
   pub appends : Appends old new bytes
   pub end_is : end ≡ at + length bytes
 
 -- ---- sections that are given contents
 
--- what is given for a module
+-- the new contents that are given for a module
 abbrev pub given_in : {B : Type 0} → RewrittenModule B → List Given
 given_in m = m.changes.given.items
 
--- the contents that are given for sections with this id, if there are some
+-- the contents that are given for the section with this id, if any
 abbrev pub contents_in : List Given → (id : ℕ) → Option (List ℕ)
 contents_in [] id = None
 contents_in (g ∷ gs) id = if id_of g.kind == id then Some g.contents.items else contents_in gs id
 
--- whether a given section stands behind those of one rank, and before those of the other
+-- whether the rank of a given section is between these two
 abbrev pub stands_between : ℕ → ℕ → Given → Bool
 stands_between first second g = nat_lt first (rank (id_of g.kind)) && nat_lt (rank (id_of g.kind)) second
 
--- those that do, as they are written
+-- the given sections with such a rank, as they are written
 abbrev pub between : (first second : ℕ) → List Given → List ℕ
 between first second [] = []
 between first second (g ∷ gs) =
     if stands_between first second g then section (id_of g.kind) g.contents.items ++ between first second gs else between first second gs
 
--- what is put behind a section of this rank in a module of these sections: those given ones that have their place there
+-- the new sections after a section of this rank, in a module of these sections: the given ones with a rank between this one and
+-- that of the next section
 abbrev pub new_behind : List Given → (all : List SectionAt) → (rank : ℕ) → List ℕ
 new_behind given all r = between r (next_rank r all) given
 
--- A custom section follows the code where its name says that it holds names, or metadata of code.
+-- A custom section contains names, or metadata of code, by its name. Such sections are changed along with the code.
 abbrev pub HasFollowedName : (contents : List ℕ) → Type 0
 HasFollowedName contents =
     (name behind : List ℕ) × (u32 contents ≡ Ok (length name, name ++ behind))
     × ((name ≡ codes "name") ⊎ ((kind : List ℕ) × (name ≡ codes "metadata.code." ++ kind)))
 
--- a name of debug information, or of where it is (WebAssembly tool conventions, and DWARF for WebAssembly)
+-- a name of a section with debug information, or with its place (WebAssembly tool conventions, and DWARF for WebAssembly)
 abbrev pub IsDebugName : List ℕ → Type 0
 IsDebugName name = (name ≡ codes "sourceMappingURL") ⊎ ((name ≡ codes "external_debug_info") ⊎ ((kind : List ℕ) × (name ≡ codes ".debug_" ++ kind)))
 
--- A custom section holds debug information where its name says so.
+-- A custom section contains debug information, or its place, by its name.
 abbrev pub HasDebugName : (contents : List ℕ) → Type 0
 HasDebugName contents = (name behind : List ℕ) × (u32 contents ≡ Ok (length name, name ++ behind)) × IsDebugName name
 
--- A custom section says where the source map is.
+-- A custom section contains the URL of the source map, by its name.
 abbrev pub HasSourceMapName : (contents : List ℕ) → Type 0
 HasSourceMapName contents = (name behind : List ℕ) × (u32 contents ≡ Ok (length name, name ++ behind)) × (name ≡ codes "sourceMappingURL")
 
--- what such a section contains, as it is written: its name, and the URL
+-- the contents of such a section, as they are written: its name, and the URL
 abbrev pub url_contents : (url : List ℕ) → List ℕ
 url_contents url = entry (codes "sourceMappingURL") ++ entry url
 
--- Of a section that holds no code: contents that are written in the place of its own. Of custom ones it isn't said what
--- they are.
+-- These contents are written in place of those of a section that isn't the code section. Nothing is said about the new contents
+-- of custom sections.
 pub data IsReplacedBy (changes : Changes) (s : SectionAt) (contents : List ℕ) : Type 0 where
   followed : s.id ≡ 0 → HasFollowedName s.contents → IsReplacedBy changes s contents
   given_so : s.id ≢ 0 → contents_in changes.given.items s.id ≡ Some contents → IsReplacedBy changes s contents
 
--- Or it is written as it is: a custom one, or one for which nothing is given.
+-- Or the section is written unchanged: it is a custom one, or no contents are given for it.
 abbrev pub IsCarriedOver : Changes → SectionAt → Type 0
 IsCarriedOver changes s = s.id ≢ 0 → contents_in changes.given.items s.id ≡ None
 
--- Or it is left out, where that is asked for: debug information, or where the source map is.
+-- Or it is left out on request: debug information, or the URL of the source map.
 pub record IsLeftOut (changes : Changes) (s : SectionAt) : Type 0 where
   pub is_custom : s.id ≡ 0
   pub is_asked :
@@ -85,7 +86,7 @@ pub record IsLeftOut (changes : Changes) (s : SectionAt) : Type 0 where
 abbrev pub count_bodies : ParsedModule → ℕ
 count_bodies source = length source.func_types.items - source.imported
 
--- of this function of the source this body is written as these bytes
+-- these bytes are written for this body of the function of the source with this index
 abbrev pub Writes : Type 1
 Writes = ParsedModule → (function : ℕ) → BodyAt → (raw : List ℕ) → Type 0
 
@@ -96,8 +97,8 @@ module _ (writes : Writes) (source : ParsedModule) where
   AreWritten function (b ∷ bs) (raw ∷ raws) = writes source function b raw × AreWritten (function + 1) bs raws
   AreWritten function _ _ = ⊥
 
-  -- The contents of the code section: all bodies of the section that stood there, in order, one for each function that isn't
-  -- imported, each as it is written, behind its size.
+  -- The contents of the code section that is written: all bodies of the source's code section, in order, one for each function
+  -- that isn't imported, each as it is written, after its size.
   pub record IsWrittenCode (s : SectionAt) (code : List ℕ) : Type 0 where
     pub bodies : List BodyAt
     pub are_bodies : IsCode s.end s.contents bodies
@@ -109,7 +110,7 @@ module _ (writes : Writes) (source : ParsedModule) where
   -- ---- sections
 
   module _ (changes : Changes) where
-    -- what is written in the place of a section
+    -- These bytes are written for a section.
     pub data IsWrittenFor (s : SectionAt) (text : List ℕ) : Type 0 where
       code : (contents : List ℕ) → s.id ≡ 10 → IsWrittenCode s contents → text ≡ section 10 contents → IsWrittenFor s text
       replaced : (contents : List ℕ) → s.id ≢ 10 → IsReplacedBy changes s contents → text ≡ section s.id contents → IsWrittenFor s text
@@ -117,12 +118,12 @@ module _ (writes : Writes) (source : ParsedModule) where
       left_out : IsLeftOut changes s → text ≡ [] → IsWrittenFor s text
 
     module _ (all : List SectionAt) where
-      -- what is put behind a section; nothing behind a custom one
+      -- the new sections after a section; none after a custom one
       abbrev pub new_behind_section : (rank : ℕ) → List ℕ
       new_behind_section zero = []
       new_behind_section (suc r) = new_behind changes.given.items all (suc r)
 
-      -- what is written in the place of a section, and behind it
+      -- These bytes are written for a section, and for the new sections after it.
       pub record IsWrittenAt (s : SectionAt) (text : List ℕ) : Type 0 where
         pub own : List ℕ
         pub is_written : IsWrittenFor s own

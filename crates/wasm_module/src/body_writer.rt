@@ -1,4 +1,4 @@
-//! What is written for bodies: as they are rewritten, or what a caller makes of their functions.
+//! How bodies are written: rewritten, or with a caller's change of their functions.
 
 ghost use Rattle.std.specs.Prelude.{ℕ, List, OnOk};
 ghost use Rattle.walrus_body.specs.FunctionParts.{FunctionParts};
@@ -12,10 +12,10 @@ use crate::fault::ModuleError;
 use crate::parsed::ParsedModule;
 use walrus_body::LocalFunction;
 
-/// What is written for each body of a module. It is called twice for a body: before anything is
-/// written, to find its faults, its size and what follows it, and when it is written.
+/// How each body of a module is written. It is called twice for a body: in the first pass, to find
+/// its faults, its size and the new contents of custom sections, and in the second, to write it.
 pub trait BodyWriter {
-    // For this body, of this function of the source, these bytes are written.
+    // For this body, of the function of the source with this index, these bytes are written.
     ghost writes: { Self → Parsed → ℕ → BodyAt → List ℕ → Type 0 };
 
     /// Makes the raw body that is written for one of the module that was read, and its location

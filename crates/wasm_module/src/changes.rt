@@ -8,15 +8,17 @@ use crate::fault::{ModuleError, ModuleFault};
 use crate::sections::SectionKind;
 use std::alloc::Global;
 
-/// New contents of the section of a kind, or of a new section of it.
+/// New contents for the section of a kind. If the module has no such section, a new one is written.
 #[derive(Drop)]
 pub(crate) struct Given {
+    /// The kind of the section, neither `Custom` nor `Code`.
     pub kind: SectionKind,
+    /// The new contents, without the section's id and size.
     pub contents: Vec<u8>,
 }
 
-/// New contents of sections, at most one of each kind, in the order in which the sections stand.
-/// Sections of code and custom ones are not among them.
+/// New contents of sections, at most one for each kind, in the order of the sections in a module.
+/// There are none for the code section and for custom sections.
 #[derive(Drop)]
 pub struct Changes {
     pub(crate) given: Vec<Given>,
@@ -27,7 +29,7 @@ pub struct Changes {
 }
 
 impl Changes {
-    /// No section is changed. It takes no memory.
+    /// No changes. This allocates nothing.
     pub fn new(alloc: Global) -> Changes
         ensures { result.given.items ≡ [] }
     {
@@ -38,12 +40,13 @@ impl Changes {
         }
     }
 
-    /// Gives the section of this kind these contents in the place of its own, or of those that were
-    /// given before. Where the module has no such section it gets one.
+    /// Sets the contents of the section of this kind, without its id and size. They replace those
+    /// of the module, and those of an earlier call. If the module has no such section, a new one is
+    /// written.
     ///
     /// # Errors
     ///
-    /// `SectionOutOfOrder` where the kind is `Custom` or `Code`; `TooGreat` where the number of bytes
+    /// `SectionOutOfOrder` if the kind is `Custom` or `Code`; `TooGreat` if the number of bytes
     /// doesn't fit 32 bits; or `Memory`.
     pub fn give(&mut self, kind: SectionKind, contents: Vec<u8>) -> Result<(), ModuleError> {
         let fault = match kind {
@@ -65,7 +68,8 @@ impl Changes {
         Ok(())
     }
 
-    /// The new contents of the section of this kind, if it has some.
+    /// The new contents of the section of this kind, without its id and size; `None` if no call of
+    /// `give` has set them.
     pub fn contents_of(&self, kind: SectionKind) -> Option<&[u8]>
         ensures some { IfSome result (λ contents. contents_in self.now.given.items (id_of kind)
             ≡ Some contents.now) }

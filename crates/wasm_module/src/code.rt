@@ -17,7 +17,7 @@ pub struct Body<'a> {
 }
 
 impl<'a> Body<'a> {
-    /// Its bytes, without their number.
+    /// Its bytes, without its size.
     pub fn bytes(&self) -> &'a [u8]
         ensures { result.now ≡ bytes_of self.now }
     {

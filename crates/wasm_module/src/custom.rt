@@ -1,5 +1,6 @@
-//! Custom sections that speak of code: names of locals and of labels, and metadata of code (branch
-//! hints). They follow the code that is written.
+//! Custom sections about code: names of locals and of labels, and metadata of code (branch hints;
+//! WebAssembly core specification 3.0, name section; tool conventions). They are changed along with
+//! the code.
 
 ghost use Rattle.std.specs.Prelude.{IsTrue};
 ghost use Rattle.wasm_module.specs.WrittenModules.{HasFollowedName, HasDebugName, HasSourceMapName};
@@ -16,13 +17,14 @@ use walrus_body::LocalFunction;
 use walrus_ir::{IdHashMap, InstrLocId, LocalId};
 use walrus_rewrite::RewriteError;
 
-/// How many sections are followed at most. Further ones are carried over as they are.
+/// The greatest number of custom sections that are changed along with the code. Further ones are
+/// copied unchanged.
 const MOST_FOLLOWED: usize = 16;
 
-/// What the items of a part of a section are.
+/// The kind of the items in a part of a section.
 #[derive(Clone, Copy, PartialEq, Eq)]
 enum Follows {
-    /// What an offset in the body says of its operator.
+    /// Metadata of an operator, by its offset in the body.
     Offsets,
     /// Names of locals.
     Locals,
@@ -30,14 +32,14 @@ enum Follows {
     Labels,
 }
 
-/// A part of a custom section with items of functions.
+/// A part of a custom section with a list of items for each of some functions.
 #[derive(Drop)]
 struct Part<'a> {
     follows: Follows,
     items: FunctionItems<'a>,
-    /// What stands before it in the contents of its section, behind the part before.
+    /// The bytes of the section between the part before it, or the start, and this part.
     before: &'a [u8],
-    /// Whether its size is written before it.
+    /// Whether the part begins with its size in bytes.
     is_sized: bool,
 }
 
@@ -46,11 +48,11 @@ struct Part<'a> {
 struct Follower<'a> {
     at: usize,
     parts: Vec<Part<'a>>,
-    /// What stands behind the last part.
+    /// The bytes after the last part.
     behind: &'a [u8],
 }
 
-/// The parts of a name section that are followed.
+/// The parts of a name section that are changed along with the code.
 fn read_names<'a>(alloc: Global, section: &Section<'a>) -> Result<Follower<'a>, ModuleError> {
     let (_, mut input) = section.name()?;
     let mut parts = Vec::new(alloc);
@@ -87,7 +89,7 @@ fn read_names<'a>(alloc: Global, section: &Section<'a>) -> Result<Follower<'a>, 
     })
 }
 
-/// The items of a section with metadata of code.
+/// A section with metadata of code, which is one part.
 fn read_metadata<'a>(alloc: Global, section: &Section<'a>) -> Result<Follower<'a>, ModuleError> {
     let (_, input) = section.name()?;
     let mut parts = Vec::new(alloc);
@@ -104,7 +106,7 @@ fn read_metadata<'a>(alloc: Global, section: &Section<'a>) -> Result<Follower<'a
     })
 }
 
-/// Which of a function's locals have which new index.
+/// The new index of each local of a function that is written.
 fn local_numbers(
     parsed: &ParsedModule<'_>,
     function: &LocalFunction,
@@ -123,8 +125,8 @@ fn local_numbers(
     }
 }
 
-/// The items whose offsets are those of operators that are written, with their new offsets. The
-/// offset 0, at which no operator stands, is that of the whole function. Both lists ascend.
+/// The items of operators that are written, with their new offsets. The offset 0, where no operator
+/// begins, belongs to the whole function and stays. Both lists are in ascending order of offsets.
 fn follow_offsets<'a>(
     alloc: Global,
     items: &[Item<'a>],
@@ -156,7 +158,7 @@ fn follow_offsets<'a>(
     Ok(kept)
 }
 
-/// The names of locals that are still there, under their new indices.
+/// The names of locals that are written, with their new indices.
 fn follow_locals<'a>(
     alloc: Global,
     items: &[Item<'a>],
@@ -171,17 +173,21 @@ fn follow_locals<'a>(
     Ok(kept)
 }
 
-/// A body that was rewritten: where it stood, and what it is now.
+/// A body that was rewritten.
 #[derive(Clone, Copy)]
 pub(crate) struct RewrittenBody<'b, 'a> {
+    /// The body in the source.
     pub source: Body<'a>,
+    /// Its function, as it is written.
     pub function: &'b LocalFunction,
+    /// The location pairs; empty if they weren't requested.
     pub pairs: &'b [(InstrLocId, usize)],
+    /// The raw body that is written.
     pub raw: &'b [u8],
 }
 
 impl<'a> Part<'a> {
-    /// What is written of a function's items.
+    /// The items that remain of a function's items, with their new numbers.
     fn follow(
         &self,
         parsed: &ParsedModule<'a>,
@@ -199,7 +205,7 @@ impl<'a> Part<'a> {
         }
     }
 
-    /// Takes the items of a function whose body was rewritten, and writes those that are kept.
+    /// Takes the items of a function whose body was rewritten, and writes those that remain.
     fn pass(
         &mut self,
         parsed: &ParsedModule<'a>,
@@ -214,35 +220,39 @@ impl<'a> Part<'a> {
         self.items.put(func, &mut kept)
     }
 
-    /// Appends it, and what stands before it.
+    /// Appends the bytes before the part, and the part.
     fn finish(&mut self, out: &mut Vec<u8>) -> Result<(), ModuleError> {
         out.extend_from_slice(self.before)?;
         self.items.finish(self.is_sized, out)
     }
 }
 
-/// What is to be said of a custom section that isn't kept true.
+/// Why a custom section that is copied unchanged may no longer be true.
 #[derive(Clone, Copy, Debug, PartialEq, Eq)]
 pub enum NoteKind {
-    /// It says where the source map is, whose offsets are those of the source.
+    /// It contains the URL of a source map, which has offsets of the source.
     SourceMap,
-    /// It holds debug information, with addresses in the code of the source; or says where that is.
+    /// It contains debug information, with addresses in the code of the source, or the place of
+    /// such information.
     DebugInfo,
-    /// It holds relocations of the code of the source.
+    /// It contains relocations of the code of the source.
     Relocations,
-    /// It should follow the code, but isn't as it should be, or there are too many such sections.
+    /// It contains names or metadata of code, but it can't be read, or there are too many such
+    /// sections.
     NotFollowed,
 }
 
-/// A custom section that is carried over as it is, though the code has changed.
+/// A custom section that is copied unchanged, though the code has changed.
 #[derive(Clone, Copy, Debug)]
 pub struct Note<'a> {
+    /// The name of the section.
     pub name: &'a str,
+    /// Why it may no longer be true.
     pub kind: NoteKind,
 }
 
-/// Whether the name of a custom section says that it holds names, or metadata of code, which follow
-/// the code.
+/// Whether a custom section contains names, or metadata of code, by its name. Such a section is
+/// changed along with the code.
 pub(crate) fn follows_code(section: &Section<'_>) -> bool
     ensures { IsTrue result → HasFollowedName section.now.contents.rest.now }
 {
@@ -252,7 +262,7 @@ pub(crate) fn follows_code(section: &Section<'_>) -> bool
     }
 }
 
-/// Whether the name of a custom section says that it holds debug information, or where that is.
+/// Whether a custom section contains debug information, or its place, by its name.
 pub(crate) fn holds_debug(section: &Section<'_>) -> bool
     ensures { IsTrue result → HasDebugName section.now.contents.rest.now }
 {
@@ -266,7 +276,7 @@ pub(crate) fn holds_debug(section: &Section<'_>) -> bool
     }
 }
 
-/// Whether a custom section says where the source map is, by its name.
+/// Whether a custom section contains the URL of the source map, by its name.
 pub(crate) fn names_source_map(section: &Section<'_>) -> bool
     ensures { IsTrue result → HasSourceMapName section.now.contents.rest.now }
 {
@@ -276,8 +286,9 @@ pub(crate) fn names_source_map(section: &Section<'_>) -> bool
     }
 }
 
-/// What is to be said of a custom section with this name that isn't followed, if it holds offsets
-/// into the code. Sections of debug information that hold none, as `.debug_str`, stay true.
+/// Why a custom section with this name, copied unchanged, may no longer be true; `None` if it
+/// contains no offsets into the code. Some sections of debug information have none, as
+/// `.debug_str`.
 fn note_on(name: &str) -> Option<NoteKind> {
     match name {
         "sourceMappingURL" => Some(NoteKind::SourceMap),
@@ -296,15 +307,21 @@ fn note_on(name: &str) -> Option<NoteKind> {
     }
 }
 
-/// The custom sections that follow the code, and what is to be said of others.
+/// The custom sections that are changed along with the code, and notes on others.
 #[derive(Drop)]
 pub(crate) struct Followers<'a> {
     sections: Vec<Follower<'a>>,
+    /// The notes on sections that are copied unchanged.
     pub notes: Vec<Note<'a>>,
 }
 
 impl<'a> Followers<'a> {
-    /// Those of a module.
+    /// Reads the custom sections of a module.
+    ///
+    /// # Errors
+    ///
+    /// The first fault of its sections or of the name of a custom section; or `Memory`. Names and
+    /// metadata of code that can't be read become a note.
     pub fn read(parsed: &ParsedModule<'a>) -> Result<Followers<'a>, ModuleError> {
         let mut followers = Followers {
             sections: Vec::new(parsed.alloc),
@@ -349,8 +366,8 @@ impl<'a> Followers<'a> {
         Ok(())
     }
 
-    /// Whether the location pairs of this function's body are needed. Items of functions before it
-    /// are carried over.
+    /// Whether the location pairs of this function's body are needed. Copies the items of functions
+    /// before it. The functions have to come in ascending order.
     pub fn reach(&mut self, func: usize) -> Result<bool, ModuleError> {
         let mut needs_pairs = false;
         for section in self.sections.iter_mut() {
@@ -365,7 +382,7 @@ impl<'a> Followers<'a> {
         Ok(needs_pairs)
     }
 
-    /// Follows a body that was rewritten.
+    /// Changes the items of a function whose body was rewritten.
     pub fn pass(
         &mut self,
         parsed: &ParsedModule<'a>,
@@ -390,7 +407,7 @@ impl<'a> Followers<'a> {
         Ok(())
     }
 
-    /// The new contents of the sections, and what is to be said of others.
+    /// The new contents of the sections, and the notes on others.
     pub fn finish(self, alloc: Global) -> Result<(Vec<Followed>, Vec<Note<'a>>), ModuleError> {
         let Followers {
             mut sections,
@@ -412,15 +429,15 @@ impl<'a> Followers<'a> {
     }
 }
 
-/// New contents of a custom section that follows the code.
+/// New contents of a custom section that is changed along with the code.
 #[derive(Drop)]
 pub(crate) struct Followed {
-    /// Where the section stands in the source.
+    /// The place of the section in the source.
     at: usize,
     contents: Vec<u8>,
 }
 
-/// The new contents of a section, if it follows the code.
+/// The new contents of the section at this place of the source, if it has some.
 pub(crate) fn contents_at(followed: &[Followed], at: usize) -> Option<&[u8]> {
     followed
         .iter()

@@ -1,4 +1,4 @@
-//! What a body is parsed with: its function's type and arguments, and its locals.
+//! The arguments of parsing a body: its function's type and arguments, and its locals.
 
 ghost use Rattle.std.specs.Prelude.{◌≡◌, ◌≤◌, ◌⊎◌, length, slice_get, Some, OnOk, IfOk, IfErr};
 ghost use Rattle.walrus_parser.specs.Bodies.{body_operators};
@@ -16,7 +16,7 @@ use crate::parsed::ParsedModule;
 use walrus_body::FunctionBody;
 use walrus_ir::{LocalId, ModuleLocals, TypeId};
 
-/// What a function is parsed with.
+/// The arguments of parsing a function's body.
 #[derive(Drop)]
 pub(crate) struct Entered<'a> {
     /// The type of the function.
@@ -25,7 +25,7 @@ pub(crate) struct Entered<'a> {
     pub args: Vec<LocalId>,
     /// Its bytes, their place in the file, and the offset of its operators.
     pub body: FunctionBody<'a>,
-    /// How many locals it has, its parameters included.
+    /// The number of its locals, parameters included.
     pub locals: usize,
 }
 
@@ -37,8 +37,8 @@ impl<'a> ParsedModule<'a> {
         self.func_types.get(func).copied()
     }
 
-    /// Reads the declarations of a body's locals: the types of all locals of the function, and what
-    /// it is parsed with.
+    /// Reads the declarations of a body's locals. Returns the types of all locals of the function,
+    /// and the arguments of parsing its body.
     fn declared(&self, body: Body<'a>) -> Result<(ModuleLocals, Entered<'a>), ModuleError>
         ensures is_type { IfOk result
             (λ x. slice_get self.now.func_types.items body.entry.func ≡ Some x.1.ty) }

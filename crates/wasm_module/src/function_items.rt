@@ -131,7 +131,7 @@ impl<'a> FunctionItems<'a> {
         Ok(items)
     }
 
-    /// Writes the index of a function, and how many items follow.
+    /// Writes the index of a function, and the number of items that follow.
     fn put_front(&mut self, func: usize, count: usize) -> Result<(), ModuleError> {
         match write_number(&mut self.written, func) {
             Ok(()) => write_number(&mut self.written, count),

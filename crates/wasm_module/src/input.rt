@@ -8,7 +8,9 @@ use crate::fault::{ModuleError, ModuleFault};
 use walrus_ir::ValType;
 use wasm_ops::{RawValType, ReadFault, read_u32, read_u64, read_value_type};
 
-/// The bytes that are left of a part of a module, and the place where the part ends.
+/// The bytes that are left of a part of a module, and the place where the part ends. Its calls read
+/// from the front. The error of an item that can't be read is `Truncated`, at the end of the part,
+/// if the bytes end inside the item; otherwise it is at the place where the item begins.
 #[derive(Clone, Copy)]
 pub(crate) struct Input<'a> {
     rest: &'a [u8],
@@ -119,7 +121,7 @@ impl<'a> Input<'a> {
         }
     }
 
-    /// The next byte.
+    /// The next byte; `Truncated` if there is none.
     pub fn byte(&mut self) -> Result<u8, ModuleError>
         ensures value { IfOk result (λ b. self.old.rest.now ≡ b ∷ self.new.rest.now) }
         ensures same_end { self.new.end ≡ self.old.end }
@@ -142,7 +144,7 @@ impl<'a> Input<'a> {
         }
     }
 
-    /// An unsigned number of 32 bits.
+    /// An unsigned number of 32 bits, in LEB128; `Read(BadNumber)` if it is too long or too great.
     pub fn number(&mut self) -> Result<u32, ModuleError>
         ensures value { IfOk result (λ n. a_u32 self.old.rest.now ≡ Ok (n, self.new.rest.now)) }
         ensures same_end { self.new.end ≡ self.old.end }
@@ -158,7 +160,7 @@ impl<'a> Input<'a> {
         }
     }
 
-    /// An unsigned number of 64 bits.
+    /// An unsigned number of 64 bits, in LEB128, with the same faults.
     pub fn long_number(&mut self) -> Result<u64, ModuleError> {
         match read_u64(self.rest) {
             Ok((number, rest)) => {
@@ -169,7 +171,7 @@ impl<'a> Input<'a> {
         }
     }
 
-    /// A vector of bytes: their number, and the bytes.
+    /// A vector of bytes: their number, and the bytes; the faults are those of `number` and `part`.
     pub fn bytes(&mut self) -> Result<&'a [u8], ModuleError>
         ensures { IfOk result (λ bytes. a_u32 self.old.rest.now
             ≡ Ok (length bytes.now, bytes.now ++ self.new.rest.now)) }
@@ -179,7 +181,7 @@ impl<'a> Input<'a> {
         Ok(part.rest)
     }
 
-    /// A name: a vector of bytes that is UTF-8.
+    /// A name: a vector of bytes that is UTF-8; otherwise `BadName`, where the vector begins.
     pub fn name(&mut self) -> Result<&'a str, ModuleError>
         ensures { IfOk result (λ name. a_u32 self.old.rest.now
             ≡ Ok (length name.now, name.now ++ self.new.rest.now)) }
@@ -191,7 +193,7 @@ impl<'a> Input<'a> {
         }
     }
 
-    /// A value type.
+    /// A value type; `Read(BadType)` if there is none.
     pub fn value_type(&mut self) -> Result<RawValType, ModuleError>
         ensures value { IfOk result
             (λ ty. a_value_type self.old.rest.now ≡ Ok (ty, self.new.rest.now)) }
@@ -207,7 +209,7 @@ impl<'a> Input<'a> {
         }
     }
 
-    /// A reference type.
+    /// A reference type; `Read(BadType)` if there is none.
     pub fn reference_type(&mut self) -> Result<RawValType, ModuleError> {
         let begin = *self;
         match self.value_type()? {

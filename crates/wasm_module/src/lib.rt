@@ -1,5 +1,5 @@
 //! Whole modules of WebAssembly: their sections are read, the body of each function is rewritten,
-//! and a module is written that has all else as it was.
+//! and a module is written that has everything else unchanged.
 #![tactic(auto)]
 
 mod adding;

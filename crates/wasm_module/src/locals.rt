@@ -12,13 +12,15 @@ use walrus_body::{CheckError, IndicesToIds, OpCheck, value_type};
 use walrus_ir::{LocalId, ModuleLocals, ValType};
 use wasm_ops::{Immediates, Operator};
 
-/// How many locals a function has at most, its parameters among them: engines take no more.
+/// The greatest number of locals of a function, parameters included. Engines allow no more.
 pub(crate) const MOST_LOCALS: usize = 50_000;
 
-/// The locals of one function, each under its index as id.
+/// The locals of one function. The id of a local is its index.
 #[derive(Drop)]
 pub(crate) struct Locals {
+    /// The type of each local, by id.
     pub types: ModuleLocals,
+    /// The number of locals.
     pub count: usize,
 }
 
@@ -39,7 +41,7 @@ impl Locals {
         })
     }
 
-    /// The parameters of a function, and the locals that are declared at the front.
+    /// The parameters of a function, and the locals that the next bytes declare.
     ///
     /// # Errors
     ///
@@ -65,7 +67,7 @@ impl Locals {
         Ok(locals)
     }
 
-    /// Adds so many locals of a type. Its cost doesn't grow with their number.
+    /// Adds `count` locals of a type, as one run, in constant time.
     fn add(&mut self, count: u32, ty: &ValType) -> Result<(), ModuleError>
         requires { self.old.count + count ≤ most_locals }
         ensures types { OnOk result (self.new.types ≡ self.old.types ++ replicate count ty.now) }
@@ -77,7 +79,7 @@ impl Locals {
         Ok(())
     }
 
-    /// Adds the group of locals that is declared at the front.
+    /// Reads the declaration of a group of locals, and adds them.
     fn declare(&mut self, input: &mut Input<'_>, indices: &IndicesToIds) -> Result<(), ModuleError>
         ensures group { OnOk result (DeclaresGroup indices.now input.old.rest.now
             input.new.rest.now self.old.types self.new.types) }
@@ -102,7 +104,7 @@ impl Locals {
 }
 
 impl Input<'_> {
-    /// Passes the declaration of a group of locals.
+    /// Reads past the declaration of a group of locals.
     fn pass_declaration(&mut self) -> Result<(), ModuleError> {
         match self.number() {
             Ok(_) => {}
@@ -114,7 +116,7 @@ impl Input<'_> {
         }
     }
 
-    /// Passes the declarations of a body's locals.
+    /// Reads past the declarations of a body's locals.
     pub fn pass_declarations(&mut self) -> Result<(), ModuleError> {
         let count = match self.number() {
             Ok(count) => count,

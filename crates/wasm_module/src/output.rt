@@ -7,7 +7,7 @@ ghost use Rattle.wasm_module.specs.CodeSections.{entry};
 use crate::fault::{ModuleError, ModuleFault};
 use wasm_encode as encoded;
 
-/// How many bytes the shortest spelling of an unsigned number of 32 bits has.
+/// The number of bytes in the shortest encoding of an unsigned number of 32 bits.
 pub(crate) fn number_len(number: usize) -> usize
     ensures { result ≤ 5 }
 {

@@ -15,10 +15,20 @@ use walrus_body::{IndexError, ParseError, Space, value_type};
 use walrus_ir::{FunctionId, Module, ModuleLocals, ModuleTags, ModuleTypes, TypeId, ValType};
 use wasm_ops::RawValType;
 
-/// A module that was read: what is needed to parse the bodies of its functions, and where they are.
-/// The first ids of types are those of the entry types, which are in no module; the id of another
-/// type is its index plus the number of entry types. All other ids are the indices. Places are byte
-/// offsets from the start of the file.
+/// A module that was read: the data that is needed to parse the bodies of its functions, and their
+/// places. The first ids of types are those of the entry types, which are in no module; the id of
+/// another type is its index plus the number of entry types. All other ids are the indices. Places
+/// are byte offsets from the start of the file.
+///
+/// # Example
+///
+/// A module rewritten, as in `tests_module/src/whole_modules.rt`:
+///
+/// ```text
+/// let mut parsed = ParsedModule::read(alloc, bytes)?;
+/// let rewritten = parsed.rewrite_all()?;
+/// parsed.write_module(&rewritten, &mut out)?;
+/// ```
 #[derive(Drop)]
 pub struct ParsedModule<'a> {
     pub(crate) alloc: Global,
@@ -27,11 +37,11 @@ pub struct ParsedModule<'a> {
     pub(crate) spaces: Spaces,
     /// The types of all functions, by index.
     pub(crate) func_types: Vec<TypeId>,
-    /// How many of them are imported.
+    /// The number of imported functions.
     imported: usize,
     /// The contents of the code section.
     code: Option<Input<'a>>,
-    /// What the data count section says, and the place of that number.
+    /// The number in the data count section, and its place.
     data_count: Option<(u32, usize)>,
 }
 
@@ -130,7 +140,7 @@ impl<'a> ParsedModule<'a> {
         }
     }
 
-    /// How many functions are imported.
+    /// The number of imported functions.
     pub(crate) fn imported(&self) -> usize
         ensures { result ≡ self.now.imported }
     {
@@ -152,7 +162,7 @@ impl<'a> ParsedModule<'a> {
         index >= self.imported && index < self.func_types.len()
     }
 
-    /// How many functions have a body.
+    /// The number of functions with a body.
     pub fn body_count(&self) -> usize
         ensures { result ≡ count_bodies self.now }
     {
@@ -348,7 +358,7 @@ impl<'a> ParsedModule<'a> {
         Ok(())
     }
 
-    /// Remembers where the bodies of the code section are, and returns what follows them.
+    /// Records the place of the bodies of the code section, and returns the bytes that follow them.
     fn read_code(&mut self, mut input: Input<'a>) -> Result<Input<'a>, ModuleError> {
         let begin = input;
         let count = input.number()?;
@@ -363,8 +373,8 @@ impl<'a> ParsedModule<'a> {
         Ok(input)
     }
 
-    /// Whether functions have their bodies, and there are as many data segments as the data count
-    /// says.
+    /// Checks that each function has its body, and that the data count is the number of data
+    /// segments.
     fn check_counts(&self) -> Result<(), ModuleError> {
         if self.body_count() > 0 && self.code.is_none() {
             return Err(ModuleError {

@@ -1,5 +1,5 @@
-//! Rewriting a module: each body is written once, to learn of its faults, of its size, and of what
-//! follows it, before anything goes out.
+//! Rewriting a module, the first pass: each body is rewritten once, to find its faults, its size
+//! and the new contents of custom sections, before anything is written.
 
 ghost use Rattle.std.specs.Prelude.{◌≡◌, [], true, IsTrue, OnOk, IfOk, IfSome, IfNone};
 ghost use Rattle.wasm_module.specs.RewrittenCode.{Extends};
@@ -18,20 +18,20 @@ use crate::output::number_len;
 use crate::parsed::ParsedModule;
 use crate::sections::{Section, SectionKind};
 
-/// What is known of a module before it is written: what its bodies are written as, what is written
-/// in the place of some of its sections, and how many bytes its code takes.
+/// A module that can be written: how its bodies are written, new contents of sections, and the size
+/// of its code section. `ParsedModule::write_module` writes it.
 #[derive(Drop)]
 pub struct RewrittenModule<'a, B> {
     pub(crate) bodies: B,
     pub(crate) changes: Changes,
     pub(crate) followed: Vec<Followed>,
     pub(crate) code_len: usize,
-    /// What is to be said of custom sections that are carried over.
+    /// The custom sections that are copied unchanged and may no longer be true.
     pub notes: Vec<Note<'a>>,
 }
 
 impl<B> RewrittenModule<'_, B> {
-    /// What is written as the contents of a section that holds no code, in the place of its own.
+    /// The new contents of a section other than the code section; `None` if it is copied unchanged.
     pub(crate) fn contents_for(&self, section: &Section<'_>) -> Option<&[u8]>
         ensures some { IfSome result (λ contents. IsReplacedBy self.now.changes
             (section_at section.now) contents.now) }
@@ -57,8 +57,8 @@ impl<B> RewrittenModule<'_, B> {
         self.changes.leaves_out_debug = true;
     }
 
-    /// Leaves out the custom section `sourceMappingURL`, which says where the source map is, when the
-    /// module is written.
+    /// Leaves out the custom section `sourceMappingURL`, which says where the source map is, when
+    /// the module is written.
     pub fn leave_out_source_map_url(&mut self)
         ensures changes { self.new.changes
             ≡ record self.old.changes { leaves_out_source_map = true } }
@@ -82,7 +82,8 @@ impl<B> RewrittenModule<'_, B> {
 }
 
 impl<'a> ParsedModule<'a> {
-    /// Writes a body, and what follows it. Answers how many bytes it takes in the code section.
+    /// Rewrites a body, and changes the custom sections along with it. Returns the number of bytes
+    /// that it takes in the code section, its size included.
     fn measure_body<B: BodyWriter>(
         &mut self,
         bodies: &B,
@@ -99,7 +100,7 @@ impl<'a> ParsedModule<'a> {
         Ok(number_len(len).saturating_add(len))
     }
 
-    /// How many bytes the code section takes, without its id and its size.
+    /// The size of the contents of the code section, in bytes.
     fn measure_code<B: BodyWriter>(
         &mut self,
         bodies: &B,
@@ -115,8 +116,8 @@ impl<'a> ParsedModule<'a> {
         Ok(len)
     }
 
-    /// The module with these bodies, beside these changes of sections. Names of locals and of labels
-    /// and metadata of code follow the bodies.
+    /// The module with these bodies and these changes of sections. Names of locals and of labels
+    /// and metadata of code are changed along with the bodies.
     ///
     /// # Errors
     ///
@@ -142,9 +143,9 @@ impl<'a> ParsedModule<'a> {
         })
     }
 
-    /// Rewrites the bodies of all functions. Names of locals and of labels and metadata of code
-    /// follow them. Only the source and one body at a time are kept: `write_module` rewrites them
-    /// once more.
+    /// Rewrites the bodies of all functions. Names of locals and of labels and metadata of code are
+    /// changed along with them. At most one rewritten body is in memory at a time: `write_module`
+    /// rewrites all of them again.
     ///
     /// # Errors
     ///
@@ -157,8 +158,8 @@ impl<'a> ParsedModule<'a> {
         self.rewrite_with(Rewriting, changes)
     }
 
-    /// Changes the functions that have a body, beside these changes of sections. Names of locals
-    /// and of labels and metadata of code follow them.
+    /// Changes the functions that have a body, and these sections. Names of locals and of labels
+    /// and metadata of code are changed along with the functions.
     ///
     /// # Errors
     ///

@@ -9,10 +9,10 @@ use crate::input::Input;
 /// The bytes that a module begins with: the magic number, and the version.
 pub(crate) const PREAMBLE: [u8; 8] = *b"\0asm\x01\0\0\0";
 
-/// One more than the greatest rank of a section.
+/// One more than the greatest rank of a section (see `SectionKind::rank`).
 pub(crate) const RANKS: u8 = 14;
 
-/// What a section contains.
+/// The kind of a section.
 #[derive(Clone, Copy, Debug, PartialEq, Eq)]
 pub enum SectionKind {
     /// Bytes with a name, such as names, debug information and metadata of code.
@@ -48,7 +48,7 @@ pub enum SectionKind {
 impl SectionKind {
     ghost use Rattle.wasm_module.specs.Sections.{id_of, rank};
 
-    /// What a section with this id contains.
+    /// The kind of a section with this id.
     fn of_id(id: u8) -> Option<SectionKind>
         ensures { IfSome result (λ kind. id_of kind ≡ id) }
     {
@@ -120,7 +120,7 @@ impl SectionKind {
 /// A section of a module.
 #[derive(Clone, Copy)]
 pub struct Section<'a> {
-    /// What it contains.
+    /// Its kind.
     pub kind: SectionKind,
     /// All of its bytes: its id, its size, and its contents.
     pub whole: &'a [u8],
@@ -156,7 +156,7 @@ impl<'a> Section<'a> {
     }
 }
 
-/// The section at the beginning, and what follows it.
+/// The section at the beginning, and the bytes that follow it.
 fn read_section(mut left: Input<'_>) -> Result<(Section<'_>, Input<'_>), ModuleError>
     ensures begins { IfOk result (λ x. Begins left.entry.end left.entry.rest.now (section_at x.0)
         x.1.rest.now) }

@@ -33,7 +33,7 @@ fn contents_of(alloc: Global, url: &str) -> Result<Vec<u8>, ModuleError>
 ///
 /// # Errors
 ///
-/// Those of the writer; `TooGreat` where the number of bytes doesn't fit 32 bits; or `Memory`.
+/// Those of the writer; `TooGreat` if the number of bytes doesn't fit 32 bits; or `Memory`.
 #[tactic(auto, using(crate::proofs::WritingLemmas::appends_section))]
 pub fn write_source_map_url<W: Write>(
     alloc: Global,

@@ -11,7 +11,7 @@ use walrus_ir::{
     DataId, ElementId, FunctionId, GlobalId, LocalId, MemoryId, TableId, TagId, TypeId,
 };
 
-/// How many items each index space has, except those of types, functions and locals.
+/// The number of items of each index space, except those of types, functions and locals.
 #[derive(Clone, Copy, Default)]
 struct Counts {
     tables: usize,
@@ -31,7 +31,7 @@ pub(crate) struct Spaces {
     /// The indices of the ids.
     pub numbers: IdsToIndices,
     counts: Counts,
-    /// How many indices of locals have ids, which equal the indices.
+    /// The number of indices of locals with ids, which equal the indices.
     locals: usize,
     ghost local_ids: { locals_in indices 0 ≡ first_numbers locals },
 }
@@ -95,7 +95,7 @@ impl Spaces {
         add_next!(self, GlobalId, globals, push_global, get_global_index)
     }
 
-    /// How many globals there are.
+    /// The number of globals.
     pub fn globals(&self) -> usize {
         self.counts.globals
     }
@@ -118,7 +118,7 @@ impl Spaces {
         self.numbers.set_data_index(id, index)
     }
 
-    /// How many data segments have an index.
+    /// The number of data segments with an index.
     pub fn data_segments(&self) -> usize {
         self.counts.data
     }

@@ -1,5 +1,5 @@
-//! Who is told of the bodies of a module while it is written: nobody, the writer of a location map,
-//! or a caller's own listener.
+//! Listeners, which are told of each body while a module is written: none, the writer of a location
+//! map, or a caller's own.
 
 use std::io;
 use std::io::Write;
@@ -12,13 +12,14 @@ pub struct WrittenBody<'b> {
     pub old_start: usize,
     /// The place of its first byte in the module that is written.
     pub start: usize,
-    /// The location pairs of its operators, in the order in which they are written: the place in the
-    /// source of the operator that each is, or the default location where it is none of the source;
-    /// and its place in the written body, from `start`.
+    /// The location pairs of its operators, in the order in which they are written: the place in
+    /// the source of the operator that each comes from, or the default location if it comes from
+    /// none; and its place in the written body, counted from `start`. Empty if `wants_pairs` is
+    /// false.
     pub pairs: &'b [(InstrLocId, usize)],
 }
 
-/// Who is told of each body that is written, in order.
+/// A listener, which is told of each body that is written, in order.
 pub trait Tell {
     /// Whether the location pairs of bodies are wanted.
     fn wants_pairs(&self) -> bool;
@@ -31,7 +32,7 @@ pub trait Tell {
     fn tell(&mut self, body: WrittenBody<'_>) -> io::Result<()>;
 }
 
-/// Nobody is told.
+/// The listener that ignores everything.
 #[derive(Clone, Copy, Drop)]
 pub(crate) struct Nobody;
 
@@ -45,8 +46,8 @@ impl Tell for Nobody {
     }
 }
 
-/// The writer of a location map: a line goes to it for each operator that is one of the source, with
-/// its old and its new offset from the start of the file, in hexadecimal.
+/// The writer of a location map: a line goes to it for each operator that is one of the source,
+/// with its old and its new offset from the start of the file, in hexadecimal.
 #[derive(Drop)]
 pub struct MapLines<'m, M>(pub &'m mut M);
 

@@ -1,5 +1,5 @@
 //! Writing a module (WebAssembly core specification 3.0, binary format, modules): section by
-//! section, each as it was, but for those that are given new contents, and the code.
+//! section, each unchanged, except those that are given new contents, and the code.
 
 ghost use Rattle.std.specs.Prelude.{◌≡◌, ◌+◌, ℕ, List, [], ◌∷◌, IfOk, OnOk};
 ghost use Rattle.std.specs.Io.KnownBytes.{Appends};
@@ -24,10 +24,12 @@ use std::alloc::Global;
 use std::io;
 use std::io::Write;
 
-/// Why a module isn't written to its end.
+/// Why a module isn't written, or only a part of it.
 #[derive(Debug, Drop)]
 pub enum WriteError {
+    /// A fault of the module or of a change of its functions, with its place in the source.
     Module(ModuleError),
+    /// The error of a writer.
     Io(io::Error),
 }
 
@@ -43,7 +45,7 @@ impl From<io::Error> for WriteError {
     }
 }
 
-/// The place behind so many bytes.
+/// The place `len` bytes after `at`.
 fn behind(at: usize, len: usize) -> Result<usize, WriteError>
     ensures { IfOk result (λ place. place ≡ at + len) }
 {
@@ -56,7 +58,7 @@ fn behind(at: usize, len: usize) -> Result<usize, WriteError>
     }
 }
 
-/// Writes bytes at this place, and answers the place behind them.
+/// Writes bytes at the place `at`, and returns the place after them.
 fn put<W: Write>(bytes: &[u8], at: usize, out: &mut W) -> Result<usize, WriteError>
     ensures { IfOk result
         (λ end. Puts (W.contents out.old) (W.contents out.new) at end bytes.now) }
@@ -65,7 +67,7 @@ fn put<W: Write>(bytes: &[u8], at: usize, out: &mut W) -> Result<usize, WriteErr
     behind(at, bytes.len())
 }
 
-/// Writes a number in LEB128, by as few bytes as can be.
+/// Writes a number in LEB128, with as few bytes as possible. Returns the place after it.
 fn put_number<W: Write>(
     alloc: Global,
     number: usize,
@@ -80,7 +82,7 @@ fn put_number<W: Write>(
     put(&bytes, at, out)
 }
 
-/// Writes the id of a section, and how many bytes its contents have.
+/// Writes the id of a section, and the size of its contents in bytes.
 fn put_header<W: Write>(
     alloc: Global,
     kind: SectionKind,
@@ -95,7 +97,7 @@ fn put_header<W: Write>(
     put_number(alloc, len, at, out)
 }
 
-/// Writes a section of these contents.
+/// Writes a section with these contents.
 pub(crate) fn put_section<W: Write>(
     alloc: Global,
     kind: SectionKind,
@@ -110,8 +112,7 @@ pub(crate) fn put_section<W: Write>(
     put(contents, at, out)
 }
 
-/// Writes those of the new sections that stand behind a section of the one rank, and before one of
-/// the other.
+/// Writes the new sections whose ranks are between these two.
 fn put_between<W: Write>(
     alloc: Global,
     changes: &Changes,
@@ -133,7 +134,7 @@ fn put_between<W: Write>(
 }
 
 impl<'a> ParsedModule<'a> {
-    /// Writes a body behind its size.
+    /// Writes the size of a body, and the body.
     fn put_body<B: BodyWriter, T: Tell, W: Write>(
         &mut self,
         bodies: &B,
@@ -162,7 +163,7 @@ impl<'a> ParsedModule<'a> {
         put(raw, start, out)
     }
 
-    /// Writes the contents of the code section: how many bodies there are, and each behind its size.
+    /// Writes the contents of the code section: the number of bodies, then each after its size.
     fn put_code<B: BodyWriter, T: Tell, W: Write>(
         &mut self,
         bodies: &B,
@@ -216,7 +217,7 @@ impl<'a> ParsedModule<'a> {
         }
     }
 
-    /// Writes what stands in the place of a section.
+    /// Writes a section unchanged, or with new contents, or nothing if it is left out.
     fn put_in_place<B: BodyWriter, T: Tell, W: Write>(
         &mut self,
         rewritten: &RewrittenModule<'_, B>,
@@ -244,8 +245,8 @@ impl<'a> ParsedModule<'a> {
         }
     }
 
-    /// Writes the new sections that the source doesn't have and that stand behind the one of this
-    /// rank, where that isn't custom, or behind the preamble.
+    /// Writes the new sections that follow the section of this rank, or, for rank 0, the preamble:
+    /// those that the source doesn't have, with a lower rank than its next section.
     fn put_behind<B: BodyWriter, W: Write>(
         &self,
         rewritten: &RewrittenModule<'_, B>,
@@ -261,7 +262,7 @@ impl<'a> ParsedModule<'a> {
         put_between(self.alloc, &rewritten.changes, (rank, next), at, out)
     }
 
-    /// Writes what stands in the place of a section, and the new sections behind it.
+    /// Writes a section, as `put_in_place` does, and the new sections after it.
     fn put_with_new<B: BodyWriter, T: Tell, W: Write>(
         &mut self,
         rewritten: &RewrittenModule<'_, B>,
@@ -286,7 +287,7 @@ impl<'a> ParsedModule<'a> {
         self.put_behind(rewritten, rank, end, out)
     }
 
-    /// Writes the module, and tells of its bodies.
+    /// Writes the module, and tells the listener of each body.
     fn write_telling<B: BodyWriter, T: Tell, W: Write>(
         &mut self,
         rewritten: &RewrittenModule<'_, B>,
@@ -307,14 +308,15 @@ impl<'a> ParsedModule<'a> {
         Ok(())
     }
 
-    /// Writes the module: each section in its place, those that aren't changed byte for byte, and
-    /// new ones in theirs; and each body behind its size, as it is rewritten or changed. Sections of
-    /// debug information aren't written where `leave_out_debug` was called.
+    /// Writes the module: its sections in order, unchanged ones byte for byte, new ones in their
+    /// places; and each body after its size, as it is rewritten or changed. Debug information is
+    /// left out if `leave_out_debug` was called.
     ///
     /// # Errors
     ///
-    /// Those of the writer; `UnsteadyChange` where a change of functions answers otherwise than
-    /// before, so that the code takes another number of bytes; or `Memory`.
+    /// Those of the writer; `UnsteadyChange` if a change of functions gives another result than the
+    /// first time, so that the code has another size; or `Memory`. A part of the module may have
+    /// been written.
     pub fn write_module<B: BodyWriter, W: Write>(
         &mut self,
         rewritten: &RewrittenModule<'_, B>,
@@ -328,9 +330,9 @@ impl<'a> ParsedModule<'a> {
         self.write_telling(rewritten, &mut Nobody, out)
     }
 
-    /// The same, with the location map: a line for each operator that stands for one of the source,
-    /// with its old and its new offset from the start of the file, in hexadecimal, sorted by the new
-    /// one.
+    /// The same, with the location map: a line for each written operator that comes from the
+    /// source, with its old and its new offset from the start of the file, in hexadecimal, sorted
+    /// by the new offset.
     ///
     /// # Errors
     ///
@@ -349,7 +351,7 @@ impl<'a> ParsedModule<'a> {
         self.write_telling(rewritten, &mut MapLines(map), out)
     }
 
-    /// The same, with a listener, who is told of each body.
+    /// The same, with a listener, which is told of each body before it is written.
     ///
     /// # Errors
     ///

@@ -1,4 +1,4 @@
--- How reading and spellings agree: a value that is read is spelt by the bytes that are taken, and a value that is spelt at
+-- How reading and encodings agree: a value that is read is encoded by the bytes that are taken, and a value that is encoded at
 -- the front is read.
 use Rattle.std.proofs.Common.{◌≡◌, ℕ, zero, suc, ◌<◌, Bool, true, false, cond, List, [], ◌∷◌, ◌++◌, get_or, Result, Ok, refl, sym, ap, subst, ◌∙◌, append_assoc, inl, inr, ◌⊎◌}
 use Rattle.std.proofs.lemmas.List.{append_cancel_right}
@@ -24,19 +24,20 @@ pub chosen : {A : Type 0} (b : Bool) (x y z : A) → cond b x y ≡ z → ((b �
 chosen true x y z e = inl (refl, e)
 chosen false x y z e = inr (refl, e)
 
--- The bytes begin with a spelling of this value, and reading takes it.
+-- The bytes begin with an encoding of this value, and reading takes it.
 pub record Takes {V : Type 0} (Spells : V → List ℕ → Type 0) (bytes : List ℕ) (v : V) (rest : List ℕ) : Type 0 where
   pub text : List ℕ
   pub parts : bytes ≡ text ++ rest
   pub spelt : Spells v text
   pub rest_fits : IsBytes rest
 
--- A value that is read is spelt by the bytes that are taken, and a value that is spelt at the front is read, whatever follows.
+-- A value that is read is encoded by the bytes that are taken, and a value that is encoded at the front is read, whatever
+-- follows.
 pub record Agrees {V : Type 0} (Spells : V → List ℕ → Type 0) (read : List ℕ → Result (V × List ℕ) ReadFault) : Type 0 where
   pub takes : (bytes : List ℕ) (v : V) (rest : List ℕ) → IsBytes bytes → read bytes ≡ Ok (v, rest) → Takes Spells bytes v rest
   pub again : (v : V) (text rest : List ℕ) → Spells v text → read (text ++ rest) ≡ Ok (v, rest)
 
--- So no spelling is a prefix of another, and none spells two values.
+-- So no encoding is a prefix of another, and none encodes two values.
 pub one_spelling : {V : Type 0} {Spells : V → List ℕ → Type 0} {read : List ℕ → Result (V × List ℕ) ReadFault} → Agrees Spells read
     → (v w : V) (a b x y : List ℕ) → Spells v a → Spells w b → a ++ x ≡ b ++ y → (v ≡ w) × (a ≡ b)
 one_spelling {V} {Spells} {read} agrees v w a b x y p q e =
@@ -44,7 +45,7 @@ one_spelling {V} {Spells} {read} agrees v w a b x y p q e =
     let rests : x ≡ y = ap (λ (z : V × List ℕ). z.1) both in
     (ap (λ (z : V × List ℕ). z.0) both, append_cancel_right a b x (e ∙ ap (λ (z : List ℕ). b ++ z) (sym rests)))
 
--- ---- the ways to combine spellings
+-- ---- the ways to combine encodings
 
 pub joined : (bytes first middle second rest : List ℕ) → bytes ≡ first ++ middle → middle ≡ second ++ rest → bytes ≡ (first ++ second) ++ rest
 joined bytes first middle second rest p q = p ∙ ap (λ (t : List ℕ). first ++ t) q ∙ sym (append_assoc first second rest)
@@ -130,7 +131,7 @@ module _ {A : Type 0} (R : A → List ℕ → Type 0) (r : List ℕ → Result (
   pub agrees_many : (n : ℕ) → Agrees (Many R n) (many r n)
   agrees_many n = record { takes = many_takes n; again = many_again n }
 
--- ---- spellings that are never empty
+-- ---- encodings that are never empty
 
 pub record IsNeverEmpty {V : Type 0} (R : V → List ℕ → Type 0) : Type 0 where
   pub none : (v : V) → R v [] → ⊥
@@ -157,7 +158,7 @@ switch_some test R S r s = record { none = switch_none test R S r s }
 
 -- ---- the first byte decides between two
 
--- a spelling that is not empty has the same first byte as the bytes that it begins
+-- an encoding that is not empty has the same first byte as the bytes that it begins
 front : (test : ℕ → Bool) (bytes text rest : List ℕ) → (text ≡ [] → ⊥) → bytes ≡ text ++ rest → starts test text ≡ starts test bytes
 front test bytes [] rest some e = absurd (some refl)
 front test bytes (b ∷ text) rest some e = sym (ap (starts test) e)

@@ -1,4 +1,4 @@
--- Reading a number, a byte or bits agrees with their spellings.
+-- Reading a number, a byte or bits agrees with their encodings.
 use Rattle.std.proofs.Common.{◌≡◌, ℕ, ◌-◌, ◌<◌, ◌≤◌, cond, ltb, leb, List, [], ◌∷◌, ◌++◌, Option, Some, None, Result, Ok, Err, refl, ap, subst, inl, inr}
 use Rattle.std.proofs.lemmas.Bool.{ltb-true, ltb-false, lt-ltb, le-ltb, leb-false, lt-leb}
 use Rattle.wasm_numbers.specs.declared.fault.ReadFault.{ReadFault}

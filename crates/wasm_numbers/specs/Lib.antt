@@ -1,2 +1,4 @@
+-- encodings and readers in general, and the ways to combine them
 pub mod Reading
+-- those of numbers: integers in LEB128, bits, bytes and lanes
 pub mod Numbers

@@ -1,4 +1,4 @@
--- Numbers (WebAssembly core specification 3.0, binary format, values: bytes, integers, floats). An integer of N bits is spelt
+-- Numbers (WebAssembly core specification 3.0, binary format, values: bytes, integers, floats). An integer of N bits is encoded
 -- in LEB128: seven bits a byte, the least significant first.
 use Rattle.std.specs.Prelude.{◌≡◌, ℕ, ◌+◌, ◌-◌, ◌*◌, ◌^◌, ◌<◌, ◌≤◌, List, [], ◌∷◌, Option, Some, None, Ok, Err, Result, nat_lt, nat_le, if◌then◌else◌, ℤ, pos, ◌+ℤ◌, ◌-ℤ◌, ◌*ℤ◌}
 use Rattle.wasm_numbers.specs.declared.fault.ReadFault.{ReadFault}
@@ -6,8 +6,8 @@ use Rattle.wasm_numbers.specs.declared.fault.ReadFault.TheVariants.{Truncated, B
 use Rattle.wasm_numbers.specs.Reading.{Spelling, Reader, Many, many, Made, made}
 use Rattle.walrus_ir.specs.Results.{◌>>=◌}
 
--- How bytes make a number. `last`: the number of a last byte, which is below 128, where this many bits are left, if the byte
--- is allowed there. `more`: the number of a byte from 128 on, from its low seven bits and the number that is spelt after it.
+-- How bytes make a number. `last`: the number of a last byte, which is below 128, if this many bits are left, if the byte
+-- is allowed there. `more`: the number of a byte from 128 on, from its low seven bits and the number that is encoded after it.
 pub record Encoding (V : Type 0) : Type 0 where
   pub last : (bits byte : ℕ) → Option V
   pub more : (low : ℕ) (high : V) → V
@@ -28,8 +28,8 @@ signed_last bits byte =
 abbrev pub signed : Encoding ℤ
 signed = record { last = signed_last; more = λ low high. pos low +ℤ (pos 128 *ℤ high) }
 
--- The bytes spell a number of this many bits. A byte from 128 on is followed by a number with seven bits fewer. The limits of
--- length and of unused bits follow from this. Within them, longer spellings than needed are allowed.
+-- The bytes encode a number of this many bits. A byte from 128 on is followed by a number with seven bits fewer. The limits of
+-- length and of unused bits follow from this. Within them, longer encodings than needed are allowed.
 abbrev pub IsInteger : {V : Type 0} → Encoding V → (bits : ℕ) → Spelling V
 IsInteger e bits v [] = ⊥
 IsInteger e bits v (b ∷ []) = (b < 128) × (e.last bits b ≡ Some v)

@@ -1,12 +1,12 @@
--- Spellings one after the other, and reading them from left to right: the first part that can't be read decides the fault. A
--- spelling is a relation between a value and the bytes that spell it. Reading is a function from bytes to the value that they
--- begin with and the bytes that follow its spelling. Each pair of definitions below is one way to combine spellings and their
+-- Encodings one after the other, and reading them from left to right: the first part that can't be read decides the fault. A
+-- encoding is a relation between a value and the bytes that encode it. Reading is a function from bytes to the value that they
+-- begin with and the bytes that follow its encoding. Each pair of definitions below is one way to combine encodings and their
 -- readings.
 use Rattle.std.specs.Prelude.{◌≡◌, ℕ, zero, suc, List, [], ◌∷◌, ◌++◌, Bool, true, false, if◌then◌else◌, ◌⊎◌, Result, Ok}
 use Rattle.walrus_ir.specs.Results.{◌>>=◌}
 use Rattle.wasm_numbers.specs.declared.fault.ReadFault.{ReadFault}
 
--- the bytes that spell a value
+-- the bytes that encode a value
 abbrev pub Spelling : Type 0 → Type 1
 Spelling A = A → List ℕ → Type 0
 
@@ -14,7 +14,7 @@ Spelling A = A → List ℕ → Type 0
 abbrev pub Reader : Type 0 → Type 0
 Reader A = List ℕ → Result (A × List ℕ) ReadFault
 
--- ---- one after the other, where the second may depend on the value of the first
+-- ---- one after the other; the second may depend on the value of the first
 
 abbrev pub Then : {A B : Type 0} → Spelling A → (A → Spelling B) → Spelling (A × B)
 Then First Second v text = (first second : List ℕ) × (text ≡ first ++ second) × First v.0 first × Second v.0 v.1 second
@@ -22,7 +22,7 @@ Then First Second v text = (first second : List ℕ) × (text ≡ first ++ secon
 abbrev pub then_read : {A B : Type 0} → Reader A → (A → Reader B) → Reader (A × B)
 then_read first second bytes = first bytes >>= λ x. second x.0 x.1 >>= λ y. Ok ((x.0, y.0), y.1)
 
--- ---- the value that is spelt is turned into another value, or is refused
+-- ---- the value that is encoded is turned into another value, or is refused
 
 abbrev pub Made : {A B : Type 0} → Spelling A → (A → Result B ReadFault) → Spelling B
 Made {A} Raw make v text = (raw : A) × (make raw ≡ Ok v) × Raw raw text

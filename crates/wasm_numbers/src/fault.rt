@@ -18,7 +18,7 @@ pub enum ReadFault {
     /// The flags of a memory argument are not allowed: they are 32 to 63, or more than 95.
     #[error("the flags of a memory access are not allowed")]
     BadMemArg,
-    /// A byte is not a value type where one has to be, or a type index is negative.
+    /// A byte where a value type is required isn't one, or a type index is negative.
     #[error("no type that may stand here is spelt so")]
     BadType,
     /// The kind of a clause of `try_table` is more than 3.

@@ -1,4 +1,4 @@
-//! The spellings of WebAssembly's numbers and how they are read: integers in LEB128, bits, bytes
+//! The encodings of WebAssembly's numbers and how they are read: integers in LEB128, bits, bytes
 //! and lanes; and the reasons why an operator can't be read.
 #![tactic(auto)]
 

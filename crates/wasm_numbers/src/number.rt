@@ -8,7 +8,7 @@ ghost use Rattle.wasm_numbers.specs.Numbers.{unsigned, signed, unsigned_last, si
 
 use crate::fault::ReadFault;
 
-/// The number of a last byte of an unsigned number, where this many bits are left.
+/// The value of the last byte of an unsigned number, with this many bits left.
 #[tactic(auto, using(crate::proofs::Powers::powers))]
 fn last_unsigned(bits: u32, byte: u8) -> Option<u64>
     requires { byte < 128 }
@@ -24,7 +24,7 @@ fn last_unsigned(bits: u32, byte: u8) -> Option<u64>
     }
 }
 
-/// The number of a last byte of a signed number, where this many bits are left.
+/// The value of the last byte of a signed number, with this many bits left.
 #[tactic(auto, using(crate::proofs::Powers::powers))]
 fn last_signed(bits: u32, byte: u8) -> Option<i64>
     requires some { 0 < bits }
@@ -277,7 +277,7 @@ pub fn read_short_unsigned(bytes: &[u8]) -> Option<(u32, &[u8])>
     None
 }
 
-/// The number of a last byte of a signed number, where seven bits or more are left.
+/// The value of the last byte of a signed number, with seven bits or more left.
 #[inline(always)]
 fn wide_last_signed(byte: u8) -> i64
     requires { byte < 128 }

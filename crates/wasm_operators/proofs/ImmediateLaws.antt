@@ -1,4 +1,4 @@
--- Reading an immediate agrees with its spellings.
+-- Reading an immediate agrees with its encodings.
 use Rattle.std.proofs.Common.{◌≡◌, ℕ, eqb, Bool, true, false, List, [], ◌∷◌, ◌++◌, map, None, Result, Ok, Err, refl, ap, subst, ◌∙◌, inl, inr}
 use Rattle.std.proofs.lemmas.Bool.{eqb-true}
 use Rattle.wasm_numbers.specs.declared.fault.ReadFault.{ReadFault}
@@ -52,7 +52,7 @@ selected_agrees = agrees_made _ _ made_selected (agrees_then _ _ _ _ (agrees_mad
 
 -- ---- each kind
 
--- The immediate is of the kind, and the bytes spell it.
+-- The immediate is of the kind, and the bytes encode it.
 abbrev pub IsOfKind : Kind → RawImmediate → List ℕ → Type 0
 IsOfKind kind i text = (kind_of i ≡ kind) × SpellsImmediate i text
 
@@ -63,7 +63,7 @@ as_immediate_ok {V} make read i rest e =
     let both = ok_is (make x.0.0, x.0.1) (i, rest) x.2 in
     (x.0.0, x.1 ∙ ap (λ (p : RawImmediate × List ℕ). Ok (x.0.0, p.1)) both, ap (λ (p : RawImmediate × List ℕ). p.0) both)
 
--- If reading agrees with the spellings of the value in an immediate, it agrees with those of the immediate.
+-- If reading agrees with the encodings of the value in an immediate, it agrees with those of the immediate.
 module _ {V : Type 0} (kind : Kind) (make : V → RawImmediate) (R : V → List ℕ → Type 0) (r : List ℕ → Result (V × List ℕ) ReadFault) (inner : Agrees R r)
     (onto : (v : V) (text : List ℕ) → R v text → IsOfKind kind (make v) text) where
   pub taken : (bytes : List ℕ) (i : RawImmediate) (rest : List ℕ) → IsBytes bytes → as_immediate make (r bytes) ≡ Ok (i, rest) → Takes (IsOfKind kind) bytes i rest

@@ -1,4 +1,4 @@
--- Lists of operators that the same bytes spell.
+-- Lists of operators that the same bytes encode.
 use Rattle.std.proofs.Common.{◌≡◌, ℕ, ◌+◌, ◌<◌, ◌≤◌, List, [], ◌∷◌, ◌++◌, length, refl, sym, ap, subst, ◌∙◌, append_assoc, add-zero, arith, inl, inr}
 use Rattle.std.proofs.lemmas.List.{length-append, append_cancel_left, append-nil}
 use Rattle.wasm_operators.specs.declared.types.Opcode.{Opcode}
@@ -11,7 +11,7 @@ use Rattle.wasm_operators.specs.Laws.{GoesOn, ListsAgree, OneList}
 use Rattle.wasm_numbers.proofs.Agreement.{one_spelling}
 use Rattle.wasm_operators.proofs.OperationLaws.{operations_agree}
 
--- ---- no operator has an empty spelling
+-- ---- no operator has an empty encoding
 
 opcode_length : (o : Opcode) (text : List ℕ) → IsOpcode o text → 0 < length text
 opcode_length (Byte b) text h = omega (arith, ap length h.2)

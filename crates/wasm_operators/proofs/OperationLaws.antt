@@ -1,4 +1,4 @@
--- Reading an operator agrees with its spellings.
+-- Reading an operator agrees with its encodings.
 use Rattle.std.proofs.Common.{◌≡◌, ℕ, Bool, true, false, cond, List, [], ◌∷◌, ◌++◌, Option, Some, None, Result, Ok, refl, sym, ap, subst, ◌∙◌, inl, inr}
 use Rattle.wasm_numbers.specs.declared.fault.ReadFault.{ReadFault}
 use Rattle.wasm_operators.specs.declared.types.Opcode.{Opcode}
@@ -110,6 +110,6 @@ unfolding read_operation
 operation_again v text rest h =
     ap read_operation (parted text rest h.first h.others h.parts) ∙ rw (opcodes_agree.again v.opcode h.first (h.others ++ rest) h.opcode, h.kinds, immediates_again v.immediates h.others rest h.immediates) refl
 
--- an operator that is read is spelt by the bytes that are taken, and one that is spelt at the front is read
+-- an operator that is read is encoded by the bytes that are taken, and one that is encoded at the front is read
 pub operations_agree : Agrees Spells read_operation
 operations_agree = record { takes = operation_takes; again = operation_again }

@@ -1,4 +1,4 @@
--- The value that is read at the front of some bytes is the one that is spelt there.
+-- The value that is read at the front of some bytes is the one that is encoded there.
 use Rattle.std.specs.Prelude.{ℕ, zero, suc, List, [], ◌∷◌}
 use Rattle.std.proofs.Common.{arith}
 use Rattle.wasm_operators.specs.Laws.{AreBytes, ReadingAgrees}

@@ -1,4 +1,4 @@
--- The shortest spellings of immediates.
+-- The shortest encodings of immediates.
 use Rattle.std.proofs.Common.{◌≡◌, ℕ, zero, suc, ◌+◌, ◌-◌, ◌*◌, ◌/◌, ◌%◌, ◌<◌, ◌≤◌, Bool, true, false, cond, eqb, ltb, List, [], ◌∷◌, ◌++◌, length, Option, Some, None, Result, Ok, Err, refl, sym, ap, subst, ◌∙◌, append_assoc, arith, inl, inr, ◌⊎◌}
 use Rattle.std.proofs.lemmas.Bool.{eqb-true, eq-eqb, ltb-true, ltb-false, lt-ltb, le-ltb}
 use Rattle.std.proofs.lemmas.List.{length-append}
@@ -130,7 +130,7 @@ pub short_indexed : (a : Access) → eqb a.memory 0 ≡ false → short_access a
 unfolding short_access
 short_indexed a e = rw e (append_assoc (short_number (a.alignment + 64)) (short_number a.memory) (short_number a.offset))
 
--- a small exponent is spelt in one byte
+-- a small exponent is encoded in one byte
 small_length : (n : ℕ) → n < 32 → length (short_number n) ≡ 1
 unfolding short_unsigned
 small_length n h = let lt : n < 128 = omega arith in rw (lt-ltb n 128 lt) refl

@@ -1,4 +1,4 @@
--- The shortest spelling of a number is one of its spellings, and every other is longer.
+-- The shortest encoding of a number is one of its encodings, and every other is longer.
 use Rattle.std.proofs.Common.{◌≡◌, ℕ, zero, suc, ◌+◌, ◌-◌, ◌*◌, ◌/◌, ◌%◌, ◌^◌, ◌<◌, ◌≤◌, true, false, List, [], ◌∷◌, Some, None, refl, sym, ap, subst, ◌∙◌, arith, inl, inr, ℤ, pos, negsuc, ◌+ℤ◌, ◌-ℤ◌, ◌*ℤ◌}
 use Rattle.std.proofs.lemmas.Bool.{ltb-true, lt-ltb, le-ltb, le-leb, lt-leb, cases_lt}
 use Rattle.std.proofs.lemmas.Int.{ints}
@@ -117,7 +117,7 @@ signed_last_is w b z low e = elim (cases_lt b 64) [
   ]
 ]
 
--- a spelling of more bytes: the low seven bits of the first, and the number after it
+-- an encoding of more bytes: the low seven bits of the first, and the number after it
 above_is : (low : ℕ) (high z : ℤ) → low < 128 → z ≡ pos low +ℤ (pos 128 *ℤ high) → (low_bits z ≡ low) × (high_bits z ≡ high)
 above_is low (pos m) z lt e =
     let is : z ≡ pos (low + 128 * m) = e ∙ omega (arith, ints) in

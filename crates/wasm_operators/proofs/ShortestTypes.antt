@@ -1,4 +1,4 @@
--- The shortest spellings of types.
+-- The shortest encodings of types.
 use Rattle.std.proofs.Common.{◌≡◌, ℕ, ◌+◌, ◌%◌, ◌<◌, ◌≤◌, Bool, true, false, eqb, ◌||◌, List, [], ◌∷◌, length, Option, Some, None, Ok, refl, sym, ap, subst, ◌∙◌, arith, rules, inl, inr, ◌⊎◌, ℤ, pos, negsuc}
 use Rattle.std.proofs.lemmas.Bool.{eqb-true, lt-ltb, le-ltb, cases_lt}
 use Rattle.walrus_ir.specs.declared.val_type.AbstractHeapType.{AbstractHeapType}
@@ -135,7 +135,7 @@ nullable_is = row_holds (λ b nullable. b ≡ reference_byte nullable) nullable_
 abbrev reference_to : Bool → HeapType ℕ → ValType ℕ
 reference_to nullable heap = Ref (record { nullable = nullable; heap_type = heap })
 
--- A nullable reference to an abstract heap type can also be spelt with one byte.
+-- A nullable reference to an abstract heap type can also be encoded with one byte.
 pub abstract_byte : (a : AbstractHeapType) → (value_at (heap_byte a) ≡ Some (nullable_to a)) × (is_listed (nullable_at (heap_byte a)) ≡ false)
 unfolding nullable_at value_at heap_at
 abstract_byte abstract.NoExn = (refl, refl)
@@ -164,7 +164,7 @@ least_long nullable heap =
     (λ text h. h.2.1 ∙ ap (λ (b : ℕ). b ∷ []) (nullable_is h.0 nullable (listed_ok (nullable_at h.0) nullable h.1))) in
     least_then (Made IsByte (λ b. listed (nullable_at b))) (λ nullable. IsHeapType) nullable heap (reference_byte nullable ∷ []) (short_heap heap) first (least_heap heap)
 
--- the first byte of such a spelling says whether it is nullable
+-- the first byte of such an encoding says whether it is nullable
 nullable_byte : (nullable : Bool) (heap : HeapType ℕ) (text : List ℕ) → IsLong nullable heap text → nullable_at (reference_byte nullable) ≡ Some nullable
 unfolding IsLong
 nullable_byte nullable heap text h =

@@ -1,4 +1,4 @@
--- How shortest spellings are combined.
+-- How shortest encodings are combined.
 use Rattle.std.proofs.Common.{◌≡◌, ℕ, zero, suc, List, [], ◌∷◌, ◌++◌, length, Result, Ok, refl, sym, ap, subst, ◌∙◌, arith, inl, inr, ℤ}
 use Rattle.std.proofs.lemmas.List.{length-append}
 use Rattle.std.specs.List.{flat_map}
@@ -8,7 +8,7 @@ use Rattle.wasm_numbers.specs.Numbers.{IsU32, IsU64, IsS32, IsS33, IsS64}
 use Rattle.wasm_operators.specs.Shortest.{IsLeast, short_number, short_integer}
 use Rattle.wasm_operators.proofs.ShortestNumbers.{unsigned_shortest, signed_shortest}
 
--- If a value has a spelling, this one is the shortest, and every other is longer.
+-- If a value has an encoding, this one is the shortest, and every other is longer.
 pub record Least (Spelt : List ℕ → Type 0) (short : List ℕ) : Type 0 where
   pub is : (text : List ℕ) → Spelt text → Spelt short × IsLeast short text
 
@@ -21,11 +21,11 @@ least_append a b x y (inr p) (inr q) = inr (omega (arith, length-append a b, len
 pub least_along : (short text other : List ℕ) → text ≡ other → IsLeast short text → IsLeast short other
 least_along short text other e = subst (IsLeast short) e
 
--- the only spelling is the shortest
+-- the only encoding is the shortest
 pub least_only : (Spelt : List ℕ → Type 0) (short : List ℕ) → ((text : List ℕ) → Spelt text → text ≡ short) → Least Spelt short
 least_only Spelt short only = record { is = λ text h. (subst Spelt (only text h) h, inl (sym (only text h))) }
 
--- a relation that is the same as one whose shortest spelling is known
+-- a relation that is the same as one whose shortest encoding is known
 pub least_same : (Spelt Other : List ℕ → Type 0) (short : List ℕ) → ((text : List ℕ) → Other text → Spelt text) → ((text : List ℕ) → Spelt text → Other text) → Least Spelt short → Least Other short
 least_same Spelt Other short into onto least = record { is = λ text h. let s = least.is text (into text h) in (onto short s.0, s.1) }
 

@@ -1,4 +1,4 @@
--- Reading a type agrees with its spellings.
+-- Reading a type agrees with its encodings.
 use Rattle.wasm_numbers.specs.Numbers.{signed}
 use Rattle.wasm_operators.specs.Types.{listed, nullable_at, value_at, abstract_heap, concrete_heap, IsHeapType, heap_type, reference, IsValueType, value_type, empty_block, value_block, indexed_block, IsBlockType, block_type}
 use Rattle.wasm_numbers.proofs.Agreement.{Agrees, agrees_then, agrees_made, agrees_switch, IsNeverEmpty, then_some, made_some, switch_some}

@@ -1,4 +1,4 @@
--- If an operator's numbers fit, its shortest spelling is one of its spellings.
+-- If an operator's numbers fit, its shortest encoding is one of its encodings.
 use Rattle.std.proofs.Common.{◌≡◌, ℕ, zero, suc, ◌+◌, ◌*◌, ◌/◌, ◌%◌, ◌^◌, ◌<◌, Bool, true, false, eqb, List, [], ◌∷◌, ◌++◌, map, length, append_assoc, Option, Some, None, Ok, refl, sym, ap, subst, ◌∙◌, arith, rules, inl, inr, ◌⊎◌, leb, ℤ, pos, negsuc}
 use Rattle.std.proofs.lemmas.Bool.{eqb-true, leb-true, lt-leb, cases_lt}
 use Rattle.std.proofs.lemmas.Nat.{pow-add}
@@ -487,6 +487,6 @@ kinds_right (operator.Atomic kind memarg) = kinds_of_atomic kind
 kinds_right (operator.Reference op) = kinds_of_reference op
 kinds_right _ = refl
 
--- so if the numbers of an operator fit, its shortest spelling is one of its spellings
+-- so if the numbers of an operator fit, its shortest encoding is one of its encodings
 pub written : (op : Listed) → AllFit (meaning op).immediates → Spells (meaning op) (short (meaning op))
 written op fits = spelt (meaning op) (kinds_right op) fits

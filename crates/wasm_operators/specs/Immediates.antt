@@ -1,4 +1,4 @@
--- The spellings of each immediate, and how an immediate of a kind is read (WebAssembly core specification 3.0, binary format,
+-- The encodings of each immediate, and how an immediate of a kind is read (WebAssembly core specification 3.0, binary format,
 -- instructions).
 use Rattle.std.specs.Prelude.{◌≡◌, ℕ, ◌-◌, Bool, true, false, List, [], ◌∷◌, ◌++◌, Option, Some, None, Result, Ok, Err, nat_lt, ◌==◌, if◌then◌else◌}
 use Rattle.walrus_ir.specs.declared.val_type.HeapType.{HeapType}
@@ -180,7 +180,7 @@ kind_of (lane n) = a_lane
 kind_of (lanes ns) = sixteen_lanes
 kind_of zero_byte = a_zero_byte
 
--- The bytes are a spelling of the immediate.
+-- The bytes are an encoding of the immediate.
 abbrev pub SpellsImmediate : Spelling RawImmediate
 SpellsImmediate (index space n) text = IsU32 n text
 SpellsImmediate (local n) text = IsU32 n text

@@ -1,4 +1,4 @@
--- The laws of spellings.
+-- The laws of encodings.
 use Rattle.std.specs.Prelude.{◌≡◌, ◌<◌, ℕ, ◌+◌, ◌⊎◌, List, ◌++◌, length, Ok}
 use Rattle.std.specs.List.{AllByRecursion}
 use Rattle.wasm_operators.specs.Operations.{RawOperation}
@@ -11,23 +11,23 @@ use Rattle.wasm_operators.specs.Shortest.{IsLeast}
 abbrev pub AreBytes : List ℕ → Type 0
 AreBytes bytes = AllByRecursion (λ b. b < 256) bytes
 
--- An operator that is spelt at the front is read there, whatever follows. An operator that is read at the front of some bytes
--- is spelt by the bytes that are taken, and the rest are bytes too.
+-- An operator that is encoded at the front is read there, whatever follows. An operator that is read at the front of some bytes
+-- is encoded by the bytes that are taken, and the rest are bytes too.
 pub record ReadingAgrees : Type 0 where
   pub again : (o : RawOperation) (text rest : List ℕ) → Spells o text → read_operation (text ++ rest) ≡ Ok (o, rest)
   pub takes : (bytes : List ℕ) (o : RawOperation) (rest : List ℕ) → AreBytes bytes → read_operation bytes ≡ Ok (o, rest) → (text : List ℕ) × (bytes ≡ text ++ rest) × Spells o text × AreBytes rest
 
--- No spelling is a prefix of another, and none spells two values.
+-- No encoding is a prefix of another, and none encodes two values.
 abbrev pub OneSpelling : {V : Type 0} → Spelling V → Type 0
 OneSpelling {V} Spells =
     (v w : V) (text other behind follows : List ℕ) → Spells v text → Spells w other → text ++ behind ≡ other ++ follows
     → (v ≡ w) × (text ≡ other)
 
--- If a value has a spelling, this is one of its spellings, and every other is longer.
+-- If a value has an encoding, this is one of its encodings, and every other is longer.
 abbrev pub IsShortest : {V : Type 0} → (V → List ℕ) → Spelling V → Type 0
 IsShortest {V} short Spells = (v : V) (text : List ℕ) → Spells v text → Spells v (short v) × IsLeast (short v) text
 
--- The second list of operators continues where the first ends: with operators that are spelt after the bytes of the first.
+-- The second list of operators continues where the first ends: with operators that are encoded after the bytes of the first.
 pub record GoesOn (first second : List Placed) (place : ℕ) (bytes rest others : List ℕ) : Type 0 where
   pub more : List Placed
   pub longer : second ≡ first ++ more
@@ -35,13 +35,13 @@ pub record GoesOn (first second : List Placed) (place : ℕ) (bytes rest others 
   pub parts : bytes ≡ front ++ rest
   pub behind : Lists more (place + length front) rest others
 
--- Two lists of operators that the same bytes spell agree up to the end of the shorter one: the other continues where it ends.
+-- Two lists of operators that the same bytes encode agree up to the end of the shorter one: the other continues where it ends.
 abbrev pub ListsAgree : Type 0
 ListsAgree =
     (xs ys : List Placed) (place : ℕ) (bytes rest others : List ℕ) → Lists xs place bytes rest → Lists ys place bytes others
     → GoesOn xs ys place bytes rest others ⊎ GoesOn ys xs place bytes others rest
 
--- So the bytes before a given rest spell at most one list of operators.
+-- So the bytes before a given rest encode at most one list of operators.
 abbrev pub OneList : Type 0
 OneList =
     (xs ys : List Placed) (place : ℕ) (bytes rest : List ℕ) → Lists xs place bytes rest → Lists ys place bytes rest → xs ≡ ys

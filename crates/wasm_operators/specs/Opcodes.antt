@@ -202,7 +202,7 @@ abbrev pub kinds_of : Opcode → Option (List Kind)
 kinds_of (Byte b) = kinds_of_byte b
 kinds_of (Prefixed prefix n) = kinds_behind prefix n
 
--- a byte that is not a prefix, or a prefix and any spelling of the number
+-- a byte that is not a prefix, or a prefix and any encoding of the number
 abbrev pub IsOpcode : Spelling Opcode
 IsOpcode (Byte b) text = (is_prefix b ≡ false) × (b < 256) × (text ≡ b ∷ [])
 IsOpcode (Prefixed prefix n) text = (is_prefix prefix ≡ true) × (prefix < 256) × (rest : List ℕ) × (text ≡ prefix ∷ rest) × IsU32 n rest

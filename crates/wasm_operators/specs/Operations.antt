@@ -1,7 +1,7 @@
 -- An operator as the definitions see it: its opcode, and its immediates in the order of writing (WebAssembly core specification
 -- 3.0, binary format, instructions; the proposals for threads, wide arithmetic and legacy exception handling). `L` is the type
--- of labels and `B` that of block types: depths and spelt block types in a spelt operator, other types in a named operator or
--- in a tree.
+-- of labels and `B` that of block types: depths and encoded block types in an encoded operator, other types in a named operator
+-- or in a tree.
 use Rattle.std.specs.Prelude.{ℕ, ℤ, List, Option, Bool}
 use Rattle.walrus_ir.specs.declared.val_type.HeapType.{HeapType}
 use Rattle.walrus_ir.specs.declared.val_type.ValType.{ValType}
@@ -9,8 +9,8 @@ use Rattle.wasm_operators.specs.declared.types.BlockType.{BlockType}
 use Rattle.wasm_operators.specs.declared.types.Opcode.{Opcode}
 use Rattle.wasm_operators.specs.declared.types.Space.{Space}
 
--- An access to memory. The alignment is an exponent of two in spelt and named operators, and a number of bytes in the tree of a
--- function.
+-- An access to memory. The alignment is an exponent of two in encoded and named operators, and a number of bytes in the tree of
+-- a function.
 pub record Access : Type 0 where
   pub alignment : ℕ
   pub memory : ℕ
@@ -61,7 +61,7 @@ pub record Operation (L B : Type 0) : Type 0 where
 abbrev pub operation : {L B : Type 0} → Opcode → List (Immediate L B) → Operation L B
 operation opcode immediates = record { opcode = opcode; immediates = immediates }
 
--- An immediate and an operator as they are spelt: raw indices, and labels as depths.
+-- An immediate and an operator as they are encoded: raw indices, and labels as depths.
 abbrev pub RawImmediate : Type 0
 RawImmediate = Immediate ℕ BlockType
 

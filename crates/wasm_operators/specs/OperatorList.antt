@@ -1,4 +1,4 @@
--- The operators that bytes spell, each with its place.
+-- The operators that bytes encode, each with its place.
 use Rattle.std.specs.Prelude.{◌≡◌, ℕ, ◌+◌, List, [], ◌∷◌, ◌++◌, length}
 use Rattle.wasm_operators.specs.Operations.{RawOperation}
 use Rattle.wasm_operators.specs.Spelling.{Spells}
@@ -8,7 +8,7 @@ pub record Placed : Type 0 where
   pub spelt : RawOperation
   pub place : ℕ
 
--- From this place on, the bytes are spellings of these operators, one after the other, each at its place; then the rest
+-- From this place on, the bytes are encodings of these operators, one after the other, each at its place; then the rest
 -- follows.
 abbrev pub Lists : List Placed → (place : ℕ) → (bytes rest : List ℕ) → Type 0
 Lists [] place bytes rest = bytes ≡ rest

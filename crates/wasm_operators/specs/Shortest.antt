@@ -1,4 +1,4 @@
--- The shortest spellings.
+-- The shortest encodings.
 use Rattle.std.specs.Prelude.{◌≡◌, ℕ, zero, suc, ◌+◌, ◌-◌, ◌/◌, ◌%◌, ◌<◌, ◌⊎◌, List, [], ◌∷◌, ◌++◌, length, Bool, true, false, Option, Some, None, nat_lt, ◌==◌, if◌then◌else◌, ℤ, pos, negsuc}
 use Rattle.std.specs.List.{flat_map}
 use Rattle.walrus_ir.specs.declared.val_type.AbstractHeapType.{AbstractHeapType}
@@ -159,6 +159,6 @@ abbrev pub short_opcode : Opcode → List ℕ
 short_opcode (Byte b) = b ∷ []
 short_opcode (Prefixed prefix n) = prefix ∷ short_number n
 
--- The shortest spelling of an operator.
+-- The shortest encoding of an operator.
 abbrev pub short : RawOperation → List ℕ
 short o = short_opcode o.opcode ++ short_immediates o.immediates

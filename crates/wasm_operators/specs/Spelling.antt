@@ -1,4 +1,4 @@
--- The spellings of operators, and the shortest one.
+-- The encodings of operators, and the shortest one.
 use Rattle.std.specs.Prelude.{◌≡◌, ℕ, List, ◌++◌, map, Option, Some, None, Ok, Err}
 use Rattle.wasm_numbers.specs.declared.fault.ReadFault.TheVariants.{UnknownOperator}
 use Rattle.wasm_operators.specs.declared.types.Opcode.{Opcode}
@@ -8,7 +8,7 @@ use Rattle.wasm_operators.specs.Immediates.{Kind, kind_of, SpellsImmediates, imm
 use Rattle.wasm_operators.specs.Opcodes.{kinds_of, IsOpcode, opcode}
 use Rattle.walrus_ir.specs.Results.{◌>>=◌}
 
--- The bytes are a spelling of the operator: of its opcode, and then of each of its immediates; the kinds of these are those of
+-- The bytes are an encoding of the operator: of its opcode, and then of each of its immediates; the kinds of these are those of
 -- the opcode.
 pub record Spells (o : RawOperation) (text : List ℕ) : Type 0 where
   pub first : List ℕ

@@ -123,7 +123,7 @@ impl<'a> fmt::Debug for Targets<'a> {
     }
 }
 
-/// Equality of labels, not of their spellings.
+/// Equality of labels, not of their encodings.
 impl<'a> PartialEq for BrTable<'a> {
     ghost use Rattle.std.specs.Prelude.{nat_eq, ◌&&◌};
     ghost use Rattle.std.specs.Ordering.{on};

@@ -133,7 +133,7 @@ impl<'a> fmt::Debug for CatchList<'a> {
     }
 }
 
-/// Equality of clauses, not of their spellings.
+/// Equality of clauses, not of their encodings.
 impl<'a> PartialEq for CatchList<'a> {
     ghost use Rattle.std.specs.Cmp.Lexicographic.{pointwise};
     ghost use Rattle.wasm_operators.specs.Lists.{clause_eq, clauses_per};

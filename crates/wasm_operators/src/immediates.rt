@@ -7,15 +7,15 @@ use crate::types::{BlockType, RawCast, RawHeapType, RawMemArg, RawValType, Space
 /// clauses.
 #[derive(Debug, Drop, PartialEq, Eq)]
 pub enum Immediates<T, C> {
-    /// Nothing.
+    /// No immediates.
     Nothing,
-    /// An index in a space.
+    /// A raw index in a space.
     Index(Space, u32),
-    /// An index in a space, and one in another.
+    /// Two raw indices, each in a space.
     Pair(Space, u32, Space, u32),
-    /// An index in a space, and a number.
+    /// A raw index in a space, and a number: a field of a struct, or the length of an array.
     IndexNumber(Space, u32, u32),
-    /// An index of a local.
+    /// A raw index of a local.
     Local(u32),
     /// A label, as a depth.
     Label(u32),
@@ -27,7 +27,7 @@ pub enum Immediates<T, C> {
     Table(T),
     /// A memory argument.
     Access(RawMemArg),
-    /// A memory argument, and a lane.
+    /// A memory argument, and the index of a lane.
     LaneAccess(RawMemArg, u8),
     /// A block type.
     Block(BlockType),
@@ -39,17 +39,17 @@ pub enum Immediates<T, C> {
     Value(RawValType),
     /// The immediates of a branch on a cast.
     Cast(RawCast),
-    /// The value of a constant.
+    /// The value of `i32.const`.
     I32(i32),
-    /// The value of a constant.
+    /// The value of `i64.const`.
     I64(i64),
-    /// The bits of a constant.
+    /// The bits of the value of `f32.const`.
     F32(u32),
-    /// The bits of a constant.
+    /// The bits of the value of `f64.const`.
     F64(u64),
-    /// The bits of a constant.
+    /// The bits of the value of `v128.const`.
     V128(u128),
-    /// A lane.
+    /// The index of a lane.
     Lane(u8),
     /// The lanes of `i8x16.shuffle`.
     Lanes([u8; 16]),
@@ -60,13 +60,13 @@ pub enum Immediates<T, C> {
 /// The immediates of an operator on references, structs or arrays.
 #[derive(Clone, Copy)]
 pub enum ReferenceImmediates {
-    /// Nothing.
+    /// No immediates.
     Nothing,
-    /// An index in a space.
+    /// A raw index in a space.
     Index(Space, u32),
-    /// An index in a space, and one in another.
+    /// Two raw indices, each in a space.
     Pair(Space, u32, Space, u32),
-    /// An index in a space, and a number.
+    /// A raw index in a space, and a number: a field of a struct, or the length of an array.
     IndexNumber(Space, u32, u32),
     /// A label, as a depth.
     Label(u32),

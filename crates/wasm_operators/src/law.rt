@@ -1,4 +1,4 @@
-//! Laws of spellings. Each is the contract of a function that does nothing.
+//! Laws of encodings. Each is the contract of a function that does nothing.
 
 ghost use Rattle.std.specs.Prelude.{◌≡◌, true};
 ghost use Rattle.wasm_operators.specs.Meaning.{meaning};
@@ -13,24 +13,24 @@ use crate::immediates::Immediates;
 use crate::operator::Operator;
 use crate::types::{BlockType, Opcode, RawCast, RawHeapType, RawValType, Space};
 
-/// An operator that is spelt at the front of some bytes is read there, and an operator that is read
-/// at the front of some bytes is spelt by the bytes that are taken.
+/// An operator that is encoded at the front of some bytes is read there, and an operator that is
+/// read at the front of some bytes is encoded by the bytes that are taken.
 pub fn law_reading()
     ensures { ReadingAgrees }
 {}
 
-/// No spelling is a prefix of another, and none spells two operators.
+/// No encoding is a prefix of another, and none encodes two operators.
 pub fn law_one_spelling()
     ensures { OneSpelling Spells }
 {}
 
-/// The same bytes spell at most one list of operators.
+/// The same bytes encode at most one list of operators.
 pub fn law_one_list()
     ensures fronts { ListsAgree }
     ensures whole { OneList }
 {}
 
-/// If a number has a spelling, the shortest is one of its spellings, and every other is longer.
+/// If a number has an encoding, the shortest is one of its encodings, and every other is longer.
 pub fn law_shortest_number()
     ensures of_u32 { IsShortest short_number IsU32 }
     ensures of_u64 { IsShortest short_number IsU64 }
@@ -39,7 +39,7 @@ pub fn law_shortest_number()
     ensures of_s64 { IsShortest short_integer IsS64 }
 {}
 
-/// If an operator has a spelling, the shortest is one of its spellings, and every other is longer.
+/// If an operator has an encoding, the shortest is one of its encodings, and every other is longer.
 pub fn law_shortest()
     ensures { IsShortest short Spells }
 {}

@@ -1,5 +1,5 @@
-//! WebAssembly operators as they are spelt: types, opcodes and immediates, with one row for each
-//! operator, and the laws of spellings.
+//! WebAssembly operators as they are encoded: types, opcodes and immediates, with one row for each
+//! operator, and the laws of encodings.
 #![tactic(auto)]
 
 mod access_rows;

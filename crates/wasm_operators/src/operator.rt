@@ -6,7 +6,7 @@ use crate::reference_operator::ReferenceOp;
 use crate::types::{AtomicKind, BlockType, RawMemArg, RawValType};
 use walrus_ir::{BinaryOp, LoadKind, LoadSimdKind, StoreKind, TernaryOp, UnaryOp};
 
-/// An operator as it is spelt (WebAssembly core specification 3.0, binary format, instructions):
+/// An operator as it is encoded (WebAssembly core specification 3.0, binary format, instructions):
 /// with raw indices, and labels as depths. `T` is the type of a `br_table`'s labels, and `C` that
 /// of a `try_table`'s clauses. The fields `tag`, `func`, `local`, `global`, `table`, `memory`,
 /// `element` and `data` are indices; `ty` is a block type, the index of a type, or the type of a
@@ -258,5 +258,5 @@ pub enum Op<T, C> {
 }
 
 /// An operator as it is read. Its lists are borrowed from the input. Two operators are equal if
-/// they mean the same, even if they are spelt differently.
+/// they mean the same, even if they are encoded differently.
 pub type Operator<'a> = Op<BrTable<'a>, CatchList<'a>>;

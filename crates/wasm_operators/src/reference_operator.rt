@@ -2,7 +2,7 @@
 
 use crate::types::{RawCast, RawHeapType};
 
-/// An operator on references, structs or arrays, as it is spelt (WebAssembly core specification
+/// An operator on references, structs or arrays, as it is encoded (WebAssembly core specification
 /// 3.0, binary format, instructions): with raw indices, and labels as depths. The fields `ty`,
 /// `func`, `data` and `element` are indices; `target` and `source` are indices of types; `label` is
 /// a depth; `field` is the number of a field; `len` is the number of elements; `nullable` says

@@ -1,4 +1,4 @@
-//! Types and other immediates as they are spelt, with raw indices.
+//! Types and other immediates as they are encoded, with raw indices.
 
 use std::fmt;
 use std::marker::Model;
@@ -9,8 +9,8 @@ pub type RawValType = ValType<u32>;
 /// A heap type, with raw type indices (WebAssembly core specification 3.0, binary format, types).
 pub type RawHeapType = HeapType<u32>;
 
-/// The type of a block, as it is spelt (WebAssembly core specification 3.0, binary format, control
-/// instructions).
+/// The type of a block, as it is encoded (WebAssembly core specification 3.0, binary format,
+/// control instructions).
 #[derive(Clone, Copy, Debug, PartialEq, Eq, Hash)]
 pub enum BlockType {
     /// No parameters and no results.
@@ -21,7 +21,7 @@ pub enum BlockType {
     FuncType(u32),
 }
 
-/// A memory argument, as it is spelt (WebAssembly core specification 3.0, binary format, memory
+/// A memory argument, as it is encoded (WebAssembly core specification 3.0, binary format, memory
 /// instructions).
 #[derive(Clone, Copy, Debug, PartialEq, Eq)]
 pub struct RawMemArg {
@@ -33,7 +33,7 @@ pub struct RawMemArg {
     pub offset: u64,
 }
 
-/// The immediates of `br_on_cast` and `br_on_cast_fail`, as they are spelt (WebAssembly core
+/// The immediates of `br_on_cast` and `br_on_cast_fail`, as they are encoded (WebAssembly core
 /// specification 3.0, binary format, control instructions).
 #[derive(Clone, Copy, Debug, PartialEq, Eq)]
 pub struct RawCast {
@@ -109,7 +109,7 @@ pub enum Opcode {
     Prefixed(u8, u32),
 }
 
-/// A clause of `try_table`, as it is spelt (WebAssembly core specification 3.0, binary format,
+/// A clause of `try_table`, as it is encoded (WebAssembly core specification 3.0, binary format,
 /// control instructions). In a contract, it is a `CatchClause`.
 #[derive(Clone, Copy, Debug, PartialEq, Eq)]
 pub struct RawCatch {

@@ -5,8 +5,8 @@ use std::process::ExitCode;
 use std::{env, io};
 use walrus_run::run_words;
 
-/// The program's words, without its own name; none where one isn't UTF-8, which is wrong use as
-/// well.
+/// The program's words, without its own name; none if one isn't UTF-8, which is an error
+/// in the arguments.
 fn words(rt: &HostRuntime) -> io::Result<Vec<String>> {
     let mut words = Vec::new(rt.alloc());
     match env::args(rt) {
@@ -21,7 +21,7 @@ fn words(rt: &HostRuntime) -> io::Result<Vec<String>> {
     Ok(words)
 }
 
-// Says that memory ran out before the words were read, as `run_words` says it of what follows.
+// Reports that memory ran out before the words were read, in the way of `run_words`.
 fn refuse(rt: &HostRuntime) -> io::Result<ExitCode> {
     eprintln!(rt; "refused: Memory")?;
     Ok(ExitCode::FAILURE)

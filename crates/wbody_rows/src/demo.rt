@@ -7,7 +7,7 @@ use walrus_body::{AcceptAll, FunctionBody, IdsToIndices, IndexError, IndicesToId
 use walrus_ir::{FunctionId, InstrLocId, LocalId, Module, TypeId};
 use walrus_run::{NamedBody, demo};
 
-/// How many locals the module has. All of them are locals of function 0.
+/// The number of the module's locals. All of them are locals of function 0.
 pub(crate) const LOCALS: usize = 4;
 
 /// The function whose bodies are read.
@@ -29,8 +29,11 @@ pub(crate) fn arguments(alloc: Global) -> Result<Vec<LocalId>, AllocError> {
 /// indices.
 #[derive(Drop)]
 pub(crate) struct Demo {
+    /// The module.
     pub module: Module,
+    /// The ids of its old indices.
     pub indices: IndicesToIds,
+    /// The new indices of its ids.
     pub numbers: IdsToIndices,
     ghost begins_at_zero: { «module».code_section_offset ≡ 0 },
 }
@@ -44,11 +47,14 @@ pub(crate) fn indices(alloc: Global, locals: &[LocalId]) -> Result<IndicesToIds,
     Ok(indices)
 }
 
-/// A body of the function: its bytes, where its operators begin, and the ids of its indices.
+/// A body of the function: its bytes, the place of its first operator, and the ids of its indices.
 #[derive(Clone, Copy)]
 pub(crate) struct Body<'a> {
+    /// The ids of its indices.
     pub indices: &'a IndicesToIds,
+    /// Its bytes, declarations included.
     pub bytes: &'a [u8],
+    /// The place of the first operator among these bytes.
     pub operators: usize,
 }
 

@@ -9,26 +9,37 @@ use walrus_run::RewriteError;
 /// What is wrong with a body or with the bytes written for it, or that memory ran out.
 #[derive(Clone, Copy, Debug, PartialEq, Eq, Error)]
 pub(crate) enum Fault {
+    /// Memory ran out.
     #[error("out of memory")]
     Memory,
+    /// The argument isn't hexadecimal.
     #[error("it isn't hexadecimal")]
     NotHexadecimal,
+    /// The body isn't accepted.
     #[error("it isn't read")]
     Unread,
+    /// The parsed function isn't written.
     #[error("it isn't written")]
     Unwritten,
+    /// The bytes that are written for the body aren't accepted.
     #[error("what is written isn't read back")]
     NotReadBack,
+    /// Read back, they are written as other bytes.
     #[error("what is read back is written otherwise")]
     WrittenOtherwise,
+    /// `rewrite_body` refuses the body.
     #[error("`rewrite_body` refuses it")]
     NotRewritten,
+    /// `rewrite_body` appends other bytes than parsing and writing do.
     #[error("`rewrite_body` appends other bytes")]
     AppendsOthers,
+    /// A proper prefix of the body's operators is accepted as a body.
     #[error("a front of it is accepted")]
     FrontAccepted,
+    /// A run of the written bytes executes other operators.
     #[error("a run shows other operators")]
     OtherEvents,
+    /// A run of the written bytes ends in another way.
     #[error("a run ends otherwise")]
     OtherEnding,
 }

@@ -37,7 +37,7 @@ struct Row<'a> {
     err: &'a str,
 }
 
-/// Whether a field of a row spells this text, each of whose lines has a line end.
+/// Whether a field of a row is this text, with `;` for the line ends between its lines.
 fn is_spelt(alloc: Global, field: &str, text: &[u8]) -> Result<bool, AllocError> {
     let mut spelt: Vec<u8> = Vec::new(alloc);
     for line in field.split_terminator(';') {
@@ -48,7 +48,7 @@ fn is_spelt(alloc: Global, field: &str, text: &[u8]) -> Result<bool, AllocError>
 }
 
 impl<'a> Row<'a> {
-    /// The case that a line spells: four fields with a tab between them.
+    /// The case in a line: four fields with a tab between them.
     fn of_line(line: &'a str) -> Row<'a> {
         let mut fields = line.split('\t');
         Row {
@@ -70,7 +70,7 @@ impl<'a> Row<'a> {
     }
 }
 
-/// How many cases and bodies there were, and how many of each failed.
+/// The numbers of cases and bodies so far, and of those of each that failed.
 #[derive(Clone, Copy)]
 struct Counts {
     rows: u64,
@@ -131,8 +131,8 @@ fn check_source(alloc: Global, demo: &Demo, source: Body<'_>) -> Result<(), Faul
     }
 }
 
-/// Reads back the bytes written for the body that the last of these arguments spells, and runs both
-/// bodies; then checks that no proper prefix of its operators is accepted.
+/// Reads back the bytes written for the body that the last of these arguments encodes, and runs
+/// both bodies; then checks that no proper prefix of its operators is accepted.
 fn check_body(alloc: Global, demo: &Demo, words: &str) -> Result<(), Fault> {
     let bytes = hex::decode(alloc, words.rsplit(' ').next().unwrap_or(""))?;
     check_source(alloc, demo, demo.source(&bytes))?;
@@ -183,7 +183,7 @@ impl Counts {
         Ok(())
     }
 
-    /// Counts the case that a line spells, and its body if it is accepted.
+    /// Counts the case in a line, and its body if it is accepted.
     fn take_line(&mut self, rt: &HostRuntime, demo: &Demo, line: &str) -> io::Result<()> {
         let row = Row::of_line(line);
         if self.take_row(rt, row)? == 0 {

@@ -12,7 +12,7 @@ use wasm_encode::FunctionEncoder;
 #[derive(Drop)]
 pub(crate) struct Written {
     bytes: Vec<u8>,
-    /// Where the operators begin.
+    /// The place of the first operator.
     operators: usize,
     /// The ids of the numbers that are written.
     undoing: IndicesToIds,

@@ -6,13 +6,13 @@ use std::collections::BTreeSet;
 use walrus_ir::TagId;
 use walrus_run::{Ending, Event, NamedBody, Outcome, Run, execute};
 
-/// How many outcomes there are to choose from.
+/// The number of outcomes to choose from.
 const CHOICES: usize = 8;
 
 /// The greatest number of outcomes that a run is given.
 const STEPS: usize = 10;
 
-/// How many lists of outcomes are tried for each number of turns.
+/// The number of lists of outcomes that are tried for each number of turns.
 const SEEDS: usize = 3;
 
 /// The numbers of turns.

@@ -19,6 +19,12 @@ path of `-` is standard input or output. OUT.wasm may be IN.wasm.
 
       --map FILE       write a line for each operator to FILE: its old and its new
                        offset from the start of the module, in hexadecimal
+      --source-map FILE
+                       read the source map of IN.wasm (version 3)
+      --output-source-map FILE
+                       write that of OUT.wasm, whose mappings follow the operators
+      --source-map-url URL
+                       write URL in OUT.wasm, as the place of its source map
       --strip-debug    leave out debug information and source maps
   -v, --verbose        print how many functions and bytes were read, and the time
   -h, --help           print this

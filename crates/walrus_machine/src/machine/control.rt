@@ -1,20 +1,21 @@
-//! What an operator does to the control.
+//! The effect of an operator on the control flow.
 
 use crate::named_op::NamedCatch;
 use walrus_ir::TagId;
 
-/// What an operator that neither opens, divides nor closes a construct does. Labels are depths.
+/// The effect of an operator that neither opens, divides nor closes a construct. Labels are depths,
+/// counted from the innermost construct.
 #[derive(Clone, Copy)]
 pub enum Action<'a> {
     /// Does nothing.
     Nop,
-    /// Does what any other operator does: it goes on, traps or raises.
+    /// Any other operator, calls included: goes on, traps or throws an exception.
     Plain,
-    /// Branches to a label.
+    /// Branches to a label (`br`).
     Branch(u32),
-    /// Branches to a label, or goes on.
+    /// Branches to a label, or goes on (`br_if`, and branches on references and casts).
     ConditionalBranch(u32),
-    /// Branches to one of these labels.
+    /// Branches to one of these labels (`br_table`).
     TableBranch {
         /// The labels of the table's entries.
         targets: &'a [u32],
@@ -25,11 +26,11 @@ pub enum Action<'a> {
     Return,
     /// Traps.
     Unreachable,
-    /// Raises an exception of a tag.
+    /// Throws an exception of a tag.
     Throw(TagId),
-    /// Raises the exception that is its operand.
+    /// Throws the exception that is its operand.
     ThrowRef,
-    /// Raises again the exception that the handler of this label caught.
+    /// Throws the exception again that the handler of this label caught.
     Rethrow(u32),
     /// Leaves the function with a tail call.
     TailCall,
@@ -50,7 +51,7 @@ pub enum Construct<'a> {
     TryTable(&'a [NamedCatch]),
 }
 
-/// What an operator does to the control (WebAssembly core specification 3.0, execution,
+/// The effect of an operator on the control flow (WebAssembly core specification 3.0, execution,
 /// instructions).
 #[derive(Clone, Copy)]
 pub enum Control<'a> {

@@ -15,12 +15,12 @@ use crate::machine::table::Table;
 use crate::named_op::NamedOp;
 use std::alloc::{AllocError, Global};
 
-/// Where the steps of a turn lead.
+/// The result of the steps of a turn.
 #[derive(Drop)]
 pub enum Stop {
-    /// To a place, by its position, with a branch to a loop, which uses up a turn.
+    /// A branch to a loop: the run goes on at the place with this position, and a turn is used up.
     Turn(usize),
-    /// To the end of the run.
+    /// The run ends.
     Over(Ending),
 }
 

@@ -17,7 +17,7 @@ pub struct Label<'a> {
     ghost fits: { opener + 1 < 2 ^ 64 },
 }
 
-/// What a construct does with an exception that leaves it.
+/// The response of a construct to an exception that leaves it.
 #[derive(Clone, Copy)]
 pub enum Response {
     /// It passes the exception outwards.

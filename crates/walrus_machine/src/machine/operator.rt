@@ -1,4 +1,4 @@
-//! What a named operator does to the control.
+//! The effect of a named operator on the control flow.
 ghost use Rattle.std.specs.Prelude.{◌≡◌, ◌∷◌, List, unwrap_or, map, IfOk};
 ghost use Rattle.wasm_operators.specs.Types.{row_at};
 ghost use Rattle.wasm_body.specs.Control as C;
@@ -13,7 +13,7 @@ use std::alloc::{AllocError, Global};
 use walrus_ir::TagId;
 use wasm_operators::Opcode;
 
-/// The kind of an operator with respect to the control, from its opcode.
+/// The kind of an operator with respect to the control flow, by its opcode.
 #[derive(Clone, Copy)]
 pub enum Role {
     /// `unreachable`.
@@ -201,7 +201,7 @@ impl NamedImmediates {
     }
 }
 
-/// What a named operator does to the control.
+/// The effect of a named operator on the control flow. Lists are borrowed from the operator.
 pub fn control(op: &NamedOp) -> Control<'_>
     ensures { control_meaning result ≡ C.control_of (named_operation op.now) }
 {
@@ -231,7 +231,11 @@ pub fn control(op: &NamedOp) -> Control<'_>
     }
 }
 
-/// What each of these operators does to the control.
+/// The effect of each of these operators on the control flow.
+///
+/// # Errors
+///
+/// `AllocError` if memory runs out.
 pub fn controls(alloc: Global, ops: &[NamedOp]) -> Result<Vec<Control<'_>>, AllocError>
     ensures { IfOk result (λ cs. map control_meaning cs.items
         ≡ map C.control_of (map named_operation ops.now)) }

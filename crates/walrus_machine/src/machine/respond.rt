@@ -1,4 +1,4 @@
-//! What a construct does with an exception that leaves it.
+//! The response of a construct to an exception that leaves it.
 ghost use Rattle.std.specs.Prelude.{◌≡◌, ◌+◌, ℕ, List, map};
 ghost use Rattle.wasm_body.specs.Control.{Control as Meaning};
 ghost use Rattle.wasm_body.specs.Machine as M;
@@ -13,7 +13,7 @@ use crate::named_op::NamedCatch;
 use std::collections::BTreeSet;
 use walrus_ir::TagId;
 
-/// What a `try_table` with these clauses does: the first clause that catches the exception
+/// The response of a `try_table` with these clauses: the first clause that catches the exception
 /// branches.
 fn jump(clauses: &[NamedCatch], tags: &BTreeSet<TagId>) -> Response
     ensures { (cs : List Meaning) → response_of cs result
@@ -35,8 +35,8 @@ fn jump(clauses: &[NamedCatch], tags: &BTreeSet<TagId>) -> Response
     Response::Passes
 }
 
-/// What a legacy `try` does when an exception leaves its body: the handler of the first clause that
-/// catches it is entered; `delegate` passes it on.
+/// The response of a legacy `try` to an exception that leaves its body: the handler of the first
+/// clause that catches it is entered; `delegate` passes it on.
 fn catch(table: &Table<'_>, opener: usize, tags: &BTreeSet<TagId>) -> Response
     ensures { response_of table.now result ≡ M.try_responds tags.now.keys
         (M.seek (M.catches tags.now.keys) 0 0 (place_at table.now (opener + 1))) }
@@ -75,7 +75,7 @@ impl<'a> Label<'a> {
         }
     }
 
-    /// What the construct of the label does with an exception that leaves it.
+    /// The response of the construct of the label to an exception that leaves it.
     pub fn respond(&self, table: &Table<'_>, tags: &BTreeSet<TagId>) -> Response
         ensures { response_of table.now result
             ≡ M.responds tags.now.keys (label_of table.now self.now) }

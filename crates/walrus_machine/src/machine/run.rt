@@ -3,24 +3,24 @@
 use std::collections::BTreeSet;
 use walrus_ir::TagId;
 
-/// What happens at an operator as far as the control doesn't decide it: by its operands, the store,
-/// a callee or the host.
+/// The part of an operator's execution that its operands, the store, a callee or the host decide.
+/// The machine has no values, so outcomes are its input.
 #[derive(Drop)]
 pub enum Outcome {
     /// The operator goes on.
     Go,
     /// The operator traps.
     Trap,
-    /// The operator raises an exception that a clause with any of these tags catches.
+    /// The operator throws an exception, which a clause with any of these tags catches.
     Raise(BTreeSet<TagId>),
-    /// Whether the condition holds or the branch is taken.
+    /// Whether the condition of an `if` is true, or a conditional branch is taken.
     Way(bool),
     /// The operand of a `br_table`, counted from 0. It means the default if the table has no such
     /// entry.
     Entry(u32),
 }
 
-/// What happened in a run. Operators are given by their positions in the list that runs.
+/// An event of a run. Operators are given by their positions in the list that runs, from 0 on.
 #[derive(Clone, Copy, Debug, PartialEq, Eq)]
 pub enum Event {
     /// The operator at this position was executed.
@@ -55,10 +55,10 @@ pub enum Ending {
     Mismatch,
 }
 
-/// A run: what happened, in order, and how it ended.
+/// A run: its events, in order, and how it ended.
 #[derive(Drop)]
 pub struct Run {
-    /// What happened.
+    /// The events, in order.
     pub events: Vec<Event>,
     /// How it ended.
     pub ending: Ending,

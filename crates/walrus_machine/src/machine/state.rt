@@ -21,18 +21,18 @@ pub struct State<'a> {
     pub labels: Vec<Label<'a>>,
     /// The outcomes that remain.
     pub outcomes: &'a [Outcome],
-    /// What happened so far.
+    /// The events so far.
     pub events: Vec<Event>,
 }
 
-/// Where a step leads.
+/// The result of a step.
 #[derive(Drop)]
 pub enum Next {
-    /// To a place, by its position.
+    /// The run goes on at the place with this position.
     On(usize),
-    /// To a place, by its position, with a branch to a loop, which uses up a turn.
+    /// A branch to a loop: the run goes on at this place, and a turn is used up.
     Turn(usize),
-    /// To the end of the run.
+    /// The run ends.
     Over(Ending),
 }
 

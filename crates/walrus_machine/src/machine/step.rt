@@ -167,7 +167,7 @@ impl<'a> State<'a> {
         }
     }
 
-    /// A `rethrow`, which raises the tags that the handler of a label caught.
+    /// A `rethrow`, which throws an exception with the tags that the handler of a label caught.
     fn rethrow(&mut self, table: &Table<'_>, position: usize, n: u32) -> Result<Next, AllocError>
         ensures { IfOk result (λ next.
             Steps table.now (C.Does (C.Rethrow n)) position self.old next self.new) }
@@ -201,8 +201,8 @@ impl<'a> State<'a> {
         Ok(())
     }
 
-    /// The way of an `if` whose condition doesn't hold: past its `else`, or past its `end` if there
-    /// is no `else`.
+    /// An `if` whose condition is false: the run goes on after its `else`, or after its `end` if
+    /// there is no `else`.
     fn other_way(&mut self, table: &Table<'_>, position: usize) -> Result<Next, AllocError>
         requires { position + 1 < 2 ^ 64 }
         ensures { IfOk result (λ next. Leads table.now (λ _ go ls o.
@@ -330,7 +330,11 @@ impl<'a> State<'a> {
         }
     }
 
-    /// One step: the operator at a position.
+    /// One step: executes the operator at a position.
+    ///
+    /// # Errors
+    ///
+    /// `AllocError` if memory runs out.
     pub fn step(
         &mut self,
         table: &Table<'_>,

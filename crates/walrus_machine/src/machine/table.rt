@@ -15,7 +15,7 @@ use std::collections::BTreeSet;
 use std::marker::Model;
 use walrus_ir::{TagId, kind, law_ids};
 
-/// What is ahead of a place in a construct around it, as positions.
+/// The next part and the end of a construct around a place, as positions.
 #[derive(Clone, Copy)]
 pub struct Ahead {
     /// The next part of the construct, or its closer.
@@ -24,17 +24,17 @@ pub struct Ahead {
     pub behind: usize,
 }
 
-/// What is ahead of a place in each construct around it, the innermost last.
+/// The same for each construct around a place, the innermost last.
 #[derive(Drop)]
 pub struct Levels {
-    /// What is ahead in each construct.
+    /// The next part and the end of each construct.
     pub levels: Vec<Ahead>,
-    /// How many operators there are: the place after the last.
+    /// The number of operators, which is the place after the last.
     pub end: usize,
 }
 
 impl Levels {
-    /// What is ahead in the innermost construct.
+    /// The next part and the end of the innermost construct.
     fn innermost(&self) -> Ahead
         ensures { (cs : List Meaning) → (place : ℕ) → StandAhead cs place self.now
             → IsAhead cs 0 place result }
@@ -119,20 +119,20 @@ impl Wanted<'_> {
     }
 }
 
-/// Where a search among the parts of a construct ended: at the wanted part, or at the closer.
+/// The result of a search among the parts of a construct: the wanted part, or the closer.
 #[derive(Clone, Copy)]
 pub struct Found {
-    /// How many parts the search passed.
+    /// The number of parts that the search passed.
     pub passed: usize,
     /// Its position; the number of operators if the construct has no closer.
     pub position: usize,
 }
 
-/// The operators of a body, in terms of what each does to the control.
+/// The operators of a body: the control of each, and the next part and the end of its construct.
 #[derive(Drop)]
 pub struct Table<'a> {
     controls: Vec<Control<'a>>,
-    /// What is ahead of the place after each operator.
+    /// The next part and the end of the innermost construct, for the place after each operator.
     ahead: Vec<Ahead>,
 }
 
@@ -152,6 +152,10 @@ impl<'a> Model for Table<'a> {
 
 impl<'a> Table<'a> {
     /// The table of these operators.
+    ///
+    /// # Errors
+    ///
+    /// `AllocError` if memory runs out.
     pub fn new(alloc: Global, controls: Vec<Control<'a>>) -> Result<Table<'a>, AllocError>
         ensures { IfOk result (λ t. t ≡ map control_meaning controls.entry.items) }
     {
@@ -170,14 +174,14 @@ impl<'a> Table<'a> {
         Ok(Table { controls, ahead })
     }
 
-    /// How many operators there are.
+    /// The number of operators.
     pub fn len(&self) -> usize
         ensures { result ≡ length self.now }
     {
         self.controls.len()
     }
 
-    /// What the operator at a position does to the control; none if there is no operator.
+    /// The control of the operator at a position; none if there is no operator.
     pub fn control(&self, position: usize) -> Option<&Control<'a>>
         ensures control { control_at result ≡ slice_get self.now position }
         ensures fits { length self.now ≤ usize.MAX }

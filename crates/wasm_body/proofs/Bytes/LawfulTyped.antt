@@ -92,7 +92,7 @@ named_typed env fs o named kinds e =
     (test_passed (is_some (pick env.types s)) TypeMissing typed.0 (opener_has_pick env fs r is.0 k typed.0 held h)) in
     subst (λ j. IsTypedAs m (role_of j.opcode) j) same (typed_as m r k count picks)
 
--- ---- what follows from a rule at each operator of a tree
+-- ---- consequences of a rule at each operator of a tree
 
 module _ {A : Type 0} (R : Rule A) (P : A → Control → Type 0)
     (given : (frames : List (Frame A)) (a : A) (c : Control) → R frames (with_control a c) → P a c) where

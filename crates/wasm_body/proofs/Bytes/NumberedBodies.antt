@@ -155,7 +155,7 @@ module _ (Q : EmitError → Type 0) (env : Environment) (to : Numbers) (has : Ar
   abbrev pub writing : TextTranslation ℕ BlockType
   writing = then_by (numbering to)
 
-  -- what is written for an operator as it is read, in a sequence of the type
+  -- the text of an operator as it is read, in a sequence of the type
   abbrev renumbered : InstrSeqType → Translation ℕ BlockType ℕ BlockType EmitError
   renumbered t = record {
     index = λ space n. (numbers_in_32_bits to).number_of space (sure_number (id_at env space n));
@@ -254,7 +254,7 @@ module _ (Q : EmitError → Type 0) (env : Environment) (to : Numbers) (has : Ar
       by_blocks [] h = tt
       by_blocks (s ∷ ss) h = by_pick s h.0.0 h.0.1 (pick env.types s) refl
 
-  -- what is written for an operator's one immediate
+  -- the text of an operator's one immediate
   alone_within : (o : NamedOperation) (i : Immediate ℕ Signature) (k : Immediate Target (Unit {0})) → o.immediates ≡ i ∷ [] → sure (translate_immediates kept (i ∷ [])) ≡ k ∷ [] →
       IfErr (translate (typed writing (Simple None)) (kept_operation o)) Q → IfErr (translate_immediate (typed writing (Simple None)) k) Q
   alone_within o i k e kept_so h =

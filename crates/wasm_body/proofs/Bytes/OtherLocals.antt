@@ -194,7 +194,7 @@ module _ (P : ℕ → Type 0) where
   joined (x ∷ xs) ys h g = (h.0, joined xs ys h.1 g)
 
   module _ (m : Typing) where
-    -- an instruction's locals, those of the sequences in it, and those of what follows
+    -- an instruction's locals, those of the sequences in it, and those of the instructions after it
     item_has : (a : Located NamedOperation) (cs : List LegacyClause) (inside : List ℕ) (r : Sequence (Located NamedOperation)) → AllByRecursion P (locals_among a.op.immediates)
         → AllByRecursion P inside → AllByRecursion P (locals_in (normal m r)) → AllByRecursion P (locals_among (instruction a cs).op.immediates ++ (inside ++ locals_in (normal m r)))
     item_has a cs inside r h g k =

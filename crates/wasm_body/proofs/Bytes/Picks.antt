@@ -98,7 +98,7 @@ existing_stands types [] (r ∷ []) t e = let k : Simple (Some r) ≡ t = cc in 
 existing_stands types [] (r ∷ s ∷ rs) t e = found_stands types [] (r ∷ s ∷ rs) t (find types [] (r ∷ s ∷ rs)) refl e
 existing_stands types (p ∷ ps) rs t e = found_stands types (p ∷ ps) rs t (find types (p ∷ ps) rs) refl e
 
--- where a type is picked, it has the signature, whatever the default is
+-- if a type is picked, it has the signature, whatever the default is
 pub pick_stands : (types : List ModuleType) (s : Signature) (other : InstrSeqType) → is_some (pick types s) ≡ true
     → signature_of_type types (unwrap_or (pick types s) other) ≡ Some s
 pick_stands types s other e = by_pick (pick types s) refl e

@@ -36,7 +36,7 @@ legacy_clause_of_all = refl
 legacy_clause_of_delegate : legacy_clause (legacy_catch.Delegate 2) ≡ delegates 2
 legacy_clause_of_delegate = refl
 
--- ---- targets, where the sequences at the places 5 and 3 are open
+-- ---- targets, if the sequences at the places 5 and 3 are open
 
 own_sequence : target_in (5 ∷ 3 ∷ []) 5 ≡ Depth 0
 own_sequence = refl

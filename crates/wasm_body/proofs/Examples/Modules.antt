@@ -19,7 +19,7 @@ number = signature [] (I32 ∷ [])
 abbrev pub number_to_number : Signature
 number_to_number = signature (I32 ∷ []) (I32 ∷ [])
 
--- Of function 0, where the old indices, from 0 on, map to these ids and locals.
+-- For function 0: the old indices, from 0 on, map to these ids and locals.
 abbrev pub environment : List ModuleType → (tags : List ℕ) → (Space → List ℕ) → (locals : List ℕ) → (type : ℕ) → Environment
 environment types tags ids locals type = record {
   types = types;

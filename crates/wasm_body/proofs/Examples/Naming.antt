@@ -20,7 +20,7 @@ the_names os = names demo os
 
 -- ---- names
 
--- 02 02 0b 20 01 1a 10 01 08 00 0b, where the old indices are others than the ids
+-- 02 02 0b 20 01 1a 10 01 08 00 0b, with old indices that differ from the ids
 by_ids : names odd (block (FuncType 0) ∷ end ∷ local_get 1 ∷ drop ∷ call 1 ∷ throw 0 ∷ end ∷ [])
     ≡ Is (block number_to_number ∷ end ∷ local_get 5 ∷ drop ∷ call 3 ∷ throw 2 ∷ end ∷ [])
 by_ids = refl
@@ -37,11 +37,11 @@ by_ids_in_types = refl
 by_ids_in_casts : names odd (br_on_null_cast 0 (Concrete 2) (Concrete 0) ∷ end ∷ []) ≡ Is (br_on_null_cast 0 (Concrete 0) (Concrete 2) ∷ end ∷ [])
 by_ids_in_casts = refl
 
--- 02 04 0b 0b: an entry type is a block type where it has an old index
+-- 02 04 0b 0b: an entry type is a block type if it has an old index
 entry_as_block_type : names odd (block (FuncType 4) ∷ end ∷ end ∷ []) ≡ Is (block nothing ∷ end ∷ end ∷ [])
 entry_as_block_type = refl
 
--- a tag that the module doesn't have, where only its old index is needed
+-- a tag that the module doesn't have, if only its old index is needed
 unheld_tag : names odd (try_table Empty (catches 3 0 ∷ []) ∷ throw 3 ∷ end ∷ end ∷ [])
     ≡ Is (try_table nothing (catches 8 0 ∷ []) ∷ throw 8 ∷ end ∷ end ∷ [])
 unheld_tag = refl

@@ -1,4 +1,4 @@
--- Normal forms: their trees, and what is written for them.
+-- Normal forms: their trees, and the operators that are written for them.
 use Rattle.std.specs.Prelude.{◌≡◌, ℕ, List, [], ◌∷◌, Some, None, refl}
 use Rattle.walrus_ir.specs.declared.val_type.InstrSeqType.TheVariants.{Simple, MultiValue}
 use Rattle.walrus_ir.specs.declared.val_type.ValType.TheVariants.{I32}
@@ -44,7 +44,7 @@ ends_of_if_alone : tree demo (const 1 ∷ if Empty ∷ unreachable ∷ end ∷ e
     no_items))
 ends_of_if_alone = refl
 
--- 02 01 41 05 0f 0b 00 0b: a block, and what follows where its inside is dead
+-- 02 01 41 05 0f 0b 00 0b: a block whose inside is dead, and the operators after it
 ends_of_block : tree demo (const 1 ∷ block (FuncType 1) ∷ drop ∷ return ∷ drop ∷ end ∷ unreachable ∷ end ∷ [])
     ≡ of_demo 7
     (alone (const 1) 0
@@ -52,7 +52,8 @@ ends_of_block : tree demo (const 1 ∷ block (FuncType 1) ∷ drop ∷ return �
     (alone unreachable 6 no_items)))
 ends_of_block = refl
 
--- 06 40 41 05 08 01 07 01 1a 19 0b 0b: the handler of a tag takes its parameters; each sequence ends where the next clause begins
+-- 06 40 41 05 08 01 07 01 1a 19 0b 0b: the handler of a tag takes its parameters; each sequence ends where the next clause
+-- begins
 ends_of_try : tree demo (try Empty ∷ const 5 ∷ throw 1 ∷ catch 1 ∷ drop ∷ catch_all ∷ end ∷ end ∷ [])
     ≡ of_demo 7
     (an_item (try tt) (handles 1 ∷ handles_all ∷ []) 0
@@ -154,7 +155,7 @@ kept_locations : text demo (try Empty ∷ throw 0 ∷ nop ∷ const 7 ∷ catch 
     ≡ Is (at_location (try nothing) 0 ∷ at_location (throw 0) 1 ∷ at_location (catch 0) 4 ∷ at_location catch_all 5 ∷ at_location end 6 ∷ at_location end 7 ∷ [])
 kept_locations = refl
 
--- ---- what is written
+-- ---- the operators that are written
 
 abbrev IsWrittenAs : List RawOperation → List RawOperation → Type 0
 IsWrittenAs source target = written_operators demo demo_numbers source ≡ Is target
@@ -220,7 +221,7 @@ dropped_if = refl
 dropped_try : IsWrittenAs (return ∷ try Empty ∷ delegate 0 ∷ end ∷ []) (return ∷ end ∷ [])
 dropped_try = refl
 
--- 02 40 02 40 0c 01 0b 41 05 1a 0b 0b: what follows a block whose inside is dead
+-- 02 40 02 40 0c 01 0b 41 05 1a 0b 0b: the operators after a block whose inside is dead
 behind_dead_block : IsKept (block Empty ∷ block Empty ∷ br 1 ∷ end ∷ const 5 ∷ drop ∷ end ∷ end ∷ [])
 behind_dead_block = refl
 
@@ -252,7 +253,7 @@ written_else = refl
 left_out_inside : IsWrittenAs (if Empty ∷ else ∷ if Empty ∷ else ∷ end ∷ end ∷ end ∷ []) (if Empty ∷ else ∷ if Empty ∷ end ∷ end ∷ end ∷ [])
 left_out_inside = refl
 
--- 04 00 0b and 04 00 05 0b, where the type has a number as parameter and as result; and 04 01 1a 0b, where it has only a parameter
+-- 04 00 0b and 04 00 05 0b, with a type that has a number as parameter and as result; and 04 01 1a 0b, with only a parameter
 kept_if_with_number : written_operators odd odd_numbers (if (FuncType 0) ∷ end ∷ end ∷ []) ≡ Is (if (FuncType 2) ∷ end ∷ end ∷ [])
 kept_if_with_number = refl
 
@@ -299,7 +300,7 @@ kept_table_alone = refl
 kept_load : IsKept (const 0 ∷ load 2 ∷ drop ∷ end ∷ [])
 kept_load = refl
 
--- 10 01 20 01 0b, where old indices are others than ids: the numbers are those of the ids
+-- 10 01 20 01 0b, with old indices that differ from ids: the numbers are those of the ids
 by_numbers : written_operators odd odd_numbers (call 1 ∷ local_get 1 ∷ drop ∷ end ∷ []) ≡ Is (call 3 ∷ local_get 5 ∷ drop ∷ end ∷ [])
 by_numbers = refl
 

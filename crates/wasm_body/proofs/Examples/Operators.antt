@@ -92,6 +92,12 @@ try_table type cs = by_byte 0x1f (block_type type ∷ clauses cs ∷ [])
 abbrev pub local_get : {L B : Type 0} → ℕ → Operation L B
 local_get n = by_byte 0x20 (local n ∷ [])
 
+abbrev pub local_set : {L B : Type 0} → ℕ → Operation L B
+local_set n = by_byte 0x21 (local n ∷ [])
+
+abbrev pub add : {L B : Type 0} → Operation L B
+add = by_byte 0x6a []
+
 abbrev pub const : {L B : Type 0} → ℕ → Operation L B
 const n = by_byte 0x41 (i32 (pos n) ∷ [])
 

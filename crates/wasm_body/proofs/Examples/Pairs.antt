@@ -20,7 +20,7 @@ use Rattle.wasm_body.proofs.Examples.Modules.{demo, demo_numbers}
 use Rattle.wasm_body.proofs.Examples.Rows.{tree, tree_or_empty}
 use Rattle.wasm_body.proofs.Examples.Parses.{setting_from}
 
--- ---- of operators that are given by hand, where a location is the number in the list, after a byte of declarations
+-- ---- of operators that are given by hand; a location is the number in the list, after a byte of declarations
 
 abbrev pairs : List RawOperation → Result (List Pair) EmitError
 pairs os = tree_pairs demo_numbers (tree_or_empty (tree demo os)) 1
@@ -45,7 +45,7 @@ of_delegate : pairs (try Empty ∷ delegate 0 ∷ end ∷ []) ≡ Ok ((0, 1) ∷
 unfolding short_unsigned
 of_delegate = refl
 
--- 01 10 00 0b: what is dropped has no pair
+-- 01 10 00 0b: an operator that is dropped has no pair
 of_nop : pairs (nop ∷ call 0 ∷ end ∷ []) ≡ Ok ((1, 1) ∷ (2, 3) ∷ [])
 unfolding short_unsigned
 of_nop = refl
@@ -94,7 +94,7 @@ location_of_else : pairs_of_body (parsed (setting_from 1 (Some none_for_end)) wi
 unfolding read_operation opcode kinds_of_byte integer short_signed
 location_of_else = refl
 
--- the pair with a place is found, where there is one
+-- the pair with a place is found, if there is one
 at_first : location_in of_row 1 ≡ Some 102
 at_first = refl
 

@@ -79,7 +79,7 @@ truncated : locations (setting_from 0 None) (0x0f ∷ 0x41 ∷ []) ≡ Err (fail
 unfolding read_operation opcode kinds_of_byte integer
 truncated = refl
 
--- 01 01 01 0b and 01 01 ff, where the third operator is refused: the read comes first
+-- 01 01 01 0b and 01 01 ff, with a validator that refuses the third operator: the read comes first
 third_refused : locations (setting_by demo 2 0 None) (0x01 ∷ 0x01 ∷ 0x01 ∷ 0x0b ∷ []) ≡ Err (failure (Checked 7) 2)
 unfolding read_operation opcode kinds_of_byte
 third_refused = refl

@@ -50,7 +50,7 @@ dropped_dead : IsRewrittenAs (0x0f ∷ 0x41 ∷ 0x07 ∷ 0x1a ∷ 0x0b ∷ []) (
 unfolding read_operation opcode kinds_of_byte integer
 dropped_dead = refl
 
--- 41 81 00 1a 0b: the shortest spelling
+-- 41 81 00 1a 0b: the shortest encoding
 shortest : IsRewrittenAs (0x41 ∷ 0x81 ∷ 0x00 ∷ 0x1a ∷ 0x0b ∷ []) (0x41 ∷ 0x01 ∷ 0x1a ∷ 0x0b ∷ [])
 unfolding read_operation opcode kinds_of_byte integer short_signed
 shortest = refl
@@ -86,7 +86,7 @@ loop_with_branch : IsRewrittenAs (0x03 ∷ 0x40 ∷ 0x41 ∷ 0x01 ∷ 0x0d ∷ 0
 unfolding read_operation opcode kinds_of_byte integer short_unsigned short_signed
 loop_with_branch = refl
 
--- 41 00 0e 02 00 80 00 00 01 0b: what follows the table is dropped
+-- 41 00 0e 02 00 80 00 00 01 0b: the operators after the table are dropped
 table_of_labels : IsRewrittenAs (0x41 ∷ 0x00 ∷ 0x0e ∷ 0x02 ∷ 0x00 ∷ 0x80 ∷ 0x00 ∷ 0x00 ∷ 0x01 ∷ 0x0b ∷ []) (0x41 ∷ 0x00 ∷ 0x0e ∷ 0x02 ∷ 0x00 ∷ 0x00 ∷ 0x00 ∷ 0x0b ∷ [])
 unfolding read_operation opcode kinds_of_byte integer label_table many short_table short_unsigned short_signed
 table_of_labels = refl
@@ -96,7 +96,8 @@ calls : IsRewrittenAs (0x10 ∷ 0x01 ∷ 0x11 ∷ 0x03 ∷ 0x00 ∷ 0x0b ∷ [])
 unfolding read_operation opcode kinds_of_byte integer short_unsigned
 calls = refl
 
--- 02 63 70 00 0b 1a 0b, 02 63 03 00 0b 1a 0b and 02 64 6f 00 0b 1a 0b: a nullable reference to an abstract heap type is one byte
+-- 02 63 70 00 0b 1a 0b, 02 63 03 00 0b 1a 0b and 02 64 6f 00 0b 1a 0b: a nullable reference to an abstract heap type is one
+-- byte
 short_reference : IsRewrittenAs (0x02 ∷ 0x63 ∷ 0x70 ∷ 0x00 ∷ 0x0b ∷ 0x1a ∷ 0x0b ∷ []) (0x02 ∷ 0x70 ∷ 0x00 ∷ 0x0b ∷ 0x1a ∷ 0x0b ∷ [])
 unfolding read_operation opcode kinds_of_byte integer value_at nullable_at heap_at
 short_reference = refl

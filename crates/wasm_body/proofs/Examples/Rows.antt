@@ -42,7 +42,7 @@ as_text (Err e) = Unwritten e
 
 -- ---- naming
 
--- from the number i on, where these frames are around
+-- from the number i on, inside these frames
 abbrev named_from : Environment → Option (List (Frame Occurrence)) → ℕ → List RawOperation → Answer (List Occurrence)
 named_from env frames i [] = Is []
 named_from env None i (o ∷ os) = Refused Trailing i
@@ -92,7 +92,7 @@ a_run events ending = Is (record { events = events; ending = ending })
 abbrev pub trace : Environment → List RawOperation → List Outcome → (turns : ℕ) → Answer (Run ℕ)
 trace env os outcomes turns = after_answer (names env os) (λ ns. Is (run_by_place (map control_of ns) outcomes turns))
 
--- ---- the subjects of the laws: the operators and the body, where there is no fault
+-- ---- the subjects of the laws: the operators and the body, if there is no fault
 
 abbrev named_operators : Answer (List Occurrence) → List (Located NamedOperation)
 named_operators (Is xs) = map name_at xs

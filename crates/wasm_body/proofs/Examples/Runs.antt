@@ -24,7 +24,7 @@ raise_0 = Raise (0 ∷ [])
 
 -- ---- blocks and branches
 
--- 02 40 0c 00 41 07 1a 0b 41 05 1a 0b: a branch out of a block passes over what follows it there
+-- 02 40 0c 00 41 07 1a 0b 41 05 1a 0b: a branch out of a block skips the operators after it in the block
 out_of_block : runs (block Empty ∷ br 0 ∷ const 7 ∷ drop ∷ end ∷ const 5 ∷ drop ∷ end ∷ []) (Go ∷ Go ∷ []) 0
     ≡ a_run (executions (0 ∷ 1 ∷ 5 ∷ 6 ∷ [])) Returned
 out_of_block = refl
@@ -250,7 +250,7 @@ delegated_outwards : runs (try Empty ∷ block Empty ∷ try Empty ∷ throw 0 �
     ≡ a_run (Executed 0 ∷ Executed 1 ∷ Executed 2 ∷ Executed 3 ∷ Taken 0 0 None ∷ []) Returned
 delegated_outwards = refl
 
--- 06 40 08 00 07 00 06 40 08 00 18 00 0b 0b: a `try` that is in its handler passes on what is delegated to it
+-- 06 40 08 00 07 00 06 40 08 00 18 00 0b 0b: a `try` that is in its handler passes on an exception that is delegated to it
 delegated_in_handler : runs (try Empty ∷ throw 0 ∷ catch 0 ∷ try Empty ∷ throw 0 ∷ delegate 0 ∷ end ∷ end ∷ []) (raise_0 ∷ raise_0 ∷ []) 0
     ≡ a_run (Executed 0 ∷ Executed 1 ∷ Taken 0 0 (Some 0) ∷ Executed 3 ∷ Executed 4 ∷ []) (Escaped (0 ∷ []))
 delegated_in_handler = refl

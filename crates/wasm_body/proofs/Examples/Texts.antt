@@ -1,4 +1,4 @@
--- Texts of trees that are given by hand: lawful clauses, exponents, and what can't be written.
+-- Texts of trees that are given by hand: lawful clauses, exponents, and trees that can't be written.
 use Rattle.std.specs.Prelude.{◌≡◌, ℕ, ◌^◌, List, [], ◌∷◌, true, false, Some, None, Result, Ok, Err, refl}
 use Rattle.walrus_ir.specs.declared.val_type.ValType.TheVariants.{I32}
 use Rattle.walrus_ir.specs.declared.val_type.InstrSeqType.{InstrSeqType}
@@ -76,7 +76,7 @@ exponent_of_one = refl
 exponent_of_none : exponent_of 0 ≡ 0
 exponent_of_none = refl
 
--- ---- what is written, and what can't be written
+-- ---- trees that are written, and trees that can't be written
 
 -- a tree of one instruction, with these sequences in it
 abbrev of_one : TreeOperation → List LegacyClause → Sequences Head Instruction → FunctionTree
@@ -101,8 +101,8 @@ own_type : writes demo_numbers (of_one (block tt) [] (empty_sequence (MultiValue
     ≡ Ok (at_location (block (FuncType 3)) 0 ∷ at_location end 0 ∷ at_location end 0 ∷ [])
 own_type = refl
 
--- an empty `if` of a type that has no parameters and no results, or of a function type or an entry type without both, is short; the
--- type of its consequent decides
+-- an empty `if` of a type that has no parameters and no results, or of a function type or an entry type without both, is short;
+-- the type of its consequent decides
 short_if : writes demo_numbers (of_one (if tt) [] two_sequences) ≡ Ok (at_location (if Empty) 0 ∷ at_location end 0 ∷ at_location end 0 ∷ [])
 short_if = refl
 
@@ -127,7 +127,7 @@ long_if_of_no_type : writes demo_numbers (of_one (if tt) [] (empty_sequence (Mul
     ≡ Ok (at_location (if (FuncType 9)) 0 ∷ at_location else 0 ∷ at_location end 0 ∷ at_location end 0 ∷ [])
 long_if_of_no_type = refl
 
--- the `end` of a short one has the location of the alternative's end, and that of the consequent's only where that is the default
+-- the `end` of a short one has the location of the alternative's end, and that of the consequent's only if that is the default
 abbrev ends_at : ℕ → ℕ → Sequences Head Instruction
 ends_at l m = sequence (head (Simple None) l) no_items (sequence (head (Simple None) m) no_items no_sequences)
 
@@ -150,7 +150,7 @@ bad_delegate = refl
 delegate_first : writes demo_numbers (of_one (try tt) (delegates 0 ∷ handles_all ∷ []) two_sequences) ≡ Err BadClauses
 delegate_first = refl
 
--- also where the type of the `try` has no number
+-- also if the type of the `try` has no number
 bad_clauses_first : writes no_numbers (of_one (try tt) (handles_all ∷ handles_all ∷ []) (empty_sequence (MultiValue 3) two_sequences)) ≡ Err BadClauses
 bad_clauses_first = refl
 

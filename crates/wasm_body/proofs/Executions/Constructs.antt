@@ -21,7 +21,7 @@ abbrev Exits : Type 0 → Construct → Type 0
 Exits A k = (next on : From A) (l : Label A) (labels : List (Label A)) (outcomes : List Outcome)
     → arrive next on k l labels outcomes ≡ on (behind_closer l.behind) labels outcomes
 
--- where an exception that reaches the label does the same
+-- if an exception that reaches the label does the same
 pub exit_outside : {A : Type 0}
     → (a : A) (k : Construct) (caught : Option Tags) (t : ℕ) (x x' c c' r r' : List (Marked A)) (labels labels' : List (Label A))
     → Exits A k
@@ -40,7 +40,7 @@ exit_outside a k caught t x x' c c' r r' ls ls' exits cl cl' agree own_raise =
     ∙ (ap (λ p. go the_count u m p ls' o) (sym cl'.behind) ∙ sym (exits (again the_count u) (go the_count u m) (label_of a k caught x') ls' o)))))
     own_raise refl
 
--- where the construct passes exceptions on
+-- if the construct passes exceptions on
 pub passing_outside : {A : Type 0}
     → (a : A) (k : Construct) (caught : Option Tags) (t : ℕ) (x x' c c' r r' : List (Marked A)) (labels labels' : List (Label A))
     → Exits A k

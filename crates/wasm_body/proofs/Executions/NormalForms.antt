@@ -46,7 +46,7 @@ else_rewrites false a i e b b' c c' l n r r' none f h g = if_else f h g
 
 module _ (balanced : NamedOperation → Bool) where
   mutual
-    rewritten_rewrites : (s : Sequence Named) → RewritesTo s (rewritten balanced s)
+    pub rewritten_rewrites : (s : Sequence Named) → RewritesTo s (rewritten balanced s)
     rewritten_rewrites Empty = empty
     rewritten_rewrites (Single a action r) = single_rewrites a action r (rewritten balanced r) (rewritten_rewrites r)
     rewritten_rewrites (Wrapped a w b e r) = wrapped (rewritten_rewrites b) (rewritten_rewrites r)

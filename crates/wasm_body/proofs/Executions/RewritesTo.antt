@@ -17,7 +17,7 @@ mutual
     empty : RewritesTo Empty Empty
     drop_nop : {a : A} {r r' : Sequence A} → RewritesTo r r' → RewritesTo (Single a Nop r) r'
     keep : {a : A} {action : Action} {r r' : Sequence A} → RewritesTo r r' → RewritesTo (Single a action r) (Single a action r')
-    cut : {a : A} {action : Action} {r r' : Sequence A} → fate action ≡ Cuts → RewritesTo (Single a action r) (Single a action r')
+    cut : {a : A} {action : Action} {r : Sequence A} → fate action ≡ Cuts → RewritesTo (Single a action r) (Single a action Empty)
     wrapped : {a e e' : A} {w : Wrapper} {b b' r r' : Sequence A} → RewritesTo b b' → RewritesTo r r'
         → RewritesTo (Wrapped a w b e r) (Wrapped a w b' e' r')
     if_then : {a e e' : A} {b b' r r' : Sequence A} → RewritesTo b b' → RewritesTo r r' → RewritesTo (IfThen a b e r) (IfThen a b' e' r')
@@ -80,7 +80,7 @@ Alike {A} s s' =
     (t : ℕ) (k k' : List (Marked A)) (labels labels' : List (Label A)) → Agree t k labels k' labels'
     → Same t (text s k) labels (text s' k') labels'
 
--- the places after an item agree, where the places after the sequence agree
+-- the places after an item agree, if the places after the sequence agree
 rest_agrees : {A : Type 0} → (s s' : Sequence A) → Alike s s' → (t : ℕ) (k k' : List (Marked A)) (labels labels' : List (Label A))
     → Agree t k labels k' labels' → Agree t (text s k) labels (text s' k') labels'
 rest_agrees s s' alike t k k' ls ls' agree = record {
@@ -123,7 +123,7 @@ module _ {A : Type 0} (t : ℕ) (r r' : List (Marked A)) (labels labels' : List 
             (λ β u n m o hu hn hm. agree.same β u n m o (omega arith) hn hm);
       })
 
-  -- an `if` whose consequent is followed by p and by p', each an `else` or the `end`, where the other way does the same
+  -- an `if` whose consequent is followed by p and by p', each an `else` or the `end`, if the other way does the same
   if_alike : (a e e' : A) (p p' : Control) → EndsSequence p → EndsSequence p' → (b b' : Sequence A) → Alike b b' → (z z' : List (Marked A))
       → Closes (text b (with_control e p ∷ z)) (with_control e p ∷ z) r → Closes (text b' (with_control e' p' ∷ z')) (with_control e' p' ∷ z') r'
       → length r ≤ length z → length r' ≤ length z'
@@ -292,9 +292,9 @@ mutual
   alike (drop_nop {a = a} {r = r} {r' = r'} f) t k k' ls ls' agree = nop_same a t (text r k) (text r' k') ls ls' (alike f t k k' ls ls' agree)
   alike (keep {a = a} {action = action} {r = r} {r' = r'} f) t k k' ls ls' agree =
       let rest = rest_agrees r r' (alike f) t k k' ls ls' agree in kept_same action a t (text r k) (text r' k') ls ls' rest.outside rest.same
-  alike (cut {a = a} {action = action} {r = r} {r' = r'} h) t k k' ls ls' agree =
-      last_same action a t (text r k) (text r' k') ls ls' h
-      (weaken t t _ _ _ _ ls ls' (omega arith) (text_longer r k) (text_longer r' k') agree.outside)
+  alike (cut {a = a} {action = action} {r = r} h) t k k' ls ls' agree =
+      last_same action a t (text r k) k' ls ls' h
+      (weaken t t _ _ _ _ ls ls' (omega arith) (text_longer r k) (omega arith) agree.outside)
   alike (wrapped {a = a} {e = e} {e' = e'} {w = w} {b = b} {b' = b'} {r = r} {r' = r'} f g) t k k' ls ls' agree =
       wrapped_alike t (text r k) (text r' k') ls ls' (rest_agrees r r' (alike g) t k k' ls ls' agree) w a e e' b b' (alike f)
   alike (if_then {a = a} {e = e} {e' = e'} {b = b} {b' = b'} {r = r} {r' = r'} f g) t k k' ls ls' agree =

@@ -18,7 +18,7 @@ abbrev pub again : {A : Type 0} → Bound A → (turns : ℕ) → From A
 again bound zero = λ rest labels outcomes. ends TurnsOut
 again bound (suc turns) = bounded_run bound.of turns
 
--- how it goes on within the turn, for at most so many operators
+-- how it goes on within the turn, for at most this number of operators
 abbrev pub go : {A : Type 0} → Bound A → (turns count : ℕ) → From A
 go bound turns count = straight (again bound turns) count
 
@@ -32,7 +32,7 @@ bounded_run-go bound (suc u) r ls o = refl
 abbrev pub Same : {A : Type 0} → (t : ℕ) → List (Marked A) → List (Label A) → List (Marked A) → List (Label A) → Type 0
 Same {A = A} t r ls r' ls' = (β : Bound A) (u n m : ℕ) (outcomes : List Outcome) → u ≤ t → length r ≤ n → length r' ≤ m → go β u n r ls outcomes ≡ go the_count u m r' ls' outcomes
 
--- It does the same with all branches and exceptions that go outwards, where counts of b and b' operators are enough.
+-- It does the same with all branches and exceptions that go outwards, if counts of b and b' operators are enough.
 pub record SameOutside {A : Type 0} (t b b' : ℕ) (labels labels' : List (Label A)) : Type 0 where
   pub branches : (β : Bound A) (u n m j : ℕ) (outcomes : List Outcome) → u ≤ t → b ≤ n → b' ≤ m
       → branch (again β u) (go β u n) j labels outcomes ≡ branch (again the_count u) (go the_count u m) j labels' outcomes
@@ -66,7 +66,7 @@ mutual
   seek_clauses (Catches a t b cs) test d i k = seek_text b test (suc d) i (clauses_text cs k) ∙ seek_clauses cs test d i k
   seek_clauses (CatchesAll a b e) test d i k = seek_text b test (suc d) i (with_control e End ∷ k)
 
--- a sequence's text is no shorter than what follows it
+-- a sequence's text is no shorter than the operators that follow it
 mutual
   pub text_longer : {A : Type 0} → (s : Sequence A) (k : List (Marked A)) → length k ≤ length (text s k)
   text_longer Empty k = omega arith

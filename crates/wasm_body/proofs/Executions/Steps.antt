@@ -122,7 +122,7 @@ last_same action a t r r' ls ls' c e =
 abbrev pub reacts : {A : Type 0} → Bound A → (turns count : ℕ) → Tags → Label A → List (Label A) → List Outcome → Response A → Run A
 reacts β u n tags l ls outcomes response = react (again β u) (go β u n) (raise (again β u) (go β u n) tags ls outcomes) tags l ls outcomes response
 
--- where a branch to it, an exception that reaches it and a `rethrow` of it do the same
+-- if a branch to it, an exception that reaches it and a `rethrow` of it do the same
 pub push : {A : Type 0} → (t b b' : ℕ) (l l' : Label A) (labels labels' : List (Label A)) → SameOutside t b b' labels labels'
     → ((β : Bound A) (u n m : ℕ) (outcomes : List Outcome) → u ≤ t → b ≤ n → b' ≤ m
     → arrive (again β u) (go β u n) l.construct l labels outcomes ≡ arrive (again the_count u) (go the_count u m) l'.construct l' labels' outcomes)

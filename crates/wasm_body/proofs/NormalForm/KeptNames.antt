@@ -14,7 +14,7 @@ use Rattle.wasm_body.specs.NormalForm.{kept, kept_operation}
 use Rattle.wasm_body.proofs.Translation.Steps.{Leads, bound, all_of, ok-sure}
 use Rattle.wasm_body.proofs.Translation.Translations.{LeadAll, lead_all, translate_leads}
 
--- the value, or any number where there is a fault
+-- the value, or any number if there is a fault
 abbrev pub sure_number : Result ℕ ParseError → ℕ
 sure_number (Ok n) = n
 sure_number (Err e) = 0

@@ -70,7 +70,7 @@ module _ (balanced : NamedOperation → Bool) (P Q : Named → Control → Type 
     each_clause (Catches a t b cs) h = (catches a t a.location h.0, each_rewritten b h.1, each_clause cs h.2)
     each_clause (CatchesAll a b e) h = (catches_all a.location, each_rewritten b h.1, ends e.location)
 
--- ---- the operators of the rewritten tree are among those that are written where no `else` is left out
+-- ---- the operators of the rewritten tree are among those that are written if no `else` is left out
 
 module _ (balanced : NamedOperation → Bool) (P : Named → Control → Type 0) (ends : (l : ℕ) → P (end_at l) End) where
   fewer_single : (f : Fate) (a : Named) (action : Action) (r s : Sequence Named) → (Each P r → Each P s)

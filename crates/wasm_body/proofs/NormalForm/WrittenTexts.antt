@@ -31,7 +31,7 @@ use Rattle.wasm_body.proofs.Translation.Translations.{LeadAll, lead_all, transla
 use Rattle.wasm_body.specs.RewrittenTree.{end_at, else_at, catch_at, catch_all_at, delegate_at, single_with_fate, is_empty, written_if, rewritten, rewritten_clauses, rewritten_body_by}
 use Rattle.wasm_body.proofs.NormalForm.Rewritten.{Named, closers_by, closers_told, inside_by, inside_told, wrapper_closers, wrapper_inside, clauses_lawful}
 
--- ---- what is written for a named operator in the tree
+-- ---- the text of a named operator in the tree
 
 module _ {M C : Type 0} (w : TextTranslation M C) where
   -- in a sequence of the type
@@ -98,11 +98,11 @@ module _ {M C : Type 0} (w : TextTranslation M C) (m : Typing) where
       ap (λ b. if b then (translate (typed w t) (kept_operation a.op) >>= λ x. Ok (at_location x a.location)) else Err BadClauses) h
       ∙ after_one (translate (typed w t) (kept_operation a.op)) (translate (named_by w t) a.op) (λ x. Ok (at_location x a.location)) (named_written w t a.op)
 
-  -- what is written for an opener
+  -- the text of an opener
   abbrev first_of : Named → Answer
   first_of a = answer_at (construct_type m a.op) a
 
-  -- where these types are balanced
+  -- if these types are balanced
   module _ (balanced : InstrSeqType → Bool) where
     abbrev balances_for : NamedOperation → Bool
     balances_for o = balanced (construct_type m o)
@@ -158,7 +158,7 @@ module _ {M C : Type 0} (w : TextTranslation M C) (m : Typing) where
         ap (λ x. first_of a ∷ items_text w is (answer (with_control (else_at l) Else) ∷ x)) (other behind)
         ∙ ap (λ x. first_of a ∷ x) (body (with_control (else_at l) Else ∷ text c behind))
 
-    -- an alternative that holds no instruction is one of which nothing is written
+    -- an alternative without instructions is one for which nothing is written
     none_of_fate : (f : Fate) (a : Named) (action : Action) (n : Items Head Instruction) (r : Sequence Named)
         → has_none (shortened n) ≡ is_empty r → has_none (shortened (with_fate f (instruction a []) n)) ≡ is_empty (single_with_fate f a action r)
     none_of_fate Drops a action n r h = h

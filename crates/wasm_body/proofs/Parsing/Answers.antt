@@ -52,7 +52,7 @@ goes_lawful env xs b entry g e =
 
 -- ---- added ends
 
--- where n sequences are open, n `end`s complete the body
+-- if n sequences are open, n `end`s complete the body
 abbrev ends_of : ℕ → List Occurrence
 ends_of n = replicate n added_end
 
@@ -120,7 +120,7 @@ module _ {V : Type 0} (given : Setting V) (agrees : ReadingAgrees) where
   within_stops [] s w at (x ∷ rest) (suc left) error enough f = rw f refl
   within_stops (l ∷ ls) s w at (x ∷ rest) (suc left) error enough f = rw f refl
 
-  -- where a front was gone over, the fault after it is where parsing stops
+  -- after a front that was parsed, the fault is the point where parsing stops
   fault_stops : (q : Progress Occurrence) (frames : List (Frame Occurrence)) (w : V) (at : ℕ) (rest : List ℕ) (left : ℕ) (error : ParseError) → progress_frames q ≡ Some frames → length rest ≤ left
       → FaultBehind given w frames at rest error → parsed_from given left q w at rest ≡ Err (failure error at)
   fault_stops NoBody frames w at rest left error e enough f = absurd (cc)

@@ -39,7 +39,7 @@ named_parts env fs o n e =
       typed = subst (λ (z : NamedOperation). has_types env fs (control_of z) z ≡ Ok tt) same c.1;
     }
 
--- where the operator is allowed, its name is too
+-- if the operator is allowed, its name is too
 pub named_stands : (env : Environment) (fs : List (Frame Occurrence)) (o : RawOperation) (n : NamedOperation) → named_in env fs o ≡ Ok n → may_stand fs (control_of n) ≡ true
 named_stands env fs o n e =
     let p = named_parts env fs o n e in

@@ -1,4 +1,4 @@
--- Parsing on lists goes over a front of operators, and where it stops the rest is at fault or the body is whole.
+-- Parsing on lists goes over a front of operators. When it stops, the body is complete, or the rest has a fault.
 use Rattle.std.proofs.Common.{◌≡◌, ℕ, zero, suc, ◌+◌, ◌-◌, ◌<◌, ◌≤◌, List, [], ◌∷◌, ◌++◌, length, map, true, Ok, refl, sym, ap, subst, ◌∙◌, arith, length-append}
 use Rattle.std.specs.List.{AllByRecursion}
 use Rattle.wasm_operators.specs.declared.types.Opcode.TheVariants.{Byte, Prefixed}

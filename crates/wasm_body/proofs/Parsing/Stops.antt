@@ -47,7 +47,7 @@ passed {V} given v fs place bytes h e =
       named = d.1;
     })
 
--- where parsing stops: nothing more is read
+-- parsing stops: nothing more is read
 abbrev pub StopsAt : {V : Type 0} → Setting V → Progress Occurrence → V → ℕ → List ℕ → Result (Body Occurrence) ParseFailure → Type 0
 StopsAt given (Whole b) v place [] r = r ≡ Ok b
 StopsAt given (Whole b) v place (x ∷ bytes) r = r ≡ Err (failure Trailing place)

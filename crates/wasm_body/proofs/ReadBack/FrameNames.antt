@@ -1,4 +1,4 @@
--- Rules by names: the conditions of an operator's rules on the frames, where only the names of openers are shown.
+-- Rules by names: the conditions of an operator's rules on the frames, which show only the names of openers.
 use Rattle.std.proofs.Common.{◌≡◌, ℕ, zero, suc, List, [], ◌∷◌, length, true, Option, Some, None, Result, Ok, refl, sym, ap, ◌∙◌}
 use Rattle.std.specs.Prelude.{nat_lt, is_some}
 use Rattle.walrus_ir.specs.declared.val_type.ValType.{ValType}
@@ -128,7 +128,7 @@ abbrev pub results_at : List (Frame NamedOperation) → List (ValType ℕ)
 results_at [] = []
 results_at (f ∷ fs) = named_results (opener_of f)
 
--- the types that the module must have, where the innermost construct has these results
+-- the types that the module must have, if the innermost construct has these results
 abbrev pub types_in : Environment → List (ValType ℕ) → Control → NamedOperation → Result (Unit {0}) ParseError
 types_in env rs (Opens construct) o = has_pick env (block_signature o)
 types_in env rs (Catch tag) o = tag_type env tag >>= λ s. has_pick env (signature s.parameters rs)
@@ -152,7 +152,7 @@ ruling fs = record {
   count = λ n. Ok tt;
 }
 
--- The operator keeps the rules where these frames are around it.
+-- The operator keeps the rules inside these frames.
 pub record IsRuled (env : Environment) (fs : List (Frame NamedOperation)) (o : NamedOperation) : Type 0 where
   pub stands : may_stand fs (control_of o) ≡ true
   pub keeps : translate_immediates (ruling fs) o.immediates ≡ Ok o.immediates

@@ -136,7 +136,7 @@ module _ {A B : Type 0} (env : Environment) (to : Numbers) (t : InstrSeqType) (g
   all_back (cast c ∷ is) u h = ((label_back c.label, heap_back c.source u.0.0, heap_back c.target u.0.1), all_back is u.1 h)
   all_back (_ ∷ is) u h = (tt, all_back is u.1 h)
 
-  -- The numbered operator has the name, where the name keeps the rules.
+  -- The numbered operator has the name, if the name keeps the rules.
   pub named_again : (o : NamedOperation) (z : RawOperation) → translate there o ≡ Ok z → AllByRecursion UndoneAt o.immediates → AllByRecursion IsSignature (block_types o.immediates) →
       translate_immediates ruled o.immediates ≡ Ok o.immediates → translate back z ≡ Ok o
   named_again o z e u h keeps =

@@ -169,7 +169,7 @@ module _ (env : Environment) (xs : List Occurrence) (body : Body Occurrence) (te
   numbered : AllByRecursion (IsNumbered to m) ms × (bytes ≡ bytes_as to m ms)
   numbered = numbered_bytes to m b bytes source_tells written
 
-  -- the operators, where no `else` is left out
+  -- the operators, if no `else` is left out
   abbrev whole_text : List (Marked Named)
   whole_text = body_text (anew_by with_ids.balanced m b)
 

@@ -73,7 +73,7 @@ mutual
   all_of_clauses P (Catches a t b cs) k h g = (h.0, all_of_each P b _ h.1 (all_of_clauses P cs k h.2 g))
   all_of_clauses P (CatchesAll a b e) k h g = (h.0, all_of_each P b _ h.1 (h.2, g))
 
--- ---- what follows from it at each operator
+-- ---- consequences at each operator
 
 mutual
   pub weaker : {A : Type 0} → (P Q : A → Control → Type 0) → ((a : A) (c : Control) → P a c → Q a c) → (s : Sequence A) → Each P s → Each Q s

@@ -1,11 +1,12 @@
--- The frames after a front are those of what was read; a rule along a tree is the same rule at each operator of its text.
+-- The frames after a front are those of the operators that were read; a rule along a tree is the same rule at each operator of
+-- its text.
 use Rattle.std.proofs.Common.{◌≡◌, ℕ, suc, List, [], ◌∷◌, ◌++◌, length, Option, Some, None, true, refl, sym, ap, subst, ◌∙◌}
 use Rattle.wasm_body.specs.Control.{Construct, Block, Loop, TryTable, If, Try, Control, Does, Opens, Else, Catch, CatchAll, End, Delegate, Marked, with_control}
 use Rattle.wasm_body.specs.SourceTree.{Wrapper, OfBlock, OfLoop, OfTryTable, construct_of, Sequence, Empty, Single, Wrapped, IfThen, IfElse, TryCatch, TryDelegate, Clauses, Ended, Catches, CatchesAll, text, clauses_text, Body, body_text}
 use Rattle.wasm_body.specs.Frames.{Frame, OfFunction, OfWrapper, Consequent, Alternative, TryBody, Handler, HandlerOfAll, Rule, Follows, FollowsIn, function_frames, BodyFollows, frame_opened, else_moves, catch_moves, catch_all_moves, onto, delegate_moves, moves, moved, frames_behind, may_stand}
 use Rattle.wasm_body.specs.Parsing.Progress.{OpenConstruct, InThen, InTry, Layer, Progress, Within, Whole, NoBody, frame_of, frames_of, opened, parted_by_else, parted_by_catch, parted_by_catch_all, delegated, go_on_in, go_on_behind, further_within, further, progress_behind}
 
--- ---- frames of what was read
+-- ---- frames of the operators that were read
 
 abbrev pub progress_frames : {A : Type 0} → Progress A → Option (List (Frame A))
 progress_frames (Within ls s) = Some (frames_of ls)
@@ -152,7 +153,7 @@ mutual
   goes_by_handler R (Catches i t b cs) a fs k h g = (h.0, goes_by R b (Handler a) fs (clauses_text cs k) h.1 (goes_by_handler R cs a fs k h.2 g))
   goes_by_handler R (CatchesAll i b e) a fs k h g = (h.0, goes_by R b (HandlerOfAll a) fs (with_control e End ∷ k) h.1 (h.2, g))
 
--- a body follows a rule where each of its operators does, by the frames before it
+-- a body follows a rule if each of its operators does, by the frames before it
 pub body_goes : {A : Type 0} → (R : Rule A) (b : Body A) → BodyFollows R b → Goes R (Some function_frames) (body_text b)
 body_goes R b h = goes_by R b.sequence OfFunction [] (with_control b.close End ∷ []) h.0 (h.1, tt)
 

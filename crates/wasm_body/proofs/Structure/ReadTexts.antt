@@ -1,10 +1,10 @@
--- The operators that were read are the text of what was read.
+-- The operators that were read are the text of the source tree so far.
 use Rattle.std.proofs.Common.{◌≡◌, ℕ, List, [], ◌∷◌, ◌++◌, refl, ap, subst, ◌∙◌}
 use Rattle.wasm_body.specs.Control.{Construct, Block, Loop, TryTable, If, Try, Control, Does, Opens, Else, Catch, CatchAll, End, Delegate, Marked, with_control}
 use Rattle.wasm_body.specs.SourceTree.{construct_of, Sequence, Empty, Single, Wrapped, IfThen, IfElse, TryCatch, TryDelegate, Clauses, Ended, Catches, CatchesAll, text, clauses_text}
 use Rattle.wasm_body.specs.Parsing.Progress.{append, ClosedClause, behind_closed, OpenConstruct, InWrapper, InThen, InElse, InTry, InCatch, InCatchAll, Layer, Progress, Within, Whole, NoBody, opened, closed, parted_by_else, parted_by_catch, parted_by_catch_all, delegated, go_on_in, go_on_behind, further_within, further, progress_behind}
 
--- ---- what was read, as a text
+-- ---- the source tree so far, as a text
 
 abbrev pub handled_text : {A : Type 0} → List (ClosedClause A) → List (Marked A) → List (Marked A)
 handled_text [] k = k
@@ -108,7 +108,7 @@ was_front xs (Within ls s) h = tt
 was_front xs (Whole b) h = tt
 was_front xs NoBody h = subst IsRead (no_body_stays xs) h
 
--- the operators that were read are the text of what is open after them
+-- the operators that were read are the text of the constructs that are open after them
 pub text_read : {A : Type 0} → (xs : List (Marked A)) (st : Progress A) (k : List (Marked A)) → IsRead (progress_behind st xs) → read_text (progress_behind st xs) k ≡ read_text st (xs ++ k)
 text_read [] st k h = refl
 text_read (x ∷ xs) st k h = text_read xs (further st x) k h ∙ further_text st x (xs ++ k) (was_front xs (further st x) h)

@@ -14,7 +14,7 @@ use Rattle.wasm_body.specs.Translation.{Translation, translate_heap, translate_v
 
 -- ---- steps
 
--- where there is a result, each step had one
+-- if there is a result, each step had one
 pub first_ok : {A B E : Type 0} → (r : Result A E) (k : A → Result B E) → IsOk (r >>= k) → IsOk r
 first_ok (Ok x) k h = refl
 first_ok (Err e) k h = absurd cc
@@ -29,7 +29,7 @@ all_ok f (x ∷ xs) h =
     let r = rest_ok (f x) (λ y. each f xs >>= λ ys. Ok (y ∷ ys)) h in
     (first_ok (f x) (λ y. each f xs >>= λ ys. Ok (y ∷ ys)) h, all_ok f xs (first_ok (each f xs) (λ ys. Ok (r.0 ∷ ys)) r.1))
 
--- where no fault is possible, there is a result
+-- if no fault is possible, there is a result
 pub no_fault_ok : {A E : Type 0} → (r : Result A E) → IfErr r (λ e. ⊥) → IsOk r
 no_fault_ok (Ok x) h = refl
 no_fault_ok (Err e) h = absurd h
@@ -153,6 +153,6 @@ module _ {L B M C N D E F : Type 0} (Q : F → Type 0) (f : Translation L B M C 
   immediates_all a [] l g = tt
   immediates_all a (i ∷ is) l g = (immediate_answers a i l.0 g.0, immediates_all a is l.1 g.1)
 
-  -- its faults are of Q where the other translation has a result and the faults of labels, numbers and counts are of Q
+  -- its faults are of Q if the other translation has a result and the faults of labels, numbers and counts are of Q
   pub immediates_answer : AnswersWhere → (is : List (Immediate L B)) → AllByRecursion OthersWithin is → IsOk (translate_immediates f is) → IfErr (translate_immediates h is) Q
   immediates_answer a is l g = each_within Q (translate_immediate h) is (immediates_all a is l (all_ok (translate_immediate f) is g))

@@ -38,7 +38,7 @@ pub raw_kinds : (is : List RawImmediate) → map kind_in is ≡ map kind_of is
 raw_kinds [] = refl
 raw_kinds (i ∷ is) = ap (λ k. k ∷ map kind_in is) (raw_kind i) ∙ ap (λ ks. kind_of i ∷ ks) (raw_kinds is)
 
--- what holds for each value that the last step makes holds for the result
+-- a property of each value that the last step makes is one of the result
 pub through : {X Y E : Type 0} → (r : Result Y E) (from : Y → X) (P : X → Type 0) → ((y : Y) → r ≡ Ok y → P (from y)) → (x : X) → (r >>= λ y. Ok (from y)) ≡ Ok x → P x
 through r from P h x e =
     let y = bound r (λ y. Ok (from y)) x e in

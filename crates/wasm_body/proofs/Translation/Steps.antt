@@ -1,4 +1,4 @@
--- Results of several steps: what a result came from, and steps with equal results.
+-- Results of several steps: the steps that a result came from, and steps with equal results.
 use Rattle.std.proofs.Common.{◌≡◌, suc, length, List, [], ◌∷◌, Result, Ok, Err, refl, sym, ap, ◌∙◌}
 use Rattle.std.specs.List.{AllByRecursion}
 use Rattle.walrus_ir.specs.Results.{◌>>=◌, each, sure}

@@ -202,7 +202,7 @@ module _ {L B M C N D E F : Type 0} (f : Translation L B M C E) (g : Translation
       → Leads (translate_immediates f) (translate_immediates g) (translate_immediates h) is
   translate_leads is l = each_leads (translate_immediate f) (translate_immediate g) (translate_immediate h) is (immediates_lead is l)
 
-  -- ---- where it is so for all parts except block types
+  -- ---- if it is so for all parts except block types
 
   pub record LeadAll : Type 0 where
     pub indices : (space : Space) (n : ℕ) → LeadsIndex space n

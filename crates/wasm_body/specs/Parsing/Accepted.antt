@@ -119,7 +119,7 @@ pub record Stands (env : Environment) (xs : List Occurrence) (count : ℕ) : Typ
   pub body : Body Occurrence
   pub lawful : Lawful env (xs ++ replicate count added_end) body
 
--- the error is the fault of the rest of the bytes, where these sequences are open
+-- the error is the fault of the rest of the bytes, if these sequences are open
 abbrev pub FaultBehind : {V : Type 0} → Setting V → V → List (Frame Occurrence) → ℕ → List ℕ → ParseError → Type 0
 FaultBehind given v [] place [] error = ⊥
 FaultBehind given v [] place (b ∷ rest) error = error ≡ Trailing

@@ -1,4 +1,4 @@
--- The pairs that were moved stand before what the others are moved to.
+-- The pairs that were moved come before those that are left, moved.
 use Rattle.std.proofs.Common.{◌≡◌, ◌++◌, ◌+◌, ◌≤◌, map, length}
 use Rattle.std.specs.List.{AllByRecursion}
 use Rattle.walrus_rewrite.specs.RawBodies.{moved}

@@ -8,7 +8,7 @@ use Rattle.walrus_ir.proofs.Positions.{option_map_is}
 use Rattle.walrus_ir.proofs.val_type.InstrSeqType.existing.Goals as goal
 use Rattle.walrus_ir.proofs.val_type.InstrSeqType.existing.Goals.{else-is_empty-via-then-is_empty+else-results-lt2, else-is_empty-via-else-is_empty}
 
--- where there are parameters or more than one result, the type is one of the module
+-- if there are parameters or more than one result, the type is one of the module
 needs_type : (types : List ModuleType) (parameters results : List (ValType ℕ)) → (0 < length parameters) ⊎ (1 < length results)
     → option_map MultiValue (find types parameters results) ≡ existing types parameters results
 needs_type types [] [] h = absurd (⊎_elim (λ n. omega arith) (λ n. omega arith) h)

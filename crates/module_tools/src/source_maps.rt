@@ -1,0 +1,147 @@
+//! The source map of a module that is written: its mappings follow the operators.
+
+use crate::ending::{Attempt, Stop};
+use crate::files::{Target, read_file};
+use crate::program::Task;
+use source_map::{Move, moved};
+use source_map_json::SourceMap;
+use std::alloc::{AllocError, Global};
+use std::io;
+use std::io::Write;
+use std::rt::Files;
+use wasm_module::{MapLines, Tell, WrittenBody};
+
+/// The operators of the source that are kept, with their places, if they are wanted.
+#[derive(Drop)]
+pub(crate) struct Moves {
+    list: Vec<Move>,
+    are_wanted: bool,
+}
+
+/// A place that fits 32 bits, as those of a source map do.
+fn short_place(place: usize) -> io::Result<u32> {
+    match u32::try_from(place) {
+        Ok(place) => Ok(place),
+        Err(_) => Err(io::Error::from(io::ErrorKind::FileTooLarge)),
+    }
+}
+
+impl Moves {
+    /// None so far.
+    pub fn new(alloc: Global, are_wanted: bool) -> Moves {
+        Moves {
+            list: Vec::new(alloc),
+            are_wanted,
+        }
+    }
+
+    /// Appends an operator that is kept. One that was before the last one in the source is passed
+    /// over, so that the old places ascend.
+    fn add(&mut self, step: Move) -> io::Result<()> {
+        match self.list.last() {
+            Some(last) if last.old > step.old => Ok(()),
+            _ => {
+                self.list.push(step)?;
+                Ok(())
+            }
+        }
+    }
+
+    /// Appends the operators of a body that are ones of the source.
+    fn add_body(&mut self, written: WrittenBody<'_>) -> io::Result<()> {
+        let body = short_place(written.old_start)?;
+        for (location, place) in written.pairs {
+            if !location.is_default() {
+                let new = short_place(written.start.saturating_add(*place))?;
+                let old = location.data();
+                self.add(Move { old, new, body })?;
+            }
+        }
+        Ok(())
+    }
+}
+
+impl Tell for Moves {
+    fn wants_pairs(&self) -> bool {
+        self.are_wanted
+    }
+
+    fn tell(&mut self, body: WrittenBody<'_>) -> io::Result<()> {
+        match self.are_wanted {
+            true => self.add_body(body),
+            false => Ok(()),
+        }
+    }
+}
+
+/// A listener that collects the operators that are kept, and writes the lines of a location map.
+#[derive(Drop)]
+pub(crate) struct MovesAndLines<'m, M> {
+    pub moves: &'m mut Moves,
+    pub lines: MapLines<'m, M>,
+}
+
+impl<M: Write> Tell for MovesAndLines<'_, M> {
+    fn wants_pairs(&self) -> bool {
+        true
+    }
+
+    fn tell(&mut self, body: WrittenBody<'_>) -> io::Result<()> {
+        self.moves.tell(body)?;
+        self.lines.tell(body)
+    }
+}
+
+/// Reads a source map.
+pub(crate) fn read_source_map<'w, R: Files + Input + AllocGlobal>(
+    rt: &R,
+    path: &'w str,
+) -> Result<SourceMap, Stop<'w>> {
+    let bytes = match read_file(rt, path) {
+        Ok(bytes) => bytes,
+        Err(stop) => return Err(stop),
+    };
+    match SourceMap::read(rt.alloc(), &bytes) {
+        Ok(map) => Ok(map),
+        Err(error) => Err(Stop::source_map(rt.alloc(), path, error)),
+    }
+}
+
+/// The text of the source map whose mappings follow these operators.
+fn moved_text(alloc: Global, map: &SourceMap, moves: &[Move]) -> Result<Vec<u8>, AllocError> {
+    let mappings = moved(alloc, moves, map.mappings())?;
+    map.text_with(alloc, &mappings)
+}
+
+/// Writes a text to a file, whole or not at all.
+fn write_text<'w, R: Files + Print + AllocGlobal + Drop>(
+    rt: &'w R,
+    path: &'w str,
+    text: &[u8],
+) -> Result<(), Stop<'w>> {
+    let mut target = match Target::create(rt, path) {
+        Ok(target) => target,
+        Err(stop) => return Err(stop),
+    };
+    let written = match target.write_all(text) {
+        Ok(()) => Ok(()),
+        Err(error) => Err(Stop::file(path, Attempt::Write, error)),
+    };
+    target.end(written)
+}
+
+/// Writes the source map that follows a module, if one is asked for.
+pub(crate) fn write_source_map<'w, R: Files + Print + AllocGlobal + Drop>(
+    rt: &'w R,
+    task: &Task<'w>,
+    source: &Option<SourceMap>,
+    moves: &Moves,
+) -> Result<(), Stop<'w>> {
+    let (Some(map), Some(paths)) = (source, task.source_map) else {
+        return Ok(());
+    };
+    match moved_text(rt.alloc(), map, &moves.list) {
+        Ok(text) => write_text(rt, paths.output, &text),
+        Err(_) => Err(Stop::Memory),
+    }
+}
