@@ -38,7 +38,7 @@ pub(crate) fn arguments(alloc: Global) -> Result<Vec<LocalId>, AllocError> {
     vec![in alloc; LocalId::new(0)]
 }
 
-/// The bytes that hexadecimal digits stand for.
+/// The bytes of these hexadecimal digits.
 pub(crate) fn bytes_of(alloc: Global, digits: &str) -> io::Result<Vec<u8>> {
     match hex::decode(alloc, digits) {
         Ok(bytes) => Ok(bytes),
@@ -60,14 +60,18 @@ pub(crate) fn body(bytes: &[u8]) -> FunctionBody<'_>
     }
 }
 
-/// The module, whose code begins at place 90, the ids of its old indices, and its new indices; and
-/// the function that has the bodies, with its type.
+/// What bodies are parsed and written with.
 #[derive(Clone, Copy)]
 pub(crate) struct Demo<'a> {
+    /// The module, whose code begins at place 90.
     pub module: &'a Module,
+    /// The ids of its old indices.
     pub indices: &'a IndicesToIds,
+    /// The new indices of its ids.
     pub numbers: &'a IdsToIndices,
+    /// The function that has the bodies.
     pub function: FunctionId,
+    /// The type of this function.
     pub ty: TypeId,
     ghost begins: { «module».now.code_section_offset ≡ 90 },
 }

@@ -236,12 +236,7 @@ fn run_accepted(
     run_row(selection, demo, &function, row)
 }
 
-fn run_wrong(
-    selection: Selection<'_>,
-    demo: &Demo<'_>,
-    row: &str,
-    wrong: Wrong,
-) -> io::Result<()> {
+fn run_wrong(selection: Selection<'_>, demo: &Demo<'_>, row: &str, wrong: Wrong) -> io::Result<()> {
     let function = wrong_function(selection.alloc(), wrong)?;
     run_row(selection, demo, &function, row)
 }

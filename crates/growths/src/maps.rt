@@ -150,7 +150,10 @@ pub(crate) fn push_ids(text: &mut String, indices: &IndicesToIds) -> Result<(), 
 }
 
 /// Appends new indices.
-pub(crate) fn push_new_indices(text: &mut String, numbers: &IdsToIndices) -> Result<(), AllocError> {
+pub(crate) fn push_new_indices(
+    text: &mut String,
+    numbers: &IdsToIndices,
+) -> Result<(), AllocError> {
     for space in &SPACES {
         for id in 0..SHOWN as usize {
             if let Ok(index) = new_index(numbers, *space, id) {

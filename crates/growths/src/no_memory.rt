@@ -5,9 +5,7 @@ use crate::body_calls::read;
 use crate::contexts::without_frame;
 use crate::items::{Item, Items};
 use crate::maps::{Kind, Maps, push_ids, push_new_indices};
-use crate::scenario::{
-    Scenario, Selection, push_bytes, push_flags, push_location, push_numbers,
-};
+use crate::scenario::{Scenario, Selection, push_bytes, push_flags, push_location, push_numbers};
 use std::alloc::{AllocError, Global};
 use std::io;
 use walrus_body::{

@@ -34,7 +34,7 @@ fn ending_name(ending: &Ending) -> &'static str {
     }
 }
 
-/// The outcome that a letter stands for in the words of `wbody trace`; `r` raises the first tag.
+/// The outcome of a letter, as in the arguments of `wbody trace`; `r` raises the first tag.
 fn outcome(alloc: Global, letter: char) -> Result<Outcome, AllocError> {
     match letter {
         '1' => Ok(Outcome::Way(true)),

@@ -61,12 +61,13 @@ fn make_once<S: Scenario>(
 /// Which scenarios are run: all, or that of one call on one row.
 #[derive(Clone, Copy)]
 pub(crate) struct Selection<'a> {
+    /// Where lines are printed.
     pub rt: &'a HostRuntime,
     name: Option<(&'a str, &'a str)>,
 }
 
 impl<'a> Selection<'a> {
-    /// The scenario that these words name: a call and a row. Other words stand for all scenarios.
+    /// The scenario that these words name: a call and a row. Other words select all scenarios.
     pub(crate) fn new(rt: &'a HostRuntime, words: &'a [String]) -> Selection<'a> {
         let name = match words {
             [call, row] => Some((call.as_str(), row.as_str())),

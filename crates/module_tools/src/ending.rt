@@ -16,9 +16,13 @@ use wasm_module::{ModuleError, ModuleFault};
 /// What was tried with a file.
 #[derive(Clone, Copy)]
 pub enum Attempt {
+    /// To open it.
     Open,
+    /// To read from it.
     Read,
+    /// To create it.
     Create,
+    /// To write to it.
     Write,
     /// To put what was written in its place.
     Rename,
@@ -77,6 +81,7 @@ impl fmt::Display for Shown<'_> {
 /// A fault of what was read from a file: of a module, or of a source map.
 #[derive(Drop)]
 pub struct Refusal<'w> {
+    /// The path of the file, as it was given.
     pub path: &'w str,
     /// The place of the fault, a byte offset from the start of the file, if it has one.
     pub at: Option<usize>,
@@ -190,6 +195,7 @@ impl fmt::Display for Refusal<'_> {
 /// Why a program writes no module.
 #[derive(Drop)]
 pub enum Stop<'w> {
+    /// The arguments are wrong.
     WrongUse(WrongUse<'w>),
     /// The module, or its source map, is refused.
     Refused(Refusal<'w>),
@@ -199,6 +205,7 @@ pub enum Stop<'w> {
         tried: Attempt,
         error: io::Error,
     },
+    /// Memory ran out.
     Memory,
 }
 

@@ -70,7 +70,9 @@ impl<'a> Bytes<'a> {
 /// Which function has a name.
 #[derive(Clone, Copy, Debug)]
 pub enum Found {
+    /// No function.
     None,
+    /// The function with this index.
     One(usize),
     /// More than one; these are the first two.
     Several(usize, usize),

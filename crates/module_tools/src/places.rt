@@ -131,10 +131,12 @@ pub(crate) fn place_of<R: Files + AllocGlobal>(
     new_place(rt, resolved.as_str(), name)
 }
 
-/// Where what is written to a path goes.
+/// The file that a path leads to, for writing.
 #[derive(Clone, Copy)]
 pub(crate) struct Written<'n> {
+    /// The file, or the folder of one that doesn't exist yet; none if writing there takes no file's place.
     pub place: Option<Place>,
+    /// The name of the new file in that folder; empty if the file exists.
     pub name: &'n str,
 }
 

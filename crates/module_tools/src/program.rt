@@ -10,6 +10,7 @@ use std::alloc::Global;
 /// A program: how it is called, and what it takes.
 #[derive(Clone, Copy)]
 pub struct Program {
+    /// Its name, with which its messages begin.
     pub name: &'static str,
     /// What `--help` prints.
     pub help: &'static str,
@@ -33,6 +34,7 @@ pub struct MapPaths<'w> {
 /// What a program is to do. A path is `-` for standard input or output.
 #[derive(Drop)]
 pub struct Task<'w> {
+    /// The module that is read.
     pub input: &'w str,
     /// Where the module is written; none where its bodies are only checked.
     pub output: Option<&'w str>,
@@ -48,11 +50,14 @@ pub struct Task<'w> {
     pub strips_debug: bool,
 }
 
-/// What the words of a program ask for.
+/// What the arguments of a program request.
 #[derive(Drop)]
 pub enum Request<'w> {
+    /// Print the page of help.
     Help,
+    /// Print the version.
     Version,
+    /// Rewrite a module, or check its bodies.
     Task(Task<'w>),
 }
 
@@ -207,7 +212,7 @@ impl<'w> Options<'w> {
         }
     }
 
-    /// Takes an option, and returns the page that it asks for.
+    /// Takes an option, and returns the page that it requests.
     fn take(&mut self, program: &Program, word: &'w str) -> Result<Option<Page>, WrongUse<'w>> {
         let (name, value) = split_option(word);
         match Choice::named(name, program) {

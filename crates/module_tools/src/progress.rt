@@ -109,6 +109,7 @@ pub struct Watched<'p, R, B> {
 }
 
 impl<'p, R, B> Watched<'p, R, B> {
+    /// The same bodies, each of which is a step of `progress` when it is written.
     pub fn new(progress: &'p Progress<'p, R>, bodies: B) -> Self
         ensures { result.bodies ≡ bodies }
     {

@@ -31,7 +31,9 @@ pub const VERSION: &str = "0.1.0";
 /// Which of the standard streams are terminals.
 #[derive(Clone, Copy)]
 pub struct Terminals {
+    /// Standard output is one.
     pub output: bool,
+    /// Standard error is one.
     pub errors: bool,
 }
 

@@ -77,7 +77,9 @@ impl Tell for Moves {
 /// A listener that collects the operators that are kept, and writes the lines of a location map.
 #[derive(Drop)]
 pub(crate) struct MovesAndLines<'m, M> {
+    /// The operators that are kept.
     pub moves: &'m mut Moves,
+    /// The lines of the location map.
     pub lines: MapLines<'m, M>,
 }
 

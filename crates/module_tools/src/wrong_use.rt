@@ -18,8 +18,11 @@ pub enum WrongUse<'w> {
     Requires(&'static str, &'static str),
     /// An option is given with `--check`, which writes nothing.
     NotWithCheck(&'w str),
+    /// The path of the module that is read is missing.
     NoInput,
+    /// The path of the module that is written is missing.
     NoOutput,
+    /// The functions are missing.
     NoFunctions,
     /// A word is too many.
     Unexpected(&'w str),

@@ -21,6 +21,7 @@ pub enum Closer {
 /// A sequence that is to come or is open, by its slot in the builder.
 #[derive(Clone, Copy)]
 pub struct SequenceScope {
+    /// Its slot.
     pub place: InstrSeqId,
     /// The operator that closes it, if any, and its location.
     pub closer: Option<(Closer, InstrLocId)>,

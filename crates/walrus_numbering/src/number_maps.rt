@@ -8,6 +8,7 @@ use walrus_maps::IdsToIndices;
 pub struct NumberMaps<'a> {
     /// The module's types, which say where an `else` may be left out.
     pub types: &'a ModuleTypes,
+    /// The new indices of the module's ids.
     pub ids: &'a IdsToIndices,
     /// The numbers of the function's locals.
     pub locals: &'a IdHashMap<LocalId, u32>,

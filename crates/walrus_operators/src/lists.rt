@@ -7,7 +7,9 @@ use wasm_operators::RawCatch;
 /// both are empty.
 #[derive(Drop)]
 pub struct Lists {
+    /// The depths of the labels.
     pub labels: Vec<u32>,
+    /// The clauses, with their depths.
     pub clauses: Vec<RawCatch>,
 }
 
