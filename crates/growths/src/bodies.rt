@@ -35,7 +35,7 @@ pub(crate) const REFUSED: [(&str, &str); 3] = [
 
 /// The arguments of the function.
 pub(crate) fn arguments(alloc: Global) -> Result<Vec<LocalId>, AllocError> {
-    vec![in alloc; LocalId::new(0)]
+    Ok(vec![in alloc; LocalId::new(0)]?)
 }
 
 /// The bytes of these hexadecimal digits.

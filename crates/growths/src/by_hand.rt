@@ -35,7 +35,7 @@ fn clauses(alloc: Global) -> Result<Vec<LegacyCatch>, AllocError> {
         tag: TagId::new(0),
         handler: InstrSeqId::new(3),
     };
-    vec![in alloc; first, last]
+    Ok(vec![in alloc; first, last]?)
 }
 
 /// The instruction of the entry.

@@ -31,7 +31,7 @@ fn push_labels(text: &mut String, op: &Operator<'_>) -> Result<(), AllocError> {
             Ok(())
         }
         Operator::TryTable { catches, .. } => {
-            push_numbers(text, &[catches.len()])?;
+            write!(text, " {}", catches.len())?;
             for clause in catches.iter() {
                 write!(text, " {}", clause.label)?;
             }
