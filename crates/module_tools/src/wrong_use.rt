@@ -15,7 +15,7 @@ pub enum WrongUse<'w> {
     /// A value is given with an option that takes none.
     UnwantedValue(&'w str),
     /// An option is given without another that it requires.
-    Requires(&'static str, &'static str),
+    Requires(&'w str, &'w str),
     /// An option is given with `--check`, which writes nothing.
     NotWithCheck(&'w str),
     /// The path of the module that is read is missing.
