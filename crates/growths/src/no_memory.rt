@@ -62,20 +62,30 @@ fn push_id(text: &mut String, id: Option<TypeId>) -> Result<(), AllocError> {
     write!(text, " {:?}", id.map(TypeId::index))
 }
 
-/// Looks at types: finds some, and appends how many values a function type takes and gives.
-fn look_at_types(text: &mut String, types: &ModuleTypes) -> Result<(), AllocError> {
+/// The type of a sequence that takes a number and gives nothing.
+fn existing_type(types: &ModuleTypes) -> Option<TypeId> {
     match InstrSeqType::existing(types, &[ValType::I32], &[]) {
-        Some(InstrSeqType::MultiValue(id)) => push_id(text, Some(id))?,
-        _ => push_id(text, None)?,
+        Some(InstrSeqType::MultiValue(id)) => Some(id),
+        _ => None,
     }
-    push_id(text, types.find(&[], &[]))?;
-    push_id(text, types.find_for_function_entry(&[]))?;
-    let id = TypeId::new(2);
+}
+
+/// Appends how many values a function type takes and gives.
+fn push_sizes(text: &mut String, types: &ModuleTypes, id: TypeId) -> Result<(), AllocError> {
     if types.is_func(id) {
         let (params, results) = types.params_results(id);
         push_numbers(text, &[params.len(), results.len()])?;
         push_numbers(text, &[types.params(id).len(), types.results(id).len()])?;
     }
+    Ok(())
+}
+
+/// Looks at types: finds some, and appends how many values a function type takes and gives.
+fn look_at_types(text: &mut String, types: &ModuleTypes) -> Result<(), AllocError> {
+    push_id(text, existing_type(types))?;
+    push_id(text, types.find(&[], &[]))?;
+    push_id(text, types.find_for_function_entry(&[]))?;
+    push_sizes(text, types, TypeId::new(2))?;
     push_flags(text, &[types.is_func(TypeId::new(9))])
 }
 
