@@ -67,13 +67,19 @@ fn call_on(
 ) -> Result<Option<InstrSeqId>, ParseError> {
     match kind {
         Kind::PushControl | Kind::PushControlWithTy | Kind::PushBlock => {
-            Ok(Some(open(context, kind)?))
+            match open(context, kind) {
+                Ok(seq) => Ok(Some(seq)),
+                Err(error) => Err(error),
+            }
         }
-        Kind::PopControl => Ok(Some(close(context)?)),
-        Kind::Append | Kind::AppendIn | Kind::AddClause => {
-            add(context, kind)?;
-            Ok(None)
-        }
+        Kind::PopControl => match close(context) {
+            Ok(seq) => Ok(Some(seq)),
+            Err(error) => Err(error),
+        },
+        Kind::Append | Kind::AppendIn | Kind::AddClause => match add(context, kind) {
+            Ok(()) => Ok(None),
+            Err(error) => Err(error),
+        },
     }
 }
 
@@ -145,24 +151,34 @@ pub(crate) fn without_frame<'a>(alloc: Global, demo: &Demo<'a>) -> ValidationCon
     )
 }
 
-/// Opens a frame with a legacy `try` that has no clause, and the frame of its body with an
-/// instruction.
-fn open_try(alloc: Global, context: &mut ValidationContext<'_>) -> Result<(), ParseError> {
-    context.push_control(BlockKind::FunctionEntry, &[], &[])?;
+/// Adds a legacy `try` that has no clause. Whether that is done: else memory ran out.
+fn add_try(alloc: Global, context: &mut ValidationContext<'_>) -> bool {
     let seq = InstrSeqId::new(1);
     let catches = Vec::new(alloc);
-    context.alloc_instr(Instr::Try(Try { seq, catches }), InstrLocId::new(5))?;
-    context.push_control(BlockKind::Try, &[], &[])?;
-    context.alloc_instr(Instr::Drop, InstrLocId::new(6))
+    context
+        .alloc_instr(Instr::Try(Try { seq, catches }), InstrLocId::new(5))
+        .is_ok()
 }
 
-/// Fills a context with such frames, and by so many calls.
-fn fill(alloc: Global, of: &mut OfContext<'_>, count: usize) -> Result<(), ParseError> {
-    open_try(alloc, &mut of.context)?;
+/// Opens a frame with a legacy `try`, and the frame of its body with an instruction. Whether that is
+/// done: else memory ran out.
+fn open_try(alloc: Global, context: &mut ValidationContext<'_>) -> bool {
+    let location = InstrLocId::new(6);
+    context
+        .push_control(BlockKind::FunctionEntry, &[], &[])
+        .is_ok()
+        && add_try(alloc, context)
+        && context.push_control(BlockKind::Try, &[], &[]).is_ok()
+        && context.alloc_instr(Instr::Drop, location).is_ok()
+}
+
+/// Fills a context with such frames, and by so many calls. Whether that is done.
+fn fill(alloc: Global, of: &mut OfContext<'_>, count: usize) -> bool {
+    let mut is_done = open_try(alloc, &mut of.context);
     for _ in 0..count {
-        call_on(&mut of.context, of.kind)?;
+        is_done = is_done && call_on(&mut of.context, of.kind).is_ok();
     }
-    Ok(())
+    is_done
 }
 
 /// Closes all frames.
@@ -183,7 +199,7 @@ fn run_filled(
     of: &mut OfContext<'_>,
     count: usize,
 ) -> io::Result<()> {
-    if fill(selection.alloc(), of, count).is_err() {
+    if !fill(selection.alloc(), of, count) {
         return Err(io::Error::from(AllocError));
     }
     selection.run(call, row, of)?;

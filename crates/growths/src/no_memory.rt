@@ -62,11 +62,19 @@ fn push_id(text: &mut String, id: Option<TypeId>) -> Result<(), AllocError> {
     write!(text, " {:?}", id.map(TypeId::index))
 }
 
+/// The function type of a sequence, if it has one.
+fn function_type(ty: InstrSeqType) -> Option<TypeId> {
+    match ty {
+        InstrSeqType::MultiValue(id) => Some(id),
+        InstrSeqType::Simple(_) => None,
+    }
+}
+
 /// The type of a sequence that takes a number and gives nothing.
 fn existing_type(types: &ModuleTypes) -> Option<TypeId> {
     match InstrSeqType::existing(types, &[ValType::I32], &[]) {
-        Some(InstrSeqType::MultiValue(id)) => Some(id),
-        _ => None,
+        Some(ty) => function_type(ty),
+        None => None,
     }
 }
 
@@ -192,16 +200,38 @@ impl Scenario for LocalFunction {
     }
 }
 
+/// Whether the innermost frame is a loop.
+fn is_loop(context: &ValidationContext<'_>) -> bool {
+    context.kind_at(0) == Ok(BlockKind::Loop)
+}
+
+/// Whether code can't be reached in the innermost frame.
+fn is_dead(context: &ValidationContext<'_>) -> bool {
+    match context.control(0) {
+        Ok(frame) => frame.unreachable,
+        Err(_) => false,
+    }
+}
+
+/// The id of the local with the old index 2.
+fn local_of(context: &ValidationContext<'_>) -> Option<usize> {
+    match context.local(2) {
+        Ok(local) => Some(local.index()),
+        Err(_) => None,
+    }
+}
+
 impl Scenario for ValidationContext<'_> {
     fn call(&mut self, returned: &mut String) -> Result<(), AllocError> {
         let has_type = self.has_block_type(BlockType::FuncType(1)).is_ok();
-        let is_loop = self.kind_at(0) == Ok(BlockKind::Loop);
-        let is_cut = self.unreachable().is_ok();
-        let is_dead = matches!(self.control(0), Ok(frame) if frame.unreachable);
-        let has_outer = self.control(1).is_ok();
-        push_flags(returned, &[has_type, is_loop, is_cut, is_dead, has_outer])?;
-        let local = self.local(2).map(LocalId::index).ok();
-        write!(returned, " {local:?}")
+        let is_loop = is_loop(self);
+        let is_marked = self.unreachable().is_ok();
+        let (is_dead, has_outer) = (is_dead(self), self.control(1).is_ok());
+        push_flags(
+            returned,
+            &[has_type, is_loop, is_marked, is_dead, has_outer],
+        )?;
+        write!(returned, " {:?}", local_of(self))
     }
 }
 
