@@ -1,0 +1,8 @@
+-- every operator has a rule (`law_rules`); operators of one, two and three operands (`law_operand_numbers`)
+pub mod Coverage
+pub mod OperandNumbers
+-- matching (`law_matching`); pushing and popping, and validity (`law_operands`, `law_standard_validity`)
+pub mod MatchingLemmas
+pub mod OperandLemmas
+-- examples that fix the definitions
+pub mod Examples

@@ -1,0 +1,36 @@
+//! Laws of the types of operators, each stated as the contract of a function that does nothing.
+ghost use Rattle.wasm_typing.specs.RuleLaws.{PlainHaveRules, ConditionalsHaveRules, TailCallsHaveRules, UnaryTakeOne, BinaryTakeTwo, TernaryTakeThree};
+ghost use Rattle.wasm_typing.specs.RuleLaws.{MatchesItself, PopsAlike, PushesAlike, StandardValidityKept};
+
+/// Each supported operator that is plain has a rule, and no other opcode has one; the same holds for
+/// conditional branches and for tail calls.
+pub fn law_rules()
+    ensures plain { PlainHaveRules }
+    ensures conditionals { ConditionalsHaveRules }
+    ensures tail_calls { TailCallsHaveRules }
+{}
+
+/// Each operator of one, two or three operands takes so many and gives one. Only an operator with a
+/// lane may be refused.
+pub fn law_operand_numbers()
+    ensures unary { UnaryTakeOne }
+    ensures binary { BinaryTakeTwo }
+    ensures ternary { TernaryTakeThree }
+{}
+
+/// Each type matches itself.
+pub fn law_matching()
+    ensures { MatchesItself }
+{}
+
+/// Operands are popped and pushed as the validation algorithm does it.
+pub fn law_operands()
+    ensures pops { PopsAlike }
+    ensures pushes { PushesAlike }
+{}
+
+/// The normal form of an accepted body has a text, and in each function of a module where the body is
+/// valid by the rules of the standard, the text is.
+pub fn law_standard_validity()
+    ensures { StandardValidityKept }
+{}
