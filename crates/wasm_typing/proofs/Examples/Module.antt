@@ -58,14 +58,15 @@ types =
 -- ---- the module
 
 -- Functions 0 to 2 are of types 0, 1 and 5, and `ref.func` may name function 1. Table 0 has references to functions, and table 1, with
--- addresses of 64 bits, external ones. Memory 1 has addresses of 64 bits. Global 0 is a variable i32, and global 1 a constant i64.
+-- addresses of 64 bits, external ones, and table 2 has references to functions that may not be null. Memory 1 has addresses of 64 bits. Global 0 is a variable i32, and global 1 a constant i64.
 -- Local 0 is an i32, local 1 a reference that has no default, local 2 one that may be null, local 3 an f64, and local 4 a v128.
 abbrev pub context : OperandContext
 context = record {
   types = types;
   functions = 0 ∷ 1 ∷ 5 ∷ [];
   referenced = 1 ∷ [];
-  tables = record { address = Address32; element = func_null } ∷ record { address = Address64; element = extern_null } ∷ [];
+  tables = record { address = Address32; element = func_null } ∷ record { address = Address64; element = extern_null }
+    ∷ record { address = Address32; element = func_ref } ∷ [];
   memories = Address32 ∷ Address64 ∷ [];
   globals = record { mutable = true; type = I32 } ∷ record { mutable = false; type = I64 } ∷ [];
   elements = func_ref ∷ extern_null ∷ [];

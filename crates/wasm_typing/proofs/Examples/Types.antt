@@ -1,5 +1,5 @@
 -- The types of operators by their names, from the standard's text: the first and the last operator of each range of the table, and others.
-use Rattle.std.specs.Prelude.{◌≡◌, ℕ, List, [], ◌∷◌, Bool, true, false, ◌&&◌, Option, Some, Ok, Err, refl}
+use Rattle.std.specs.Prelude.{pos, ◌≡◌, ℕ, List, [], ◌∷◌, Bool, true, false, ◌&&◌, Option, Some, Ok, Err, refl}
 use Rattle.std.specs.List.{list_all}
 use Rattle.walrus_ir.specs.declared.binary.BinaryOp.TheVariants as binary
 use Rattle.walrus_ir.specs.declared.memory.AtomicOp.TheVariants.{Add, Xchg}
@@ -10,10 +10,17 @@ use Rattle.walrus_ir.specs.declared.memory.LoadSimdKind.TheVariants as vector_ac
 use Rattle.walrus_ir.specs.declared.memory.StoreKind.TheVariants as store
 use Rattle.walrus_ir.specs.declared.ternary.TernaryOp.TheVariants as ternary
 use Rattle.walrus_ir.specs.declared.unary.UnaryOp.TheVariants as unary
-use Rattle.walrus_ir.specs.declared.val_type.ValType.TheVariants.{I32, I64, F32, F64, V128}
+use Rattle.walrus_ir.specs.declared.val_type.AbstractHeapType.TheVariants as abstract
+use Rattle.walrus_ir.specs.declared.val_type.HeapType.TheVariants.{Abstract, Concrete}
+use Rattle.walrus_ir.specs.declared.val_type.ValType.{ValType}
+use Rattle.walrus_ir.specs.declared.val_type.ValType.TheVariants.{I32, I64, F32, F64, V128, Ref}
 use Rattle.walrus_ir.specs.Types.{same_types}
 use Rattle.wasm_operators.specs.declared.types.AtomicKind.TheVariants.{Notify, Wait32, Wait64, Rmw, Cmpxchg}
-use Rattle.wasm_operators.specs.Operations.{Access}
+use Rattle.wasm_operators.specs.declared.types.Opcode.{Opcode}
+use Rattle.wasm_operators.specs.declared.types.Opcode.TheVariants.{Byte, Prefixed}
+use Rattle.wasm_operators.specs.declared.types.Space.{Space}
+use Rattle.wasm_operators.specs.declared.types.Space.TheVariants.{Tables, Types, Funcs, Globals, Memories, Elements, Data}
+use Rattle.wasm_operators.specs.Operations.{Access, index, local, number, heap, value, i32, i64, f32, f64, v128, zero_byte, operation}
 use Rattle.wasm_operators.specs.UnaryOperations.{unary_operation}
 use Rattle.wasm_operators.specs.BinaryOperations.{binary_operation}
 use Rattle.wasm_operators.specs.TernaryOperations.{ternary_operation}
@@ -23,9 +30,9 @@ use Rattle.wasm_operators.specs.VectorAccessOpcodes.{vector_access_operation}
 use Rattle.wasm_body.specs.Naming.{NamedOperation}
 use Rattle.wasm_body.specs.Validity.{Checked}
 use Rattle.wasm_typing.specs.Operands.{InstructionType, ◌⟶◌}
-use Rattle.wasm_typing.specs.Rules.{Rule, by_type}
+use Rattle.wasm_typing.specs.Rules.{ref, ref_null, Rule, by_type}
 use Rattle.wasm_typing.specs.RuleTable.{rule_of}
-use Rattle.wasm_typing.proofs.Examples.Module.{context}
+use Rattle.wasm_typing.proofs.Examples.Module.{context, func_null, extern_null}
 
 abbrev is_type : InstructionType → Checked InstructionType → Bool
 is_type t (Ok u) = same_types t.takes u.takes && same_types t.gives u.gives
@@ -257,6 +264,99 @@ atomic_rows =
 atomic_types : HaveTypes atomic_rows
 atomic_types = refl
 
+-- ---- operators whose types depend on the module
+
+abbrev with_index : Opcode → Space → ℕ → NamedOperation
+with_index o space n = operation o (index space n ∷ [])
+
+abbrev with_indices : Opcode → Space → ℕ → Space → ℕ → NamedOperation
+with_indices o space m other n = operation o (index space m ∷ index other n ∷ [])
+
+abbrev with_field : ℕ → (type field : ℕ) → NamedOperation
+with_field n type field = operation (Prefixed 0xfb n) (index Types type ∷ number field ∷ [])
+
+abbrev id_ref : ℕ → ValType ℕ
+id_ref id = ref (Concrete id)
+
+abbrev id_null : ℕ → ValType ℕ
+id_null id = ref_null (Concrete id)
+
+abbrev module_rows : List Named
+module_rows =
+    (with_index (Byte 0x10) Funcs 1, I32 ∷ [] ⟶ I32 ∷ []) ∷  -- call
+    (with_indices (Byte 0x11) Types 1 Tables 0, I32 ∷ I32 ∷ [] ⟶ I32 ∷ []) ∷  -- call_indirect
+    (with_index (Byte 0x14) Types 1, I32 ∷ id_null 1 ∷ [] ⟶ I32 ∷ []) ∷  -- call_ref
+    (operation (Byte 0x1c) (value F64 ∷ []), F64 ∷ F64 ∷ I32 ∷ [] ⟶ F64 ∷ []) ∷  -- select
+    (operation (Byte 0x21) (local 3 ∷ []), F64 ∷ [] ⟶ []) ∷  -- local.set
+    (operation (Byte 0x22) (local 3 ∷ []), F64 ∷ [] ⟶ F64 ∷ []) ∷  -- local.tee
+    (with_index (Byte 0x23) Globals 1, [] ⟶ I64 ∷ []) ∷  -- global.get
+    (with_index (Byte 0x24) Globals 0, I32 ∷ [] ⟶ []) ∷  -- global.set
+    (with_index (Byte 0x25) Tables 1, I64 ∷ [] ⟶ Ref extern_null ∷ []) ∷  -- table.get
+    (with_index (Byte 0x26) Tables 1, I64 ∷ Ref extern_null ∷ [] ⟶ []) ∷  -- table.set
+    (with_index (Byte 0x3f) Memories 1, [] ⟶ I64 ∷ []) ∷  -- memory.size
+    (with_index (Byte 0x40) Memories 1, I64 ∷ [] ⟶ I64 ∷ []) ∷  -- memory.grow
+    (operation (Byte 0x41) (i32 (pos 7) ∷ []), [] ⟶ I32 ∷ []) ∷  -- constants
+    (operation (Byte 0x42) (i64 (pos 7) ∷ []), [] ⟶ I64 ∷ []) ∷
+    (operation (Byte 0x43) (f32 7 ∷ []), [] ⟶ F32 ∷ []) ∷
+    (operation (Byte 0x44) (f64 7 ∷ []), [] ⟶ F64 ∷ []) ∷
+    (operation (Prefixed 0xfd 12) (v128 7 ∷ []), [] ⟶ V128 ∷ []) ∷
+    (operation (Byte 0xd0) (heap (Concrete 2) ∷ []), [] ⟶ id_null 2 ∷ []) ∷  -- ref.null
+    (with_index (Byte 0xd2) Funcs 1, [] ⟶ id_ref 1 ∷ []) ∷  -- ref.func
+    (operation (Byte 0xd3) [], ref_null (Abstract abstract.Eq) ∷ ref_null (Abstract abstract.Eq) ∷ [] ⟶ I32 ∷ []) ∷  -- ref.eq
+    (with_indices (Prefixed 0xfc 8) Data 0 Memories 1, I64 ∷ I32 ∷ I32 ∷ [] ⟶ []) ∷  -- memory.init
+    (with_index (Prefixed 0xfc 9) Data 0, [] ⟶ []) ∷  -- data.drop
+    (with_indices (Prefixed 0xfc 10) Memories 1 Memories 1, I64 ∷ I64 ∷ I64 ∷ [] ⟶ []) ∷  -- memory.copy
+    (with_index (Prefixed 0xfc 11) Memories 1, I64 ∷ I32 ∷ I64 ∷ [] ⟶ []) ∷  -- memory.fill
+    (with_indices (Prefixed 0xfc 12) Elements 1 Tables 1, I64 ∷ I32 ∷ I32 ∷ [] ⟶ []) ∷  -- table.init
+    (with_index (Prefixed 0xfc 13) Elements 1, [] ⟶ []) ∷  -- elem.drop
+    (with_indices (Prefixed 0xfc 14) Tables 1 Tables 1, I64 ∷ I64 ∷ I64 ∷ [] ⟶ []) ∷  -- table.copy
+    (with_indices (Prefixed 0xfc 14) Tables 0 Tables 2, I32 ∷ I32 ∷ I32 ∷ [] ⟶ []) ∷
+    (with_index (Prefixed 0xfc 15) Tables 1, Ref extern_null ∷ I64 ∷ [] ⟶ I64 ∷ []) ∷  -- table.grow
+    (with_index (Prefixed 0xfc 16) Tables 1, [] ⟶ I64 ∷ []) ∷  -- table.size
+    (with_index (Prefixed 0xfc 17) Tables 1, I64 ∷ Ref extern_null ∷ I64 ∷ [] ⟶ []) ∷  -- table.fill
+    (operation (Prefixed 0xfc 20) [], I64 ∷ I64 ∷ I64 ∷ I64 ∷ [] ⟶ I64 ∷ I64 ∷ []) ∷  -- i64.sub128
+    (operation (Prefixed 0xfc 22) [], I64 ∷ I64 ∷ [] ⟶ I64 ∷ I64 ∷ []) ∷  -- i64.mul_wide_u
+    (operation (Prefixed 0xfd 82) [], V128 ∷ V128 ∷ V128 ∷ [] ⟶ V128 ∷ []) ∷  -- v128.bitselect
+    (operation (Prefixed 0xfe 3) (zero_byte ∷ []), [] ⟶ []) ∷  -- atomic.fence
+    []
+
+module_types : HaveTypes module_rows
+module_types = refl
+
+abbrev aggregate_rows : List Named
+aggregate_rows =
+    (with_index (Prefixed 0xfb 0) Types 3, I32 ∷ I64 ∷ I32 ∷ [] ⟶ id_ref 3 ∷ []) ∷  -- struct.new
+    (with_index (Prefixed 0xfb 1) Types 3, [] ⟶ id_ref 3 ∷ []) ∷  -- struct.new_default
+    (with_field 2 3 1, id_null 3 ∷ [] ⟶ I64 ∷ []) ∷  -- struct.get
+    (with_field 3 3 2, id_null 3 ∷ [] ⟶ I32 ∷ []) ∷  -- struct.get_s
+    (with_field 4 3 2, id_null 3 ∷ [] ⟶ I32 ∷ []) ∷  -- struct.get_u
+    (with_field 5 3 2, id_null 3 ∷ I32 ∷ [] ⟶ []) ∷  -- struct.set
+    (with_index (Prefixed 0xfb 6) Types 4, I32 ∷ I32 ∷ [] ⟶ id_ref 4 ∷ []) ∷  -- array.new
+    (with_index (Prefixed 0xfb 7) Types 4, I32 ∷ [] ⟶ id_ref 4 ∷ []) ∷  -- array.new_default
+    (with_field 8 7 3, Ref func_null ∷ Ref func_null ∷ Ref func_null ∷ [] ⟶ id_ref 7 ∷ []) ∷  -- array.new_fixed
+    (with_indices (Prefixed 0xfb 9) Types 4 Data 0, I32 ∷ I32 ∷ [] ⟶ id_ref 4 ∷ []) ∷  -- array.new_data
+    (with_indices (Prefixed 0xfb 10) Types 7 Elements 0, I32 ∷ I32 ∷ [] ⟶ id_ref 7 ∷ []) ∷  -- array.new_elem
+    (with_index (Prefixed 0xfb 11) Types 7, id_null 7 ∷ I32 ∷ [] ⟶ Ref func_null ∷ []) ∷  -- array.get
+    (with_index (Prefixed 0xfb 12) Types 4, id_null 4 ∷ I32 ∷ [] ⟶ I32 ∷ []) ∷  -- array.get_s
+    (with_index (Prefixed 0xfb 13) Types 4, id_null 4 ∷ I32 ∷ [] ⟶ I32 ∷ []) ∷  -- array.get_u
+    (with_index (Prefixed 0xfb 14) Types 7, id_null 7 ∷ I32 ∷ Ref func_null ∷ [] ⟶ []) ∷  -- array.set
+    (operation (Prefixed 0xfb 15) [], ref_null (Abstract abstract.Array) ∷ [] ⟶ I32 ∷ []) ∷  -- array.len
+    (with_index (Prefixed 0xfb 16) Types 7, id_null 7 ∷ I32 ∷ Ref func_null ∷ I32 ∷ [] ⟶ []) ∷  -- array.fill
+    (with_indices (Prefixed 0xfb 17) Types 7 Types 6, id_null 7 ∷ I32 ∷ id_null 6 ∷ I32 ∷ I32 ∷ [] ⟶ []) ∷  -- array.copy
+    (with_indices (Prefixed 0xfb 18) Types 4 Data 0, id_null 4 ∷ I32 ∷ I32 ∷ I32 ∷ [] ⟶ []) ∷  -- array.init_data
+    (with_indices (Prefixed 0xfb 19) Types 7 Elements 0, id_null 7 ∷ I32 ∷ I32 ∷ I32 ∷ [] ⟶ []) ∷  -- array.init_elem
+    (operation (Prefixed 0xfb 20) (heap (Concrete 1) ∷ []), ref_null (Abstract abstract.Func) ∷ [] ⟶ I32 ∷ []) ∷  -- ref.test
+    (operation (Prefixed 0xfb 21) (heap (Abstract abstract.NoExtern) ∷ []), ref_null (Abstract abstract.Extern) ∷ [] ⟶ I32 ∷ []) ∷
+    (operation (Prefixed 0xfb 22) (heap (Concrete 4) ∷ []), ref_null (Abstract abstract.Any) ∷ [] ⟶ id_ref 4 ∷ []) ∷  -- ref.cast
+    (operation (Prefixed 0xfb 23) (heap (Abstract abstract.NoExn) ∷ []), ref_null (Abstract abstract.Exn) ∷ [] ⟶ ref_null (Abstract abstract.NoExn) ∷ []) ∷
+    (operation (Prefixed 0xfb 28) [], I32 ∷ [] ⟶ ref (Abstract abstract.I31) ∷ []) ∷  -- ref.i31
+    (operation (Prefixed 0xfb 29) [], ref_null (Abstract abstract.I31) ∷ [] ⟶ I32 ∷ []) ∷  -- i31.get_s
+    (operation (Prefixed 0xfb 30) [], ref_null (Abstract abstract.I31) ∷ [] ⟶ I32 ∷ []) ∷  -- i31.get_u
+    []
+
+aggregate_types : HaveTypes aggregate_rows
+aggregate_types = refl
+
 -- ---- what has no type: a lane that isn't there, an alignment above the natural one, or below it for an atomic operator, an offset that
 -- isn't an address, a memory that isn't there
 
@@ -282,3 +382,38 @@ refused_accesses : HaveNoType
     ∷ load_operation (load.I32 false) (record { alignment = 2; memory = 0; offset = 4294967296 })
     ∷ load_operation (load.I32 false) (at 2 2) ∷ [])
 refused_accesses = refl
+
+-- what isn't there, isn't a variable, or doesn't match
+refused_by_module : HaveNoType
+    (with_index (Byte 0x10) Funcs 3
+    ∷ with_index (Byte 0x14) Types 2
+    ∷ with_indices (Byte 0x11) Types 1 Tables 1
+    ∷ with_indices (Byte 0x11) Types 2 Tables 0
+    ∷ operation (Byte 0x1c) (value (id_ref 9) ∷ [])
+    ∷ with_index (Byte 0x24) Globals 1
+    ∷ with_index (Byte 0x26) Tables 3
+    ∷ operation (Byte 0xd0) (heap (Concrete 9) ∷ [])
+    ∷ with_index (Byte 0xd2) Funcs 2
+    ∷ with_indices (Prefixed 0xfc 8) Data 1 Memories 0
+    ∷ with_indices (Prefixed 0xfc 12) Elements 0 Tables 1
+    ∷ with_indices (Prefixed 0xfc 14) Tables 2 Tables 0
+    ∷ with_index (Prefixed 0xfb 0) Types 4
+    ∷ with_index (Prefixed 0xfb 1) Types 8
+    ∷ with_field 2 3 2
+    ∷ with_field 3 3 0
+    ∷ with_field 2 3 3
+    ∷ with_field 5 3 1
+    ∷ with_index (Prefixed 0xfb 6) Types 2
+    ∷ with_indices (Prefixed 0xfb 9) Types 7 Data 0
+    ∷ with_indices (Prefixed 0xfb 10) Types 7 Elements 1
+    ∷ with_indices (Prefixed 0xfb 10) Types 4 Elements 0
+    ∷ with_index (Prefixed 0xfb 11) Types 4
+    ∷ with_index (Prefixed 0xfb 12) Types 7
+    ∷ with_index (Prefixed 0xfb 14) Types 6
+    ∷ with_index (Prefixed 0xfb 16) Types 6
+    ∷ with_indices (Prefixed 0xfb 17) Types 6 Types 7
+    ∷ with_indices (Prefixed 0xfb 17) Types 7 Types 4
+    ∷ with_indices (Prefixed 0xfb 18) Types 7 Data 0
+    ∷ with_indices (Prefixed 0xfb 19) Types 6 Elements 0
+    ∷ operation (Prefixed 0xfb 20) (heap (Concrete 9) ∷ []) ∷ [])
+refused_by_module = refl
