@@ -9,11 +9,11 @@ use Rattle.wasm_typing.specs.Contexts.{OperandContext}
 use Rattle.wasm_typing.specs.Matching.{matches_abstract, first_of, matches_heap, matches_null}
 use Rattle.wasm_typing.specs.RuleLaws.{MatchesItself}
 
-abstract_itself : (a : AbstractHeapType) → matches_abstract a a ≡ true
+pub abstract_itself : (a : AbstractHeapType) → matches_abstract a a ≡ true
 abstract_itself abstract.NoExn = refl
 abstract_itself _ = refl
 
-heap_itself : (c : OperandContext) (h : HeapType ℕ) → matches_heap c h h ≡ true
+pub heap_itself : (c : OperandContext) (h : HeapType ℕ) → matches_heap c h h ≡ true
 heap_itself c (Abstract a) = abstract_itself a
 heap_itself c (Concrete id) = let e = eq-eqb (first_of c id) (first_of c id) refl in rw e refl
 

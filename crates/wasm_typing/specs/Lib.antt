@@ -8,5 +8,6 @@ pub mod Rules
 pub mod RuleTable
 -- conditional branches and tail calls; the rules as the parameter of the validation algorithm
 pub mod StandardRules
--- the laws
+-- the rules of matching, and that the test is them; the other laws
+pub mod MatchingLaws
 pub mod RuleLaws

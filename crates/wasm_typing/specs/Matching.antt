@@ -32,16 +32,33 @@ above abstract.NoExn = abstract.NoExn ∷ abstract.Exn ∷ []
 abbrev pub matches_abstract : AbstractHeapType → AbstractHeapType → Bool
 matches_abstract a b = list_any (λ u. rank_of u == rank_of b) (above a)
 
--- the least abstract heap type that a type of the module matches, and the greatest that matches it
+-- the abstract heap type of a type of the module, by its kind
 abbrev pub kind_of : CompositeType → AbstractHeapType
 kind_of (Function s) = abstract.Func
 kind_of (Struct fs) = abstract.Struct
 kind_of (Array f) = abstract.Array
 
-abbrev pub bottom_of : CompositeType → AbstractHeapType
-bottom_of (Function s) = abstract.NoFunc
-bottom_of (Struct fs) = abstract.None
-bottom_of (Array f) = abstract.None
+abbrev pub kind_at : OperandContext → ℕ → Option AbstractHeapType
+kind_at c id = option_map kind_of (composite_of c id)
+
+-- the least heap type of a hierarchy, and the greatest ("top_heap_type")
+abbrev pub bottom_of : AbstractHeapType → AbstractHeapType
+bottom_of abstract.Func = abstract.NoFunc
+bottom_of abstract.NoFunc = abstract.NoFunc
+bottom_of abstract.Extern = abstract.NoExtern
+bottom_of abstract.NoExtern = abstract.NoExtern
+bottom_of abstract.Exn = abstract.NoExn
+bottom_of abstract.NoExn = abstract.NoExn
+bottom_of _ = abstract.None
+
+abbrev pub top_of : AbstractHeapType → AbstractHeapType
+top_of abstract.Func = abstract.Func
+top_of abstract.NoFunc = abstract.Func
+top_of abstract.Extern = abstract.Extern
+top_of abstract.NoExtern = abstract.Extern
+top_of abstract.Exn = abstract.Exn
+top_of abstract.NoExn = abstract.Exn
+top_of _ = abstract.Any
 
 -- the first id of the same type
 abbrev pub first_of : OperandContext → ℕ → ℕ
@@ -65,8 +82,8 @@ holds_of test o = unwrap_or (option_map test o) false
 
 abbrev pub matches_heap : OperandContext → HeapType ℕ → HeapType ℕ → Bool
 matches_heap c (Abstract a) (Abstract b) = matches_abstract a b
-matches_heap c (Concrete m) (Abstract b) = holds_of (λ t. matches_abstract (kind_of t) b) (composite_of c m)
-matches_heap c (Abstract a) (Concrete n) = holds_of (λ t. matches_abstract a (bottom_of t)) (composite_of c n)
+matches_heap c (Concrete m) (Abstract b) = holds_of (λ k. matches_abstract k b) (kind_at c m)
+matches_heap c (Abstract a) (Concrete n) = holds_of (λ k. matches_abstract a (bottom_of k)) (kind_at c n)
 matches_heap c (Concrete m) (Concrete n) = matches_defined c m n
 
 -- ---- other types
@@ -116,19 +133,10 @@ abbrev pub is_valid_value : OperandContext → ValType ℕ → Bool
 is_valid_value c (Ref r) = is_valid_heap c r.heap_type
 is_valid_value c _ = true
 
--- "top_heap_type"
-abbrev pub top_of : AbstractHeapType → AbstractHeapType
-top_of abstract.Func = abstract.Func
-top_of abstract.NoFunc = abstract.Func
-top_of abstract.Extern = abstract.Extern
-top_of abstract.NoExtern = abstract.Extern
-top_of abstract.Exn = abstract.Exn
-top_of abstract.NoExn = abstract.Exn
-top_of _ = abstract.Any
-
+-- the top of the hierarchy of a heap type
 abbrev pub top_heap : OperandContext → HeapType ℕ → Option AbstractHeapType
 top_heap c (Abstract a) = Some (top_of a)
-top_heap c (Concrete id) = option_map (λ t. top_of (kind_of t)) (composite_of c id)
+top_heap c (Concrete id) = option_map top_of (kind_at c id)
 
 -- "diff_ref_type": the type of a reference of the first type on which a cast to the second fails
 abbrev pub difference : RefType ℕ → RefType ℕ → RefType ℕ

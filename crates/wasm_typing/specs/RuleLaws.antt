@@ -83,7 +83,7 @@ TernaryTakeThree = (c : OperandContext) (op : TernaryOp) → HasNumber 3 c (tern
 
 -- ---- matching
 
--- each type matches itself
+-- each type matches itself; the rules of matching are in `MatchingLaws.antt`
 abbrev pub MatchesItself : Type 0
 MatchesItself = (c : OperandContext) (t : ValType ℕ) → matches_value c t t ≡ true
 

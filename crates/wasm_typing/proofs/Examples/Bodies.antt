@@ -323,6 +323,9 @@ compared_functions = refl
 converted : Takes (ref extern ∷ []) (const 1 ∷ i31 ∷ convert_any ∷ end ∷ [])
 converted = refl
 
+dead_converted : Takes (ref any ∷ []) (unreachable ∷ convert_extern ∷ end ∷ [])
+dead_converted = refl
+
 converted_null : Refuses (ref any ∷ []) (null extern ∷ convert_extern ∷ end ∷ [])
 converted_null = refl
 
