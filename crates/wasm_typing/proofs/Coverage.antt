@@ -13,21 +13,18 @@ use Rattle.wasm_operators.specs.Opcodes.{range_at, kinds_of, kinds_of_byte, kind
 use Rattle.wasm_operators.specs.Types.{row_at}
 use Rattle.wasm_operators.proofs.SameLists.{both}
 use Rattle.wasm_body.specs.Control.{a_plain, role_of, byte_roles, aggregate_roles}
+use Rattle.wasm_typing.specs.MatchingLaws.{all_below}
 use Rattle.wasm_typing.specs.RuleTable.{rule_of, byte_rules, bulk_rules, vector_rules, atomic_rules, aggregate_rules, width_at}
 use Rattle.wasm_typing.specs.StandardRules.{conditional_rule, tail_rule, byte_branches, cast_branches, tail_rows}
 use Rattle.wasm_typing.specs.RuleLaws.{is_plain, is_conditional, is_tail_call, PlainHaveRules, ConditionalsHaveRules, TailCallsHaveRules}
 
 -- ---- numbers up to a bound, and above it
 
-abbrev all_below : ℕ → (ℕ → Bool) → Bool
-all_below zero f = true
-all_below (suc n) f = f n && all_below n f
-
 at_last : (f : ℕ → Bool) (n k : ℕ) → f n ≡ true → (k < n → f k ≡ true) → (k ≡ n) ⊎ (k < n) → f k ≡ true
 at_last f n k h g (inl e) = subst (λ i. f i ≡ true) (sym e) h
 at_last f n k h g (inr l) = g l
 
-passes_below : (n : ℕ) (f : ℕ → Bool) → all_below n f ≡ true → (k : ℕ) → k < n → f k ≡ true
+pub passes_below : (n : ℕ) (f : ℕ → Bool) → all_below n f ≡ true → (k : ℕ) → k < n → f k ≡ true
 passes_below zero f h k l = let no : ⊥ = omega (arith, l) in absurd no
 passes_below (suc n) f h k l =
     let b = both (f n) (all_below n f) h in

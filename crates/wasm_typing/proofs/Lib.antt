@@ -4,6 +4,7 @@ pub mod OperandNumbers
 -- matching (`law_matching`); pushing and popping, and validity (`law_operands`, `law_standard_validity`)
 pub mod MatchingLemmas
 pub mod MatchingRules
+pub mod TestedTypes
 pub mod OperandLemmas
 -- examples that fix the definitions
 pub mod Examples

@@ -50,7 +50,7 @@ holds test o x e h = rw e h
 
 -- ---- abstract heap types
 
-same_rank : (a b : AbstractHeapType) → (rank_of a == rank_of b) ≡ true → a ≡ b
+pub same_rank : (a b : AbstractHeapType) → (rank_of a == rank_of b) ≡ true → a ≡ b
 same_rank abstract.NoExn abstract.NoExn h = refl
 same_rank abstract.NoFunc abstract.NoFunc h = refl
 same_rank abstract.NoExtern abstract.NoExtern h = refl
@@ -177,13 +177,13 @@ passes c w m n (up _ s _ e r) (suc k) l =
     or_second (is_same c n m) (list_any (is_same c n) (supertypes c k (supertype_of c m))) (rw e rest)
 
 -- only a type of the module has a supertype
-past_end : {X : Type 0} (xs : List X) (i : ℕ) → length xs ≤ i → slice_get xs i ≡ None
+pub past_end : {X : Type 0} (xs : List X) (i : ℕ) → length xs ≤ i → slice_get xs i ≡ None
 past_end [] i l = refl
 past_end (x ∷ xs) zero l = let no : ⊥ = omega (arith, l) in absurd no
 past_end (x ∷ xs) (suc i) l = past_end xs i (omega (arith, l))
 
--- what has none has no supertype
-no_supertype : (c : OperandContext) (m : ℕ) → length c.types ≤ m → supertype_of c m ≡ None
+-- what isn't one has no supertype
+pub no_supertype : (c : OperandContext) (m : ℕ) → length c.types ≤ m → supertype_of c m ≡ None
 no_supertype c m l = ap (option_and_then (λ t. t.supertype)) (past_end c.types m l)
 
 defined_passes : (c : OperandContext) → AreTypes c → (m n : ℕ) → Reaches c m n → matches_defined c m n ≡ true

@@ -1,6 +1,6 @@
 -- The rules of matching, one by one (WebAssembly core specification 3.0, section 3.3), and the laws that the test of `Matching.antt` is
 -- these rules.
-use Rattle.std.specs.Prelude.{◌≡◌, ℕ, ◌<◌, Bool, true, Option, Some, option_map}
+use Rattle.std.specs.Prelude.{◌≡◌, ℕ, zero, suc, ◌<◌, List, length, Bool, true, false, ◌&&◌, ◌==◌, nat_lt, Option, Some, None, option_map}
 use Rattle.walrus_ir.specs.declared.val_type.AbstractHeapType.{AbstractHeapType}
 use Rattle.walrus_ir.specs.declared.val_type.AbstractHeapType.TheVariants as abstract
 use Rattle.walrus_ir.specs.declared.val_type.HeapType.{HeapType}
@@ -8,6 +8,7 @@ use Rattle.walrus_ir.specs.declared.val_type.HeapType.TheVariants.{Abstract, Con
 use Rattle.walrus_ir.specs.declared.val_type.RefType.{RefType}
 use Rattle.walrus_ir.specs.declared.val_type.ValType.{ValType}
 use Rattle.walrus_ir.specs.declared.val_type.ValType.TheVariants.{Ref}
+use Rattle.walrus_ir.specs.Types.{rank_of}
 use Rattle.wasm_typing.specs.Contexts.{OperandContext}
 use Rattle.wasm_typing.specs.Matching.{kind_at, first_of, supertype_of, matches_value}
 
@@ -47,6 +48,34 @@ pub record AreTypes (c : OperandContext) : Type 0 where
   pub of_one_kind : (m s : ℕ) → supertype_of c m ≡ Some s → kind_at c m ≡ kind_at c s
   pub same_kind : (m n : ℕ) → first_of c m ≡ first_of c n → kind_at c m ≡ kind_at c n
   pub same_supertype : (m n : ℕ) → first_of c m ≡ first_of c n → option_map (first_of c) (supertype_of c m) ≡ option_map (first_of c) (supertype_of c n)
+
+-- A test for it: of each type of the list.
+abbrev pub all_below : ℕ → (ℕ → Bool) → Bool
+all_below zero test = true
+all_below (suc n) test = test n && all_below n test
+
+abbrev pub same_option : {X : Type 0} → (X → ℕ) → Option X → Option X → Bool
+same_option number None None = true
+same_option number (Some x) (Some y) = number x == number y
+same_option number _ _ = false
+
+abbrev pub same_kinds : OperandContext → ℕ → ℕ → Bool
+same_kinds c m n = same_option rank_of (kind_at c m) (kind_at c n)
+
+abbrev pub is_supertype : OperandContext → ℕ → Option ℕ → Bool
+is_supertype c m None = true
+is_supertype c m (Some s) = nat_lt s m && same_kinds c m s
+
+abbrev pub is_type : OperandContext → ℕ → Bool
+is_type c m =
+    is_supertype c m (supertype_of c m) && same_kinds c m (first_of c m)
+    && same_option (first_of c) (supertype_of c m) (supertype_of c (first_of c m))
+
+abbrev pub are_types : OperandContext → Bool
+are_types c = all_below (length c.types) (is_type c)
+
+abbrev pub TypesAreTested : Type 0
+TypesAreTested = (c : OperandContext) → are_types c ≡ true → AreTypes c
 
 -- what the test accepts matches by the rules
 abbrev pub MatchingIsSound : Type 0

@@ -1,10 +1,11 @@
 -- Laws of the table of rules, of matching, and of the instance.
-use Rattle.std.specs.Prelude.{◌≡◌, ℕ, List, [], ◌∷◌, length, map, Bool, true, false, ◌&&◌, Option, Some, is_some, Ok, Err}
+use Rattle.std.specs.Prelude.{◌≡◌, ℕ, List, [], ◌∷◌, ◌++◌, length, map, Bool, true, false, ◌&&◌, Option, Some, is_some, Ok, Err}
 use Rattle.std.specs.List.{AllByRecursion}
 use Rattle.walrus_ir.specs.declared.binary.BinaryOp.{BinaryOp}
 use Rattle.walrus_ir.specs.declared.ternary.TernaryOp.{TernaryOp}
 use Rattle.walrus_ir.specs.declared.unary.UnaryOp.{UnaryOp}
 use Rattle.walrus_ir.specs.declared.val_type.ValType.{ValType}
+use Rattle.walrus_ir.specs.Results.{◌>>=◌}
 use Rattle.wasm_operators.specs.declared.types.Opcode.{Opcode}
 use Rattle.wasm_operators.specs.BinaryOperations.{binary_operation}
 use Rattle.wasm_operators.specs.Opcodes.{kinds_of}
@@ -87,18 +88,17 @@ TernaryTakeThree = (c : OperandContext) (op : TernaryOp) → HasNumber 3 c (tern
 abbrev pub MatchesItself : Type 0
 MatchesItself = (c : OperandContext) (t : ValType ℕ) → matches_value c t t ≡ true
 
--- ---- operands are pushed and popped as in the algorithm, in a frame that has nothing below its operands
+-- ---- operands are popped and pushed as in the algorithm
 
-abbrev pub frame_of : Point KnownOperand → ControlFrame
-frame_of p = record { opened = OfBlock; start_types = []; end_types = []; height = 0; locals_height = 0; unreachable = p.unreachable }
-
+-- In each frame: the operands above its height are xs, and those below it, which stay, are ys.
 abbrev pub PopsAlike : Type 0
 PopsAlike =
-    (m : Typing) (c : OperandContext) (p : Point KnownOperand) (ts : List (ValType ℕ)) →
-    pop_all c p.unreachable ts p.operands ≡ algorithm.pop_all m (standard_rules c) (frame_of p) ts p.operands
+    (m : Typing) (c : OperandContext) (f : ControlFrame) (ts : List (ValType ℕ)) (xs ys : Operands) → f.height ≡ length ys →
+    algorithm.pop_all m (standard_rules c) f ts (xs ++ ys) ≡ (pop_all c f.unreachable ts xs >>= λ zs. Ok (zs ++ ys))
 
 abbrev pub PushesAlike : Type 0
-PushesAlike = (m : Typing) (c : OperandContext) (ts : List (ValType ℕ)) (xs : Operands) → push_each ts xs ≡ algorithm.push_each m (standard_rules c) ts xs
+PushesAlike =
+    (m : Typing) (c : OperandContext) (ts : List (ValType ℕ)) (xs ys : Operands) → algorithm.push_each m (standard_rules c) ts (xs ++ ys) ≡ push_each ts xs ++ ys
 
 -- ---- what was valid by the rules of the standard stays valid
 

@@ -1,6 +1,6 @@
 //! Laws of the types of operators, each stated as the contract of a function that does nothing.
 ghost use Rattle.wasm_typing.specs.RuleLaws.{PlainHaveRules, ConditionalsHaveRules, TailCallsHaveRules, UnaryTakeOne, BinaryTakeTwo, TernaryTakeThree};
-ghost use Rattle.wasm_typing.specs.MatchingLaws.{MatchingIsSound, MatchingIsComplete};
+ghost use Rattle.wasm_typing.specs.MatchingLaws.{MatchingIsSound, MatchingIsComplete, TypesAreTested};
 ghost use Rattle.wasm_typing.specs.RuleLaws.{MatchesItself, PopsAlike, PushesAlike, StandardValidityKept};
 
 /// Each supported operator that is plain has a rule, and no other opcode has one; the same holds for
@@ -20,11 +20,13 @@ pub fn law_operand_numbers()
 {}
 
 /// The test for matching types is the rules of matching: what it accepts matches, each type matches
-/// itself, and, in what is the types of a module, all that matches is accepted.
+/// itself, and, where the types are those of a module, all that matches is accepted. For the types
+/// of a module there is a test, too.
 pub fn law_matching()
     ensures itself { MatchesItself }
     ensures sound { MatchingIsSound }
     ensures complete { MatchingIsComplete }
+    ensures types { TypesAreTested }
 {}
 
 /// Operands are popped and pushed as the validation algorithm does it.

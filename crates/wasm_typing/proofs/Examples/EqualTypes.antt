@@ -4,9 +4,11 @@ use Rattle.walrus_ir.specs.declared.val_type.HeapType.TheVariants.{Concrete}
 use Rattle.walrus_ir.specs.declared.val_type.ValType.{ValType}
 use Rattle.walrus_ir.specs.declared.val_type.ValType.TheVariants.{I32, I64}
 use Rattle.walrus_ir.specs.Types.{signature}
-use Rattle.wasm_typing.specs.Contexts.{Unpacked, FieldType, CompositeType, Function, Struct}
-use Rattle.wasm_typing.specs.RecursiveTypes.{DeclaredType, Group, first_ids}
+use Rattle.wasm_typing.specs.Contexts.{OperandContext, Unpacked, FieldType, CompositeType, Function, Struct}
+use Rattle.wasm_typing.specs.MatchingLaws.{are_types}
+use Rattle.wasm_typing.specs.RecursiveTypes.{DeclaredType, Group, first_ids, defined_types}
 use Rattle.wasm_typing.specs.Rules.{ref, ref_null}
+use Rattle.wasm_typing.proofs.Examples.Module.{context}
 
 abbrev final : CompositeType → DeclaredType
 final t = record { final = true; supertype = None; composite = t }
@@ -52,3 +54,17 @@ declarations : First
     ((final (takes I32) ∷ []) ∷ (extensible None (takes I32) ∷ []) ∷ (extensible (Some 1) (takes I32) ∷ []) ∷ (extensible (Some 1) (takes I32) ∷ []) ∷ [])
     (0 ∷ 1 ∷ 2 ∷ 2 ∷ [])
 declarations = refl
+
+-- The types of the module of the examples, and those of a module that declares groups, are those of a module.
+tested : are_types context ≡ true
+tested = refl
+
+abbrev declaring : List Group → OperandContext
+declaring gs = record context { types = defined_types gs }
+
+tested_groups : are_types (declaring ((list_of 1 ∷ list_of 0 ∷ []) ∷ (list_of 3 ∷ list_of 2 ∷ []) ∷ (extensible None (takes I32) ∷ []) ∷ (extensible (Some 4) (takes I32) ∷ []) ∷ [])) ≡ true
+tested_groups = refl
+
+-- a supertype of another kind
+not_tested : are_types (declaring ((extensible None (takes I32) ∷ []) ∷ (extensible (Some 0) (Struct []) ∷ []) ∷ [])) ≡ false
+not_tested = refl
