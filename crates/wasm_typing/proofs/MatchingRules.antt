@@ -1,6 +1,6 @@
 -- The test for matching is the rules of matching.
 use Rattle.std.proofs.Common.{◌≡◌, ℕ, zero, suc, List, [], ◌∷◌, length, Bool, true, false, Option, Some, None, refl, sym, ap, ◌∙◌, subst, arith, ◌⊎◌, inl, inr, eq-eqb}
-use Rattle.std.specs.Prelude.{◌<◌, ◌≤◌, ◌&&◌, ◌||◌, ◌==◌, not, option_map, option_and_then, unwrap_or, slice_get}
+use Rattle.std.specs.Prelude.{◌<◌, ◌≤◌, ◌||◌, ◌==◌, not, option_map, option_and_then, slice_get}
 use Rattle.std.specs.List.{list_all, list_any, AllByRecursion}
 use Rattle.std.proofs.lemmas.Bool.{eqb-true}
 use Rattle.std.proofs.lemmas.Bool.Decides.{leb_tells}
@@ -8,13 +8,12 @@ use Rattle.walrus_ir.specs.declared.val_type.AbstractHeapType.{AbstractHeapType}
 use Rattle.walrus_ir.specs.declared.val_type.AbstractHeapType.TheVariants as abstract
 use Rattle.walrus_ir.specs.declared.val_type.HeapType.{HeapType}
 use Rattle.walrus_ir.specs.declared.val_type.HeapType.TheVariants.{Abstract, Concrete}
-use Rattle.walrus_ir.specs.declared.val_type.ValType.{ValType}
 use Rattle.walrus_ir.specs.declared.val_type.ValType.TheVariants.{I32, I64, F32, F64, V128, Ref}
 use Rattle.walrus_ir.specs.Types.{rank_of}
 use Rattle.wasm_operators.proofs.SameLists.{both}
-use Rattle.wasm_typing.specs.Contexts.{DefinedType, CompositeType, Function, Struct, Array, OperandContext, composite_of}
-use Rattle.wasm_typing.specs.Matching.{above, matches_abstract, kind_of, kind_at, bottom_of, top_of, first_of, supertype_of, supertypes, matches_defined, holds_of, matches_heap, matches_null, matches_reference, matches_value}
-use Rattle.wasm_typing.specs.MatchingLaws.{HeapMatches, itself, through, eq_any, i31_eq, struct_eq, array_eq, none_below, nofunc_below, noextern_below, noexn_below, of_kind, same_type, declared, ValueMatches, AreTypes, MatchingIsSound, MatchingIsComplete}
+use Rattle.wasm_typing.specs.Contexts.{CompositeType, Function, Struct, Array, OperandContext, composite_of}
+use Rattle.wasm_typing.specs.Matching.{above, matches_abstract, kind_of, kind_at, bottom_of, top_of, first_of, supertype_of, supertypes, matches_defined, holds_of, matches_heap, matches_null}
+use Rattle.wasm_typing.specs.MatchingLaws.{HeapMatches, itself, through, eq_any, i31_eq, struct_eq, array_eq, none_below, nofunc_below, noextern_below, noexn_below, of_kind, same_type, declared, AreTypes, MatchingIsSound, MatchingIsComplete}
 use Rattle.wasm_typing.proofs.MatchingLemmas.{abstract_itself, heap_itself}
 
 -- ---- tests
@@ -160,9 +159,9 @@ on_supertype c m n k (Some s) e f h = up m s n e (f s h)
 reaches : (c : OperandContext) (n k m : ℕ) → list_any (is_same c n) (supertypes c k (Some m)) ≡ true → Reaches c m n
 reaches c n zero m h = absurd cc
 reaches c n (suc k) m h = elim (either (is_same c n m) (list_any (is_same c n) (supertypes c k (supertype_of c m))) h) [
-    inl e ↦ here m n (eqb-true (first_of c m) (first_of c n) e)
-    | inr g ↦ on_supertype c m n k (supertype_of c m) refl (reaches c n k) g
-    ]
+  | inl e ↦ here m n (eqb-true (first_of c m) (first_of c n) e)
+  | inr g ↦ on_supertype c m n k (supertype_of c m) refl (reaches c n k) g
+]
 
 first_passes : (c : OperandContext) (m n k : ℕ) → first_of c m ≡ first_of c n → list_any (is_same c n) (supertypes c (suc k) (Some m)) ≡ true
 first_passes c m n k e = rw (eq-eqb (first_of c m) (first_of c n) e) refl
@@ -189,9 +188,9 @@ no_supertype c m l = ap (option_and_then (λ t. t.supertype)) (past_end c.types 
 defined_passes : (c : OperandContext) → AreTypes c → (m n : ℕ) → Reaches c m n → matches_defined c m n ≡ true
 defined_passes c w m n (here _ _ e) = first_passes c m n (length c.types) e
 defined_passes c w m n (up _ s _ e r) = elim (leb_tells (length c.types) m) [
-    inl l ↦ let no = no_supertype c m l.1 in absurd cc
-    | inr l ↦ passes c w m n (up m s n e r) (suc (length c.types)) (omega (arith, l.1))
-    ]
+  | inl l ↦ let no = no_supertype c m l.1 in absurd cc
+  | inr l ↦ passes c w m n (up m s n e r) (suc (length c.types)) (omega (arith, l.1))
+]
 
 reached : (c : OperandContext) (m n : ℕ) → matches_defined c m n ≡ true → Reaches c m n
 reached c m n h = reaches c n (suc (length c.types)) m h
@@ -290,10 +289,19 @@ each_above c abstract.Eq = (itself_abstract c abstract.Eq, (eq_any, tt))
 each_above c abstract.I31 = (itself_abstract c abstract.I31, (i31_eq, (eq_step c abstract.I31 i31_eq, tt)))
 each_above c abstract.Struct = (itself_abstract c abstract.Struct, (struct_eq, (eq_step c abstract.Struct struct_eq, tt)))
 each_above c abstract.Array = (itself_abstract c abstract.Array, (array_eq, (eq_step c abstract.Array array_eq, tt)))
-each_above c abstract.None =
-    (itself_abstract c abstract.None, (none_step c abstract.I31 (eq_step c abstract.I31 i31_eq),
-    (none_step c abstract.Struct (eq_step c abstract.Struct struct_eq), (none_step c abstract.Array (eq_step c abstract.Array array_eq),
-    (none_step c abstract.Eq eq_any, (none_step c abstract.Any (itself_abstract c abstract.Any), tt))))))
+each_above c abstract.None = (
+  itself_abstract c abstract.None,
+  (
+    none_step c abstract.I31 (eq_step c abstract.I31 i31_eq),
+    (
+      none_step c abstract.Struct (eq_step c abstract.Struct struct_eq),
+      (
+        none_step c abstract.Array (eq_step c abstract.Array array_eq),
+        (none_step c abstract.Eq eq_any, (none_step c abstract.Any (itself_abstract c abstract.Any), tt)),
+      ),
+    ),
+  ),
+)
 each_above c abstract.Func = (itself_abstract c abstract.Func, tt)
 each_above c abstract.NoFunc = (itself_abstract c abstract.NoFunc, (nofunc_below (Abstract abstract.Func) (itself_abstract c abstract.Func), tt))
 each_above c abstract.Extern = (itself_abstract c abstract.Extern, tt)
@@ -305,9 +313,9 @@ found : (c : OperandContext) (a b : AbstractHeapType) (us : List AbstractHeapTyp
     → list_any (λ u. rank_of u == rank_of b) us ≡ true → Matches c a b
 found c a b [] all h = absurd cc
 found c a b (u ∷ us) all h = elim (either (rank_of u == rank_of b) (list_any (λ v. rank_of v == rank_of b) us) h) [
-    inl e ↦ subst (Matches c a) (same_rank u b e) all.0
-    | inr g ↦ found c a b us all.1 g
-    ]
+  | inl e ↦ subst (Matches c a) (same_rank u b e) all.0
+  | inr g ↦ found c a b us all.1 g
+]
 
 abstract_sound : (c : OperandContext) (a b : AbstractHeapType) → matches_abstract a b ≡ true → Matches c a b
 abstract_sound c a b h = found c a b (above a) (each_above c a) h

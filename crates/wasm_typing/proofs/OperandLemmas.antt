@@ -1,19 +1,23 @@
 -- Operands are pushed and popped as in the algorithm, and what was valid stays valid.
-use Rattle.std.proofs.Common.{◌≡◌, ℕ, List, [], ◌∷◌, ◌++◌, length, reverse, Bool, true, false, Ok, Err, refl, sym, ap, ◌∙◌, arith, eq-eqb, length-append}
+use Rattle.std.proofs.Common.{◌≡◌, ℕ, ◌-◌, List, [], ◌∷◌, ◌++◌, length, reverse, take, drop, Bool, true, false, Option, Some, None, Ok, Err, refl, sym, ap, ◌∙◌, arith, eq-eqb, length-append}
+use Rattle.std.proofs.Math.Seq.{take-append_seam, drop-append_seam}
+use Rattle.std.specs.Result.{result_ok}
 use Rattle.std.specs.Prelude.{nat_eq}
 use Rattle.std.proofs.lemmas.Bool.Decides.{nat_tests}
 use Rattle.walrus_ir.specs.declared.val_type.ValType.{ValType}
 use Rattle.walrus_ir.specs.Results.{◌>>=◌}
 use Rattle.wasm_body.specs.NormalForm.{Typing}
-use Rattle.wasm_body.specs.Validity.{Operand, Unknown, Known, ControlFrame, Checked, demand}
+use Rattle.wasm_body.specs.Validity.{Operand, Unknown, Known, Point, Change, ControlFrame, Stacks, Checked, refused, demand, required, above, up_to}
 use Rattle.wasm_body.specs.Validity as algorithm
 use Rattle.wasm_body.specs.ValidityLaws.{KnownOperand, of_type}
 use Rattle.wasm_body.proofs.Validity.ValidNormalForms.{validity_kept}
 use Rattle.wasm_typing.specs.Contexts.{OperandContext, initial_locals}
 use Rattle.wasm_typing.specs.Matching.{matches_known}
-use Rattle.wasm_typing.specs.Operands.{Operands, pop, pop_each}
-use Rattle.wasm_typing.specs.StandardRules.{standard_rules}
-use Rattle.wasm_typing.specs.RuleLaws.{PopsAlike, PushesAlike, StandardValidityKept}
+use Rattle.wasm_typing.specs.Operands.{InstructionType, Operands, pop, pop_each, pop_all, push_each, typed}
+use Rattle.wasm_typing.specs.Rules.{Immediates, Rule, by_type, by_point}
+use Rattle.wasm_typing.specs.RuleTable.{rule_of}
+use Rattle.wasm_typing.specs.StandardRules.{by_rule, plain_change, standard_rules}
+use Rattle.wasm_typing.specs.RuleLaws.{stacks, type_by, TypedOperators, StandardValidityKept}
 
 -- ---- popping
 
@@ -47,14 +51,61 @@ pops_each m c f (t ∷ ts) xs ys h =
     ap (λ a. a >>= algorithm.pop_each m (standard_rules c) f ts) (pops m c f t xs ys h)
     ∙ after_first (pop c f.unreachable t xs) (algorithm.pop_each m (standard_rules c) f ts) (pop_each c f.unreachable ts) ys (λ zs. pops_each m c f ts zs ys h)
 
-pub pops_alike : PopsAlike
-pops_alike m c f ts xs ys h = pops_each m c f (reverse ts) xs ys h
+pops_all : (m : Typing) (c : OperandContext) (f : ControlFrame) (ts : List (ValType ℕ)) (xs ys : Operands) → f.height ≡ length ys
+    → algorithm.pop_all m (standard_rules c) f ts (xs ++ ys) ≡ (pop_all c f.unreachable ts xs >>= λ zs. Ok (zs ++ ys))
+pops_all m c f ts xs ys h = pops_each m c f (reverse ts) xs ys h
 
 -- ---- pushing
 
-pub pushes_alike : PushesAlike
-pushes_alike m c [] xs ys = refl
-pushes_alike m c (t ∷ ts) xs ys = pushes_alike m c ts (Known (of_type t) ∷ xs) ys
+pushes : (m : Typing) (c : OperandContext) (ts : List (ValType ℕ)) (xs ys : Operands)
+    → push_each ts xs ++ ys ≡ algorithm.push_each m (standard_rules c) ts (xs ++ ys)
+pushes m c [] xs ys = refl
+pushes m c (t ∷ ts) xs ys = pushes m c ts (Known (of_type t) ∷ xs) ys
+
+-- ---- operators of a type
+
+by_its_type : (c : OperandContext) (is : Immediates) (t : InstructionType) (p : Point KnownOperand) (row : Option Rule) → type_by c is row ≡ Ok t
+    → (required row >>= λ rule. by_rule c rule is p) ≡ typed c t p
+by_its_type c is t p None h = absurd cc
+by_its_type c is t p (Some (by_point rule)) h = absurd cc
+by_its_type c is t p (Some (by_type rule)) h = ap (λ r. r >>= λ u. typed c u p) h
+
+required_again : {X : Type 0} (a : Checked X) → required (result_ok a) ≡ a
+required_again (Ok x) = refl
+required_again (Err refused) = refl
+
+above_height : (n : ℕ) (xs ys : Operands) → n ≡ length ys → above n (xs ++ ys) ≡ xs
+above_height n xs ys h =
+    let e : length (xs ++ ys) - n ≡ length xs = omega (arith, length-append xs ys, h) in
+    ap (λ k. take k (xs ++ ys)) e ∙ take-append_seam xs ys
+
+up_to_height : (n : ℕ) (xs ys : Operands) → n ≡ length ys → up_to n (xs ++ ys) ≡ ys
+up_to_height n xs ys h =
+    let e : length (xs ++ ys) - n ≡ length xs = omega (arith, length-append xs ys, h) in
+    ap (λ k. drop k (xs ++ ys)) e ∙ drop-append_seam xs ys
+
+abbrev change : InstructionType → Operands → Change KnownOperand
+change t zs = record { operands = push_each t.gives zs; initialises = t.initialises }
+
+abbrev point_of : ControlFrame → Operands → List ℕ → Point KnownOperand
+point_of f xs ls = record { operands = xs; unreachable = f.unreachable; initialised = ls }
+
+-- what follows the pops
+then_pushes : (m : Typing) (c : OperandContext) (t : InstructionType) (ys below : Operands) (ls : List ℕ) → below ≡ ys → (a : Checked Operands)
+    → ((a >>= λ zs. Ok (change t zs)) >>= λ k. Ok (stacks (k.operands ++ below) (k.initialises ++ ls)))
+    ≡ ((a >>= λ zs. Ok (zs ++ ys)) >>= λ zs. Ok (stacks (algorithm.push_each m (standard_rules c) t.gives zs) (t.initialises ++ ls)))
+then_pushes m c t ys below ls h (Ok zs) =
+    ap (λ xs. Ok (stacks xs (t.initialises ++ ls))) (ap (λ b. push_each t.gives zs ++ b) h ∙ pushes m c t.gives zs ys)
+then_pushes m c t ys below ls h (Err e) = refl
+
+pub typed_operators : TypedOperators
+typed_operators m c o t type f fs xs ys ls h =
+    let after : Change KnownOperand → Checked (Stacks KnownOperand) = λ k. Ok (algorithm.changed m (standard_rules c) f k (stacks (xs ++ ys) ls)) in
+    let p = point_of f xs ls in
+    ap (λ zs. required (result_ok (plain_change c o (point_of f zs ls))) >>= after) (above_height f.height xs ys h)
+    ∙ ap (λ a. a >>= after) (required_again (plain_change c o p) ∙ by_its_type c o.immediates t p (rule_of o.opcode) type)
+    ∙ then_pushes m c t ys (up_to f.height (xs ++ ys)) ls (up_to_height f.height xs ys h) (pop_all c f.unreachable t.takes xs)
+    ∙ ap (λ a. a >>= λ zs. Ok (stacks (algorithm.push_each m (standard_rules c) t.gives zs) (t.initialises ++ ls))) (sym (pops_all m c f t.takes xs ys h))
 
 -- ---- validity
 

@@ -1,14 +1,13 @@
 -- Types that pass the test are those of a module.
-use Rattle.std.proofs.Common.{◌≡◌, ℕ, zero, suc, List, length, Bool, true, false, Option, Some, None, refl, sym, ap, ◌∙◌, subst, arith, ◌⊎◌, inl, inr}
-use Rattle.std.specs.Prelude.{◌<◌, ◌≤◌, ◌&&◌, ◌==◌, nat_lt, option_map, unwrap_or, slice_get}
+use Rattle.std.proofs.Common.{◌≡◌, ℕ, length, true, Option, Some, None, refl, sym, ap, ◌∙◌, subst, inl, inr}
+use Rattle.std.specs.Prelude.{◌<◌, ◌≤◌, ◌&&◌, ◌==◌, nat_lt, option_map, unwrap_or}
 use Rattle.std.proofs.lemmas.Bool.{eqb-true, ltb-true}
 use Rattle.std.proofs.lemmas.Bool.Decides.{leb_tells}
-use Rattle.walrus_ir.specs.declared.val_type.AbstractHeapType.{AbstractHeapType}
 use Rattle.walrus_ir.specs.Types.{rank_of}
 use Rattle.wasm_operators.proofs.SameLists.{both}
 use Rattle.wasm_typing.specs.Contexts.{OperandContext}
 use Rattle.wasm_typing.specs.Matching.{kind_at, first_of, supertype_of}
-use Rattle.wasm_typing.specs.MatchingLaws.{AreTypes, all_below, same_option, same_kinds, is_supertype, is_type, are_types, TypesAreTested}
+use Rattle.wasm_typing.specs.MatchingLaws.{same_option, same_kinds, is_supertype, is_type, are_types, TypesAreTested}
 use Rattle.wasm_typing.proofs.Coverage.{passes_below}
 use Rattle.wasm_typing.proofs.MatchingRules.{same_rank, past_end, no_supertype}
 
@@ -60,9 +59,9 @@ past c m l =
 
 tested : (c : OperandContext) → are_types c ≡ true → (m : ℕ) → Tested c m
 tested c h m = elim (leb_tells (length c.types) m) [
-    inl l ↦ past c m l.1
-    | inr l ↦ by_test c m (passes_below (length c.types) (is_type c) h m l.1)
-    ]
+  | inl l ↦ past c m l.1
+  | inr l ↦ by_test c m (passes_below (length c.types) (is_type c) h m l.1)
+]
 
 of_supertype : (c : OperandContext) (m s : ℕ) → is_supertype c m (supertype_of c m) ≡ true → supertype_of c m ≡ Some s → (s < m) × (kind_at c m ≡ kind_at c s)
 of_supertype c m s h e =

@@ -1,6 +1,6 @@
 -- The rules of matching, one by one (WebAssembly core specification 3.0, section 3.3), and the laws that the test of `Matching.antt` is
 -- these rules.
-use Rattle.std.specs.Prelude.{◌≡◌, ℕ, zero, suc, ◌<◌, List, length, Bool, true, false, ◌&&◌, ◌==◌, nat_lt, Option, Some, None, option_map}
+use Rattle.std.specs.Prelude.{◌≡◌, ℕ, zero, suc, ◌<◌, length, Bool, true, false, ◌&&◌, ◌==◌, nat_lt, Option, Some, None, option_map}
 use Rattle.walrus_ir.specs.declared.val_type.AbstractHeapType.{AbstractHeapType}
 use Rattle.walrus_ir.specs.declared.val_type.AbstractHeapType.TheVariants as abstract
 use Rattle.walrus_ir.specs.declared.val_type.HeapType.{HeapType}

@@ -11,7 +11,7 @@ use Rattle.wasm_operators.specs.BinaryOperations.{binary_operation}
 use Rattle.wasm_operators.specs.Opcodes.{kinds_of}
 use Rattle.wasm_operators.specs.TernaryOperations.{ternary_operation}
 use Rattle.wasm_operators.specs.UnaryOperations.{unary_operation}
-use Rattle.wasm_body.specs.Control.{Role, a_plain, a_conditional_branch, a_tail_call, role_of}
+use Rattle.wasm_body.specs.Control.{Plain, Role, a_plain, a_conditional_branch, a_tail_call, role_of}
 use Rattle.wasm_body.specs.FunctionTree.{FunctionTree}
 use Rattle.wasm_body.specs.Naming.{Environment, NamedOperation, Occurrence}
 use Rattle.wasm_body.specs.NormalForm.{Typing, typing_of, name_at, body_tree}
@@ -19,12 +19,11 @@ use Rattle.wasm_body.specs.Parsing.Accepted.{HasSpelling, Lawful}
 use Rattle.wasm_body.specs.SourceTree.{Body}
 use Rattle.wasm_body.specs.TextLaws.{IsTextOf}
 use Rattle.wasm_body.specs.Translation.{Located}
-use Rattle.wasm_body.specs.Validity.{OfBlock, Point, ControlFrame, Checked, refused}
-use Rattle.wasm_body.specs.Validity as algorithm
+use Rattle.wasm_body.specs.Validity.{ControlFrame, Stacks, Checked, refused, pop_all, push_each, taken}
 use Rattle.wasm_body.specs.ValidityLaws.{KnownOperand}
 use Rattle.wasm_typing.specs.Contexts.{OperandContext}
 use Rattle.wasm_typing.specs.Matching.{matches_value}
-use Rattle.wasm_typing.specs.Operands.{InstructionType, Operands, push_each, pop_all}
+use Rattle.wasm_typing.specs.Operands.{InstructionType, Operands}
 use Rattle.wasm_typing.specs.Rules.{Immediates, Rule, by_type}
 use Rattle.wasm_typing.specs.RuleTable.{rule_of}
 use Rattle.wasm_typing.specs.StandardRules.{conditional_rule, tail_rule, standard_rules, IsValidBody}
@@ -88,17 +87,19 @@ TernaryTakeThree = (c : OperandContext) (op : TernaryOp) → HasNumber 3 c (tern
 abbrev pub MatchesItself : Type 0
 MatchesItself = (c : OperandContext) (t : ValType ℕ) → matches_value c t t ≡ true
 
--- ---- operands are popped and pushed as in the algorithm
+-- ---- an operator of a type pops what it takes and pushes what it gives
 
--- In each frame: the operands above its height are xs, and those below it, which stay, are ys.
-abbrev pub PopsAlike : Type 0
-PopsAlike =
-    (m : Typing) (c : OperandContext) (f : ControlFrame) (ts : List (ValType ℕ)) (xs ys : Operands) → f.height ≡ length ys →
-    algorithm.pop_all m (standard_rules c) f ts (xs ++ ys) ≡ (pop_all c f.unreachable ts xs >>= λ zs. Ok (zs ++ ys))
+abbrev pub stacks : Operands → List ℕ → Stacks KnownOperand
+stacks xs ls = record { operands = xs; initialised = ls }
 
-abbrev pub PushesAlike : Type 0
-PushesAlike =
-    (m : Typing) (c : OperandContext) (ts : List (ValType ℕ)) (xs ys : Operands) → algorithm.push_each m (standard_rules c) ts (xs ++ ys) ≡ push_each ts xs ++ ys
+-- What the algorithm does at a plain operator of the type t1* ->x* t2*, in a frame f: "pop_vals(t1*); push_vals(t2*)", and the locals x* are
+-- initialised. The operands above the height of the frame are xs, and those below it are ys.
+abbrev pub TypedOperators : Type 0
+TypedOperators =
+    (m : Typing) (c : OperandContext) (o : NamedOperation) (t : InstructionType) → type_of_operator c o ≡ Ok t →
+    (f : ControlFrame) (fs : List ControlFrame) (xs ys : Operands) (ls : List ℕ) → f.height ≡ length ys →
+    taken m (standard_rules c) Plain o f fs (stacks (xs ++ ys) ls)
+    ≡ (pop_all m (standard_rules c) f t.takes (xs ++ ys) >>= λ zs. Ok (stacks (push_each m (standard_rules c) t.gives zs) (t.initialises ++ ls)))
 
 -- ---- what was valid by the rules of the standard stays valid
 

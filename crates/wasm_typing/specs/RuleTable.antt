@@ -363,8 +363,8 @@ atomic_rules w =
 
 -- ---- any opcode
 
-abbrev pub rule_behind : (prefix n : ℕ) → Row
-rule_behind prefix n =
+abbrev pub prefixed_rule : (prefix n : ℕ) → Row
+prefixed_rule prefix n =
     if prefix == 0xfc then range_at bulk_rules n
     else if prefix == 0xfd then range_at vector_rules n
     else if prefix == 0xfe then range_at (atomic_rules (width_at n)) n
@@ -373,4 +373,4 @@ rule_behind prefix n =
 
 abbrev pub rule_of : Opcode → Row
 rule_of (Byte b) = range_at byte_rules b
-rule_of (Prefixed prefix n) = rule_behind prefix n
+rule_of (Prefixed prefix n) = prefixed_rule prefix n

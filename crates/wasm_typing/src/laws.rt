@@ -1,7 +1,7 @@
 //! Laws of the types of operators, each stated as the contract of a function that does nothing.
 ghost use Rattle.wasm_typing.specs.RuleLaws.{PlainHaveRules, ConditionalsHaveRules, TailCallsHaveRules, UnaryTakeOne, BinaryTakeTwo, TernaryTakeThree};
 ghost use Rattle.wasm_typing.specs.MatchingLaws.{MatchingIsSound, MatchingIsComplete, TypesAreTested};
-ghost use Rattle.wasm_typing.specs.RuleLaws.{MatchesItself, PopsAlike, PushesAlike, StandardValidityKept};
+ghost use Rattle.wasm_typing.specs.RuleLaws.{MatchesItself, TypedOperators, StandardValidityKept};
 
 /// Each supported operator that is plain has a rule, and no other opcode has one; the same holds for
 /// conditional branches and for tail calls.
@@ -29,10 +29,10 @@ pub fn law_matching()
     ensures types { TypesAreTested }
 {}
 
-/// Operands are popped and pushed as the validation algorithm does it.
-pub fn law_operands()
-    ensures pops { PopsAlike }
-    ensures pushes { PushesAlike }
+/// At a plain operator of a type the validation algorithm pops what the type takes, pushes what it
+/// gives, and initialises its locals.
+pub fn law_typed_operators()
+    ensures { TypedOperators }
 {}
 
 /// The normal form of an accepted body has a text, and in each function of a module where the body is

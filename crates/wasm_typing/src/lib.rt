@@ -4,4 +4,6 @@
 
 mod laws;
 
-pub use laws::{law_matching, law_operand_numbers, law_operands, law_rules, law_standard_validity};
+pub use laws::{
+    law_matching, law_operand_numbers, law_rules, law_standard_validity, law_typed_operators,
+};

@@ -66,7 +66,7 @@ context = record {
   functions = 0 ∷ 1 ∷ 5 ∷ [];
   referenced = 1 ∷ [];
   tables = record { address = Address32; element = func_null } ∷ record { address = Address64; element = extern_null }
-    ∷ record { address = Address32; element = func_ref } ∷ [];
+      ∷ record { address = Address32; element = func_ref } ∷ [];
   memories = Address32 ∷ Address64 ∷ [];
   globals = record { mutable = true; type = I32 } ∷ record { mutable = false; type = I64 } ∷ [];
   elements = func_ref ∷ extern_null ∷ [];
