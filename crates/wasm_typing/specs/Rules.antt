@@ -29,11 +29,9 @@ pub data Rule : Type 0 where
 
 -- ---- rules by the immediates
 
-abbrev pub none : (OperandContext → Checked InstructionType) → Rule
-none rule = by_type (λ c is. rule c)
-
+-- the same for all immediates
 abbrev pub fixed : (takes gives : List (ValType ℕ)) → Rule
-fixed ts us = none (λ c. Ok (ts ⟶ us))
+fixed ts us = by_type (λ c is. Ok (ts ⟶ us))
 
 abbrev pub of_index : (OperandContext → ℕ → Checked InstructionType) → OperandContext → Immediates → Checked InstructionType
 of_index rule c (index space n ∷ []) = rule c n

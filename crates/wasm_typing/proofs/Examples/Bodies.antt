@@ -166,6 +166,9 @@ selected = refl
 selects_different : Refuses (I64 ∷ []) (long 1 ∷ const 2 ∷ const 0 ∷ select ∷ end ∷ [])
 selects_different = refl
 
+selects_different_below : Refuses (I64 ∷ []) (const 2 ∷ long 1 ∷ const 0 ∷ select ∷ end ∷ [])
+selects_different_below = refl
+
 selects_references : Refuses (ref_null to_func ∷ []) (null to_func ∷ null to_func ∷ const 0 ∷ select ∷ end ∷ [])
 selects_references = refl
 
@@ -389,6 +392,9 @@ references_from_data = refl
 copied_array : Takes [] (null (Concrete 7) ∷ const 0 ∷ null (Concrete 6) ∷ const 0 ∷ const 1 ∷ array_copy 7 6 ∷ end ∷ [])
 copied_array = refl
 
+copied_packed_array : Takes [] (null (Concrete 4) ∷ const 0 ∷ null (Concrete 4) ∷ const 0 ∷ const 1 ∷ array_copy 4 4 ∷ end ∷ [])
+copied_packed_array = refl
+
 copied_to_constants : Refuses [] (null (Concrete 6) ∷ const 0 ∷ null (Concrete 7) ∷ const 0 ∷ const 1 ∷ array_copy 6 7 ∷ end ∷ [])
 copied_to_constants = refl
 
@@ -440,6 +446,15 @@ branched_on_cast = refl
 goes_on_with_null : Refuses (ref (Concrete 3) ∷ [])
     (block (signature [] (ref (Concrete 3) ∷ [])) ∷ local_get 2 ∷ br_on_null_cast 0 (Concrete 2) (Concrete 3) ∷ local_set 1 ∷ unreachable ∷ end ∷ end ∷ [])
 goes_on_with_null = refl
+
+-- what branches has to match the label
+branched_to_others : Refuses (ref (Concrete 4) ∷ [])
+    (block (signature [] (ref (Concrete 4) ∷ [])) ∷ local_get 2 ∷ br_on_null_cast 0 (Concrete 2) (Concrete 3) ∷ unreachable ∷ end ∷ end ∷ [])
+branched_to_others = refl
+
+branched_to_others_on_failure : Refuses (ref (Concrete 3) ∷ [])
+    (block (signature [] (ref (Concrete 3) ∷ [])) ∷ struct_new_default 2 ∷ br_on_cast_fail 0 (Concrete 2) (Concrete 3) ∷ end ∷ end ∷ [])
+branched_to_others_on_failure = refl
 
 -- The target has to match the source.
 cast_to_supertype : Refuses (ref (Concrete 2) ∷ [])
