@@ -7,7 +7,7 @@ use Rattle.std.proofs.lemmas.Bool.Decides.{nat_tests}
 use Rattle.walrus_ir.specs.declared.val_type.ValType.{ValType}
 use Rattle.walrus_ir.specs.Results.{◌>>=◌}
 use Rattle.wasm_body.specs.NormalForm.{Typing}
-use Rattle.wasm_body.specs.Validity.{Operand, Unknown, Known, Point, Change, ControlFrame, Stacks, Checked, refused, demand, required, above, up_to}
+use Rattle.wasm_body.specs.Validity.{Operand, Unknown, Known, Point, Change, ControlFrame, Stacks, State, Checked, refused, demand, required, above, up_to}
 use Rattle.wasm_body.specs.Validity as algorithm
 use Rattle.wasm_body.specs.ValidityLaws.{KnownOperand, of_type}
 use Rattle.wasm_body.proofs.Validity.ValidNormalForms.{validity_kept}
@@ -16,8 +16,8 @@ use Rattle.wasm_typing.specs.Matching.{matches_known}
 use Rattle.wasm_typing.specs.Operands.{InstructionType, Operands, pop, pop_each, pop_all, push_each, typed}
 use Rattle.wasm_typing.specs.Rules.{Immediates, Rule, by_type, by_point}
 use Rattle.wasm_typing.specs.RuleTable.{rule_of}
-use Rattle.wasm_typing.specs.StandardRules.{by_rule, plain_change, standard_rules}
-use Rattle.wasm_typing.specs.RuleLaws.{stacks, type_by, TypedOperators, StandardValidityKept}
+use Rattle.wasm_typing.specs.StandardRules.{by_rule, plain_change, standard_rules, is_empty, closes_all}
+use Rattle.wasm_typing.specs.RuleLaws.{stacks, type_by, TypedOperators, ValidityIsTested, StandardValidityKept}
 
 -- ---- popping
 
@@ -108,6 +108,18 @@ typed_operators m c o t type f fs xs ys ls h =
     ∙ ap (λ a. a >>= λ zs. Ok (stacks (algorithm.push_each m (standard_rules c) t.gives zs) (t.initialises ++ ls))) (sym (pops_all m c f t.takes xs ys h))
 
 -- ---- validity
+
+none_is_left : (s : Stacks KnownOperand) (cs : List ControlFrame) → is_empty cs ≡ true
+    → (left : Stacks KnownOperand) × (algorithm.state s cs ≡ algorithm.state left [])
+none_is_left s [] h = (s, refl)
+none_is_left s (f ∷ fs) h = absurd cc
+
+all_are_closed : (r : Checked (State KnownOperand)) → closes_all r ≡ true → (left : Stacks KnownOperand) × (r ≡ Ok (algorithm.state left []))
+all_are_closed (Ok s) h = let p = none_is_left s.stacks s.controls h in (p.0, ap Ok p.1)
+all_are_closed (Err e) h = absurd cc
+
+pub validity_is_tested : ValidityIsTested
+validity_is_tested m c arguments results xs = (all_are_closed _, λ h. ap closes_all h.1)
 
 pub standard_validity_kept : StandardValidityKept
 standard_validity_kept env xs b s l =

@@ -1,5 +1,5 @@
 -- Laws of the table of rules, of matching, and of the instance.
-use Rattle.std.specs.Prelude.{◌≡◌, ℕ, List, [], ◌∷◌, ◌++◌, length, map, Bool, true, false, ◌&&◌, Option, Some, is_some, Ok, Err}
+use Rattle.std.specs.Prelude.{◌≡◌, ◌↔◌, ℕ, List, [], ◌∷◌, ◌++◌, length, map, Bool, true, false, ◌&&◌, Option, Some, is_some, Ok, Err}
 use Rattle.std.specs.List.{AllByRecursion}
 use Rattle.walrus_ir.specs.declared.binary.BinaryOp.{BinaryOp}
 use Rattle.walrus_ir.specs.declared.ternary.TernaryOp.{TernaryOp}
@@ -26,7 +26,7 @@ use Rattle.wasm_typing.specs.Matching.{matches_value}
 use Rattle.wasm_typing.specs.Operands.{InstructionType, Operands}
 use Rattle.wasm_typing.specs.Rules.{Immediates, Rule, by_type}
 use Rattle.wasm_typing.specs.RuleTable.{rule_of}
-use Rattle.wasm_typing.specs.StandardRules.{conditional_rule, tail_rule, standard_rules, IsValidBody}
+use Rattle.wasm_typing.specs.StandardRules.{conditional_rule, tail_rule, standard_rules, IsValidBody, is_valid_body}
 
 -- ---- every operator has a rule
 
@@ -100,6 +100,13 @@ TypedOperators =
     (f : ControlFrame) (fs : List ControlFrame) (xs ys : Operands) (ls : List ℕ) → f.height ≡ length ys →
     taken m (standard_rules c) Plain o f fs (stacks (xs ++ ys) ls)
     ≡ (pop_all m (standard_rules c) f t.takes (xs ++ ys) >>= λ zs. Ok (stacks (push_each m (standard_rules c) t.gives zs) (t.initialises ++ ls)))
+
+-- ---- validity is decided by the test
+
+abbrev pub ValidityIsTested : Type 0
+ValidityIsTested =
+    (m : Typing) (c : OperandContext) (arguments : List ℕ) (results : List (ValType ℕ)) (xs : List (Located NamedOperation)) →
+    (is_valid_body m c arguments results xs ≡ true) ↔ IsValidBody m c arguments results xs
 
 -- ---- what was valid by the rules of the standard stays valid
 

@@ -1,6 +1,6 @@
 -- The rules of the standard for operands, as an instance of the parameter of the validation algorithm (WebAssembly core specification 3.0,
 -- section 3.4, and the appendix).
-use Rattle.std.specs.Prelude.{ℕ, List, [], ◌∷◌, ◌++◌, Bool, ◌==◌, if◌then◌else◌, Option, None, is_some, Ok, Err}
+use Rattle.std.specs.Prelude.{ℕ, List, [], ◌∷◌, ◌++◌, Bool, true, false, ◌==◌, if◌then◌else◌, Option, None, is_some, Ok, Err}
 use Rattle.std.specs.Result.{result_ok}
 use Rattle.walrus_ir.specs.declared.val_type.HeapType.{HeapType}
 use Rattle.walrus_ir.specs.declared.val_type.RefType.{RefType}
@@ -14,7 +14,7 @@ use Rattle.wasm_operators.specs.Types.{row_at}
 use Rattle.wasm_body.specs.Translation.{Located}
 use Rattle.wasm_body.specs.Naming.{NamedOperation}
 use Rattle.wasm_body.specs.NormalForm.{Typing}
-use Rattle.wasm_body.specs.Validity.{Known, Point, Change, OperandRules, Checked, refused, demand, required, IsValid}
+use Rattle.wasm_body.specs.Validity.{Known, Point, Change, OperandRules, Checked, refused, demand, required, IsValid, ControlFrame, State, start, validate}
 use Rattle.wasm_body.specs.ValidityLaws.{KnownOperand, of_type}
 use Rattle.wasm_typing.specs.Contexts.{OperandContext, initial_locals}
 use Rattle.wasm_typing.specs.Matching.{matches_reference, matches_values, matches_known, is_valid_heap, difference}
@@ -132,3 +132,15 @@ standard_rules c = record {
 -- The operators are valid as the body of a function with these arguments and results.
 abbrev pub IsValidBody : Typing → OperandContext → (arguments : List ℕ) → (results : List (ValType ℕ)) → List (Located NamedOperation) → Type 0
 IsValidBody m c arguments results xs = IsValid m (standard_rules c) results (initial_locals c arguments) xs
+
+-- The same as a test: no operator is refused, and the last closes the function's frame.
+abbrev pub is_empty : List ControlFrame → Bool
+is_empty [] = true
+is_empty (c ∷ cs) = false
+
+abbrev pub closes_all : Checked (State KnownOperand) → Bool
+closes_all (Ok s) = is_empty s.controls
+closes_all (Err e) = false
+
+abbrev pub is_valid_body : Typing → OperandContext → (arguments : List ℕ) → (results : List (ValType ℕ)) → List (Located NamedOperation) → Bool
+is_valid_body m c arguments results xs = closes_all (validate m (standard_rules c) xs (start m (standard_rules c) results (initial_locals c arguments)))

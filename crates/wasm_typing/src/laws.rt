@@ -1,7 +1,7 @@
 //! Laws of the types of operators, each stated as the contract of a function that does nothing.
 ghost use Rattle.wasm_typing.specs.RuleLaws.{PlainHaveRules, ConditionalsHaveRules, TailCallsHaveRules, UnaryTakeOne, BinaryTakeTwo, TernaryTakeThree};
 ghost use Rattle.wasm_typing.specs.MatchingLaws.{MatchingIsSound, MatchingIsComplete, TypesAreTested};
-ghost use Rattle.wasm_typing.specs.RuleLaws.{MatchesItself, TypedOperators, StandardValidityKept};
+ghost use Rattle.wasm_typing.specs.RuleLaws.{MatchesItself, TypedOperators, ValidityIsTested, StandardValidityKept};
 
 /// Each supported operator that is plain has a rule, and no other opcode has one; the same holds for
 /// conditional branches and for tail calls.
@@ -35,8 +35,10 @@ pub fn law_typed_operators()
     ensures { TypedOperators }
 {}
 
-/// The normal form of an accepted body has a text, and in each function of a module where the body is
-/// valid by the rules of the standard, the text is.
+/// Whether a body is valid by the rules of the standard is decided by a test. The normal form of an
+/// accepted body has a text, and in each function of a module where the body is valid by these rules,
+/// the text is.
 pub fn law_standard_validity()
-    ensures { StandardValidityKept }
+    ensures tested { ValidityIsTested }
+    ensures kept { StandardValidityKept }
 {}

@@ -226,11 +226,15 @@ called = refl
 called_without : Refuses (I32 ∷ []) (call 1 ∷ end ∷ [])
 called_without = refl
 
-no_function : Refuses [] (call 3 ∷ end ∷ [])
+no_function : Refuses [] (call 4 ∷ end ∷ [])
 no_function = refl
 
 called_indirectly : Takes (I32 ∷ []) (const 1 ∷ const 0 ∷ call_indirect 1 0 ∷ end ∷ [])
 called_indirectly = refl
+
+-- in a table of references that may not be null
+called_in_table_without_null : Takes (I32 ∷ []) (const 1 ∷ const 0 ∷ call_indirect 1 2 ∷ end ∷ [])
+called_in_table_without_null = refl
 
 called_in_table_of_others : Refuses (I32 ∷ []) (const 1 ∷ long 0 ∷ call_indirect 1 1 ∷ end ∷ [])
 called_in_table_of_others = refl
@@ -254,6 +258,13 @@ tail_called_with_more = refl
 
 tail_called_for_others : Refuses (I64 ∷ []) (const 1 ∷ return_call 1 ∷ end ∷ [])
 tail_called_for_others = refl
+
+-- what is given has to match the results: type 3 is one of type 2, and not of type 8
+tail_called_for_supertype : Takes (ref (Concrete 2) ∷ []) (return_call 3 ∷ end ∷ [])
+tail_called_for_supertype = refl
+
+tail_called_for_subtype : Refuses (ref (Concrete 8) ∷ []) (return_call 3 ∷ end ∷ [])
+tail_called_for_subtype = refl
 
 tail_called_without : Refuses (I32 ∷ []) (return_call 1 ∷ end ∷ [])
 tail_called_without = refl
@@ -283,6 +294,9 @@ copied_table = refl
 -- memory.copy from a memory with addresses of 64 bits to one with addresses of 32 bits: the length has 32
 copied_memory : Takes [] (const 0 ∷ long 0 ∷ const 0 ∷ prefixed 0xfc 10 (index Memories 0 ∷ index Memories 1 ∷ []) ∷ end ∷ [])
 copied_memory = refl
+
+copied_back : Takes [] (long 0 ∷ const 0 ∷ const 0 ∷ prefixed 0xfc 10 (index Memories 1 ∷ index Memories 0 ∷ []) ∷ end ∷ [])
+copied_back = refl
 
 copied_too_long : Refuses [] (const 0 ∷ long 0 ∷ long 0 ∷ prefixed 0xfc 10 (index Memories 0 ∷ index Memories 1 ∷ []) ∷ end ∷ [])
 copied_too_long = refl
@@ -397,6 +411,13 @@ copied_packed_array = refl
 
 copied_to_constants : Refuses [] (null (Concrete 6) ∷ const 0 ∷ null (Concrete 7) ∷ const 0 ∷ const 1 ∷ array_copy 6 7 ∷ end ∷ [])
 copied_to_constants = refl
+
+-- the elements that are copied have to match: those that may not be null match those that may be
+copied_supertype : Takes [] (null (Concrete 7) ∷ const 0 ∷ null (Concrete 9) ∷ const 0 ∷ const 1 ∷ array_copy 7 9 ∷ end ∷ [])
+copied_supertype = refl
+
+copied_subtype : Refuses [] (null (Concrete 9) ∷ const 0 ∷ null (Concrete 7) ∷ const 0 ∷ const 1 ∷ array_copy 9 7 ∷ end ∷ [])
+copied_subtype = refl
 
 copied_other_elements : Refuses [] (null (Concrete 7) ∷ const 0 ∷ null (Concrete 4) ∷ const 0 ∷ const 1 ∷ array_copy 7 4 ∷ end ∷ [])
 copied_other_elements = refl

@@ -385,14 +385,14 @@ refused_accesses = refl
 
 -- what isn't there, isn't a variable, or doesn't match
 refused_by_module : HaveNoType
-    (with_index (Byte 0x10) Funcs 3
+    (with_index (Byte 0x10) Funcs 4
     ∷ with_index (Byte 0x14) Types 2
     ∷ with_indices (Byte 0x11) Types 1 Tables 1
     ∷ with_indices (Byte 0x11) Types 2 Tables 0
-    ∷ operation (Byte 0x1c) (value (id_ref 9) ∷ [])
+    ∷ operation (Byte 0x1c) (value (id_ref 19) ∷ [])
     ∷ with_index (Byte 0x24) Globals 1
     ∷ with_index (Byte 0x26) Tables 3
-    ∷ operation (Byte 0xd0) (heap (Concrete 9) ∷ [])
+    ∷ operation (Byte 0xd0) (heap (Concrete 19) ∷ [])
     ∷ with_index (Byte 0xd2) Funcs 2
     ∷ with_indices (Prefixed 0xfc 8) Data 1 Memories 0
     ∷ with_indices (Prefixed 0xfc 12) Elements 0 Tables 1
@@ -415,5 +415,5 @@ refused_by_module : HaveNoType
     ∷ with_indices (Prefixed 0xfb 17) Types 7 Types 4
     ∷ with_indices (Prefixed 0xfb 18) Types 7 Data 0
     ∷ with_indices (Prefixed 0xfb 19) Types 6 Elements 0
-    ∷ operation (Prefixed 0xfb 20) (heap (Concrete 9) ∷ []) ∷ [])
+    ∷ operation (Prefixed 0xfb 20) (heap (Concrete 19) ∷ []) ∷ [])
 refused_by_module = refl
