@@ -1,7 +1,7 @@
 -- Bodies that are valid and bodies that are not, by the standard's text (section 3.4 and the appendix) and its test scripts `unreached-valid.wast`,
 -- `unreached-invalid.wast`, `select.wast`, `local_init.wast`, `global.wast`, `ref_is_null.wast`, `ref_as_non_null.wast`, `br_on_null.wast`,
 -- `br_on_non_null.wast`, `gc/br_on_cast.wast`, `gc/struct.wast`, `gc/array.wast`, `gc/extern.wast`, `return_call.wast` and others, by hand.
-use Rattle.std.specs.Prelude.{ℕ, [], ◌∷◌, pos, refl}
+use Rattle.std.specs.Prelude.{ℕ, [], ◌∷◌, true, pos, refl}
 use Rattle.walrus_ir.specs.declared.val_type.AbstractHeapType.TheVariants as abstract
 use Rattle.walrus_ir.specs.declared.val_type.HeapType.{HeapType}
 use Rattle.walrus_ir.specs.declared.val_type.HeapType.TheVariants.{Abstract, Concrete}
@@ -10,7 +10,7 @@ use Rattle.walrus_ir.specs.declared.val_type.ValType.TheVariants.{I32, I64, F32,
 use Rattle.walrus_ir.specs.Types.{signature}
 use Rattle.wasm_operators.specs.declared.types.Opcode.TheVariants.{Byte, Prefixed}
 use Rattle.wasm_operators.specs.declared.types.Space.TheVariants.{Tables, Types, Funcs, Globals, Memories, Elements, Data}
-use Rattle.wasm_operators.specs.Operations.{index, local, number, heap, value, i64, lanes, operation}
+use Rattle.wasm_operators.specs.Operations.{cast, index, local, number, heap, value, i64, lanes, operation}
 use Rattle.wasm_body.specs.Naming.{NamedOperation}
 use Rattle.wasm_body.proofs.Examples.Modules.{nothing}
 use Rattle.wasm_body.proofs.Examples.Operators.{unreachable, block, end, br_if, return_call, return_call_ref, return_call_indirect, call, call_ref, call_indirect, drop, local_get, local_set, add, const, br_on_null, br_on_non_null, br_on_null_cast, br_on_cast, br_on_cast_fail, struct_get}
@@ -96,6 +96,11 @@ test h = prefixed 0xfb 20 (heap h ∷ [])
 
 abbrev cast_to : HeapType ℕ → NamedOperation
 cast_to h = prefixed 0xfb 22 (heap h ∷ [])
+
+-- 24: br_on_cast, 25: br_on_cast_fail, from a reference that may be null to one that may
+abbrev cast_with_null : ℕ → (l : ℕ) → (source target : HeapType ℕ) → NamedOperation
+cast_with_null n l source target =
+    prefixed 0xfb n (cast (record { from_nullable = true; to_nullable = true; label = l; source = source; target = target }) ∷ [])
 
 abbrev convert_extern : NamedOperation
 convert_extern = prefixed 0xfb 26 []
@@ -467,6 +472,20 @@ branched_on_cast = refl
 goes_on_with_null : Refuses (ref (Concrete 3) ∷ [])
     (block (signature [] (ref (Concrete 3) ∷ [])) ∷ local_get 2 ∷ br_on_null_cast 0 (Concrete 2) (Concrete 3) ∷ local_set 1 ∷ unreachable ∷ end ∷ end ∷ [])
 goes_on_with_null = refl
+
+-- from `(ref null 2)` to `(ref null 3)`: null branches, and where it goes on the reference isn't null
+branched_with_null : Takes (ref_null (Concrete 3) ∷ [])
+    (block (signature [] (ref_null (Concrete 3) ∷ [])) ∷ local_get 2 ∷ cast_with_null 24 0 (Concrete 2) (Concrete 3) ∷ local_set 1 ∷ unreachable ∷ end ∷ end ∷ [])
+branched_with_null = refl
+
+branched_with_null_to_others : Refuses (ref (Concrete 3) ∷ [])
+    (block (signature [] (ref (Concrete 3) ∷ [])) ∷ local_get 2 ∷ cast_with_null 24 0 (Concrete 2) (Concrete 3) ∷ drop ∷ unreachable ∷ end ∷ end ∷ [])
+branched_with_null_to_others = refl
+
+-- where such a cast fails, the reference that branches isn't null, and the one that goes on may be
+branched_on_failure_with_null : Takes (ref (Concrete 2) ∷ [])
+    (block (signature [] (ref (Concrete 2) ∷ [])) ∷ local_get 2 ∷ cast_with_null 25 0 (Concrete 2) (Concrete 3) ∷ drop ∷ unreachable ∷ end ∷ end ∷ [])
+branched_on_failure_with_null = refl
 
 -- what branches has to match the label
 branched_to_others : Refuses (ref (Concrete 4) ∷ [])
