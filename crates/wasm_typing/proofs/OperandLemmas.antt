@@ -1,0 +1,131 @@
+-- Operands are pushed and popped as in the algorithm, and what was valid stays valid.
+use Rattle.std.proofs.Common.{◌≡◌, ℕ, ◌-◌, List, [], ◌∷◌, ◌++◌, length, reverse, take, drop, Bool, true, false, Option, Some, None, Ok, Err, refl, sym, ap, ◌∙◌, arith, eq-eqb, length-append}
+use Rattle.std.proofs.Math.Seq.{take-append_seam, drop-append_seam}
+use Rattle.std.specs.Result.{result_ok}
+use Rattle.std.specs.Prelude.{nat_eq}
+use Rattle.std.proofs.lemmas.Bool.Decides.{nat_tests}
+use Rattle.walrus_ir.specs.declared.val_type.ValType.{ValType}
+use Rattle.walrus_ir.specs.Results.{◌>>=◌}
+use Rattle.wasm_body.specs.NormalForm.{Typing}
+use Rattle.wasm_body.specs.Validity.{Operand, Unknown, Known, Point, Change, ControlFrame, Stacks, State, Checked, refused, demand, required, above, up_to}
+use Rattle.wasm_body.specs.Validity as algorithm
+use Rattle.wasm_body.specs.ValidityLaws.{KnownOperand, of_type}
+use Rattle.wasm_body.proofs.Validity.ValidNormalForms.{validity_kept}
+use Rattle.wasm_typing.specs.Contexts.{OperandContext, initial_locals}
+use Rattle.wasm_typing.specs.Matching.{matches_known}
+use Rattle.wasm_typing.specs.Operands.{InstructionType, Operands, pop, pop_each, pop_all, push_each, typed}
+use Rattle.wasm_typing.specs.Rules.{Immediates, Rule, by_type, by_point}
+use Rattle.wasm_typing.specs.RuleTable.{rule_of}
+use Rattle.wasm_typing.specs.StandardRules.{by_rule, plain_change, standard_rules, is_empty, closes_all}
+use Rattle.wasm_typing.specs.RuleLaws.{stacks, type_by, TypedOperators, ValidityIsTested, StandardValidityKept}
+
+-- ---- popping
+
+-- In a frame: nothing is above its height, or an operand is.
+at_height : (n : ℕ) (ys : Operands) → n ≡ length ys → nat_eq (length ys) n ≡ true
+at_height n ys h = eq-eqb (length ys) n (sym h)
+
+over_height : (n : ℕ) (x : Operand KnownOperand) (xs ys : Operands) → n ≡ length ys → nat_eq (length (x ∷ (xs ++ ys))) n ≡ false
+over_height n x xs ys h = let e = length-append xs ys in grind (arith, nat_tests)
+
+after_demand : (test : Bool) (xs ys : Operands) → (demand test >>= λ u. Ok (xs ++ ys)) ≡ ((demand test >>= λ u. Ok xs) >>= λ zs. Ok (zs ++ ys))
+after_demand true xs ys = refl
+after_demand false xs ys = refl
+
+pops : (m : Typing) (c : OperandContext) (f : ControlFrame) (t : ValType ℕ) (xs ys : Operands) → f.height ≡ length ys
+    → algorithm.pop m (standard_rules c) f t (xs ++ ys) ≡ (pop c f.unreachable t xs >>= λ zs. Ok (zs ++ ys))
+pops m c f t [] ys h = rw (at_height f.height ys h) (after_demand f.unreachable [] ys)
+pops m c f t (Unknown ∷ xs) ys h = rw (over_height f.height Unknown xs ys h) refl
+pops m c f t (Known k ∷ xs) ys h = rw (over_height f.height (Known k) xs ys h) (after_demand (matches_known c k t) xs ys)
+
+-- the first pops, and then the others
+after_first : (a : Checked Operands) (k l : Operands → Checked Operands) (ys : Operands) → ((zs : Operands) → k (zs ++ ys) ≡ (l zs >>= λ ws. Ok (ws ++ ys)))
+    → ((a >>= λ zs. Ok (zs ++ ys)) >>= k) ≡ ((a >>= l) >>= λ ws. Ok (ws ++ ys))
+after_first (Ok zs) k l ys f = f zs
+after_first (Err e) k l ys f = refl
+
+pops_each : (m : Typing) (c : OperandContext) (f : ControlFrame) (ts : List (ValType ℕ)) (xs ys : Operands) → f.height ≡ length ys
+    → algorithm.pop_each m (standard_rules c) f ts (xs ++ ys) ≡ (pop_each c f.unreachable ts xs >>= λ zs. Ok (zs ++ ys))
+pops_each m c f [] xs ys h = refl
+pops_each m c f (t ∷ ts) xs ys h =
+    ap (λ a. a >>= algorithm.pop_each m (standard_rules c) f ts) (pops m c f t xs ys h)
+    ∙ after_first (pop c f.unreachable t xs) (algorithm.pop_each m (standard_rules c) f ts) (pop_each c f.unreachable ts) ys (λ zs. pops_each m c f ts zs ys h)
+
+pops_all : (m : Typing) (c : OperandContext) (f : ControlFrame) (ts : List (ValType ℕ)) (xs ys : Operands) → f.height ≡ length ys
+    → algorithm.pop_all m (standard_rules c) f ts (xs ++ ys) ≡ (pop_all c f.unreachable ts xs >>= λ zs. Ok (zs ++ ys))
+pops_all m c f ts xs ys h = pops_each m c f (reverse ts) xs ys h
+
+-- ---- pushing
+
+pushes : (m : Typing) (c : OperandContext) (ts : List (ValType ℕ)) (xs ys : Operands)
+    → push_each ts xs ++ ys ≡ algorithm.push_each m (standard_rules c) ts (xs ++ ys)
+pushes m c [] xs ys = refl
+pushes m c (t ∷ ts) xs ys = pushes m c ts (Known (of_type t) ∷ xs) ys
+
+-- ---- operators of a type
+
+by_its_type : (c : OperandContext) (is : Immediates) (t : InstructionType) (p : Point KnownOperand) (row : Option Rule) → type_by c is row ≡ Ok t
+    → (required row >>= λ rule. by_rule c rule is p) ≡ typed c t p
+by_its_type c is t p None h = absurd cc
+by_its_type c is t p (Some (by_point rule)) h = absurd cc
+by_its_type c is t p (Some (by_type rule)) h = ap (λ r. r >>= λ u. typed c u p) h
+
+required_again : {X : Type 0} (a : Checked X) → required (result_ok a) ≡ a
+required_again (Ok x) = refl
+required_again (Err refused) = refl
+
+above_height : (n : ℕ) (xs ys : Operands) → n ≡ length ys → above n (xs ++ ys) ≡ xs
+above_height n xs ys h =
+    let e : length (xs ++ ys) - n ≡ length xs = omega (arith, length-append xs ys, h) in
+    ap (λ k. take k (xs ++ ys)) e ∙ take-append_seam xs ys
+
+up_to_height : (n : ℕ) (xs ys : Operands) → n ≡ length ys → up_to n (xs ++ ys) ≡ ys
+up_to_height n xs ys h =
+    let e : length (xs ++ ys) - n ≡ length xs = omega (arith, length-append xs ys, h) in
+    ap (λ k. drop k (xs ++ ys)) e ∙ drop-append_seam xs ys
+
+abbrev change : InstructionType → Operands → Change KnownOperand
+change t zs = record { operands = push_each t.gives zs; initialises = t.initialises }
+
+abbrev point_of : ControlFrame → Operands → List ℕ → Point KnownOperand
+point_of f xs ls = record { operands = xs; unreachable = f.unreachable; initialised = ls }
+
+-- what follows the pops
+then_pushes : (m : Typing) (c : OperandContext) (t : InstructionType) (ys below : Operands) (ls : List ℕ) → below ≡ ys → (a : Checked Operands)
+    → ((a >>= λ zs. Ok (change t zs)) >>= λ k. Ok (stacks (k.operands ++ below) (k.initialises ++ ls)))
+    ≡ ((a >>= λ zs. Ok (zs ++ ys)) >>= λ zs. Ok (stacks (algorithm.push_each m (standard_rules c) t.gives zs) (t.initialises ++ ls)))
+then_pushes m c t ys below ls h (Ok zs) =
+    ap (λ xs. Ok (stacks xs (t.initialises ++ ls))) (ap (λ b. push_each t.gives zs ++ b) h ∙ pushes m c t.gives zs ys)
+then_pushes m c t ys below ls h (Err e) = refl
+
+pub typed_operators : TypedOperators
+typed_operators m c o t type f fs xs ys ls h =
+    let after : Change KnownOperand → Checked (Stacks KnownOperand) = λ k. Ok (algorithm.changed m (standard_rules c) f k (stacks (xs ++ ys) ls)) in
+    let p = point_of f xs ls in
+    ap (λ zs. required (result_ok (plain_change c o (point_of f zs ls))) >>= after) (above_height f.height xs ys h)
+    ∙ ap (λ a. a >>= after) (required_again (plain_change c o p) ∙ by_its_type c o.immediates t p (rule_of o.opcode) type)
+    ∙ then_pushes m c t ys (up_to f.height (xs ++ ys)) ls (up_to_height f.height xs ys h) (pop_all c f.unreachable t.takes xs)
+    ∙ ap (λ a. a >>= λ zs. Ok (stacks (algorithm.push_each m (standard_rules c) t.gives zs) (t.initialises ++ ls))) (sym (pops_all m c f t.takes xs ys h))
+
+-- ---- validity
+
+none_is_left : (s : Stacks KnownOperand) (cs : List ControlFrame) → is_empty cs ≡ true
+    → (left : Stacks KnownOperand) × (algorithm.state s cs ≡ algorithm.state left [])
+none_is_left s [] h = (s, refl)
+none_is_left s (f ∷ fs) h = absurd cc
+
+all_are_closed : (r : Checked (State KnownOperand)) → closes_all r ≡ true → (left : Stacks KnownOperand) × (r ≡ Ok (algorithm.state left []))
+all_are_closed (Ok s) h = let p = none_is_left s.stacks s.controls h in (p.0, ap Ok p.1)
+all_are_closed (Err e) h = absurd cc
+
+pub validity_is_tested : ValidityIsTested
+validity_is_tested m c arguments results xs = (all_are_closed _, λ h. ap closes_all h.1)
+
+pub standard_validity_kept : StandardValidityKept
+standard_validity_kept env xs b s l =
+    let v = validity_kept {T = KnownOperand} env xs b s l in
+    record {
+      text = v.text;
+      is_text = v.is_text;
+      stays_valid = λ c arguments results h. v.stays_valid (standard_rules c) results (initial_locals c arguments) h;
+    }
