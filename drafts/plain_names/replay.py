@@ -34,10 +34,10 @@ for f in files('.rt','.antt'):
     if f.split('/')[1] not in('walrus_context','walrus_parser','walrus_instructions') and f!='crates/walrus_run/src/naming.rt': continue
     t=open(f).read()
     if f.endswith('.rt'):
-        u=re.sub(r'\bpushed(?=[(<])','try_push',t)
-        u=re.sub(r'(use walrus_context::\{[^}]*)\bpushed\b',r'\1try_push',u)
-        u=re.sub(r'(use walrus_context::|use frame_stack::)pushed\b',r'\1try_push',u)
-    else: u=re.sub(r'\bc\.pushed\.','c.try_push.',t)
+        u=re.sub(r'\bpushed(?=[(<])','push_or_fail',t)
+        u=re.sub(r'(use (?:walrus_context|frame_stack)::\{[^}]*)\bpushed\b',r'\1push_or_fail',u)
+        u=re.sub(r'(use walrus_context::|use frame_stack::)pushed\b',r'\1push_or_fail',u)
+    else: u=re.sub(r'\bc\.pushed\.','c.push_or_fail.',t)
     if u!=t: open(f,'w').write(u)
 # one default location
 LINE='use Rattle.walrus_ir.specs.Locations.{default_location}'
