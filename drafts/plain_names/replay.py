@@ -71,6 +71,8 @@ for f in files('.antt','.rt'):
     if u!=t: open(f,'w').write(u)
 run('09_machine.txt')
 for f in files('.rt','.antt'):
+    # (the laws of validity have a clause of this name that isn't about refusals)
+    if 'wasm_typing' in f: continue
     t=open(f).read()
     u=re.sub(r'\bensures kept(?= \{)','ensures unchanged',t) if f.endswith('.rt') else re.sub(r'(\.ensures\.|-clause-)kept\b',r'\1unchanged',t)
     if u!=t: open(f,'w').write(u)
