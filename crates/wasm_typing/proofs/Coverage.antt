@@ -157,6 +157,14 @@ conditional_bytes =
     agree 0xd6 (λ b. is_some (conditional_rule (Byte b))) (λ b. is_conditional (role_of (Byte b))) refl
     (λ b l. ap is_some (past_rows byte_branches 0xd6 b refl l) ∙ sym (ap is_conditional (no_role b l)))
 
+-- what holds with the prefix of references and aggregates, and with each other one, holds with all
+by_prefix : (has is : Opcode → Bool) → ((n : ℕ) → has (Prefixed 0xfb n) ≡ is (Prefixed 0xfb n))
+    → ((p n : ℕ) → (p == 0xfb) ≡ false → has (Prefixed p n) ≡ is (Prefixed p n)) → (p n : ℕ) → has (Prefixed p n) ≡ is (Prefixed p n)
+by_prefix has is casts others p n = elim (eqb_tells p 0xfb) [
+  | inl b ↦ subst (λ i. has (Prefixed i n) ≡ is (Prefixed i n)) (sym b.1) (casts n)
+  | inr b ↦ others p n b.0
+]
+
 conditional_casts : (n : ℕ) → is_some (conditional_rule (Prefixed 0xfb n)) ≡ is_conditional (role_of (Prefixed 0xfb n))
 conditional_casts =
     agree 25 (λ n. is_some (conditional_rule (Prefixed 0xfb n))) (λ n. is_conditional (role_of (Prefixed 0xfb n))) refl
@@ -166,10 +174,7 @@ not_conditional : (p n : ℕ) → (p == 0xfb) ≡ false → is_some (conditional
 not_conditional p n h = rw h refl
 
 conditional_prefixed : (p n : ℕ) → is_some (conditional_rule (Prefixed p n)) ≡ is_conditional (role_of (Prefixed p n))
-conditional_prefixed p n = elim (eqb_tells p 0xfb) [
-  | inl b ↦ subst (λ i. is_some (conditional_rule (Prefixed i n)) ≡ is_conditional (role_of (Prefixed i n))) (sym b.1) (conditional_casts n)
-  | inr b ↦ not_conditional p n b.0
-]
+conditional_prefixed = by_prefix (λ o. is_some (conditional_rule o)) (λ o. is_conditional (role_of o)) conditional_casts not_conditional
 
 pub conditionals_have_rules : ConditionalsHaveRules
 conditionals_have_rules (Byte b) = conditional_bytes b
@@ -189,10 +194,7 @@ no_tail_call : (p n : ℕ) → (p == 0xfb) ≡ false → is_some (tail_rule (Pre
 no_tail_call p n h = rw h refl
 
 tail_prefixed : (p n : ℕ) → is_some (tail_rule (Prefixed p n)) ≡ is_tail_call (role_of (Prefixed p n))
-tail_prefixed p n = elim (eqb_tells p 0xfb) [
-  | inl b ↦ subst (λ i. is_some (tail_rule (Prefixed i n)) ≡ is_tail_call (role_of (Prefixed i n))) (sym b.1) (tail_casts n)
-  | inr b ↦ no_tail_call p n b.0
-]
+tail_prefixed = by_prefix (λ o. is_some (tail_rule o)) (λ o. is_tail_call (role_of o)) tail_casts no_tail_call
 
 pub tail_calls_have_rules : TailCallsHaveRules
 tail_calls_have_rules (Byte b) = tail_bytes b
