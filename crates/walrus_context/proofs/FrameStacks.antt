@@ -1,11 +1,11 @@
 -- Frames whose instructions are in one list, one frame after the other.
-use Rattle.std.specs.Prelude.{◌≡◌, ℕ, zero, suc, ◌+◌, ◌-◌, ◌<◌, ◌≤◌, List, [], ◌∷◌, ◌++◌, length, take, drop, Some, slice_get, slice_set, false, cond}
+use Rattle.std.specs.Prelude.{◌≡◌, ℕ, zero, suc, ◌+◌, ◌-◌, ◌<◌, ◌≤◌, List, [], ◌∷◌, ◌++◌, length, take, drop, Some, slice_get, slice_set, Bool, true, false, cond}
 use Rattle.std.specs.List.{AllByRecursion}
 use Rattle.std.proofs.lemmas.List.{append-nil, reverse-append, take-append-drop, take-append-le, drop-append-le, take_all, length-take, length-drop, length-append}
 use Rattle.std.proofs.Common.{append_assoc, reverse, refl, ap, sym, subst, ◌∙◌, arith}
 use Rattle.walrus_ir.specs.Unfolding.{LocatedInstr}
 use Rattle.walrus_context.specs.declared.frame.ControlFrame.{ControlFrame}
-use Rattle.walrus_context.specs.OpenFrames.{OpenFrame, AreShown, frame_with, changed_at, with_instr, InnerAreEmpty}
+use Rattle.walrus_context.specs.OpenFrames.{OpenFrame, AreShown, ChangesAt, frame_with, changed_at, with_instr, InnerAreEmpty}
 use Rattle.walrus_context.specs.FrameStacks.{part, begin_of, frames_in, StartFrom, moved, moved_from}
 
 -- ---- parts of lists
@@ -290,3 +290,37 @@ module _ (xs cs : List ControlFrame) (k i : ℕ) (moving : cs ≡ moved_from k x
 
     pub fits_moved : (end : ℕ) → StartFrom 0 xs end → f.start ≤ end
     fits_moved end h = moved_bound xs i 0 end f h there
+
+-- ---- an instruction for one frame
+
+-- It is dropped if the frame is dead.
+pub dropped_at : (all : List LocatedInstr) (cs : List ControlFrame) (i n : ℕ) (f : ControlFrame) (x : LocatedInstr) → n + i + 1 ≡ length cs → slice_get cs i ≡ Some f → f.unreachable ≡ true →
+    ChangesAt n (with_instr x) (frames_in all [] cs) (frames_in all [] cs)
+dropped_at all cs i n f x is at dead =
+    let long = count all [] cs in
+    let found = get all [] cs i n f is at in
+    let frame = frame_with f found.0 in
+    (omega arith, sym (unchanged_at (with_instr x) (frames_in all [] cs) n frame found.1 (ap (λ d. record frame { instrs = cond d found.0 (found.0 ++ x ∷ []) }) dead)))
+
+none_inside : (fs : List OpenFrame) → InnerAreEmpty 0 fs
+none_inside [] = tt
+none_inside (f ∷ fs) = tt
+
+-- In the innermost frame it is the last of all, and no start moves.
+pub appended_last : (all : List LocatedInstr) (cs : List ControlFrame) (i : ℕ) (f : ControlFrame) (x : LocatedInstr) → i + 1 ≡ length cs → slice_get cs i ≡ Some f → f.unreachable ≡ false → StartFrom 0 cs (length all) →
+    ChangesAt 0 (with_instr x) (frames_in all [] cs) (frames_in (all ++ x ∷ []) [] cs)
+appended_last all cs i f x is at alive starts =
+    let long = count all [] cs in
+    let behind = behind_at_end all [] 0 cs i 0 (omega arith) starts (none_inside (frames_in all [] cs)) in
+    let same = moved_none cs (suc i) (omega arith) in
+    (omega arith, ap (frames_in (all ++ x ∷ []) []) (sym same) ∙ appended all x [] 0 cs i 0 f (omega arith) at alive starts behind)
+
+-- The list may end later.
+pub starts_before : (low end later : ℕ) (cs : List ControlFrame) → end ≤ later → StartFrom low cs end → StartFrom low cs later
+starts_before low end later [] l h = omega arith
+starts_before low end later (f ∷ fs) l h = (h.0, starts_before f.start end later fs l h.1)
+
+-- a fact that holds however a test ends
+pub either_way : {R : Type 0} (b : Bool) → (b ≡ true → R) → (b ≡ false → R) → R
+either_way true t f = t refl
+either_way false t f = f refl

@@ -1,3 +1,4 @@
 pub mod FrameStacks
 pub mod TreeChanges
 pub mod LastClauses
+pub mod FoundLocals

@@ -1,6 +1,7 @@
 -- Changes of open trees.
-use Rattle.std.specs.Prelude.{◌≡◌, ℕ, zero, suc, List, [], ◌∷◌, Result, Ok, Err, OnOk, OnErr}
+use Rattle.std.specs.Prelude.{◌≡◌, ℕ, zero, suc, List, [], ◌∷◌, ◌++◌, Result, Ok, Err, OnOk, OnErr}
 use Rattle.std.proofs.Common.{sym, subst, arith}
+use Rattle.std.proofs.lemmas.List.{length-append}
 use Rattle.walrus_ir.specs.declared.seq.InstrSeq.{InstrSeq}
 use Rattle.walrus_context.specs.OpenFrames.{OpenFrame, changed_at}
 use Rattle.walrus_context.specs.OpenTrees.{StandIn}
@@ -16,3 +17,8 @@ pub stand_after : {E : Type 0} (P : Type 0) (arena : List InstrSeq) (change : Op
     OnOk r (P × (new ≡ changed_at n change old)) → OnErr r (new ≡ old) → StandIn arena old → StandIn arena new
 stand_after P arena change same n old new (Ok u) ok err h = subst (StandIn arena) (sym ok.1) (stand_changed arena change same n old h)
 stand_after P arena change same n old new (Err e) ok err h = subst (StandIn arena) (sym err) h
+
+-- the frames are in an arena with more sequences
+pub stand_more : (arena others : List InstrSeq) (fs : List OpenFrame) → StandIn arena fs → StandIn (arena ++ others) fs
+stand_more arena others [] h = tt
+stand_more arena others (f ∷ fs) h = let long = length-append arena others in let l = h.0 in (omega arith, stand_more arena others fs h.1)

@@ -1,14 +1,14 @@
 //! The sequences of a function during its parse, some of which are open.
-ghost use Rattle.std.specs.Prelude.{reverse, ◌≡◌, ◌⊎◌, ◌≤◌, ◌<◌, [], length, IsSomeAnd, None, IfOk, IfErr, OnOk, OnErr, MatchResult};
+ghost use Rattle.std.specs.Prelude.{reverse, ◌≡◌, ◌⊎◌, ◌≤◌, ◌<◌, [], length, IsSomeAnd, None, Ok, true, false, IfSome, IfOk, IfErr, OnOk, OnErr, MatchOption, MatchResult};
 ghost use Rattle.walrus_ir.specs.Types.{existing, signature_of};
-ghost use Rattle.walrus_ir.specs.declared.val_type.InstrSeqType.TheVariants.{MultiValue};
+ghost use Rattle.walrus_ir.specs.declared.val_type.InstrSeqType.TheVariants.{MultiValue, Simple};
 ghost use Rattle.wasm_body.specs.declared.error.ParseError.{ParseError as Fault};
 ghost use Rattle.walrus_context.specs.OpenFrames.{AreShown, ShowsAt, killed, with_instr, HasNoFrame, HasNoFrameAt, InnerAreEmpty, with_clause_around};
 ghost use Rattle.wasm_operators.specs.declared.types.BlockType.TheVariants.{Value, FuncType};
 ghost use Rattle.walrus_ir.specs.Results.{with_fault};
 ghost use Rattle.wasm_body.specs.declared.error.ParseError.TheVariants.{Index};
 ghost use Rattle.walrus_maps.specs.IndexMaps.{local_of};
-ghost use Rattle.walrus_context.specs.Placing.{block_found, kind_at};
+ghost use Rattle.walrus_context.specs.Placing.{block_found, kind_at, place_at};
 ghost use Rattle.walrus_context.specs.OpenTrees.{env_of, Opens, OpensBlock, HasNoType, Pops, ChangesFrame, AddsClauseAround, EndsAt};
 
 use crate::frame::{ControlFrame, ControlStack};
@@ -34,6 +34,8 @@ pub struct ValidationContext<'a> {
     func_id: FunctionId,
     func: FunctionBuilder,
     stack: FrameStack,
+    // The locals of the function, by old index, which are fetched from the maps once.
+    locals: &'a [LocalId],
 }
 
 impl<'a> Model for ValidationContext<'a> {
@@ -53,7 +55,11 @@ impl<'a> Model for ValidationContext<'a> {
       frames = c.stack;
     } };
 
-    ghost invariant = { λ c. StandIn c.func.sequences c.stack };
+    ghost use Rattle.std.specs.Prelude.{◌≡◌};
+    ghost use Rattle.walrus_maps.specs.IndexMaps.{locals_in};
+
+    ghost invariant = { λ c. StandIn c.func.sequences c.stack
+        × (c.locals.now ≡ locals_in c.indices.now c.func_id) };
 }
 
 fn copied(alloc: Global, types: &[ValType]) -> Result<Vec<ValType>, ParseError>
@@ -92,6 +98,7 @@ impl<'a> ValidationContext<'a> {
             func_id,
             func,
             stack: FrameStack::new(controls, instrs),
+            locals: indices.locals_of(func_id),
         }
     }
 
@@ -111,6 +118,16 @@ impl<'a> ValidationContext<'a> {
             Ok(local) => Ok(local),
             Err(error) => Err(ParseError::Index(error)),
         }
+    }
+
+    /// The local of the function with this old index, if there is one.
+    #[inline(always)]
+    #[tactic(auto, using(crate::proofs::FoundLocals::found_local))]
+    pub fn local_at(&self, index: u32) -> Option<LocalId>
+        ensures { IfSome result (λ local.
+            local_of self.now.indices self.now.function index ≡ Ok local) }
+    {
+        self.locals.get(index as usize).copied()
     }
 
     /// The module of the function.
@@ -183,7 +200,9 @@ impl<'a> ValidationContext<'a> {
         let start_types = copied(alloc, start_types)?;
         let end_types = copied(alloc, end_types)?;
         let block = InstrSeqId::new(self.func.count());
-        self.stack.push(kind, start_types, end_types, block)?;
+        if !self.stack.push(kind, start_types, end_types, block) {
+            return Err(ParseError::Memory);
+        }
         match self.func.alloc(ty) {
             Ok(_) => Ok(block),
             Err(_) => {
@@ -191,6 +210,25 @@ impl<'a> ValidationContext<'a> {
                 Err(ParseError::Memory)
             }
         }
+    }
+
+    // Opens a frame without parameters and results. Allocates nothing for their lists.
+    fn enter_simple(&mut self, kind: BlockKind) -> Option<InstrSeqId>
+        ensures { IfSome result (λ id. Opens self.old self.new kind (Simple None) [] [] id) }
+    {
+        let block = InstrSeqId::new(self.func.count());
+        let alloc = self.func.allocator();
+        match self.func.alloc(InstrSeqType::Simple(None)) {
+            Ok(_) => {}
+            Err(_) => return None,
+        }
+        if !self
+            .stack
+            .push(kind, Vec::new(alloc), Vec::new(alloc), block)
+        {
+            return None;
+        }
+        Some(block)
     }
 
     /// Opens a frame with these parameters and results, and returns its sequence. The type of the
@@ -282,7 +320,10 @@ impl<'a> ValidationContext<'a> {
         ensures err { IfErr result (λ e. (e ≡ Fault.Memory) ⊎ HasNoType self.old ty e) }
     {
         match ty {
-            BlockType::Empty => self.push_control(kind, &[], &[]),
+            BlockType::Empty => match self.enter_simple(kind) {
+                Some(block) => Ok(block),
+                None => Err(ParseError::Memory),
+            },
             BlockType::Value(ty) => self.push_value_type(kind, ty),
             BlockType::FuncType(index) => self.push_function_type(kind, index),
         }
@@ -330,6 +371,48 @@ impl<'a> ValidationContext<'a> {
             Some(frame) => Ok(frame),
             None => Err(ParseError::NoSuchLabel),
         }
+    }
+
+    /// The number of open frames.
+    #[inline(always)]
+    pub fn frame_count(&self) -> usize
+        ensures { result ≡ length self.now.frames }
+    {
+        self.stack.count()
+    }
+
+    /// The sequence of the n-th frame, if more than `n` frames are open. Frames count from the
+    /// innermost, which is 0.
+    #[inline(always)]
+    pub fn block_at(&self, n: usize) -> Option<InstrSeqId>
+        ensures { MatchOption result (length self.now.frames ≤ n)
+            (λ block. place_at self.now.frames n ≡ Ok block) }
+    {
+        match self.stack.get(n) {
+            Some(frame) => Some(frame.block),
+            None => None,
+        }
+    }
+
+    /// Marks the innermost frame as dead: the instructions that follow in it are dropped. Requires
+    /// that a frame is open.
+    #[inline(always)]
+    pub fn kill_innermost(&mut self)
+        requires { 0 < length self.old.frames }
+        ensures { ChangesFrame 0 killed self.old self.new }
+    {
+        self.stack.kill_innermost();
+    }
+
+    /// Appends an instruction to the innermost frame, or drops it if that frame is dead, and returns
+    /// whether it could. If no frame is open or memory runs out nothing is changed.
+    #[inline(always)]
+    pub fn append_innermost(&mut self, instr: Instr, loc: InstrLocId) -> bool
+        ensures done { result ≡ true
+            → ChangesFrame 0 (with_instr (instr, loc)) self.old self.new }
+        ensures same { result ≡ false → self.new ≡ self.old }
+    {
+        self.stack.append_innermost(instr, loc)
     }
 
     /// Appends an instruction to the n-th frame, or drops it if that frame is dead. Frames count

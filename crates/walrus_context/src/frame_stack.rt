@@ -1,5 +1,5 @@
 //! The open frames, with the instructions of all of them in one list.
-ghost use Rattle.std.specs.Prelude.{reverse, ◌≡◌, ◌⊎◌, ◌≤◌, ◌<◌, ◌+◌, ◌^◌, ℕ, ◌∷◌, ◌++◌, [], List, length, MatchOption, IfOk, IfErr, OnOk, OnErr, IsSome, None, Some, Ok, Err};
+ghost use Rattle.std.specs.Prelude.{reverse, ◌≡◌, ◌⊎◌, ◌≤◌, ◌<◌, ◌+◌, ◌^◌, ℕ, ◌∷◌, ◌++◌, [], List, length, MatchOption, IfOk, IfErr, OnOk, OnErr, IsSome, None, Some, Ok, Err, true, false};
 ghost use Rattle.wasm_body.specs.declared.error.ParseError.{ParseError as Fault};
 ghost use Rattle.walrus_context.specs.OpenFrames.{OpenFrame, AreShown, ShowsAt, frame_with, new_frame, killed, with_instr, ChangesAt, HasNoFrame, HasNoFrameAt, InnerAreEmpty, with_clause_in, with_clause_around};
 ghost use Rattle.walrus_context.specs.FrameStacks.{moved_from, StartFrom};
@@ -16,9 +16,25 @@ pub fn pushed<T: Drop>(list: &mut Vec<T>, item: T) -> Result<(), ParseError>
     ensures err { IfErr result (λ e. e ≡ Fault.Memory) }
     ensures same { OnErr result (list.new.items ≡ list.old.items) }
 {
-    match list.push(item) {
-        Ok(()) => Ok(()),
-        Err(_) => Err(ParseError::Memory),
+    if try_push(list, item) {
+        Ok(())
+    } else {
+        Err(ParseError::Memory)
+    }
+}
+
+/// Pushes an item, and returns whether it could. If memory runs out the list is unchanged.
+#[inline(always)]
+pub fn try_push<T: Drop>(list: &mut Vec<T>, item: T) -> bool
+    ensures done { result ≡ true → list.new.items ≡ list.old.items ++ item ∷ [] }
+    ensures same { result ≡ false → list.new.items ≡ list.old.items }
+{
+    match list.reserve(1) {
+        Ok(()) => {
+            list.push_reserved(item);
+            true
+        }
+        Err(_) => false,
     }
 }
 
@@ -93,7 +109,16 @@ impl FrameStack {
         }
     }
 
+    /// The number of open frames.
+    #[inline(always)]
+    pub fn count(&self) -> usize
+        ensures { result ≡ length self.now }
+    {
+        self.controls.len()
+    }
+
     /// The n-th frame. Frames count from the innermost, which is 0.
+    #[inline(always)]
     pub fn get(&self, n: usize) -> Option<&ControlFrame>
         ensures { MatchOption result (length self.now ≤ n) (λ f. ShowsAt self.now n f.now) }
     {
@@ -103,18 +128,18 @@ impl FrameStack {
         }
     }
 
-    /// Opens a frame without instructions.
+    /// Opens a frame without instructions, and returns whether it could. If memory runs out nothing
+    /// is changed.
     pub fn push(
         &mut self,
         kind: BlockKind,
         start_types: Vec<ValType>,
         end_types: Vec<ValType>,
         block: InstrSeqId,
-    ) -> Result<(), ParseError>
-        ensures ok { OnOk result
-            (self.new ≡ new_frame kind start_types.items end_types.items block ∷ self.old) }
-        ensures err { IfErr result (λ e. e ≡ Fault.Memory) }
-        ensures same { OnErr result (self.new ≡ self.old) }
+    ) -> bool
+        ensures done { result ≡ true
+            → self.new ≡ new_frame kind start_types.items end_types.items block ∷ self.old }
+        ensures same { result ≡ false → self.new ≡ self.old }
     {
         let start = self.instrs.len();
         let frame = ControlFrame {
@@ -125,7 +150,7 @@ impl FrameStack {
             kind,
             start,
         };
-        pushed(&mut self.controls, frame)
+        try_push(&mut self.controls, frame)
     }
 
     /// Closes the innermost frame.
@@ -161,13 +186,22 @@ impl FrameStack {
         ensures err { IfErr result (HasNoFrame self.old) }
         ensures same { OnErr result (self.new ≡ self.old) }
     {
-        match index_of(&self.controls, 0) {
-            Some(index) => {
-                self.controls[index].unreachable = true;
-                Ok(())
-            }
-            None => Err(ParseError::NoFrame),
+        let open = self.count();
+        if open == 0 {
+            return Err(ParseError::NoFrame);
         }
+        self.kill_innermost();
+        Ok(())
+    }
+
+    /// The same for a frame that is open.
+    #[inline(always)]
+    pub fn kill_innermost(&mut self)
+        requires { 0 < length self.old }
+        ensures { ChangesAt 0 killed self.old self.new }
+    {
+        let index = self.controls.len() - 1;
+        self.controls[index].unreachable = true;
     }
 
     /// Appends an instruction to the n-th frame from the innermost, or drops it if that frame is
@@ -193,6 +227,23 @@ impl FrameStack {
             }
             Err(error) => Err(error),
         }
+    }
+
+    /// Appends an instruction to the innermost frame, or drops it if that frame is dead, and returns
+    /// whether it could. If no frame is open or memory runs out nothing is changed.
+    #[inline(always)]
+    pub fn append_innermost(&mut self, instr: Instr, location: InstrLocId) -> bool
+        ensures done { result ≡ true
+            → ChangesAt 0 (with_instr (instr, location)) self.old self.new }
+        ensures same { result ≡ false → self.new ≡ self.old }
+    {
+        let Some(index) = index_of(&self.controls, 0) else {
+            return false;
+        };
+        if self.controls[index].unreachable {
+            return true;
+        }
+        try_push(&mut self.instrs, (instr, location))
     }
 
     /// Adds a clause to the `try` at the end of the frame around the innermost, or drops it if that

@@ -8,5 +8,5 @@ mod types;
 
 pub use context::ValidationContext;
 pub use frame::{ControlFrame, ControlStack, IfElseState};
-pub use frame_stack::pushed;
+pub use frame_stack::{pushed, try_push};
 pub use types::{heap_type_of, value_type};

@@ -66,6 +66,16 @@ impl FunctionLocals {
         Ok(index)
     }
 
+    /// The locals of a function, by index. This allocates nothing.
+    pub fn list(&self, function: FunctionId) -> &[LocalId]
+        ensures { result.now ≡ list_of self.now function }
+    {
+        match self.lists.get(&function) {
+            Some(list) => list.as_slice(),
+            None => &[],
+        }
+    }
+
     /// The local with this index, or the error if there is none. This allocates nothing.
     pub fn get(&self, function: FunctionId, index: u32) -> Result<LocalId, IndexError>
         ensures { result ≡ local_in self.now function index }

@@ -44,6 +44,13 @@ impl<K> IdList<K> {
         Ok(index)
     }
 
+    /// The ids, by index.
+    pub fn as_slice(&self) -> &[Id<K>]
+        ensures { result.now ≡ self.now }
+    {
+        self.ids.as_slice()
+    }
+
     /// The id with this index, if there is one.
     pub fn get(&self, index: u32) -> Option<Id<K>>
         ensures { result ≡ slice_get self.now index }

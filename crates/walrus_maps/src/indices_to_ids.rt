@@ -210,6 +210,13 @@ impl IndicesToIds {
         self.locals.get(function, index)
     }
 
+    /// The locals of a function, by index. Allocates nothing.
+    pub fn locals_of(&self, function: FunctionId) -> &[LocalId]
+        ensures { result.now ≡ locals_in self.now function }
+    {
+        self.locals.list(function)
+    }
+
     /// Replaces the type of an index that has one. This allocates nothing.
     pub fn remap_type(&mut self, index: u32, id: TypeId)
         requires { index < length (ids_in self.old Types) }

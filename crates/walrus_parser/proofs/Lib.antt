@@ -13,6 +13,7 @@ pub mod Endings
 pub mod Placements
 pub mod Roles
 pub mod Alone
+pub mod AtOnce
 pub mod Handlers
 pub mod Delegates
 pub mod TryTables

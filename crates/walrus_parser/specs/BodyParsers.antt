@@ -1,5 +1,5 @@
 -- A parser of bodies as contracts see it, and what its steps do.
-use Rattle.std.specs.Prelude.{◌≡◌, ◌⊎◌, ℕ, List, [], ◌∷◌, ◌++◌, length, Bool, cond, reverse, Option, Some, None, Result, Ok, Err}
+use Rattle.std.specs.Prelude.{◌≡◌, ◌⊎◌, ℕ, List, [], ◌∷◌, ◌++◌, length, Bool, true, false, cond, reverse, Option, Some, None, Result, Ok}
 use Rattle.walrus_ir.specs.declared.instr.Instr.TheVariants as instr
 use Rattle.walrus_ir.specs.declared.val_type.InstrSeqType.{InstrSeqType}
 use Rattle.walrus_ir.specs.Function.{Function, with_new_sequence}
@@ -98,3 +98,8 @@ abbrev pub Steps : BodyParser → BodyParser → RawOperation → (location : �
 Steps old new o location r =
     (ls : List (Layer Occurrence)) (s : Sequence Occurrence) (place : ℕ) →
     Keeps (env_of old.context) (state_of old) ls s → IsStep (env_of old.context) (state_of new) ls s o place location r
+
+-- The operator was taken at once; or it wasn't, and nothing changed.
+abbrev pub TakesAtOnce : BodyParser → BodyParser → RawOperation → (location : ℕ) → (taken : Bool) → Type 0
+TakesAtOnce old new o location true = Steps old new o location (Ok tt) × IsSameBody old.context new.context
+TakesAtOnce old new o location false = new ≡ old

@@ -7,6 +7,8 @@ use Rattle.wasm_body.specs.declared.error.ParseError.{ParseError}
 use Rattle.wasm_body.specs.declared.error.ParseError.TheVariants as parse
 use Rattle.walrus_parser.specs.declared.check.CheckError.{CheckError}
 use Rattle.walrus_parser.specs.declared.check.CheckError.TheVariants.{Refused, Memory}
+use Rattle.walrus_parser.specs.declared.next.Refusal.{Refusal}
+use Rattle.walrus_parser.specs.declared.next.Refusal.TheVariants.{PlaceTooGreat, Checked}
 
 abbrev pub placed_at : RawOperation → ℕ → Placed
 placed_at o place = record { spelt = o; place = place }
@@ -21,3 +23,8 @@ Checks check old x (Err Memory) new = Unit {0}
 abbrev pub fault_of : CheckError → ParseError
 fault_of (Refused n) = parse.Checked n
 fault_of Memory = parse.Memory
+
+-- the error of a parse for an operator that isn't accepted
+abbrev pub fault_of_refusal : Refusal → ParseError
+fault_of_refusal PlaceTooGreat = parse.PlaceTooGreat
+fault_of_refusal (Checked e) = fault_of e

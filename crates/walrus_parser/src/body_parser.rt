@@ -21,15 +21,14 @@ ghost use Rattle.walrus_parser.specs.BodyParsers.{Begins, IsSameBody, Steps, wit
 use std::alloc::Global;
 use std::mem;
 use walrus_context::{IfElseState, ValidationContext, pushed};
-use walrus_instructions::{branch_target, constant, instruction, memory_argument};
+use walrus_instructions::instruction;
 use walrus_ir::{
-    Binop, Block, BlockKind, BrIf, Call, FunctionBuilder, FunctionId, GlobalGet, GlobalSet, IfElse,
-    Instr, InstrLocId, InstrSeqId, InstrSeqType, Load, LoadKind, Loop, Module, Store, StoreKind,
-    TypeId, Unop, ValType, Value,
+    Block, BlockKind, FunctionBuilder, FunctionId, IfElse, Instr, InstrLocId, InstrSeqId,
+    InstrSeqType, Loop, Module, TypeId, ValType,
 };
 use walrus_maps::IndicesToIds;
 use wasm_body::ParseError;
-use wasm_ops::{BlockType, Operator, RawMemArg};
+use wasm_ops::{BlockType, Operator};
 
 /// The state while a body is parsed.
 #[derive(Drop)]
@@ -90,7 +89,7 @@ impl BodyParser<'_> {
     pub fn is_outermost(&self) -> bool
         ensures { IsTrue result ↔ (length self.now.context.frames ≤ 1) }
     {
-        self.context.control(1).is_err()
+        self.context.frame_count() <= 1
     }
 
     /// Takes a `block`.
@@ -303,153 +302,27 @@ impl BodyParser<'_> {
         }
     }
 
-    /// Refuses an operator that makes an instruction by itself, because an index or a label of it
-    /// has this error.
-    fn refuse(
-        &mut self,
-        operator: &Operator<'_>,
-        location: InstrLocId,
-        error: ParseError,
-    ) -> Result<(), ParseError>
-        requires kind { is_instruction operator.now ≡ true }
-        requires placed { placed_in self.old (meaning operator.now) ≡ Err error }
-        ensures step { Steps self.old self.new (meaning operator.now) location result }
-        ensures rest { OnOk result (IsSameBody self.old.context self.new.context) }
-    {
-        Err(error)
-    }
-
-    /// Takes a load.
-    #[inline(never)]
-    fn take_load(
-        &mut self,
-        operator: &Operator<'_>,
-        kind: LoadKind,
-        memarg: RawMemArg,
-        location: InstrLocId,
-    ) -> Result<(), ParseError>
-        requires is { operator.now ≡ op.Load kind memarg }
-        requires exponent { memarg.exponent < 32 }
-        ensures step { Steps self.old self.new (meaning operator.now) location result }
-        ensures rest { OnOk result (IsSameBody self.old.context self.new.context) }
-    {
-        match self.context.indices().get_memory(memarg.memory) {
-            Ok(memory) => {
-                let arg = memory_argument(memarg);
-                let load = Load { memory, kind, arg };
-                self.take_made(operator, Instr::Load(load), location, false)
-            }
-            Err(error) => self.refuse(operator, location, ParseError::Index(error)),
-        }
-    }
-
-    /// Takes a store.
-    #[inline(never)]
-    fn take_store(
-        &mut self,
-        operator: &Operator<'_>,
-        kind: StoreKind,
-        memarg: RawMemArg,
-        location: InstrLocId,
-    ) -> Result<(), ParseError>
-        requires is { operator.now ≡ op.Store kind memarg }
-        requires exponent { memarg.exponent < 32 }
-        ensures step { Steps self.old self.new (meaning operator.now) location result }
-        ensures rest { OnOk result (IsSameBody self.old.context self.new.context) }
-    {
-        match self.context.indices().get_memory(memarg.memory) {
-            Ok(memory) => {
-                let arg = memory_argument(memarg);
-                let store = Store { memory, kind, arg };
-                self.take_made(operator, Instr::Store(store), location, false)
-            }
-            Err(error) => self.refuse(operator, location, ParseError::Index(error)),
-        }
-    }
-
-    /// Takes a `call`.
-    #[inline(never)]
-    fn take_call(
-        &mut self,
-        operator: &Operator<'_>,
-        index: u32,
-        location: InstrLocId,
-    ) -> Result<(), ParseError>
-        requires { operator.now ≡ op.Call index }
-        ensures step { Steps self.old self.new (meaning operator.now) location result }
-        ensures rest { OnOk result (IsSameBody self.old.context self.new.context) }
-    {
-        match self.context.indices().get_func(index) {
-            Ok(func) => {
-                let instr = Instr::Call(Call { func });
-                self.take_made(operator, instr, location, false)
-            }
-            Err(error) => self.refuse(operator, location, ParseError::Index(error)),
-        }
-    }
-
-    /// Takes a `global.get`.
-    #[inline(never)]
-    fn take_global_get(
-        &mut self,
-        operator: &Operator<'_>,
-        index: u32,
-        location: InstrLocId,
-    ) -> Result<(), ParseError>
-        requires { operator.now ≡ op.GlobalGet index }
-        ensures step { Steps self.old self.new (meaning operator.now) location result }
-        ensures rest { OnOk result (IsSameBody self.old.context self.new.context) }
-    {
-        match self.context.indices().get_global(index) {
-            Ok(global) => {
-                let instr = Instr::GlobalGet(GlobalGet { global });
-                self.take_made(operator, instr, location, false)
-            }
-            Err(error) => self.refuse(operator, location, ParseError::Index(error)),
-        }
-    }
-
-    /// Takes a `global.set`.
-    #[inline(never)]
-    fn take_global_set(
-        &mut self,
-        operator: &Operator<'_>,
-        index: u32,
-        location: InstrLocId,
-    ) -> Result<(), ParseError>
-        requires { operator.now ≡ op.GlobalSet index }
-        ensures step { Steps self.old self.new (meaning operator.now) location result }
-        ensures rest { OnOk result (IsSameBody self.old.context self.new.context) }
-    {
-        match self.context.indices().get_global(index) {
-            Ok(global) => {
-                let instr = Instr::GlobalSet(GlobalSet { global });
-                self.take_made(operator, instr, location, false)
-            }
-            Err(error) => self.refuse(operator, location, ParseError::Index(error)),
-        }
-    }
-
-    /// Takes a `br_if`.
-    #[inline(never)]
-    fn take_br_if(
-        &mut self,
-        operator: &Operator<'_>,
-        label: u32,
-        location: InstrLocId,
-    ) -> Result<(), ParseError>
-        requires { operator.now ≡ op.BrIf label }
-        ensures step { Steps self.old self.new (meaning operator.now) location result }
-        ensures rest { OnOk result (IsSameBody self.old.context self.new.context) }
-    {
-        match branch_target(&self.context, label) {
-            Ok(block) => self.take_made(operator, Instr::BrIf(BrIf { block }), location, false),
-            Err(error) => self.refuse(operator, location, error),
-        }
-    }
-
     /// Takes the next operator, other than the function's own `end`.
+    #[inline(always)]
     pub fn step(&mut self, operator: &Operator<'_>, location: InstrLocId) -> Result<(), ParseError>
+        requires inside { operator.now ≡ op.End → 1 < length self.old.context.frames }
+        requires writable { IsWritable (meaning operator.now) }
+        ensures step { Steps self.old self.new (meaning operator.now) location result }
+        ensures rest { OnOk result (IsSameBody self.old.context self.new.context) }
+    {
+        if self.step_at_once(operator, location) {
+            return Ok(());
+        }
+        self.step_at_length(operator, location)
+    }
+
+    /// The same for every operator.
+    #[inline(never)]
+    fn step_at_length(
+        &mut self,
+        operator: &Operator<'_>,
+        location: InstrLocId,
+    ) -> Result<(), ParseError>
         requires inside { operator.now ≡ op.End → 1 < length self.old.context.frames }
         requires writable { IsWritable (meaning operator.now) }
         ensures step { Steps self.old self.new (meaning operator.now) location result }
@@ -467,29 +340,6 @@ impl BodyParser<'_> {
             Operator::Delegate { depth } => self.close_delegate(*depth),
             Operator::TryTable { ty, catches } => self.open_try_table(*ty, catches, location),
             Operator::End => self.end_construct(location),
-            Operator::Drop => self.take_made(operator, Instr::Drop, location, false),
-            Operator::I32Const { value } => {
-                self.take_made(operator, constant(Value::I32(*value)), location, false)
-            }
-            Operator::I64Const { value } => {
-                self.take_made(operator, constant(Value::I64(*value)), location, false)
-            }
-            Operator::Unop(op) => {
-                self.take_made(operator, Instr::Unop(Unop { op: *op }), location, false)
-            }
-            Operator::Binop(op) => {
-                self.take_made(operator, Instr::Binop(Binop { op: *op }), location, false)
-            }
-            Operator::Load { kind, memarg } => {
-                self.take_load(operator, *kind, *memarg, location)
-            }
-            Operator::Store { kind, memarg } => {
-                self.take_store(operator, *kind, *memarg, location)
-            }
-            Operator::Call { func } => self.take_call(operator, *func, location),
-            Operator::GlobalGet { global } => self.take_global_get(operator, *global, location),
-            Operator::GlobalSet { global } => self.take_global_set(operator, *global, location),
-            Operator::BrIf { label } => self.take_br_if(operator, *label, location),
             _ => self.take_alone(operator, location),
         }
     }

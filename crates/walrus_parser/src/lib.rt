@@ -1,6 +1,7 @@
 //! Parsing a body: its operators become the sequences of a function.
 #![tactic(auto)]
 
+mod at_once;
 mod body;
 mod body_parser;
 mod check;

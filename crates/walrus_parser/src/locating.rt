@@ -6,6 +6,7 @@ use walrus_ir::InstrLocId;
 
 /// The location of the operator at this place: the one that the function returns. Without a
 /// function it is the place itself, if that is small enough.
+#[inline(always)]
 pub fn location_at<F: Fn(&usize) -> InstrLocId>(
     on_instr_pos: Option<&F>,
     place: usize,

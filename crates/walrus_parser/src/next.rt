@@ -5,7 +5,7 @@ ghost use Rattle.wasm_operators.specs.Meaning.{meaning};
 ghost use Rattle.wasm_encode.specs.Writable.{IsWritable};
 ghost use Rattle.wasm_body.specs.declared.error.ParseError.{ParseError as ParseFault};
 ghost use Rattle.wasm_body.specs.Parsing.Lists.{failure};
-ghost use Rattle.walrus_parser.specs.Checking.{fault_of};
+ghost use Rattle.walrus_parser.specs.Checking.{fault_of, fault_of_refusal};
 ghost use Rattle.walrus_parser.specs.Locating.{MayAsk, Locates};
 ghost use Rattle.walrus_parser.specs.Settings.{has_place, taken};
 
@@ -27,6 +27,25 @@ fn checked(error: CheckError) -> ParseError
     match error {
         CheckError::Refused(number) => ParseError::Checked(number),
         CheckError::Memory => ParseError::Memory,
+    }
+}
+
+/// Why an operator that was read isn't accepted.
+#[derive(Clone, Copy)]
+pub enum Refusal {
+    /// Its place is too great for a location.
+    PlaceTooGreat,
+    /// The validator refuses it.
+    Checked(CheckError),
+}
+
+/// The failure of a parse whose operator at this place isn't accepted.
+pub fn refused(refusal: Refusal, at: usize) -> ParseFailure
+    ensures { result ≡ failure (fault_of_refusal refusal) at }
+{
+    match refusal {
+        Refusal::PlaceTooGreat => failure(ParseError::PlaceTooGreat, at),
+        Refusal::Checked(error) => failure(checked(error), at),
     }
 }
 
@@ -52,7 +71,7 @@ pub fn accepted_at<V: OpCheck, F: Fn(&usize) -> InstrLocId>(
     operator: &Operator<'_>,
     on_instr_pos: Option<&F>,
     validator: &mut V,
-) -> Result<InstrLocId, ParseFailure>
+) -> Result<InstrLocId, Refusal>
     requires { MayAsk F.pre on_instr_pos at (at + 1) }
     ensures ok { IfOk result (λ _. (bytes rest : List ℕ)
         → read_operation bytes ≡ Ok (meaning operator.now, rest)
@@ -63,16 +82,16 @@ pub fn accepted_at<V: OpCheck, F: Fn(&usize) -> InstrLocId>(
           state = V.state validator.new;
         })) }
     ensures located { IfOk result (λ location. Locates F.Fn on_instr_pos.entry at location) }
-    ensures err { IfErr result (λ f. (f.at ≡ at) × ((f.error ≡ ParseFault.Memory)
+    ensures err { IfErr result (λ r. (fault_of_refusal r ≡ ParseFault.Memory)
         ⊎ ((bytes rest : List ℕ) → read_operation bytes ≡ Ok (meaning operator.now, rest)
         → taken (has_place on_instr_pos.entry) V.check (V.state validator.old) at bytes
-        ≡ Err f.error))) }
+        ≡ Err (fault_of_refusal r))) }
 {
     let Some(location) = location_at(on_instr_pos, at) else {
-        return Err(failure(ParseError::PlaceTooGreat, at));
+        return Err(Refusal::PlaceTooGreat);
     };
     match validator.op(at, operator) {
         Ok(()) => Ok(location),
-        Err(error) => Err(failure(checked(error), at)),
+        Err(error) => Err(Refusal::Checked(error)),
     }
 }

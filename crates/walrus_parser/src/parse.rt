@@ -12,8 +12,9 @@ ghost use Rattle.walrus_parser.specs.Bodies.{input_of, operators_input, ParsesOp
 
 use crate::body_parser::BodyParser;
 use crate::check::OpCheck;
-use crate::next::{accepted_at, read_next};
+use crate::next::{accepted_at, read_next, refused};
 use std::alloc::Global;
+use walrus_context::try_push;
 use walrus_ir::{FunctionBuilder, FunctionId, Instr, InstrLocId, Module, TypeId};
 use walrus_maps::IndicesToIds;
 use wasm_body::{ParseError, ParseFailure};
@@ -64,11 +65,10 @@ fn parse_operators<V: OpCheck, F: Fn(&usize) -> InstrLocId>(
         };
         let location = match accepted_at(at, operator, on_instr_pos, &mut validator) {
             Ok(location) => location,
-            Err(failure) => return Err(failure),
+            Err(refusal) => return Err(refused(refusal, at)),
         };
-        match instruction_mapping.push((at - code_offset, location)) {
-            Ok(()) => {}
-            Err(_) => return Err(failure(ParseError::Memory, at)),
+        if !try_push(&mut instruction_mapping, (at - code_offset, location)) {
+            return Err(failure(ParseError::Memory, at));
         }
         if matches!(operator, Operator::End) && parser.is_outermost() {
             if !reader.eof() {

@@ -1,7 +1,5 @@
-use Rattle.std.proofs.Common.{inl, inr, Err, sym, ap, ◌∙◌}
+use Rattle.std.proofs.Common.{inr}
 use Rattle.wasm_operators.specs.Meaning.{meaning}
-use Rattle.wasm_body.specs.declared.error.ParseFailure.{ParseFailure}
-use Rattle.wasm_body.specs.Parsing.Lists.{failure}
 use Rattle.walrus_parser.specs.Locating.{HasNoLocation, Locates}
 use Rattle.walrus_parser.specs.Settings.{has_place}
 use Rattle.walrus_parser.proofs.Taking.{is_taken, is_not_taken_there, is_too_great, located_fits, unlocated_fits}
@@ -10,14 +8,10 @@ use Rattle.walrus_parser.proofs.next.accepted_at.Goals as goal
 pub returns-in_default-clause-err : goal.returns-in_default-clause-err
 returns-in_default-clause-err g c =
     let o = c.args.on_instr_pos in
-    let is = c.failure.ensures in
-    let none : HasNoLocation o c.args.at = c.in_default.ensures in (
-      ap (λ (f : ParseFailure). f.at) is,
-      inr (λ bytes rest read.
-          is_too_great (has_place o) g.V.OpCheck.check (g.V.OpCheck.state c.args.validator.now) c.args.at bytes rest (meaning c.args.operator.now) read
-          (unlocated_fits o c.args.at none)
-          ∙ ap (λ (f : ParseFailure). Err f.error) (sym is)),
-    )
+    let none : HasNoLocation o c.args.at = c.in_default.ensures in
+    inr (λ bytes rest read.
+    is_too_great (has_place o) g.V.OpCheck.check (g.V.OpCheck.state c.args.validator.now) c.args.at bytes rest (meaning c.args.operator.now) read
+    (unlocated_fits o c.args.at none))
 
 pub returns-in-Ok-clause-ok : goal.returns-in-Ok-clause-ok
 returns-in-Ok-clause-ok g c = λ bytes rest read.
@@ -29,12 +23,6 @@ returns-in-Ok-clause-ok g c = λ bytes rest read.
 pub returns-in-Err-clause-err : goal.returns-in-Err-clause-err
 returns-in-Err-clause-err g c =
     let o = c.args.on_instr_pos in
-    let is = c.failure-in-Err.ensures ∙ ap (λ e. failure e c.args.at) c.checked.ensures in
-    let located : Locates g.F.Fn o c.args.at c.in-Some.location = c.in-Some.ensures in (
-      ap (λ (f : ParseFailure). f.at) is,
-      elim (is_not_taken_there (has_place o) g.V.OpCheck.check (g.V.OpCheck.state c.args.validator.now) c.args.at (meaning c.args.operator.now) c.in-Err.error (g.V.OpCheck.state c.op.new.self)
-          (located_fits g.F.Fn o c.args.at c.in-Some.location located) c.in-Err.ensures) [
-            | inl memory ↦ inl (ap (λ (f : ParseFailure). f.error) is ∙ memory)
-            | inr refused ↦ inr (λ bytes rest read. refused bytes rest read ∙ ap (λ (f : ParseFailure). Err f.error) (sym is))
-          ],
-    )
+    let located : Locates g.F.Fn o c.args.at c.in-Some.location = c.in-Some.ensures in
+    is_not_taken_there (has_place o) g.V.OpCheck.check (g.V.OpCheck.state c.args.validator.now) c.args.at (meaning c.args.operator.now) c.in-Err.error (g.V.OpCheck.state c.op.new.self)
+    (located_fits g.F.Fn o c.args.at c.in-Some.location located) c.in-Err.ensures

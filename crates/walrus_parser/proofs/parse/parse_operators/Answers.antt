@@ -18,6 +18,7 @@ use Rattle.walrus_parser.specs.BodyParsers.{state_of}
 use Rattle.walrus_parser.specs.Bodies.{operators_input}
 use Rattle.walrus_context.specs.OpenTrees.{env_of}
 use Rattle.walrus_parser.specs.Settings.{has_place, taken}
+use Rattle.walrus_parser.specs.Checking.{fault_of_refusal}
 use Rattle.walrus_parser.specs.Locating.{MayAsk, Locates}
 use Rattle.walrus_parser.proofs.Taking.{is_not_read}
 use Rattle.wasm_body.specs.Naming.{Environment}
@@ -62,16 +63,16 @@ returns-in-Err-accepted_at g c =
     let next = c.read_next-read.new.reader in
     let some : 0 < length now.rest = search rules in
     let state = g.V.OpCheck.state c.loop-reader.validator in
-    let f = c.in-Err-accepted_at.failure in
-    let told = c.in-Err-accepted_at.ensures.err in
+    let e = fault_of_refusal c.in-Err-accepted_at.refusal in
+    let is_refused = c.refused.ensures in
     let op = c.in-Ok.operator in
     let at_is = c.original_position-at.ensures in
     let answer : read_operation now.rest ≡ Ok (meaning op, next.rest) = IfOk-at_ok (λ x. read_operation now.rest ≡ Ok (meaning x, next.rest)) c.in-Ok.is c.read_next-read.ensures.answer in
-    elim told.1 [
-      | inl is ↦ inl is
-      | inr is ↦ inr (unread g.F.Fn i c.requires.offset c.loop-reader.parser state now.place now.rest c.loop-reader.instruction_mapping.items f.error f c.loop-reader.invariant some
-          (subst (λ p. taken (has_place a.on_instr_pos) g.V.OpCheck.check state p now.rest ≡ Err f.error) at_is (is now.rest next.rest answer))
-          (ap (λ at. failure f.error at) (told.0 ∙ at_is)))
+    elim c.in-Err-accepted_at.ensures.err [
+      | inl is ↦ inl (ap (λ (h : ParseFailure). h.error) is_refused ∙ is)
+      | inr is ↦ inr (unread g.F.Fn i c.requires.offset c.loop-reader.parser state now.place now.rest c.loop-reader.instruction_mapping.items e c.refused.result c.loop-reader.invariant some
+          (subst (λ p. taken (has_place a.on_instr_pos) g.V.OpCheck.check state p now.rest ≡ Err e) at_is (is now.rest next.rest answer))
+          (is_refused ∙ ap (failure e) at_is))
     ]
 
 pub returns : goal.returns
@@ -108,10 +109,10 @@ returns-then-not-eof g c =
     let top = no_layers p f.layers f.sequence f.keeps alone in
     let take : taken (has_place a.on_instr_pos) g.V.OpCheck.check state now.place now.rest ≡ Ok (record { spelt = end_operation; rest = next.rest; state = then }) =
     reads ∙ ap (λ o. Ok (record { spelt = meaning o; rest = next.rest; state = then })) is in
-    let pushed : c.push.new.self.items ≡ m ++ (now.place - a.code_offset, c.in-Ok-accepted_at.location) ∷ [] =
-    c.in-Ok-push.ensures.items ∙ ap (λ at. m ++ (at - a.code_offset, c.in-Ok-accepted_at.location) ∷ []) c.original_position-at.ensures in
-    let whole = over_end g.F.Fn i c.requires.offset p state then now.place next.place now.rest next.rest m c.push.new.self.items c.in-Ok-accepted_at.location f top take located moves.0 moves.1 pushed in
-    inr (goes_past g.F.Fn i c.requires.offset _ then next.place next.rest c.push.new.self.items c.failure-then-not-eof.result whole more (c.failure-then-not-eof.ensures ∙ ap (failure Trailing) c.original_position.ensures))
+    let pushed : c.try_push.new.list.items ≡ m ++ (now.place - a.code_offset, c.in-Ok-accepted_at.location) ∷ [] =
+    c.try_push.ensures.done c.if-not-try_push.false ∙ ap (λ at. m ++ (at - a.code_offset, c.in-Ok-accepted_at.location) ∷ []) c.original_position-at.ensures in
+    let whole = over_end g.F.Fn i c.requires.offset p state then now.place next.place now.rest next.rest m c.try_push.new.list.items c.in-Ok-accepted_at.location f top take located moves.0 moves.1 pushed in
+    inr (goes_past g.F.Fn i c.requires.offset _ then next.place next.rest c.try_push.new.list.items c.failure-then-not-eof.result whole more (c.failure-then-not-eof.ensures ∙ ap (failure Trailing) c.original_position.ensures))
 
 pub loop-reader-smaller : goal.loop-reader-smaller
 loop-reader-smaller g c =
@@ -145,14 +146,14 @@ loop-reader-preserved g c =
     subst (λ p. taken (has_place a.on_instr_pos) g.V.OpCheck.check state p now.rest ≡ Ok (record { spelt = meaning op; rest = next.rest; state = then })) at_is (c.in-Ok-accepted_at.ensures.ok now.rest next.rest answer) in
     let located : Locates g.F.Fn a.on_instr_pos now.place c.in-Ok-accepted_at.location = subst (λ p. Locates g.F.Fn a.on_instr_pos p c.in-Ok-accepted_at.location) at_is c.in-Ok-accepted_at.ensures.located in
     let o = meaning op in
-    let pushed : c.push.new.self.items ≡ m ++ (now.place - a.code_offset, c.in-Ok-accepted_at.location) ∷ [] =
-    c.in-Ok-push.ensures.items ∙ ap (λ at. m ++ (at - a.code_offset, c.in-Ok-accepted_at.location) ∷ []) c.original_position-at.ensures in
+    let pushed : c.try_push.new.list.items ≡ m ++ (now.place - a.code_offset, c.in-Ok-accepted_at.location) ∷ [] =
+    c.try_push.ensures.done c.if-not-try_push.false ∙ ap (λ at. m ++ (at - a.code_offset, c.in-Ok-accepted_at.location) ∷ []) c.original_position-at.ensures in
     let advances = c.in-Ok-step.ensures.step f.layers f.sequence now.place f.keeps in
     let same = c.in-Ok-step.ensures.rest in
-    let reads = over_next g.F.Fn i c.requires.offset p state then now.place next.place now.rest next.rest m c.push.new.self.items o c.in-Ok-accepted_at.location advances.named f taking located advances.is_named
+    let reads = over_next g.F.Fn i c.requires.offset p state then now.place next.place now.rest next.rest m c.try_push.new.list.items o c.in-Ok-accepted_at.location advances.named f taking located advances.is_named
     moves.0 moves.1 pushed in
     let more = further (Within f.layers f.sequence) (mark (occurrence o now.place c.in-Ok-accepted_at.location advances.named)) in
-    goes_on g.F.Fn i q more then next.place next.rest c.push.new.self.items (same.env ∙ f.env_is) (same.entry ∙ f.entry) (subst (λ e. KeepsProgress e (state_of q) more) (sym same.env) advances.keeps) reads
+    goes_on g.F.Fn i q more then next.place next.rest c.try_push.new.list.items (same.env ∙ f.env_is) (same.entry ∙ f.entry) (subst (λ e. KeepsProgress e (state_of q) more) (sym same.env) advances.keeps) reads
 
 pub returns-in-Err-step : goal.returns-in-Err-step
 returns-in-Err-step g c =
@@ -204,21 +205,21 @@ returns-in-Ok-finish g c =
     let top = no_layers p f.layers f.sequence f.keeps alone in
     let take : taken (has_place a.on_instr_pos) g.V.OpCheck.check state now.place now.rest ≡ Ok (record { spelt = end_operation; rest = next.rest; state = then }) =
     reads ∙ ap (λ o. Ok (record { spelt = meaning o; rest = next.rest; state = then })) is in
-    let pushed : c.push.new.self.items ≡ m ++ (now.place - a.code_offset, c.in-Ok-accepted_at.location) ∷ [] =
-    c.in-Ok-push.ensures.items ∙ ap (λ at. m ++ (at - a.code_offset, c.in-Ok-accepted_at.location) ∷ []) c.original_position-at.ensures in
-    let whole = over_end g.F.Fn i c.requires.offset p state then now.place next.place now.rest next.rest m c.push.new.self.items c.in-Ok-accepted_at.location f top take located moves.0 moves.1 pushed in
+    let pushed : c.try_push.new.list.items ≡ m ++ (now.place - a.code_offset, c.in-Ok-accepted_at.location) ∷ [] =
+    c.try_push.ensures.done c.if-not-try_push.false ∙ ap (λ at. m ++ (at - a.code_offset, c.in-Ok-accepted_at.location) ∷ []) c.original_position-at.ensures in
+    let whole = over_end g.F.Fn i c.requires.offset p state then now.place next.place now.rest next.rest m c.try_push.new.list.items c.in-Ok-accepted_at.location f top take located moves.0 moves.1 pushed in
     let b = body_at f.sequence now.place c.in-Ok-accepted_at.location in
     let done = c.in-Ok-finish.ensures.ok in
     record {
       body = b;
-      is_parsed = is_whole g.F.Fn i c.requires.offset b then next.place next.rest c.push.new.self.items whole last;
+      is_parsed = is_whole g.F.Fn i c.requires.offset b then next.place next.rest c.try_push.new.list.items whole last;
       type = done.type ∙ ap (λ (e : Environment). e.type) f.env_is;
       is_function = record {
         entry = done.entry ∙ f.entry;
         holds = subst (λ e. HasTree c.in-Ok-finish.builder.sequences 0 (normal_form (typing_of e) (named_body b))) f.env_is
             (done.holds f.sequence b.close refl (subst (λ ls. Keeps (env_of p.context) (state_of p) ls f.sequence) top f.keeps));
       };
-      is_mapping = whole_mapping g.F.Fn i c.requires.offset b then next.place next.rest c.push.new.self.items whole;
+      is_mapping = whole_mapping g.F.Fn i c.requires.offset b then next.place next.rest c.try_push.new.list.items whole;
     }
 
 pub returns-in-Err-finish : goal.returns-in-Err-finish

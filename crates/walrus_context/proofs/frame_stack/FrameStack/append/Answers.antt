@@ -1,10 +1,10 @@
-use Rattle.std.proofs.Common.{◌≡◌, ◌<◌, ◌+◌, ◌++◌, ◌∷◌, [], length, Some, slice_get, suc, refl, ap, sym, subst, ◌∙◌, arith, inr, cond}
+use Rattle.std.proofs.Common.{◌≡◌, ◌<◌, ◌+◌, ◌∷◌, [], length, Some, suc, refl, ap, sym, subst, ◌∙◌, arith, inr}
 use Rattle.std.proofs.lemmas.Option.{slice_get-get_or}
 use Rattle.std.proofs.lemmas.List.{length-append}
 use Rattle.walrus_ir.specs.Unfolding.{LocatedInstr}
 use Rattle.walrus_context.specs.FrameStacks.{frames_in, moved_from, StartFrom}
-use Rattle.walrus_context.specs.OpenFrames.{frame_with, with_instr, changed_at, InnerAreEmpty}
-use Rattle.walrus_context.proofs.FrameStacks.{count, get, unchanged_at, behind_at_end, starts_moved, appended}
+use Rattle.walrus_context.specs.OpenFrames.{with_instr, changed_at, ChangesAt, InnerAreEmpty}
+use Rattle.walrus_context.proofs.FrameStacks.{count, behind_at_end, starts_moved, appended, dropped_at}
 use Rattle.walrus_context.proofs.frame_stack.FrameStack.append.Goals as goal
 
 pub returns-in_default-clause-err : goal.returns-in_default-clause-err
@@ -17,19 +17,14 @@ returns-in_default-clause-err c =
 pub returns-then-index-clause-ok : goal.returns-then-index-clause-ok
 returns-then-index-clause-ok c =
     let inside = c.self.inside in
-    let long = ap length (sym c.self.view_is) ∙ count inside.instrs.items [] inside.controls.items in
+    let cs = inside.controls.items in
+    let x : LocatedInstr = (c.args.instr, c.args.location) in
     let i = c.in-Some.index in
     let f = c.index.result.now in
     let is = c.in-Some.ensures in
-    let within : i < length inside.controls.items = omega arith in
-    let at = slice_get-get_or inside.controls.items i f within ∙ ap Some (sym c.index.ensures) in
-    let found = get inside.instrs.items [] inside.controls.items i c.args.n f is at in
-    let frame = frame_with f found.0 in
-    let here : slice_get c.args.self.now c.args.n ≡ Some frame = ap (λ fs. slice_get fs c.args.n) (sym c.self.view_is) ∙ found.1 in (
-      omega arith,
-      sym (unchanged_at (with_instr (c.args.instr, c.args.location)) c.args.self.now c.args.n frame here
-          (ap (λ d. record frame { instrs = cond d found.0 (found.0 ++ (c.args.instr, c.args.location) ∷ []) }) c.if-index.true)),
-    )
+    let within : i < length cs = omega arith in
+    let at = slice_get-get_or cs i f within ∙ ap Some (sym c.index.ensures) in
+    subst (λ fs. ChangesAt c.args.n (with_instr x) fs fs) c.self.view_is (dropped_at inside.instrs.items cs i c.args.n f x is at c.if-index.true)
 
 pub move_starts-requires-clause-fit : goal.move_starts-requires-clause-fit
 move_starts-requires-clause-fit c =
