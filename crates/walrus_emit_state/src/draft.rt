@@ -1,16 +1,59 @@
 //! Bytes and location pairs that are written aside.
-ghost use Rattle.std.specs.Prelude.{◌≡◌, ◌<◌, ◌^◌, ◌++◌, [], OnOk, OnErr, IfErr};
+ghost use Rattle.std.specs.Prelude.{◌≡◌, ◌<◌, ◌≤◌, ◌+◌, ◌^◌, ◌++◌, ◌∷◌, [], vec_len, vec_capacity, OnOk, OnErr, IfErr};
+ghost use Rattle.std.specs.Bool.{OnTrue, OnFalse};
+ghost use Rattle.wasm_operators.specs.AccessOperations.{access_of};
 ghost use Rattle.wasm_operators.specs.Meaning.{meaning};
+ghost use Rattle.wasm_operators.specs.Shortest.{short_number, short_integer, short_access};
 ghost use Rattle.wasm_encode.specs.Writable.{IsWritable};
 ghost use Rattle.wasm_body.specs.Translation.{at_location};
 ghost use Rattle.wasm_body.specs.declared.error.EmitError.TheVariants.{Memory};
-ghost use Rattle.walrus_emit_state.specs.TreeWriting.Drafts.{behind};
+ghost use Rattle.walrus_emit_state.specs.Emission.{pairs_behind};
+ghost use Rattle.walrus_emit_state.specs.TreeWriting.Drafts.{behind, with_bytes};
 
+use crate::putting::{put_byte, put_integer, put_memarg, put_number};
 use std::alloc::{AllocError, Global};
 use std::marker::Model;
 use walrus_ir::InstrLocId;
 use wasm_body::EmitError;
 use wasm_encode::{FunctionEncoder, OutOp, write_op};
+use wasm_operators::RawMemArg;
+
+/// How many bytes an operator takes at most that is an opcode of one byte and a number, an integer
+/// or a memory argument.
+const ROOM: usize = 31;
+
+/// Reserves room for such an operator, and appends its pair if pairs are kept. Returns whether it
+/// did. Otherwise both lists are unchanged.
+#[inline(always)]
+fn begin(
+    bytes: &mut Vec<u8>,
+    pairs: &mut Vec<(InstrLocId, usize)>,
+    has_map: bool,
+    base: usize,
+    location: InstrLocId,
+) -> bool
+    requires { base < 2 ^ 63 }
+    ensures bytes { bytes.new.items ≡ bytes.old.items }
+    ensures room { OnTrue result (vec_len bytes.new + 31 ≤ vec_capacity bytes.new) }
+    ensures pair { OnTrue result (pairs.new.items ≡ pairs_behind has_map base
+        (record { bytes = bytes.old.items; pairs = pairs.old.items }) location) }
+    ensures kept { OnFalse result (pairs.new.items ≡ pairs.old.items) }
+{
+    match bytes.reserve(ROOM) {
+        Ok(()) => {}
+        Err(_) => return false,
+    }
+    if !has_map {
+        return true;
+    }
+    match pairs.reserve(1) {
+        Ok(()) => {}
+        Err(_) => return false,
+    }
+    let place = base + bytes.len();
+    pairs.push_reserved((location, place));
+    true
+}
 
 /// What is written after so many bytes of others, fewer than 2^63, and handed over whole: bytes, and
 /// for each operator its location and its place, where these are asked for. A contract sees both
@@ -56,9 +99,95 @@ impl Draft {
         }
     }
 
-    /// Writes an operator at a location. Where memory runs out all is as before.
+    /// Writes an operator that is one byte, at a location. Returns whether it did; if not, memory ran
+    /// out, and the draft is unchanged.
     #[inline(always)]
-    pub fn write(&mut self, op: &OutOp, location: InstrLocId) -> Result<(), EmitError>
+    pub fn write_byte(&mut self, byte: u8, location: InstrLocId) -> bool
+        ensures done { OnTrue result (self.new ≡ with_bytes self.old (byte ∷ []) location) }
+        ensures kept { OnFalse result (self.new ≡ self.old) }
+    {
+        if !begin(
+            &mut self.bytes,
+            &mut self.pairs,
+            self.has_map,
+            self.base,
+            location,
+        ) {
+            return false;
+        }
+        put_byte(&mut self.bytes, byte);
+        true
+    }
+
+    /// Writes an operator that is a byte and a number, as `write_byte`.
+    #[inline(always)]
+    #[tactic(auto, using(std::proofs::Common::append_assoc))]
+    pub fn write_number(&mut self, byte: u8, number: u32, location: InstrLocId) -> bool
+        ensures done { OnTrue result
+            (self.new ≡ with_bytes self.old (byte ∷ short_number number) location) }
+        ensures kept { OnFalse result (self.new ≡ self.old) }
+    {
+        if !begin(
+            &mut self.bytes,
+            &mut self.pairs,
+            self.has_map,
+            self.base,
+            location,
+        ) {
+            return false;
+        }
+        put_byte(&mut self.bytes, byte);
+        put_number(&mut self.bytes, number as u64);
+        true
+    }
+
+    /// Writes an operator that is a byte and an integer, as `write_byte`.
+    #[inline(always)]
+    #[tactic(auto, using(std::proofs::Common::append_assoc))]
+    pub fn write_integer(&mut self, byte: u8, value: i64, location: InstrLocId) -> bool
+        ensures done { OnTrue result
+            (self.new ≡ with_bytes self.old (byte ∷ short_integer value) location) }
+        ensures kept { OnFalse result (self.new ≡ self.old) }
+    {
+        if !begin(
+            &mut self.bytes,
+            &mut self.pairs,
+            self.has_map,
+            self.base,
+            location,
+        ) {
+            return false;
+        }
+        put_byte(&mut self.bytes, byte);
+        put_integer(&mut self.bytes, value);
+        true
+    }
+
+    /// Writes an operator that is a byte and a memory argument, as `write_byte`.
+    #[inline(always)]
+    #[tactic(auto, using(std::proofs::Common::append_assoc))]
+    pub fn write_access(&mut self, byte: u8, memarg: RawMemArg, location: InstrLocId) -> bool
+        ensures done { OnTrue result
+            (self.new ≡ with_bytes self.old (byte ∷ short_access (access_of memarg)) location) }
+        ensures kept { OnFalse result (self.new ≡ self.old) }
+    {
+        if !begin(
+            &mut self.bytes,
+            &mut self.pairs,
+            self.has_map,
+            self.base,
+            location,
+        ) {
+            return false;
+        }
+        put_byte(&mut self.bytes, byte);
+        put_memarg(&mut self.bytes, memarg);
+        true
+    }
+
+    /// Writes an operator of any kind, at a location. Where memory runs out all is as before.
+    #[inline(never)]
+    pub fn write_any(&mut self, op: &OutOp, location: InstrLocId) -> Result<(), EmitError>
         requires { IsWritable (meaning op.now) }
         ensures ok { OnOk result
             (self.new ≡ behind self.old (at_location (meaning op.now) location)) }
@@ -74,18 +203,6 @@ impl Draft {
         write_op(op, &mut self.bytes)?;
         self.pairs.push((location, place)).unwrap();
         Ok(())
-    }
-
-    /// Writes an operator of any kind, as `write`.
-    #[inline(never)]
-    pub fn write_any(&mut self, op: &OutOp, location: InstrLocId) -> Result<(), EmitError>
-        requires { IsWritable (meaning op.now) }
-        ensures ok { OnOk result
-            (self.new ≡ behind self.old (at_location (meaning op.now) location)) }
-        ensures err { IfErr result (λ e. e ≡ Memory) }
-        ensures kept { OnErr result (self.new ≡ self.old) }
-    {
-        self.write(op, location)
     }
 
     /// Appends what is written, the pairs where they are asked for. Where memory runs out both are

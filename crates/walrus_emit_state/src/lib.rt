@@ -8,6 +8,7 @@ mod closing;
 mod draft;
 mod labels;
 mod open_scopes;
+mod putting;
 mod try_tables;
 
 pub use announcing::announce;

@@ -50,6 +50,7 @@ impl Model for Scopes {
 
 /// A depth or a number of labels, as it is written. The error is `TooLarge` if it doesn't fit 32
 /// bits.
+#[inline(always)]
 pub(crate) fn in_32_bits(number: usize) -> Result<u32, EmitError>
     ensures { result ≡ in_32_bits number }
 {
@@ -78,6 +79,7 @@ impl Scopes {
     ///
     /// `BranchOutside` if no open sequence is in this slot, and `TooLarge` if the depth doesn't fit
     /// 32 bits.
+    #[inline(always)]
     pub fn depth(&self, place: InstrSeqId) -> Result<u32, EmitError>
         ensures { result ≡ depth_in (places_of self.now.open_scopes) place }
     {

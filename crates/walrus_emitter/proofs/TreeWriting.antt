@@ -1,3 +1,5 @@
 -- Writing a function's tree.
+pub mod Lanes
 pub mod Steps
+pub mod Spelled
 pub mod Trees

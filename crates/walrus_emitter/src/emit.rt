@@ -1,36 +1,45 @@
 //! Writing a function's tree.
 ghost use Rattle.std.specs.Prelude.{◌≡◌, ◌∷◌, [], ◌<◌, ◌^◌, length, None, Ok, OnOk, OnErr, IfOk, IfErr};
 ghost use Rattle.walrus_ir.specs.declared.val_type.InstrSeqType.TheVariants.{Simple};
+ghost use Rattle.std.specs.Bool.{OnTrue, OnFalse};
 ghost use Rattle.walrus_ir.specs.declared.instr.Instr.TheVariants as instruction;
 ghost use Rattle.walrus_ir.specs.Unfolding.{slots_in};
+ghost use Rattle.wasm_operators.specs.declared.types.Opcode.TheVariants as opcodes;
+ghost use Rattle.wasm_operators.specs.declared.types.Space.TheVariants.{Funcs, Globals};
+ghost use Rattle.wasm_operators.specs.Operations.{operation, index as index_immediate, local as local_immediate, label as label_immediate, access as access_immediate, i32 as i32_immediate, i64 as i64_immediate};
 ghost use Rattle.walrus_emit_state.specs.Emission.{first_type_at};
-ghost use Rattle.wasm_body.specs.InstructionTable.{clauses_of_try};
+ghost use Rattle.wasm_body.specs.Bytes.{Numbers};
+ghost use Rattle.wasm_body.specs.InstructionTable.{operation_of, access_at, clauses_of_try};
 ghost use Rattle.wasm_body.specs.FlatText.{are_lawful as lawful_clauses};
-ghost use Rattle.walrus_emit_state.specs.TreeWriting.Closers.{places_of};
 ghost use Rattle.walrus_numbering.specs.NumberMaps.{numbers_of};
-ghost use Rattle.walrus_operators.specs.TreeWriting.Operators.{IsOperatorOf};
+ghost use Rattle.walrus_numbering.specs.NumberTables.{HasNumbers};
 ghost use Rattle.walrus_emitter.specs.TreeWriting.Trees.{IsFirstScope, IsDraftOf, IsUnwritten, Appends, AppendsBytes};
 ghost use Rattle.walrus_emitter.specs.TreeWriting.Emitters.{ClosesWith, IsFaultOfCloser};
 
 use std::alloc::AllocError;
 use walrus_emit_state::{Closer, Draft, Scopes, announce, are_lawful};
 use walrus_ir::{
-    Call, DataId, FunctionBuilder, GlobalGet, GlobalSet, Instr, InstrLocId, InstrSeq, InstrSeqId,
-    InstrSeqType, Load, LocalId, RefFunc, Store, Value, Visitor, dfs_in_order,
+    Binop, Const, DataId, FunctionBuilder, FunctionId, GlobalId, Instr, InstrLocId, InstrSeq,
+    InstrSeqId, InstrSeqType, LocalId, MemArg, MemoryId, RefFunc, Unop, Value, Visitor,
+    dfs_in_order,
 };
-use walrus_numbering::{NumberMaps, memory_argument};
+use walrus_numbering::{NumberMaps, memory_argument, number_at, number_table};
 use walrus_operators::{Lists, closing_operator, operator_of};
 use wasm_body::EmitError;
-use wasm_encode::{FunctionEncoder, OutOp};
+use wasm_encode::FunctionEncoder;
+use wasm_operators::{Opcode, binary_opcode, load_opcode, store_opcode, unary_opcode};
 
 /// Writes the operators of the events that it visits, aside.
 #[derive(Drop)]
 pub(crate) struct EmitVisitor<'a> {
     builder: &'a FunctionBuilder,
     numbers: NumberMaps<'a>,
+    /// The numbers of the locals with the first ids, by id.
+    locals: Vec<Option<u32>>,
     scopes: Scopes,
     draft: Draft,
     ghost as_many: { scopes.count ≡ length builder.now.sequences },
+    ghost has_numbers: { HasNumbers numbers.locals.now.entries locals.items },
 }
 
 /// The type of the sequence in a slot.
@@ -68,8 +77,23 @@ fn has_lawful_clauses(instr: &Instr) -> bool
     }
 }
 
-/// Writes the operator that closes a sequence, if there is one.
-fn write_closer(
+/// Writes an `end` or an `else` that closes a sequence, and returns whether it did. Otherwise nothing
+/// is changed.
+#[inline(always)]
+fn write_common_closer(draft: &mut Draft, closer: &Option<(Closer, InstrLocId)>) -> bool
+    ensures done { OnTrue result ((to : Numbers) → ClosesWith to closer.now draft.old draft.new) }
+    ensures kept { OnFalse result (draft.new ≡ draft.old) }
+{
+    match closer {
+        Some((Closer::End, location)) => draft.write_byte(0x0b, *location),
+        Some((Closer::Else, location)) => draft.write_byte(0x05, *location),
+        _ => false,
+    }
+}
+
+/// Writes the operator that closes a sequence, if there is one, of any kind.
+#[inline(never)]
+fn write_any_closer(
     draft: &mut Draft,
     closer: Option<(Closer, InstrLocId)>,
     numbers: &NumberMaps<'_>,
@@ -87,31 +111,227 @@ fn write_closer(
     }
 }
 
+/// Writes the operator that closes a sequence, if there is one.
+#[inline(always)]
+fn write_closer(
+    draft: &mut Draft,
+    closer: Option<(Closer, InstrLocId)>,
+    numbers: &NumberMaps<'_>,
+) -> Result<(), EmitError>
+    ensures ok { OnOk result (ClosesWith (numbers_of numbers.now) closer draft.old draft.new) }
+    ensures err { IfErr result (IsFaultOfCloser (numbers_of numbers.now) closer draft.old) }
+    ensures kept { OnErr result (draft.new ≡ draft.old) }
+{
+    if write_common_closer(draft, &closer) {
+        return Ok(());
+    }
+    write_any_closer(draft, closer, numbers)
+}
+
 impl<'a> EmitVisitor<'a> {
     ghost use Rattle.walrus_ir.specs.Events.{VisitInstruction};
     ghost use Rattle.walrus_emitter.specs.TreeWriting.Visiting.{Steps, Refuses, Same, HasOnlyMore};
 
-    /// Writes an instruction without sequences, which has this operator.
+    /// Writes an instruction that is one byte, and returns whether it did. If not, memory ran out,
+    /// and nothing is changed.
     #[inline(always)]
-    fn write_plain(
+    fn write_byte(&mut self, instr: &Instr, byte: u8, location: InstrLocId) -> bool
+        requires plain { slots_in instr.now ≡ [] }
+        requires row { operation_of instr.now ≡ operation (opcodes.Byte byte) [] }
+        ensures done { OnTrue result (Steps self.old (VisitInstruction instr.now location) self.new) }
+        ensures kept { OnFalse result (Same self.old self.new) }
+    {
+        self.draft.write_byte(byte, location)
+    }
+
+    /// Writes an operator of one operand if it is one byte, as `write_byte`.
+    #[inline(always)]
+    fn write_unary(&mut self, instr: &Instr, unop: &Unop, location: InstrLocId) -> bool
+        requires { instr.now ≡ instruction.Unop unop.now }
+        ensures done { OnTrue result (Steps self.old (VisitInstruction instr.now location) self.new) }
+        ensures kept { OnFalse result (Same self.old self.new) }
+    {
+        match unary_opcode(unop.op) {
+            Opcode::Byte(byte) => self.write_byte(instr, byte, location),
+            Opcode::Prefixed(_, _) => false,
+        }
+    }
+
+    /// Writes an operator of two operands if it is one byte, as `write_byte`.
+    #[inline(always)]
+    fn write_binary(&mut self, instr: &Instr, binop: &Binop, location: InstrLocId) -> bool
+        requires { instr.now ≡ instruction.Binop binop.now }
+        ensures done { OnTrue result (Steps self.old (VisitInstruction instr.now location) self.new) }
+        ensures kept { OnFalse result (Same self.old self.new) }
+    {
+        match binary_opcode(binop.op) {
+            Opcode::Byte(byte) => self.write_byte(instr, byte, location),
+            Opcode::Prefixed(_, _) => false,
+        }
+    }
+
+    /// Writes a constant if it is an integer, as `write_byte`.
+    #[inline(always)]
+    fn write_constant(&mut self, instr: &Instr, constant: &Const, location: InstrLocId) -> bool
+        requires { instr.now ≡ instruction.Const constant.now }
+        ensures done { OnTrue result (Steps self.old (VisitInstruction instr.now location) self.new) }
+        ensures kept { OnFalse result (Same self.old self.new) }
+    {
+        match constant.value {
+            Value::I32(value) => {
+                let wide = i64::from(value);
+                self.draft.write_integer(0x41, wide, location)
+            }
+            Value::I64(value) => self.draft.write_integer(0x42, value, location),
+            _ => false,
+        }
+    }
+
+    /// Writes an instruction that is a byte and a local, and returns whether it did. Otherwise
+    /// nothing is changed: the table has no number for the local, or memory ran out.
+    #[inline(always)]
+    fn write_local(&mut self, instr: &Instr, byte: u8, local: LocalId, location: InstrLocId) -> bool
+        requires plain { slots_in instr.now ≡ [] }
+        requires row { operation_of instr.now
+            ≡ operation (opcodes.Byte byte) (local_immediate local ∷ []) }
+        ensures done { OnTrue result (Steps self.old (VisitInstruction instr.now location) self.new) }
+        ensures kept { OnFalse result (Same self.old self.new) }
+    {
+        match number_at(&self.locals, local) {
+            Some(number) => self.draft.write_number(byte, number, location),
+            None => false,
+        }
+    }
+
+    /// Writes an instruction that is a byte and a function, and returns whether it did. Otherwise
+    /// nothing is changed: the function has no number, or memory ran out.
+    #[inline(always)]
+    fn write_func(
         &mut self,
         instr: &Instr,
-        op: &OutOp<'_>,
+        byte: u8,
+        func: FunctionId,
         location: InstrLocId,
-    ) -> Result<(), EmitError>
+    ) -> bool
         requires plain { slots_in instr.now ≡ [] }
-        requires operator { IsOperatorOf (numbers_of self.old.numbers)
-            (places_of self.old.scopes.open_scopes) (Simple None) instr.now (Ok op.now) }
-        ensures ok { OnOk result (Steps self.old (VisitInstruction instr.now location) self.new) }
-        ensures err { IfErr result (Refuses self.old (VisitInstruction instr.now location)) }
-        ensures kept { OnErr result (Same self.old self.new) }
+        requires row { operation_of instr.now
+            ≡ operation (opcodes.Byte byte) (index_immediate Funcs func ∷ []) }
+        ensures done { OnTrue result (Steps self.old (VisitInstruction instr.now location) self.new) }
+        ensures kept { OnFalse result (Same self.old self.new) }
     {
-        self.draft.write(op, location)
+        match self.numbers.ids.get_func_index(func) {
+            Ok(number) => self.draft.write_number(byte, number, location),
+            Err(_) => false,
+        }
+    }
+
+    /// Writes an instruction that is a byte and a global, as `write_func`.
+    #[inline(always)]
+    fn write_global(
+        &mut self,
+        instr: &Instr,
+        byte: u8,
+        global: GlobalId,
+        location: InstrLocId,
+    ) -> bool
+        requires plain { slots_in instr.now ≡ [] }
+        requires row { operation_of instr.now
+            ≡ operation (opcodes.Byte byte) (index_immediate Globals global ∷ []) }
+        ensures done { OnTrue result (Steps self.old (VisitInstruction instr.now location) self.new) }
+        ensures kept { OnFalse result (Same self.old self.new) }
+    {
+        match self.numbers.ids.get_global_index(global) {
+            Ok(number) => self.draft.write_number(byte, number, location),
+            Err(_) => false,
+        }
+    }
+
+    /// Writes an instruction that is a byte and a label, and returns whether it did. Otherwise
+    /// nothing is changed: the label has no depth, or memory ran out.
+    #[inline(always)]
+    fn write_branch(
+        &mut self,
+        instr: &Instr,
+        byte: u8,
+        block: InstrSeqId,
+        location: InstrLocId,
+    ) -> bool
+        requires plain { slots_in instr.now ≡ [] }
+        requires row { operation_of instr.now
+            ≡ operation (opcodes.Byte byte) (label_immediate block ∷ []) }
+        ensures done { OnTrue result (Steps self.old (VisitInstruction instr.now location) self.new) }
+        ensures kept { OnFalse result (Same self.old self.new) }
+    {
+        match self.scopes.depth(block) {
+            Ok(depth) => self.draft.write_number(byte, depth, location),
+            Err(_) => false,
+        }
+    }
+
+    /// Writes an instruction that is an opcode and an access to memory, and returns whether it did.
+    /// Otherwise nothing is changed: the opcode isn't one byte, the memory has no number, or memory
+    /// ran out.
+    #[inline(always)]
+    fn write_access(
+        &mut self,
+        instr: &Instr,
+        opcode: Opcode,
+        arg: MemArg,
+        memory: MemoryId,
+        location: InstrLocId,
+    ) -> bool
+        requires plain { slots_in instr.now ≡ [] }
+        requires row { operation_of instr.now
+            ≡ operation opcode (access_immediate (access_at memory arg) ∷ []) }
+        ensures done { OnTrue result (Steps self.old (VisitInstruction instr.now location) self.new) }
+        ensures kept { OnFalse result (Same self.old self.new) }
+    {
+        let Opcode::Byte(byte) = opcode else {
+            return false;
+        };
+        match self.numbers.ids.get_memory_index(memory) {
+            Ok(number) => {
+                let memarg = memory_argument(arg, number);
+                self.draft.write_access(byte, memarg, location)
+            }
+            Err(_) => false,
+        }
+    }
+
+    /// Writes an instruction of a common kind, and returns whether it did. Otherwise nothing is
+    /// changed, and `visit_at_length` finds out why.
+    #[inline(always)]
+    fn write_common(&mut self, instr: &Instr, location: InstrLocId) -> bool
+        ensures done { OnTrue result (Steps self.old (VisitInstruction instr.now location) self.new) }
+        ensures kept { OnFalse result (Same self.old self.new) }
+    {
+        match instr {
+            Instr::LocalGet(x) => self.write_local(instr, 0x20, x.local, location),
+            Instr::LocalSet(x) => self.write_local(instr, 0x21, x.local, location),
+            Instr::LocalTee(x) => self.write_local(instr, 0x22, x.local, location),
+            Instr::Const(x) => self.write_constant(instr, x, location),
+            Instr::Unop(x) => self.write_unary(instr, x, location),
+            Instr::Binop(x) => self.write_binary(instr, x, location),
+            Instr::Load(x) => {
+                self.write_access(instr, load_opcode(x.kind), x.arg, x.memory, location)
+            }
+            Instr::Store(x) => {
+                self.write_access(instr, store_opcode(x.kind), x.arg, x.memory, location)
+            }
+            Instr::Call(x) => self.write_func(instr, 0x10, x.func, location),
+            Instr::GlobalGet(x) => self.write_global(instr, 0x23, x.global, location),
+            Instr::GlobalSet(x) => self.write_global(instr, 0x24, x.global, location),
+            Instr::Br(x) => self.write_branch(instr, 0x0c, x.block, location),
+            Instr::BrIf(x) => self.write_branch(instr, 0x0d, x.block, location),
+            Instr::Drop => self.write_byte(instr, 0x1a, location),
+            Instr::Return => self.write_byte(instr, 0x0f, location),
+            Instr::Unreachable => self.write_byte(instr, 0x00, location),
+            _ => false,
+        }
     }
 
     /// Writes an instruction without sequences, of any kind.
-    #[inline(never)]
-    fn visit_at_length(&mut self, instr: &Instr, location: InstrLocId) -> Result<(), EmitError>
+    fn visit_plain(&mut self, instr: &Instr, location: InstrLocId) -> Result<(), EmitError>
         requires { slots_in instr.now ≡ [] }
         ensures ok { OnOk result (Steps self.old (VisitInstruction instr.now location) self.new) }
         ensures err { IfErr result (Refuses self.old (VisitInstruction instr.now location)) }
@@ -122,173 +342,6 @@ impl<'a> EmitVisitor<'a> {
         match operator_of(instr, ty, &self.scopes, &self.numbers, &mut lists) {
             Ok(op) => self.draft.write_any(&op, location),
             Err(fault) => Err(fault),
-        }
-    }
-
-    /// Writes a load.
-    #[inline(never)]
-    fn visit_load(
-        &mut self,
-        instr: &Instr,
-        load: &Load,
-        location: InstrLocId,
-    ) -> Result<(), EmitError>
-        requires { instr.now ≡ instruction.Load load.now }
-        ensures ok { OnOk result (Steps self.old (VisitInstruction instr.now location) self.new) }
-        ensures err { IfErr result (Refuses self.old (VisitInstruction instr.now location)) }
-        ensures kept { OnErr result (Same self.old self.new) }
-    {
-        let memory = match self.numbers.ids.get_memory_index(load.memory) {
-            Ok(memory) => memory,
-            Err(fault) => return Err(EmitError::Index(fault)),
-        };
-        let memarg = memory_argument(load.arg, memory);
-        let kind = load.kind;
-        self.write_plain(instr, &OutOp::Load { kind, memarg }, location)
-    }
-
-    /// Writes a store.
-    #[inline(never)]
-    fn visit_store(
-        &mut self,
-        instr: &Instr,
-        store: &Store,
-        location: InstrLocId,
-    ) -> Result<(), EmitError>
-        requires { instr.now ≡ instruction.Store store.now }
-        ensures ok { OnOk result (Steps self.old (VisitInstruction instr.now location) self.new) }
-        ensures err { IfErr result (Refuses self.old (VisitInstruction instr.now location)) }
-        ensures kept { OnErr result (Same self.old self.new) }
-    {
-        let memory = match self.numbers.ids.get_memory_index(store.memory) {
-            Ok(memory) => memory,
-            Err(fault) => return Err(EmitError::Index(fault)),
-        };
-        let memarg = memory_argument(store.arg, memory);
-        let kind = store.kind;
-        self.write_plain(instr, &OutOp::Store { kind, memarg }, location)
-    }
-
-    /// Writes a `call`.
-    #[inline(never)]
-    fn visit_call(
-        &mut self,
-        instr: &Instr,
-        call: &Call,
-        location: InstrLocId,
-    ) -> Result<(), EmitError>
-        requires { instr.now ≡ instruction.Call call.now }
-        ensures ok { OnOk result (Steps self.old (VisitInstruction instr.now location) self.new) }
-        ensures err { IfErr result (Refuses self.old (VisitInstruction instr.now location)) }
-        ensures kept { OnErr result (Same self.old self.new) }
-    {
-        match self.numbers.ids.get_func_index(call.func) {
-            Ok(func) => self.write_plain(instr, &OutOp::Call { func }, location),
-            Err(fault) => Err(EmitError::Index(fault)),
-        }
-    }
-
-    /// Writes a `global.get`.
-    #[inline(never)]
-    fn visit_global_get(
-        &mut self,
-        instr: &Instr,
-        get: &GlobalGet,
-        location: InstrLocId,
-    ) -> Result<(), EmitError>
-        requires { instr.now ≡ instruction.GlobalGet get.now }
-        ensures ok { OnOk result (Steps self.old (VisitInstruction instr.now location) self.new) }
-        ensures err { IfErr result (Refuses self.old (VisitInstruction instr.now location)) }
-        ensures kept { OnErr result (Same self.old self.new) }
-    {
-        match self.numbers.ids.get_global_index(get.global) {
-            Ok(global) => self.write_plain(instr, &OutOp::GlobalGet { global }, location),
-            Err(fault) => Err(EmitError::Index(fault)),
-        }
-    }
-
-    /// Writes a `global.set`.
-    #[inline(never)]
-    fn visit_global_set(
-        &mut self,
-        instr: &Instr,
-        set: &GlobalSet,
-        location: InstrLocId,
-    ) -> Result<(), EmitError>
-        requires { instr.now ≡ instruction.GlobalSet set.now }
-        ensures ok { OnOk result (Steps self.old (VisitInstruction instr.now location) self.new) }
-        ensures err { IfErr result (Refuses self.old (VisitInstruction instr.now location)) }
-        ensures kept { OnErr result (Same self.old self.new) }
-    {
-        match self.numbers.ids.get_global_index(set.global) {
-            Ok(global) => self.write_plain(instr, &OutOp::GlobalSet { global }, location),
-            Err(fault) => Err(EmitError::Index(fault)),
-        }
-    }
-
-    /// Writes a `br`.
-    #[inline(never)]
-    fn visit_br(
-        &mut self,
-        instr: &Instr,
-        block: InstrSeqId,
-        location: InstrLocId,
-    ) -> Result<(), EmitError>
-        requires { instr.now ≡ instruction.Br (record { block = block }) }
-        ensures ok { OnOk result (Steps self.old (VisitInstruction instr.now location) self.new) }
-        ensures err { IfErr result (Refuses self.old (VisitInstruction instr.now location)) }
-        ensures kept { OnErr result (Same self.old self.new) }
-    {
-        match self.scopes.depth(block) {
-            Ok(label) => self.write_plain(instr, &OutOp::Br { label }, location),
-            Err(fault) => Err(fault),
-        }
-    }
-
-    /// Writes a `br_if`.
-    #[inline(never)]
-    fn visit_br_if(
-        &mut self,
-        instr: &Instr,
-        block: InstrSeqId,
-        location: InstrLocId,
-    ) -> Result<(), EmitError>
-        requires { instr.now ≡ instruction.BrIf (record { block = block }) }
-        ensures ok { OnOk result (Steps self.old (VisitInstruction instr.now location) self.new) }
-        ensures err { IfErr result (Refuses self.old (VisitInstruction instr.now location)) }
-        ensures kept { OnErr result (Same self.old self.new) }
-    {
-        match self.scopes.depth(block) {
-            Ok(label) => self.write_plain(instr, &OutOp::BrIf { label }, location),
-            Err(fault) => Err(fault),
-        }
-    }
-
-    /// Writes an instruction without sequences. Common ones are written where their operator is
-    /// made.
-    fn visit_plain(&mut self, instr: &Instr, location: InstrLocId) -> Result<(), EmitError>
-        requires { slots_in instr.now ≡ [] }
-        ensures ok { OnOk result (Steps self.old (VisitInstruction instr.now location) self.new) }
-        ensures err { IfErr result (Refuses self.old (VisitInstruction instr.now location)) }
-        ensures kept { OnErr result (Same self.old self.new) }
-    {
-        match instr {
-            Instr::Drop => self.write_plain(instr, &OutOp::Drop, location),
-            Instr::Const(constant) => match constant.value {
-                Value::I32(value) => self.write_plain(instr, &OutOp::I32Const { value }, location),
-                Value::I64(value) => self.write_plain(instr, &OutOp::I64Const { value }, location),
-                _ => self.visit_at_length(instr, location),
-            },
-            Instr::Unop(unop) => self.write_plain(instr, &OutOp::Unop(unop.op), location),
-            Instr::Binop(binop) => self.write_plain(instr, &OutOp::Binop(binop.op), location),
-            Instr::Load(load) => self.visit_load(instr, load, location),
-            Instr::Store(store) => self.visit_store(instr, store, location),
-            Instr::Call(call) => self.visit_call(instr, call, location),
-            Instr::GlobalGet(get) => self.visit_global_get(instr, get, location),
-            Instr::GlobalSet(set) => self.visit_global_set(instr, set, location),
-            Instr::Br(branch) => self.visit_br(instr, branch.block, location),
-            Instr::BrIf(branch) => self.visit_br_if(instr, branch.block, location),
-            _ => self.visit_at_length(instr, location),
         }
     }
 
@@ -329,6 +382,23 @@ impl<'a> EmitVisitor<'a> {
                 self.scopes.keep_last(count);
                 Err(fault)
             }
+        }
+    }
+
+    /// Writes the operator of an instruction of any kind, and announces its sequences.
+    #[inline(never)]
+    fn visit_at_length(&mut self, instr: &Instr, location: InstrLocId) -> Result<(), EmitError>
+        ensures ok { OnOk result (Steps self.old (VisitInstruction instr.now location) self.new) }
+        ensures err { IfErr result (Refuses self.old (VisitInstruction instr.now location)) }
+        ensures kept { OnErr result (Same self.old self.new) }
+    {
+        match instr {
+            Instr::Block(_)
+            | Instr::Loop(_)
+            | Instr::IfElse(_)
+            | Instr::TryTable(_)
+            | Instr::Try(_) => self.visit_construct(instr, location),
+            _ => self.visit_plain(instr, location),
         }
     }
 }
@@ -374,15 +444,12 @@ impl Visitor for EmitVisitor<'_> {
         }
     }
 
+    #[inline(always)]
     fn visit_instr(&mut self, instr: &Instr, location: &InstrLocId) -> Result<(), EmitError> {
-        match instr {
-            Instr::Block(_)
-            | Instr::Loop(_)
-            | Instr::IfElse(_)
-            | Instr::TryTable(_)
-            | Instr::Try(_) => self.visit_construct(instr, *location),
-            _ => self.visit_plain(instr, *location),
+        if self.write_common(instr, *location) {
+            return Ok(());
         }
+        self.visit_at_length(instr, *location)
     }
 
     fn visit_ref_func(&mut self, _instr: &RefFunc) -> Result<(), EmitError> {
@@ -434,9 +501,14 @@ fn draft_tree(
         Ok(scopes) => scopes,
         Err(_) => return Err(EmitError::Memory),
     };
+    let locals = match number_table(builder.allocator(), numbers.locals) {
+        Ok(locals) => locals,
+        Err(_) => return Err(EmitError::Memory),
+    };
     let mut visitor = EmitVisitor {
         builder,
         numbers: *numbers,
+        locals,
         scopes,
         draft: Draft::new(builder.allocator(), base, has_map),
     };

@@ -66,25 +66,34 @@ declined_for v (NameFunction n) f h = inl h
 declined_for v (NameLocal l) f h = inl h
 declined_for v (NameData d) f h = absurd h
 
--- `FactsVisitor` counts
-pub facts_count : IsCounting Gathers Declines (λ (v : FactsVisitor). v.facts.size)
-facts_count = record { steps_count = λ v w e s. s.size; refused_for = declined_for }
+-- a visitor with a `FactsVisitor` in it, which gathers as that one
+module _ {V : Type 0} (inner : V → FactsVisitor) where
+  abbrev pub GathersInside : V → WalkEvent → V → Type 0
+  GathersInside v e w = Gathers (inner v) e (inner w)
 
-pub gathered : {b : List InstrSeq} {start : ℕ} {v w : FactsVisitor} → v.facts.size ≡ 0 → v.facts.uses_data_segments ≡ false → v.facts.ref_funcs.items ≡ []
-    → ((l : ℕ) → uses_local v.facts l ≡ false) → Finishes b start Gathers v w → TreeHas b start (λ t. AreFacts t.items w.facts)
-gathered zero unused unreferred none h = record {
-  tree = h.tree;
-  is_tree = h.is_tree;
-  holds = record {
-    size = counted facts_count zero h;
-    uses_data_segments =
-        let all = folded {g = named} (λ (v : FactsVisitor). v.facts.uses_data_segments) adding_some (λ v w e s. s.uses_data_segments) h.folds in
-        rw (all, unused, tree_named h.tree) (or-false (are_some (segments h.tree.items)));
-    ref_funcs =
-        let all = folded {g = function_at} (λ (v : FactsVisitor). v.facts.ref_funcs.items) adding_behind (λ v w e s. s.ref_funcs) h.folds in
-        rw (all, unreferred) (tree_collected functions_by_instruction h.tree);
-    used_locals = λ l.
-        let all = folded {g = local_at} (λ (v : FactsVisitor). uses_local v.facts l) (adding_members l) (λ v w e s. s.used_locals l) h.folds in
-        rw (all, none l, tree_collected locals_by_instruction h.tree) (or-false (among l (locals_used h.tree.items)));
-  };
-}
+  abbrev pub DeclinesInside : V → WalkEvent → WalkError → Type 0
+  DeclinesInside v e f = Declines (inner v) e f
+
+  -- it counts
+  pub facts_count : IsCounting GathersInside DeclinesInside (λ v. (inner v).facts.size)
+  facts_count = record { steps_count = λ v w e s. s.size; refused_for = λ v e f. declined_for (inner v) e f }
+
+  pub gathered : {b : List InstrSeq} {start : ℕ} {v w : V} → (inner v).facts.size ≡ 0 → (inner v).facts.uses_data_segments ≡ false
+      → (inner v).facts.ref_funcs.items ≡ [] → ((l : ℕ) → uses_local (inner v).facts l ≡ false) → Finishes b start GathersInside v w
+      → TreeHas b start (λ t. AreFacts t.items (inner w).facts)
+  gathered zero unused unreferred none h = record {
+    tree = h.tree;
+    is_tree = h.is_tree;
+    holds = record {
+      size = counted facts_count zero h;
+      uses_data_segments =
+          let all = folded {g = named} (λ v. (inner v).facts.uses_data_segments) adding_some (λ v w e s. s.uses_data_segments) h.folds in
+          rw (all, unused, tree_named h.tree) (or-false (are_some (segments h.tree.items)));
+      ref_funcs =
+          let all = folded {g = function_at} (λ v. (inner v).facts.ref_funcs.items) adding_behind (λ v w e s. s.ref_funcs) h.folds in
+          rw (all, unreferred) (tree_collected functions_by_instruction h.tree);
+      used_locals = λ l.
+          let all = folded {g = local_at} (λ v. uses_local (inner v).facts l) (adding_members l) (λ v w e s. s.used_locals l) h.folds in
+          rw (all, none l, tree_collected locals_by_instruction h.tree) (or-false (among l (locals_used h.tree.items)));
+    };
+  }

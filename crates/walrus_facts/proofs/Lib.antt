@@ -2,5 +2,6 @@
 mod Collecting
 mod Counting
 mod Gathering
+mod Marks
 mod FactLaws
 pub mod LocalsOfTrees

@@ -3,3 +3,4 @@ pub mod Sizes
 pub mod Segments
 pub mod Gathering
 pub mod FactLaws
+pub mod Marking

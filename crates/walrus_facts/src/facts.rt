@@ -1,15 +1,12 @@
 //! Facts of a function's body that are needed before it is written.
-ghost use Rattle.std.specs.Prelude.{◌≡◌, ◌⊎◌, ◌==◌, ℕ, [], false, IfOk, IfErr};
+ghost use Rattle.std.specs.Prelude.{◌≡◌, ◌==◌, ℕ, [], false};
 ghost use Rattle.std.specs.HashSet.{contains};
-ghost use Rattle.walrus_ir.specs.Walk.{HasNoWalk};
 ghost use Rattle.walrus_facts.specs.FactLaws.{FactsHaveSize, FactsUseFound};
-ghost use Rattle.walrus_facts.specs.Facts.{AreFacts, TreeHas};
-ghost use Rattle.walrus_facts.specs.Sizes.{IsTooLarge};
 
 use std::alloc::Global;
 use walrus_ir::{
-    DataId, FunctionBuilder, FunctionId, IdHashSet, Instr, InstrLocId, InstrSeq, InstrSeqId,
-    LocalId, RefFunc, Visitor, WalkError, dfs_in_order,
+    DataId, FunctionId, IdHashSet, Instr, InstrLocId, InstrSeq, LocalId, RefFunc, Visitor,
+    WalkError,
 };
 
 /// Facts of a function's body that are needed before it is written.
@@ -111,25 +108,6 @@ impl Visitor for FactsVisitor {
         self.facts.ref_funcs.push(instr.func)?;
         Ok(())
     }
-}
-
-/// The facts of the instructions in the sequence `start` and in those inside of it.
-///
-/// # Errors
-///
-/// `WalkError::UnknownSequence` or `WalkError::SharedSequence` if the sequences are not a tree: the
-/// first fault in walk order. `WalkError::TooLarge` if the number of instructions doesn't fit 64
-/// bits. `WalkError::Memory` if memory runs out.
-pub fn emit_facts(builder: &FunctionBuilder, start: InstrSeqId) -> Result<EmitFacts, WalkError>
-    ensures ok { IfOk result (λ f. TreeHas builder.now.sequences start
-        (λ t. AreFacts t.items f)) }
-    ensures err { IfErr result (λ e. HasNoWalk builder.now.sequences start e
-        ⊎ IsTooLarge builder.now.sequences start e) }
-{
-    let mut visitor = FactsVisitor::new(builder.allocator());
-    dfs_in_order(&mut visitor, builder, start)?;
-    let FactsVisitor { facts } = visitor;
-    Ok(facts)
 }
 
 /// The facts of a function agree with the other calls, if these succeed: the size in the facts is

@@ -3,9 +3,11 @@
 #![tactic(auto)]
 
 mod facts;
+mod marking;
 mod segments;
 mod sizes;
 
-pub use facts::{EmitFacts, FactsVisitor, emit_facts, law_facts};
+pub use facts::{EmitFacts, FactsVisitor, law_facts};
+pub use marking::emit_facts;
 pub use segments::{DataSegmentsVisitor, used_data_segments};
 pub use sizes::{SizeVisitor, size};

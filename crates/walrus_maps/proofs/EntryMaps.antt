@@ -36,6 +36,14 @@ module _ {X : Type 0} where
   pub get-entries : (es : List (ℕ × X)) (q : ℕ) → get (from_entries {R = nat_cmp} es) q ≡ lookup (same_id q) es
   get-entries es q = get-from_entries nat_cmp_total es q ∙ find-lookup es q
 
+  -- an id that no entry has
+  none_of : (o : Option X) → is_some o ≡ false → o ≡ None
+  none_of None h = refl
+  none_of (Some x) h = absurd cc
+
+  pub absent : (es : List (ℕ × X)) (q : ℕ) → is_some (lookup (same_id q) es) ≡ false → get (from_entries {R = nat_cmp} es) q ≡ None
+  absent es q h = get-entries es q ∙ none_of (lookup (same_id q) es) h
+
   -- the maps of entries that differ only at one id differ only there
   pub one_put : (es fs : List (ℕ × X)) (k : ℕ) (v : X) → ((q : ℕ) → lookup (same_id q) fs ≡ cond (same_id k q) (Some v) (lookup (same_id q) es)) → from_entries {R = nat_cmp} fs ≡ insert (from_entries es) k v
   one_put es fs k v h = same_map nat_cmp_total nat_cmp-IsAntisymmetric _ _ (λ q.

@@ -1,8 +1,7 @@
 //! The numbers of the ids of one kind.
-ghost use Rattle.std.specs.Prelude.{◌≡◌, ℕ, OnOk, OnErr, IsOkUnless, None};
+ghost use Rattle.std.specs.Prelude.{◌≡◌, ℕ, OnOk, OnErr, IsOkUnless, None, slice_get};
 ghost use Rattle.std.specs.Ordering.{nat_cmp};
 ghost use Rattle.std.specs.FinMap as map;
-ghost use Rattle.std.specs.Coded.{coded_ℕ};
 ghost use Rattle.walrus_ir.specs.Results.{some_or};
 ghost use Rattle.walrus_maps.specs.Growth.{GrowsFrom};
 
@@ -16,15 +15,51 @@ use wasm_operators::Space;
 /// The numbers of the ids of one kind. In a contract, it is a finite map from id to number.
 #[derive(Drop)]
 pub(crate) struct IdNumbers<K> {
+    /// Those of the first ids, by id. As long as ids get numbers in the order of the ids, from 0 on,
+    /// all are here.
+    table: Vec<u32>,
+    /// Those of other ids.
     numbers: IdHashMap<Id<K>, u32>,
 }
 
 impl<K> Model for IdNumbers<K> {
+    ghost use Rattle.std.specs.Prelude.{ℕ};
+    ghost use Rattle.std.specs.Ordering.{nat_cmp};
+    ghost use Rattle.std.specs.FinMap as map;
+    ghost use Rattle.std.specs.Coded.{coded_ℕ};
+    ghost use Rattle.walrus_maps.specs.IdTables.{with_table, IsOfOthers};
+
     ghost Value = { map.FinMap nat_cmp ℕ };
 
     ghost coded = { map.code coded_ℕ coded_ℕ };
 
-    ghost view = { λ m. map.from_entries m.numbers.entries };
+    ghost view = { λ m. with_table 0 m.table.items (map.from_entries m.numbers.entries) };
+
+    ghost invariant = { λ m. IsOfOthers m.table.items (map.from_entries m.numbers.entries) };
+}
+
+/// The number at an index of a table.
+#[inline(always)]
+fn number_at(table: &[u32], index: usize) -> Option<u32>
+    ensures { result ≡ slice_get table.now index }
+{
+    table.get(index).copied()
+}
+
+/// The number of the id with this index in a hash map, or the error `Unnumbered` with this space.
+#[inline(never)]
+fn number_in<K>(
+    numbers: &IdHashMap<Id<K>, u32>,
+    space: Space,
+    index: usize,
+) -> Result<u32, IndexError>
+    ensures { result ≡ some_or (map.get (map.from_entries {R = nat_cmp} numbers.now.entries) index)
+        (IndexError.Unnumbered space) }
+{
+    numbers
+        .get(&Id::new(index))
+        .copied()
+        .ok_or(IndexError::Unnumbered { space })
 }
 
 impl<K> IdNumbers<K> {
@@ -33,6 +68,7 @@ impl<K> IdNumbers<K> {
         ensures { result ≡ map.empty }
     {
         IdNumbers {
+            table: Vec::new(alloc),
             numbers: IdHashMap::new(alloc),
         }
     }
@@ -41,7 +77,7 @@ impl<K> IdNumbers<K> {
     fn len(&self) -> usize
         ensures { result ≡ map.len self.now }
     {
-        self.numbers.len()
+        self.table.len() + self.numbers.len()
     }
 
     /// Gives an id that has no number the next one: the number of ids that have one.
@@ -61,17 +97,28 @@ impl<K> IdNumbers<K> {
         ensures err { OnErr result (self.new ≡ self.old) }
         ensures memory { IsOkUnless result IndexError.Memory }
     {
-        self.numbers.insert(id, number)?;
+        let index = id.index();
+        if index < self.table.len() {
+            self.table[index] = number;
+            return Ok(());
+        }
+        if index == self.table.len() && !self.numbers.contains_key(&Id::new(index)) {
+            self.table.push(number)?;
+            return Ok(());
+        }
+        self.numbers.insert(Id::new(index), number)?;
         Ok(())
     }
 
     /// The number of an id, or the error `Unnumbered` with this space.
+    #[inline(always)]
     pub fn get_in(&self, space: Space, id: Id<K>) -> Result<u32, IndexError>
         ensures { result ≡ some_or (map.get self.now id) (IndexError.Unnumbered space) }
     {
-        self.numbers
-            .get(&id)
-            .copied()
-            .ok_or(IndexError::Unnumbered { space })
+        let index = id.index();
+        match number_at(&self.table, index) {
+            Some(number) => Ok(number),
+            None => number_in(&self.numbers, space, index),
+        }
     }
 }

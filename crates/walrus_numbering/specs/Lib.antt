@@ -1,2 +1,3 @@
 pub mod NumberMaps
 pub mod EmittedLocals
+pub mod NumberTables

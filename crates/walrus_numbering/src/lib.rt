@@ -4,12 +4,14 @@
 
 mod balance;
 mod local_numbers;
+mod local_table;
 mod memory_arguments;
 mod number_maps;
 mod written_types;
 
 pub use balance::is_balanced;
 pub use local_numbers::emit_locals;
+pub use local_table::{number_at, number_table};
 pub use memory_arguments::memory_argument;
 pub use number_maps::NumberMaps;
 pub use written_types::{block_type, heap_type, value_type};

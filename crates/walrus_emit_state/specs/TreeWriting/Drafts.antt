@@ -1,8 +1,8 @@
 -- Bytes and location pairs that are written aside, as contracts see them.
-use Rattle.std.specs.Prelude.{ℕ, Bool}
+use Rattle.std.specs.Prelude.{ℕ, Bool, List, ◌++◌}
 use Rattle.wasm_operators.specs.Operations.{RawOperation}
 use Rattle.wasm_body.specs.Translation.{Located}
-use Rattle.walrus_emit_state.specs.Emission.{Output, output_behind}
+use Rattle.walrus_emit_state.specs.Emission.{Output, output_behind, pairs_behind}
 
 -- The output, the number of bytes before it, and whether pairs are kept.
 pub record Drafted : Type 0 where
@@ -13,3 +13,9 @@ pub record Drafted : Type 0 where
 -- with an operator after it
 abbrev pub behind : Drafted → Located RawOperation → Drafted
 behind d x = record d { output = output_behind d.has_map d.base d.output x }
+
+-- with the bytes of an operator after it, at a location
+abbrev pub with_bytes : Drafted → List ℕ → ℕ → Drafted
+with_bytes d bytes location = record d {
+  output = record { bytes = d.output.bytes ++ bytes; pairs = pairs_behind d.has_map d.base d.output location };
+}

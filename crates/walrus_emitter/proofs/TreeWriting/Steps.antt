@@ -92,14 +92,19 @@ plain_scopes balanced b i e = ap (λ ps. scopes_at b ps (closers_in i)) e
 
 -- ---- the emitter that the code makes
 
+pub operation_visited : (b : List InstrSeq) (to : Numbers) (scopes : ScopeLists) (draft drafted : Drafted) (i : Instr) (l : ℕ) (o : RawOperation)
+    → slots_in i ≡ [] → numbered_operator to (places_of scopes.open_scopes) (Simple None) i ≡ Ok o
+    → drafted ≡ behind draft (at_location o l)
+    → emitter_behind (emitter_at b to scopes draft) (VisitInstruction i l) ≡ Ok (emitter_at b to scopes drafted)
+operation_visited b to scopes draft drafted i l o e h k =
+    sequences_begin (emitter_at b to scopes draft) i l (Simple None) o [] (plain_type b i e) (plain_lawful i e) h (plain_scopes to.balanced b i e)
+    ∙ ap (λ (s : Emitter). Ok s) (kept_begins b to scopes scopes draft drafted [] o l refl k)
+
 pub plain_visited : (b : List InstrSeq) (to : Numbers) (scopes : ScopeLists) (draft drafted : Drafted) (i : Instr) (l : ℕ) (op : Listed)
     → slots_in i ≡ [] → IsOperatorOf to (places_of scopes.open_scopes) (Simple None) i (Ok op)
     → drafted ≡ behind draft (at_location (meaning op) l)
     → emitter_behind (emitter_at b to scopes draft) (VisitInstruction i l) ≡ Ok (emitter_at b to scopes drafted)
-plain_visited b to scopes draft drafted i l op e h k =
-    sequences_begin (emitter_at b to scopes draft) i l (Simple None) (meaning op) [] (plain_type b i e) (plain_lawful i e) h.0
-    (plain_scopes to.balanced b i e)
-    ∙ ap (λ (s : Emitter). Ok s) (kept_begins b to scopes scopes draft drafted [] (meaning op) l refl k)
+plain_visited b to scopes draft drafted i l op e h k = operation_visited b to scopes draft drafted i l (meaning op) e h.0 k
 
 -- if it is written
 pub on_ok : {P Q : Type 0} (r : Result (Unit {0}) EmitError) → (P → Q) → OnOk r P → OnOk r Q

@@ -1,6 +1,6 @@
 use Rattle.walrus_numbering.specs.NumberMaps.{numbers_of}
 use Rattle.walrus_emitter.proofs.TreeWriting.Steps.{plain_visited, on_ok}
-use Rattle.walrus_emitter.proofs.emit.EmitVisitor.visit_at_length.Goals as goal
+use Rattle.walrus_emitter.proofs.emit.EmitVisitor.visit_plain.Goals as goal
 
 pub returns-in-Ok-clause-ok : goal.returns-in-Ok-clause-ok
 returns-in-Ok-clause-ok c =

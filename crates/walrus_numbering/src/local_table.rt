@@ -1,0 +1,52 @@
+//! The numbers of a function's locals in a table by id, for small ids.
+ghost use Rattle.std.specs.Prelude.{◌≡◌, IfOk, slice_get};
+ghost use Rattle.std.specs.Option.{option_flatten};
+ghost use Rattle.walrus_numbering.specs.EmittedLocals.{number_in};
+ghost use Rattle.walrus_numbering.specs.NumberTables.{HasNumbers};
+
+use std::alloc::{AllocError, Global};
+use walrus_ir::{IdHashMap, LocalId};
+
+/// How many ids a table has. It has the id of each local, unless some ids are far greater than the
+/// number of locals.
+fn table_len(numbers: &IdHashMap<LocalId, u32>) -> usize {
+    let mut count = 0;
+    for id in numbers.keys() {
+        count = id.index().saturating_add(1).max(count);
+    }
+    numbers
+        .len()
+        .saturating_mul(4)
+        .saturating_add(64)
+        .min(count)
+}
+
+/// The number of a local, if it has one.
+fn number_of(numbers: &IdHashMap<LocalId, u32>, local: LocalId) -> Option<u32>
+    ensures { result ≡ number_in numbers.now.entries local }
+{
+    numbers.get(&local).copied()
+}
+
+/// The numbers of the locals with the first ids, by id.
+pub fn number_table(
+    alloc: Global,
+    numbers: &IdHashMap<LocalId, u32>,
+) -> Result<Vec<Option<u32>>, AllocError>
+    ensures { IfOk result (λ table. HasNumbers numbers.now.entries table.items) }
+{
+    let count = table_len(numbers);
+    let mut table = Vec::with_capacity(alloc, count)?;
+    for index in 0..count {
+        table.push(number_of(numbers, LocalId::new(index)))?;
+    }
+    Ok(table)
+}
+
+/// The number of a local in a table, if it has one there.
+#[inline(always)]
+pub fn number_at(table: &[Option<u32>], local: LocalId) -> Option<u32>
+    ensures { result ≡ option_flatten (slice_get table.now local) }
+{
+    table.get(local.index()).copied().flatten()
+}
