@@ -31,6 +31,6 @@ digest_of before list = fold (λ made ty. mixed made (type_number ty)) before li
 abbrev pub func_digest : (parameters results : List (ValType ℕ)) → ℕ
 func_digest parameters results = digest_of (mixed (digest_of 0 parameters) 0) results
 
--- the digest of the entry type with these results
+-- the digest of the entry type with these results: it begins with a great number, so that it isn't that of a function type
 abbrev pub entry_digest : (results : List (ValType ℕ)) → ℕ
-entry_digest results = digest_of 1 results
+entry_digest results = digest_of 6148914691236517205 results

@@ -9,6 +9,10 @@ use crate::val_type::{AbstractHeapType, HeapType, ValType};
 /// 2^64 divided by the golden ratio: an odd number whose bits have no pattern.
 const FACTOR: u64 = 0x9e37_79b9_7f4a_7c15;
 
+/// The number with which the digests of entry types begin. With a small one, many of them would be digests of
+/// function types.
+const ENTRY: u64 = 0x5555_5555_5555_5555;
+
 /// The digest after one more number.
 fn mixed(digest: u64, number: u64) -> u64
     ensures { result ≡ mixed digest number }
@@ -79,5 +83,5 @@ pub(crate) fn func_digest(params: &[ValType], results: &[ValType]) -> u64
 pub(crate) fn entry_digest(results: &[ValType]) -> u64
     ensures { result ≡ entry_digest results.now }
 {
-    digest_of(1, results)
+    digest_of(ENTRY, results)
 }
