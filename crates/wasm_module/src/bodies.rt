@@ -41,7 +41,10 @@ impl Scratch {
 
 /// Whether a body needs a type that the module doesn't have.
 fn wants_type(error: &ModuleError) -> bool {
-    error.fault == ModuleFault::Parse(ParseError::TypeMissing)
+    let ModuleFault::Parse(fault) = error.fault else {
+        return false;
+    };
+    fault == ParseError::TypeMissing || fault == ParseError::EntryTypeMissing
 }
 
 /// Rewrites a body unchanged, with a list of location pairs or none.

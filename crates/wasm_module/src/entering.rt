@@ -31,7 +31,7 @@ pub(crate) struct Entered<'a> {
 
 impl<'a> ParsedModule<'a> {
     /// The type of the function with this index, if there is one.
-    fn type_of(&self, func: usize) -> Option<TypeId>
+    pub(crate) fn type_of(&self, func: usize) -> Option<TypeId>
         ensures { result ≡ slice_get self.now.func_types.items func }
     {
         self.func_types.get(func).copied()

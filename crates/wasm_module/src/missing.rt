@@ -1,4 +1,5 @@
-//! Types that handlers of legacy `try` constructs need, and that the module lacks.
+//! Types that bodies need and that the module lacks: entry types, and types of handlers of legacy
+//! `try` constructs.
 
 ghost use Rattle.std.specs.Prelude.{◌≡◌, IfErr};
 ghost use Rattle.wasm_module.specs.declared.fault.ModuleFault.TheVariants.{Memory};
@@ -93,6 +94,42 @@ impl<'a> ParsedModule<'a> {
         self.add_handler_type(&caught, ty)
     }
 
+    /// The results of a function; none if it has no function type.
+    fn function_results(&self, func: usize) -> Result<Vec<ValType>, ModuleError>
+        ensures { IfErr result (λ e. e.fault ≡ Memory) }
+    {
+        let mut results = Vec::new(self.alloc);
+        if let Some(ty) = self.type_of(func)
+            && self.module.types.is_func(ty)
+        {
+            results.extend_from_slice(self.module.types.results(ty))?;
+        }
+        Ok(results)
+    }
+
+    /// Adds the type of the entry of functions with these results, if the module has none.
+    fn add_entry_for(&mut self, results: &[ValType]) -> Result<(), ModuleError>
+        ensures extends { Extends self.old self.new }
+        ensures refused { IfErr result (λ e. e.fault ≡ Memory) }
+    {
+        if self.module.types.find_for_function_entry(results).is_some() {
+            return Ok(());
+        }
+        match self.module.types.add_entry(results) {
+            Ok(_) => Ok(()),
+            Err(error) => Err(ModuleError::from(error)),
+        }
+    }
+
+    /// Adds the type of the entry of this function, if the module has none.
+    fn add_entry_type(&mut self, func: usize) -> Result<(), ModuleError>
+        ensures extends { Extends self.old self.new }
+        ensures refused { IfErr result (λ e. e.fault ≡ Memory) }
+    {
+        let results = self.function_results(func)?;
+        self.add_entry_for(&results)
+    }
+
     /// Adds the type that an operator needs. `open` has the types of the constructs that the
     /// operators before it opened and didn't end.
     fn add_type_at(
@@ -122,9 +159,8 @@ impl<'a> ParsedModule<'a> {
     }
 
     /// Adds the types that the handlers of a body's `try` constructs need: from what the tag
-    /// carries to the results of the construct. A handler's type is never written, so it has no
-    /// index.
-    pub(crate) fn add_missing_types(&mut self, body: Body<'a>) -> Result<(), ModuleError>
+    /// carries to the results of the construct.
+    fn add_handler_types(&mut self, body: Body<'a>) -> Result<(), ModuleError>
         ensures extends { Extends self.old self.new }
         ensures refused { IfErr result (λ e. e.fault ≡ Memory) }
     {
@@ -145,5 +181,17 @@ impl<'a> ParsedModule<'a> {
             }
         }
         Ok(())
+    }
+
+    /// Adds the types that a body needs and that the module lacks: its entry type, and those of the
+    /// handlers of its `try` constructs. They are never written, so they have no index.
+    pub(crate) fn add_missing_types(&mut self, body: Body<'a>) -> Result<(), ModuleError>
+        ensures extends { Extends self.old self.new }
+        ensures refused { IfErr result (λ e. e.fault ≡ Memory) }
+    {
+        match self.add_entry_type(body.func) {
+            Ok(()) => self.add_handler_types(body),
+            Err(error) => Err(error),
+        }
     }
 }

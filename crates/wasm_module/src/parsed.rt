@@ -16,9 +16,8 @@ use walrus_ir::{FunctionId, Module, ModuleLocals, ModuleTags, ModuleTypes, TypeI
 use wasm_ops::RawValType;
 
 /// A module that was read: the data that is needed to parse the bodies of its functions, and their
-/// places. The first ids of types are those of the entry types, which are in no module; the id of
-/// another type is its index plus the number of entry types. All other ids are the indices. Places
-/// are byte offsets from the start of the file.
+/// places. All ids are the indices, and types that bodies need and the module lacks come after its
+/// own when such a body is parsed. Places are byte offsets from the start of the file.
 ///
 /// # Example
 ///
@@ -316,33 +315,14 @@ impl<'a> ParsedModule<'a> {
         Ok(made)
     }
 
-    /// The distinct lists of results of function types, sorted.
-    fn result_lists<'t>(&self, types: &'t [RawType]) -> Result<Vec<&'t [RawValType]>, ModuleError> {
-        let mut lists: Vec<&'t [RawValType]> = Vec::new(self.alloc);
-        for ty in types {
-            if let RawType::Func { results, .. } = ty {
-                lists.push(results.as_slice())?;
-            }
-        }
-        lists.sort_unstable();
-        lists.dedup();
-        Ok(lists)
-    }
-
-    /// Adds the types of the type section, after the entry types that bodies of functions of these
-    /// types need.
+    /// Adds the types of the type section. The entry types that bodies need are added when the first
+    /// such body is parsed.
     fn add_types(&mut self, types: &[RawType]) -> Result<(), ModuleError> {
-        let lists = self.result_lists(types)?;
         for index in 0..types.len() {
-            let id = TypeId::new(lists.len().saturating_add(index));
-            match self.spaces.add_type(id) {
+            match self.spaces.add_type(TypeId::new(index)) {
                 Ok(()) => {}
                 Err(error) => return Err(ModuleError::of_index(error, 0)),
             }
-        }
-        for results in &lists {
-            let results = self.value_types(results)?;
-            self.module.types.add_entry(&results)?;
         }
         for ty in types {
             match ty {
