@@ -1,0 +1,157 @@
+//! The demo module, its function 0, bodies of that function, and the scenarios over them.
+ghost use Rattle.std.specs.Prelude.{◌≡◌, ◌≤◌, ◌<◌, ◌+◌, ◌^◌, length};
+
+use crate::scenario::Selection;
+use crate::{body_calls, contexts, function_calls, no_memory, runs};
+use std::alloc::{AllocError, Global};
+use std::io;
+use walrus_body::{
+    AcceptAll, FunctionBody, IdsToIndices, IndicesToIds, LocalFunction, OpCheck, ParseFailure,
+};
+use walrus_ir::{FunctionId, InstrLocId, LocalId, Module, TypeId};
+use walrus_run::demo;
+
+/// The rows with a body that is accepted: its bytes, in hexadecimal. It has no declarations.
+pub(crate) const ACCEPTED: [(&str, &str); 11] = [
+    ("nop", "00010b"),
+    ("const", "0041011a0b"),
+    ("block", "0002400c000b0b"),
+    ("if", "00410104400b0b"),
+    ("delegate", "00064018000b"),
+    ("catch", "0006400700190b0b"),
+    ("try_table", "0002401f400102000b0b0b"),
+    ("table", "00024041000e020001000b0b"),
+    ("locals", "0020011a20031a0b"),
+    ("names", "00fc0900d2001a20001a0b"),
+    ("nested", "00024002400240024002400b0b0b0b0b0b"),
+];
+
+/// Those with a body that is refused.
+pub(crate) const REFUSED: [(&str, &str); 3] = [
+    ("label", "000f0c050b"),
+    ("unread", "0041011a4180808080700b"),
+    ("unended", "00024041011a0b"),
+];
+
+/// The arguments of the function.
+pub(crate) fn arguments(alloc: Global) -> Result<Vec<LocalId>, AllocError> {
+    Ok(vec![in alloc; LocalId::new(0)]?)
+}
+
+/// The bytes of these hexadecimal digits.
+pub(crate) fn bytes_of(alloc: Global, digits: &str) -> io::Result<Vec<u8>> {
+    match hex::decode(alloc, digits) {
+        Ok(bytes) => Ok(bytes),
+        Err(_) => Err(io::Error::from(io::ErrorKind::InvalidData)),
+    }
+}
+
+/// The body with these bytes, which begin at place 100. Its operators follow a byte that counts the
+/// declarations.
+pub(crate) fn body(bytes: &[u8]) -> FunctionBody<'_>
+    ensures start { result.start ≡ 100 }
+    ensures ops { result.ops ≤ length result.bytes.now }
+    ensures fits { result.start + length result.bytes.now < 2 ^ 64 }
+{
+    FunctionBody {
+        bytes,
+        start: 100,
+        ops: 1.min(bytes.len()),
+    }
+}
+
+/// What bodies are parsed and written with.
+#[derive(Clone, Copy)]
+pub(crate) struct Demo<'a> {
+    /// The module, whose code begins at place 90.
+    pub module: &'a Module,
+    /// The ids of its old indices.
+    pub indices: &'a IndicesToIds,
+    /// The new indices of its ids.
+    pub numbers: &'a IdsToIndices,
+    /// The function that has the bodies.
+    pub function: FunctionId,
+    /// The type of this function.
+    pub ty: TypeId,
+    ghost begins: { «module».now.code_section_offset ≡ 90 },
+}
+
+impl<'a> Demo<'a> {
+    /// The function with these arguments that has the body with these bytes.
+    pub(crate) fn parse<V: OpCheck>(
+        &self,
+        args: Vec<LocalId>,
+        bytes: &[u8],
+        validator: V,
+    ) -> Result<LocalFunction, ParseFailure> {
+        let mut instrs = Vec::new(*args.allocator());
+        LocalFunction::parse(
+            self.module,
+            self.indices,
+            self.function,
+            self.ty,
+            args,
+            body(bytes),
+            None::<&fn(&usize) -> InstrLocId>,
+            validator,
+            &mut instrs,
+        )
+    }
+
+    /// The function that has the body with these bytes, which is accepted.
+    pub(crate) fn accepted(&self, alloc: Global, bytes: &[u8]) -> io::Result<LocalFunction> {
+        match self.parse(arguments(alloc)?, bytes, AcceptAll) {
+            Ok(function) => Ok(function),
+            Err(_) => Err(io::Error::from(io::ErrorKind::InvalidData)),
+        }
+    }
+}
+
+/// Runs the scenarios over the demo module that are selected.
+fn run_over(selection: Selection<'_>, demo: &Demo<'_>) -> io::Result<()> {
+    contexts::run(selection, demo)?;
+    body_calls::run(selection, demo)?;
+    function_calls::run(selection, demo)?;
+    runs::run(selection, demo)?;
+    no_memory::run(selection, demo)
+}
+
+/// Makes the new indices of the module.
+fn run_with_indices(
+    selection: Selection<'_>,
+    module: &Module,
+    indices: &IndicesToIds,
+) -> io::Result<()>
+    requires { «module».now.code_section_offset ≡ 90 }
+{
+    match demo::numbers(selection.alloc()) {
+        Ok(numbers) => {
+            let demo = Demo {
+                module,
+                indices,
+                numbers: &numbers,
+                function: FunctionId::new(0),
+                ty: TypeId::new(1),
+            };
+            run_over(selection, &demo)
+        }
+        Err(_) => Err(io::Error::from(AllocError)),
+    }
+}
+
+/// Makes the ids of the module's old indices.
+fn run_with_module(selection: Selection<'_>, module: &Module) -> io::Result<()>
+    requires { «module».now.code_section_offset ≡ 90 }
+{
+    match demo::indices(selection.alloc()) {
+        Ok(indices) => run_with_indices(selection, module, &indices),
+        Err(_) => Err(io::Error::from(AllocError)),
+    }
+}
+
+/// Runs the scenarios over the demo module that are selected.
+pub(crate) fn run(selection: Selection<'_>) -> io::Result<()> {
+    let mut module = demo::module(selection.alloc())?;
+    module.code_section_offset = 90;
+    run_with_module(selection, &module)
+}

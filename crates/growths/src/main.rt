@@ -1,0 +1,46 @@
+//! The program `growths`: makes calls that take memory, each between a line `try` and a line that
+//! says what it returned, and prints before and after them what it is made on. So a script that
+//! refuses memory between these two lines sees what the call leaves. With the names of a call and
+//! of a row it runs one scenario, else all.
+#![tactic(auto)]
+
+mod bodies;
+mod body_calls;
+mod by_hand;
+mod bytes;
+mod contexts;
+mod control;
+mod entries;
+mod function_calls;
+mod items;
+mod maps;
+mod no_memory;
+mod runs;
+mod scenario;
+mod walks;
+
+use crate::scenario::Selection;
+use std::{env, io};
+
+/// The program's words, without its own name.
+fn words(rt: &HostRuntime) -> io::Result<Vec<String>> {
+    let mut words = Vec::new(rt.alloc());
+    for word in env::args(rt)?.skip(1) {
+        words.push(word)?;
+    }
+    Ok(words)
+}
+
+/// Runs the scenarios that are selected.
+fn run(selection: Selection<'_>) -> io::Result<()> {
+    control::run(selection)?;
+    items::run(selection)?;
+    maps::run(selection)?;
+    bytes::run(selection)?;
+    bodies::run(selection)
+}
+
+fn main(rt: HostRuntime) -> io::Result<()> {
+    let words = words(&rt)?;
+    run(Selection::new(&rt, &words))
+}

@@ -1,0 +1,225 @@
+//! Index maps, to which ids are added.
+ghost use Rattle.std.specs.Prelude.{◌≡◌};
+ghost use Rattle.walrus_maps.specs.IndexMaps.{number_of};
+
+use crate::scenario::{Scenario, Selection, push_error};
+use std::alloc::{AllocError, Global};
+use std::io;
+use walrus_body::{IdsToIndices, IndexError, IndicesToIds, Space};
+use walrus_ir::{
+    DataId, ElementId, FunctionId, GlobalId, LocalId, MemoryId, TableId, TagId, TypeId,
+};
+
+/// Which call is made.
+#[derive(Clone, Copy)]
+pub(crate) enum Kind {
+    /// An id gets the next old index.
+    Old(Space),
+    OldLocal,
+    /// An id gets a new index.
+    New(Space),
+}
+
+/// Both maps, and the number of the id that is added next.
+#[derive(Drop)]
+pub(crate) struct Maps {
+    indices: IndicesToIds,
+    numbers: IdsToIndices,
+    next: usize,
+    kind: Kind,
+}
+
+/// Gives an id the next old index.
+fn push_old(indices: &mut IndicesToIds, space: Space, id: usize) -> Result<u32, IndexError> {
+    match space {
+        Space::Tables => indices.push_table(TableId::new(id)),
+        Space::Types => indices.push_type(TypeId::new(id)),
+        Space::Funcs => indices.push_func(FunctionId::new(id)),
+        Space::Globals => indices.push_global(GlobalId::new(id)),
+        Space::Memories => indices.push_memory(MemoryId::new(id)),
+        Space::Elements => indices.push_element(ElementId::new(id)),
+        Space::Data => indices.push_data(DataId::new(id)),
+        Space::Tags => indices.push_tag(TagId::new(id)),
+    }
+}
+
+/// The number of the id with this old index.
+fn id_of(indices: &IndicesToIds, space: Space, index: u32) -> Result<usize, IndexError> {
+    let id = match space {
+        Space::Tables => indices.get_table(index)?.index(),
+        Space::Types => indices.get_type(index)?.index(),
+        Space::Funcs => indices.get_func(index)?.index(),
+        Space::Globals => indices.get_global(index)?.index(),
+        Space::Memories => indices.get_memory(index)?.index(),
+        Space::Elements => indices.get_element(index)?.index(),
+        Space::Data => indices.get_data(index)?.index(),
+        Space::Tags => indices.get_tag(index)?.index(),
+    };
+    Ok(id)
+}
+
+/// The new index of an id.
+fn new_index(numbers: &IdsToIndices, space: Space, id: usize) -> Result<u32, IndexError>
+    ensures { result ≡ number_of numbers.now space id }
+{
+    match space {
+        Space::Tables => numbers.get_table_index(TableId::new(id)),
+        Space::Types => numbers.get_type_index(TypeId::new(id)),
+        Space::Funcs => numbers.get_func_index(FunctionId::new(id)),
+        Space::Globals => numbers.get_global_index(GlobalId::new(id)),
+        Space::Memories => numbers.get_memory_index(MemoryId::new(id)),
+        Space::Elements => numbers.get_element_index(ElementId::new(id)),
+        Space::Data => numbers.get_data_index(DataId::new(id)),
+        Space::Tags => numbers.get_tag_index(TagId::new(id)),
+    }
+}
+
+/// Gives an id the next new index, and a data segment 7. It does nothing where the id has one.
+fn push_new(numbers: &mut IdsToIndices, space: Space, id: usize) -> Result<(), IndexError> {
+    if new_index(numbers, space, id).is_ok() {
+        return Ok(());
+    }
+    match space {
+        Space::Tables => numbers.push_table(TableId::new(id)),
+        Space::Types => numbers.push_type(TypeId::new(id)),
+        Space::Funcs => numbers.push_func(FunctionId::new(id)),
+        Space::Globals => numbers.push_global(GlobalId::new(id)),
+        Space::Memories => numbers.push_memory(MemoryId::new(id)),
+        Space::Elements => numbers.push_element(ElementId::new(id)),
+        Space::Data => numbers.set_data_index(DataId::new(id), 7),
+        Space::Tags => numbers.push_tag(TagId::new(id)),
+    }
+}
+
+impl Maps {
+    /// Both without an id.
+    pub(crate) fn new(alloc: Global, kind: Kind) -> Maps {
+        Maps {
+            indices: IndicesToIds::new(alloc),
+            numbers: IdsToIndices::new(alloc),
+            next: 0,
+            kind,
+        }
+    }
+
+    /// Adds an id, and returns the old index that it got.
+    fn add(&mut self) -> Result<Option<u32>, IndexError> {
+        let id = self.next;
+        let function = FunctionId::new(0);
+        match self.kind {
+            Kind::Old(space) => Ok(Some(push_old(&mut self.indices, space, id)?)),
+            Kind::OldLocal => Ok(Some(self.indices.push_local(function, LocalId::new(id))?)),
+            Kind::New(space) => {
+                push_new(&mut self.numbers, space, id)?;
+                Ok(None)
+            }
+        }
+    }
+}
+
+/// The index spaces.
+const SPACES: [Space; 8] = [
+    Space::Tables,
+    Space::Types,
+    Space::Funcs,
+    Space::Globals,
+    Space::Memories,
+    Space::Elements,
+    Space::Data,
+    Space::Tags,
+];
+
+/// How many indices are looked up in each space.
+const SHOWN: u32 = 12;
+
+/// Appends the ids of old indices.
+pub(crate) fn push_ids(text: &mut String, indices: &IndicesToIds) -> Result<(), AllocError> {
+    for space in &SPACES {
+        for index in 0..SHOWN {
+            if let Ok(id) = id_of(indices, *space, index) {
+                write!(text, " {space}{index}={id}")?;
+            }
+        }
+    }
+    for index in 0..SHOWN {
+        if let Ok(id) = indices.get_local(FunctionId::new(0), index) {
+            write!(text, " local{index}={}", id.index())?;
+        }
+    }
+    Ok(())
+}
+
+/// Appends new indices.
+pub(crate) fn push_new_indices(
+    text: &mut String,
+    numbers: &IdsToIndices,
+) -> Result<(), AllocError> {
+    for space in &SPACES {
+        for id in 0..SHOWN as usize {
+            if let Ok(index) = new_index(numbers, *space, id) {
+                write!(text, " {space}{id}:{index}")?;
+            }
+        }
+    }
+    Ok(())
+}
+
+impl Scenario for Maps {
+    fn call(&mut self, returned: &mut String) -> Result<(), AllocError> {
+        match self.add() {
+            Ok(index) => {
+                self.next = self.next.saturating_add(1);
+                write!(returned, " {index:?}")
+            }
+            Err(error) => push_error(returned, &error, &IndexError::Memory),
+        }
+    }
+
+    fn show(&self, text: &mut String) -> Result<(), AllocError> {
+        push_ids(text, &self.indices)?;
+        push_new_indices(text, &self.numbers)
+    }
+}
+
+/// The calls, and how many ids a full map has: a list has room for four first, and a hashed map for
+/// nine.
+const CALLS: [(&str, Kind, usize); 17] = [
+    ("IndicesToIds::push_table", Kind::Old(Space::Tables), 4),
+    ("IndicesToIds::push_type", Kind::Old(Space::Types), 4),
+    ("IndicesToIds::push_func", Kind::Old(Space::Funcs), 4),
+    ("IndicesToIds::push_global", Kind::Old(Space::Globals), 4),
+    ("IndicesToIds::push_memory", Kind::Old(Space::Memories), 4),
+    ("IndicesToIds::push_element", Kind::Old(Space::Elements), 4),
+    ("IndicesToIds::push_data", Kind::Old(Space::Data), 4),
+    ("IndicesToIds::push_tag", Kind::Old(Space::Tags), 4),
+    ("IndicesToIds::push_local", Kind::OldLocal, 4),
+    ("IdsToIndices::push_table", Kind::New(Space::Tables), 9),
+    ("IdsToIndices::push_type", Kind::New(Space::Types), 9),
+    ("IdsToIndices::push_func", Kind::New(Space::Funcs), 9),
+    ("IdsToIndices::push_global", Kind::New(Space::Globals), 9),
+    ("IdsToIndices::push_memory", Kind::New(Space::Memories), 9),
+    ("IdsToIndices::push_element", Kind::New(Space::Elements), 9),
+    ("IdsToIndices::set_data_index", Kind::New(Space::Data), 9),
+    ("IdsToIndices::push_tag", Kind::New(Space::Tags), 9),
+];
+
+/// Adds an id to maps with so many.
+fn run_one(
+    selection: Selection<'_>,
+    call: &str,
+    kind: Kind,
+    row: &str,
+    count: usize,
+) -> io::Result<()> {
+    let mut maps = Maps::new(selection.alloc(), kind);
+    selection.run_after(count, call, row, &mut maps)
+}
+
+/// Runs the scenarios of these calls that are selected.
+pub(crate) fn run(selection: Selection<'_>) -> io::Result<()> {
+    for (call, kind, full) in &CALLS {
+        run_one(selection, call, *kind, "empty", 0)?;
+        run_one(selection, call, *kind, "full", *full)?;
+    }
+    Ok(())
+}

@@ -1,0 +1,305 @@
+//! Calls that take no memory: they succeed where all of it is refused.
+
+use crate::bodies::{Demo, bytes_of};
+use crate::body_calls::read;
+use crate::contexts::without_frame;
+use crate::items::{Item, Items};
+use crate::maps::{Kind, Maps, push_ids, push_new_indices};
+use crate::scenario::{Scenario, Selection, push_bytes, push_flags, push_location, push_numbers};
+use std::alloc::{AllocError, Global};
+use std::io;
+use walrus_body::{
+    AcceptAll, DataSegmentsVisitor, FactsVisitor, IndicesToIds, LocalFunction, OpCheck,
+    SizeVisitor, ValidationContext,
+};
+use walrus_ir::{
+    BlockKind, FunctionBuilder, InstrLocId, InstrSeqId, InstrSeqType, LocalId, ModuleTypes, TagId,
+    TypeId, ValType,
+};
+use walrus_run::{NamedBody, demo};
+use wasm_encode::FunctionEncoder;
+use wasm_ops::{BlockType, Operator, Reader};
+
+/// Appends the labels of an operator.
+fn push_labels(text: &mut String, op: &Operator<'_>) -> Result<(), AllocError> {
+    match op {
+        Operator::BrTable(table) => {
+            write!(text, " {} {}", table.len(), table.default())?;
+            for label in table.targets() {
+                write!(text, " {label}")?;
+            }
+            Ok(())
+        }
+        Operator::TryTable { catches, .. } => {
+            write!(text, " {}", catches.len())?;
+            for clause in catches.iter() {
+                write!(text, " {}", clause.label)?;
+            }
+            Ok(())
+        }
+        _ => Ok(()),
+    }
+}
+
+/// Reads a `try_table`, a `br_table`, an `end`, and nothing after it.
+fn read_operators(text: &mut String) -> Result<(), AllocError> {
+    let bytes = [
+        0x1f, 0x40, 0x01, 0x02, 0x03, 0x0e, 0x02, 0x00, 0x01, 0x04, 0x0b,
+    ];
+    let mut reader = Reader::new(&bytes, 0);
+    for _ in 0..4 {
+        let place = reader.original_position();
+        push_numbers(text, &[place])?;
+        if let Ok(op) = reader.read() {
+            push_labels(text, &op)?;
+            push_flags(text, &[AcceptAll.op(place, &op).is_ok()])?;
+        }
+    }
+    push_flags(text, &[reader.eof()])
+}
+
+fn push_id(text: &mut String, id: Option<TypeId>) -> Result<(), AllocError> {
+    write!(text, " {:?}", id.map(TypeId::index))
+}
+
+/// The function type of a sequence, if it has one.
+fn function_type(ty: InstrSeqType) -> Option<TypeId> {
+    match ty {
+        InstrSeqType::MultiValue(id) => Some(id),
+        InstrSeqType::Simple(_) => None,
+    }
+}
+
+/// The type of a sequence that takes a number and gives nothing.
+fn existing_type(types: &ModuleTypes) -> Option<TypeId> {
+    match InstrSeqType::existing(types, &[ValType::I32], &[]) {
+        Some(ty) => function_type(ty),
+        None => None,
+    }
+}
+
+/// Appends how many values a function type takes and gives.
+fn push_sizes(text: &mut String, types: &ModuleTypes, id: TypeId) -> Result<(), AllocError> {
+    if types.is_func(id) {
+        let (params, results) = types.params_results(id);
+        push_numbers(text, &[params.len(), results.len()])?;
+        push_numbers(text, &[types.params(id).len(), types.results(id).len()])?;
+    }
+    Ok(())
+}
+
+/// Looks at types: finds some, and appends how many values a function type takes and gives.
+fn look_at_types(text: &mut String, types: &ModuleTypes) -> Result<(), AllocError> {
+    push_id(text, existing_type(types))?;
+    push_id(text, types.find(&[], &[]))?;
+    push_id(text, types.find_for_function_entry(&[]))?;
+    push_sizes(text, types, TypeId::new(2))?;
+    push_flags(text, &[types.is_func(TypeId::new(9))])
+}
+
+/// Looks at tags, locals and new indices.
+fn look_at_items(text: &mut String, demo: &Demo<'_>) -> Result<(), AllocError> {
+    push_id(text, demo.module.tags.get(TagId::new(1)))?;
+    let local = demo.module.locals.get(LocalId::new(1));
+    write!(text, " {local:?}")?;
+    push_new_indices(text, demo.numbers)
+}
+
+/// The sizes with which visitors begin.
+fn first_sizes(alloc: Global) -> [u64; 2] {
+    let size = FactsVisitor::new(alloc).facts.size;
+    [size, SizeVisitor::new().size]
+}
+
+/// How many segments a visitor begins with.
+fn first_segments(alloc: Global) -> usize {
+    DataSegmentsVisitor::new(alloc).segments.len()
+}
+
+/// Whether a function without sequences has an entry.
+fn has_entry(alloc: Global, ty: TypeId) -> bool {
+    let builder = FunctionBuilder::without_entry(alloc, ty);
+    LocalFunction::new(Vec::new(alloc), builder).has_entry()
+}
+
+/// The lengths of the parts of a context.
+fn lengths(context: ValidationContext<'_>) -> [usize; 3] {
+    let (builder, controls, instrs) = context.into_parts();
+    [builder.count(), controls.len(), instrs.len()]
+}
+
+/// Makes empty collections.
+fn make_collections(text: &mut String, alloc: Global, demo: &Demo<'_>) -> Result<(), AllocError> {
+    Items::new(alloc, Item::Tag).show(text)?;
+    Maps::new(alloc, Kind::OldLocal).show(text)?;
+    write!(text, " {:?}", first_sizes(alloc))?;
+    push_numbers(text, &[first_segments(alloc)])?;
+    push_flags(text, &[has_entry(alloc, demo.ty)])?;
+    push_numbers(text, &lengths(without_frame(alloc, demo)))
+}
+
+/// The module, and what is made from nothing.
+#[derive(Clone, Copy)]
+struct OfModule<'a> {
+    alloc: Global,
+    demo: &'a Demo<'a>,
+}
+
+impl Scenario for OfModule<'_> {
+    fn call(&mut self, returned: &mut String) -> Result<(), AllocError> {
+        read_operators(returned)?;
+        look_at_types(returned, &self.demo.module.types)?;
+        look_at_items(returned, self.demo)?;
+        make_collections(returned, self.alloc, self.demo)
+    }
+}
+
+impl Scenario for IndicesToIds {
+    fn call(&mut self, returned: &mut String) -> Result<(), AllocError> {
+        if self.get_type(3).is_ok() {
+            self.remap_type(3, TypeId::new(8));
+        }
+        push_ids(returned, self)
+    }
+}
+
+/// Sets the entry of a function to what it is, and changes the end of its second sequence.
+fn change(function: &mut LocalFunction) {
+    let (first, second) = (InstrSeqId::new(0), InstrSeqId::new(1));
+    function.builder_mut().set_entry(first);
+    if function.has_block(second) {
+        function.block_mut(second).end = InstrLocId::new(33);
+    }
+}
+
+/// Appends a function's type and sequences: number, length and end.
+fn push_blocks(text: &mut String, function: &LocalFunction) -> Result<(), AllocError> {
+    push_numbers(text, &[function.ty().index()])?;
+    for slot in 0..4 {
+        let id = InstrSeqId::new(slot);
+        if function.has_block(id) {
+            let seq = function.block(id);
+            push_numbers(text, &[seq.id().index(), seq.len()])?;
+            text.push(' ')?;
+            push_location(text, seq.end)?;
+        }
+    }
+    Ok(())
+}
+
+impl Scenario for LocalFunction {
+    fn call(&mut self, returned: &mut String) -> Result<(), AllocError> {
+        change(self);
+        let entry = self.builder().entry().map(InstrSeqId::index);
+        write!(returned, " {entry:?}")?;
+        if self.has_entry() {
+            push_numbers(returned, &[self.entry_block().index()])?;
+            push_flags(returned, &[self.is_const()])?;
+        }
+        push_blocks(returned, self)
+    }
+}
+
+/// Whether the innermost frame is a loop.
+fn is_loop(context: &ValidationContext<'_>) -> bool {
+    context.kind_at(0) == Ok(BlockKind::Loop)
+}
+
+/// Whether code can't be reached in the innermost frame.
+fn is_dead(context: &ValidationContext<'_>) -> bool {
+    match context.control(0) {
+        Ok(frame) => frame.unreachable,
+        Err(_) => false,
+    }
+}
+
+/// The id of the local with the old index 2.
+fn local_of(context: &ValidationContext<'_>) -> Option<usize> {
+    match context.local(2) {
+        Ok(local) => Some(local.index()),
+        Err(_) => None,
+    }
+}
+
+impl Scenario for ValidationContext<'_> {
+    fn call(&mut self, returned: &mut String) -> Result<(), AllocError> {
+        let has_type = self.has_block_type(BlockType::FuncType(1)).is_ok();
+        let is_loop = is_loop(self);
+        let is_marked = self.unreachable().is_ok();
+        let (is_dead, has_outer) = (is_dead(self), self.control(1).is_ok());
+        push_flags(
+            returned,
+            &[has_type, is_loop, is_marked, is_dead, has_outer],
+        )?;
+        write!(returned, " {:?}", local_of(self))
+    }
+}
+
+/// Looks at an encoder, and takes its bytes.
+fn take_bytes(text: &mut String, encoder: FunctionEncoder) -> Result<(), AllocError> {
+    push_numbers(text, &[encoder.byte_len(), encoder.bytes().len()])?;
+    push_bytes(text, &encoder.into_raw_body())
+}
+
+impl Scenario for Option<FunctionEncoder> {
+    fn call(&mut self, returned: &mut String) -> Result<(), AllocError> {
+        match self.take() {
+            Some(encoder) => take_bytes(returned, encoder),
+            None => Ok(()),
+        }
+    }
+}
+
+impl Scenario for NamedBody {
+    fn call(&mut self, returned: &mut String) -> Result<(), AllocError> {
+        push_numbers(returned, &[self.ops().len()])?;
+        write!(returned, " {:?} {:?}", self.place(1), self.place(9))
+    }
+}
+
+const CALL: &str = "no-memory";
+
+fn run_indices(selection: Selection<'_>) -> io::Result<()> {
+    match demo::indices(selection.alloc()) {
+        Ok(mut indices) => selection.run(CALL, "indices", &mut indices),
+        Err(_) => Err(io::Error::from(AllocError)),
+    }
+}
+
+fn run_function(selection: Selection<'_>, demo: &Demo<'_>, bytes: &[u8]) -> io::Result<()> {
+    let mut function = demo.accepted(selection.alloc(), bytes)?;
+    selection.run(CALL, "function", &mut function)
+}
+
+fn run_named(selection: Selection<'_>, demo: &Demo<'_>, bytes: &[u8]) -> io::Result<()> {
+    match read(selection.alloc(), demo, bytes) {
+        Ok(mut named) => selection.run(CALL, "named", &mut named),
+        Err(_) => Err(io::Error::from(io::ErrorKind::InvalidData)),
+    }
+}
+
+/// Runs the scenario of a context with one open frame, of a loop.
+fn run_context(selection: Selection<'_>, demo: &Demo<'_>) -> io::Result<()> {
+    let mut context = without_frame(selection.alloc(), demo);
+    match context.push_control(BlockKind::Loop, &[], &[]) {
+        Ok(_) => selection.run(CALL, "context", &mut context),
+        Err(_) => Err(io::Error::from(AllocError)),
+    }
+}
+
+fn run_encoder(selection: Selection<'_>) -> io::Result<()> {
+    let mut encoder = Some(FunctionEncoder::new(selection.alloc(), &[])?);
+    selection.run(CALL, "encoder", &mut encoder)
+}
+
+/// Runs the scenarios of these calls that are selected.
+pub(crate) fn run(selection: Selection<'_>, demo: &Demo<'_>) -> io::Result<()> {
+    let alloc = selection.alloc();
+    selection.run(CALL, "module", &mut OfModule { alloc, demo })?;
+    run_indices(selection)?;
+    let bytes = bytes_of(alloc, "00410104400b0b")?;
+    run_function(selection, demo, &bytes)?;
+    run_named(selection, demo, &bytes)?;
+    run_context(selection, demo)?;
+    run_encoder(selection)
+}
