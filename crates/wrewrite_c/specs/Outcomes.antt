@@ -1,0 +1,107 @@
+-- How calls end.
+use Rattle.std.specs.Prelude.{◌≡◌, ◌≢◌, ◌⊎◌, ◌<◌, ◌≤◌, ◌-◌, ◌^◌, ℕ, List, [], ◌++◌, length, drop, Bool, true, false, MatchOption}
+use Rattle.wasm_module.specs.declared.fault.ModuleError.{ModuleError}
+use Rattle.wasm_module.specs.declared.fault.ModuleFault.{ModuleFault}
+use Rattle.wasm_module.specs.declared.fault.ModuleFault.TheVariants.{Memory, TooGreat}
+use Rattle.wasm_module.specs.declared.parsed.ParsedModule.{ParsedModule}
+use Rattle.wasm_module.specs.CodeSections.{BodyAt}
+use Rattle.wasm_module.specs.Refusals.{IsRefused}
+use Rattle.wrewrite_c.specs.declared.outcome.Outcome.{Outcome}
+use Rattle.wrewrite_c.specs.declared.outcome.Refusal.{Refusal}
+use Rattle.wrewrite_c.specs.declared.outcome.Stop.{Stop}
+use Rattle.wrewrite_c.specs.declared.outcome.Stop.TheVariants.{Refused, NoFunction}
+use Rattle.wrewrite_c.specs.Made.{is_listed}
+
+-- the place, and the index of the function, where there is none
+abbrev pub nowhere : ℕ
+nowhere = 2 ^ 64 - 1
+
+-- how many bytes the module and its location map take
+abbrev pub HasSizes : (size map_size : ℕ) → Outcome → Type 0
+HasSizes size map_size o = (o.module_size ≡ size) × (o.map_size ≡ map_size)
+
+-- ---- what is handed out
+
+-- The bytes are put at the front of others, and what follows there stays.
+abbrev pub IsPutIn : (bytes old new : List ℕ) → Type 0
+IsPutIn bytes old new = (length bytes ≤ length old) × (new ≡ bytes ++ drop (length bytes) old)
+
+-- A module and the lines of its map are put where they are wanted; or nothing is, since one of them doesn't fit.
+pub data IsDelivered (bytes lines out out' map map' : List ℕ) (o : Outcome) : Type 0 where
+  both_fit : o.status ≡ 0 → HasSizes (length bytes) (length lines) o → IsPutIn bytes out out' → IsPutIn lines map map' → IsDelivered bytes lines out out' map map' o
+  one_is_too_large :
+      o.status ≡ 3 → HasSizes (length bytes) (length lines) o → (length out < length bytes) ⊎ (length map < length lines) → out' ≡ out → map' ≡ map →
+      IsDelivered bytes lines out out' map map' o
+
+-- ---- why nothing is made
+
+-- the status for a fault: 4 where memory ran out, and else 1
+abbrev pub IsStatusOf : ModuleFault → (status : ℕ) → Type 0
+IsStatusOf fault status = (fault ≡ Memory → status ≡ 4) × (fault ≢ Memory → status ≡ 1)
+
+-- the place for a fault: its own, where it has one
+abbrev pub IsPlaceOf : ModuleError → (place : ℕ) → Type 0
+IsPlaceOf error place = error.fault ≢ Memory → error.fault ≢ TooGreat → place ≡ error.at
+
+pub record HasRefusal (r : Refusal) (o : Outcome) : Type 0 where
+  pub status : IsStatusOf r.error.fault o.status
+  pub place : IsPlaceOf r.error o.place
+  pub function : MatchOption r.function (o.function ≡ nowhere) (λ index. o.function ≡ index)
+
+-- the outcome for what stopped a call: 2 where a function is named that has no body
+abbrev pub IsStopped : Stop → Outcome → Type 0
+IsStopped (Refused r) o = HasRefusal r o
+IsStopped (NoFunction index) o = (o.status ≡ 2) × (o.function ≡ index)
+
+-- It is the module that is refused, or memory ran out.
+abbrev pub IsOfModule : Stop → Type 0
+IsOfModule (Refused r) = Unit {0}
+IsOfModule (NoFunction index) = ⊥
+
+-- A function with a body has this index.
+abbrev pub HasBody : ParsedModule → (index : ℕ) → Type 0
+HasBody parsed index = (parsed.imported ≤ index) × (index < length parsed.func_types.items)
+
+-- no function with a body has this index; or memory ran out
+abbrev pub IsMissing : ParsedModule → (index : ℕ) → Stop → Type 0
+IsMissing parsed index (Refused r) = r.error.fault ≡ Memory
+IsMissing parsed index (NoFunction other) = (other ≡ index) × (HasBody parsed other → ⊥)
+
+-- or one of these indices
+abbrev pub IsMissingIn : ParsedModule → (indices : List ℕ) → Stop → Type 0
+IsMissingIn parsed indices (Refused r) = r.error.fault ≡ Memory
+IsMissingIn parsed indices (NoFunction index) = (is_listed indices index ≡ true) × (HasBody parsed index → ⊥)
+
+-- The same of the module of these bytes, as it was read; or the module is refused.
+abbrev pub LacksFunction : (indices source : List ℕ) → Stop → Type 0
+LacksFunction indices source (Refused r) = Unit {0}
+LacksFunction indices source (NoFunction index) =
+    (is_listed indices index ≡ true) × ((parsed : ParsedModule) × (parsed.bytes.now ≡ source) × (HasBody parsed index → ⊥))
+
+-- ---- calls
+
+-- A call makes a module, as is said of its bytes, and the lines of a map, if one is wanted; or stops, for a reason that may come.
+pub data Ends (IsMade : List ℕ → Type 0) (has_map : Bool) (MayStop : Stop → Type 0) (out out' map map' : List ℕ) (o : Outcome) : Type 0 where
+  made :
+      (bytes lines : List ℕ) → IsMade bytes → (has_map ≡ false → lines ≡ []) → IsDelivered bytes lines out out' map map' o →
+      Ends IsMade has_map MayStop out out' map map' o
+  stopped : (stop : Stop) → MayStop stop → IsStopped stop o → HasSizes 0 0 o → out' ≡ out → map' ≡ map → Ends IsMade has_map MayStop out out' map map' o
+
+-- This function, from the first that is looked at on, is refused for this fault.
+pub record IsOfFunction (source : List ℕ) (first : ℕ) (error : ModuleError) (function : ℕ) : Type 0 where
+  pub follows : first ≤ function
+  pub parsed : ParsedModule
+  pub bytes_are : parsed.bytes.now ≡ source
+  pub body : BodyAt
+  pub now : ParsedModule
+  pub is_refused : IsRefused parsed function body now error
+
+-- Where a function is named, it is the one that is refused.
+abbrev pub IsOfCheck : (source : List ℕ) → (first : ℕ) → Stop → Type 0
+IsOfCheck source first (Refused r) = MatchOption r.function (Unit {0}) (IsOfFunction source first r.error)
+IsOfCheck source first (NoFunction index) = ⊥
+
+-- A check finds nothing that is refused, or this.
+pub data IsChecked (source : List ℕ) (first : ℕ) (o : Outcome) : Type 0 where
+  accepted : o.status ≡ 0 → HasSizes 0 0 o → IsChecked source first o
+  refused : (stop : Stop) → IsOfCheck source first stop → IsStopped stop o → HasSizes 0 0 o → IsChecked source first o

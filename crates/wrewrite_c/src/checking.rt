@@ -1,0 +1,66 @@
+//! Modules that are checked: their bodies are parsed, and nothing is written.
+
+ghost use Rattle.std.specs.Prelude.{IfErr, IfSome};
+ghost use Rattle.wasm_module.specs.CodeSections.{body_at};
+ghost use Rattle.wasm_module.specs.RewrittenCode.{Extends};
+ghost use Rattle.wasm_module.specs.Refusals.{IsRefused};
+ghost use Rattle.wrewrite_c.specs.Outcomes.{IsOfCheck};
+
+use crate::outcome::{Refusal, Stop};
+use std::alloc::Global;
+use wasm_module::{Body, ModuleError, ParsedModule, Scratch};
+
+/// Why a body is refused, if it is.
+fn fault_of<'a>(
+    parsed: &mut ParsedModule<'a>,
+    body: Body<'a>,
+    scratch: &mut Scratch,
+) -> Option<ModuleError>
+    ensures extends { Extends parsed.old parsed.new }
+    ensures refused { IfSome result
+        (IsRefused parsed.old body.entry.func (body_at body.entry) parsed.new) }
+{
+    match parsed.parse(body, scratch) {
+        Ok(_function) => None,
+        Err(error) => Some(error),
+    }
+}
+
+/// Parses the bodies from that of this function on.
+fn check_bodies(
+    parsed: &mut ParsedModule<'_>,
+    first: usize,
+    scratch: &mut Scratch,
+) -> Result<(), Stop>
+    ensures { IfErr result (IsOfCheck parsed.old.bytes.now first) }
+{
+    'bodies: for body in parsed.bodies() {
+        if body.func < first {
+            continue;
+        }
+        if let Some(error) = fault_of(parsed, body, scratch) {
+            return Err(Stop::Refused(Refusal {
+                error,
+                function: Some(body.func),
+            }));
+        }
+    }
+    Ok(())
+}
+
+/// Parses the bodies of a module, from that of this function on.
+pub(crate) fn check(alloc: Global, source: &[u8], first: usize) -> Result<(), Stop>
+    ensures { IfErr result (IsOfCheck source.now first) }
+{
+    let mut parsed = match ParsedModule::read(alloc, source) {
+        Ok(parsed) => parsed,
+        Err(error) => {
+            return Err(Stop::Refused(Refusal {
+                error,
+                function: None,
+            }));
+        }
+    };
+    let mut scratch = Scratch::new(alloc);
+    check_bodies(&mut parsed, first, &mut scratch)
+}

@@ -1,0 +1,256 @@
+//! Modules that are made of others: rewritten, or snipped.
+
+ghost use Rattle.std.specs.Prelude.{◌≡◌, ◌++◌, ℕ, List, [], true, false, OnOk, IfOk, IfErr};
+ghost use Rattle.std.specs.HashSet.{IsEmpty};
+ghost use Rattle.module_tools.specs.FunctionChanges.{Snips};
+ghost use Rattle.wasm_module.specs.RewrittenCode.{IsRewritten, IsChanged};
+ghost use Rattle.wasm_module.specs.WrittenModules.{given_in, IsWrittenModule};
+ghost use Rattle.wrewrite_c.specs.Made.{IsMadeOf, IsSnippedOf, HasFunctions, Adds};
+ghost use Rattle.wrewrite_c.specs.Outcomes.{IsOfModule, IsMissing, IsMissingIn, LacksFunction};
+
+use crate::made::{Made, Wanted};
+use crate::outcome::{Refusal, Stop};
+use module_tools::{Snipping, function_at};
+use std::alloc::Global;
+use walrus_ir::{FunctionId, IdHashSet};
+use wasm_module::{
+    BodyWriter, Changes, ModuleError, ModuleFault, ParsedModule, RewrittenModule, WriteError,
+};
+
+/// The error of a module that isn't written into memory.
+fn module_error(error: WriteError) -> ModuleError {
+    match error {
+        WriteError::Module(error) => error,
+        // Bytes in memory can always be written, unless it runs out.
+        WriteError::Io(_) => ModuleError {
+            fault: ModuleFault::Memory,
+            at: 0,
+        },
+    }
+}
+
+/// A fault of a module that was read.
+fn stop_of(parsed: &ParsedModule<'_>, error: ModuleError) -> Stop
+    ensures { IsOfModule result }
+{
+    Stop::Refused(Refusal {
+        error,
+        function: function_at(parsed, error.at),
+    })
+}
+
+/// Leaves out debug information, where that is wanted.
+fn strip<B>(rewritten: &mut RewrittenModule<'_, B>, strips_debug: bool)
+    ensures bodies { rewritten.new.bodies ≡ rewritten.old.bodies }
+    ensures given { given_in rewritten.new ≡ given_in rewritten.old }
+    ensures strips { strips_debug ≡ true → rewritten.new.changes.leaves_out_debug ≡ true }
+{
+    if strips_debug {
+        rewritten.leave_out_debug();
+    }
+}
+
+/// Writes a module, and its location map where that is wanted.
+fn write_made<B: BodyWriter>(
+    parsed: &mut ParsedModule<'_>,
+    rewritten: &RewrittenModule<'_, B>,
+    has_map: bool,
+    made: &mut Made,
+) -> Result<(), WriteError>
+    ensures written { OnOk result ((new : List ℕ)
+        × IsWrittenModule (B.writes rewritten.now.bodies) parsed.old rewritten.now.changes new
+        × (made.new.bytes.items ≡ made.old.bytes.items ++ new)) }
+    ensures no_map { has_map ≡ false → made.new.lines.items ≡ made.old.lines.items }
+{
+    match has_map {
+        true => parsed.write_module_with_map(rewritten, &mut made.bytes, &mut made.lines),
+        false => parsed.write_module(rewritten, &mut made.bytes),
+    }
+}
+
+/// Writes what was made of a module that was read.
+fn finish<B: BodyWriter>(
+    parsed: &mut ParsedModule<'_>,
+    rewritten: &mut RewrittenModule<'_, B>,
+    wanted: Wanted,
+    made: &mut Made,
+) -> Result<(), ModuleError>
+    requires none_given { given_in rewritten.old ≡ [] }
+    requires empty { made.old.bytes.items ≡ [] }
+    ensures written { OnOk result (IsMadeOf (B.writes rewritten.old.bodies) parsed.old.bytes.now
+        wanted.strips_debug made.new.bytes.items) }
+    ensures no_map { wanted.has_map ≡ false → made.new.lines.items ≡ made.old.lines.items }
+{
+    strip(rewritten, wanted.strips_debug);
+    match write_made(parsed, rewritten, wanted.has_map, made) {
+        Ok(()) => Ok(()),
+        Err(error) => Err(module_error(error)),
+    }
+}
+
+/// Rewrites a module that was read.
+fn rewrite_parsed(
+    parsed: &mut ParsedModule<'_>,
+    wanted: Wanted,
+    made: &mut Made,
+) -> Result<(), ModuleError>
+    requires { made.old.bytes.items ≡ [] }
+    ensures written { OnOk result (IsMadeOf IsRewritten parsed.old.bytes.now
+        wanted.strips_debug made.new.bytes.items) }
+    ensures no_map { wanted.has_map ≡ false → made.new.lines.items ≡ made.old.lines.items }
+{
+    match parsed.rewrite_all() {
+        Ok(mut rewritten) => finish(parsed, &mut rewritten, wanted, made),
+        Err(error) => Err(error),
+    }
+}
+
+/// Rewrites a module.
+pub(crate) fn rewrite(
+    alloc: Global,
+    source: &[u8],
+    wanted: Wanted,
+    made: &mut Made,
+) -> Result<(), Stop>
+    requires { made.old.bytes.items ≡ [] }
+    ensures written { OnOk result (IsMadeOf IsRewritten source.now
+        wanted.strips_debug made.new.bytes.items) }
+    ensures no_map { wanted.has_map ≡ false → made.new.lines.items ≡ made.old.lines.items }
+    ensures stops { IfErr result IsOfModule }
+{
+    let mut parsed = match ParsedModule::read(alloc, source) {
+        Ok(parsed) => parsed,
+        Err(error) => {
+            return Err(Stop::Refused(Refusal {
+                error,
+                function: None,
+            }));
+        }
+    };
+    match rewrite_parsed(&mut parsed, wanted, made) {
+        Ok(()) => Ok(()),
+        Err(error) => Err(stop_of(&parsed, error)),
+    }
+}
+
+/// Adds a function to those that are to be snipped.
+fn add_function(
+    parsed: &ParsedModule<'_>,
+    index: usize,
+    functions: &mut IdHashSet<FunctionId>,
+) -> Result<(), Stop>
+    ensures added { OnOk result (Adds index functions.old functions.new) }
+    ensures stops { IfErr result (IsMissing parsed.now index) }
+{
+    if !parsed.has_body(index) {
+        return Err(Stop::NoFunction(index));
+    }
+    match functions.insert(FunctionId::new(index)) {
+        Ok(_) => Ok(()),
+        Err(_) => Err(Stop::MEMORY),
+    }
+}
+
+/// Adds the functions with these indices.
+fn add_functions(
+    parsed: &ParsedModule<'_>,
+    indices: &[usize],
+    functions: &mut IdHashSet<FunctionId>,
+) -> Result<(), Stop>
+    requires { IsEmpty functions.old }
+    ensures added { OnOk result (HasFunctions indices.now functions.new) }
+    ensures stops { IfErr result (IsMissingIn parsed.now indices.now) }
+{
+    for index in indices {
+        match add_function(parsed, *index, functions) {
+            Ok(()) => {}
+            Err(stop) => return Err(stop),
+        }
+    }
+    Ok(())
+}
+
+/// The functions with these indices.
+fn functions_of(
+    alloc: Global,
+    parsed: &ParsedModule<'_>,
+    indices: &[usize],
+) -> Result<IdHashSet<FunctionId>, Stop>
+    ensures made { IfOk result (λ functions. HasFunctions indices.now functions) }
+    ensures stops { IfErr result (IsMissingIn parsed.now indices.now) }
+{
+    let mut functions = IdHashSet::new(alloc);
+    match add_functions(parsed, indices, &mut functions) {
+        Ok(()) => Ok(functions),
+        Err(stop) => Err(stop),
+    }
+}
+
+/// Takes away the bodies of functions of a module that was read.
+fn snip_functions(
+    alloc: Global,
+    parsed: &mut ParsedModule<'_>,
+    functions: IdHashSet<FunctionId>,
+    wanted: Wanted,
+    made: &mut Made,
+) -> Result<(), ModuleError>
+    requires { made.old.bytes.items ≡ [] }
+    ensures written { OnOk result (IsMadeOf (IsChanged (Snips functions)) parsed.old.bytes.now
+        wanted.strips_debug made.new.bytes.items) }
+    ensures no_map { wanted.has_map ≡ false → made.new.lines.items ≡ made.old.lines.items }
+{
+    match parsed.change_all(Snipping::new(functions), Changes::new(alloc)) {
+        Ok(mut rewritten) => finish(parsed, &mut rewritten, wanted, made),
+        Err(error) => Err(error),
+    }
+}
+
+/// Takes away the bodies of functions of a module that was read.
+fn snip_parsed(
+    alloc: Global,
+    parsed: &mut ParsedModule<'_>,
+    indices: &[usize],
+    wanted: Wanted,
+    made: &mut Made,
+) -> Result<(), Stop>
+    requires { made.old.bytes.items ≡ [] }
+    ensures written { OnOk result (IsSnippedOf indices.now parsed.old.bytes.now
+        wanted.strips_debug made.new.bytes.items) }
+    ensures no_map { wanted.has_map ≡ false → made.new.lines.items ≡ made.old.lines.items }
+    ensures stops { IfErr result (LacksFunction indices.now parsed.old.bytes.now) }
+{
+    let functions = match functions_of(alloc, parsed, indices) {
+        Ok(functions) => functions,
+        Err(stop) => return Err(stop),
+    };
+    match snip_functions(alloc, parsed, functions, wanted, made) {
+        Ok(()) => Ok(()),
+        Err(error) => Err(stop_of(parsed, error)),
+    }
+}
+
+/// Takes away the bodies of the functions with these indices.
+pub(crate) fn snip(
+    alloc: Global,
+    source: &[u8],
+    indices: &[usize],
+    wanted: Wanted,
+    made: &mut Made,
+) -> Result<(), Stop>
+    requires { made.old.bytes.items ≡ [] }
+    ensures written { OnOk result (IsSnippedOf indices.now source.now
+        wanted.strips_debug made.new.bytes.items) }
+    ensures no_map { wanted.has_map ≡ false → made.new.lines.items ≡ made.old.lines.items }
+    ensures stops { IfErr result (LacksFunction indices.now source.now) }
+{
+    let mut parsed = match ParsedModule::read(alloc, source) {
+        Ok(parsed) => parsed,
+        Err(error) => {
+            return Err(Stop::Refused(Refusal {
+                error,
+                function: None,
+            }));
+        }
+    };
+    snip_parsed(alloc, &mut parsed, indices, wanted, made)
+}
