@@ -1,7 +1,7 @@
 -- What words ask of a program.
 use Rattle.std.specs.Prelude.{◌≡◌, length, false, nat_lt, None}
-use Rattle.module_tools.specs.declared.ending.Stop.{Stop}
-use Rattle.module_tools.specs.declared.ending.Stop.TheVariants as stop
+use Rattle.module_tools.specs.declared.ending.Failure.{Failure}
+use Rattle.module_tools.specs.declared.ending.Failure.TheVariants as failure
 use Rattle.module_tools.specs.declared.program.Options.{Options}
 use Rattle.module_tools.specs.declared.program.Program.{Program}
 use Rattle.module_tools.specs.declared.program.Request.{Request}
@@ -25,11 +25,11 @@ IsRequestOf program request.Version = Unit {0}
 IsRequestOf program (request.Task task) = IsTaskOf program task
 
 -- The words are refused: they are wrong, or memory ran out.
-abbrev pub IsRefusedRequest : Stop → Type 0
-IsRefusedRequest (stop.WrongUse _) = Unit {0}
-IsRefusedRequest (stop.Refused _) = ⊥
-IsRefusedRequest (stop.File _ _ _) = ⊥
-IsRefusedRequest stop.Memory = Unit {0}
+abbrev pub IsRefusedRequest : Failure → Type 0
+IsRefusedRequest (failure.UsageError _) = Unit {0}
+IsRefusedRequest (failure.Refused _) = ⊥
+IsRefusedRequest (failure.File _ _ _) = ⊥
+IsRefusedRequest failure.Memory = Unit {0}
 
 -- ---- as the code holds them
 

@@ -5,7 +5,7 @@ ghost use Rattle.std.specs.Process.{exit_status};
 ghost use Rattle.module_tools.specs.Endings.{status_of, IsMemoryOr};
 
 use crate::escaped::Escaped;
-use crate::wrong_use::WrongUse;
+use crate::usage_error::UsageError;
 use source_map_json::{SourceMapError, SourceMapFault};
 use std::alloc::{AllocError, AllocFailed, Global};
 use std::process::ExitCode;
@@ -194,9 +194,9 @@ impl fmt::Display for Refusal<'_> {
 
 /// Why a program writes no module.
 #[derive(Drop)]
-pub enum Stop<'w> {
+pub enum Failure<'w> {
     /// The arguments are wrong.
-    WrongUse(WrongUse<'w>),
+    UsageError(UsageError<'w>),
     /// The module, or its source map, is refused.
     Refused(Refusal<'w>),
     /// Something can't be done with a file.
@@ -209,51 +209,51 @@ pub enum Stop<'w> {
     Memory,
 }
 
-impl<'w> Stop<'w> {
+impl<'w> Failure<'w> {
     /// The module that was read from this file is refused.
     pub fn refused(
         alloc: Global,
         path: &'w str,
         item: Option<Item>,
         error: &ModuleError,
-    ) -> Stop<'w> {
+    ) -> Failure<'w> {
         if matches!(error.fault, ModuleFault::Memory) {
-            return Stop::Memory;
+            return Failure::Memory;
         }
         match Refusal::new(alloc, path, item, error) {
-            Ok(refusal) => Stop::Refused(refusal),
-            Err(_) => Stop::Memory,
+            Ok(refusal) => Failure::Refused(refusal),
+            Err(_) => Failure::Memory,
         }
     }
 
     /// The source map that was read from this file is refused.
-    pub fn source_map(alloc: Global, path: &'w str, error: SourceMapError) -> Stop<'w> {
+    pub fn source_map(alloc: Global, path: &'w str, error: SourceMapError) -> Failure<'w> {
         let SourceMapError::Fault(fault) = error else {
-            return Stop::Memory;
+            return Failure::Memory;
         };
         match Refusal::of_source_map(alloc, path, fault) {
-            Ok(refusal) => Stop::Refused(refusal),
-            Err(_) => Stop::Memory,
+            Ok(refusal) => Failure::Refused(refusal),
+            Err(_) => Failure::Memory,
         }
     }
 
     /// This can't be done with a file.
-    pub fn file(path: &'w str, tried: Attempt, error: io::Error) -> Stop<'w>
+    pub fn file(path: &'w str, tried: Attempt, error: io::Error) -> Failure<'w>
         ensures { IsMemoryOr tried path.entry.now result }
     {
         match error.kind() {
-            io::ErrorKind::OutOfMemory => Stop::Memory,
-            _ => Stop::File { path, tried, error },
+            io::ErrorKind::OutOfMemory => Failure::Memory,
+            _ => Failure::File { path, tried, error },
         }
     }
 }
 
-impl fmt::Display for Stop<'_> {
+impl fmt::Display for Failure<'_> {
     fn fmt<W: fmt::Write>(&self, f: &mut fmt::Formatter<W>) -> fmt::Result {
         match self {
-            Stop::WrongUse(error) => write!(f, "{error}"),
-            Stop::Refused(error) => write!(f, "{error}"),
-            Stop::File { path, tried, error } => {
+            Failure::UsageError(error) => write!(f, "{error}"),
+            Failure::Refused(error) => write!(f, "{error}"),
+            Failure::File { path, tried, error } => {
                 let stream = match tried {
                     Attempt::Open | Attempt::Read => "standard input",
                     _ => "standard output",
@@ -261,7 +261,7 @@ impl fmt::Display for Stop<'_> {
                 let path = Shown(path, stream);
                 write!(f, "{path}: {tried}: {error}")
             }
-            Stop::Memory => {
+            Failure::Memory => {
                 let (memory, name) = (ModuleFault::Memory, ModuleFault::Memory.name());
                 write!(f, "{memory} ({name})")
             }
@@ -269,21 +269,21 @@ impl fmt::Display for Stop<'_> {
     }
 }
 
-impl<'w> From<WrongUse<'w>> for Stop<'w> {
-    fn from(error: WrongUse<'w>) -> Stop<'w> {
-        Stop::WrongUse(error)
+impl<'w> From<UsageError<'w>> for Failure<'w> {
+    fn from(error: UsageError<'w>) -> Failure<'w> {
+        Failure::UsageError(error)
     }
 }
 
-impl From<AllocError> for Stop<'_> {
+impl From<AllocError> for Failure<'_> {
     fn from(_: AllocError) -> Self {
-        Stop::Memory
+        Failure::Memory
     }
 }
 
-impl<T: Drop> From<AllocFailed<T>> for Stop<'_> {
+impl<T: Drop> From<AllocFailed<T>> for Failure<'_> {
     fn from(_: AllocFailed<T>) -> Self {
-        Stop::Memory
+        Failure::Memory
     }
 }
 
@@ -292,7 +292,7 @@ impl<T: Drop> From<AllocFailed<T>> for Stop<'_> {
 /// # Errors
 ///
 /// Wrong use where one isn't UTF-8; or that memory ran out.
-pub fn words<R: Env + AllocGlobal>(rt: &R) -> Result<Vec<String>, Stop<'static>> {
+pub fn words<R: Env + AllocGlobal>(rt: &R) -> Result<Vec<String>, Failure<'static>> {
     let mut words = Vec::new(rt.alloc());
     match env::args(rt) {
         Ok(args) => {
@@ -302,31 +302,31 @@ pub fn words<R: Env + AllocGlobal>(rt: &R) -> Result<Vec<String>, Stop<'static>>
             Ok(words)
         }
         Err(error) if error.kind() == io::ErrorKind::InvalidData => {
-            Err(Stop::WrongUse(WrongUse::NotUtf8))
+            Err(Failure::UsageError(UsageError::NotUtf8))
         }
-        Err(_) => Err(Stop::Memory),
+        Err(_) => Err(Failure::Memory),
     }
 }
 
 /// The status of a program that stops so: 2 for wrong use, else 1.
-fn status(stop: &Stop<'_>) -> u8
-    ensures { result ≡ status_of stop.now }
+fn status(failure: &Failure<'_>) -> u8
+    ensures { result ≡ status_of failure.now }
 {
-    match stop {
-        Stop::WrongUse(_) => 2,
-        Stop::Refused(_) => 1,
-        Stop::File { .. } => 1,
-        Stop::Memory => 1,
+    match failure {
+        Failure::UsageError(_) => 2,
+        Failure::Refused(_) => 1,
+        Failure::File { .. } => 1,
+        Failure::Memory => 1,
     }
 }
 
 /// Prints to standard error why no module is written. The status is then 2 for wrong use, else 1.
-pub fn exit_code(rt: &impl Eprint, program: &str, stop: Stop<'_>) -> ExitCode
-    ensures { exit_status result ≡ status_of stop.entry }
+pub fn exit_code(rt: &impl Eprint, program: &str, failure: Failure<'_>) -> ExitCode
+    ensures { exit_status result ≡ status_of failure.entry }
 {
-    let status = status(&stop);
+    let status = status(&failure);
     // Where standard error can't be written, the status is all that is left.
-    let _ = eprintln!(rt; "{program}: {stop}");
+    let _ = eprintln!(rt; "{program}: {failure}");
     if status == 2 {
         let _ = eprintln!(rt; "try '{program} --help'");
     }

@@ -5,7 +5,7 @@ ghost use Rattle.std.specs.Prelude.{◌≡◌, ◌≤◌, false, length, IfOk, I
 ghost use Rattle.module_tools.specs.Endings.{IsMemoryOr};
 ghost use Rattle.module_tools.specs.declared.ending.Attempt.TheVariants as attempt;
 
-use crate::ending::{Attempt, Stop};
+use crate::ending::{Attempt, Failure};
 use crate::places::resolve;
 use std::alloc::{AllocError, Global};
 use std::fs::{Metadata, OpenFile, OpenOptions, Permissions};
@@ -16,28 +16,28 @@ use std::rt::Files;
 use std::{fs, io};
 
 /// How many names are tried for a file that is being written.
-const MOST_NAMES: u32 = 10_000;
+const MAX_NAMES: u32 = 10_000;
 
 /// How many bytes of a file's name are in the name of one that is written beside it: a name has 255
 /// at most.
-const MOST_NAME: usize = 200;
+const MAX_NAME_LEN: usize = 200;
 
 /// Appends the bytes of a file.
 fn read_into<'w, R: Files + Input>(
     rt: &R,
     path: &'w str,
     bytes: &mut Vec<u8>,
-) -> Result<(), Stop<'w>> {
+) -> Result<(), Failure<'w>> {
     let read = match path {
         "-" => rt.reader().read_to_end(bytes),
         path => match fs::open(rt, path) {
             Ok(mut file) => file.read_to_end(bytes),
-            Err(error) => return Err(Stop::file(path, Attempt::Open, error)),
+            Err(error) => return Err(Failure::file(path, Attempt::Open, error)),
         },
     };
     match read {
         Ok(_) => Ok(()),
-        Err(error) => Err(Stop::file(path, Attempt::Read, error)),
+        Err(error) => Err(Failure::file(path, Attempt::Read, error)),
     }
 }
 
@@ -49,14 +49,14 @@ fn read_into<'w, R: Files + Input>(
 pub fn read_file<'w, R: Files + Input + AllocGlobal>(
     rt: &R,
     path: &'w str,
-) -> Result<Vec<u8>, Stop<'w>> {
+) -> Result<Vec<u8>, Failure<'w>> {
     let mut bytes = Vec::new(rt.alloc());
     match read_into(rt, path, &mut bytes) {
         Ok(()) => {
             bytes.shrink_to_fit();
             Ok(bytes)
         }
-        Err(stop) => Err(stop),
+        Err(failure) => Err(failure),
     }
 }
 
@@ -91,7 +91,7 @@ impl AtPath {
 fn path_beside(alloc: Global, path: &str, number: u32) -> Result<String, AllocError> {
     let path = Path::new(path);
     let name = path.file_name().unwrap_or("");
-    let (front, _) = name.split_at(name.floor_char_boundary(MOST_NAME));
+    let (front, _) = name.split_at(name.floor_char_boundary(MAX_NAME_LEN));
     let name = format!(in alloc; "{front}.unfinished-{number}")?;
     Ok(path.with_file_name(alloc, name.as_str())?.into_string())
 }
@@ -127,7 +127,7 @@ fn create_beside<R: Files + AllocGlobal>(
     path: &str,
     is_private: bool,
 ) -> io::Result<(String, R::File)> {
-    for number in 0..MOST_NAMES {
+    for number in 0..MAX_NAMES {
         match try_beside(rt, path, is_private, number) {
             Ok(Some(created)) => return Ok(created),
             Ok(None) => {}
@@ -230,14 +230,14 @@ impl<'w, R: Files + AllocGlobal> Target<'w, R> {
     /// # Errors
     ///
     /// Where it can't be created, or memory runs out. What is there is then as before.
-    pub fn create(rt: &'w R, path: &'w str) -> Result<Target<'w, R>, Stop<'w>>
+    pub fn create(rt: &'w R, path: &'w str) -> Result<Target<'w, R>, Failure<'w>>
         ensures path { IfOk result (λ target. target.path.now ≡ path.entry.now) }
         ensures fresh { IfOk result (λ target. target.has_failed ≡ false) }
         ensures refused { IfErr result (IsMemoryOr attempt.Create path.entry.now) }
     {
         match Target::try_create(rt, path) {
             Ok(target) => Ok(target),
-            Err(error) => Err(Stop::file(path, Attempt::Create, error)),
+            Err(error) => Err(Failure::file(path, Attempt::Create, error)),
         }
     }
 
@@ -260,7 +260,7 @@ impl<'w, R: Files + AllocGlobal> Target<'w, R> {
     /// # Errors
     ///
     /// Where that can't be done. The file is then removed, and what is at its place stays.
-    pub fn keep(self) -> Result<(), Stop<'w>>
+    pub fn keep(self) -> Result<(), Failure<'w>>
         ensures { IfErr result (IsMemoryOr attempt.Rename self.entry.path.now) }
     {
         let Target {
@@ -297,26 +297,26 @@ impl<'w, R: Files + AllocGlobal> Target<'w, R> {
     /// # Errors
     ///
     /// Why it isn't written whole, as is handed in; or where it can't be put in its place.
-    pub fn end(self, written: Result<(), Stop<'w>>) -> Result<(), Stop<'w>> {
+    pub fn end(self, written: Result<(), Failure<'w>>) -> Result<(), Failure<'w>> {
         match written {
             Ok(()) => self.keep(),
-            Err(stop) => {
+            Err(failure) => {
                 self.discard();
-                Err(stop)
+                Err(failure)
             }
         }
     }
 }
 
 /// Puts a file that was written beside its place there, or removes it.
-fn put<'w>(rt: &impl Files, path: &'w str, beside: &str, place: &str) -> Result<(), Stop<'w>>
+fn put<'w>(rt: &impl Files, path: &'w str, beside: &str, place: &str) -> Result<(), Failure<'w>>
     ensures { IfErr result (IsMemoryOr attempt.Rename path.entry.now) }
 {
     match fs::rename(rt, beside, place) {
         Ok(()) => Ok(()),
         Err(error) => {
             let _ = fs::remove_file(rt, beside);
-            Err(Stop::file(path, Attempt::Rename, error))
+            Err(Failure::file(path, Attempt::Rename, error))
         }
     }
 }

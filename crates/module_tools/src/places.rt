@@ -1,13 +1,13 @@
 //! Where paths lead: two of them may be one file.
 
 ghost use Rattle.std.specs.Prelude.{◌≡◌, ◌↔◌, IsTrue, IsNone, IsOk, IfOk, IfErr, IfSome};
-ghost use Rattle.module_tools.specs.Places.{IsOnePlace, IsOtherPath, IsRefusedTask};
+ghost use Rattle.module_tools.specs.Places.{IsSamePlace, IsOtherPath, IsRefusedTask};
 ghost use Rattle.module_tools.specs.declared.ending.Attempt.TheVariants as attempt;
 ghost use Rattle.module_tools.specs.Endings.{IsMemoryOr};
 
-use crate::ending::{Attempt, Stop};
+use crate::ending::{Attempt, Failure};
 use crate::program::Task;
-use crate::wrong_use::WrongUse;
+use crate::usage_error::UsageError;
 use std::alloc::{AllocError, Global};
 use std::fs;
 use std::fs::Metadata;
@@ -19,7 +19,7 @@ use std::rt::Files;
 const NULL: u64 = 0x103;
 
 /// How many links are followed, one after the other.
-const MOST_LINKS: u8 = 40;
+const MAX_LINKS: u8 = 40;
 
 /// Where a path leads: to a file that is there, or, with a name, to one in a folder that isn't.
 #[derive(Clone, Copy)]
@@ -54,8 +54,8 @@ impl Place {
 }
 
 /// Whether both are one. The name is empty of a file that is there.
-fn is_one(place: Option<Place>, name: &str, other: Option<Place>, other_name: &str) -> bool
-    ensures { IsTrue result ↔ IsOnePlace place name.now other other_name.now }
+fn is_same(place: Option<Place>, name: &str, other: Option<Place>, other_name: &str) -> bool
+    ensures { IsTrue result ↔ IsSamePlace place name.now other other_name.now }
 {
     match (place, other) {
         (Some(a), Some(b)) => a.device == b.device && a.node == b.node && name == other_name,
@@ -85,7 +85,7 @@ fn followed<R: Files + AllocGlobal>(rt: &R, path: &str) -> Result<Option<String>
 /// The path after links at its end are followed, which may lead to nothing.
 pub(crate) fn resolve<R: Files + AllocGlobal>(rt: &R, path: &str) -> Result<String, AllocError> {
     let mut resolved = String::from_str(rt.alloc(), path)?;
-    for _ in 0..MOST_LINKS {
+    for _ in 0..MAX_LINKS {
         match followed(rt, resolved.as_str()) {
             Ok(Some(next)) => resolved = next,
             Ok(None) => break,
@@ -153,7 +153,7 @@ impl Written<'_> {
         let mut name = String::new(rt.alloc());
         let place = place_of(rt, path, stream, &mut name)?;
         let counts = is_any || matches!(place, Some(Place { is_file: true, .. }));
-        Ok(counts && is_one(self.place, self.name, place, name.as_str()))
+        Ok(counts && is_same(self.place, self.name, place, name.as_str()))
     }
 
     /// The path of the task that leads there too: that of the module that is written, or of the one
@@ -194,7 +194,7 @@ fn path_of_map<'w, R: Files + AllocGlobal>(
 
 /// Checks that standard output is open where a path is `-`: else the next file that is opened gets
 /// its number, and what is written to both.
-pub(crate) fn check_stdout<'w>(rt: &impl Files, path: &'w str) -> Result<(), Stop<'w>>
+pub(crate) fn check_stdout<'w>(rt: &impl Files, path: &'w str) -> Result<(), Failure<'w>>
     ensures { IfErr result (IsMemoryOr attempt.Write path.entry.now) }
 {
     if path != "-" {
@@ -202,17 +202,17 @@ pub(crate) fn check_stdout<'w>(rt: &impl Files, path: &'w str) -> Result<(), Sto
     }
     match fs::metadata(rt, "/dev/stdout") {
         Ok(_) => Ok(()),
-        Err(error) => Err(Stop::file(path, Attempt::Write, error)),
+        Err(error) => Err(Failure::file(path, Attempt::Write, error)),
     }
 }
 
 /// Checks that both paths that are written, of which each may be `-`, have what they require.
-fn check_streams<'w>(rt: &impl Files, task: &Task<'w>, map: &'w str) -> Result<(), Stop<'w>>
+fn check_streams<'w>(rt: &impl Files, task: &Task<'w>, map: &'w str) -> Result<(), Failure<'w>>
     ensures { IfErr result (IsRefusedTask task.now) }
 {
     match check_stdout(rt, map) {
         Ok(()) => {}
-        Err(stop) => return Err(stop),
+        Err(failure) => return Err(failure),
     }
     match task.output {
         Some(output) => check_stdout(rt, output),
@@ -229,7 +229,7 @@ fn check_streams<'w>(rt: &impl Files, task: &Task<'w>, map: &'w str) -> Result<(
 pub(crate) fn check_files<'w, R: Files + AllocGlobal>(
     rt: &R,
     task: &Task<'w>,
-) -> Result<(), Stop<'w>>
+) -> Result<(), Failure<'w>>
     ensures free { IsNone task.now.map → IsOk result }
     ensures refused { IfErr result (IsRefusedTask task.now) }
 {
@@ -240,11 +240,11 @@ pub(crate) fn check_files<'w, R: Files + AllocGlobal>(
         && map == "-"
         && output == "-"
     {
-        return Err(Stop::WrongUse(WrongUse::SameFile(map, output)));
+        return Err(Failure::UsageError(UsageError::SameFile(map, output)));
     }
     match path_of_map(rt, task, map) {
-        Ok(Some(path)) => Err(Stop::WrongUse(WrongUse::SameFile(map, path))),
+        Ok(Some(path)) => Err(Failure::UsageError(UsageError::SameFile(map, path))),
         Ok(None) => check_streams(rt, task, map),
-        Err(_) => Err(Stop::Memory),
+        Err(_) => Err(Failure::Memory),
     }
 }

@@ -3,8 +3,8 @@
 ghost use Rattle.std.specs.Prelude.{◌≡◌, length, nat_lt, true, None, IsNone, IfOk, IfErr};
 ghost use Rattle.module_tools.specs.Words.{ChecksAlone, IsTaskOf, IsRequestOf, IsRefusedRequest};
 
-use crate::ending::Stop;
-use crate::wrong_use::WrongUse;
+use crate::ending::Failure;
+use crate::usage_error::UsageError;
 use std::alloc::Global;
 
 /// A program: how it is called, and what it takes.
@@ -132,22 +132,22 @@ impl Choice {
 }
 
 /// Turns a switch on.
-fn turn_on(switch: &mut bool, name: &'static str) -> Result<(), WrongUse<'static>> {
+fn turn_on(switch: &mut bool, name: &'static str) -> Result<(), UsageError<'static>> {
     if *switch {
-        return Err(WrongUse::GivenTwice(name));
+        return Err(UsageError::GivenTwice(name));
     }
     *switch = true;
     Ok(())
 }
 
 /// Gives an option its value, if that is known.
-fn give<'w>(
+fn set_value<'w>(
     option: &mut Option<&'w str>,
     value: Option<&'w str>,
     name: &'static str,
-) -> Result<(), WrongUse<'w>> {
+) -> Result<(), UsageError<'w>> {
     if option.is_some() {
-        return Err(WrongUse::GivenTwice(name));
+        return Err(UsageError::GivenTwice(name));
     }
     *option = value;
     Ok(())
@@ -189,7 +189,7 @@ impl<'w> Options<'w> {
         }
     }
 
-    fn take_switch(&mut self, switch: Switch) -> Result<(), WrongUse<'w>> {
+    fn take_switch(&mut self, switch: Switch) -> Result<(), UsageError<'w>> {
         match switch {
             Switch::Verbose => turn_on(&mut self.is_verbose, "--verbose"),
             Switch::StripDebug => turn_on(&mut self.strips_debug, "--strip-debug"),
@@ -198,30 +198,30 @@ impl<'w> Options<'w> {
     }
 
     /// Gives an option its value, if that is known; else it is the next word.
-    fn take_value(&mut self, valued: Valued, value: Option<&'w str>) -> Result<(), WrongUse<'w>> {
+    fn take_value(&mut self, valued: Valued, value: Option<&'w str>) -> Result<(), UsageError<'w>> {
         self.awaits = match value {
             Some(_) => None,
             None => Some(valued),
         };
         let name = valued.name();
         match valued {
-            Valued::Map => give(&mut self.map, value, name),
-            Valued::SourceMap => give(&mut self.source_map, value, name),
-            Valued::OutputSourceMap => give(&mut self.output_source_map, value, name),
-            Valued::SourceMapUrl => give(&mut self.source_map_url, value, name),
+            Valued::Map => set_value(&mut self.map, value, name),
+            Valued::SourceMap => set_value(&mut self.source_map, value, name),
+            Valued::OutputSourceMap => set_value(&mut self.output_source_map, value, name),
+            Valued::SourceMapUrl => set_value(&mut self.source_map_url, value, name),
         }
     }
 
     /// Takes an option, and returns the page that it requests.
-    fn take(&mut self, program: &Program, word: &'w str) -> Result<Option<Page>, WrongUse<'w>> {
+    fn take(&mut self, program: &Program, word: &'w str) -> Result<Option<Page>, UsageError<'w>> {
         let (name, value) = split_option(word);
         match Choice::named(name, program) {
-            None => Err(WrongUse::UnknownOption(name)),
+            None => Err(UsageError::UnknownOption(name)),
             Some(Choice::Valued(valued)) => match self.take_value(valued, value) {
                 Ok(()) => Ok(None),
                 Err(wrong) => Err(wrong),
             },
-            Some(_) if value.is_some() => Err(WrongUse::UnwantedValue(name)),
+            Some(_) if value.is_some() => Err(UsageError::UnwantedValue(name)),
             Some(Choice::Switch(switch)) => match self.take_switch(switch) {
                 Ok(()) => Ok(None),
                 Err(wrong) => Err(wrong),
@@ -245,30 +245,30 @@ impl<'w> Options<'w> {
     }
 
     /// What is wrong with the options of source maps, if something is.
-    fn source_map_fault(&self) -> Option<WrongUse<'w>> {
+    fn source_map_fault(&self) -> Option<UsageError<'w>> {
         let (input, output) = ("--source-map", "--output-source-map");
         match (self.source_map, self.output_source_map) {
-            (Some(_), None) => Some(WrongUse::Requires(input, output)),
-            (None, Some(_)) => Some(WrongUse::Requires(output, input)),
+            (Some(_), None) => Some(UsageError::Requires(input, output)),
+            (None, Some(_)) => Some(UsageError::Requires(output, input)),
             (None, None) if self.source_map_url.is_some() => {
-                Some(WrongUse::Requires("--source-map-url", input))
+                Some(UsageError::Requires("--source-map-url", input))
             }
             _ => None,
         }
     }
 
     /// What is wrong with the options, if something is.
-    fn fault(&self) -> Option<WrongUse<'w>>
+    fn fault(&self) -> Option<UsageError<'w>>
         ensures { IsNone result → self.now.is_check ≡ true → ChecksAlone self.now }
     {
         if let Some(valued) = self.awaits {
-            return Some(WrongUse::NoValue(valued.name()));
+            return Some(UsageError::NoValue(valued.name()));
         }
         if !self.is_check {
             return self.source_map_fault();
         }
         match self.not_with_check() {
-            Some(option) => Some(WrongUse::NotWithCheck(option)),
+            Some(option) => Some(UsageError::NotWithCheck(option)),
             None => None,
         }
     }
@@ -312,7 +312,7 @@ impl<'w> Words<'w> {
     }
 
     /// Takes a word that is no option.
-    fn take_operand(&mut self, word: &'w str) -> Result<(), Stop<'w>>
+    fn take_operand(&mut self, word: &'w str) -> Result<(), Failure<'w>>
         ensures { IfErr result IsRefusedRequest }
     {
         if self.input.is_none() {
@@ -322,20 +322,20 @@ impl<'w> Words<'w> {
         } else {
             match self.functions.push(word) {
                 Ok(()) => {}
-                Err(_) => return Err(Stop::Memory),
+                Err(_) => return Err(Failure::Memory),
             }
         }
         Ok(())
     }
 
     /// Takes a word that is no value of an option. One that asks for a page ends the reading.
-    fn take_next(&mut self, program: &Program, word: &'w str) -> Result<Option<Page>, Stop<'w>>
+    fn take_next(&mut self, program: &Program, word: &'w str) -> Result<Option<Page>, Failure<'w>>
         ensures { IfErr result IsRefusedRequest }
     {
         if self.has_ended || word == "-" || !word.starts_with('-') {
             match self.take_operand(word) {
                 Ok(()) => Ok(None),
-                Err(stop) => Err(stop),
+                Err(failure) => Err(failure),
             }
         } else if word == "--" {
             self.has_ended = true;
@@ -343,13 +343,13 @@ impl<'w> Words<'w> {
         } else {
             match self.options.take(program, word) {
                 Ok(page) => Ok(page),
-                Err(wrong) => Err(Stop::WrongUse(wrong)),
+                Err(wrong) => Err(Failure::UsageError(wrong)),
             }
         }
     }
 
     /// Takes a word. One that asks for a page ends the reading.
-    fn take(&mut self, program: &Program, word: &'w str) -> Result<Option<Page>, Stop<'w>>
+    fn take(&mut self, program: &Program, word: &'w str) -> Result<Option<Page>, Failure<'w>>
         ensures { IfErr result IsRefusedRequest }
     {
         let Some(valued) = self.options.awaits else {
@@ -357,35 +357,35 @@ impl<'w> Words<'w> {
         };
         match self.options.take_value(valued, Some(word)) {
             Ok(()) => Ok(None),
-            Err(wrong) => Err(Stop::WrongUse(wrong)),
+            Err(wrong) => Err(Failure::UsageError(wrong)),
         }
     }
 
     /// What is wrong with the files, if something is.
-    fn file_fault(&self) -> Option<WrongUse<'w>>
+    fn file_fault(&self) -> Option<UsageError<'w>>
         ensures { IsNone result → self.now.output ≡ None → self.now.options.is_check ≡ true }
     {
         match (self.output, self.options.is_check) {
-            (Some(output), true) => Some(WrongUse::Unexpected(output)),
-            (None, false) => Some(WrongUse::NoOutput),
+            (Some(output), true) => Some(UsageError::Unexpected(output)),
+            (None, false) => Some(UsageError::NoOutput),
             (Some(_), false) | (None, true) => None,
         }
     }
 
     /// What is wrong with the functions, if something is.
-    fn functions_fault(&self, program: &Program) -> Option<WrongUse<'w>>
+    fn functions_fault(&self, program: &Program) -> Option<UsageError<'w>>
         ensures { IsNone result
             → nat_lt 0 (length self.now.functions.items) ≡ program.now.takes_functions }
     {
         match (self.functions.first(), program.takes_functions) {
-            (Some(word), false) => Some(WrongUse::Unexpected(*word)),
-            (None, true) => Some(WrongUse::NoFunctions),
+            (Some(word), false) => Some(UsageError::Unexpected(*word)),
+            (None, true) => Some(UsageError::NoFunctions),
             (Some(_), true) | (None, false) => None,
         }
     }
 
     /// What is wrong with all words together, if something is.
-    fn fault(&self, program: &Program) -> Option<WrongUse<'w>>
+    fn fault(&self, program: &Program) -> Option<UsageError<'w>>
         ensures functions { IsNone result
             → nat_lt 0 (length self.now.functions.items) ≡ program.now.takes_functions }
         ensures output { IsNone result → self.now.output ≡ None → ChecksAlone self.now.options }
@@ -400,11 +400,11 @@ impl<'w> Words<'w> {
     }
 
     /// What the words ask for.
-    fn task(self, program: &Program) -> Result<Task<'w>, WrongUse<'w>>
+    fn task(self, program: &Program) -> Result<Task<'w>, UsageError<'w>>
         ensures { IfOk result (IsTaskOf program.now) }
     {
         let Some(input) = self.input else {
-            return Err(WrongUse::NoInput);
+            return Err(UsageError::NoInput);
         };
         if let Some(fault) = self.fault(program) {
             return Err(fault);
@@ -426,12 +426,12 @@ impl<'w> Words<'w> {
 /// # Errors
 ///
 /// The first that is wrong with them; or that memory ran out.
-pub fn read_words<'w>(
+pub fn read_arguments<'w>(
     alloc: Global,
     program: &Program,
     words: &'w [String],
-) -> Result<Request<'w>, Stop<'w>>
-    ensures asked { IfOk result (IsRequestOf program.now) }
+) -> Result<Request<'w>, Failure<'w>>
+    ensures request { IfOk result (IsRequestOf program.now) }
     ensures refused { IfErr result IsRefusedRequest }
 {
     let mut taken = Words::new(alloc);
@@ -440,11 +440,11 @@ pub fn read_words<'w>(
             Ok(None) => {}
             Ok(Some(Page::Help)) => return Ok(Request::Help),
             Ok(Some(Page::Version)) => return Ok(Request::Version),
-            Err(stop) => return Err(stop),
+            Err(failure) => return Err(failure),
         }
     }
     match taken.task(program) {
         Ok(task) => Ok(Request::Task(task)),
-        Err(wrong) => Err(Stop::WrongUse(wrong)),
+        Err(wrong) => Err(Failure::UsageError(wrong)),
     }
 }

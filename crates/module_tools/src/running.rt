@@ -3,17 +3,17 @@
 ghost use Rattle.std.specs.Prelude.{◌≡◌, ◌≤◌, nat_lt, if◌then◌else◌, IfOk};
 ghost use Rattle.std.specs.Process.{exit_status};
 
-use crate::ending::{Attempt, Item, Refusal, Stop, exit_code, words};
+use crate::ending::{Attempt, Failure, Item, Refusal, exit_code, words};
 use crate::files::read_file;
 use crate::names::{Bytes, Found, FunctionNames, function_at};
 use crate::places::check_files;
-use crate::program::{MapPaths, Program, Request, Task, read_words};
+use crate::program::{MapPaths, Program, Request, Task, read_arguments};
 use crate::progress::{Progress, Watched};
 use crate::source_map_places::check_source_maps;
 use crate::source_maps::read_source_map;
+use crate::usage_error::UsageError;
 use crate::warnings::warn;
 use crate::writing::write_module;
-use crate::wrong_use::WrongUse;
 use source_map_json::SourceMap;
 use std::alloc::{AllocError, Global};
 use std::io;
@@ -117,23 +117,23 @@ fn refused<'w>(
     parsed: &ParsedModule<'_>,
     path: &'w str,
     error: &ModuleError,
-) -> Stop<'w> {
+) -> Failure<'w> {
     match item_of(alloc, parsed, error) {
-        Ok(item) => Stop::refused(alloc, path, item, error),
-        Err(_) => Stop::Memory,
+        Ok(item) => Failure::refused(alloc, path, item, error),
+        Err(_) => Failure::Memory,
     }
 }
 
 /// Prints that a body is refused.
-fn say_refusal<'w>(
+fn print_refusal<'w>(
     rt: &impl Print,
     program: &Program,
     refusal: Refusal<'_>,
-) -> Result<(), Stop<'w>> {
+) -> Result<(), Failure<'w>> {
     let name = program.name;
     match println!(rt; "{name}: {refusal}") {
         Ok(()) => Ok(()),
-        Err(error) => Err(Stop::file("-", Attempt::Write, error)),
+        Err(error) => Err(Failure::file("-", Attempt::Write, error)),
     }
 }
 
@@ -152,17 +152,17 @@ fn refusal_of<'w>(
 }
 
 /// Prints that the body of this function is refused.
-fn say_refused<'w, R: Print + AllocGlobal>(
+fn print_refused<'w, R: Print + AllocGlobal>(
     rt: &R,
     program: &Program,
     names: &FunctionNames<'_>,
     path: &'w str,
     index: usize,
     error: &ModuleError,
-) -> Result<(), Stop<'w>> {
+) -> Result<(), Failure<'w>> {
     match refusal_of(rt.alloc(), names, path, index, error) {
-        Ok(refusal) => say_refusal(rt, program, refusal),
-        Err(_) => Err(Stop::Memory),
+        Ok(refusal) => print_refusal(rt, program, refusal),
+        Err(_) => Err(Failure::Memory),
     }
 }
 
@@ -187,18 +187,18 @@ fn check_each<'w, R: Clock + Print + Eprint + AllocGlobal>(
     path: &'w str,
     progress: &Progress<'_, R>,
     scratch: &mut Scratch,
-) -> Result<usize, Stop<'w>> {
+) -> Result<usize, Failure<'w>> {
     let mut count = 0usize;
     for body in parsed.bodies() {
         progress.step();
         if let Some(error) = fault_of(parsed, body, scratch) {
             if matches!(error.fault, ModuleFault::Memory) {
-                return Err(Stop::Memory);
+                return Err(Failure::Memory);
             }
             progress.clear();
-            match say_refused(rt, program, names, path, body.func, &error) {
+            match print_refused(rt, program, names, path, body.func, &error) {
                 Ok(()) => count = count.saturating_add(1),
-                Err(stop) => return Err(stop),
+                Err(failure) => return Err(failure),
             }
         }
     }
@@ -212,7 +212,7 @@ fn check_bodies<'w, R: Clock + Print + Eprint + AllocGlobal>(
     parsed: &mut ParsedModule<'_>,
     path: &'w str,
     progress: &Progress<'_, R>,
-) -> Result<usize, Stop<'w>> {
+) -> Result<usize, Failure<'w>> {
     let names = FunctionNames::read(rt.alloc(), parsed)?;
     let mut scratch = Scratch::new(rt.alloc());
     check_each(rt, program, parsed, &names, path, progress, &mut scratch)
@@ -223,14 +223,14 @@ fn function_of<'w>(
     parsed: &ParsedModule<'_>,
     names: &FunctionNames<'_>,
     word: &'w str,
-) -> Result<FunctionId, WrongUse<'w>> {
+) -> Result<FunctionId, UsageError<'w>> {
     let index = match word.parse::<usize>() {
         Ok(index) => index,
         Err(_) => match names.find(word) {
-            Found::None => return Err(WrongUse::NoFunction(word)),
+            Found::None => return Err(UsageError::NoFunction(word)),
             Found::One(index) => index,
             Found::Several(first, second) => {
-                return Err(WrongUse::Ambiguous(word, first, second));
+                return Err(UsageError::Ambiguous(word, first, second));
             }
         },
     };
@@ -238,9 +238,9 @@ fn function_of<'w>(
         return Ok(FunctionId::new(index));
     }
     if parsed.is_imported(index) {
-        return Err(WrongUse::Imported(word));
+        return Err(UsageError::Imported(word));
     }
-    Err(WrongUse::NoFunction(word))
+    Err(UsageError::NoFunction(word))
 }
 
 /// Adds the functions that words name, each of which has a body.
@@ -249,11 +249,11 @@ fn add_functions<'w>(
     names: &FunctionNames<'_>,
     words: &[&'w str],
     functions: &mut IdHashSet<FunctionId>,
-) -> Result<(), Stop<'w>> {
+) -> Result<(), Failure<'w>> {
     for word in words {
         match function_of(parsed, names, *word) {
             Ok(function) => functions.insert(function)?,
-            Err(fault) => return Err(Stop::WrongUse(fault)),
+            Err(fault) => return Err(Failure::UsageError(fault)),
         };
     }
     Ok(())
@@ -265,7 +265,7 @@ fn fill_functions<'w>(
     parsed: &ParsedModule<'_>,
     words: &[&'w str],
     functions: &mut IdHashSet<FunctionId>,
-) -> Result<(), Stop<'w>> {
+) -> Result<(), Failure<'w>> {
     if words.is_empty() {
         return Ok(());
     }
@@ -278,11 +278,11 @@ fn functions_of<'w>(
     alloc: Global,
     parsed: &ParsedModule<'_>,
     words: &[&'w str],
-) -> Result<IdHashSet<FunctionId>, Stop<'w>> {
+) -> Result<IdHashSet<FunctionId>, Failure<'w>> {
     let mut functions = IdHashSet::new(alloc);
     match fill_functions(alloc, parsed, words, &mut functions) {
         Ok(()) => Ok(functions),
-        Err(stop) => Err(stop),
+        Err(failure) => Err(failure),
     }
 }
 
@@ -308,10 +308,10 @@ fn rewritten<'w, 'a, R: Eprint + Clock + AllocGlobal, T: Tool>(
     task: &Task<'w>,
     parsed: &mut ParsedModule<'a>,
     progress: &'a Progress<'a, R>,
-) -> Result<RewrittenModule<'a, Watched<'a, R, T::Bodies>>, Stop<'w>> {
+) -> Result<RewrittenModule<'a, Watched<'a, R, T::Bodies>>, Failure<'w>> {
     let functions = match functions_of(rt.alloc(), parsed, &task.functions) {
         Ok(functions) => functions,
-        Err(stop) => return Err(stop),
+        Err(failure) => return Err(failure),
     };
     match made(rt.alloc(), tool, parsed, functions, progress) {
         Ok(module) => Ok(module),
@@ -323,23 +323,23 @@ fn rewritten<'w, 'a, R: Eprint + Clock + AllocGlobal, T: Tool>(
 fn given_source_map<'w, R: Files + Input + AllocGlobal>(
     rt: &R,
     task: &Task<'w>,
-) -> Result<Option<SourceMap>, Stop<'w>> {
+) -> Result<Option<SourceMap>, Failure<'w>> {
     let Some(paths) = task.source_map else {
         return Ok(None);
     };
     match read_source_map(rt, paths.input) {
         Ok(map) => Ok(Some(map)),
-        Err(stop) => Err(stop),
+        Err(failure) => Err(failure),
     }
 }
 
 /// Leaves out what the task asks to leave out.
-fn leave_out<B: BodyWriter>(task: &Task<'_>, module: &mut RewrittenModule<'_, B>) {
+fn omit<B: BodyWriter>(task: &Task<'_>, module: &mut RewrittenModule<'_, B>) {
     if task.strips_debug {
-        module.leave_out_debug();
+        module.omit_debug();
     }
     if let Some(MapPaths { url: Some(_), .. }) = task.source_map {
-        module.leave_out_source_map_url();
+        module.omit_source_map_url();
     }
 }
 
@@ -353,8 +353,8 @@ fn write_made<'w, R: Files + Print + Eprint + AllocGlobal + Drop, B: BodyWriter 
     parsed: &mut ParsedModule<'_>,
     mut module: RewrittenModule<'_, B>,
     output: &'w str,
-) -> Result<(), Stop<'w>> {
-    leave_out(task, &mut module);
+) -> Result<(), Failure<'w>> {
+    omit(task, &mut module);
     warn(rt, name, &module.notes, task);
     write_module(rt, parsed, &module, task, source, output)
 }
@@ -369,13 +369,13 @@ fn rewrite<'w, 'a, R: Files + Clock + Print + Eprint + AllocGlobal + Drop, T: To
     parsed: &mut ParsedModule<'a>,
     output: &'w str,
     progress: &'a Progress<'a, R>,
-) -> Result<(), Stop<'w>> {
+) -> Result<(), Failure<'w>> {
     match rewritten(rt, tool, task, parsed, progress) {
         Ok(module) => {
             progress.clear();
             write_made(rt, program.name, task, source, parsed, module, output)
         }
-        Err(stop) => Err(stop),
+        Err(failure) => Err(failure),
     }
 }
 
@@ -388,14 +388,14 @@ fn rewrite_with<'w, 'a, R: Files + Input + Clock + Print + Eprint + AllocGlobal 
     parsed: &mut ParsedModule<'a>,
     output: &'w str,
     progress: &'a Progress<'a, R>,
-) -> Result<usize, Stop<'w>> {
+) -> Result<usize, Failure<'w>> {
     let map = match given_source_map(rt, task) {
         Ok(map) => map,
-        Err(stop) => return Err(stop),
+        Err(failure) => return Err(failure),
     };
     match rewrite(rt, tool, program, task, &map, parsed, output, progress) {
         Ok(()) => Ok(0),
-        Err(stop) => Err(stop),
+        Err(failure) => Err(failure),
     }
 }
 
@@ -407,7 +407,7 @@ fn run_with<'w, 'a, R: Files + Input + Clock + Print + Eprint + AllocGlobal + Dr
     task: &Task<'w>,
     parsed: &mut ParsedModule<'a>,
     progress: &'a Progress<'a, R>,
-) -> Result<usize, Stop<'w>> {
+) -> Result<usize, Failure<'w>> {
     match task.output {
         Some(output) => rewrite_with(rt, tool, program, task, parsed, output, progress),
         None => check_bodies(rt, program, parsed, task.input, progress),
@@ -422,10 +422,10 @@ fn run_over<'w, 'a, R: Files + Input + Clock + Print + Eprint + AllocGlobal + Dr
     task: &Task<'w>,
     bytes: &'a [u8],
     progress: &'a Progress<'a, R>,
-) -> Result<Done, Stop<'w>> {
+) -> Result<Done, Failure<'w>> {
     let mut parsed = match ParsedModule::read(rt.alloc(), bytes) {
         Ok(parsed) => parsed,
-        Err(error) => return Err(Stop::refused(rt.alloc(), task.input, None, &error)),
+        Err(error) => return Err(Failure::refused(rt.alloc(), task.input, None, &error)),
     };
     let functions = parsed.body_count();
     progress.begin(functions);
@@ -435,7 +435,7 @@ fn run_over<'w, 'a, R: Files + Input + Clock + Print + Eprint + AllocGlobal + Dr
             bytes: bytes.len(),
             refused,
         }),
-        Err(stop) => Err(stop),
+        Err(failure) => Err(failure),
     }
 }
 
@@ -446,13 +446,13 @@ fn read_and_run<'w, 'a, R, T: Tool>(
     program: &Program,
     task: &Task<'w>,
     progress: &'a Progress<'a, R>,
-) -> Result<Done, Stop<'w>>
+) -> Result<Done, Failure<'w>>
 where
     R: Files + Input + Clock + Print + Eprint + AllocGlobal + Drop,
 {
     match read_file(rt, task.input) {
         Ok(bytes) => run_over(rt, tool, program, task, &bytes, progress),
-        Err(stop) => Err(stop),
+        Err(failure) => Err(failure),
     }
 }
 
@@ -461,13 +461,13 @@ fn check_task<'w, R: Files + AllocGlobal>(
     rt: &R,
     task: &Task<'w>,
     terminals: Terminals,
-) -> Result<(), Stop<'w>> {
+) -> Result<(), Failure<'w>> {
     if terminals.output && task.output == Some("-") {
-        return Err(Stop::WrongUse(WrongUse::Terminal));
+        return Err(Failure::UsageError(UsageError::Terminal));
     }
     match check_files(rt, task) {
         Ok(()) => check_source_maps(rt, task),
-        Err(stop) => Err(stop),
+        Err(failure) => Err(failure),
     }
 }
 
@@ -478,10 +478,10 @@ fn run_task<'w, R: Files + Input + Clock + Print + Eprint + AllocGlobal + Drop, 
     program: &Program,
     task: &Task<'w>,
     terminals: Terminals,
-) -> Result<Done, Stop<'w>> {
+) -> Result<Done, Failure<'w>> {
     match check_task(rt, task, terminals) {
         Ok(()) => {}
-        Err(stop) => return Err(stop),
+        Err(failure) => return Err(failure),
     }
     let progress = Progress::new(rt, program.name, terminals.errors);
     let done = read_and_run(rt, tool, program, task, &progress);
@@ -490,7 +490,7 @@ fn run_task<'w, R: Files + Input + Clock + Print + Eprint + AllocGlobal + Drop, 
 }
 
 /// Prints how much was done, and in which time.
-fn say_done(
+fn print_done(
     rt: &(impl Eprint + Clock),
     program: &Program,
     done: Done,
@@ -530,16 +530,16 @@ fn run_timed<R: Files + Input + Clock + Print + Eprint + AllocGlobal + Drop, T: 
     let start = Instant::now(rt)?;
     let done = match run_task(rt, tool, program, task, terminals) {
         Ok(done) => done,
-        Err(stop) => return Ok(exit_code(rt, program.name, stop)),
+        Err(failure) => return Ok(exit_code(rt, program.name, failure)),
     };
     if task.is_verbose {
-        say_done(rt, program, done, start)?;
+        print_done(rt, program, done, start)?;
     }
     Ok(status_of_done(done))
 }
 
 /// Runs a program over its words, and returns its status.
-fn run_words<R: Files + Input + Clock + Print + Eprint + AllocGlobal + Drop, T: Tool>(
+fn run_arguments<R: Files + Input + Clock + Print + Eprint + AllocGlobal + Drop, T: Tool>(
     rt: &R,
     tool: &T,
     program: &Program,
@@ -548,7 +548,7 @@ fn run_words<R: Files + Input + Clock + Print + Eprint + AllocGlobal + Drop, T: 
 ) -> io::Result<ExitCode>
     ensures { IfOk result (λ code. exit_status code ≤ 2) }
 {
-    match read_words(rt.alloc(), program, words) {
+    match read_arguments(rt.alloc(), program, words) {
         Ok(Request::Task(task)) => run_timed(rt, tool, program, &task, terminals),
         Ok(Request::Help) => {
             println!(rt; "{}", program.help)?;
@@ -558,7 +558,7 @@ fn run_words<R: Files + Input + Clock + Print + Eprint + AllocGlobal + Drop, T: 
             println!(rt; "{} {VERSION}", program.name)?;
             Ok(ExitCode::SUCCESS)
         }
-        Err(stop) => Ok(exit_code(rt, program.name, stop)),
+        Err(failure) => Ok(exit_code(rt, program.name, failure)),
     }
 }
 
@@ -578,7 +578,7 @@ pub fn run<R: Files + Input + Env + Clock + Print + Eprint + AllocGlobal + Drop,
     ensures { IfOk result (λ code. exit_status code ≤ 2) }
 {
     match words(rt) {
-        Ok(words) => run_words(rt, tool, program, &words, terminals),
-        Err(stop) => Ok(exit_code(rt, program.name, stop)),
+        Ok(words) => run_arguments(rt, tool, program, &words, terminals),
+        Err(failure) => Ok(exit_code(rt, program.name, failure)),
     }
 }

@@ -2,7 +2,7 @@
 
 ghost use Rattle.std.specs.Prelude.{◌≡◌, ◌==◌, [], IfOk};
 ghost use Rattle.std.specs.HashSet.{contains};
-ghost use Rattle.wasm_module.specs.WrittenModules.{given_in};
+ghost use Rattle.wasm_module.specs.WrittenModules.{new_contents_in};
 
 use crate::edits::trap_if;
 use std::alloc::Global;
@@ -53,7 +53,7 @@ pub fn snip<'a>(
     functions: IdHashSet<FunctionId>,
 ) -> Result<RewrittenModule<'a, Changing<Snipping>>, ModuleError>
     ensures snips { IfOk result (λ made. made.bodies.0.0 ≡ functions) }
-    ensures none_given { IfOk result (λ made. given_in made ≡ []) }
+    ensures none_given { IfOk result (λ made. new_contents_in made ≡ []) }
 {
     parsed.change_all(Snipping::new(functions), Changes::new(alloc))
 }

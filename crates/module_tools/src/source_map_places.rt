@@ -1,9 +1,9 @@
 //! Whether the files of source maps are others than all that are read and written.
 
-use crate::ending::Stop;
+use crate::ending::Failure;
 use crate::places::{Written, check_stdout, place_of};
 use crate::program::{MapPaths, Task};
-use crate::wrong_use::WrongUse;
+use crate::usage_error::UsageError;
 use std::alloc::AllocError;
 use std::rt::Files;
 
@@ -57,24 +57,24 @@ impl<'w> Two<'w> {
     }
 
     /// Checks that they are two, if both are asked for.
-    fn check<R: Files + AllocGlobal>(self, rt: &R) -> Result<(), Stop<'w>> {
+    fn check<R: Files + AllocGlobal>(self, rt: &R) -> Result<(), Failure<'w>> {
         let (Some(written), Some(other)) = (self.written, self.other) else {
             return Ok(());
         };
         match is_one_file(rt, written, other, self.are_written) {
             Ok(false) => Ok(()),
-            Ok(true) => Err(Stop::WrongUse(WrongUse::SameFile(written, other))),
-            Err(_) => Err(Stop::Memory),
+            Ok(true) => Err(Failure::UsageError(UsageError::SameFile(written, other))),
+            Err(_) => Err(Failure::Memory),
         }
     }
 }
 
 /// Checks that each two of these are two.
-fn check_all<'w, R: Files + AllocGlobal>(rt: &R, all: &[Two<'w>]) -> Result<(), Stop<'w>> {
+fn check_all<'w, R: Files + AllocGlobal>(rt: &R, all: &[Two<'w>]) -> Result<(), Failure<'w>> {
     for two in all {
         match two.check(rt) {
             Ok(()) => {}
-            Err(stop) => return Err(stop),
+            Err(failure) => return Err(failure),
         }
     }
     Ok(())
@@ -97,10 +97,10 @@ fn check_streams<'w>(
     rt: &impl Files,
     task: &Task<'w>,
     paths: MapPaths<'w>,
-) -> Result<(), Stop<'w>> {
+) -> Result<(), Failure<'w>> {
     match check_stdout(rt, paths.output) {
         Ok(()) => {}
-        Err(stop) => return Err(stop),
+        Err(failure) => return Err(failure),
     }
     match task.output {
         Some(output) => check_stdout(rt, output),
@@ -118,15 +118,15 @@ fn check_streams<'w>(
 pub(crate) fn check_source_maps<'w, R: Files + AllocGlobal>(
     rt: &R,
     task: &Task<'w>,
-) -> Result<(), Stop<'w>> {
+) -> Result<(), Failure<'w>> {
     let Some(paths) = task.source_map else {
         return Ok(());
     };
     if paths.input == "-" && task.input == "-" {
-        return Err(Stop::WrongUse(WrongUse::SameFile(paths.input, task.input)));
+        return Err(Failure::UsageError(UsageError::SameFile(paths.input, task.input)));
     }
     match check_all(rt, &pairs(task, paths)) {
         Ok(()) => check_streams(rt, task, paths),
-        Err(stop) => Err(stop),
+        Err(failure) => Err(failure),
     }
 }

@@ -1,6 +1,6 @@
 //! The source map of a module that is written: its mappings follow the operators.
 
-use crate::ending::{Attempt, Stop};
+use crate::ending::{Attempt, Failure};
 use crate::files::{Target, read_file};
 use crate::program::Task;
 use source_map::{Move, moved};
@@ -9,13 +9,13 @@ use std::alloc::{AllocError, Global};
 use std::io;
 use std::io::Write;
 use std::rt::Files;
-use wasm_module::{MapLines, Tell, WrittenBody};
+use wasm_module::{MapLines, MapSink, WrittenBody};
 
 /// The operators of the source that are kept, with their places, if they are wanted.
 #[derive(Drop)]
 pub(crate) struct Moves {
     list: Vec<Move>,
-    are_wanted: bool,
+    are_needed: bool,
 }
 
 /// A place that fits 32 bits, as those of a source map do.
@@ -28,10 +28,10 @@ fn short_place(place: usize) -> io::Result<u32> {
 
 impl Moves {
     /// None so far.
-    pub fn new(alloc: Global, are_wanted: bool) -> Moves {
+    pub fn new(alloc: Global, are_needed: bool) -> Moves {
         Moves {
             list: Vec::new(alloc),
-            are_wanted,
+            are_needed,
         }
     }
 
@@ -61,13 +61,13 @@ impl Moves {
     }
 }
 
-impl Tell for Moves {
-    fn wants_pairs(&self) -> bool {
-        self.are_wanted
+impl MapSink for Moves {
+    fn needs_pairs(&self) -> bool {
+        self.are_needed
     }
 
-    fn tell(&mut self, body: WrittenBody<'_>) -> io::Result<()> {
-        match self.are_wanted {
+    fn record_body(&mut self, body: WrittenBody<'_>) -> io::Result<()> {
+        match self.are_needed {
             true => self.add_body(body),
             false => Ok(()),
         }
@@ -83,14 +83,14 @@ pub(crate) struct MovesAndLines<'m, M> {
     pub lines: MapLines<'m, M>,
 }
 
-impl<M: Write> Tell for MovesAndLines<'_, M> {
-    fn wants_pairs(&self) -> bool {
+impl<M: Write> MapSink for MovesAndLines<'_, M> {
+    fn needs_pairs(&self) -> bool {
         true
     }
 
-    fn tell(&mut self, body: WrittenBody<'_>) -> io::Result<()> {
-        self.moves.tell(body)?;
-        self.lines.tell(body)
+    fn record_body(&mut self, body: WrittenBody<'_>) -> io::Result<()> {
+        self.moves.record_body(body)?;
+        self.lines.record_body(body)
     }
 }
 
@@ -98,14 +98,14 @@ impl<M: Write> Tell for MovesAndLines<'_, M> {
 pub(crate) fn read_source_map<'w, R: Files + Input + AllocGlobal>(
     rt: &R,
     path: &'w str,
-) -> Result<SourceMap, Stop<'w>> {
+) -> Result<SourceMap, Failure<'w>> {
     let bytes = match read_file(rt, path) {
         Ok(bytes) => bytes,
-        Err(stop) => return Err(stop),
+        Err(failure) => return Err(failure),
     };
     match SourceMap::read(rt.alloc(), &bytes) {
         Ok(map) => Ok(map),
-        Err(error) => Err(Stop::source_map(rt.alloc(), path, error)),
+        Err(error) => Err(Failure::source_map(rt.alloc(), path, error)),
     }
 }
 
@@ -120,14 +120,14 @@ fn write_text<'w, R: Files + Print + AllocGlobal + Drop>(
     rt: &'w R,
     path: &'w str,
     text: &[u8],
-) -> Result<(), Stop<'w>> {
+) -> Result<(), Failure<'w>> {
     let mut target = match Target::create(rt, path) {
         Ok(target) => target,
-        Err(stop) => return Err(stop),
+        Err(failure) => return Err(failure),
     };
     let written = match target.write_all(text) {
         Ok(()) => Ok(()),
-        Err(error) => Err(Stop::file(path, Attempt::Write, error)),
+        Err(error) => Err(Failure::file(path, Attempt::Write, error)),
     };
     target.end(written)
 }
@@ -138,12 +138,12 @@ pub(crate) fn write_source_map<'w, R: Files + Print + AllocGlobal + Drop>(
     task: &Task<'w>,
     source: &Option<SourceMap>,
     moves: &Moves,
-) -> Result<(), Stop<'w>> {
+) -> Result<(), Failure<'w>> {
     let (Some(map), Some(paths)) = (source, task.source_map) else {
         return Ok(());
     };
     match moved_text(rt.alloc(), map, &moves.list) {
         Ok(text) => write_text(rt, paths.output, &text),
-        Err(_) => Err(Stop::Memory),
+        Err(_) => Err(Failure::Memory),
     }
 }

@@ -39,7 +39,7 @@ impl fmt::Display for Warning<'_> {
 }
 
 /// Whether a section isn't wrong, since it is left out, or since the source map is written anew.
-fn is_mended(note: &Note<'_>, task: &Task<'_>) -> bool {
+fn is_fixed(note: &Note<'_>, task: &Task<'_>) -> bool {
     match note.kind {
         NoteKind::SourceMap => task.strips_debug || task.source_map.is_some(),
         NoteKind::DebugInfo => task.strips_debug,
@@ -50,7 +50,7 @@ fn is_mended(note: &Note<'_>, task: &Task<'_>) -> bool {
 /// Prints to standard error what is wrong now in a module that is written, and what helps.
 pub(crate) fn warn(rt: &impl Eprint, program: &str, notes: &[Note<'_>], task: &Task<'_>) {
     for note in notes {
-        if !is_mended(note, task) {
+        if !is_fixed(note, task) {
             let warning = Warning(*note);
             // The module is written all the same where standard error can't be.
             let _ = eprintln!(rt; "{program}: warning: {warning}");

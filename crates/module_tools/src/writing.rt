@@ -1,6 +1,6 @@
 //! Writing the module that a program makes, its location map, and its source map.
 
-use crate::ending::{Attempt, Stop};
+use crate::ending::{Attempt, Failure};
 use crate::files::Target;
 use crate::program::Task;
 use crate::source_maps::{Moves, MovesAndLines, write_source_map};
@@ -9,7 +9,7 @@ use std::alloc::Global;
 use std::io::{BufWriter, Write};
 use std::rt::Files;
 use wasm_module::{
-    BodyWriter, MapLines, ParsedModule, RewrittenModule, Tell, WriteError, write_source_map_url,
+    BodyWriter, MapLines, MapSink, ParsedModule, RewrittenModule, WriteError, write_source_map_url,
 };
 
 /// Writes what a buffer still holds.
@@ -29,15 +29,15 @@ fn write_url<W: Write>(alloc: Global, url: Option<&str>, out: &mut W) -> Result<
 }
 
 /// Writes a module, the section that says where its source map is, and what the buffer still holds.
-fn write_out<W: Write, T: Tell, B: BodyWriter>(
+fn write_out<W: Write, T: MapSink, B: BodyWriter>(
     alloc: Global,
     parsed: &mut ParsedModule<'_>,
     module: &RewrittenModule<'_, B>,
     url: Option<&str>,
-    tell: &mut T,
+    sink: &mut T,
     out: &mut W,
 ) -> Result<(), WriteError> {
-    match parsed.write_module_telling(module, tell, out) {
+    match parsed.write_module_with_sink(module, sink, out) {
         Ok(()) => {}
         Err(error) => return Err(error),
     }
@@ -48,16 +48,16 @@ fn write_out<W: Write, T: Tell, B: BodyWriter>(
 }
 
 /// Writes a module, buffered, and tells of its bodies.
-fn write_buffered<W: Write, T: Tell, B: BodyWriter>(
+fn write_buffered<W: Write, T: MapSink, B: BodyWriter>(
     alloc: Global,
     parsed: &mut ParsedModule<'_>,
     module: &RewrittenModule<'_, B>,
     url: Option<&str>,
-    tell: &mut T,
+    sink: &mut T,
     target: &mut W,
 ) -> Result<(), WriteError> {
     match BufWriter::new(alloc, target) {
-        Ok(mut out) => write_out(alloc, parsed, module, url, tell, &mut out),
+        Ok(mut out) => write_out(alloc, parsed, module, url, sink, &mut out),
         Err(error) => Err(WriteError::Io(error)),
     }
 }
@@ -73,8 +73,8 @@ fn write_with_lines<W: Write, M: Write, B: BodyWriter>(
     map: &mut M,
 ) -> Result<(), WriteError> {
     let lines = MapLines(&mut *map);
-    let mut tell = MovesAndLines { moves, lines };
-    match write_buffered(alloc, parsed, module, url, &mut tell, target) {
+    let mut sink = MovesAndLines { moves, lines };
+    match write_buffered(alloc, parsed, module, url, &mut sink, target) {
         Ok(()) => flush(map),
         Err(error) => Err(error),
     }
@@ -97,10 +97,15 @@ fn write_both_buffered<W: Write, B: BodyWriter>(
 }
 
 /// Why a module that was read from one file isn't written to another.
-fn stop_of<'w>(alloc: Global, input: &'w str, output: &'w str, error: WriteError) -> Stop<'w> {
+fn failure_of<'w>(
+    alloc: Global,
+    input: &'w str,
+    output: &'w str,
+    error: WriteError,
+) -> Failure<'w> {
     match error {
-        WriteError::Module(error) => Stop::refused(alloc, input, None, &error),
-        WriteError::Io(error) => Stop::file(output, Attempt::Write, error),
+        WriteError::Module(error) => Failure::refused(alloc, input, None, &error),
+        WriteError::Io(error) => Failure::file(output, Attempt::Write, error),
     }
 }
 
@@ -120,12 +125,12 @@ fn write_to<'w, R: Files + Print + AllocGlobal + Drop, B: BodyWriter>(
     task: &Task<'w>,
     source: &Option<SourceMap>,
     target: &mut Target<'w, R>,
-) -> Result<(), Stop<'w>> {
+) -> Result<(), Failure<'w>> {
     let mut moves = Moves::new(rt.alloc(), source.is_some());
     let url = url_of(task);
     match write_buffered(rt.alloc(), parsed, module, url, &mut moves, target) {
         Ok(()) => write_source_map(rt, task, source, &moves),
-        Err(error) => Err(stop_of(rt.alloc(), task.input, target.path(), error)),
+        Err(error) => Err(failure_of(rt.alloc(), task.input, target.path(), error)),
     }
 }
 
@@ -139,7 +144,7 @@ fn write_both_to<'w, R: Files + Print + AllocGlobal + Drop, B: BodyWriter>(
     source: &Option<SourceMap>,
     target: &mut Target<'w, R>,
     map: &mut Target<'w, R>,
-) -> Result<(), Stop<'w>> {
+) -> Result<(), Failure<'w>> {
     let mut moves = Moves::new(rt.alloc(), source.is_some());
     let url = url_of(task);
     match write_both_buffered(rt.alloc(), parsed, module, url, &mut moves, target, map) {
@@ -149,7 +154,7 @@ fn write_both_to<'w, R: Files + Print + AllocGlobal + Drop, B: BodyWriter>(
                 true => map.path(),
                 false => target.path(),
             };
-            Err(stop_of(rt.alloc(), task.input, failed, error))
+            Err(failure_of(rt.alloc(), task.input, failed, error))
         }
     }
 }
@@ -163,10 +168,10 @@ fn write_with_map<'w, R: Files + Print + AllocGlobal + Drop, B: BodyWriter>(
     source: &Option<SourceMap>,
     target: &mut Target<'w, R>,
     map: &'w str,
-) -> Result<(), Stop<'w>> {
+) -> Result<(), Failure<'w>> {
     let mut map = match Target::create(rt, map) {
         Ok(map) => map,
-        Err(stop) => return Err(stop),
+        Err(failure) => return Err(failure),
     };
     let written = write_both_to(rt, parsed, module, task, source, target, &mut map);
     map.end(written)
@@ -187,10 +192,10 @@ pub(crate) fn write_module<'w, R: Files + Print + AllocGlobal + Drop, B: BodyWri
     task: &Task<'w>,
     source: &Option<SourceMap>,
     output: &'w str,
-) -> Result<(), Stop<'w>> {
+) -> Result<(), Failure<'w>> {
     let mut target = match Target::create(rt, output) {
         Ok(target) => target,
-        Err(stop) => return Err(stop),
+        Err(failure) => return Err(failure),
     };
     let written = match task.map {
         Some(map) => write_with_map(rt, parsed, module, task, source, &mut target, map),

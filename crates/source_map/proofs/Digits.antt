@@ -5,7 +5,7 @@ use Rattle.std.proofs.lemmas.Bool.{ltb-true, ltb-false, lt-ltb, le-ltb, leb-fals
 use Rattle.std.proofs.lemmas.Bool.Decides.{nat_tests}
 use Rattle.source_map.specs.declared.fault.MappingsFault.{MappingsFault}
 use Rattle.source_map.specs.declared.fault.MappingsFault.TheVariants.{BadDigit, LongNumber, SecondLine}
-use Rattle.source_map.specs.Vlq.{digit_value, IsNumber, most_digits}
+use Rattle.source_map.specs.Vlq.{digit_value, IsNumber, max_digits}
 use Rattle.source_map.specs.Reading.{◌>>=◌, some_or, digit_at, number_at, next_at}
 use Rattle.source_map.proofs.Steps.{bind_ok, some_or_ok, ok_is, chosen, test_false}
 
@@ -87,12 +87,12 @@ number_lacks most n (c ∷ d ∷ cs) h = (no_comma c (h.1 + 32) h.4, number_lack
 
 -- ---- the next number of a segment
 
-pub next_taken : (text : List ℕ) (n : ℕ) (rest : List ℕ) → next_at text ≡ Ok (n, rest) → Takes (IsNumber most_digits n) text rest
+pub next_taken : (text : List ℕ) (n : ℕ) (rest : List ℕ) → next_at text ≡ Ok (n, rest) → Takes (IsNumber max_digits n) text rest
 unfolding next_at
 next_taken [] n rest e = absurd cc
-next_taken (c ∷ cs) n rest e = number_taken most_digits (c ∷ cs) n rest e
+next_taken (c ∷ cs) n rest e = number_taken max_digits (c ∷ cs) n rest e
 
-pub next_again : (n : ℕ) (text rest : List ℕ) → IsNumber most_digits n text → next_at (text ++ rest) ≡ Ok (n, rest)
+pub next_again : (n : ℕ) (text rest : List ℕ) → IsNumber max_digits n text → next_at (text ++ rest) ≡ Ok (n, rest)
 unfolding next_at
 next_again n [] rest h = absurd h
-next_again n (c ∷ cs) rest h = number_again most_digits n (c ∷ cs) rest h
+next_again n (c ∷ cs) rest h = number_again max_digits n (c ∷ cs) rest h

@@ -3,7 +3,7 @@ use Rattle.std.proofs.Common.{◌≡◌, ℕ, ◌+◌, ◌-◌, ◌/◌, ◌%◌
 use Rattle.std.specs.List.{AllByRecursion}
 use Rattle.std.proofs.lemmas.Bool.{ltb-false, eqb-false}
 use Rattle.source_map.specs.declared.fault.MappingsFault.TheVariants.{FieldOutOfRange, UnsortedColumn}
-use Rattle.source_map.specs.Vlq.{most_digits, within, lowered, moved_by, IsField}
+use Rattle.source_map.specs.Vlq.{max_digits, within, lowered, moved_by, IsField}
 use Rattle.source_map.specs.Reading.{◌>>=◌, some_or, next_at, field_at, column_after, column_at}
 use Rattle.source_map.proofs.Steps.{bind_ok, some_or_ok, ok_is, some_is, chosen}
 use Rattle.source_map.proofs.Digits.{Takes, next_taken, next_again, number_lacks}
@@ -22,7 +22,7 @@ unfolding field_at
 field_again before v text rest h = rw (next_again h.0 text rest h.2, h.1) refl
 
 pub field_lacks : (before v : ℕ) (text : List ℕ) → IsField before v text → AllByRecursion (λ x. eqb x 44 ≡ false) text
-field_lacks before v text h = number_lacks most_digits h.0 text h.2
+field_lacks before v text h = number_lacks max_digits h.0 text h.2
 
 -- ---- columns
 

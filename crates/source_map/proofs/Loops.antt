@@ -46,10 +46,10 @@ regroup : (front : List Mapping) (m : Mapping) (read : Result (List Mapping) Map
 regroup front m (Ok ms) = ap (λ (x : List Mapping). Ok x) (simp append_assoc)
 regroup front m (Err f) = refl
 
-pub goes_on : (front : List Mapping) (s : Fields) (t : List ℕ) (ts : List (List ℕ)) (m : Mapping) (total : Result (List Mapping) MappingsFault) → segment_at s t ≡ Ok m
+pub continues : (front : List Mapping) (s : Fields) (t : List ℕ) (ts : List (List ℕ)) (m : Mapping) (total : Result (List Mapping) MappingsFault) → segment_at s t ≡ Ok m
     → with_front front (segments_at s (t ∷ ts)) ≡ total → with_front (front ++ m ∷ []) (segments_at (after s m) ts) ≡ total
 unfolding segments_at
-goes_on front s t ts m total h so_far =
+continues front s t ts m total h so_far =
     let one : with_front front (segments_at s (t ∷ ts)) ≡ with_front (front ++ m ∷ []) (segments_at (after s m) ts) = rw h (regroup front m (segments_at (after s m) ts)) in
     sym one ∙ so_far
 
@@ -67,16 +67,16 @@ is_done front s total so_far = sym so_far ∙ ap (λ (x : List Mapping). Ok x) (
 -- ---- segments that are written
 
 -- each segment after a comma
-abbrev pub behind : List (List ℕ) → List ℕ
-behind [] = []
-behind (t ∷ ts) = 44 ∷ (t ++ behind ts)
+abbrev pub after_commas : List (List ℕ) → List ℕ
+after_commas [] = []
+after_commas (t ∷ ts) = 44 ∷ (t ++ after_commas ts)
 
-joined_is : (t : List ℕ) (ts : List (List ℕ)) → join_with_byte 44 (t ∷ ts) ≡ t ++ behind ts
+joined_is : (t : List ℕ) (ts : List (List ℕ)) → join_with_byte 44 (t ∷ ts) ≡ t ++ after_commas ts
 joined_is t [] = sym (append-nil t)
 joined_is t (u ∷ us) = ap (λ (x : List ℕ). t ++ 44 ∷ x) (joined_is u us)
 
-pub first_written : (s : Fields) (m : Mapping) (ms : List Mapping) → short_segment s m ++ behind (short_segments (after s m) ms) ≡ join_with_byte 44 (short_segments s (m ∷ ms))
+pub first_written : (s : Fields) (m : Mapping) (ms : List Mapping) → short_segment s m ++ after_commas (short_segments (after s m) ms) ≡ join_with_byte 44 (short_segments s (m ∷ ms))
 first_written s m ms = sym (joined_is (short_segment s m) (short_segments (after s m) ms))
 
-pub one_written : (out : List ℕ) (s : Fields) (m : Mapping) (ms : List Mapping) → ((out ++ 44 ∷ []) ++ short_segment s m) ++ behind (short_segments (after s m) ms) ≡ out ++ behind (short_segments s (m ∷ ms))
+pub one_written : (out : List ℕ) (s : Fields) (m : Mapping) (ms : List Mapping) → ((out ++ 44 ∷ []) ++ short_segment s m) ++ after_commas (short_segments (after s m) ms) ≡ out ++ after_commas (short_segments s (m ∷ ms))
 one_written out s m ms = simp append_assoc

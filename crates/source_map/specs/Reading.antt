@@ -8,7 +8,7 @@ use Rattle.source_map.specs.declared.fault.MappingsFault.{MappingsFault}
 use Rattle.source_map.specs.declared.fault.MappingsFault.TheVariants.{BadDigit, CutNumber, LongNumber, FieldCount, FieldOutOfRange, UnsortedColumn, SecondLine}
 use Rattle.source_map.specs.declared.fault.MappingsError.{MappingsError}
 use Rattle.source_map.specs.declared.fault.MappingsError.TheVariants as errors
-use Rattle.source_map.specs.Vlq.{digit_value, most_digits, within, moved_by}
+use Rattle.source_map.specs.Vlq.{digit_value, max_digits, within, moved_by}
 use Rattle.source_map.specs.Spelling.{start, after}
 
 infixl 10 ◌>>=◌
@@ -50,7 +50,7 @@ number_at most (c ∷ cs) = digit_at c >>= λ d.
 -- the next number of a segment, if the segment has one
 unfoldable pub next_at : List ℕ → Result (ℕ × List ℕ) MappingsFault
 next_at [] = Err FieldCount
-next_at (c ∷ cs) = number_at most_digits (c ∷ cs)
+next_at (c ∷ cs) = number_at max_digits (c ∷ cs)
 
 unfoldable pub field_at : (before : ℕ) → List ℕ → Result (ℕ × List ℕ) MappingsFault
 field_at before text = next_at text >>= λ n. some_or (moved_by n.0 before) FieldOutOfRange >>= λ field. Ok (field, n.1)

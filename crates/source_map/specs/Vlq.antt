@@ -21,8 +21,8 @@ IsNumber most n (c ∷ d ∷ cs) =
     (1 < most) × (low high : ℕ) × (low < 32) × (digit_value c ≡ Some (low + 32)) × (n ≡ low + 32 * high) × IsNumber (most - 1) high (d ∷ cs)
 
 -- how many digits a number has at most: seven are enough for the distance between any two fields of 32 bits, and its sign
-abbrev pub most_digits : ℕ
-most_digits = 7
+abbrev pub max_digits : ℕ
+max_digits = 7
 
 -- the values that a field may have
 abbrev pub within : ℕ → Option ℕ
@@ -41,4 +41,4 @@ moved_by n before =
 
 -- the text encodes how the field after another differs from it
 abbrev pub IsField : (before field : ℕ) → List ℕ → Type 0
-IsField before field text = (n : ℕ) × (moved_by n before ≡ Some field) × IsNumber most_digits n text
+IsField before field text = (n : ℕ) × (moved_by n before ≡ Some field) × IsNumber max_digits n text

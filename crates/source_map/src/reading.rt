@@ -77,7 +77,7 @@ fn read_segment(fields: Fields, text: &[u8]) -> Result<Mapping, MappingsFault>
 fn first_segment(text: &[u8]) -> (&[u8], Option<&[u8]>)
     ensures parts { slice_split (λ b. b == 44) text.now
         ≡ result.0.now ∷ parts_of (option_map (λ x. x.now) result.1) }
-    ensures shorter { IfSome result.1 (λ behind. length behind.now < length text.now) }
+    ensures shorter { IfSome result.1 (λ following. length following.now < length text.now) }
 {
     for (at, byte) in text.iter().enumerate() {
         if *byte == b',' {
@@ -96,11 +96,11 @@ fn read_all(alloc: Global, text: &[u8]) -> Result<Vec<Mapping>, MappingsError>
     let mut fields = Fields::start();
     let mut left = if text.is_empty() { None } else { Some(text) };
     while let Some(part) = left {
-        let (segment, behind) = first_segment(part);
+        let (segment, following) = first_segment(part);
         let mapping = read_segment(fields, segment)?;
         mappings.push(mapping)?;
         fields = fields.after(mapping);
-        left = behind;
+        left = following;
     }
     Ok(mappings)
 }

@@ -32,7 +32,7 @@ note_of (NameData d) = record { word = word.Data; number = d }
 
 -- one more note, and one call less remaining
 pub record Adds (s : Recorder) (note : Note) (t : Recorder) : Type 0 where
-  pub told : t.told.items ≡ s.told.items ++ note ∷ []
+  pub noted : t.noted.items ≡ s.noted.items ++ note ∷ []
   pub calls_left : s.calls_left ≡ t.calls_left + 1
 
 abbrev pub Notes : Recorder → WalkEvent → Recorder → Type 0
@@ -46,18 +46,18 @@ abbrev pub Declines : Recorder → WalkEvent → WalkError → Type 0
 Declines s e f = IsUnable s f
 
 pub record HasSameNotes (s t : Recorder) : Type 0 where
-  pub told : s.told.items ≡ t.told.items
+  pub noted : s.noted.items ≡ t.noted.items
   pub calls_left : s.calls_left ≡ t.calls_left
 
 pub same_notes_back : (s t : Recorder) → HasSameNotes s t → HasSameNotes t s
-same_notes_back s t h = record { told = sym h.told; calls_left = sym h.calls_left }
+same_notes_back s t h = record { noted = sym h.noted; calls_left = sym h.calls_left }
 
 pub same_notes_through : (s t u : Recorder) → HasSameNotes s t → HasSameNotes t u → HasSameNotes s u
-same_notes_through s t u h k = record { told = h.told ∙ k.told; calls_left = h.calls_left ∙ k.calls_left }
+same_notes_through s t u h k = record { noted = h.noted ∙ k.noted; calls_left = h.calls_left ∙ k.calls_left }
 
 pub note_alike : AreStepsAlike HasSameNotes Notes
 note_alike s s' t t' e from to step = record {
-  told = sym to.told ∙ (step.told ∙ ap (λ (notes : List Note). notes ++ note_of e ∷ []) from.told);
+  noted = sym to.noted ∙ (step.noted ∙ ap (λ (notes : List Note). notes ++ note_of e ∷ []) from.noted);
   calls_left = sym from.calls_left ∙ (step.calls_left ∙ ap (λ n. n + 1) to.calls_left);
 }
 

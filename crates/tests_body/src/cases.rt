@@ -1,11 +1,11 @@
 //! Tables of cases: for each text or function, the expected result as text.
 use crate::by_hand::{Item, function};
 use crate::emitting::push_written;
-use crate::facts::{push_answered, push_both_answered, push_gathered_twice, push_visited_twice};
+use crate::facts::{push_both_returned, push_gathered_twice, push_returned, push_visited_twice};
 use crate::locals::push_declared_as_used;
 use crate::plain_module::parse_plain;
 use crate::reading::push_read;
-use crate::small_module::{Setting, parse, push_entry, push_parsed, push_parsed_by, push_told};
+use crate::small_module::{Setting, parse, push_entry, push_noted, push_parsed, push_parsed_by};
 use crate::validators::{Counting, Keeping};
 use crate::walk::push_walk;
 use std::alloc::{AllocError, Global};
@@ -33,19 +33,19 @@ pub(crate) enum About {
     /// The function, with a validator that records places and refuses the fourth operator with 9.
     Kept,
     /// The places at which a validator is called.
-    Told,
+    Noted,
     /// The operators that are read, starting at a place.
     Read(u32),
 }
 
 fn push_facts(found: &mut String, text: &str) -> Result<(), Fail> {
     let function = parse(*found.allocator(), Setting::PLAIN, text)?;
-    Ok(push_answered(found, &function)?)
+    Ok(push_returned(found, &function)?)
 }
 
 fn push_gathered(found: &mut String, text: &str) -> Result<(), Fail> {
     let function = parse_plain(*found.allocator(), text)?;
-    Ok(push_both_answered(found, &function)?)
+    Ok(push_both_returned(found, &function)?)
 }
 
 fn push_locals(found: &mut String, text: &str) -> Result<(), Fail> {
@@ -63,12 +63,12 @@ fn push_kept(found: &mut String, text: &str) -> Result<(), AllocError> {
     push_parsed_by(found, Setting::PLAIN, text, Keeping { places })
 }
 
-fn or_fail(answer: Result<(), AllocError>) -> Result<(), Fail> {
-    Ok(answer?)
+fn or_fail(returned: Result<(), AllocError>) -> Result<(), Fail> {
+    Ok(returned?)
 }
 
 // Appends the result for a text.
-fn push_answer(found: &mut String, about: About, text: &str) -> Result<(), Fail> {
+fn push_result(found: &mut String, about: About, text: &str) -> Result<(), Fail> {
     match about {
         About::Function(setting) => or_fail(push_parsed(found, setting, text)),
         About::Entry => push_entry(found, text),
@@ -83,14 +83,14 @@ fn push_answer(found: &mut String, about: About, text: &str) -> Result<(), Fail>
             Counting { left: 2 },
         )),
         About::Kept => or_fail(push_kept(found, text)),
-        About::Told => or_fail(push_told(found, text)),
+        About::Noted => or_fail(push_noted(found, text)),
         About::Read(start) => push_read(found, text, start),
     }
 }
 
-fn answer(alloc: Global, about: About, text: &str) -> Result<String, Fail> {
+fn returned(alloc: Global, about: About, text: &str) -> Result<String, Fail> {
     let mut found = String::new(alloc);
-    push_answer(&mut found, about, text)?;
+    push_result(&mut found, about, text)?;
     Ok(found)
 }
 
@@ -101,9 +101,9 @@ pub(crate) fn check(
     about: About,
     cases: &[(&str, &str)],
 ) -> Result<(), Fail> {
-    for (text, want) in cases {
-        let found = answer(alloc, about, text)?;
-        assert_eq!(rt; found.as_str(), *want, "of {text}");
+    for (text, expected) in cases {
+        let found = returned(alloc, about, text)?;
+        assert_eq!(rt; found.as_str(), *expected, "of {text}");
     }
     Ok(())
 }
@@ -139,7 +139,7 @@ fn push_made(found: &mut String, about: AboutMade, instrs: &[Item]) -> Result<()
     }
 }
 
-fn answer_made(alloc: Global, about: AboutMade, instrs: &[Item]) -> Result<String, Fail> {
+fn made_result(alloc: Global, about: AboutMade, instrs: &[Item]) -> Result<String, Fail> {
     let mut found = String::new(alloc);
     push_made(&mut found, about, instrs)?;
     Ok(found)
@@ -152,9 +152,9 @@ pub(crate) fn check_made(
     about: AboutMade,
     cases: &[(&[Item], &str)],
 ) -> Result<(), Fail> {
-    for (instrs, want) in cases {
-        let found = answer_made(alloc, about, instrs)?;
-        assert_eq!(rt; found.as_str(), *want);
+    for (instrs, expected) in cases {
+        let found = made_result(alloc, about, instrs)?;
+        assert_eq!(rt; found.as_str(), *expected);
     }
     Ok(())
 }

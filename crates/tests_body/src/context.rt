@@ -48,8 +48,8 @@ fn push_frame(text: &mut String, frame: &ControlFrame) -> Result<(), AllocError>
 }
 
 // Appends the result of a call that returns nothing.
-fn push_done(text: &mut String, answer: Result<(), ParseError>) -> Result<(), AllocError> {
-    match answer {
+fn push_done(text: &mut String, returned: Result<(), ParseError>) -> Result<(), AllocError> {
+    match returned {
         Ok(()) => write!(text, " ok"),
         Err(error) => write!(text, " {error:?}"),
     }
@@ -58,9 +58,9 @@ fn push_done(text: &mut String, answer: Result<(), ParseError>) -> Result<(), Al
 // Appends the result of a call that returns a sequence.
 fn push_opened(
     text: &mut String,
-    answer: Result<InstrSeqId, ParseError>,
+    returned: Result<InstrSeqId, ParseError>,
 ) -> Result<(), AllocError> {
-    match answer {
+    match returned {
         Ok(seq) => write!(text, " {}", seq.index()),
         Err(error) => write!(text, " {error:?}"),
     }
@@ -109,8 +109,8 @@ fn put_around(
         return write!(text, " {error:?}");
     }
     push_start(context, 0, text)?;
-    let answer = context.alloc_instr_in_control(1, instr(made), at(location));
-    push_done(text, answer)?;
+    let returned = context.alloc_instr_in_control(1, instr(made), at(location));
+    push_done(text, returned)?;
     push_start(context, 0, text)
 }
 
@@ -128,8 +128,8 @@ fn put_outside(
     }
     push_start(context, 1, text)?;
     push_start(context, 0, text)?;
-    let answer = context.alloc_instr_in_control(2, instr(made), at(location));
-    push_done(text, answer)?;
+    let returned = context.alloc_instr_in_control(2, instr(made), at(location));
+    push_done(text, returned)?;
     push_start(context, 1, text)?;
     push_start(context, 0, text)
 }
@@ -237,9 +237,9 @@ fn check_calls_in(
     example: &Example,
     cases: &[(&[Step], &str)],
 ) -> Result<(), Fail> {
-    for (steps, want) in cases {
+    for (steps, expected) in cases {
         let found = called(alloc, example, steps)?;
-        assert_eq!(rt; found.as_str(), *want);
+        assert_eq!(rt; found.as_str(), *expected);
     }
     Ok(())
 }
@@ -376,7 +376,7 @@ fn adds_clauses_to_a_try(rt: HostRuntime) -> Result<(), Fail> {
         Step::Pop,
         Step::Pop,
     ];
-    let behind = [
+    let following = [
         ENTRY,
         Step::PutTry(1),
         tries,
@@ -395,7 +395,7 @@ fn adds_clauses_to_a_try(rt: HostRuntime) -> Result<(), Fail> {
             ()[ try 1 1@0 ]- ()[ drop@8 ]- ()[ ]-",
         ),
         (
-            behind.as_slice(),
+            following.as_slice(),
             " 0 ok 1 ok ok Try 1 alive [] [] 1 of 1 FunctionEntry 0 alive [] [] 0 of 0 | \
             ()[ try 1 1@0 ]- ()[ drop@8 ]-",
         ),

@@ -15,7 +15,7 @@ use wasm_encode::FunctionEncoder;
 
 // The types 8, 2, 6 and 5 have the new indices 0 to 3; the function 7 and the memory 0 have the new
 // index 0.
-fn give_all(numbers: &mut IdsToIndices) -> Result<(), IndexError> {
+fn set_all(numbers: &mut IdsToIndices) -> Result<(), IndexError> {
     for ty in [8, 2, 6, 5] {
         give(numbers, Space::Types, ty)?;
     }
@@ -25,7 +25,7 @@ fn give_all(numbers: &mut IdsToIndices) -> Result<(), IndexError> {
 
 fn numbers(alloc: Global) -> Result<IdsToIndices, IndexError> {
     let mut numbers = IdsToIndices::new(alloc);
-    give_all(&mut numbers)?;
+    set_all(&mut numbers)?;
     Ok(numbers)
 }
 
@@ -55,8 +55,8 @@ fn write(
 }
 
 // Appends the fault, if there is one.
-fn push_fault(text: &mut String, answer: Option<Result<(), EmitError>>) -> Result<(), Fail> {
-    match answer {
+fn push_fault(text: &mut String, returned: Option<Result<(), EmitError>>) -> Result<(), Fail> {
+    match returned {
         Some(Ok(())) => {}
         Some(Err(error)) => write!(text, "{error:?} ")?,
         None => text.push_str("no entry ")?,
@@ -75,8 +75,8 @@ fn write_under(
 ) -> Result<(), Fail> {
     let locals = local_numbers(*text.allocator())?;
     let types = types(*text.allocator())?;
-    let answer = write(function, &types, numbers, &locals, encoder, map);
-    push_fault(text, answer)
+    let returned = write(function, &types, numbers, &locals, encoder, map);
+    push_fault(text, returned)
 }
 
 // The same with the numbers of these tests.
@@ -229,7 +229,7 @@ fn writes_numbers_of_locals(rt: HostRuntime) -> Result<(), Fail> {
 /// it; 0 is written like 1.
 #[test]
 fn writes_exponents_of_alignments(rt: HostRuntime) -> Result<(), Fail> {
-    for (align, want) in [
+    for (align, expected) in [
         (0, "002800000b 9@9 1@1 -@4"),
         (1, "002800000b 9@9 1@1 -@4"),
         (2, "002801000b 9@9 1@1 -@4"),
@@ -244,7 +244,7 @@ fn writes_exponents_of_alignments(rt: HostRuntime) -> Result<(), Fail> {
             &rt,
             rt.alloc(),
             AboutMade::Written,
-            &[(load.as_slice(), want)],
+            &[(load.as_slice(), expected)],
         )?;
     }
     Ok(())
@@ -253,7 +253,7 @@ fn writes_exponents_of_alignments(rt: HostRuntime) -> Result<(), Fail> {
 /// Bodies at known places, in code that begins at 90 and at 0.
 #[test]
 fn writes_what_is_parsed(rt: HostRuntime) -> Result<(), Fail> {
-    for (offset, before, body, want) in [
+    for (offset, before, body, expected) in [
         (90, 10, "00010b", "000b 9@9 102@1"),
         (0, 0, "00410104400b0b", "00410104400b0b 9@9 1@1 3@3 5@5 6@6"),
     ] {
@@ -264,7 +264,12 @@ fn writes_what_is_parsed(rt: HostRuntime) -> Result<(), Fail> {
             ops: 1,
             located: false,
         };
-        check(&rt, rt.alloc(), About::Written(setting), &[(body, want)])?;
+        check(
+            &rt,
+            rt.alloc(),
+            About::Written(setting),
+            &[(body, expected)],
+        )?;
     }
     Ok(())
 }
@@ -407,7 +412,7 @@ fn of_type(id: usize) -> InstrSeqType {
 fn leaves_out_an_else_that_says_nothing(rt: HostRuntime) -> Result<(), Fail> {
     let none = InstrLocId::default();
     let at = InstrLocId::new(78);
-    for (ty, end, says_something, want) in [
+    for (ty, end, says_something, expected) in [
         (
             InstrSeqType::Simple(None),
             at,
@@ -460,7 +465,7 @@ fn leaves_out_an_else_that_says_nothing(rt: HostRuntime) -> Result<(), Fail> {
         ),
     ] {
         let text = written_choice(rt.alloc(), &ty, &end, says_something)?;
-        assert_eq!(rt; text.as_str(), want);
+        assert_eq!(rt; text.as_str(), expected);
     }
     Ok(())
 }

@@ -60,7 +60,7 @@ fn push_visited(text: &mut String, builder: &FunctionBuilder) -> Result<(), Allo
 }
 
 /// Appends what a function's own calls return.
-pub(crate) fn push_answered(text: &mut String, function: &LocalFunction) -> Result<(), AllocError> {
+pub(crate) fn push_returned(text: &mut String, function: &LocalFunction) -> Result<(), AllocError> {
     if !function.has_entry() {
         return Ok(());
     }
@@ -79,7 +79,7 @@ pub(crate) fn push_visited_twice(
 ) -> Result<(), AllocError> {
     push_visited(text, function.builder())?;
     text.push_str("; ")?;
-    push_answered(text, function)
+    push_returned(text, function)
 }
 
 // Appends the facts: the size, whether data segments are named, the functions in order, and the
@@ -109,9 +109,9 @@ fn push_gathered(
 ) -> Result<(), AllocError> {
     let mut visitor = FactsVisitor::new(*text.allocator());
     visitor.facts.size = before;
-    let answer = dfs_in_order(&mut visitor, builder, InstrSeqId::new(0));
+    let returned = dfs_in_order(&mut visitor, builder, InstrSeqId::new(0));
     push_facts(text, &visitor.facts)?;
-    match answer {
+    match returned {
         Ok(()) => Ok(()),
         Err(error) => write!(text, " {error:?}"),
     }
@@ -139,13 +139,13 @@ pub(crate) fn push_gathered_twice(
 }
 
 /// Appends the facts that a function returns, and what its other calls return.
-pub(crate) fn push_both_answered(
+pub(crate) fn push_both_returned(
     text: &mut String,
     function: &LocalFunction,
 ) -> Result<(), AllocError> {
     push_emitted(text, function)?;
     text.push_str("; ")?;
-    push_answered(text, function)
+    push_returned(text, function)
 }
 
 /// Facts of functions made by hand, from visitors and from the functions' own calls.
@@ -265,8 +265,8 @@ fn push_counted(
     before: u64,
 ) -> Result<(), AllocError> {
     let mut visitor = SizeVisitor { size: before };
-    let answer = dfs_in_order(&mut visitor, builder, InstrSeqId::new(0));
-    write!(text, "{answer:?} {}", visitor.size)
+    let returned = dfs_in_order(&mut visitor, builder, InstrSeqId::new(0));
+    write!(text, "{returned:?} {}", visitor.size)
 }
 
 // The same, and then the facts of a visitor that begins at that number.
@@ -284,7 +284,7 @@ fn counted_from(
 
 // Checks counts from several numbers, up to the limit of 64 bits.
 fn check_counts(rt: &impl Abort, alloc: Global, builder: &FunctionBuilder) -> Result<(), Fail> {
-    for (before, want) in [
+    for (before, expected) in [
         (0, "Ok(()) 23; 23"),
         (
             u64::MAX - 23,
@@ -296,7 +296,7 @@ fn check_counts(rt: &impl Abort, alloc: Global, builder: &FunctionBuilder) -> Re
         ),
     ] {
         let found = counted_from(alloc, builder, before)?;
-        assert_eq!(rt; found.as_str(), want);
+        assert_eq!(rt; found.as_str(), expected);
     }
     Ok(())
 }
@@ -309,17 +309,17 @@ fn counts_up_to_64_bits(rt: HostRuntime) -> Result<(), Fail> {
 }
 
 // The results of the calls of that tree's function.
-fn example_answered(alloc: Global) -> Result<String, AllocError> {
+fn example_returned(alloc: Global) -> Result<String, AllocError> {
     let function = LocalFunction::new(Vec::new(alloc), example(alloc)?);
     let mut text = String::new(alloc);
-    push_both_answered(&mut text, &function)?;
+    push_both_returned(&mut text, &function)?;
     Ok(text)
 }
 
 /// The facts of that tree, as its function returns them.
 #[test]
 fn gathers_from_every_kind_of_sequence(rt: HostRuntime) -> Result<(), Fail> {
-    let found = example_answered(rt.alloc())?;
+    let found = example_returned(rt.alloc())?;
     assert_eq!(rt; found.as_str(), "23; Ok(23)");
     Ok(())
 }

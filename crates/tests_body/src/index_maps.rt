@@ -50,8 +50,8 @@ fn get(ids: &IndicesToIds, space: Space, index: u32) -> Result<usize, IndexError
 }
 
 // A number, or the text of the fault.
-fn shown(alloc: Global, answer: Result<usize, IndexError>) -> Result<String, AllocError> {
-    match answer {
+fn shown(alloc: Global, returned: Result<usize, IndexError>) -> Result<String, AllocError> {
+    match returned {
         Ok(number) => number.to_string(alloc),
         Err(error) => error.to_string(alloc),
     }
@@ -175,9 +175,9 @@ const FOUND: [(Place, u32, &str); 22] = [
 
 // Checks ids of old indices, row by row.
 fn check_ids(rt: &impl Abort, alloc: Global, ids: &IndicesToIds) -> Result<(), Fail> {
-    for (place, index, want) in &FOUND {
+    for (place, index, expected) in &FOUND {
         let text = found(alloc, ids, *place, *index)?;
-        assert_eq!(rt; text.as_str(), *want);
+        assert_eq!(rt; text.as_str(), *expected);
     }
     Ok(())
 }
@@ -252,7 +252,7 @@ fn number_text(
 }
 
 // Gives new indices to an id in each space, to two more functions, and twice to a data segment.
-fn give_all(numbers: &mut IdsToIndices) -> Result<(), IndexError> {
+fn set_all(numbers: &mut IdsToIndices) -> Result<(), IndexError> {
     for (space, id) in SPACES {
         give(numbers, space, id)?;
     }
@@ -267,7 +267,7 @@ fn give_all(numbers: &mut IdsToIndices) -> Result<(), IndexError> {
 
 fn numbers_of_spaces(alloc: Global) -> Result<IdsToIndices, IndexError> {
     let mut numbers = IdsToIndices::new(alloc);
-    give_all(&mut numbers)?;
+    set_all(&mut numbers)?;
     Ok(numbers)
 }
 
@@ -293,10 +293,10 @@ fn check_number(
     rt: &impl Abort,
     alloc: Global,
     numbers: &IdsToIndices,
-    (space, id, want): (Space, usize, &str),
+    (space, id, expected): (Space, usize, &str),
 ) -> Result<(), Fail> {
     let found = number_text(alloc, numbers, space, id)?;
-    assert_eq!(rt; found.as_str(), want);
+    assert_eq!(rt; found.as_str(), expected);
     Ok(())
 }
 

@@ -156,9 +156,9 @@ const REFUSED: [Case; 4] = [
 #[test]
 fn declares_by_type_and_id(rt: HostRuntime) -> Result<(), Fail> {
     for cases in [DECLARED.as_slice(), REFUSED.as_slice()] {
-        for (args, used, want) in cases {
+        for (args, used, expected) in cases {
             let found = declared_by_hand(rt.alloc(), args, used)?;
-            assert_eq!(rt; found.as_str(), *want, "of {used:?} after {args:?}");
+            assert_eq!(rt; found.as_str(), *expected, "of {used:?} after {args:?}");
         }
     }
     Ok(())

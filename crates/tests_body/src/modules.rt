@@ -53,13 +53,13 @@ fn check_picks(rt: &impl Abort, alloc: Global, types: &ModuleTypes) -> Result<()
 // types.
 fn check_kinds(rt: &impl Abort, types: &ModuleTypes) {
     let values = [ValType::I32, ValType::I32];
-    for (results, want) in [(0, 4), (1, 100), (2, 6)] {
+    for (results, expected) in [(0, 4), (1, 100), (2, 6)] {
         assert_eq!(rt;
             number(types.find_for_function_entry(&values[..results])),
-            want
+            expected
         );
     }
-    for (id, want) in [
+    for (id, expected) in [
         (0, true),
         (2, true),
         (3, false),
@@ -67,7 +67,7 @@ fn check_kinds(rt: &impl Abort, types: &ModuleTypes) {
         (6, true),
         (7, false),
     ] {
-        assert_eq!(rt; types.is_func(TypeId::new(id)), want, "at {id}");
+        assert_eq!(rt; types.is_func(TypeId::new(id)), expected, "at {id}");
     }
 }
 

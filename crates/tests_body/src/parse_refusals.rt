@@ -93,7 +93,7 @@ fn names_the_space_of_an_index(rt: HostRuntime) -> Result<(), Fail> {
 #[test]
 fn looks_for_the_types_of_the_function_first(rt: HostRuntime) -> Result<(), Fail> {
     let unread = "UnknownOperator 32 at 32";
-    for (ty, want) in [
+    for (ty, expected) in [
         (3, "NotAFunctionType at 32"),
         (7, "NotAFunctionType at 32"),
         (1, "EntryTypeMissing at 32"),
@@ -112,7 +112,7 @@ fn looks_for_the_types_of_the_function_first(rt: HostRuntime) -> Result<(), Fail
             &rt,
             rt.alloc(),
             About::Function(setting),
-            &[("0000ff", want)],
+            &[("0000ff", expected)],
         )?;
     }
     Ok(())
@@ -121,7 +121,7 @@ fn looks_for_the_types_of_the_function_first(rt: HostRuntime) -> Result<(), Fail
 /// A validator is called for an operator that was read, before the operator's rules are checked,
 /// also in dead code.
 #[test]
-fn asks_the_validator(rt: HostRuntime) -> Result<(), Fail> {
+fn calls_the_validator(rt: HostRuntime) -> Result<(), Fail> {
     let counted = [
         ("0101010b", "Checked(7) at 2"),
         ("0101ff", "UnknownOperator 2 at 2"),
@@ -134,17 +134,17 @@ fn asks_the_validator(rt: HostRuntime) -> Result<(), Fail> {
         ("01010b", "0..3 0:0 1:1 2:2 type4[ ]2"),
     ];
     check(&rt, rt.alloc(), About::Kept, &kept)?;
-    let told = [
+    let noted = [
         ("0f41010102400b0b", "[0, 1, 3, 4, 6, 7]"),
         ("0102090b0b", "[0, 1]"),
         ("0102500b0b", "[0]"),
     ];
-    check(&rt, rt.alloc(), About::Told, &told)
+    check(&rt, rt.alloc(), About::Noted, &noted)
 }
 
 /// If a validator runs out of memory, so does the parse.
 #[test]
-fn wants_memory_as_the_validator_does(rt: HostRuntime) -> Result<(), Fail> {
+fn runs_out_of_memory_as_the_validator_does(rt: HostRuntime) -> Result<(), Fail> {
     let mut text = String::new(rt.alloc());
     push_parsed_by(&mut text, Setting::PLAIN, "0b", Exhausted)?;
     assert!(rt; text.as_str().starts_with("Memory at "));

@@ -133,7 +133,7 @@ fn at(offset: u32, before: u32, ops: usize) -> About {
 #[test]
 fn counts_places(rt: HostRuntime) -> Result<(), Fail> {
     let refused = "PlaceTooGreat at 4294967295";
-    for (about, body, want) in [
+    for (about, body, expected) in [
         (at(90, 10, 1), "00010b", "10..13 11:101 12:102 type4[ ]102"),
         (
             at(0, 0, 1),
@@ -160,7 +160,7 @@ fn counts_places(rt: HostRuntime) -> Result<(), Fail> {
             "PlaceTooGreat at 4294967296",
         ),
     ] {
-        check(&rt, rt.alloc(), about, &[(body, want)])?;
+        check(&rt, rt.alloc(), about, &[(body, expected)])?;
     }
     Ok(())
 }
@@ -169,7 +169,7 @@ fn counts_places(rt: HostRuntime) -> Result<(), Fail> {
 /// without it.
 #[test]
 fn asks_for_locations(rt: HostRuntime) -> Result<(), Fail> {
-    for (before, body, want) in [
+    for (before, body, expected) in [
         (
             20,
             "00410104400b0b",
@@ -188,7 +188,12 @@ fn asks_for_locations(rt: HostRuntime) -> Result<(), Fail> {
             ops: 1,
             located: true,
         };
-        check(&rt, rt.alloc(), About::Function(setting), &[(body, want)])?;
+        check(
+            &rt,
+            rt.alloc(),
+            About::Function(setting),
+            &[(body, expected)],
+        )?;
     }
     Ok(())
 }
@@ -214,10 +219,10 @@ fn lent_text(instrs: &mut Vec<(Instr, InstrLocId)>) -> Result<String, Fail> {
 /// The contents of the caller's list make no difference.
 #[test]
 fn clears_the_lent_list(rt: HostRuntime) -> Result<(), Fail> {
-    let want = lent_text(&mut Vec::new(rt.alloc()))?;
+    let expected = lent_text(&mut Vec::new(rt.alloc()))?;
     let mut instrs = some_instrs(rt.alloc())?;
     let found = lent_text(&mut instrs)?;
-    assert_eq!(rt; found.as_str(), want.as_str());
+    assert_eq!(rt; found.as_str(), expected.as_str());
     assert!(rt; instrs.is_empty());
     Ok(())
 }

@@ -65,7 +65,7 @@ impl fmt::Display for Note {
 #[derive(Drop)]
 pub struct Recorder {
     /// The notes so far, in order.
-    pub told: Vec<Note>,
+    pub noted: Vec<Note>,
     /// The number of calls that are accepted from now on.
     pub calls_left: u32,
 }
@@ -73,18 +73,18 @@ pub struct Recorder {
 impl Recorder {
     /// A recorder that accepts this many calls.
     pub fn new(alloc: Global, calls_left: u32) -> Recorder
-        ensures told { result.told.items ≡ [] }
+        ensures noted { result.noted.items ≡ [] }
         ensures calls_left { result.calls_left ≡ calls_left }
     {
         Recorder {
-            told: Vec::new(alloc),
+            noted: Vec::new(alloc),
             calls_left,
         }
     }
 
     /// Appends the notes, one after the other.
     pub fn push_text(&self, text: &mut String) -> Result<(), AllocError> {
-        for note in &self.told {
+        for note in &self.noted {
             write!(text, "{note}")?;
         }
         Ok(())
@@ -94,12 +94,12 @@ impl Recorder {
         ensures ok { OnOk result
             (Adds self.old (record { word = word; number = number }) self.new) }
         ensures err { IfErr result (IsUnable self.old) }
-        ensures kept { OnErr result (HasSameNotes self.old self.new) }
+        ensures unchanged { OnErr result (HasSameNotes self.old self.new) }
     {
         if self.calls_left == 0 {
             return Err(WalkError::TooLarge);
         }
-        self.told.push(Note { word, number })?;
+        self.noted.push(Note { word, number })?;
         self.calls_left -= 1;
         Ok(())
     }
@@ -132,7 +132,7 @@ impl Visitor for Recorder {
 
     ghost same = { HasSameNotes };
 
-    ghost reflexive = { λ s. record { told = refl; calls_left = refl } };
+    ghost reflexive = { λ s. record { noted = refl; calls_left = refl } };
 
     ghost symmetric = { same_notes_back };
 

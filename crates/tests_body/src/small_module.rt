@@ -2,7 +2,7 @@
 ghost use Rattle.std.specs.Prelude.{◌≡◌, IfOk};
 
 use crate::function_text::{Fault, push_parsed_function, push_sequence};
-use crate::validators::Telling;
+use crate::validators::RecordingCheck;
 use std::alloc::{AllocError, Global};
 use std::test::Fail;
 use walrus_body::{
@@ -229,18 +229,18 @@ pub(crate) fn push_parsed(
 }
 
 // The places at which a validator is called.
-fn told(alloc: Global, body: &str) -> Vec<usize> {
-    let mut told = Vec::new(alloc);
+fn noted(alloc: Global, body: &str) -> Vec<usize> {
+    let mut noted = Vec::new(alloc);
     let mut instrs = Vec::new(alloc);
-    let telling = Telling { told: &mut told };
-    let _ = parse_lent(alloc, Setting::PLAIN, body, telling, &mut instrs).is_ok();
-    told
+    let recording = RecordingCheck { noted: &mut noted };
+    let _ = parse_lent(alloc, Setting::PLAIN, body, recording, &mut instrs).is_ok();
+    noted
 }
 
 /// Appends the places at which a validator is called.
-pub(crate) fn push_told(text: &mut String, body: &str) -> Result<(), AllocError> {
-    let told = told(*text.allocator(), body);
-    write!(text, "{told:?}")
+pub(crate) fn push_noted(text: &mut String, body: &str) -> Result<(), AllocError> {
+    let noted = noted(*text.allocator(), body);
+    write!(text, "{noted:?}")
 }
 
 // Appends the first sequence of a function.

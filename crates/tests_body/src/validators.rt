@@ -59,12 +59,12 @@ impl OpCheck for Keeping {
 
 /// Appends the place of each operator to a list of the caller's.
 #[derive(Drop)]
-pub struct Telling<'a> {
+pub struct RecordingCheck<'a> {
     /// The list of the places.
-    pub told: &'a mut Vec<usize>,
+    pub noted: &'a mut Vec<usize>,
 }
 
-impl OpCheck for Telling<'_> {
+impl OpCheck for RecordingCheck<'_> {
     ghost use Rattle.std.specs.Prelude.{Ok};
 
     ghost State = { Unit {0} };
@@ -74,7 +74,7 @@ impl OpCheck for Telling<'_> {
     ghost check = { λ s _. Ok s };
 
     fn op(&mut self, pos: usize, _op: &Operator<'_>) -> Result<(), CheckError> {
-        match self.told.push(pos) {
+        match self.noted.push(pos) {
             Ok(()) => Ok(()),
             Err(_) => Err(CheckError::Memory),
         }

@@ -17,9 +17,9 @@ pub(crate) fn push_walk(
     calls: u32,
 ) -> Result<(), AllocError> {
     let mut recorder = Recorder::new(*text.allocator(), calls);
-    let answer = dfs_in_order(&mut recorder, builder, InstrSeqId::new(start));
+    let returned = dfs_in_order(&mut recorder, builder, InstrSeqId::new(start));
     recorder.push_text(text)?;
-    match answer {
+    match returned {
         Ok(()) => Ok(()),
         Err(error) => write!(text, " {error:?}"),
     }
@@ -42,13 +42,13 @@ fn check_walks(rt: &impl Abort, alloc: Global, builder: &FunctionBuilder) -> Res
     let whole = " start0 const1 drop0 block0 start1 const2 drop0 if-else0 start2 const3 drop0 end2 \
         start3 const4 drop0 end2 const5 drop0 end5 const6 drop0 try0 start4 const7 drop0 end2 \
         start5 const8 drop0 end2 start6 const9 drop0 end2 const10 drop0 end8";
-    for (start, calls, want) in [
+    for (start, calls, expected) in [
         (0, 1000, whole),
         (0, 2, " start0 const1 TooLarge"),
         (9, 1000, " UnknownSequence"),
     ] {
         let found = walked(alloc, builder, start, calls)?;
-        assert_eq!(rt; found.as_str(), want);
+        assert_eq!(rt; found.as_str(), expected);
     }
     Ok(())
 }
@@ -75,7 +75,7 @@ fn tells_names_and_faults(rt: HostRuntime) -> Result<(), Fail> {
         (0, Made::RefFunc(9), 0),
         (0, Made::Call(9), 0),
     ];
-    let told = " start0 other0 local1 other0 local2 other0 local3 other0 data4 other0 data5 \
+    let noted = " start0 other0 local1 other0 local2 other0 local3 other0 data4 other0 data5 \
         other0 data6 other0 data7 other0 func9 other0 end9";
     let own = [(0, Made::Block(0), 0)];
     let unknown = [(0, Made::Block(7), 0), (0, Made::Block(0), 0)];
@@ -85,7 +85,7 @@ fn tells_names_and_faults(rt: HostRuntime) -> Result<(), Fail> {
         (0, Made::Block(7), 0),
     ];
     let cases = [
-        (names.as_slice(), told),
+        (names.as_slice(), noted),
         (own.as_slice(), " SharedSequence"),
         (unknown.as_slice(), " UnknownSequence"),
         (twice.as_slice(), " SharedSequence"),
@@ -98,8 +98,8 @@ fn tells_names_and_faults(rt: HostRuntime) -> Result<(), Fail> {
 fn walks_a_deep_tree(rt: HostRuntime) -> Result<(), Fail> {
     let builder = deep(rt.alloc(), 100_000)?;
     let mut recorder = Recorder::new(rt.alloc(), 300_002);
-    let answer = dfs_in_order(&mut recorder, &builder, InstrSeqId::new(0));
-    assert_eq!(rt; answer, Ok(()));
+    let returned = dfs_in_order(&mut recorder, &builder, InstrSeqId::new(0));
+    assert_eq!(rt; returned, Ok(()));
     assert_eq!(rt; recorder.calls_left, 0);
     assert_eq!(rt; size(&builder, InstrSeqId::new(0)), Ok(100_000));
     Ok(())

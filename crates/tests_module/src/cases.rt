@@ -9,7 +9,7 @@ use wasm_module::{ModuleError, ParsedModule};
 
 /// What is checked about a module.
 #[derive(Clone, Copy)]
-pub(crate) enum Asked<'i> {
+pub(crate) enum Query<'i> {
     /// Whether it is read.
     Read,
     /// Which of its first four functions have a body.
@@ -48,41 +48,45 @@ pub(crate) fn fault_text(alloc: Global, error: ModuleError) -> Result<String, Fa
 }
 
 // The result for a module that was read.
-fn answer(alloc: Global, asked: Asked<'_>, parsed: &mut ParsedModule<'_>) -> Result<String, Fail> {
-    match asked {
-        Asked::Read => Ok("read".to_string(alloc)?),
-        Asked::Bodies => bodies_text(alloc, parsed),
-        Asked::Rewritten => rewritten_text(alloc, parsed),
-        Asked::Notes => notes_of(alloc, parsed),
-        Asked::MapOrFaults => map_or_faults(alloc, parsed),
-        Asked::Counted => counted_text(alloc, parsed),
-        Asked::Snipped(functions) => snipped_text(alloc, parsed, functions),
+fn returned(
+    alloc: Global,
+    query: Query<'_>,
+    parsed: &mut ParsedModule<'_>,
+) -> Result<String, Fail> {
+    match query {
+        Query::Read => Ok("read".to_string(alloc)?),
+        Query::Bodies => bodies_text(alloc, parsed),
+        Query::Rewritten => rewritten_text(alloc, parsed),
+        Query::Notes => notes_of(alloc, parsed),
+        Query::MapOrFaults => map_or_faults(alloc, parsed),
+        Query::Counted => counted_text(alloc, parsed),
+        Query::Snipped(functions) => snipped_text(alloc, parsed, functions),
     }
 }
 
 /// The result for the module with these bytes, or its first fault.
-pub(crate) fn found(alloc: Global, asked: Asked<'_>, bytes: &[u8]) -> Result<String, Fail> {
+pub(crate) fn found(alloc: Global, query: Query<'_>, bytes: &[u8]) -> Result<String, Fail> {
     match ParsedModule::read(alloc, bytes) {
-        Ok(mut parsed) => answer(alloc, asked, &mut parsed),
+        Ok(mut parsed) => returned(alloc, query, &mut parsed),
         Err(error) => fault_text(alloc, error),
     }
 }
 
-fn found_of(alloc: Global, asked: Asked<'_>, module: &str) -> Result<String, Fail> {
+fn found_of(alloc: Global, query: Query<'_>, module: &str) -> Result<String, Fail> {
     let bytes = bytes_of(alloc, module)?;
-    found(alloc, asked, &bytes)
+    found(alloc, query, &bytes)
 }
 
 /// Checks modules, each of which comes before its expected result.
 pub(crate) fn check(
     rt: &impl Abort,
     alloc: Global,
-    asked: Asked<'_>,
+    query: Query<'_>,
     cases: &[(&str, &str)],
 ) -> Result<(), Fail> {
-    for (module, want) in cases {
-        let found = found_of(alloc, asked, module)?;
-        assert_eq!(rt; found.as_str(), *want, "of {module}");
+    for (module, expected) in cases {
+        let found = found_of(alloc, query, module)?;
+        assert_eq!(rt; found.as_str(), *expected, "of {module}");
     }
     Ok(())
 }
@@ -90,23 +94,23 @@ pub(crate) fn check(
 fn check_module(
     rt: &impl Abort,
     alloc: Global,
-    asked: Asked<'_>,
+    query: Query<'_>,
     module: &str,
-    want: &str,
+    expected: &str,
 ) -> Result<(), Fail> {
-    let want = without_spaces(alloc, want)?;
-    check(rt, alloc, asked, &[(module, want.as_str())])
+    let expected = without_spaces(alloc, expected)?;
+    check(rt, alloc, query, &[(module, expected.as_str())])
 }
 
 /// The same if the expected result is a module.
 pub(crate) fn check_modules(
     rt: &impl Abort,
     alloc: Global,
-    asked: Asked<'_>,
+    query: Query<'_>,
     cases: &[(&str, &str)],
 ) -> Result<(), Fail> {
-    for (module, want) in cases {
-        check_module(rt, alloc, asked, module, want)?;
+    for (module, expected) in cases {
+        check_module(rt, alloc, query, module, expected)?;
     }
     Ok(())
 }

@@ -1,5 +1,5 @@
 //! A module with a function for each operator.
-use crate::cases::{Asked, bytes_of, found};
+use crate::cases::{Query, bytes_of, found};
 use std::alloc::{AllocError, Global};
 use std::test::Fail;
 
@@ -180,18 +180,18 @@ fn module_of(alloc: Global, bodies: &str, nop: &str) -> Result<Vec<u8>, Fail> {
 /// The module that is written for the one with this body in place of the one with only a `nop`.
 fn rewritten_with(alloc: Global, nop: &str) -> Result<String, Fail> {
     let module = module_of(alloc, BODIES, nop)?;
-    found(alloc, Asked::Rewritten, &module)
+    found(alloc, Query::Rewritten, &module)
 }
 
 /// Each operator is written unchanged, except `nop`, which is dropped. The written module is
 /// written again unchanged.
 #[test]
 fn rewrites_every_operator(rt: HostRuntime) -> Result<(), Fail> {
-    let want = module_of(rt.alloc(), BODIES, NOTHING)?;
-    let want = hex::encode(rt.alloc(), want)?;
+    let expected = module_of(rt.alloc(), BODIES, NOTHING)?;
+    let expected = hex::encode(rt.alloc(), expected)?;
     for nop in [NOP, NOTHING] {
         let found = rewritten_with(rt.alloc(), nop)?;
-        assert_eq!(rt; found.as_str(), want.as_str(), "with {nop}");
+        assert_eq!(rt; found.as_str(), expected.as_str(), "with {nop}");
     }
     Ok(())
 }

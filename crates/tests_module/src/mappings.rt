@@ -97,8 +97,8 @@ fn mappings_follow_operators(rt: HostRuntime) -> Result<(), Fail> {
     // remains.
     let moves = [step(12, 12), step(16, 14), step(22, 18), step(26, 22)];
     let places = [9, 10, 11, 12, 14, 16, 18, 19, 20, 22, 26, 27].map(unmapped);
-    let wanted = [12, 12, 12, 14, 14, 18, 18, 22].map(unmapped);
+    let expected_places = [12, 12, 12, 14, 14, 18, 18, 22].map(unmapped);
     let found = moved(rt.alloc(), &moves, &places)?;
-    assert_eq!(rt; found.as_slice(), wanted.as_slice());
+    assert_eq!(rt; found.as_slice(), expected_places.as_slice());
     Ok(())
 }

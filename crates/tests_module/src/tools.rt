@@ -1,5 +1,5 @@
 //! Tools that change whole modules.
-use crate::cases::{Asked, check, check_modules, fault_text};
+use crate::cases::{Query, check, check_modules, fault_text};
 use crate::whole_modules::{FOLLOWED, FOLLOWED_REWRITTEN, written_text};
 use module_tools::{count_calls, snip};
 use std::alloc::Global;
@@ -103,7 +103,7 @@ fn counts_calls(rt: HostRuntime) -> Result<(), Fail> {
             "0061736d01000000 0606017e0142000b 0709010563616c6c730300",
         ),
     ];
-    check_modules(&rt, rt.alloc(), Asked::Counted, &cases)
+    check_modules(&rt, rt.alloc(), Query::Counted, &cases)
 }
 
 /// An export already has the name of the global, and the fault has its place; a body is refused.
@@ -116,14 +116,14 @@ fn names_faults_of_changes(rt: HostRuntime) -> Result<(), Fail> {
             "NoSuchLabel at 23",
         ),
     ];
-    check(&rt, rt.alloc(), Asked::Counted, &cases)
+    check(&rt, rt.alloc(), Query::Counted, &cases)
 }
 
 /// The bodies are `unreachable`, and everything about their code is dropped. All other bodies are
 /// rewritten.
 #[test]
 fn snips_bodies(rt: HostRuntime) -> Result<(), Fail> {
-    for (functions, module, want) in [
+    for (functions, module, expected) in [
         (
             [0].as_slice(),
             FIB,
@@ -135,8 +135,8 @@ fn snips_bodies(rt: HostRuntime) -> Result<(), Fail> {
         check_modules(
             &rt,
             rt.alloc(),
-            Asked::Snipped(functions),
-            &[(module, want)],
+            Query::Snipped(functions),
+            &[(module, expected)],
         )?;
     }
     Ok(())
@@ -156,5 +156,5 @@ pub(crate) fn bodies_text(alloc: Global, parsed: &ParsedModule<'_>) -> Result<St
 #[test]
 fn tells_functions_with_bodies(rt: HostRuntime) -> Result<(), Fail> {
     let cases = [(FOLLOWED, "false true true false ")];
-    check(&rt, rt.alloc(), Asked::Bodies, &cases)
+    check(&rt, rt.alloc(), Query::Bodies, &cases)
 }

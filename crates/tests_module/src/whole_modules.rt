@@ -1,5 +1,5 @@
 //! Whole modules: their sections, and the custom sections that are changed along with their code.
-use crate::cases::{Asked, bytes_of, check, check_modules, fault_text, found};
+use crate::cases::{Query, bytes_of, check, check_modules, fault_text, found};
 use std::alloc::Global;
 use std::io::Write;
 use std::test::Fail;
@@ -96,9 +96,9 @@ fn rewrites_modules(rt: HostRuntime) -> Result<(), Fail> {
             "0061736d01000000 0184800001600000 03020100 0a0701050041011a0b",
         ),
     ];
-    check_modules(&rt, rt.alloc(), Asked::Rewritten, &cases)?;
-    for (_, want) in cases {
-        check_modules(&rt, rt.alloc(), Asked::Rewritten, &[(want, want)])?;
+    check_modules(&rt, rt.alloc(), Query::Rewritten, &cases)?;
+    for (_, expected) in cases {
+        check_modules(&rt, rt.alloc(), Query::Rewritten, &[(expected, expected)])?;
     }
     Ok(())
 }
@@ -154,7 +154,7 @@ const FAULTS_OF_SECTIONS: [(&str, &str); 38] = [
 /// The faults of sections, and their places.
 #[test]
 fn names_faults_of_sections(rt: HostRuntime) -> Result<(), Fail> {
-    check(&rt, rt.alloc(), Asked::Rewritten, &FAULTS_OF_SECTIONS)
+    check(&rt, rt.alloc(), Query::Rewritten, &FAULTS_OF_SECTIONS)
 }
 
 // Modules, and the faults of their bodies.
@@ -209,7 +209,7 @@ const FAULTS_OF_BODIES: [(&str, &str); 11] = [
 /// The faults of bodies, and their places in the file.
 #[test]
 fn names_faults_of_bodies(rt: HostRuntime) -> Result<(), Fail> {
-    check(&rt, rt.alloc(), Asked::Rewritten, &FAULTS_OF_BODIES)
+    check(&rt, rt.alloc(), Query::Rewritten, &FAULTS_OF_BODIES)
 }
 
 /// Appends the places where the sections of a module end.
@@ -235,7 +235,7 @@ fn section_ends(alloc: Global, bytes: &[u8]) -> Result<Vec<usize>, Fail> {
 }
 
 fn is_read(alloc: Global, bytes: &[u8]) -> Result<bool, Fail> {
-    let found = found(alloc, Asked::Read, bytes)?;
+    let found = found(alloc, Query::Read, bytes)?;
     Ok(found.as_str() == "read")
 }
 
@@ -352,7 +352,7 @@ fn notes_sections(rt: HostRuntime) -> Result<(), Fail> {
             ".debug_line DebugInfo, name NotFollowed, ",
         ),
     ];
-    check(&rt, rt.alloc(), Asked::Notes, &cases)
+    check(&rt, rt.alloc(), Query::Notes, &cases)
 }
 
 /// Old and new offsets from the start of the file; and the faults of bodies, by function.
@@ -372,5 +372,5 @@ fn maps_and_checks(rt: HostRuntime) -> Result<(), Fail> {
             (LocalOutOfRange)\n",
         ),
     ];
-    check(&rt, rt.alloc(), Asked::MapOrFaults, &cases)
+    check(&rt, rt.alloc(), Query::MapOrFaults, &cases)
 }

@@ -1,5 +1,5 @@
 //! The arguments of programs.
-use module_tools::{MapPaths, Program, Request, Stop, Task, read_words};
+use module_tools::{Failure, MapPaths, Program, Request, Task, read_arguments};
 use std::alloc::{AllocError, Global};
 use std::test::Fail;
 
@@ -47,12 +47,12 @@ fn task_text(alloc: Global, task: &Task<'_>) -> Result<String, Fail> {
 }
 
 /// What arguments request, as text.
-fn request_text(alloc: Global, request: Result<Request<'_>, Stop<'_>>) -> Result<String, Fail> {
+fn request_text(alloc: Global, request: Result<Request<'_>, Failure<'_>>) -> Result<String, Fail> {
     match request {
         Ok(Request::Help) => Ok(String::from_str(alloc, "help")?),
         Ok(Request::Version) => Ok(String::from_str(alloc, "version")?),
         Ok(Request::Task(task)) => task_text(alloc, &task),
-        Err(stop) => Ok(format!(in alloc; "{stop}")?),
+        Err(failure) => Ok(format!(in alloc; "{failure}")?),
     }
 }
 
@@ -66,9 +66,9 @@ fn list(alloc: Global, words: &str) -> Result<Vec<String>, AllocError> {
     Ok(list)
 }
 
-fn asked(alloc: Global, program: &Program, words: &str) -> Result<String, Fail> {
+fn read_request(alloc: Global, program: &Program, words: &str) -> Result<String, Fail> {
     let list = list(alloc, words)?;
-    request_text(alloc, read_words(alloc, program, &list))
+    request_text(alloc, read_arguments(alloc, program, &list))
 }
 
 // Arguments of a program that rewrites, and what they request.
@@ -146,13 +146,13 @@ const WORDS_WITH_FUNCTIONS: [(&str, &str); 4] = [
 /// The arguments of programs.
 #[test]
 fn takes_words(rt: HostRuntime) -> Result<(), Fail> {
-    for (words, want) in &WORDS {
-        let found = asked(rt.alloc(), &REWRITES, words)?;
-        assert_eq!(rt; found.as_str(), *want, "of {words}");
+    for (words, expected) in &WORDS {
+        let found = read_request(rt.alloc(), &REWRITES, words)?;
+        assert_eq!(rt; found.as_str(), *expected, "of {words}");
     }
-    for (words, want) in &WORDS_WITH_FUNCTIONS {
-        let found = asked(rt.alloc(), &SNIPS, words)?;
-        assert_eq!(rt; found.as_str(), *want, "of {words}");
+    for (words, expected) in &WORDS_WITH_FUNCTIONS {
+        let found = read_request(rt.alloc(), &SNIPS, words)?;
+        assert_eq!(rt; found.as_str(), *expected, "of {words}");
     }
     Ok(())
 }

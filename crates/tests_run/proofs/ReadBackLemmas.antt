@@ -31,12 +31,12 @@ use Rattle.walrus_maps.specs.declared.indices_to_ids.IndicesToIds.{IndicesToIds}
 use Rattle.walrus_maps.specs.Environments.{environment_of}
 use Rattle.walrus_body.specs.LocalFunctions.{first_slot, HasEntry}
 use Rattle.walrus_parser.specs.Settings.{given_with}
-use Rattle.walrus_body.specs.EmittedInstructions.{IsUnemitted}
+use Rattle.walrus_body.specs.EmittedInstructions.{IsNotEmitted}
 use Rattle.walrus_rewrite.specs.declared.error.RewriteError.{RewriteError}
 use Rattle.walrus_rewrite.specs.declared.error.RewriteError.TheVariants.{Parse, Walk, Emit}
-use Rattle.walrus_rewrite.specs.Errors.{WantsMemory}
+use Rattle.walrus_rewrite.specs.Errors.{IsOutOfMemory}
 use Rattle.walrus_rewrite.proofs.OneTree.{from_slot, only_tree, begins}
-use Rattle.walrus_rewrite.proofs.SameAnswers.{same_answer, same_refusal, not_both}
+use Rattle.walrus_rewrite.proofs.SameResults.{same_result, same_refusal, not_both}
 use Rattle.tests_run.specs.ReadBack.{reading_by, IsReadAs, IsWrittenAs, HasBytes, IsFirstFault, IsRefusedAs, HasFault}
 
 -- ---- refusals
@@ -65,17 +65,17 @@ module _ (env : Environment) (to : Numbers) (ops : List ℕ) (f : Function) (rea
       record { locate = read.locate; body = read.body; accepted = read.accepted; bytes_are = subst (λ u. tree_bytes to u ≡ Ok bytes) (only_tree f tree read.is_function t h) e }
 
   -- if it isn't written, memory ran out, or this is the first fault of writing the normal form
-  unwritten : (e : EmitError) → IsUnemitted f to e → (e ≡ Memory) ⊎ (tree_bytes to tree ≡ Err e)
+  unwritten : (e : EmitError) → IsNotEmitted f to e → (e ≡ Memory) ⊎ (tree_bytes to tree ≡ Err e)
   unwritten e (inl memory) = inl memory
   unwritten e (inr (inl walk)) =
       let has = from_slot f tree read.is_function in
       absurd (tree_has_no_fault f.sequences (first_slot f) has.unfolded walk.0 has.is_tree walk.1)
   unwritten e (inr (inr h)) = inr (subst (λ u. tree_bytes to u ≡ Err e) (only_tree f tree read.is_function h.0 h.1) h.2)
 
-  pub is_refused : (e : EmitError) → IsUnemitted f to e → WantsMemory (Emit e) ⊎ IsRefusedAs env to ops (Emit e)
+  pub is_refused : (e : EmitError) → IsNotEmitted f to e → IsOutOfMemory (Emit e) ⊎ IsRefusedAs env to ops (Emit e)
   is_refused e h = by_fault (unwritten e h)
     where
-      by_fault : (e ≡ Memory) ⊎ (tree_bytes to tree ≡ Err e) → WantsMemory (Emit e) ⊎ IsRefusedAs env to ops (Emit e)
+      by_fault : (e ≡ Memory) ⊎ (tree_bytes to tree ≡ Err e) → IsOutOfMemory (Emit e) ⊎ IsRefusedAs env to ops (Emit e)
       by_fault (inl memory) = inl memory
       by_fault (inr fault) = inr (record { locate = read.locate; body = read.body; accepted = read.accepted; fault_is = fault })
 
@@ -84,10 +84,10 @@ module _ (env : Environment) (to : Numbers) (ops : List ℕ) (f : Function) (rea
     its_bytes = has.bytes_are read.locate read.body read.accepted
 
     pub only_bytes : (t : FunctionTree) → HasTree f.sequences (first_slot f) t → (made : List ℕ) → tree_bytes to t ≡ Ok made → made ≡ bytes
-    only_bytes t h made e = same_answer (tree_bytes to tree) made bytes (subst (λ u. tree_bytes to u ≡ Ok made) (only_tree f tree read.is_function t h) e) its_bytes
+    only_bytes t h made e = same_result (tree_bytes to tree) made bytes (subst (λ u. tree_bytes to u ≡ Ok made) (only_tree f tree read.is_function t h) e) its_bytes
 
     -- if it has bytes, it is written unless memory runs out
-    pub no_fault : (e : EmitError) → IsUnemitted f to e → e ≡ Memory
+    pub no_fault : (e : EmitError) → IsNotEmitted f to e → e ≡ Memory
     no_fault e h = by_fault (unwritten e h)
       where
         by_fault : (e ≡ Memory) ⊎ (tree_bytes to tree ≡ Err e) → e ≡ Memory
@@ -102,12 +102,12 @@ module _ (env : Environment) (to : Numbers) (ops : List ℕ) (f : Function) (rea
     fault_not_written (Emit x) has t h bytes e =
         not_both (tree_bytes to tree) bytes x (subst (λ u. tree_bytes to u ≡ Ok bytes) (only_tree f tree read.is_function t h) e) (has.fault_is read.locate read.body read.accepted)
 
-    pub fault_written : (fault : RewriteError) → HasFault env to ops fault → (e : EmitError) → IsUnemitted f to e → WantsMemory (Emit e) ⊎ (Emit e ≡ fault)
+    pub fault_written : (fault : RewriteError) → HasFault env to ops fault → (e : EmitError) → IsNotEmitted f to e → IsOutOfMemory (Emit e) ⊎ (Emit e ≡ fault)
     fault_written (Parse p) has e h = absurd (found has.0 p has.1)
     fault_written (Walk w) has e h = absurd has
     fault_written (Emit x) has e h = by_fault (unwritten e h)
       where
-        by_fault : (e ≡ Memory) ⊎ (tree_bytes to tree ≡ Err e) → WantsMemory (Emit e) ⊎ (Emit e ≡ Emit x)
+        by_fault : (e ≡ Memory) ⊎ (tree_bytes to tree ≡ Err e) → IsOutOfMemory (Emit e) ⊎ (Emit e ≡ Emit x)
         by_fault (inl memory) = inl memory
         by_fault (inr fault) = inr (ap Emit (same_refusal (tree_bytes to tree) e x fault (has.fault_is read.locate read.body read.accepted)))
 
@@ -115,10 +115,10 @@ module _ (env : Environment) (to : Numbers) (ops : List ℕ) (f : Function) (rea
 module _ (env : Environment) (to : Numbers) (ops : List ℕ) (failure : ParseFailure) where
   module _ (each_body : (locate : ℕ → ℕ) (b : Body Occurrence) → Accepted (reading_by env locate) ops b → failure.error ≡ parse.Memory)
       (each_fault : (locate : ℕ → ℕ) (p : ParseFailure) → FirstFault (reading_by env locate) ops p → (failure.error ≡ parse.Memory) ⊎ (failure ≡ p)) where
-    pub fault_read : (fault : RewriteError) → HasFault env to ops fault → WantsMemory (Parse failure) ⊎ (Parse failure ≡ fault)
+    pub fault_read : (fault : RewriteError) → HasFault env to ops fault → IsOutOfMemory (Parse failure) ⊎ (Parse failure ≡ fault)
     fault_read (Parse p) has = by_fault (each_fault has.0 p has.1)
       where
-        by_fault : (failure.error ≡ parse.Memory) ⊎ (failure ≡ p) → WantsMemory (Parse failure) ⊎ (Parse failure ≡ Parse p)
+        by_fault : (failure.error ≡ parse.Memory) ⊎ (failure ≡ p) → IsOutOfMemory (Parse failure) ⊎ (Parse failure ≡ Parse p)
         by_fault (inl memory) = inl memory
         by_fault (inr same) = inr (ap Parse same)
     fault_read (Walk w) has = absurd has

@@ -45,7 +45,7 @@ abbrev pub IsFirstFault : Environment → List ℕ → ParseFailure → Type 0
 IsFirstFault env ops f = (locate : ℕ → ℕ) → FirstFault (reading_by env locate) ops f
 
 -- The operators are accepted as a body, and this is the first fault of writing its normal form with these numbers.
-pub record IsUnwrittenAs (env : Environment) (to : Numbers) (ops : List ℕ) (fault : EmitError) : Type 0 where
+pub record IsNotWrittenAs (env : Environment) (to : Numbers) (ops : List ℕ) (fault : EmitError) : Type 0 where
   pub locate : ℕ → ℕ
   pub body : Body Occurrence
   pub accepted : Accepted (reading_by env locate) ops body
@@ -55,7 +55,7 @@ pub record IsUnwrittenAs (env : Environment) (to : Numbers) (ops : List ℕ) (fa
 abbrev pub IsRefusedAs : Environment → Numbers → List ℕ → RewriteError → Type 0
 IsRefusedAs env to ops (Parse f) = IsFirstFault env ops f
 IsRefusedAs env to ops (Walk w) = ⊥
-IsRefusedAs env to ops (Emit e) = IsUnwrittenAs env to ops e
+IsRefusedAs env to ops (Emit e) = IsNotWrittenAs env to ops e
 
 -- Whatever the locations, the operators are accepted as a body, and this is the first fault of writing its normal form.
 pub record HasNoBytes (env : Environment) (to : Numbers) (ops : List ℕ) (fault : EmitError) : Type 0 where

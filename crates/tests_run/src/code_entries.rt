@@ -31,22 +31,22 @@ fn write(
         func_facts: IdHashMap::new(alloc),
         code_transform: pairs,
     };
-    let answer = CodeEntry { func }.emit(&mut cx);
+    let returned = CodeEntry { func }.emit(&mut cx);
     let EmitContext {
         bytes,
         code_transform: pairs,
         ..
     } = cx;
-    (answer, Output { bytes, pairs })
+    (returned, Output { bytes, pairs })
 }
 
 // Appends the fault, if there is one, and then the bytes and pairs.
-fn push_answer(
+fn push_result(
     text: &mut String,
-    answer: Result<(), EmitError>,
+    returned: Result<(), EmitError>,
     output: &Output,
 ) -> Result<(), Fail> {
-    if let Err(error) = answer {
+    if let Err(error) = returned {
         write!(text, "{error:?} ")?;
     }
     Ok(push_output(text, &output.bytes, &output.pairs)?)
@@ -60,8 +60,8 @@ fn push_written(
     function: &LocalFunction,
 ) -> Result<(), Fail> {
     let others = Output::of_others(*text.allocator())?;
-    let (answer, output) = write(module, indices, function, others);
-    push_answer(text, answer, &output)
+    let (returned, output) = write(module, indices, function, others);
+    push_result(text, returned, &output)
 }
 
 // The same with the numbers of the demo module.
@@ -122,9 +122,9 @@ fn check(
     setting: Setting,
     cases: &[(&str, &str)],
 ) -> Result<(), Fail> {
-    for (body, want) in cases {
+    for (body, expected) in cases {
         let found = written(alloc, setting, body)?;
-        assert_eq!(rt; found.as_str(), *want, "of {body}");
+        assert_eq!(rt; found.as_str(), *expected, "of {body}");
     }
     Ok(())
 }
@@ -176,9 +176,9 @@ fn check_by_hand(
     entry: usize,
     cases: &[(&[Item], &str)],
 ) -> Result<(), Fail> {
-    for (instrs, want) in cases {
+    for (instrs, expected) in cases {
         let found = written_by_hand(alloc, entry, instrs)?;
-        assert_eq!(rt; found.as_str(), *want);
+        assert_eq!(rt; found.as_str(), *expected);
     }
     Ok(())
 }
@@ -215,11 +215,11 @@ fn writes_entries_that_are_made_by_hand(rt: HostRuntime) -> Result<(), Fail> {
 #[test]
 fn refuses_a_function_without_an_entry(rt: HostRuntime) -> Result<(), Fail> {
     let instrs = [(0, Made::Drop, 1)];
-    for (entry, want) in [
+    for (entry, expected) in [
         (3, "UnknownSequence aabb 9@9"),
         (0, "aabb001a0b 9@9 1@3 -@4"),
     ] {
-        check_by_hand(&rt, rt.alloc(), entry, &[(instrs.as_slice(), want)])?;
+        check_by_hand(&rt, rt.alloc(), entry, &[(instrs.as_slice(), expected)])?;
     }
     Ok(())
 }

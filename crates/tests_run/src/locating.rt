@@ -93,9 +93,9 @@ fn check(
     cases: &[(usize, Option<u32>)],
 ) -> Result<(), Fail> {
     let bytes = hex::decode(alloc, body)?;
-    for (place, want) in cases {
+    for (place, expected) in cases {
         let found = located(alloc, &bytes, *place)?;
-        assert_eq!(rt; found, *want, "at {place} of {body}");
+        assert_eq!(rt; found, *expected, "at {place} of {body}");
     }
     Ok(())
 }

@@ -217,7 +217,7 @@ fn push_named(text: &mut String, place: Place, bytes: &[u8]) -> Result<(), Alloc
     }
 }
 
-fn answer(alloc: Global, place: Place, body: &str) -> Result<String, Fail> {
+fn returned(alloc: Global, place: Place, body: &str) -> Result<String, Fail> {
     let bytes = hex::decode(alloc, body)?;
     let mut text = String::new(alloc);
     push_named(&mut text, place, &bytes)?;
@@ -226,9 +226,9 @@ fn answer(alloc: Global, place: Place, body: &str) -> Result<String, Fail> {
 
 // Checks the names of bodies, each of which comes before its expected text.
 fn check(rt: &impl Abort, alloc: Global, place: Place, cases: &[(&str, &str)]) -> Result<(), Fail> {
-    for (body, want) in cases {
-        let found = answer(alloc, place, body)?;
-        assert_eq!(rt; found.as_str(), *want, "of {body}");
+    for (body, expected) in cases {
+        let found = returned(alloc, place, body)?;
+        assert_eq!(rt; found.as_str(), *expected, "of {body}");
     }
     Ok(())
 }
@@ -358,11 +358,11 @@ fn compares_operators(rt: HostRuntime) -> Result<(), Fail> {
     // another constant.
     let longer = [0x02, 0x00, 0x41, 0x81, 0x00, 0x1a, 0x0b, 0x0b];
     let changed = [0x02, 0x40, 0x41, 0x02, 0x1a, 0x0b, 0x0b];
-    for (other, want) in [
+    for (other, expected) in [
         (longer.as_slice(), (true, false)),
         (changed.as_slice(), (false, true)),
     ] {
-        assert_eq!(rt; compared_with(rt.alloc(), &shortest, other)?, want);
+        assert_eq!(rt; compared_with(rt.alloc(), &shortest, other)?, expected);
     }
     Ok(())
 }

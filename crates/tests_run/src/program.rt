@@ -4,7 +4,7 @@ use std::alloc::{AllocError, Global};
 use std::io;
 use std::io::Write;
 use std::test::Fail;
-use walrus_run::run_words;
+use walrus_run::run_arguments;
 
 /// A writer that refuses every write.
 #[derive(Drop)]
@@ -32,14 +32,14 @@ fn words(alloc: Global) -> Result<Vec<String>, AllocError> {
 fn with_broken_output(alloc: Global) -> Result<(u8, usize), AllocError> {
     let words = words(alloc)?;
     let mut err = Vec::new(alloc);
-    let status = run_words(alloc, &words, &mut Broken, &mut err);
+    let status = run_arguments(alloc, &words, &mut Broken, &mut err);
     Ok((status, err.len()))
 }
 
 // The status when every write to standard error fails, and the length of standard output.
 fn with_broken_errors(alloc: Global) -> (u8, usize) {
     let mut out = Vec::new(alloc);
-    let status = run_words(alloc, &[], &mut out, &mut Broken);
+    let status = run_arguments(alloc, &[], &mut out, &mut Broken);
     (status, out.len())
 }
 

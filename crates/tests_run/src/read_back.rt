@@ -12,10 +12,10 @@ ghost use Rattle.wasm_body.specs.ReadBack.{IsInverse};
 ghost use Rattle.wasm_body.specs.TreeOfFunction.{HasTree};
 ghost use Rattle.walrus_maps.specs.Environments.{environment_of};
 ghost use Rattle.walrus_body.specs.LocalFunctions.{HasEntry, first_slot};
-ghost use Rattle.walrus_body.specs.EmittedInstructions.{IsUnemitted};
+ghost use Rattle.walrus_body.specs.EmittedInstructions.{IsNotEmitted};
 ghost use Rattle.walrus_numbering.specs.NumberMaps.{numbers_by};
 ghost use Rattle.walrus_rewrite.specs.declared.error.RewriteError.{RewriteError as Refusal};
-ghost use Rattle.walrus_rewrite.specs.Errors.{WantsMemory};
+ghost use Rattle.walrus_rewrite.specs.Errors.{IsOutOfMemory};
 ghost use Rattle.tests_run.specs.ReadBack.{reading_by, IsReadAs, IsWrittenAs, HasBytes, HasFault, IsFirstFault, IsRefusedAs};
 
 use std::alloc::{AllocError, Global};
@@ -70,7 +70,11 @@ pub fn read(
 }
 
 /// The bytes in an encoder after the first `count`.
-fn behind(alloc: Global, encoder: &FunctionEncoder, count: usize) -> Result<Vec<u8>, AllocError>
+fn bytes_after(
+    alloc: Global,
+    encoder: &FunctionEncoder,
+    count: usize,
+) -> Result<Vec<u8>, AllocError>
     requires { count ≤ length encoder.now }
     ensures { IfOk result (λ out. out.items ≡ drop count encoder.now) }
 {
@@ -91,7 +95,7 @@ pub fn written(
     ensures ok { IfOk result (λ bytes. (t : FunctionTree)
         × HasTree function.now.builder.sequences (first_slot function.now.builder) t
         × (tree_bytes (numbers_by types.now out.now locals.now.entries) t ≡ Ok bytes.items)) }
-    ensures err { IfErr result (IsUnemitted function.now.builder
+    ensures err { IfErr result (IsNotEmitted function.now.builder
         (numbers_by types.now out.now locals.now.entries)) }
 {
     let Ok(mut encoder) = FunctionEncoder::new(alloc, &[]) else {
@@ -99,7 +103,7 @@ pub fn written(
     };
     let declared = encoder.byte_len();
     match function.emit_instructions(types, out, locals, &mut encoder, None) {
-        Ok(()) => match behind(alloc, &encoder, declared) {
+        Ok(()) => match bytes_after(alloc, &encoder, declared) {
             Ok(bytes) => Ok(bytes),
             Err(_) => Err(EmitError::Memory),
         },
@@ -123,17 +127,17 @@ pub fn rewritten(
         (environment_of «module».now indices.now id ty) (numbers_by «module».now.types out.now locals.now.entries)
         ops.now bytes.items) }
     // A refusal is for the first fault of reading, or else of writing.
-    ensures refused { IfErr result (λ e. WantsMemory e
+    ensures refused { IfErr result (λ e. IsOutOfMemory e
         ⊎ IsRefusedAs (environment_of «module».now indices.now id ty)
         (numbers_by «module».now.types out.now locals.now.entries) ops.now e) }
     // Unless memory runs out, the operators of an accepted body that has bytes are written with
     // these bytes, and each fault is reported.
     ensures each_body { (bytes : List ℕ) → HasBytes (environment_of «module».now indices.now id ty)
         (numbers_by «module».now.types out.now locals.now.entries) ops.now bytes
-        → IfErr result WantsMemory × IfOk result (λ made. made.items ≡ bytes) }
+        → IfErr result IsOutOfMemory × IfOk result (λ made. made.items ≡ bytes) }
     ensures each_fault { (e : Refusal) → HasFault (environment_of «module».now indices.now id ty)
         (numbers_by «module».now.types out.now locals.now.entries) ops.now e
-        → IsErr result × IfErr result (λ r. WantsMemory r ⊎ (r ≡ e)) }
+        → IsErr result × IfErr result (λ r. IsOutOfMemory r ⊎ (r ≡ e)) }
 {
     match read(alloc, module, indices, id, ty, ops) {
         Ok(function) => match written(alloc, &function, &module.types, out, locals) {
@@ -168,14 +172,14 @@ pub fn rewritten_twice(
     // And they aren't refused: a refusal is for the first fault of the operators that were passed.
     // Unless memory runs out, the operators of an accepted body that has bytes are written twice,
     // and each fault is reported.
-    ensures refused { IfErr result (λ e. WantsMemory e
+    ensures refused { IfErr result (λ e. IsOutOfMemory e
         ⊎ IsRefusedAs (environment_of «module».now indices.now id ty)
         (numbers_by «module».now.types out.now locals.now.entries) ops.now e) }
     ensures each_body { (bytes : List ℕ) → HasBytes (environment_of «module».now indices.now id ty)
-        (numbers_by «module».now.types out.now locals.now.entries) ops.now bytes → IfErr result WantsMemory }
+        (numbers_by «module».now.types out.now locals.now.entries) ops.now bytes → IfErr result IsOutOfMemory }
     ensures each_fault { (e : Refusal) → HasFault (environment_of «module».now indices.now id ty)
         (numbers_by «module».now.types out.now locals.now.entries) ops.now e
-        → IsErr result × IfErr result (λ r. WantsMemory r ⊎ (r ≡ e)) }
+        → IsErr result × IfErr result (λ r. IsOutOfMemory r ⊎ (r ≡ e)) }
 {
     law_inverse_undoes();
     law_accepted_again::<(), ()>();

@@ -24,9 +24,9 @@ fn rewritten(alloc: Global, ops: &str) -> Result<String, Fail> {
 
 // Rewrites bodies, each of which comes before its expected text.
 fn check(rt: &impl Abort, alloc: Global, cases: &[(&str, &str)]) -> Result<(), Fail> {
-    for (ops, want) in cases {
+    for (ops, expected) in cases {
         let found = rewritten(alloc, ops)?;
-        assert_eq!(rt; found.as_str(), *want, "of {ops}");
+        assert_eq!(rt; found.as_str(), *expected, "of {ops}");
     }
     Ok(())
 }

@@ -218,9 +218,9 @@ fn writes_unchanged_what_was_written(rt: HostRuntime) -> Result<(), Fail> {
             "000b type4[ unreachable@- ]-; 000b type4[ unreachable@- ]-",
         ),
     ];
-    for (before, after, ops, want) in cases {
+    for (before, after, ops, expected) in cases {
         let found = twice(rt.alloc(), Orders { before, after }, ops)?;
-        assert_eq!(rt; found.as_str(), want, "of {ops}");
+        assert_eq!(rt; found.as_str(), expected, "of {ops}");
     }
     Ok(())
 }

@@ -71,7 +71,7 @@ fn rewrite_into(
 
 /// What is checked about a rewritten body.
 #[derive(Clone, Copy, PartialEq, Eq)]
-enum Asked {
+enum Query {
     /// The fault, if there is one, and the bytes and pairs.
     Output,
     /// The same without a list of pairs.
@@ -85,28 +85,28 @@ fn rewrite(
     demo: &Demo,
     out: &IdsToIndices,
     setting: Setting,
-    asked: Asked,
+    query: Query,
     bytes: &[u8],
     output: &mut Output,
 ) -> Result<LocalFunction, RewriteError>
     requires { demo.now.module.code_section_offset ≡ setting.offset }
 {
     let Output { bytes: dst, pairs } = output;
-    match asked {
-        Asked::Bytes => rewrite_into(demo, out, setting, bytes, dst, None),
+    match query {
+        Query::Bytes => rewrite_into(demo, out, setting, bytes, dst, None),
         _ => rewrite_into(demo, out, setting, bytes, dst, Some(pairs)),
     }
 }
 
 // Appends the function if it is checked, or the fault.
-fn push_answer(
+fn push_result(
     text: &mut String,
-    asked: Asked,
-    answer: Result<LocalFunction, RewriteError>,
+    query: Query,
+    returned: Result<LocalFunction, RewriteError>,
 ) -> Result<(), AllocError> {
-    match answer {
+    match returned {
         Ok(function) => {
-            if asked == Asked::Function {
+            if query == Query::Function {
                 push_function(text, &function)
             } else {
                 Ok(())
@@ -126,16 +126,16 @@ fn push_rewritten(
     demo: &Demo,
     out: &IdsToIndices,
     setting: Setting,
-    asked: Asked,
+    query: Query,
     bytes: &[u8],
 ) -> Result<(), Fail>
     requires { demo.now.module.code_section_offset ≡ setting.offset }
 {
     let mut output = Output::of_others(*text.allocator())?;
-    let answer = rewrite(demo, out, setting, asked, bytes, &mut output);
-    push_answer(text, asked, answer)?;
-    match asked {
-        Asked::Function => Ok(()),
+    let returned = rewrite(demo, out, setting, query, bytes, &mut output);
+    push_result(text, query, returned)?;
+    match query {
+        Query::Function => Ok(()),
         _ => Ok(push_output(text, &output.bytes, &output.pairs)?),
     }
 }
@@ -145,30 +145,30 @@ fn push_numbered(
     text: &mut String,
     demo: &Demo,
     setting: Setting,
-    asked: Asked,
+    query: Query,
     bytes: &[u8],
 ) -> Result<(), Fail>
     requires { demo.now.module.code_section_offset ≡ setting.offset }
 {
     let out = demo::numbers(*text.allocator())?;
-    push_rewritten(text, demo, &out, setting, asked, bytes)
+    push_rewritten(text, demo, &out, setting, query, bytes)
 }
 
 // The same with that module.
 fn push_over_demo(
     text: &mut String,
     setting: Setting,
-    asked: Asked,
+    query: Query,
     bytes: &[u8],
 ) -> Result<(), Fail> {
     let demo = Demo::new(*text.allocator(), setting.offset as usize)?;
-    push_numbered(text, &demo, setting, asked, bytes)
+    push_numbered(text, &demo, setting, query, bytes)
 }
 
-fn answer(alloc: Global, setting: Setting, asked: Asked, body: &str) -> Result<String, Fail> {
+fn returned(alloc: Global, setting: Setting, query: Query, body: &str) -> Result<String, Fail> {
     let bytes = hex::decode(alloc, body)?;
     let mut text = String::new(alloc);
-    push_over_demo(&mut text, setting, asked, &bytes)?;
+    push_over_demo(&mut text, setting, query, &bytes)?;
     Ok(text)
 }
 
@@ -177,12 +177,12 @@ fn check(
     rt: &impl Abort,
     alloc: Global,
     setting: Setting,
-    asked: Asked,
+    query: Query,
     cases: &[(&str, &str)],
 ) -> Result<(), Fail> {
-    for (body, want) in cases {
-        let found = answer(alloc, setting, asked, body)?;
-        assert_eq!(rt; found.as_str(), *want, "of {body}");
+    for (body, expected) in cases {
+        let found = returned(alloc, setting, query, body)?;
+        assert_eq!(rt; found.as_str(), *expected, "of {body}");
     }
     Ok(())
 }
@@ -201,7 +201,7 @@ fn at(before: u32, ops: usize, located: bool) -> Setting {
 /// Worked bodies with their pairs, whose places count from the first byte that is appended.
 #[test]
 fn rewrites_whole_bodies(rt: HostRuntime) -> Result<(), Fail> {
-    for (setting, body, want) in [
+    for (setting, body, expected) in [
         (AT_A_HUNDRED, "00010b", "aabb000b 9@9 102@1"),
         (
             at(0, 1, false),
@@ -242,7 +242,7 @@ fn rewrites_whole_bodies(rt: HostRuntime) -> Result<(), Fail> {
             "aabb000b 9@9 589934590@1",
         ),
     ] {
-        check(&rt, rt.alloc(), setting, Asked::Output, &[(body, want)])?;
+        check(&rt, rt.alloc(), setting, Query::Output, &[(body, expected)])?;
     }
     Ok(())
 }
@@ -272,7 +272,7 @@ fn declares_the_locals_of_bodies(rt: HostRuntime) -> Result<(), Fail> {
             "aabb01017e20011a0f0b 9@9 0@3 2@5 3@6 7@7",
         ),
     ];
-    check(&rt, rt.alloc(), AT_ZERO, Asked::Output, &cases)
+    check(&rt, rt.alloc(), AT_ZERO, Query::Output, &cases)
 }
 
 /// A refusal of the parse, the numbering or the writing, in this order, leaves bytes and pairs
@@ -293,13 +293,13 @@ fn refuses_whole_bodies(rt: HostRuntime) -> Result<(), Fail> {
             "Emit(Index(Unnumbered { space: Funcs })) aabb 9@9",
         ),
     ];
-    check(&rt, rt.alloc(), AT_ZERO, Asked::Output, &cases)?;
+    check(&rt, rt.alloc(), AT_ZERO, Query::Output, &cases)?;
     let cases = [("00010b", "PlaceTooGreat at 4294967295 aabb 9@9")];
     check(
         &rt,
         rt.alloc(),
         at(4294967293, 1, false),
-        Asked::Output,
+        Query::Output,
         &cases,
     )
 }
@@ -314,7 +314,7 @@ fn rewrites_without_pairs(rt: HostRuntime) -> Result<(), Fail> {
             "Emit(Index(Unnumbered { space: Funcs })) aabb 9@9",
         ),
     ];
-    check(&rt, rt.alloc(), AT_ZERO, Asked::Bytes, &cases)
+    check(&rt, rt.alloc(), AT_ZERO, Query::Bytes, &cases)
 }
 
 /// The function that `rewrite_body` returns is the parsed one: places of operators and of the body,
@@ -322,5 +322,5 @@ fn rewrites_without_pairs(rt: HostRuntime) -> Result<(), Fail> {
 #[test]
 fn answers_the_function(rt: HostRuntime) -> Result<(), Fail> {
     let cases = [("00010b", "10..13 11:101 12:102 type4[ ]102")];
-    check(&rt, rt.alloc(), AT_A_HUNDRED, Asked::Function, &cases)
+    check(&rt, rt.alloc(), AT_A_HUNDRED, Query::Function, &cases)
 }

@@ -9,7 +9,7 @@ use Rattle.wasm_body.specs.declared.error.EmitError.{EmitError}
 use Rattle.wasm_body.specs.Bytes.{Numbers}
 use Rattle.wasm_body.specs.Pairs.{Pair}
 use Rattle.walrus_body.specs.LocalFunctions.{first_slot}
-use Rattle.walrus_emitter.specs.TreeWriting.Trees.{Appends, AppendsBytes, IsUnwritten}
+use Rattle.walrus_emitter.specs.TreeWriting.Trees.{Appends, AppendsBytes, IsNotWritten}
 
 -- a list of pairs that is lent
 abbrev pub LentPairs : Type 0 → Type 0
@@ -37,5 +37,5 @@ KeepsPairs _ _ = ⊥
 
 -- Memory ran out, the builder has no tree, or this is the first fault of the tree in the order of
 -- writing.
-abbrev pub IsUnemitted : Function → Numbers → EmitError → Type 0
-IsUnemitted f to e = IsUnwritten f.sequences (first_slot f) to e
+abbrev pub IsNotEmitted : Function → Numbers → EmitError → Type 0
+IsNotEmitted f to e = IsNotWritten f.sequences (first_slot f) to e

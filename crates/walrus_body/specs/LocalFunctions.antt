@@ -18,7 +18,7 @@ first_slot f = unwrap_or f.entry 0
 -- The function has an entry, which is a sequence of its builder.
 pub record HasEntry (f : Function) : Type 0 where
   pub is : f.entry ≡ Some (first_slot f)
-  pub stands : first_slot f < length f.sequences
+  pub in_arena : first_slot f < length f.sequences
 
 -- the instructions of the sequence that the function begins with
 abbrev pub first_instrs : Function → List LocatedInstr

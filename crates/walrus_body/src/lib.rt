@@ -15,7 +15,7 @@ pub use walrus_maps::{IdsToIndices, IndicesToIds, law_numbers_of_pushes};
 pub use walrus_parser::{AcceptAll, CheckError, FunctionBody, OpCheck};
 pub use wasm_body::{
     EmitError, IndexError, ParseError, ParseFailure, Space, law_accepted_again, law_any_locations,
-    law_emission_faults, law_empty_goes_on, law_executions, law_inverse_undoes, law_local_numbers,
-    law_locations, law_normal_again, law_normal_form_texts, law_one_answer, law_read_back,
-    law_same_texts, law_unique_reading, law_validity,
+    law_emission_faults, law_empty_continues, law_executions, law_inverse_undoes,
+    law_local_numbers, law_locations, law_normal_again, law_normal_form_texts, law_one_result,
+    law_read_back, law_same_texts, law_unique_reading, law_validity,
 };

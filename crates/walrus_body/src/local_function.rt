@@ -13,12 +13,12 @@ ghost use Rattle.wasm_body.specs.Parsing.Accepted.{Accepted, FirstFault};
 ghost use Rattle.walrus_parser.specs.Ranges.{range_at};
 ghost use Rattle.walrus_body.specs.LocalFunctions.{HasEntry, first_slot, first_instrs, is_const, LendsBuilder, LendsBlock};
 ghost use Rattle.walrus_parser.specs.Bodies.{body_input, body_setting, body_operators, AcceptsBody, RefusesBody};
-ghost use Rattle.walrus_parser.specs.Locating.{MayAsk};
+ghost use Rattle.walrus_parser.specs.Locating.{MayCall};
 ghost use Rattle.walrus_parser.specs.Settings.{BothOrNone};
 ghost use Rattle.walrus_facts.specs.Facts.{count, segments, AreFacts, TreeHas};
 ghost use Rattle.walrus_facts.specs.Sizes.{IsTooLarge};
-ghost use Rattle.walrus_numbering.specs.EmittedLocals.{Declares, IsUndeclared};
-ghost use Rattle.walrus_body.specs.EmittedInstructions.{Emits, IsUnemitted, KeepsPairs};
+ghost use Rattle.walrus_numbering.specs.EmittedLocals.{Declares, IsNotDeclared};
+ghost use Rattle.walrus_body.specs.EmittedInstructions.{Emits, IsNotEmitted, KeepsPairs};
 ghost use Rattle.walrus_numbering.specs.NumberMaps.{numbers_by};
 
 use std::marker::Model;
@@ -128,7 +128,7 @@ impl LocalFunction {
         requires offset { «module».now.code_section_offset ≤ body.start }
         requires ops { body.ops ≤ length body.bytes.now }
         requires fits { body.start + length body.bytes.now < 2 ^ 64 }
-        requires may_ask { MayAsk F.pre on_instr_pos (body.start + body.ops)
+        requires may_call { MayCall F.pre on_instr_pos (body.start + body.ops)
             (body.start + length body.bytes.now) }
         // A function that is returned has the normal form of the accepted body, and an error is the
         // first fault.
@@ -293,7 +293,7 @@ impl LocalFunction {
         ensures ok { OnOk result (Emits self.now.builder
             (numbers_by types.now indices.now local_indices.now.entries) dst.old dst.new map.entry
             map.exit) }
-        ensures err { IfErr result (IsUnemitted self.now.builder
+        ensures err { IfErr result (IsNotEmitted self.now.builder
             (numbers_by types.now indices.now local_indices.now.entries)) }
         ensures same_bytes { OnErr result (dst.new ≡ dst.old) }
         ensures same_pairs { OnErr result (KeepsPairs map.entry map.exit) }
@@ -330,7 +330,7 @@ impl LocalFunction {
         ensures ok { IfOk result (λ made. Declares
             (numbers_by «module».now.types indices.now []) «module».now.locals self.now.args
             (contains (λ x y. x == y) used.now) made.0.items made.1.entries) }
-        ensures err { IfErr result (IsUndeclared (numbers_by «module».now.types indices.now [])
+        ensures err { IfErr result (IsNotDeclared (numbers_by «module».now.types indices.now [])
             «module».now.locals self.now.args (contains (λ x y. x == y) used.now)) }
     {
         emit_locals(

@@ -152,10 +152,10 @@ abbrev pub AllAtEnd : ℕ → List ControlFrame → Type 0
 AllAtEnd end cs = AllByRecursion (λ f. f.start ≡ end) cs
 
 -- frames after the i-th that begin at the end of the list
-abbrev pub BehindAtEnd : ℕ → ℕ → List ControlFrame → Type 0
-BehindAtEnd end i [] = Unit {0}
-BehindAtEnd end zero (f ∷ fs) = AllAtEnd end fs
-BehindAtEnd end (suc i) (f ∷ fs) = BehindAtEnd end i fs
+abbrev pub LaterAtEnd : ℕ → ℕ → List ControlFrame → Type 0
+LaterAtEnd end i [] = Unit {0}
+LaterAtEnd end zero (f ∷ fs) = AllAtEnd end fs
+LaterAtEnd end (suc i) (f ∷ fs) = LaterAtEnd end i fs
 
 begin_at_end : (end : ℕ) (cs : List ControlFrame) → AllAtEnd end cs → begin_of cs end ≡ end
 begin_at_end end [] h = refl
@@ -191,10 +191,10 @@ module _ (all : List LocatedInstr) where
       let r = inner_empty (first_in all fs f ∷ outer) fs (suc j) m (omega arith) h in
       (r.0.1, (r.0.0, r.1))
 
-  pub behind_at_end : (outer : List OpenFrame) (low : ℕ) (cs : List ControlFrame) (i n : ℕ) → n + i + 1 ≡ length cs → StartFrom low cs (length all) → InnerAreEmpty n (frames_in all outer cs) → BehindAtEnd (length all) i cs
-  behind_at_end outer low [] i n is h e = tt
-  behind_at_end outer low (g ∷ cs) zero n is h e = empty_at_end g.start cs h.1 (inner_empty (first_in all cs g ∷ outer) cs 0 n (omega arith) e).1
-  behind_at_end outer low (g ∷ cs) (suc i) n is h e = behind_at_end (first_in all cs g ∷ outer) g.start cs i n (omega arith) h.1 e
+  pub later_at_end : (outer : List OpenFrame) (low : ℕ) (cs : List ControlFrame) (i n : ℕ) → n + i + 1 ≡ length cs → StartFrom low cs (length all) → InnerAreEmpty n (frames_in all outer cs) → LaterAtEnd (length all) i cs
+  later_at_end outer low [] i n is h e = tt
+  later_at_end outer low (g ∷ cs) zero n is h e = empty_at_end g.start cs h.1 (inner_empty (first_in all cs g ∷ outer) cs 0 n (omega arith) e).1
+  later_at_end outer low (g ∷ cs) (suc i) n is h e = later_at_end (first_in all cs g ∷ outer) g.start cs i n (omega arith) h.1 e
 
   module _ (x : LocatedInstr) where
     longer : length (all ++ x ∷ []) ≡ length all + 1
@@ -216,7 +216,7 @@ module _ (all : List LocatedInstr) where
 
     -- the instruction is added to the frame after which all frames begin at the end of the list
     pub appended : (outer : List OpenFrame) (low : ℕ) (cs : List ControlFrame) (i n : ℕ) (g : ControlFrame) → n + i + 1 ≡ length cs → slice_get cs i ≡ Some g → g.unreachable ≡ false →
-        StartFrom low cs (length all) → BehindAtEnd (length all) i cs → frames_in (all ++ x ∷ []) outer (moved_from (suc i) cs) ≡ changed_at n (with_instr x) (frames_in all outer cs)
+        StartFrom low cs (length all) → LaterAtEnd (length all) i cs → frames_in (all ++ x ∷ []) outer (moved_from (suc i) cs) ≡ changed_at n (with_instr x) (frames_in all outer cs)
     appended outer low [] i n g is at alive h e = absurd cc
     appended outer low (f ∷ cs) zero n g is at alive h e =
         let same : f ≡ g = cc in
@@ -243,7 +243,7 @@ all_moved : (low end : ℕ) (cs : List ControlFrame) → low ≤ end + 1 → All
 all_moved low end [] l e = l
 all_moved low end (f ∷ fs) l e = let s = e.0 in (omega arith, all_moved (f.start + 1) end fs (omega arith) e.1)
 
-pub starts_moved : (low end : ℕ) (cs : List ControlFrame) (i : ℕ) → StartFrom low cs end → BehindAtEnd end i cs → StartFrom low (moved_from (suc i) cs) (end + 1)
+pub starts_moved : (low end : ℕ) (cs : List ControlFrame) (i : ℕ) → StartFrom low cs end → LaterAtEnd end i cs → StartFrom low (moved_from (suc i) cs) (end + 1)
 starts_moved low end [] i h e = omega arith
 starts_moved low end (f ∷ fs) zero h e = let a = starts_to f.start fs end h.1 in let b = end_within f.start fs end h.1 in (h.0, all_moved f.start end fs (omega arith) e)
 starts_moved low end (f ∷ fs) (suc i) h e = (h.0, starts_moved f.start end fs i h.1 e)
@@ -311,9 +311,9 @@ pub appended_last : (all : List LocatedInstr) (cs : List ControlFrame) (i : ℕ)
     ChangesAt 0 (with_instr x) (frames_in all [] cs) (frames_in (all ++ x ∷ []) [] cs)
 appended_last all cs i f x is at alive starts =
     let long = count all [] cs in
-    let behind = behind_at_end all [] 0 cs i 0 (omega arith) starts (none_inside (frames_in all [] cs)) in
+    let following = later_at_end all [] 0 cs i 0 (omega arith) starts (none_inside (frames_in all [] cs)) in
     let same = moved_none cs (suc i) (omega arith) in
-    (omega arith, ap (frames_in (all ++ x ∷ []) []) (sym same) ∙ appended all x [] 0 cs i 0 f (omega arith) at alive starts behind)
+    (omega arith, ap (frames_in (all ++ x ∷ []) []) (sym same) ∙ appended all x [] 0 cs i 0 f (omega arith) at alive starts following)
 
 -- The list may end later.
 pub starts_before : (low end later : ℕ) (cs : List ControlFrame) → end ≤ later → StartFrom low cs end → StartFrom low cs later

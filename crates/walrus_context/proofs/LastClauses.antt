@@ -16,7 +16,7 @@ use Rattle.wasm_body.specs.declared.error.ParseError.{ParseError}
 use Rattle.wasm_body.specs.declared.error.ParseError.TheVariants.{NoSuchLabel, NoTry}
 use Rattle.walrus_context.specs.declared.frame.ControlFrame.{ControlFrame}
 use Rattle.walrus_context.specs.OpenFrames.{OpenFrame, frame_with, changed_at, with_clause_in, with_last_clause, with_clause, with_clause_around}
-use Rattle.walrus_context.specs.OpenTrees.{StandIn}
+use Rattle.walrus_context.specs.OpenTrees.{AreInArena}
 use Rattle.walrus_context.specs.FrameStacks.{frames_in, StartFrom}
 use Rattle.walrus_context.proofs.FrameStacks.{get, closed, starts_split, unchanged_at}
 
@@ -27,14 +27,14 @@ set_same : {A : Type 0} (xs : List A) (i : ℕ) (x : A) → slice_get xs i ≡ S
 set_same xs i x at = ap (slice_set xs i) (sym (get_or_from_slice_get xs i x x at)) ∙ set-get_or xs i x
 
 last_two : {A : Type 0} (xs : List A) (i : ℕ) (x y : A) → i + 2 ≡ length xs → slice_get xs i ≡ Some x → slice_get xs (suc i) ≡ Some y → xs ≡ take i xs ++ x ∷ y ∷ []
-last_two [] i x y is at behind = absurd cc
-last_two (z ∷ xs) (suc i) x y is at behind = ap (λ ys. z ∷ ys) (last_two xs i x y (omega arith) at behind)
-last_two (z ∷ []) zero x y is at behind = absurd cc
-last_two (z ∷ w ∷ []) zero x y is at behind =
+last_two [] i x y is at following = absurd cc
+last_two (z ∷ xs) (suc i) x y is at following = ap (λ ys. z ∷ ys) (last_two xs i x y (omega arith) at following)
+last_two (z ∷ []) zero x y is at following = absurd cc
+last_two (z ∷ w ∷ []) zero x y is at following =
     let first : z ≡ x = cc in
     let second : w ≡ y = cc in
     ap (λ v. v ∷ w ∷ []) first ∙ ap (λ v. x ∷ v ∷ []) second
-last_two (z ∷ w ∷ v ∷ xs) zero x y is at behind = absurd (omega arith)
+last_two (z ∷ w ∷ v ∷ xs) zero x y is at following = absurd (omega arith)
 
 -- ---- the last instruction
 
@@ -84,12 +84,12 @@ module _ (c : LegacyCatch) where
       around (frames_in all [] cs) frame frame found.1 (in_dead f found.0 dead) ∙ ap Ok (unchanged_at (λ g. frame) (frames_in all [] cs) 1 frame found.1 refl)
 
   -- the two innermost frames, the innermost after the other
-  module _ (all : List LocatedInstr) (cs : List ControlFrame) (i : ℕ) (f h : ControlFrame) (rise : StartFrom 0 cs (length all)) (is : i + 2 ≡ length cs) (at : slice_get cs i ≡ Some f) (behind : slice_get cs (i + 1) ≡ Some h) where
+  module _ (all : List LocatedInstr) (cs : List ControlFrame) (i : ℕ) (f h : ControlFrame) (rise : StartFrom 0 cs (length all)) (is : i + 2 ≡ length cs) (at : slice_get cs i ≡ Some f) (following : slice_get cs (i + 1) ≡ Some h) where
     abbrev pub ds : List ControlFrame
     ds = take i cs
 
     ending : cs ≡ (ds ++ f ∷ []) ++ h ∷ []
-    ending = last_two cs i f h is at (ap (slice_get cs) (let e : suc i ≡ i + 1 = omega arith in e) ∙ behind) ∙ sym (append_assoc ds (f ∷ []) (h ∷ []))
+    ending = last_two cs i f h is at (ap (slice_get cs) (let e : suc i ≡ i + 1 = omega arith in e) ∙ following) ∙ sym (append_assoc ds (f ∷ []) (h ∷ []))
 
     pub inside : StartFrom 0 (ds ++ f ∷ []) h.start × (h.start ≤ length all)
     inside = starts_split 0 (ds ++ f ∷ []) h (length all) (subst (λ k. StartFrom 0 k (length all)) ending rise)
@@ -167,16 +167,16 @@ clause_kept c f h is = by_dead f.dead (with_last_clause c f.instrs) is
     by_dead false (Some xs) e = let same : record f { instrs = xs } ≡ h = cc in ap (λ (g : OpenFrame). g.sequence) (sym same)
     by_dead false None e = absurd cc
 
-pub stand_with_clause : {E : Type 0} (arena : List InstrSeq) (c : LegacyCatch) (old new : List OpenFrame) (r : Result (Unit {0}) E) → OnOk r (with_clause_around c old ≡ Ok new) → OnErr r (new ≡ old) → StandIn arena old → StandIn arena new
-stand_with_clause arena c old new (Err e) ok err h = subst (StandIn arena) (sym err) h
-stand_with_clause arena c [] new (Ok u) ok err h = absurd cc
-stand_with_clause arena c (f ∷ []) new (Ok u) ok err h = absurd cc
-stand_with_clause arena c (g ∷ f ∷ fs) new (Ok u) ok err h = by_clause (with_clause c f) refl ok
+pub in_arena_with_clause : {E : Type 0} (arena : List InstrSeq) (c : LegacyCatch) (old new : List OpenFrame) (r : Result (Unit {0}) E) → OnOk r (with_clause_around c old ≡ Ok new) → OnErr r (new ≡ old) → AreInArena arena old → AreInArena arena new
+in_arena_with_clause arena c old new (Err e) ok err h = subst (AreInArena arena) (sym err) h
+in_arena_with_clause arena c [] new (Ok u) ok err h = absurd cc
+in_arena_with_clause arena c (f ∷ []) new (Ok u) ok err h = absurd cc
+in_arena_with_clause arena c (g ∷ f ∷ fs) new (Ok u) ok err h = by_clause (with_clause c f) refl ok
   where
-    by_clause : (o : Option OpenFrame) → with_clause c f ≡ o → (some_or o NoTry >>= λ k. let r : Result (List OpenFrame) ParseError = Ok (g ∷ k ∷ fs) in r) ≡ Ok new → StandIn arena new
+    by_clause : (o : Option OpenFrame) → with_clause c f ≡ o → (some_or o NoTry >>= λ k. let r : Result (List OpenFrame) ParseError = Ok (g ∷ k ∷ fs) in r) ≡ Ok new → AreInArena arena new
     by_clause (Some k) e is =
         let same : g ∷ k ∷ fs ≡ new = cc in
         let kept = clause_kept c f k e in
         let low = h.1.0 in
-        subst (StandIn arena) same (h.0, (omega arith, h.1.1))
+        subst (AreInArena arena) same (h.0, (omega arith, h.1.1))
     by_clause None e is = absurd cc

@@ -10,10 +10,10 @@ use Rattle.walrus_ir.specs.declared.val_type.ValType.{ValType}
 use Rattle.walrus_ir.specs.Tree.{Items, Sequences}
 use Rattle.walrus_ir.specs.Types.{pick}
 use Rattle.walrus_ir.specs.Unfolding.{SequenceAt, LocatedInstr, slots_in, AreItems, AreSequences}
+use Rattle.walrus_ir.specs.Locations.{default_location}
 use Rattle.wasm_operators.specs.declared.types.Opcode.TheVariants.{Byte}
 use Rattle.wasm_operators.specs.Operations.{block, operation}
 use Rattle.wasm_body.specs.SourceTree.{Sequence, map_sequence}
-use Rattle.wasm_body.specs.FunctionTree.{default_location}
 use Rattle.wasm_body.specs.Naming.{Occurrence, Environment, block_signature}
 use Rattle.wasm_body.specs.NormalForm.{typing_of, kept_operation, instruction, normal, name_at}
 use Rattle.wasm_body.specs.Keeping.{is_dead}
@@ -21,7 +21,7 @@ use Rattle.wasm_body.specs.TreeOfFunction.{instruction_in, items_in, sequences_i
 use Rattle.wasm_body.specs.Intervals.{RiseIn, AllRiseIn}
 use Rattle.wasm_body.specs.Parsing.Progress.{OpenConstruct, InWrapper, InThen, InElse, Layer}
 use Rattle.walrus_context.specs.declared.frame.IfElseState.{IfElseState}
-use Rattle.walrus_context.specs.OpenConstructs.{opener_in, kind_in, clauses_in, closed_in, type_in, reshown_construct}
+use Rattle.walrus_context.specs.OpenConstructs.{opener_in, kind_in, clauses_in, closed_in, type_in, map_open_construct}
 use Rattle.walrus_context.specs.OpenFrames.{OpenFrame, changed_at, with_instr}
 
 abbrev pub slots : List OpenFrame → List ℕ
@@ -39,7 +39,7 @@ pub record IsKept (env : Environment) (arena : List InstrSeq) (high : ℕ) (f : 
 -- the slot has a sequence of this type whose end has no location yet
 pub record IsReserved (arena : List InstrSeq) (slot : ℕ) (type : InstrSeqType) : Type 0 where
   pub seq : InstrSeq
-  pub stands : slice_get arena slot ≡ Some seq
+  pub in_arena : slice_get arena slot ≡ Some seq
   pub has_type : seq.ty ≡ type
   pub has_no_end : seq.end ≡ default_location
 
@@ -56,8 +56,8 @@ pub record Encloses (env : Environment) (arena : List InstrSeq) (low : ℕ) (f :
   pub inside : Sequences SequenceAt LocatedInstr
   pub are_sequences : AreSequences arena before inside
   pub rise : AllRiseIn low inside f.sequence
-  pub is_normal : sequences_in around inside ≡ closed_in (typing_of env) (reshown_construct name_at p)
-  pub reserved : IsReserved arena f.sequence (type_in (typing_of env) (reshown_construct name_at p))
+  pub is_normal : sequences_in around inside ≡ closed_in (typing_of env) (map_open_construct name_at p)
+  pub reserved : IsReserved arena f.sequence (type_in (typing_of env) (map_open_construct name_at p))
   pub kind : f.kind ≡ kind_in p
   pub takes : TakesParameters env p f.start_types
   pub gives : f.end_types ≡ (block_signature (opener_in p).named).results

@@ -5,9 +5,10 @@ use Rattle.walrus_ir.specs.declared.val_type.InstrSeqType.{InstrSeqType}
 use Rattle.walrus_ir.specs.declared.control.BlockKind.{BlockKind}
 use Rattle.walrus_ir.specs.declared.control.BlockKind.TheVariants as kind
 use Rattle.walrus_ir.specs.Tree.{Items, no_items, Sequences, no_sequences, sequence}
+use Rattle.walrus_ir.specs.Locations.{default_location}
 use Rattle.wasm_body.specs.SourceTree.{Sequence, Wrapper, OfBlock, OfLoop, OfTryTable, map_sequence}
 use Rattle.wasm_body.specs.Translation.{Located}
-use Rattle.wasm_body.specs.FunctionTree.{Head, LegacyClause, handles, handles_all, Instruction, default_location}
+use Rattle.wasm_body.specs.FunctionTree.{Head, LegacyClause, handles, handles_all, Instruction}
 use Rattle.wasm_body.specs.Naming.{NamedOperation}
 use Rattle.wasm_body.specs.NormalForm.{Typing, construct_type, handler_type, head, normal}
 use Rattle.wasm_body.specs.Parsing.Progress.{ClosedClause, closed_clause, OpenConstruct, InWrapper, InThen, InElse, InTry, InCatch, InCatchAll}
@@ -37,17 +38,17 @@ kind_in (InCatchAll a b gs h) = kind.CatchAll
 
 -- ---- the clauses of a legacy `try`, with that of the open handler
 
-abbrev pub clauses_behind : {A : Type 0} → List (ClosedClause A) → List LegacyClause → List LegacyClause
-clauses_behind [] cs = cs
-clauses_behind (g ∷ gs) cs = clauses_behind gs (handles g.tag ∷ cs)
+abbrev pub clauses_after : {A : Type 0} → List (ClosedClause A) → List LegacyClause → List LegacyClause
+clauses_after [] cs = cs
+clauses_after (g ∷ gs) cs = clauses_after gs (handles g.tag ∷ cs)
 
 abbrev pub clauses_in : {A : Type 0} → OpenConstruct A → List LegacyClause
 clauses_in (InWrapper a w) = []
 clauses_in (InThen a) = []
 clauses_in (InElse a b l) = []
 clauses_in (InTry a) = []
-clauses_in (InCatch a b gs h t) = clauses_behind gs (handles t ∷ [])
-clauses_in (InCatchAll a b gs h) = clauses_behind gs (handles_all ∷ [])
+clauses_in (InCatch a b gs h t) = clauses_after gs (handles t ∷ [])
+clauses_in (InCatchAll a b gs h) = clauses_after gs (handles_all ∷ [])
 
 -- ---- the closed sequences
 
@@ -61,10 +62,10 @@ sequences_joined (sequence h is r) rs = sequence h is (sequences_joined r rs)
 
 -- The handlers of closed clauses, given last first, and then the rest. Each ends where the next clause begins, and the last at
 -- this location.
-abbrev pub handlers_behind : Typing → NamedOperation → (end_location : ℕ) → List (ClosedClause Named) → Sequences Head Instruction → Sequences Head Instruction
-handlers_behind m o end_location [] rest = rest
-handlers_behind m o end_location (g ∷ gs) rest =
-    handlers_behind m o g.mark.location gs (sequence (head (handler_type m o (m.tag_parameters g.tag)) end_location) (normal m g.body) rest)
+abbrev pub handlers_after : Typing → NamedOperation → (end_location : ℕ) → List (ClosedClause Named) → Sequences Head Instruction → Sequences Head Instruction
+handlers_after m o end_location [] rest = rest
+handlers_after m o end_location (g ∷ gs) rest =
+    handlers_after m o g.mark.location gs (sequence (head (handler_type m o (m.tag_parameters g.tag)) end_location) (normal m g.body) rest)
 
 -- the location of the first clause
 abbrev pub first_clause_at : (location : ℕ) → List (ClosedClause Named) → ℕ
@@ -72,7 +73,7 @@ first_clause_at location [] = location
 first_clause_at location (g ∷ gs) = first_clause_at g.mark.location gs
 
 abbrev pub try_sequences : Typing → NamedOperation → Sequence Named → List (ClosedClause Named) → (location : ℕ) → Sequences Head Instruction
-try_sequences m o b gs location = sequence (head (construct_type m o) (first_clause_at location gs)) (normal m b) (handlers_behind m o location gs no_sequences)
+try_sequences m o b gs location = sequence (head (construct_type m o) (first_clause_at location gs)) (normal m b) (handlers_after m o location gs no_sequences)
 
 abbrev pub closed_in : Typing → OpenConstruct Named → Sequences Head Instruction
 closed_in m (InWrapper a w) = no_sequences
@@ -100,17 +101,17 @@ sequences_closed m p items location rest = sequences_joined (closed_in m p) (seq
 
 -- ---- the same, where other items are shown
 
-abbrev pub reshown_clause : {A B : Type 0} → (A → B) → ClosedClause A → ClosedClause B
-reshown_clause f g = closed_clause (f g.mark) g.tag (map_sequence f g.body)
+abbrev pub map_closed_clause : {A B : Type 0} → (A → B) → ClosedClause A → ClosedClause B
+map_closed_clause f g = closed_clause (f g.mark) g.tag (map_sequence f g.body)
 
-abbrev pub reshown_closed : {A B : Type 0} → (A → B) → List (ClosedClause A) → List (ClosedClause B)
-reshown_closed f [] = []
-reshown_closed f (g ∷ gs) = reshown_clause f g ∷ reshown_closed f gs
+abbrev pub map_closed : {A B : Type 0} → (A → B) → List (ClosedClause A) → List (ClosedClause B)
+map_closed f [] = []
+map_closed f (g ∷ gs) = map_closed_clause f g ∷ map_closed f gs
 
-abbrev pub reshown_construct : {A B : Type 0} → (A → B) → OpenConstruct A → OpenConstruct B
-reshown_construct f (InWrapper a w) = InWrapper (f a) w
-reshown_construct f (InThen a) = InThen (f a)
-reshown_construct f (InElse a b l) = InElse (f a) (map_sequence f b) (f l)
-reshown_construct f (InTry a) = InTry (f a)
-reshown_construct f (InCatch a b gs h t) = InCatch (f a) (map_sequence f b) (reshown_closed f gs) (f h) t
-reshown_construct f (InCatchAll a b gs h) = InCatchAll (f a) (map_sequence f b) (reshown_closed f gs) (f h)
+abbrev pub map_open_construct : {A B : Type 0} → (A → B) → OpenConstruct A → OpenConstruct B
+map_open_construct f (InWrapper a w) = InWrapper (f a) w
+map_open_construct f (InThen a) = InThen (f a)
+map_open_construct f (InElse a b l) = InElse (f a) (map_sequence f b) (f l)
+map_open_construct f (InTry a) = InTry (f a)
+map_open_construct f (InCatch a b gs h t) = InCatch (f a) (map_sequence f b) (map_closed f gs) (f h) t
+map_open_construct f (InCatchAll a b gs h) = InCatchAll (f a) (map_sequence f b) (map_closed f gs) (f h)

@@ -48,8 +48,8 @@ changed_at n change [] = []
 changed_at zero change (f ∷ fs) = change f ∷ fs
 changed_at (suc n) change (f ∷ fs) = f ∷ changed_at n change fs
 
-abbrev pub killed : OpenFrame → OpenFrame
-killed f = record f { dead = true }
+abbrev pub marked_dead : OpenFrame → OpenFrame
+marked_dead f = record f { dead = true }
 
 -- one more instruction, or no change if the frame is dead
 abbrev pub with_instr : LocatedInstr → OpenFrame → OpenFrame

@@ -27,8 +27,8 @@ pub record OpenTrees : Type 0 where
   pub frames : List OpenFrame
 
 -- each frame's sequence is in this arena
-abbrev pub StandIn : List InstrSeq → List OpenFrame → Type 0
-StandIn sequences fs = AllByRecursion (λ f. f.sequence < length sequences) fs
+abbrev pub AreInArena : List InstrSeq → List OpenFrame → Type 0
+AreInArena sequences fs = AllByRecursion (λ f. f.sequence < length sequences) fs
 
 -- An empty frame is opened with a new sequence of this type; nothing else changed.
 pub record Opens (old new : OpenTrees) (kind : BlockKind) (type : InstrSeqType) (takes gives : List (ValType ℕ)) (id : ℕ)

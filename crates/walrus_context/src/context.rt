@@ -3,7 +3,7 @@ ghost use Rattle.std.specs.Prelude.{reverse, ◌≡◌, ◌⊎◌, ◌≤◌, �
 ghost use Rattle.walrus_ir.specs.Types.{existing, signature_of};
 ghost use Rattle.walrus_ir.specs.declared.val_type.InstrSeqType.TheVariants.{MultiValue, Simple};
 ghost use Rattle.wasm_body.specs.declared.error.ParseError.{ParseError as Fault};
-ghost use Rattle.walrus_context.specs.OpenFrames.{AreShown, ShowsAt, killed, with_instr, HasNoFrame, HasNoFrameAt, InnerAreEmpty, with_clause_around};
+ghost use Rattle.walrus_context.specs.OpenFrames.{AreShown, ShowsAt, marked_dead, with_instr, HasNoFrame, HasNoFrameAt, InnerAreEmpty, with_clause_around};
 ghost use Rattle.wasm_operators.specs.declared.types.BlockType.TheVariants.{Value, FuncType};
 ghost use Rattle.walrus_ir.specs.Results.{with_fault};
 ghost use Rattle.wasm_body.specs.declared.error.ParseError.TheVariants.{Index};
@@ -39,7 +39,7 @@ pub struct ValidationContext<'a> {
 }
 
 impl<'a> Model for ValidationContext<'a> {
-    ghost use Rattle.walrus_context.specs.OpenTrees.{OpenTrees, StandIn};
+    ghost use Rattle.walrus_context.specs.OpenTrees.{OpenTrees, AreInArena};
     ghost use Rattle.std.specs.Coded.{codes};
     ghost use Rattle.walrus_maps.specs.contracts.indices_to_ids.IndicesToIds as indices_to_ids;
 
@@ -58,7 +58,7 @@ impl<'a> Model for ValidationContext<'a> {
     ghost use Rattle.std.specs.Prelude.{◌≡◌};
     ghost use Rattle.walrus_maps.specs.IndexMaps.{locals_in};
 
-    ghost invariant = { λ c. StandIn c.func.sequences c.stack
+    ghost invariant = { λ c. AreInArena c.func.sequences c.stack
         × (c.locals.now ≡ locals_in c.indices.now c.func_id) };
 }
 
@@ -354,11 +354,11 @@ impl<'a> ValidationContext<'a> {
     /// Marks the innermost frame as dead: the instructions that follow in it are dropped. The error
     /// is `NoFrame` if no frame is open; nothing is changed.
     pub fn unreachable(&mut self) -> Result<(), ParseError>
-        ensures ok { OnOk result (ChangesFrame 0 killed self.old self.new) }
+        ensures ok { OnOk result (ChangesFrame 0 marked_dead self.old self.new) }
         ensures err { IfErr result (HasNoFrame self.old.frames) }
         ensures same { OnErr result (self.new ≡ self.old) }
     {
-        self.stack.kill()
+        self.stack.mark_dead()
     }
 
     /// The n-th frame. Frames count from the innermost, which is 0. The error is `NoSuchLabel` if
@@ -399,7 +399,7 @@ impl<'a> ValidationContext<'a> {
     #[inline(always)]
     pub fn kill_innermost(&mut self)
         requires { 0 < length self.old.frames }
-        ensures { ChangesFrame 0 killed self.old self.new }
+        ensures { ChangesFrame 0 marked_dead self.old self.new }
     {
         self.stack.kill_innermost();
     }

@@ -1,7 +1,7 @@
 //! The open frames, with the instructions of all of them in one list.
 ghost use Rattle.std.specs.Prelude.{reverse, ◌≡◌, ◌⊎◌, ◌≤◌, ◌<◌, ◌+◌, ◌^◌, ℕ, ◌∷◌, ◌++◌, [], List, length, MatchOption, IfOk, IfErr, OnOk, OnErr, IsSome, None, Some, Ok, Err, true, false};
 ghost use Rattle.wasm_body.specs.declared.error.ParseError.{ParseError as Fault};
-ghost use Rattle.walrus_context.specs.OpenFrames.{OpenFrame, AreShown, ShowsAt, frame_with, new_frame, killed, with_instr, ChangesAt, HasNoFrame, HasNoFrameAt, InnerAreEmpty, with_clause_in, with_clause_around};
+ghost use Rattle.walrus_context.specs.OpenFrames.{OpenFrame, AreShown, ShowsAt, frame_with, new_frame, marked_dead, with_instr, ChangesAt, HasNoFrame, HasNoFrameAt, InnerAreEmpty, with_clause_in, with_clause_around};
 ghost use Rattle.walrus_context.specs.FrameStacks.{moved_from, StartFrom};
 
 use crate::frame::{ControlFrame, ControlStack};
@@ -11,7 +11,7 @@ use wasm_body::ParseError;
 
 /// Pushes an item. The error is `Memory` if memory runs out; the list is unchanged.
 #[inline(always)]
-pub fn pushed<T: Drop>(list: &mut Vec<T>, item: T) -> Result<(), ParseError>
+pub fn push_or_fail<T: Drop>(list: &mut Vec<T>, item: T) -> Result<(), ParseError>
     ensures ok { OnOk result (list.new.items ≡ list.old.items ++ item ∷ []) }
     ensures err { IfErr result (λ e. e ≡ Fault.Memory) }
     ensures same { OnErr result (list.new.items ≡ list.old.items) }
@@ -58,7 +58,7 @@ fn add_clause_in(item: &mut (Instr, InstrLocId), catch: LegacyCatch) -> Result<(
     ensures same { OnErr result (item.new ≡ item.old) }
 {
     match &mut item.0 {
-        Instr::Try(x) => pushed(&mut x.catches, catch),
+        Instr::Try(x) => push_or_fail(&mut x.catches, catch),
         _ => Err(ParseError::NoTry),
     }
 }
@@ -181,8 +181,8 @@ impl FrameStack {
     }
 
     /// Marks the innermost frame as dead: the instructions that follow in it are dropped.
-    pub fn kill(&mut self) -> Result<(), ParseError>
-        ensures ok { OnOk result (ChangesAt 0 killed self.old self.new) }
+    pub fn mark_dead(&mut self) -> Result<(), ParseError>
+        ensures ok { OnOk result (ChangesAt 0 marked_dead self.old self.new) }
         ensures err { IfErr result (HasNoFrame self.old) }
         ensures same { OnErr result (self.new ≡ self.old) }
     {
@@ -198,7 +198,7 @@ impl FrameStack {
     #[inline(always)]
     pub fn kill_innermost(&mut self)
         requires { 0 < length self.old }
-        ensures { ChangesAt 0 killed self.old self.new }
+        ensures { ChangesAt 0 marked_dead self.old self.new }
     {
         let index = self.controls.len() - 1;
         self.controls[index].unreachable = true;
@@ -220,7 +220,7 @@ impl FrameStack {
         if self.controls[index].unreachable {
             return Ok(());
         }
-        match pushed(&mut self.instrs, (instr, location)) {
+        match push_or_fail(&mut self.instrs, (instr, location)) {
             Ok(()) => {
                 move_starts(&mut self.controls, index + 1);
                 Ok(())

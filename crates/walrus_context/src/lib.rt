@@ -8,5 +8,5 @@ mod types;
 
 pub use context::ValidationContext;
 pub use frame::{ControlFrame, ControlStack, IfElseState};
-pub use frame_stack::{pushed, try_push};
+pub use frame_stack::{push_or_fail, try_push};
 pub use types::{heap_type_of, value_type};

@@ -95,14 +95,14 @@ abbrev pub slots_of : List Scope → List ℕ
 slots_of ss = map (λ (s : Scope). s.slot) ss
 
 -- an operator after the output
-abbrev pub pairs_behind : Bool → ℕ → Output → ℕ → List (ℕ × ℕ)
-pairs_behind has_map base o location = if has_map then o.pairs ++ (location, base + length o.bytes) ∷ [] else o.pairs
+abbrev pub pairs_after : Bool → ℕ → Output → ℕ → List (ℕ × ℕ)
+pairs_after has_map base o location = if has_map then o.pairs ++ (location, base + length o.bytes) ∷ [] else o.pairs
 
-abbrev pub output_behind : Bool → ℕ → Output → Located RawOperation → Output
-output_behind has_map base o x = record { bytes = o.bytes ++ short x.op; pairs = pairs_behind has_map base o x.location }
+abbrev pub output_after : Bool → ℕ → Output → Located RawOperation → Output
+output_after has_map base o x = record { bytes = o.bytes ++ short x.op; pairs = pairs_after has_map base o x.location }
 
 abbrev pub with_operator : Emitter → Located RawOperation → Emitter
-with_operator s x = record s { output = output_behind s.has_map s.base s.output x }
+with_operator s x = record s { output = output_after s.has_map s.base s.output x }
 
 abbrev pub with_closer : Emitter → Option (Located TextOperation) → Result Emitter EmitError
 with_closer s None = Ok s
@@ -125,16 +125,16 @@ abbrev pub with_end : Emitter → List Scope → Result Emitter EmitError
 with_end s [] = Err UnknownSequence
 with_end s (c ∷ cs) = with_closer s c.closer >>= λ t. Ok (record t { open_scopes = cs })
 
-abbrev pub emitter_behind : Emitter → WalkEvent → Result Emitter EmitError
-emitter_behind s (VisitInstruction i location) = with_instruction s (i, location)
-emitter_behind s (StartSequence seq) = with_start s s.coming
-emitter_behind s (EndSequence seq) = with_end s s.open_scopes
-emitter_behind s _ = Ok s
+abbrev pub emitter_after : Emitter → WalkEvent → Result Emitter EmitError
+emitter_after s (VisitInstruction i location) = with_instruction s (i, location)
+emitter_after s (StartSequence seq) = with_start s s.coming
+emitter_after s (EndSequence seq) = with_end s s.open_scopes
+emitter_after s _ = Ok s
 
 -- after these events
-abbrev pub emitter_behind_all : Emitter → List WalkEvent → Result Emitter EmitError
-emitter_behind_all s [] = Ok s
-emitter_behind_all s (e ∷ es) = emitter_behind s e >>= λ t. emitter_behind_all t es
+abbrev pub emitter_after_all : Emitter → List WalkEvent → Result Emitter EmitError
+emitter_after_all s [] = Ok s
+emitter_after_all s (e ∷ es) = emitter_after s e >>= λ t. emitter_after_all t es
 
 -- ---- a whole tree
 

@@ -8,7 +8,7 @@ ghost use Rattle.wasm_body.specs.FlatText.{are_lawful, try_closers};
 ghost use Rattle.wasm_body.specs.FunctionTree.{last_location};
 ghost use Rattle.walrus_emit_state.specs.Emission.{is_short, if_scopes, scopes_of_if, scopes_inside};
 ghost use Rattle.walrus_emit_state.specs.TreeWriting.Closers.{closing, scopes_of};
-ghost use Rattle.walrus_emit_state.specs.TreeWriting.Announcing.{AreAnnounced, AreUnannounced, Announces, IsUnannounced, HasMore};
+ghost use Rattle.walrus_emit_state.specs.TreeWriting.Announcing.{AreAnnounced, AreNotAnnounced, Announces, IsNotAnnounced, HasMore};
 
 use crate::clauses::{closer_before, handler_of};
 use crate::closing::{Closer, SequenceScope};
@@ -29,9 +29,9 @@ fn announce_one(
     requires { scopes.old.count ≡ length builder.now.sequences }
     ensures ok { OnOk result (Announces builder.now.sequences (place ∷ []) (closing closer ∷ [])
         scopes.old scopes.new) }
-    ensures err { IfErr result (IsUnannounced builder.now.sequences (place ∷ [])
+    ensures err { IfErr result (IsNotAnnounced builder.now.sequences (place ∷ [])
         (closing closer ∷ [])) }
-    ensures kept { OnErr result (scopes.new ≡ scopes.old) }
+    ensures unchanged { OnErr result (scopes.new ≡ scopes.old) }
 {
     if !builder.has(place) {
         return Err(EmitError::UnknownSequence);
@@ -51,9 +51,9 @@ fn announce_handler(
     requires { scopes.old.count ≡ length builder.now.sequences }
     ensures ok { OnOk result (Announces builder.now.sequences (clause_places clause.now)
         (closing closer ∷ []) scopes.old scopes.new) }
-    ensures err { IfErr result (IsUnannounced builder.now.sequences (clause_places clause.now)
+    ensures err { IfErr result (IsNotAnnounced builder.now.sequences (clause_places clause.now)
         (closing closer ∷ [])) }
-    ensures kept { OnErr result (scopes.new ≡ scopes.old) }
+    ensures unchanged { OnErr result (scopes.new ≡ scopes.old) }
 {
     match handler_of(clause) {
         Some(handler) => announce_one(scopes, builder, handler, closer),
@@ -73,10 +73,10 @@ fn announce_try(
     ensures ok { OnOk result (Announces builder.now.sequences
         (construct.now.seq ∷ handlers construct.now.catches)
         (try_closers (map legacy_clause construct.now.catches)) scopes.old scopes.new) }
-    ensures err { IfErr result (IsUnannounced builder.now.sequences
+    ensures err { IfErr result (IsNotAnnounced builder.now.sequences
         (construct.now.seq ∷ handlers construct.now.catches)
         (try_closers (map legacy_clause construct.now.catches))) }
-    ensures kept { OnErr result (HasMore scopes.old scopes.new) }
+    ensures unchanged { OnErr result (HasMore scopes.old scopes.new) }
 {
     let mut closer = Closer::End;
     let mut left = construct.catches.as_slice();
@@ -146,10 +146,10 @@ fn announce_if(
     ensures ok { OnOk result (AreAnnounced (scopes_of_if
         (λ t. is_balanced_type (signature_of_type types.now t)) builder.now.sequences
         construct.now.consequent construct.now.alternative) scopes.old scopes.new) }
-    ensures err { IfErr result (AreUnannounced (scopes_of_if
+    ensures err { IfErr result (AreNotAnnounced (scopes_of_if
         (λ t. is_balanced_type (signature_of_type types.now t)) builder.now.sequences
         construct.now.consequent construct.now.alternative)) }
-    ensures kept { OnErr result (HasMore scopes.old scopes.new) }
+    ensures unchanged { OnErr result (HasMore scopes.old scopes.new) }
 {
     if !builder.has(construct.consequent) || !builder.has(construct.alternative) {
         return Err(EmitError::UnknownSequence);
@@ -178,9 +178,9 @@ pub fn announce(
     ensures ok { OnOk result (AreAnnounced (scopes_inside
         (λ t. is_balanced_type (signature_of_type types.now t)) builder.now.sequences instr.now)
         scopes.old scopes.new) }
-    ensures err { IfErr result (AreUnannounced (scopes_inside
+    ensures err { IfErr result (AreNotAnnounced (scopes_inside
         (λ t. is_balanced_type (signature_of_type types.now t)) builder.now.sequences instr.now)) }
-    ensures kept { OnErr result (HasMore scopes.old scopes.new) }
+    ensures unchanged { OnErr result (HasMore scopes.old scopes.new) }
 {
     match instr {
         Instr::Block(x) => announce_one(scopes, builder, x.seq, Closer::End),

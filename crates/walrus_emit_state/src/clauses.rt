@@ -35,10 +35,10 @@ fn are_handlers(clauses: &[LegacyCatch]) -> bool
     ensures { result ≡ are_handlers (map legacy_clause clauses.now) }
 {
     let mut left = clauses;
-    'clauses: while let Some((clause, behind)) = left.split_first() {
+    'clauses: while let Some((clause, following)) = left.split_first() {
         match clause {
-            LegacyCatch::Catch { .. } => left = behind,
-            LegacyCatch::CatchAll { .. } => return behind.is_empty(),
+            LegacyCatch::Catch { .. } => left = following,
+            LegacyCatch::CatchAll { .. } => return following.is_empty(),
             LegacyCatch::Delegate { .. } => return false,
         }
     }
@@ -51,7 +51,7 @@ pub fn are_lawful(clauses: &[LegacyCatch]) -> bool
     ensures { result ≡ are_lawful (map legacy_clause clauses.now) }
 {
     match clauses.split_first() {
-        Some((LegacyCatch::Delegate { .. }, behind)) => behind.is_empty(),
+        Some((LegacyCatch::Delegate { .. }, following)) => following.is_empty(),
         _ => are_handlers(clauses),
     }
 }

@@ -7,8 +7,8 @@ ghost use Rattle.wasm_operators.specs.Shortest.{short_number, short_integer, sho
 ghost use Rattle.wasm_encode.specs.Writable.{IsWritable};
 ghost use Rattle.wasm_body.specs.Translation.{at_location};
 ghost use Rattle.wasm_body.specs.declared.error.EmitError.TheVariants.{Memory};
-ghost use Rattle.walrus_emit_state.specs.Emission.{pairs_behind};
-ghost use Rattle.walrus_emit_state.specs.TreeWriting.Drafts.{behind, with_bytes};
+ghost use Rattle.walrus_emit_state.specs.Emission.{pairs_after};
+ghost use Rattle.walrus_emit_state.specs.TreeWriting.Drafts.{with_written, with_bytes};
 
 use crate::putting::{put_byte, put_integer, put_memarg, put_number};
 use std::alloc::{AllocError, Global};
@@ -35,9 +35,9 @@ fn begin(
     requires { base < 2 ^ 63 }
     ensures bytes { bytes.new.items ≡ bytes.old.items }
     ensures room { OnTrue result (vec_len bytes.new + 31 ≤ vec_capacity bytes.new) }
-    ensures pair { OnTrue result (pairs.new.items ≡ pairs_behind has_map base
+    ensures pair { OnTrue result (pairs.new.items ≡ pairs_after has_map base
         (record { bytes = bytes.old.items; pairs = pairs.old.items }) location) }
-    ensures kept { OnFalse result (pairs.new.items ≡ pairs.old.items) }
+    ensures unchanged { OnFalse result (pairs.new.items ≡ pairs.old.items) }
 {
     match bytes.reserve(ROOM) {
         Ok(()) => {}
@@ -104,7 +104,7 @@ impl Draft {
     #[inline(always)]
     pub fn write_byte(&mut self, byte: u8, location: InstrLocId) -> bool
         ensures done { OnTrue result (self.new ≡ with_bytes self.old (byte ∷ []) location) }
-        ensures kept { OnFalse result (self.new ≡ self.old) }
+        ensures unchanged { OnFalse result (self.new ≡ self.old) }
     {
         if !begin(
             &mut self.bytes,
@@ -125,7 +125,7 @@ impl Draft {
     pub fn write_number(&mut self, byte: u8, number: u32, location: InstrLocId) -> bool
         ensures done { OnTrue result
             (self.new ≡ with_bytes self.old (byte ∷ short_number number) location) }
-        ensures kept { OnFalse result (self.new ≡ self.old) }
+        ensures unchanged { OnFalse result (self.new ≡ self.old) }
     {
         if !begin(
             &mut self.bytes,
@@ -147,7 +147,7 @@ impl Draft {
     pub fn write_integer(&mut self, byte: u8, value: i64, location: InstrLocId) -> bool
         ensures done { OnTrue result
             (self.new ≡ with_bytes self.old (byte ∷ short_integer value) location) }
-        ensures kept { OnFalse result (self.new ≡ self.old) }
+        ensures unchanged { OnFalse result (self.new ≡ self.old) }
     {
         if !begin(
             &mut self.bytes,
@@ -169,7 +169,7 @@ impl Draft {
     pub fn write_access(&mut self, byte: u8, memarg: RawMemArg, location: InstrLocId) -> bool
         ensures done { OnTrue result
             (self.new ≡ with_bytes self.old (byte ∷ short_access (access_of memarg)) location) }
-        ensures kept { OnFalse result (self.new ≡ self.old) }
+        ensures unchanged { OnFalse result (self.new ≡ self.old) }
     {
         if !begin(
             &mut self.bytes,
@@ -190,9 +190,9 @@ impl Draft {
     pub fn write_any(&mut self, op: &OutOp, location: InstrLocId) -> Result<(), EmitError>
         requires { IsWritable (meaning op.now) }
         ensures ok { OnOk result
-            (self.new ≡ behind self.old (at_location (meaning op.now) location)) }
+            (self.new ≡ with_written self.old (at_location (meaning op.now) location)) }
         ensures err { IfErr result (λ e. e ≡ Memory) }
-        ensures kept { OnErr result (self.new ≡ self.old) }
+        ensures unchanged { OnErr result (self.new ≡ self.old) }
     {
         if !self.has_map {
             write_op(op, &mut self.bytes)?;
@@ -207,7 +207,7 @@ impl Draft {
 
     /// Appends what is written, the pairs where they are asked for. Where memory runs out both are
     /// as before.
-    pub fn hand_over(
+    pub fn append_to(
         self,
         encoder: &mut FunctionEncoder,
         map: &mut Vec<(InstrLocId, usize)>,
@@ -215,7 +215,7 @@ impl Draft {
         ensures bytes { OnOk result (encoder.new ≡ encoder.old ++ self.output.bytes) }
         ensures pairs { OnOk result (map.new.items ≡ map.old.items ++ self.output.pairs) }
         ensures err { OnErr result (encoder.new ≡ encoder.old) }
-        ensures kept { OnErr result (map.new.items ≡ map.old.items) }
+        ensures unchanged { OnErr result (map.new.items ≡ map.old.items) }
     {
         map.reserve(self.pairs.len())?;
         encoder.raw(&self.bytes)?;
@@ -224,7 +224,7 @@ impl Draft {
     }
 
     /// Appends the bytes that are written. Where memory runs out the encoder is as before.
-    pub fn hand_over_bytes(self, encoder: &mut FunctionEncoder) -> Result<(), AllocError>
+    pub fn append_bytes_to(self, encoder: &mut FunctionEncoder) -> Result<(), AllocError>
         ensures ok { OnOk result (encoder.new ≡ encoder.old ++ self.output.bytes) }
         ensures err { OnErr result (encoder.new ≡ encoder.old) }
     {

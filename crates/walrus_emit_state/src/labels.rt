@@ -28,7 +28,7 @@ fn list_depths(
 {
     depths.clear();
     let mut left = places;
-    'places: while let Some((place, behind)) = left.split_first() {
+    'places: while let Some((place, following)) = left.split_first() {
         let depth = match scopes.depth(*place) {
             Ok(depth) => depth,
             Err(fault) => return Err(fault),
@@ -36,7 +36,7 @@ fn list_depths(
         if depths.push(depth).is_err() {
             return Err(EmitError::Memory);
         }
-        left = behind;
+        left = following;
     }
     Ok(())
 }

@@ -13,7 +13,7 @@ use wasm_body::EmitError;
 
 /// An open sequence.
 #[derive(Clone, Copy)]
-struct Entered {
+struct EnteredScope {
     scope: SequenceScope,
     /// The level that the table had for its slot before.
     before: Option<usize>,
@@ -28,7 +28,7 @@ pub struct Scopes {
     /// Those that are to come, the next one last.
     coming: Vec<SequenceScope>,
     /// Those that are open, the innermost last.
-    entered: Vec<Entered>,
+    entered: Vec<EnteredScope>,
 }
 
 impl Model for Scopes {
@@ -148,7 +148,7 @@ impl Scopes {
         ensures ok { OnOk result (Begins self.old self.new) }
         ensures err { IfErr result (λ e. (e ≡ emit.Memory)
             ⊎ ((e ≡ emit.UnknownSequence) × (self.old.coming ≡ []))) }
-        ensures kept { OnErr result (self.new ≡ self.old) }
+        ensures unchanged { OnErr result (self.new ≡ self.old) }
     {
         if self.entered.reserve(1).is_err() {
             return Err(EmitError::Memory);
@@ -159,7 +159,7 @@ impl Scopes {
         let index = scope.place.index();
         let before = self.levels[index];
         self.levels[index] = Some(self.entered.len());
-        self.entered.push(Entered { scope, before }).unwrap();
+        self.entered.push(EnteredScope { scope, before }).unwrap();
         Ok(())
     }
 
@@ -177,7 +177,7 @@ impl Scopes {
             → self.old.open_scopes ≡ scope ∷ rest
             → self.new ≡ record self.old { open_scopes = rest } }
     {
-        let Some(Entered { scope, before }) = self.entered.pop() else {
+        let Some(EnteredScope { scope, before }) = self.entered.pop() else {
             return;
         };
         let index = scope.place.index();

@@ -86,7 +86,7 @@ fn list_clauses(
 {
     clauses.clear();
     let mut left = catches;
-    'catches: while let Some((catch, behind)) = left.split_first() {
+    'catches: while let Some((catch, following)) = left.split_first() {
         let clause = match number_clause(*catch, scopes, numbers) {
             Ok(clause) => clause,
             Err(fault) => return Err(fault),
@@ -94,7 +94,7 @@ fn list_clauses(
         if clauses.push(clause).is_err() {
             return Err(EmitError::Memory);
         }
-        left = behind;
+        left = following;
     }
     Ok(())
 }

@@ -13,7 +13,7 @@ ghost use Rattle.wasm_body.specs.InstructionTable.{operation_of, access_at, clau
 ghost use Rattle.wasm_body.specs.FlatText.{are_lawful as lawful_clauses};
 ghost use Rattle.walrus_numbering.specs.NumberMaps.{numbers_of};
 ghost use Rattle.walrus_numbering.specs.NumberTables.{HasNumbers};
-ghost use Rattle.walrus_emitter.specs.TreeWriting.Trees.{IsFirstScope, IsDraftOf, IsUnwritten, Appends, AppendsBytes};
+ghost use Rattle.walrus_emitter.specs.TreeWriting.Trees.{IsFirstScope, IsDraftOf, IsNotWritten, Appends, AppendsBytes};
 ghost use Rattle.walrus_emitter.specs.TreeWriting.Emitters.{ClosesWith, IsFaultOfCloser};
 
 use std::alloc::AllocError;
@@ -82,7 +82,7 @@ fn has_lawful_clauses(instr: &Instr) -> bool
 #[inline(always)]
 fn write_common_closer(draft: &mut Draft, closer: &Option<(Closer, InstrLocId)>) -> bool
     ensures done { OnTrue result ((to : Numbers) → ClosesWith to closer.now draft.old draft.new) }
-    ensures kept { OnFalse result (draft.new ≡ draft.old) }
+    ensures unchanged { OnFalse result (draft.new ≡ draft.old) }
 {
     match closer {
         Some((Closer::End, location)) => draft.write_byte(0x0b, *location),
@@ -100,7 +100,7 @@ fn write_any_closer(
 ) -> Result<(), EmitError>
     ensures ok { OnOk result (ClosesWith (numbers_of numbers.now) closer draft.old draft.new) }
     ensures err { IfErr result (IsFaultOfCloser (numbers_of numbers.now) closer draft.old) }
-    ensures kept { OnErr result (draft.new ≡ draft.old) }
+    ensures unchanged { OnErr result (draft.new ≡ draft.old) }
 {
     let Some((closer, location)) = closer else {
         return Ok(());
@@ -120,7 +120,7 @@ fn write_closer(
 ) -> Result<(), EmitError>
     ensures ok { OnOk result (ClosesWith (numbers_of numbers.now) closer draft.old draft.new) }
     ensures err { IfErr result (IsFaultOfCloser (numbers_of numbers.now) closer draft.old) }
-    ensures kept { OnErr result (draft.new ≡ draft.old) }
+    ensures unchanged { OnErr result (draft.new ≡ draft.old) }
 {
     if write_common_closer(draft, &closer) {
         return Ok(());
@@ -139,7 +139,7 @@ impl<'a> EmitVisitor<'a> {
         requires plain { slots_in instr.now ≡ [] }
         requires row { operation_of instr.now ≡ operation (opcodes.Byte byte) [] }
         ensures done { OnTrue result (Steps self.old (VisitInstruction instr.now location) self.new) }
-        ensures kept { OnFalse result (Same self.old self.new) }
+        ensures unchanged { OnFalse result (Same self.old self.new) }
     {
         self.draft.write_byte(byte, location)
     }
@@ -149,7 +149,7 @@ impl<'a> EmitVisitor<'a> {
     fn write_unary(&mut self, instr: &Instr, unop: &Unop, location: InstrLocId) -> bool
         requires { instr.now ≡ instruction.Unop unop.now }
         ensures done { OnTrue result (Steps self.old (VisitInstruction instr.now location) self.new) }
-        ensures kept { OnFalse result (Same self.old self.new) }
+        ensures unchanged { OnFalse result (Same self.old self.new) }
     {
         match unary_opcode(unop.op) {
             Opcode::Byte(byte) => self.write_byte(instr, byte, location),
@@ -162,7 +162,7 @@ impl<'a> EmitVisitor<'a> {
     fn write_binary(&mut self, instr: &Instr, binop: &Binop, location: InstrLocId) -> bool
         requires { instr.now ≡ instruction.Binop binop.now }
         ensures done { OnTrue result (Steps self.old (VisitInstruction instr.now location) self.new) }
-        ensures kept { OnFalse result (Same self.old self.new) }
+        ensures unchanged { OnFalse result (Same self.old self.new) }
     {
         match binary_opcode(binop.op) {
             Opcode::Byte(byte) => self.write_byte(instr, byte, location),
@@ -175,7 +175,7 @@ impl<'a> EmitVisitor<'a> {
     fn write_constant(&mut self, instr: &Instr, constant: &Const, location: InstrLocId) -> bool
         requires { instr.now ≡ instruction.Const constant.now }
         ensures done { OnTrue result (Steps self.old (VisitInstruction instr.now location) self.new) }
-        ensures kept { OnFalse result (Same self.old self.new) }
+        ensures unchanged { OnFalse result (Same self.old self.new) }
     {
         match constant.value {
             Value::I32(value) => {
@@ -195,7 +195,7 @@ impl<'a> EmitVisitor<'a> {
         requires row { operation_of instr.now
             ≡ operation (opcodes.Byte byte) (local_immediate local ∷ []) }
         ensures done { OnTrue result (Steps self.old (VisitInstruction instr.now location) self.new) }
-        ensures kept { OnFalse result (Same self.old self.new) }
+        ensures unchanged { OnFalse result (Same self.old self.new) }
     {
         match number_at(&self.locals, local) {
             Some(number) => self.draft.write_number(byte, number, location),
@@ -217,7 +217,7 @@ impl<'a> EmitVisitor<'a> {
         requires row { operation_of instr.now
             ≡ operation (opcodes.Byte byte) (index_immediate Funcs func ∷ []) }
         ensures done { OnTrue result (Steps self.old (VisitInstruction instr.now location) self.new) }
-        ensures kept { OnFalse result (Same self.old self.new) }
+        ensures unchanged { OnFalse result (Same self.old self.new) }
     {
         match self.numbers.ids.get_func_index(func) {
             Ok(number) => self.draft.write_number(byte, number, location),
@@ -238,7 +238,7 @@ impl<'a> EmitVisitor<'a> {
         requires row { operation_of instr.now
             ≡ operation (opcodes.Byte byte) (index_immediate Globals global ∷ []) }
         ensures done { OnTrue result (Steps self.old (VisitInstruction instr.now location) self.new) }
-        ensures kept { OnFalse result (Same self.old self.new) }
+        ensures unchanged { OnFalse result (Same self.old self.new) }
     {
         match self.numbers.ids.get_global_index(global) {
             Ok(number) => self.draft.write_number(byte, number, location),
@@ -260,7 +260,7 @@ impl<'a> EmitVisitor<'a> {
         requires row { operation_of instr.now
             ≡ operation (opcodes.Byte byte) (label_immediate block ∷ []) }
         ensures done { OnTrue result (Steps self.old (VisitInstruction instr.now location) self.new) }
-        ensures kept { OnFalse result (Same self.old self.new) }
+        ensures unchanged { OnFalse result (Same self.old self.new) }
     {
         match self.scopes.depth(block) {
             Ok(depth) => self.draft.write_number(byte, depth, location),
@@ -284,7 +284,7 @@ impl<'a> EmitVisitor<'a> {
         requires row { operation_of instr.now
             ≡ operation opcode (access_immediate (access_at memory arg) ∷ []) }
         ensures done { OnTrue result (Steps self.old (VisitInstruction instr.now location) self.new) }
-        ensures kept { OnFalse result (Same self.old self.new) }
+        ensures unchanged { OnFalse result (Same self.old self.new) }
     {
         let Opcode::Byte(byte) = opcode else {
             return false;
@@ -303,7 +303,7 @@ impl<'a> EmitVisitor<'a> {
     #[inline(always)]
     fn write_common(&mut self, instr: &Instr, location: InstrLocId) -> bool
         ensures done { OnTrue result (Steps self.old (VisitInstruction instr.now location) self.new) }
-        ensures kept { OnFalse result (Same self.old self.new) }
+        ensures unchanged { OnFalse result (Same self.old self.new) }
     {
         match instr {
             Instr::LocalGet(x) => self.write_local(instr, 0x20, x.local, location),
@@ -335,7 +335,7 @@ impl<'a> EmitVisitor<'a> {
         requires { slots_in instr.now ≡ [] }
         ensures ok { OnOk result (Steps self.old (VisitInstruction instr.now location) self.new) }
         ensures err { IfErr result (Refuses self.old (VisitInstruction instr.now location)) }
-        ensures kept { OnErr result (Same self.old self.new) }
+        ensures unchanged { OnErr result (Same self.old self.new) }
     {
         let ty = InstrSeqType::Simple(None);
         let mut lists = Lists::new(self.builder.allocator());
@@ -350,7 +350,7 @@ impl<'a> EmitVisitor<'a> {
     fn begin_construct(&mut self, instr: &Instr, location: InstrLocId) -> Result<(), EmitError>
         ensures ok { OnOk result (Steps self.old (VisitInstruction instr.now location) self.new) }
         ensures err { IfErr result (Refuses self.old (VisitInstruction instr.now location)) }
-        ensures kept { OnErr result (HasOnlyMore self.old self.new) }
+        ensures unchanged { OnErr result (HasOnlyMore self.old self.new) }
     {
         let ty = match first_type(self.builder, instr) {
             Ok(ty) => ty,
@@ -373,7 +373,7 @@ impl<'a> EmitVisitor<'a> {
     fn visit_construct(&mut self, instr: &Instr, location: InstrLocId) -> Result<(), EmitError>
         ensures ok { OnOk result (Steps self.old (VisitInstruction instr.now location) self.new) }
         ensures err { IfErr result (Refuses self.old (VisitInstruction instr.now location)) }
-        ensures kept { OnErr result (Same self.old self.new) }
+        ensures unchanged { OnErr result (Same self.old self.new) }
     {
         let count = self.scopes.coming_count();
         match self.begin_construct(instr, location) {
@@ -390,7 +390,7 @@ impl<'a> EmitVisitor<'a> {
     fn visit_at_length(&mut self, instr: &Instr, location: InstrLocId) -> Result<(), EmitError>
         ensures ok { OnOk result (Steps self.old (VisitInstruction instr.now location) self.new) }
         ensures err { IfErr result (Refuses self.old (VisitInstruction instr.now location)) }
-        ensures kept { OnErr result (Same self.old self.new) }
+        ensures unchanged { OnErr result (Same self.old self.new) }
     {
         match instr {
             Instr::Block(_)
@@ -492,7 +492,7 @@ fn draft_tree(
     requires { base < 2 ^ 63 }
     ensures ok { IfOk result (IsDraftOf builder.now.sequences entry (numbers_of numbers.now)
         base has_map) }
-    ensures err { IfErr result (IsUnwritten builder.now.sequences entry (numbers_of numbers.now)) }
+    ensures err { IfErr result (IsNotWritten builder.now.sequences entry (numbers_of numbers.now)) }
 {
     if !builder.has(entry) {
         return Err(EmitError::UnknownSequence);
@@ -538,12 +538,12 @@ pub fn emit_with_map(
 ) -> Result<(), EmitError>
     ensures ok { OnOk result (Appends builder.now.sequences entry (numbers_of numbers.now)
         encoder.old encoder.new map.old.items map.new.items) }
-    ensures err { IfErr result (IsUnwritten builder.now.sequences entry (numbers_of numbers.now)) }
+    ensures err { IfErr result (IsNotWritten builder.now.sequences entry (numbers_of numbers.now)) }
     ensures same_bytes { OnErr result (encoder.new ≡ encoder.old) }
     ensures same_pairs { OnErr result (map.new.items ≡ map.old.items) }
 {
     match draft_tree(builder, entry, numbers, encoder.byte_len(), true) {
-        Ok(draft) => match draft.hand_over(encoder, map) {
+        Ok(draft) => match draft.append_to(encoder, map) {
             Ok(()) => Ok(()),
             Err(_) => Err(EmitError::Memory),
         },
@@ -564,11 +564,11 @@ pub fn emit_without_map(
 ) -> Result<(), EmitError>
     ensures ok { OnOk result (AppendsBytes builder.now.sequences entry (numbers_of numbers.now)
         encoder.old encoder.new) }
-    ensures err { IfErr result (IsUnwritten builder.now.sequences entry (numbers_of numbers.now)) }
+    ensures err { IfErr result (IsNotWritten builder.now.sequences entry (numbers_of numbers.now)) }
     ensures same_bytes { OnErr result (encoder.new ≡ encoder.old) }
 {
     match draft_tree(builder, entry, numbers, encoder.byte_len(), false) {
-        Ok(draft) => match draft.hand_over_bytes(encoder) {
+        Ok(draft) => match draft.append_bytes_to(encoder) {
             Ok(()) => Ok(()),
             Err(_) => Err(EmitError::Memory),
         },

@@ -14,9 +14,9 @@ use Rattle.walrus_ir.specs.declared.error.WalkError.TheVariants.{Memory}
 use Rattle.walrus_ir.specs.Tree.{Items, no_items, item, Sequences, no_sequences, sequence, Tree}
 use Rattle.walrus_ir.specs.Unfolding.{SequenceAt, LocatedInstr, among}
 use Rattle.walrus_ir.specs.Events.{WalkEvent, StartSequence, EndSequence, VisitInstruction, NameData, names, item_events, sequence_events, events, Folds, through, after, Stops, refused, later}
-use Rattle.walrus_ir.specs.Walk.{Finishes, IsRefused, IsUnwalked, HasNoWalk}
+use Rattle.walrus_ir.specs.Walk.{Finishes, IsRefused, IsNotWalked, HasNoWalk}
 use Rattle.walrus_facts.specs.Facts.{instructions, instructions_inside, segment_of, segments, TreeHas}
-use Rattle.walrus_facts.specs.Segments.{holds, named, Collects, WantsMemory, HoldsSame}
+use Rattle.walrus_facts.specs.Segments.{holds, named, Collects, IsOutOfMemory, HoldsSame}
 use Rattle.walrus_facts.specs.declared.segments.DataSegmentsVisitor.{DataSegmentsVisitor}
 use Rattle.walrus_maps.proofs.EntryMaps.{same_id}
 
@@ -32,8 +32,8 @@ module _ {A : Type 0} {g : WalkEvent → List A} {f : LocatedInstr → List A} (
     items_collected no_items k = refl
     items_collected (item x inside rest) k =
         let before = flat_map-append g (VisitInstruction x.0 x.1 ∷ names x.0) (sequence_events inside (item_events rest k)) in
-        let behind = sequences_collected inside (item_events rest k) in
-        rw (before, h.visits x, behind, items_collected rest k, flat_map-append f (instructions_inside inside) (instructions rest), append_assoc (f x), append_assoc (flat_map f (instructions_inside inside))) refl
+        let following = sequences_collected inside (item_events rest k) in
+        rw (before, h.visits x, following, items_collected rest k, flat_map-append f (instructions_inside inside) (instructions rest), append_assoc (f x), append_assoc (flat_map f (instructions_inside inside))) refl
 
     sequences_collected : (ss : Sequences SequenceAt LocatedInstr) (k : List WalkEvent) → flat_map g (sequence_events ss k) ≡ flat_map f (instructions_inside ss) ++ flat_map g k
     sequences_collected no_sequences k = refl
@@ -106,7 +106,7 @@ adding_members d = record {
 folds_named : {v w : DataSegmentsVisitor} {es : List WalkEvent} → Folds Collects v es w → (d : ℕ) → holds w d ≡ among d (flat_map named es) || holds v d
 folds_named h d = folded (λ v. holds v d) (adding_members d) (λ v w e s. s d) h
 
-stops_for_memory : {v w : DataSegmentsVisitor} {es : List WalkEvent} {f : WalkError} → Stops Collects WantsMemory HoldsSame v es w f → f ≡ Memory
+stops_for_memory : {v w : DataSegmentsVisitor} {es : List WalkEvent} {f : WalkError} → Stops Collects IsOutOfMemory HoldsSame v es w f → f ≡ Memory
 stops_for_memory (refused {e = NameData d} r s) = r
 stops_for_memory (refused r s) = absurd r
 stops_for_memory (later s f) = stops_for_memory f
@@ -122,10 +122,10 @@ collected {v = v} none h = record {
   holds = λ d. rw (folds_named h.folds d, none d, tree_named h.tree) (or-false (among d (segments h.tree.items)));
 }
 
-pub no_walk : {V : Type 0} {b : List InstrSeq} {start : ℕ} {v w : V} {f : WalkError} → IsUnwalked b start (λ e f. f ≡ e) v w f → HasNoWalk b start f
+pub no_walk : {V : Type 0} {b : List InstrSeq} {start : ℕ} {v w : V} {f : WalkError} → IsNotWalked b start (λ e f. f ≡ e) v w f → HasNoWalk b start f
 no_walk {b = b} {start = start} u = let P : WalkError → Type 0 = λ e. HasNoWalk b start e in subst P (sym u.is_fault) u.why
 
 pub not_collected : {b : List InstrSeq} {start : ℕ} {v w : DataSegmentsVisitor} {f : WalkError}
-    → IsRefused b start Collects WantsMemory HoldsSame v w f ⊎ IsUnwalked b start (λ e f. f ≡ e) v w f → HasNoWalk b start f
+    → IsRefused b start Collects IsOutOfMemory HoldsSame v w f ⊎ IsNotWalked b start (λ e f. f ≡ e) v w f → HasNoWalk b start f
 not_collected (inl r) = inl (stops_for_memory r.stops)
 not_collected (inr u) = no_walk u

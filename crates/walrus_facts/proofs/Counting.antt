@@ -11,7 +11,7 @@ use Rattle.walrus_ir.specs.declared.error.WalkError.TheVariants.{Memory, TooLarg
 use Rattle.walrus_ir.specs.Tree.{Tree}
 use Rattle.walrus_ir.specs.Unfolding.{SequenceAt, LocatedInstr, IsTree}
 use Rattle.walrus_ir.specs.Events.{WalkEvent, VisitInstruction, names, events, Stops, refused, later}
-use Rattle.walrus_ir.specs.Walk.{Finishes, IsRefused, IsUnwalked, HasNoWalk}
+use Rattle.walrus_ir.specs.Walk.{Finishes, IsRefused, IsNotWalked, HasNoWalk}
 use Rattle.walrus_facts.specs.Facts.{instructions, count, TreeHas}
 use Rattle.walrus_facts.specs.Sizes.{visited, Counts, Overflows, IsTooLarge}
 use Rattle.walrus_facts.specs.declared.sizes.SizeVisitor.{SizeVisitor}
@@ -78,7 +78,7 @@ module _ {V : Type 0} {steps : V → WalkEvent → V → Type 0} {refuses : V �
       omega (arith, zero, all_events, all)
 
   pub not_counted : {same : V → V → Type 0} {b : List InstrSeq} {start : ℕ} {v w : V} {f : WalkError} → size v ≡ 0
-      → IsRefused b start steps refuses same v w f ⊎ IsUnwalked b start (λ e f. f ≡ e) v w f → HasNoWalk b start f ⊎ IsTooLarge b start f
+      → IsRefused b start steps refuses same v w f ⊎ IsNotWalked b start (λ e f. f ≡ e) v w f → HasNoWalk b start f ⊎ IsTooLarge b start f
   not_counted zero (inl r) =
       let all = tree_visited r.tree in
       full_of_tree r.tree r.is_tree (omega (arith, zero, all)) (stops_visited r.stops)

@@ -12,7 +12,7 @@ use Rattle.walrus_ir.specs.Walk.{Finishes}
 use Rattle.walrus_facts.specs.Facts.{segments, function_of, local_of_instr, locals_used, are_some, AreFacts, TreeHas}
 use Rattle.walrus_facts.specs.Segments.{named}
 use Rattle.walrus_facts.specs.Sizes.{visited}
-use Rattle.walrus_facts.specs.Gathering.{uses_local, function_at, local_at, Gathers, Declines}
+use Rattle.walrus_facts.specs.Gathering.{has_used_local, function_at, local_at, Gathers, Declines}
 use Rattle.walrus_facts.specs.declared.facts.FactsVisitor.{FactsVisitor}
 use Rattle.walrus_facts.proofs.Collecting.{IsByInstruction, tree_collected, IsAdding, folded, adding_members, tree_named}
 use Rattle.walrus_facts.proofs.Counting.{IsFull, IsCounting, counted}
@@ -55,8 +55,8 @@ adding_some : IsAdding (λ (xs : List ℕ) (b : Bool). are_some xs || b)
 adding_some = record { none = λ b. refl; both = some_of_both }
 
 -- a list with the collected items after it
-adding_behind : IsAdding (λ (xs before : List ℕ). before ++ xs)
-adding_behind = record { none = append-nil; both = λ xs ys before. append_assoc before xs ys }
+adding_after : IsAdding (λ (xs before : List ℕ). before ++ xs)
+adding_after = record { none = append-nil; both = λ xs ys before. append_assoc before xs ys }
 
 declined_for : (v : FactsVisitor) (e : WalkEvent) (f : WalkError) → Declines v e f → IsFull f (v.facts.size + length (visited e))
 declined_for v (StartSequence seq) f h = absurd h
@@ -79,7 +79,7 @@ module _ {V : Type 0} (inner : V → FactsVisitor) where
   facts_count = record { steps_count = λ v w e s. s.size; refused_for = λ v e f. declined_for (inner v) e f }
 
   pub gathered : {b : List InstrSeq} {start : ℕ} {v w : V} → (inner v).facts.size ≡ 0 → (inner v).facts.uses_data_segments ≡ false
-      → (inner v).facts.ref_funcs.items ≡ [] → ((l : ℕ) → uses_local (inner v).facts l ≡ false) → Finishes b start GathersInside v w
+      → (inner v).facts.ref_funcs.items ≡ [] → ((l : ℕ) → has_used_local (inner v).facts l ≡ false) → Finishes b start GathersInside v w
       → TreeHas b start (λ t. AreFacts t.items (inner w).facts)
   gathered zero unused unreferred none h = record {
     tree = h.tree;
@@ -90,10 +90,10 @@ module _ {V : Type 0} (inner : V → FactsVisitor) where
           let all = folded {g = named} (λ v. (inner v).facts.uses_data_segments) adding_some (λ v w e s. s.uses_data_segments) h.folds in
           rw (all, unused, tree_named h.tree) (or-false (are_some (segments h.tree.items)));
       ref_funcs =
-          let all = folded {g = function_at} (λ v. (inner v).facts.ref_funcs.items) adding_behind (λ v w e s. s.ref_funcs) h.folds in
+          let all = folded {g = function_at} (λ v. (inner v).facts.ref_funcs.items) adding_after (λ v w e s. s.ref_funcs) h.folds in
           rw (all, unreferred) (tree_collected functions_by_instruction h.tree);
       used_locals = λ l.
-          let all = folded {g = local_at} (λ v. uses_local (inner v).facts l) (adding_members l) (λ v w e s. s.used_locals l) h.folds in
+          let all = folded {g = local_at} (λ v. has_used_local (inner v).facts l) (adding_members l) (λ v w e s. s.used_locals l) h.folds in
           rw (all, none l, tree_collected locals_by_instruction h.tree) (or-false (among l (locals_used h.tree.items)));
     };
   }

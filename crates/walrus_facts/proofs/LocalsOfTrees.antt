@@ -24,9 +24,9 @@ use Rattle.walrus_ir.specs.Unfolding.{SequenceAt, LocatedInstr}
 use Rattle.wasm_body.specs.InstructionTable.{PlacedOperation, operation_of, const_operation, select_operation, access_at}
 use Rattle.wasm_body.specs.LocalNumbers.{locals_among, locals_in, locals_inside, locals_of}
 use Rattle.wasm_body.specs.Translation.{translate_immediates}
-use Rattle.wasm_body.specs.TreeOfFunction.{aiming, aimed, items_in, sequences_in, tree_of}
+use Rattle.wasm_body.specs.TreeOfFunction.{to_targets, with_targets, items_in, sequences_in, tree_of}
 use Rattle.wasm_body.proofs.Translation.LocalsKept.{locals_kept}
-use Rattle.wasm_body.proofs.Translation.Steps.{ok-sure}
+use Rattle.wasm_body.proofs.Translation.Steps.{ok-infallible}
 use Rattle.walrus_facts.specs.Facts.{instructions, instructions_inside, count, local_of_instr, locals_used}
 
 -- an operator that names no local
@@ -65,10 +65,10 @@ of_instr (instr.Binop x) = of_binary x.op
 of_instr (instr.LoadSimd x) = of_lanes x.kind (access_at x.memory x.arg)
 of_instr _ = refl
 
-aimed_alike : (around : List ℕ) (x : Instr) → locals_among (aimed around (operation_of x)).immediates ≡ local_of_instr x
-aimed_alike around x =
-    locals_kept (aiming around) (λ n. refl) (operation_of x).immediates (aimed around (operation_of x)).immediates
-    (ok-sure (translate_immediates (aiming around) (operation_of x).immediates)) ∙ of_instr x
+targets_alike : (around : List ℕ) (x : Instr) → locals_among (with_targets around (operation_of x)).immediates ≡ local_of_instr x
+targets_alike around x =
+    locals_kept (to_targets around) (λ n. refl) (operation_of x).immediates (with_targets around (operation_of x)).immediates
+    (ok-infallible (translate_immediates (to_targets around) (operation_of x).immediates)) ∙ of_instr x
 
 abbrev local_at : LocatedInstr → List ℕ
 local_at x = local_of_instr x.0
@@ -77,7 +77,7 @@ mutual
   of_items : (around : List ℕ) (is : Items SequenceAt LocatedInstr) → locals_in (items_in around is) ≡ flat_map local_at (instructions is)
   of_items around no_items = refl
   of_items around (item x inside rest) =
-      ap (λ l. l ++ (locals_inside (sequences_in around inside) ++ locals_in (items_in around rest))) (aimed_alike around x.0)
+      ap (λ l. l ++ (locals_inside (sequences_in around inside) ++ locals_in (items_in around rest))) (targets_alike around x.0)
       ∙ (ap (λ l. local_at x ++ (l ++ locals_in (items_in around rest))) (of_sequences around inside)
       ∙ (ap (λ l. local_at x ++ (flat_map local_at (instructions_inside inside) ++ l)) (of_items around rest)
       ∙ ap (λ l. local_at x ++ l) (sym (flat_map-append local_at (instructions_inside inside) (instructions rest)))))

@@ -3,11 +3,11 @@ use Rattle.std.proofs.Common.{◌≡◌, ◌⊎◌, ℕ, zero, suc, ◌<◌, ◌
 use Rattle.std.specs.Prelude.{slice_set, replicate}
 use Rattle.std.proofs.lemmas.Bool.{eq-eqb, eqb-true}
 use Rattle.walrus_ir.specs.declared.error.WalkError.{WalkError}
-use Rattle.walrus_ir.specs.Events.{WalkEvent, NameLocal, Hears}
+use Rattle.walrus_ir.specs.Events.{WalkEvent, NameLocal, VisitsOne}
 use Rattle.walrus_ir.specs.Unfolding.{among}
 use Rattle.walrus_facts.specs.declared.facts.EmitFacts.{EmitFacts}
 use Rattle.walrus_facts.specs.declared.facts.FactsVisitor.{FactsVisitor}
-use Rattle.walrus_facts.specs.Gathering.{uses_local, local_at, Adds, Gathers, Declines, SaySame, HoldsSameFacts}
+use Rattle.walrus_facts.specs.Gathering.{has_used_local, local_at, Adds, Gathers, Declines, HaveSameFacts, HoldsSameFacts}
 use Rattle.walrus_facts.specs.Marking.{is_marked, AreUsed}
 
 -- ---- marks
@@ -42,25 +42,25 @@ used_or false b h = h
 
 -- what was used is used after an event
 pub still_used : (s t : EmitFacts) (e : WalkEvent) (marks : List Bool) → Adds s e t → AreUsed marks s → AreUsed marks t
-still_used s t e marks step used id marked = step.used_locals id ∙ used_or (among id (local_at e)) (uses_local s id) (used id marked)
+still_used s t e marks step used id marked = step.used_locals id ∙ used_or (among id (local_at e)) (has_used_local s id) (used id marked)
 
-pub same_used : (s t : EmitFacts) (marks : List Bool) → SaySame s t → AreUsed marks s → AreUsed marks t
+pub same_used : (s t : EmitFacts) (marks : List Bool) → HaveSameFacts s t → AreUsed marks s → AreUsed marks t
 same_used s t marks same used id marked = same.used_locals id ∙ used id marked
 
 -- whether the event is accepted or refused
 pub heard_used : {U : Type 0} (s t : FactsVisitor) (e : WalkEvent) (r : Result U WalkError) (marks : List Bool)
-    → Hears Gathers Declines HoldsSameFacts s e r t → AreUsed marks s.facts → AreUsed marks t.facts
+    → VisitsOne Gathers Declines HoldsSameFacts s e r t → AreUsed marks s.facts → AreUsed marks t.facts
 heard_used s t e (Ok x) marks h used = still_used s.facts t.facts e marks h used
 heard_used s t e (Err f) marks h used = same_used s.facts t.facts marks h.1 used
 
-named_used : (s t : EmitFacts) (id : ℕ) → Adds s (NameLocal id) t → uses_local t id ≡ true
-named_used s t id step = step.used_locals id ∙ ap (λ b. (b || false) || uses_local s id) (eq-eqb id id refl)
+named_used : (s t : EmitFacts) (id : ℕ) → Adds s (NameLocal id) t → has_used_local t id ≡ true
+named_used s t id step = step.used_locals id ∙ ap (λ b. (b || false) || has_used_local s id) (eq-eqb id id refl)
 
 -- a local is used and marked
 pub marked_used : (s t : EmitFacts) (id : ℕ) (old new : List Bool) → Adds s (NameLocal id) t → AreUsed old s
     → ((other : ℕ) → is_marked new other ≡ true → (other ≡ id) ⊎ (is_marked old other ≡ true)) → AreUsed new t
 marked_used s t id old new step used puts other marked = elim (puts other marked) [
-  | inl same ↦ ap (uses_local t) same ∙ named_used s t id step
+  | inl same ↦ ap (has_used_local t) same ∙ named_used s t id step
   | inr was ↦ still_used s t (NameLocal id) old step used other was
 ]
 
@@ -69,5 +69,5 @@ used_again : (named used : Bool) → (named ≡ true → used ≡ true) → used
 used_again true used h = h refl
 used_again false used h = refl
 
-pub nothing_added : (f : EmitFacts) (id : ℕ) → uses_local f id ≡ true → (l : ℕ) → uses_local f l ≡ (among l (local_at (NameLocal id)) || uses_local f l)
-nothing_added f id used l = used_again (l == id) (uses_local f l) (λ same. ap (uses_local f) (eqb-true l id same) ∙ used)
+pub nothing_added : (f : EmitFacts) (id : ℕ) → has_used_local f id ≡ true → (l : ℕ) → has_used_local f l ≡ (among l (local_at (NameLocal id)) || has_used_local f l)
+nothing_added f id used l = used_again (l == id) (has_used_local f l) (λ same. ap (has_used_local f) (eqb-true l id same) ∙ used)

@@ -14,8 +14,8 @@ use Rattle.walrus_facts.specs.Segments.{named}
 use Rattle.walrus_facts.specs.Sizes.{visited}
 
 -- whether these facts contain a local
-abbrev pub uses_local : EmitFacts → ℕ → Bool
-uses_local f l = contains (λ x y. x == y) f.used_locals l
+abbrev pub has_used_local : EmitFacts → ℕ → Bool
+has_used_local f l = contains (λ x y. x == y) f.used_locals l
 
 -- the function that the instruction of an event refers to
 abbrev pub function_at : WalkEvent → List ℕ
@@ -32,7 +32,7 @@ pub record Adds (s : EmitFacts) (e : WalkEvent) (t : EmitFacts) : Type 0 where
   pub size : t.size ≡ s.size + length (visited e)
   pub uses_data_segments : t.uses_data_segments ≡ (are_some (named e) || s.uses_data_segments)
   pub ref_funcs : t.ref_funcs.items ≡ s.ref_funcs.items ++ function_at e
-  pub used_locals : (l : ℕ) → uses_local t l ≡ (among l (local_at e) || uses_local s l)
+  pub used_locals : (l : ℕ) → has_used_local t l ≡ (among l (local_at e) || has_used_local s l)
 
 abbrev pub Gathers : FactsVisitor → WalkEvent → FactsVisitor → Type 0
 Gathers s e t = Adds s.facts e t.facts
@@ -45,15 +45,15 @@ Declines s (NameLocal l) f = f ≡ Memory
 Declines s _ f = ⊥
 
 -- these facts say the same
-pub record SaySame (s t : EmitFacts) : Type 0 where
+pub record HaveSameFacts (s t : EmitFacts) : Type 0 where
   pub size : t.size ≡ s.size
   pub uses_data_segments : t.uses_data_segments ≡ s.uses_data_segments
   pub ref_funcs : t.ref_funcs.items ≡ s.ref_funcs.items
-  pub used_locals : (l : ℕ) → uses_local t l ≡ uses_local s l
+  pub used_locals : (l : ℕ) → has_used_local t l ≡ has_used_local s l
 
 -- both contain facts that say the same
 abbrev pub HoldsSameFacts : FactsVisitor → FactsVisitor → Type 0
-HoldsSameFacts s t = SaySame s.facts t.facts
+HoldsSameFacts s t = HaveSameFacts s.facts t.facts
 
 pub same_facts : (s : FactsVisitor) → HoldsSameFacts s s
 same_facts s = record { size = refl; uses_data_segments = refl; ref_funcs = refl; used_locals = λ l. refl }

@@ -27,7 +27,7 @@ fn is_marked(marks: &[bool], id: usize) -> bool
 /// one for this id: not if the id is too great, or memory ran out.
 fn reach(marks: &mut Vec<bool>, id: usize) -> bool
     ensures has { OnTrue result (id < vec_len marks.new) }
-    ensures kept { (other : ℕ)
+    ensures unchanged { (other : ℕ)
         → is_marked marks.new.items other ≡ is_marked marks.old.items other }
 {
     if id < marks.len() {

@@ -33,16 +33,16 @@ impl DataSegmentsVisitor {
 impl Visitor for DataSegmentsVisitor {
     type Fault = WalkError;
 
-    ghost use Rattle.walrus_facts.specs.Segments.{Collects, WantsMemory, HoldsSame};
+    ghost use Rattle.walrus_facts.specs.Segments.{Collects, IsOutOfMemory, HoldsSame};
 
     ghost steps = { Collects };
 
-    ghost refuses = { WantsMemory };
+    ghost refuses = { IsOutOfMemory };
 
     ghost same = { HoldsSame };
 
     ghost use Rattle.std.proofs.Common.{refl, sym, ◌∙◌};
-    ghost use Rattle.walrus_facts.specs.Segments.{collect_alike, want_alike};
+    ghost use Rattle.walrus_facts.specs.Segments.{collect_alike, memory_alike};
 
     ghost reflexive = { λ s d. refl };
 
@@ -52,7 +52,7 @@ impl Visitor for DataSegmentsVisitor {
 
     ghost steps_alike = { collect_alike };
 
-    ghost refuses_alike = { want_alike };
+    ghost refuses_alike = { memory_alike };
 
     fn start_instr_seq(&mut self, _seq: &InstrSeq) -> Result<(), WalkError> {
         Ok(())

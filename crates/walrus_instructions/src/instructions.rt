@@ -16,7 +16,7 @@ ghost use Rattle.walrus_context.specs.Placing.{place_at};
 use crate::references::reference;
 use crate::rethrow::rethrow;
 use std::alloc::Global;
-use walrus_context::{ValidationContext, pushed, value_type};
+use walrus_context::{ValidationContext, push_or_fail, value_type};
 use walrus_ir::{
     AtomicNotify, AtomicRmw, AtomicWait, Binop, Br, BrIf, Cmpxchg, Const, I8x16Shuffle, Instr,
     InstrSeqId, Load, LoadSimd, LocalGet, LocalSet, LocalTee, MemArg, MemoryId, Select, Store,
@@ -148,7 +148,7 @@ fn blocks(
             Ok(block) => block,
             Err(error) => return Err(error),
         };
-        match pushed(&mut blocks, block) {
+        match push_or_fail(&mut blocks, block) {
             Ok(()) => {}
             Err(error) => return Err(error),
         }

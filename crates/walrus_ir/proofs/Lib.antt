@@ -19,7 +19,7 @@ pub mod Handlers
 pub mod Planning
 -- the walk itself (`dfs_in_order`): the events of a stretch of instructions, the step that comes next, the events that remain,
 -- and the part of a walk that the visitor was told about
-pub mod Telling
+pub mod Visiting
 pub mod Stretches
 pub mod Next
 pub mod Pending

@@ -6,7 +6,7 @@ use Rattle.walrus_ir.specs.declared.seq.InstrSeq.{InstrSeq}
 use Rattle.walrus_ir.specs.declared.walk.Open.{Open}
 use Rattle.walrus_ir.specs.Unfolding.{LocatedInstr, slots_in}
 use Rattle.walrus_ir.specs.Events.{WalkEvent, StartSequence, EndSequence, VisitInstruction, names}
-use Rattle.walrus_ir.specs.Telling.{frame, frames, started, IsStretch, no_stretch, goes_on, Next, starts, visits, ends}
+use Rattle.walrus_ir.specs.Visiting.{frame, frames, started, IsStretch, no_stretch, continues, Next, starts, visits, ends}
 
 pub frames_push : (opened : List Open) (o : Open) → frames (opened ++ o ∷ []) ≡ frame o ∷ frames opened
 frames_push opened o = grind (arith, common_steps)
@@ -23,7 +23,7 @@ next_starts b seq next rest (suc n) p coming left lt e known =
 pub next_visits : {b : List InstrSeq} (seq : InstrSeq) {rest left : List LocatedInstr} {es : List WalkEvent} (inside n : ℕ) (coming : List ℕ) → inside ≡ 0 → IsStretch rest left n es → 0 < n
     → Next b (record { seq = seq; rest = rest; inside = inside }) coming es (record { seq = seq; rest = left; inside = n } ∷ []) coming
 next_visits seq inside n coming none no_stretch some = absurd (omega arith)
-next_visits seq inside n coming none (goes_on s) some = rw none (visits s)
+next_visits seq inside n coming none (continues s) some = rw none (visits s)
 
 pub next_refused : {b : List InstrSeq} (seq : InstrSeq) {x : LocatedInstr} {rest left : List LocatedInstr} {es : List WalkEvent} (inside : ℕ) (coming : List ℕ) → inside ≡ 0 → IsStretch rest (x ∷ left) 0 es
     → Next b (record { seq = seq; rest = rest; inside = inside }) coming (es ++ VisitInstruction x.0 x.1 ∷ names x.0) (record { seq = seq; rest = left; inside = length (slots_in x.0) } ∷ []) coming

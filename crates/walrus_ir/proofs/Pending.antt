@@ -8,7 +8,7 @@ use Rattle.walrus_ir.specs.Tree.{Items, no_items, item, Sequences, no_sequences,
 use Rattle.walrus_ir.specs.Unfolding.{SequenceAt, LocatedInstr, slots_in, AreItems, are_no_items, are_items, AreSequences, are_no_sequences, are_sequences, slots_reached, slots_reached_each}
 use Rattle.walrus_ir.specs.Events.{WalkEvent, StartSequence, EndSequence, VisitInstruction, names, item_events, sequence_events, events}
 use Rattle.walrus_ir.specs.Planning.{IsOrder}
-use Rattle.walrus_ir.specs.Telling.{Frame, started, IsStretch, no_stretch, goes_on, Next, starts, visits, ends}
+use Rattle.walrus_ir.specs.Visiting.{Frame, started, IsStretch, no_stretch, continues, Next, starts, visits, ends}
 
 -- the slots of the sequences, in walk order, followed by these
 abbrev mutual
@@ -73,7 +73,7 @@ just_started b seq fs items later after a below = record {
 }
 
 -- the first of the remaining events, and the events after them
-pub record Behind (b : List InstrSeq) (fs : List Frame) (coming : List ℕ) (es left : List WalkEvent) : Type 0 where
+pub record AfterFirst (b : List InstrSeq) (fs : List Frame) (coming : List ℕ) (es left : List WalkEvent) : Type 0 where
   pub more : List WalkEvent
   pub left_is : left ≡ es ++ more
   pub pending : Pending b fs coming more
@@ -83,7 +83,7 @@ start_pending : {b : List InstrSeq} (fs : List Frame) (seq next : InstrSeq) (res
     (h : Top b (record { seq = seq; rest = rest; inside = suc n }) (Pending b fs) (p ∷ coming) left) (slots : List ℕ) (inside : Sequences SequenceAt LocatedInstr)
     → slice_get b p ≡ Some next → length slots ≡ suc n → AreSequences b slots inside → p ∷ coming ≡ sequence_slots inside (item_slots h.items h.later)
     → left ≡ sequence_events inside (item_events h.items (EndSequence seq ∷ h.after))
-    → Behind b (started next ∷ record { seq = seq; rest = rest; inside = n } ∷ fs) coming (StartSequence next ∷ []) left
+    → AfterFirst b (started next ∷ record { seq = seq; rest = rest; inside = n } ∷ fs) coming (StartSequence next ∷ []) left
 start_pending fs seq next rest n p coming left h slots inside known many are_no_sequences coming_is left_is = absurd (omega arith)
 start_pending {b = b} fs seq next rest n p coming left h slots inside known many (are_sequences {p = q} {ps = ps} {seq = s} {items = is} {rest = ss} k a r) coming_is left_is =
     let same_place : q ≡ p = cc in
@@ -114,7 +114,7 @@ visit_pending : {b : List InstrSeq} (fs : List Frame) (seq : InstrSeq) (x : Loca
     (h : Top b (record { seq = seq; rest = x ∷ rest; inside = 0 }) (Pending b fs) coming left) (slots : List ℕ) (inside : Sequences SequenceAt LocatedInstr) (items : Items SequenceAt LocatedInstr)
     → length slots ≡ 0 → AreSequences b slots inside → AreItems b (x ∷ rest) items → coming ≡ sequence_slots inside (item_slots items h.later)
     → left ≡ sequence_events inside (item_events items (EndSequence seq ∷ h.after))
-    → Behind b (record { seq = seq; rest = rest; inside = length (slots_in x.0) } ∷ fs) coming (VisitInstruction x.0 x.1 ∷ names x.0) left
+    → AfterFirst b (record { seq = seq; rest = rest; inside = length (slots_in x.0) } ∷ fs) coming (VisitInstruction x.0 x.1 ∷ names x.0) left
 visit_pending fs seq x rest coming left h slots inside items none (are_sequences k a r) are_rest coming_is left_is = absurd (omega arith)
 visit_pending fs seq x rest coming left h slots inside items none are_no_sequences (are_items {inside = ss} {rest = is} a r) coming_is left_is = record {
   more = sequence_events ss (item_events is (EndSequence seq ∷ h.after));
@@ -139,15 +139,15 @@ end_pending : {b : List InstrSeq} (fs : List Frame) (seq : InstrSeq) (coming : L
     (h : Top b (record { seq = seq; rest = []; inside = 0 }) (Pending b fs) coming left) (slots : List ℕ) (inside : Sequences SequenceAt LocatedInstr) (items : Items SequenceAt LocatedInstr)
     → length slots ≡ 0 → AreSequences b slots inside → AreItems b [] items → coming ≡ sequence_slots inside (item_slots items h.later)
     → left ≡ sequence_events inside (item_events items (EndSequence seq ∷ h.after))
-    → Behind b fs coming (EndSequence seq ∷ []) left
+    → AfterFirst b fs coming (EndSequence seq ∷ []) left
 end_pending fs seq coming left h slots inside items none (are_sequences k a r) are_rest coming_is left_is = absurd (omega arith)
 end_pending fs seq coming left h slots inside items none are_no_sequences are_no_items coming_is left_is = record { more = h.after; left_is = left_is; pending = rw coming_is h.below }
 
 -- a stretch of instructions is visited
 stretch_pending : {b : List InstrSeq} (fs : List Frame) (seq : InstrSeq) {all left : List LocatedInstr} {n : ℕ} {es : List WalkEvent} (coming : List ℕ) (events : List WalkEvent) → IsStretch all left n es
-    → Pending b (record { seq = seq; rest = all; inside = 0 } ∷ fs) coming events → Behind b (record { seq = seq; rest = left; inside = n } ∷ fs) coming es events
+    → Pending b (record { seq = seq; rest = all; inside = 0 } ∷ fs) coming events → AfterFirst b (record { seq = seq; rest = left; inside = n } ∷ fs) coming es events
 stretch_pending fs seq coming events no_stretch h = record { more = events; left_is = refl; pending = h }
-stretch_pending fs seq coming events (goes_on {x = x} {left = left} {es = es} s) h =
+stretch_pending fs seq coming events (continues {x = x} {left = left} {es = es} s) h =
     let before = stretch_pending fs seq coming events s h in
     let p = before.pending in
     let visited = visit_pending fs seq x left coming before.more p p.slots p.inside p.items p.many p.are_inside p.are_rest p.coming_is p.left_is in
@@ -158,9 +158,9 @@ stretch_pending fs seq coming events (goes_on {x = x} {left = left} {es = es} s)
     }
 
 pub next_pending : {b : List InstrSeq} {f : Frame} {coming : List ℕ} {es : List WalkEvent} {opened : List Frame} {coming' : List ℕ} (fs : List Frame) (left : List WalkEvent)
-    → Next b f coming es opened coming' → Pending b (f ∷ fs) coming left → Behind b (opened ++ fs) coming' es left
+    → Next b f coming es opened coming' → Pending b (f ∷ fs) coming left → AfterFirst b (opened ++ fs) coming' es left
 next_pending fs left (starts known) h = start_pending fs _ _ _ _ _ _ left h h.slots h.inside known h.many h.are_inside h.coming_is h.left_is
-next_pending fs left (visits s) h = stretch_pending fs _ _ left (goes_on s) h
+next_pending fs left (visits s) h = stretch_pending fs _ _ left (continues s) h
 next_pending fs left (ends {seq = seq} {es = es} {coming = coming} s) h =
     let before = stretch_pending fs seq coming left s h in
     let p = before.pending in
@@ -223,7 +223,7 @@ work_open (f ∷ fs) = 1 + (length f.rest + work_open fs)
 
 stretch_within : {all left : List LocatedInstr} {n : ℕ} {es : List WalkEvent} → IsStretch all left n es → length left ≤ length all
 stretch_within no_stretch = omega arith
-stretch_within (goes_on s) = let before = stretch_within s in omega (arith, before)
+stretch_within (continues s) = let before = stretch_within s in omega (arith, before)
 
 pub next_falls : {b : List InstrSeq} {f : Frame} {coming : List ℕ} {es : List WalkEvent} {opened : List Frame} {coming' : List ℕ} (fs : List Frame)
     → Next b f coming es opened coming' → work_to_come b coming' + work_open (opened ++ fs) < work_to_come b coming + work_open (f ∷ fs)

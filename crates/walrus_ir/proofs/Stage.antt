@@ -8,8 +8,8 @@ use Rattle.walrus_ir.specs.Unfolding.{SequenceAt, LocatedInstr, AreItems, IsTree
 use Rattle.walrus_ir.specs.Events.{WalkEvent, StartSequence, EndSequence, item_events, events, Folds, through, after, Stops, refused}
 use Rattle.walrus_ir.specs.Walk.{Finishes, IsRefused}
 use Rattle.walrus_ir.specs.Planning.{IsOrder}
-use Rattle.walrus_ir.specs.Telling.{Frame, started, IsToldNext, IsRefusedNext}
-use Rattle.walrus_ir.proofs.Telling.{Folds-append, Stops-append, Stops_behind}
+use Rattle.walrus_ir.specs.Visiting.{Frame, started, IsVisitedNext, IsRefusedNext}
+use Rattle.walrus_ir.proofs.Visiting.{Folds-append, Stops-append, Stops_after}
 use Rattle.walrus_ir.proofs.Pending.{Pending, just_started, next_pending, begins}
 
 module _ {V F : Type 0} (b : List InstrSeq) (start : ℕ) (steps : V → WalkEvent → V → Type 0) (refuses : V → WalkEvent → F → Type 0) (same : V → V → Type 0) where
@@ -17,10 +17,10 @@ module _ {V F : Type 0} (b : List InstrSeq) (start : ℕ) (steps : V → WalkEve
   pub record Stage (v w : V) (fs : List Frame) (coming : List ℕ) : Type 0 where
     pub tree : Tree SequenceAt LocatedInstr
     pub is_tree : IsTree b start tree
-    pub told : List WalkEvent
+    pub visited : List WalkEvent
     pub left : List WalkEvent
-    pub all : events tree ≡ told ++ left
-    pub folds : Folds steps v told w
+    pub all : events tree ≡ visited ++ left
+    pub folds : Folds steps v visited w
     pub pending : Pending b fs coming left
 
   pub stage_first : {v w : V} {order coming : List ℕ} {first : ℕ} {next : InstrSeq} {fs : List Frame} → IsOrder b start order → order ≡ first ∷ coming → slice_get b first ≡ Some next
@@ -33,7 +33,7 @@ module _ {V F : Type 0} (b : List InstrSeq) (start : ℕ) (steps : V → WalkEve
       record {
         tree = h.tree;
         is_tree = h.is_tree;
-        told = StartSequence next ∷ [];
+        visited = StartSequence next ∷ [];
         left = item_events begun.items (EndSequence next ∷ []);
         all = rw same at begun.events_are;
         folds = after step through;
@@ -47,29 +47,29 @@ module _ {V F : Type 0} (b : List InstrSeq) (start : ℕ) (steps : V → WalkEve
       let same_seq : begun.seq ≡ next = (let found = begun.known in cc) in
       record { tree = h.tree; is_tree = h.is_tree; stops = rw (begun.events_are, same_seq) (refused refusal as_it_was) }
 
-  pub stage_told : {v w x : V} {f : Frame} {fs fs' : List Frame} {coming coming' : List ℕ} → Stage v w (f ∷ fs) coming → IsToldNext b f coming fs (λ es. Folds steps w es x) fs' coming' → Stage v x fs' coming'
-  stage_told {x = x} {fs = fs} {fs' = fs'} {coming' = coming'} h t =
-      let behind = next_pending fs h.left t.next h.pending in
+  pub stage_visited : {v w x : V} {f : Frame} {fs fs' : List Frame} {coming coming' : List ℕ} → Stage v w (f ∷ fs) coming → IsVisitedNext b f coming fs (λ es. Folds steps w es x) fs' coming' → Stage v x fs' coming'
+  stage_visited {x = x} {fs = fs} {fs' = fs'} {coming' = coming'} h t =
+      let following = next_pending fs h.left t.next h.pending in
       record {
         tree = h.tree;
         is_tree = h.is_tree;
-        told = h.told ++ t.events;
-        left = behind.more;
-        all = h.all ∙ (ap (λ es. h.told ++ es) behind.left_is ∙ sym (append_assoc h.told t.events behind.more));
-        folds = Folds-append steps refuses same t.events h.folds t.told;
-        pending = rw t.stack behind.pending;
+        visited = h.visited ++ t.events;
+        left = following.more;
+        all = h.all ∙ (ap (λ es. h.visited ++ es) following.left_is ∙ sym (append_assoc h.visited t.events following.more));
+        folds = Folds-append steps refuses same t.events h.folds t.visited;
+        pending = rw t.stack following.pending;
       }
 
   pub stage_refused : {v w x : V} {fault : F} {f : Frame} {fs : List Frame} {coming : List ℕ} → Stage v w (f ∷ fs) coming → IsRefusedNext b f coming (λ es. Stops steps refuses same w es x fault) → IsRefused b start steps refuses same v x fault
   stage_refused {fs = fs} h t =
-      let behind = next_pending fs h.left t.next h.pending in
+      let following = next_pending fs h.left t.next h.pending in
       record {
         tree = h.tree;
         is_tree = h.is_tree;
-        stops = rw (h.all, behind.left_is) (Stops_behind steps refuses same (t.events ++ behind.more) h.folds (Stops-append steps refuses same behind.more t.stopped));
+        stops = rw (h.all, following.left_is) (Stops_after steps refuses same (t.events ++ following.more) h.folds (Stops-append steps refuses same following.more t.stopped));
       }
 
   pub stage_last : {v w : V} {coming : List ℕ} → Stage v w [] coming → Finishes b start steps v w
   stage_last {v = v} {w = w} h =
-      let all_told : events h.tree ≡ h.told = h.all ∙ (ap (λ es. h.told ++ es) h.pending.1 ∙ append-nil h.told) in
-      record { tree = h.tree; is_tree = h.is_tree; folds = rw all_told h.folds }
+      let all_visited : events h.tree ≡ h.visited = h.all ∙ (ap (λ es. h.visited ++ es) h.pending.1 ∙ append-nil h.visited) in
+      record { tree = h.tree; is_tree = h.is_tree; folds = rw all_visited h.folds }

@@ -66,11 +66,11 @@ pub data Stops {V F : Type 0} (steps : V → WalkEvent → V → Type 0) (refuse
       → steps v e w → Stops steps refuses same w es x f → Stops steps refuses same v (e ∷ es) x f
 
 -- the result of one event: the visitor accepted it, or it refused it and is unchanged
-abbrev pub Hears : {V F U : Type 0} → (V → WalkEvent → V → Type 0) → (V → WalkEvent → F → Type 0) → (V → V → Type 0)
+abbrev pub VisitsOne : {V F U : Type 0} → (V → WalkEvent → V → Type 0) → (V → WalkEvent → F → Type 0) → (V → V → Type 0)
     → V → WalkEvent → Result U F → V → Type 0
-Hears steps refuses same v e r w = MatchResult r (λ _. steps v e w) (λ f. refuses v e f × same v w)
+VisitsOne steps refuses same v e r w = MatchResult r (λ _. steps v e w) (λ f. refuses v e f × same v w)
 
 -- the result of some events: the visitor accepted them all, or it accepted the first ones and refused the next
-abbrev pub Tells : {V F U : Type 0} → (V → WalkEvent → V → Type 0) → (V → WalkEvent → F → Type 0) → (V → V → Type 0)
+abbrev pub VisitsAll : {V F U : Type 0} → (V → WalkEvent → V → Type 0) → (V → WalkEvent → F → Type 0) → (V → V → Type 0)
     → V → List WalkEvent → Result U F → V → Type 0
-Tells steps refuses same v es r w = MatchResult r (λ _. Folds steps v es w) (λ f. Stops steps refuses same v es w f)
+VisitsAll steps refuses same v es r w = MatchResult r (λ _. Folds steps v es w) (λ f. Stops steps refuses same v es w f)

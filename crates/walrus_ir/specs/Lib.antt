@@ -28,4 +28,4 @@ pub mod Walk
 pub mod WalkLaws
 -- the state of a walk while it is planned, and while a visitor is told about it
 pub mod Planning
-pub mod Telling
+pub mod Visiting

@@ -50,9 +50,9 @@ pub record Adds (old new : List Task) (slots : List ℕ) (more : ℕ) : Type 0 w
   pub falls : work new ≤ more + work old
 
 -- the first of the instructions that contains sequences, and the instructions after it
-pub record IsNextHolder (all : List LocatedInstr) (holder : Instr) (behind : List LocatedInstr) : Type 0 where
-  pub goes : slots_in_all all ≡ slots_in holder ++ slots_in_all behind
-  pub falls : 1 + (work_of holder + work_of_all behind) ≤ work_of_all all
+pub record IsNextHolder (all : List LocatedInstr) (holder : Instr) (following : List LocatedInstr) : Type 0 where
+  pub goes : slots_in_all all ≡ slots_in holder ++ slots_in_all following
+  pub falls : 1 + (work_of holder + work_of_all following) ≤ work_of_all all
 
 -- the fault if a sequence is not reached
 abbrev pub IsRefusedAt : List InstrSeq → List Bool → ℕ → WalkError → Type 0
@@ -75,7 +75,7 @@ pub record IsEntered (b : List InstrSeq) (p : ℕ) (old new : Plan) : Type 0 whe
       (slots_in_all seq.instrs) (1 + work_of_all seq.instrs)
 
 -- no sequence is reached, and the tasks go on to the same slots
-pub record IsGoneOn (task : Task) (old new : Plan) : Type 0 where
+pub record IsContinued (task : Task) (old new : Plan) : Type 0 where
   pub same_marks : new.reached.items ≡ old.reached.items
   pub same_order : new.order.items ≡ old.order.items
   pub goes : agenda new.tasks.items ≡ goes_to task ++ agenda old.tasks.items
@@ -84,7 +84,7 @@ pub record IsGoneOn (task : Task) (old new : Plan) : Type 0 where
 -- a task is done
 abbrev pub IsDone : List InstrSeq → Task → Plan → Plan → Type 0
 IsDone b (Enter p) old new = IsEntered b p old new
-IsDone b task old new = IsGoneOn task old new
+IsDone b task old new = IsContinued task old new
 
 -- the fault if a task is not done
 abbrev pub IsNotDone : List InstrSeq → List Bool → Task → WalkError → Type 0

@@ -27,7 +27,7 @@ abbrev pub HasNoWalk : List InstrSeq → ℕ → WalkError → Type 0
 HasNoWalk b start error = (error ≡ Memory) ⊎ FirstWalkFault b start error
 
 -- there is no walk, and the visitor was not called
-pub record IsUnwalked {V F : Type 0} (b : List InstrSeq) (start : ℕ) (becomes : WalkError → F → Type 0) (old new : V)
+pub record IsNotWalked {V F : Type 0} (b : List InstrSeq) (start : ℕ) (becomes : WalkError → F → Type 0) (old new : V)
     (fault : F) : Type 0 where
   pub error : WalkError
   pub why : HasNoWalk b start error

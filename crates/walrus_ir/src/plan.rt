@@ -65,11 +65,11 @@ fn next_holder(instrs: &[(Instr, InstrLocId)]) -> Option<(&Instr, &[(Instr, Inst
         (λ found. IsNextHolder instrs.now found.0.now found.1.now) }
 {
     let mut left = instrs;
-    'plain: while let Some((located, behind)) = left.split_first() {
+    'plain: while let Some((located, following)) = left.split_first() {
         if count_inside(&located.0) > 0 {
-            return Some((&located.0, behind));
+            return Some((&located.0, following));
         }
-        left = behind;
+        left = following;
     }
     None
 }
@@ -104,8 +104,8 @@ fn resume<'a>(
     ensures { OnOk result
         (Adds tasks.old.items tasks.new.items (slots_in_all instrs.now) (work_of_all instrs.now)) }
 {
-    if let Some((holder, behind)) = next_holder(instrs) {
-        tasks.push(Task::Resume(behind))?;
+    if let Some((holder, following)) = next_holder(instrs) {
+        tasks.push(Task::Resume(following))?;
         push_inside(tasks, holder)?;
     }
     Ok(())

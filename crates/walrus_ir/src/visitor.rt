@@ -18,7 +18,7 @@ pub trait Visitor {
     type Fault: From<WalkError>;
 
     ghost use Rattle.std.specs.Prelude.{◌≡◌};
-    ghost use Rattle.walrus_ir.specs.Events.{WalkEvent, StartSequence, EndSequence, VisitInstruction, Hears};
+    ghost use Rattle.walrus_ir.specs.Events.{WalkEvent, StartSequence, EndSequence, VisitInstruction, VisitsOne};
     ghost use Rattle.walrus_ir.specs.Events.{NameFunction, NameLocal, NameData};
     ghost use Rattle.walrus_ir.specs.Events.{AreStepsAlike, AreRefusalsAlike};
 
@@ -30,28 +30,28 @@ pub trait Visitor {
 
     /// A sequence begins.
     fn start_instr_seq(&mut self, seq: &InstrSeq) -> Result<(), Self::Fault>
-        ensures { Hears steps refuses same self.old (StartSequence seq.now) result self.new };
+        ensures { VisitsOne steps refuses same self.old (StartSequence seq.now) result self.new };
 
     /// A sequence ends.
     fn end_instr_seq(&mut self, seq: &InstrSeq) -> Result<(), Self::Fault>
-        ensures { Hears steps refuses same self.old (EndSequence seq.now) result self.new };
+        ensures { VisitsOne steps refuses same self.old (EndSequence seq.now) result self.new };
 
     /// An instruction. It comes before the item that it names and before the sequences in it.
     fn visit_instr(&mut self, instr: &Instr, loc: &InstrLocId) -> Result<(), Self::Fault>
-        ensures { Hears steps refuses same self.old
+        ensures { VisitsOne steps refuses same self.old
             (VisitInstruction instr.now loc.now) result self.new };
 
     /// The data segment that the instruction names.
     fn visit_data_id(&mut self, data_id: &DataId) -> Result<(), Self::Fault>
-        ensures { Hears steps refuses same self.old (NameData data_id.now) result self.new };
+        ensures { VisitsOne steps refuses same self.old (NameData data_id.now) result self.new };
 
     /// The local that the instruction names.
     fn visit_local_id(&mut self, local: &LocalId) -> Result<(), Self::Fault>
-        ensures { Hears steps refuses same self.old (NameLocal local.now) result self.new };
+        ensures { VisitsOne steps refuses same self.old (NameLocal local.now) result self.new };
 
     /// A `ref.func`, for the function that it names; `visit_instr` was called for it before.
     fn visit_ref_func(&mut self, instr: &RefFunc) -> Result<(), Self::Fault>
-        ensures { Hears steps refuses same self.old (NameFunction instr.now.func) result self.new };
+        ensures { VisitsOne steps refuses same self.old (NameFunction instr.now.func) result self.new };
 
     // `same` is an equivalence, and states that are the same accept and refuse the same events.
     ghost reflexive: { (s : Self) → same s s };

@@ -1,11 +1,11 @@
 //! The walk over the sequences of a function, in order.
 ghost use Rattle.std.specs.Prelude.{◌≡◌, ◌⊎◌, ◌+◌, ◌≤◌, ◌<◌, [], ◌∷◌, length, slice_index, vec_len, vec_capacity};
 ghost use Rattle.std.specs.Prelude.{IfOk, OnOk, IfErr, MatchResult};
-ghost use Rattle.walrus_ir.specs.Events.{StartSequence, VisitInstruction, names, Hears, Tells, Folds, Stops};
-ghost use Rattle.walrus_ir.specs.Walk.{HasNoWalk, Finishes, IsRefused, IsUnwalked};
+ghost use Rattle.walrus_ir.specs.Events.{StartSequence, VisitInstruction, names, VisitsOne, VisitsAll, Folds, Stops};
+ghost use Rattle.walrus_ir.specs.Walk.{HasNoWalk, Finishes, IsRefused, IsNotWalked};
 ghost use Rattle.walrus_ir.specs.Planning.{IsOrder};
-ghost use Rattle.walrus_ir.specs.Telling.{frame, frames, started};
-ghost use Rattle.walrus_ir.specs.Telling.{IsToldStretch, IsRefusedStretch, IsToldNext, IsRefusedNext};
+ghost use Rattle.walrus_ir.specs.Visiting.{frame, frames, started};
+ghost use Rattle.walrus_ir.specs.Visiting.{IsVisitedStretch, IsRefusedStretch, IsVisitedNext, IsRefusedNext};
 
 use crate::access::{DataDrop, MemoryInit};
 use crate::aggregate::{ArrayInitData, ArrayNewData};
@@ -30,8 +30,8 @@ pub(crate) struct Open<'a> {
 }
 
 // Tells a visitor about the item that an instruction names, if any.
-fn tell_names<V: Visitor>(visitor: &mut V, instr: &Instr) -> Result<(), V::Fault>
-    ensures { Tells V.steps V.refuses V.same visitor.old (names instr.now) result visitor.new }
+fn visit_names<V: Visitor>(visitor: &mut V, instr: &Instr) -> Result<(), V::Fault>
+    ensures { VisitsAll V.steps V.refuses V.same visitor.old (names instr.now) result visitor.new }
 {
     match instr {
         Instr::RefFunc(x) => visitor.visit_ref_func(x),
@@ -47,12 +47,15 @@ fn tell_names<V: Visitor>(visitor: &mut V, instr: &Instr) -> Result<(), V::Fault
 }
 
 // Tells a visitor about an instruction, and then about the item that it names, if any.
-fn tell_instr<V: Visitor>(visitor: &mut V, located: &(Instr, InstrLocId)) -> Result<(), V::Fault>
-    ensures { Tells V.steps V.refuses V.same visitor.old
+fn visit_with_names<V: Visitor>(
+    visitor: &mut V,
+    located: &(Instr, InstrLocId),
+) -> Result<(), V::Fault>
+    ensures { VisitsAll V.steps V.refuses V.same visitor.old
         (VisitInstruction located.now.0 located.now.1 ∷ names located.now.0) result visitor.new }
 {
     visitor.visit_instr(&located.0, &located.1)?;
-    tell_names(visitor, &located.0)
+    visit_names(visitor, &located.0)
 }
 
 // Starts a sequence.
@@ -62,7 +65,7 @@ fn start_seq<'a, V: Visitor>(
     stack: &mut Vec<Open<'a>>,
 ) -> Result<(), V::Fault>
     requires { vec_len stack.old < vec_capacity stack.old }
-    ensures told { Hears V.steps V.refuses V.same visitor.old
+    ensures visited { VisitsOne V.steps V.refuses V.same visitor.old
         (StartSequence seq.now) result visitor.new }
     ensures opened { OnOk result
         (frames stack.new.items ≡ started seq.now ∷ frames stack.old.items) }
@@ -82,25 +85,25 @@ fn start_seq<'a, V: Visitor>(
 
 // Tells a visitor about instructions, up to the first that contains sequences. Returns the
 // instructions after it and the number of sequences in it; the number is 0 if there is none.
-fn tell_stretch<'a, V: Visitor>(
+fn visit_stretch<'a, V: Visitor>(
     visitor: &mut V,
     instrs: &'a [(Instr, InstrLocId)],
 ) -> Result<(&'a [(Instr, InstrLocId)], usize), V::Fault>
-    ensures told { MatchResult result
-        (λ told. IsToldStretch instrs.now told.0.now told.1
+    ensures visited { MatchResult result
+        (λ visited. IsVisitedStretch instrs.now visited.0.now visited.1
         (λ es. Folds V.steps visitor.old es visitor.new))
         (λ f. IsRefusedStretch instrs.now
         (λ es. Stops V.steps V.refuses V.same visitor.old es visitor.new f)) }
-    ensures all { IfOk result (λ told. told.1 ≡ 0 → told.0.now ≡ []) }
+    ensures all { IfOk result (λ visited. visited.1 ≡ 0 → visited.0.now ≡ []) }
 {
     let mut left = instrs;
-    'stretch: while let Some((located, behind)) = left.split_first() {
-        tell_instr(visitor, located)?;
+    'stretch: while let Some((located, following)) = left.split_first() {
+        visit_with_names(visitor, located)?;
         let inside = count_inside(&located.0);
         if inside > 0 {
-            return Ok((behind, inside));
+            return Ok((following, inside));
         }
-        left = behind;
+        left = following;
     }
     Ok((left, 0))
 }
@@ -118,8 +121,8 @@ fn start_inside<'a, 'b, V: Visitor>(
     requires comes { 0 < length coming.now }
     requires known { slice_index coming.now 0 < length builder.now.sequences }
     requires room { vec_len stack.old + length coming.now < vec_capacity stack.old }
-    ensures told { MatchResult result
-        (λ left. IsToldNext builder.now.sequences (frame top.entry) coming.now
+    ensures visited { MatchResult result
+        (λ left. IsVisitedNext builder.now.sequences (frame top.entry) coming.now
         (frames stack.old.items) (λ es. Folds V.steps visitor.old es visitor.new)
         (frames stack.new.items) left.now)
         (λ f. IsRefusedNext builder.now.sequences (frame top.entry) coming.now
@@ -141,7 +144,7 @@ fn start_inside<'a, 'b, V: Visitor>(
 
 // Tells a visitor about what comes next in the innermost open sequence, which was popped from the
 // stack. Returns the slots of the sequences after that.
-fn tell_next<'a, 'b, V: Visitor>(
+fn visit_next<'a, 'b, V: Visitor>(
     visitor: &mut V,
     builder: &'a FunctionBuilder,
     top: Open<'a>,
@@ -151,8 +154,8 @@ fn tell_next<'a, 'b, V: Visitor>(
     requires comes { 0 < top.inside → 0 < length coming.now }
     requires known { 0 < top.inside → slice_index coming.now 0 < length builder.now.sequences }
     requires room { vec_len stack.old + length coming.now < vec_capacity stack.old }
-    ensures told { MatchResult result
-        (λ left. IsToldNext builder.now.sequences (frame top.entry) coming.now
+    ensures visited { MatchResult result
+        (λ left. IsVisitedNext builder.now.sequences (frame top.entry) coming.now
         (frames stack.old.items) (λ es. Folds V.steps visitor.old es visitor.new)
         (frames stack.new.items) left.now)
         (λ f. IsRefusedNext builder.now.sequences (frame top.entry) coming.now
@@ -163,7 +166,7 @@ fn tell_next<'a, 'b, V: Visitor>(
     if top.inside > 0 {
         return start_inside(visitor, builder, top, coming, stack);
     }
-    let (rest, inside) = tell_stretch(visitor, top.rest)?;
+    let (rest, inside) = visit_stretch(visitor, top.rest)?;
     if inside == 0 {
         visitor.end_instr_seq(top.seq)?;
         return Ok(coming);
@@ -223,13 +226,13 @@ pub fn dfs_in_order<V: Visitor>(
         (Finishes builder.now.sequences start V.steps visitor.old visitor.new) }
     ensures err { IfErr result (λ f.
         IsRefused builder.now.sequences start V.steps V.refuses V.same visitor.old visitor.new f
-        ⊎ IsUnwalked builder.now.sequences start V.Fault.from_gives visitor.old visitor.new f) }
+        ⊎ IsNotWalked builder.now.sequences start V.Fault.from_gives visitor.old visitor.new f) }
 {
     let (order, mut stack) = plan(builder, start)?;
     let (first, mut coming) = order.split_first().unwrap();
     start_seq(visitor, builder.seq(*first), &mut stack)?;
     'walk: while let Some(top) = stack.pop() {
-        coming = tell_next(visitor, builder, top, coming, &mut stack)?;
+        coming = visit_next(visitor, builder, top, coming, &mut stack)?;
     }
     Ok(())
 }

@@ -8,11 +8,11 @@ use Rattle.std.proofs.lemmas.Bool.{cases_lt, cases_order}
 use Rattle.std.proofs.lemmas.Grind.{common_steps}
 use Rattle.std.proofs.lemmas.Option.{slice_get_read}
 use Rattle.wasm_body.specs.Control.{Control, Marked, with_control}
-use Rattle.wasm_body.specs.Machine.{Shape, Opener, Part, Closer, Other, shape_of, Found, found, seek_at, seek, tail, behind_closer, has}
+use Rattle.wasm_body.specs.Machine.{Shape, Opener, Part, Closer, Other, shape_of, Found, found, seek_at, seek, tail, after_closer, has}
 use Rattle.wasm_body.specs.Places.{placed_from}
 use Rattle.walrus_machine.specs.declared.machine.table.Ahead.{Ahead}
 use Rattle.walrus_machine.specs.declared.machine.table.Levels.{Levels}
-use Rattle.walrus_machine.specs.Tables.{place_at, IsAhead, nothing_ahead, StandAhead, AreAhead, parts, passes}
+use Rattle.walrus_machine.specs.Tables.{place_at, IsAhead, nothing_ahead, LevelsAhead, AreAhead, parts, passes}
 
 -- ---- lists
 
@@ -201,7 +201,7 @@ module _ (cs : List Control) (i : ℕ) (c : Control) (at : slice_get cs i ≡ So
   -- if the searches from both places find the same, the same is ahead of them
   same_ahead : (d e : ℕ) (a : Ahead) → ((test : Control → Bool) → (seek test e 0 (place_at cs i)).rest ≡ (seek test d 0 (place_at cs (i + 1))).rest) →
       IsAhead cs d (i + 1) a → IsAhead cs e i a
-  same_ahead d e a same h = record { part = h.part ∙ sym (same (λ c. true)); behind = h.behind ∙ ap tail (sym (same (λ c. false))) }
+  same_ahead d e a same h = record { part = h.part ∙ sym (same (λ c. true)); following = h.following ∙ ap tail (sym (same (λ c. false))) }
 
   pub other_ahead : Other ≡ shape_of c → (d : ℕ) (a : Ahead) → IsAhead cs d (i + 1) a → IsAhead cs d i a
   other_ahead h d a = same_ahead d d a (λ test. ap (λ f. f.rest) (walk Other h test d))
@@ -215,38 +215,38 @@ module _ (cs : List Control) (i : ℕ) (c : Control) (at : slice_get cs i ≡ So
   pub outer_ahead : Part ≡ shape_of c → (d : ℕ) (a : Ahead) → IsAhead cs (suc d) (i + 1) a → IsAhead cs (suc d) i a
   outer_ahead h d a = same_ahead (suc d) (suc d) a (λ test. ap (λ f. f.rest) (walk Part h test (suc d)))
 
-  pub at_closer : Closer ≡ shape_of c → IsAhead cs 0 i (record { part = i; behind = i + 1 })
+  pub at_closer : Closer ≡ shape_of c → IsAhead cs 0 i (record { part = i; following = i + 1 })
   at_closer h = record {
     part = sym (ap (λ f. f.rest) (walk Closer h (λ c. true) 0));
-    behind = sym (ap tail (here cs i c at)) ∙ sym (ap (λ f. tail f.rest) (walk Closer h (λ c. false) 0));
+    following = sym (ap tail (here cs i c at)) ∙ sym (ap (λ f. tail f.rest) (walk Closer h (λ c. false) 0));
   }
 
-  pub at_part : Part ≡ shape_of c → (a : Ahead) → IsAhead cs 0 (i + 1) a → IsAhead cs 0 i (record { part = i; behind = a.behind })
-  at_part h a behind = record {
+  pub at_part : Part ≡ shape_of c → (a : Ahead) → IsAhead cs 0 (i + 1) a → IsAhead cs 0 i (record { part = i; following = a.following })
+  at_part h a following = record {
     part = sym (ap (λ f. f.rest) (walk Part h (λ c. true) 0));
-    behind = behind.behind ∙ ap tail (any_count (λ c. false) 0 0 1 (place_at cs (i + 1)) ∙ sym (ap (λ f. f.rest) (walk Part h (λ c. false) 0)));
+    following = following.following ∙ ap tail (any_count (λ c. false) 0 0 1 (place_at cs (i + 1)) ∙ sym (ap (λ f. f.rest) (walk Part h (λ c. false) 0)));
   }
 
   -- in all constructs around
 
-  abbrev pub Stand : ℕ → ℕ → List Ahead → Type 0
-  Stand place end ls = (depth : ℕ) → IsAhead cs depth place (get_or ls depth (nothing_ahead end))
+  abbrev pub ListAhead : ℕ → ℕ → List Ahead → Type 0
+  ListAhead place end ls = (depth : ℕ) → IsAhead cs depth place (get_or ls depth (nothing_ahead end))
 
-  pub others_stand : Other ≡ shape_of c → (l : Levels) → StandAhead cs (i + 1) l → StandAhead cs i l
-  others_stand h l stand depth = other_ahead h depth _ (stand depth)
+  pub others_listed : Other ≡ shape_of c → (l : Levels) → LevelsAhead cs (i + 1) l → LevelsAhead cs i l
+  others_listed h l all_ahead depth = other_ahead h depth _ (all_ahead depth)
 
-  pub opener_stands : Opener ≡ shape_of c → (end : ℕ) (ls : List Ahead) → Stand (i + 1) end ls → Stand i end (tail ls)
-  opener_stands h end [] stand depth = opener_ahead h depth _ (stand (suc depth))
-  opener_stands h end (a ∷ ls) stand depth = opener_ahead h depth _ (stand (suc depth))
+  pub opener_listed : Opener ≡ shape_of c → (end : ℕ) (ls : List Ahead) → ListAhead (i + 1) end ls → ListAhead i end (tail ls)
+  opener_listed h end [] all_ahead depth = opener_ahead h depth _ (all_ahead (suc depth))
+  opener_listed h end (a ∷ ls) all_ahead depth = opener_ahead h depth _ (all_ahead (suc depth))
 
-  pub closer_stands : Closer ≡ shape_of c → (end : ℕ) (ls : List Ahead) → Stand (i + 1) end ls → Stand i end (record { part = i; behind = i + 1 } ∷ ls)
-  closer_stands h end ls stand zero = at_closer h
-  closer_stands h end ls stand (suc depth) = closer_ahead h depth _ (stand depth)
+  pub closer_listed : Closer ≡ shape_of c → (end : ℕ) (ls : List Ahead) → ListAhead (i + 1) end ls → ListAhead i end (record { part = i; following = i + 1 } ∷ ls)
+  closer_listed h end ls all_ahead zero = at_closer h
+  closer_listed h end ls all_ahead (suc depth) = closer_ahead h depth _ (all_ahead depth)
 
-  pub part_stands : Part ≡ shape_of c → (end : ℕ) (ls : List Ahead) (a : Ahead) → IsAhead cs 0 (i + 1) a → Stand (i + 1) end ls → Stand i end (record { part = i; behind = a.behind } ∷ tail ls)
-  part_stands h end ls a first stand zero = at_part h a first
-  part_stands h end [] a first stand (suc depth) = outer_ahead h depth _ (stand (suc depth))
-  part_stands h end (b ∷ ls) a first stand (suc depth) = outer_ahead h depth _ (stand (suc depth))
+  pub part_listed : Part ≡ shape_of c → (end : ℕ) (ls : List Ahead) (a : Ahead) → IsAhead cs 0 (i + 1) a → ListAhead (i + 1) end ls → ListAhead i end (record { part = i; following = a.following } ∷ tail ls)
+  part_listed h end ls a first all_ahead zero = at_part h a first
+  part_listed h end [] a first all_ahead (suc depth) = outer_ahead h depth _ (all_ahead (suc depth))
+  part_listed h end (b ∷ ls) a first all_ahead (suc depth) = outer_ahead h depth _ (all_ahead (suc depth))
 
 -- ---- what is ahead, in a list for all operators
 
@@ -259,21 +259,21 @@ ahead_at cs k (b ∷ more) (suc i) a all h =
     let n : suc k + i + 1 ≡ k + suc i + 1 = omega arith in
     subst (λ m. IsAhead cs 0 m a) n (ahead_at cs (suc k) more i a all.1 h)
 
-pub nothing_stands : (cs : List Control) (end : ℕ) → length cs ≤ end → (depth : ℕ) → IsAhead cs depth end (nothing_ahead end)
-nothing_stands cs end h depth =
+pub nothing_listed : (cs : List Control) (end : ℕ) → length cs ≤ end → (depth : ℕ) → IsAhead cs depth end (nothing_ahead end)
+nothing_listed cs end h depth =
     let none = nothing_here cs end h in
     record {
       part = none ∙ sym (ap (λ xs. (seek (λ c. true) depth 0 xs).rest) none);
-      behind = none ∙ sym (ap (λ xs. tail (seek (λ c. false) depth 0 xs).rest) none);
+      following = none ∙ sym (ap (λ xs. tail (seek (λ c. false) depth 0 xs).rest) none);
     }
 
 pub get_mapped : {A B : Type 0} (f : A → B) (xs : List A) (i : ℕ) (x : A) → i < length xs → x ≡ get_or xs i x → slice_get (map f xs) i ≡ Some (f x)
 get_mapped f xs i x lt is = get_map f xs i x (slice_get_read xs (length xs) i x refl lt is)
 
-pub start_stands : (cs : List Control) (end place : ℕ) (ls : List Ahead) → end ≡ length cs → end ≡ place → ls ≡ [] → (depth : ℕ) → IsAhead cs depth place (get_or (reverse ls) depth (nothing_ahead end))
-start_stands cs end place ls count same none depth =
+pub start_listed : (cs : List Control) (end place : ℕ) (ls : List Ahead) → end ≡ length cs → end ≡ place → ls ≡ [] → (depth : ℕ) → IsAhead cs depth place (get_or (reverse ls) depth (nothing_ahead end))
+start_listed cs end place ls count same none depth =
     subst (λ l. IsAhead cs depth place (get_or (reverse l) depth (nothing_ahead end))) (sym none)
-    (subst (λ m. IsAhead cs depth m (nothing_ahead end)) same (nothing_stands cs end (omega (arith, count)) depth))
+    (subst (λ m. IsAhead cs depth m (nothing_ahead end)) same (nothing_listed cs end (omega (arith, count)) depth))
 
 pub more_ahead : (cs : List Control) (place : ℕ) (xs ys : List Ahead) (a : Ahead) → 0 < place → ys ≡ xs ++ a ∷ [] → IsAhead cs 0 place a → AreAhead cs place (reverse xs) → AreAhead cs (place - 1) (reverse ys)
 more_ahead cs zero xs ys a pos more first all = absurd (omega arith)
@@ -291,8 +291,8 @@ read_ahead cs ds as' ws i a view all same lt is =
 pub past_all : (cs : List Control) (i : ℕ) → length cs ≤ i → (test : Control → Bool) → place_at cs i ≡ (seek test 0 0 (place_at cs (i + 1))).rest
 past_all cs i h test = nothing_here cs i h ∙ sym (ap (λ xs. (seek test 0 0 xs).rest) (nothing_here cs (i + 1) (omega arith)))
 
-pub past_closer : (cs : List Control) (i : ℕ) → length cs ≤ i → place_at cs i ≡ behind_closer (place_at cs (i + 1))
-past_closer cs i h = nothing_here cs i h ∙ sym (ap behind_closer (nothing_here cs (i + 1) (omega arith)))
+pub past_closer : (cs : List Control) (i : ℕ) → length cs ≤ i → place_at cs i ≡ after_closer (place_at cs (i + 1))
+past_closer cs i h = nothing_here cs i h ∙ sym (ap after_closer (nothing_here cs (i + 1) (omega arith)))
 
 -- the number of operators in a table, from the length of its lists
 pub as_many : (A : Type 0) (cs : List Control) (f : A → Control) (xs : List A) (as' ws : List Ahead) (i : ℕ) → map f xs ≡ cs → length as' ≡ length xs → ws ≡ as' → length ws ≤ i → length cs ≤ i

@@ -13,7 +13,7 @@ use Rattle.walrus_machine.specs.declared.machine.run.Outcome.{Outcome}
 use Rattle.walrus_machine.specs.declared.machine.state.State.{State}
 use Rattle.walrus_machine.specs.Controls.{construct_meaning}
 use Rattle.walrus_machine.specs.Runs.{outcome_of}
-use Rattle.walrus_machine.specs.Tracing.{caught_in, label_of, opens, Onwards, seen, run_on, Finds}
+use Rattle.walrus_machine.specs.Tracing.{caught_in, label_of, opens, Continuation, seen, continued_run, Finds}
 use Rattle.walrus_machine.proofs.Tables.{here, nothing_at, reverse_left, pushed}
 
 -- ---- the clauses of a legacy `try`
@@ -63,7 +63,7 @@ nothing_caught cs ls n le =
 
 -- ---- runs that go on
 
-pub same_on : (cs : List C.Control) (s : State) (k k' : Onwards) → ((ls : List (M.Label ℕ)) (o : List M.Outcome) → k ls o ≡ k' ls o) → run_on cs s k ≡ run_on cs s k'
+pub same_on : (cs : List C.Control) (s : State) (k k' : Continuation) → ((ls : List (M.Label ℕ)) (o : List M.Outcome) → k ls o ≡ k' ls o) → continued_run cs s k ≡ continued_run cs s k'
 same_on cs s k k' h = ap (seen s.events.items) (h (opens cs s.labels.items) (map outcome_of s.outcomes.now))
 
 module _ (again go : M.From ℕ) where
@@ -74,7 +74,7 @@ module _ (again go : M.From ℕ) where
 
   -- a branch to a construct other than a loop
   pub arrive_out : (x : Construct) → (x ≡ Construct.Loop → ⊥) → (l : M.Label ℕ) (ls : List (M.Label ℕ)) (o : List M.Outcome) →
-      M.arrive again go (construct_meaning x) l ls o ≡ go (M.behind_closer l.behind) ls o
+      M.arrive again go (construct_meaning x) l ls o ≡ go (M.after_closer l.following) ls o
   arrive_out Construct.Block h l ls o = refl
   arrive_out Construct.Loop h l ls o = absurd (h refl)
   arrive_out Construct.If h l ls o = refl
@@ -87,12 +87,12 @@ module _ (again go : M.From ℕ) where
   inner_raise tags (suc n) (l ∷ ls) o = inner_raise tags n ls o
 
 -- an outcome that was taken
-pub asked : (cs : List C.Control) (old new : State) (k : Onwards) (x y : Outcome) → Finds old new (λ cs k ls o. k ls (outcome_of x ∷ o)) → x ≡ y → run_on cs old k ≡ run_on cs new (λ ls o. k ls (outcome_of y ∷ o))
-asked cs old new k x y found e = found cs k ∙ ap (λ z. run_on cs new (λ ls o. k ls (outcome_of z ∷ o))) e
+pub outcome_taken : (cs : List C.Control) (old new : State) (k : Continuation) (x y : Outcome) → Finds old new (λ cs k ls o. k ls (outcome_of x ∷ o)) → x ≡ y → continued_run cs old k ≡ continued_run cs new (λ ls o. k ls (outcome_of y ∷ o))
+outcome_taken cs old new k x y found e = found cs k ∙ ap (λ z. continued_run cs new (λ ls o. k ls (outcome_of z ∷ o))) e
 
 -- what a `rethrow` raises again: the tags that its handler caught
 pub rethrown : (again go : M.From ℕ) (cs : List C.Control) (s : State) (n : ℕ) (caught : Option M.Tags) → M.caught_at (opens cs s.labels.items) n ≡ caught →
-    run_on cs s (λ ls o. M.rethrow (λ tags. M.raise again go tags ls o 0) (M.caught_at ls n)) ≡ run_on cs s (λ ls o. M.rethrow (λ tags. M.raise again go tags ls o 0) caught)
+    continued_run cs s (λ ls o. M.rethrow (λ tags. M.raise again go tags ls o 0) (M.caught_at ls n)) ≡ continued_run cs s (λ ls o. M.rethrow (λ tags. M.raise again go tags ls o 0) caught)
 rethrown again go cs s n caught e =
     let ls = opens cs s.labels.items in
     let o = map outcome_of s.outcomes.now in
@@ -137,14 +137,14 @@ module _ (again : M.From ℕ) (cs : List C.Control) (i : ℕ) (ls : List (M.Labe
   no_step (suc n) at = ap (λ place. M.straight again (suc n) place ls o) (nothing_at cs i at)
 
 -- how a run continues after a branch to a loop, with this many turns left
-abbrev pub behind_turn : ℕ → M.From ℕ
-behind_turn zero place ls o = M.ends M.TurnsOut
-behind_turn (suc t) place ls o = M.bounded_run length t place ls o
+abbrev pub after_turn : ℕ → M.From ℕ
+after_turn zero place ls o = M.ends M.TurnsOut
+after_turn (suc t) place ls o = M.bounded_run length t place ls o
 
-pub one_turn : (turns : ℕ) (place : List (C.Marked ℕ)) (ls : List (M.Label ℕ)) (o : List M.Outcome) → M.bounded_run length turns place ls o ≡ M.straight (behind_turn turns) (length place) place ls o
+pub one_turn : (turns : ℕ) (place : List (C.Marked ℕ)) (ls : List (M.Label ℕ)) (o : List M.Outcome) → M.bounded_run length turns place ls o ≡ M.straight (after_turn turns) (length place) place ls o
 one_turn zero place ls o = refl
 one_turn (suc t) place ls o = refl
 
-pub turn_paid : (turns : ℕ) → (turns ≡ 0 → ⊥) → (place : List (C.Marked ℕ)) (ls : List (M.Label ℕ)) (o : List M.Outcome) → behind_turn turns place ls o ≡ M.bounded_run length (turns - 1) place ls o
+pub turn_paid : (turns : ℕ) → (turns ≡ 0 → ⊥) → (place : List (C.Marked ℕ)) (ls : List (M.Label ℕ)) (o : List M.Outcome) → after_turn turns place ls o ≡ M.bounded_run length (turns - 1) place ls o
 turn_paid zero h place ls o = absurd (h refl)
 turn_paid (suc t) h place ls o = let m : t ≡ suc t - 1 = omega arith in ap (λ k. M.bounded_run length k place ls o) m

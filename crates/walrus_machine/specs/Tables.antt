@@ -9,7 +9,7 @@ use Rattle.walrus_machine.specs.Controls.{control_meaning}
 use Rattle.walrus_machine.specs.declared.machine.control.Control.{Control}
 use Rattle.walrus_machine.specs.declared.machine.table.Ahead.{Ahead}
 use Rattle.walrus_machine.specs.declared.machine.table.Levels.{Levels}
-use Rattle.walrus_machine.specs.declared.machine.table.Wanted.{Wanted}
+use Rattle.walrus_machine.specs.declared.machine.table.Sought.{Sought}
 
 -- a place, from its position: the operators from it on, each with its position
 abbrev pub place_at : List C.Control → ℕ → List (Marked ℕ)
@@ -21,14 +21,14 @@ control_at c = option_map (λ x. control_meaning x.now) c
 -- what is ahead of a place in a construct around it; the innermost construct has depth 0
 pub record IsAhead (cs : List C.Control) (depth : ℕ) (place : ℕ) (a : Ahead) : Type 0 where
   pub part : place_at cs a.part ≡ (seek (λ c. true) depth 0 (place_at cs place)).rest
-  pub behind : place_at cs a.behind ≡ tail (seek (λ c. false) depth 0 (place_at cs place)).rest
+  pub following : place_at cs a.following ≡ tail (seek (λ c. false) depth 0 (place_at cs place)).rest
 
 -- the same in each construct around a place; outside of all constructs, nothing is ahead
 abbrev pub nothing_ahead : ℕ → Ahead
-nothing_ahead end = record { part = end; behind = end }
+nothing_ahead end = record { part = end; following = end }
 
-abbrev pub StandAhead : List C.Control → ℕ → Levels → Type 0
-StandAhead cs place l = (depth : ℕ) → IsAhead cs depth place (get_or (reverse l.levels.items) depth (nothing_ahead l.end))
+abbrev pub LevelsAhead : List C.Control → ℕ → Levels → Type 0
+LevelsAhead cs place l = (depth : ℕ) → IsAhead cs depth place (get_or (reverse l.levels.items) depth (nothing_ahead l.end))
 
 -- the same after each operator from a position on, in the innermost construct
 abbrev pub AreAhead : List C.Control → ℕ → List Ahead → Type 0
@@ -36,9 +36,9 @@ AreAhead cs i [] = Unit {0}
 AreAhead cs i (a ∷ more) = IsAhead cs 0 (suc i) a × AreAhead cs (suc i) more
 
 -- whether this is the wanted part
-abbrev pub test_of : Wanted → C.Control → Bool
-test_of Wanted.Else c = is_else c
-test_of (Wanted.Clause tags) c = catches tags.now.keys c
+abbrev pub test_of : Sought → C.Control → Bool
+test_of Sought.Else c = is_else c
+test_of (Sought.Clause tags) c = catches tags.now.keys c
 
 abbrev pub parts : Shape → Bool
 parts Part = true

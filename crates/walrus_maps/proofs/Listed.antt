@@ -2,5 +2,5 @@
 use Rattle.std.specs.Prelude.{List, ◌++◌, Result, Ok}
 use Rattle.walrus_ir.specs.Results.{◌>>=◌}
 
-abbrev pub behind_these : {A E : Type 0} → List A → Result (List A) E → Result (List A) E
-behind_these before rest = rest >>= λ ys. Ok (before ++ ys)
+abbrev pub after_these : {A E : Type 0} → List A → Result (List A) E → Result (List A) E
+after_these before rest = rest >>= λ ys. Ok (before ++ ys)

@@ -3,7 +3,7 @@ ghost use Rattle.std.specs.Prelude.{◌≡◌, ◌<◌, ℕ, List, [], ◌∷◌
 ghost use Rattle.walrus_maps.specs.Growth.{GrowsFrom};
 ghost use Rattle.walrus_ir.specs.Results.{some_or};
 
-use crate::growth::index_behind;
+use crate::growth::index_after;
 use std::alloc::Global;
 use std::marker::Model;
 use walrus_ir::Id;
@@ -39,7 +39,7 @@ impl<K> IdList<K> {
         ensures err { OnErr result (self.new ≡ self.old) }
         ensures growth { GrowsFrom (length self.old) result }
     {
-        let index = index_behind(self.ids.len())?;
+        let index = index_after(self.ids.len())?;
         self.ids.push(id)?;
         Ok(index)
     }

@@ -5,7 +5,7 @@ ghost use Rattle.std.specs.FinMap as map;
 ghost use Rattle.walrus_ir.specs.Results.{some_or};
 ghost use Rattle.walrus_maps.specs.Growth.{GrowsFrom};
 
-use crate::growth::index_behind;
+use crate::growth::index_after;
 use std::alloc::Global;
 use std::marker::Model;
 use walrus_ir::{Id, IdHashMap};
@@ -87,7 +87,7 @@ impl<K> IdNumbers<K> {
         ensures err { OnErr result (self.new ≡ self.old) }
         ensures growth { GrowsFrom (map.len self.old) result }
     {
-        let number = index_behind(self.len())?;
+        let number = index_after(self.len())?;
         self.set(id, number)
     }
 

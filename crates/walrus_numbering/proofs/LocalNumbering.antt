@@ -27,8 +27,8 @@ use Rattle.wasm_body.specs.declared.error.EmitError.TheVariants.{UnknownLocal, T
 use Rattle.wasm_body.specs.Bytes.{Numbers}
 use Rattle.wasm_body.specs.LocalNumbers.{Local, local_order, AreDeclared, types_of, ids_of, last_place, number_of_local, one_more, runs, declarations, declared}
 use Rattle.wasm_body.proofs.LocalNumbers.{same_type-Decides, local_order-total, last_place_get}
-use Rattle.walrus_numbering.specs.EmittedLocals.{number_in, cut, leading, typed_local, unnumbered, HasUnknown}
-use Rattle.walrus_maps.proofs.Listed.{behind_these}
+use Rattle.walrus_numbering.specs.EmittedLocals.{number_in, saturated, leading, typed_local, unnumbered, HasUnknown}
+use Rattle.walrus_maps.proofs.Listed.{after_these}
 use Rattle.walrus_maps.proofs.EntryMaps.{same_id, get-entries}
 
 -- ---- numbers
@@ -50,17 +50,17 @@ last_place-push (y ∷ ys) x q =
     ]
 
 -- one more argument
-pub argument_numbered : (args : List ℕ) (i x n : ℕ) (es fs : List (ℕ × ℕ)) → i < length args → x ≡ get_or args i x → n ≡ cut i
+pub argument_numbered : (args : List ℕ) (i x n : ℕ) (es fs : List (ℕ × ℕ)) → i < length args → x ≡ get_or args i x → n ≡ saturated i
     → ((q : ℕ) → lookup (same_id q) fs ≡ cond (same_id x q) (Some n) (lookup (same_id q) es))
-    → ((q : ℕ) → number_in es q ≡ option_map cut (last_place (take i args) q))
-    → (q : ℕ) → number_in fs q ≡ option_map cut (last_place (take (i + 1) args) q)
+    → ((q : ℕ) → number_in es q ≡ option_map saturated (last_place (take i args) q))
+    → (q : ℕ) → number_in fs q ≡ option_map saturated (last_place (take (i + 1) args) q)
 argument_numbered args i x n es fs within is number put before q =
     let pushed = ap (λ xs. last_place xs q) (take_more args i x within ∙ ap (λ y. take i args ++ y ∷ []) (sym is)) ∙ (last_place-push (take i args) x q ∙ ap (λ n. cond (x == q) (Some n) (last_place (take i args) q)) (length-take-le i args (omega (arith, within)))) in
     one_number es fs x n put q
     ∙ (ap (λ m. cond (x == q) (Some m) (number_in es q)) number
-    ∙ (ap (λ o. cond (x == q) (Some (cut i)) o) (before q)
-    ∙ (elim (x == q) as (λ b. cond b (Some (cut i)) (option_map cut (last_place (take i args) q)) ≡ option_map cut (cond b (Some i) (last_place (take i args) q))) [ true ↦ refl | false ↦ refl ]
-    ∙ ap (option_map cut) (sym pushed))))
+    ∙ (ap (λ o. cond (x == q) (Some (saturated i)) o) (before q)
+    ∙ (elim (x == q) as (λ b. cond b (Some (saturated i)) (option_map saturated (last_place (take i args) q)) ≡ option_map saturated (cond b (Some i) (last_place (take i args) q))) [ true ↦ refl | false ↦ refl ]
+    ∙ ap (option_map saturated) (sym pushed))))
 
 -- one more local after the arguments
 pub other_numbered : (args : List ℕ) (others : List Local) (i : ℕ) (l : Local) (es fs : List (ℕ × ℕ)) → i < length others → l ≡ get_or others i l
@@ -116,15 +116,15 @@ first_run t (u ∷ us) =
     ] refl
 
 -- one more run
-pub run_found : (locals left behind rest : List Local) (l : Local) (done found : List (ℕ × ValType ℕ)) (n : ℕ) → left ≡ l ∷ behind → n ≡ leading l.0 (types_of behind)
-    → rest ≡ drop n behind → done ++ runs (types_of left) ≡ runs (types_of locals) → found ≡ done ++ (n + 1, l.0) ∷ [] → found ++ runs (types_of rest) ≡ runs (types_of locals)
-run_found locals left behind rest l done found n first count others before pushed =
-    let this = first_run l.0 (types_of behind) in
+pub run_found : (locals left following rest : List Local) (l : Local) (done found : List (ℕ × ValType ℕ)) (n : ℕ) → left ≡ l ∷ following → n ≡ leading l.0 (types_of following)
+    → rest ≡ drop n following → done ++ runs (types_of left) ≡ runs (types_of locals) → found ≡ done ++ (n + 1, l.0) ∷ [] → found ++ runs (types_of rest) ≡ runs (types_of locals)
+run_found locals left following rest l done found n first count others before pushed =
+    let this = first_run l.0 (types_of following) in
     let here : runs (types_of left) ≡ (n + 1, l.0) ∷ runs (types_of rest) =
     ap (λ ls. runs (types_of ls)) first
     ∙ (this
-    ∙ (ap (λ k. (k + 1, l.0) ∷ runs (drop k (types_of behind))) (sym count)
-    ∙ ap (λ ts. (n + 1, l.0) ∷ runs ts) (drop-map (λ (k : Local). k.0) n behind ∙ ap types_of (sym others)))) in
+    ∙ (ap (λ k. (k + 1, l.0) ∷ runs (drop k (types_of following))) (sym count)
+    ∙ ap (λ ts. (n + 1, l.0) ∷ runs ts) (drop-map (λ (k : Local). k.0) n following ∙ ap types_of (sym others)))) in
     ap (λ rs. rs ++ runs (types_of rest)) pushed
     ∙ (append_assoc done ((n + 1, l.0) ∷ []) (runs (types_of rest))
     ∙ (ap (λ rs. done ++ rs) (sym here) ∙ before))
@@ -148,27 +148,27 @@ module _ (types : List (ValType ℕ)) (numbers : List (ℕ × ℕ)) where
       ∙ ap (λ b. each (typed_local types) (cond (not b) (id ∷ filter (λ k. not (is_some (number_in numbers k))) rest) (filter (λ k. not (is_some (number_in numbers k))) rest))) has
 
   pub other_skipped : (id : ℕ) (rest ids : List ℕ) (found : List Local) (whole : Result (List Local) EmitError) → ids ≡ id ∷ rest → is_some (lookup (same_id id) numbers) ≡ true
-      → behind_these found (Others ids) ≡ whole → behind_these found (Others rest) ≡ whole
-  other_skipped id rest ids found whole first has before = ap (behind_these found) (sym (taken id rest ids true first has)) ∙ before
+      → after_these found (Others ids) ≡ whole → after_these found (Others rest) ≡ whole
+  other_skipped id rest ids found whole first has before = ap (after_these found) (sym (taken id rest ids true first has)) ∙ before
 
-  one_behind : (found : List Local) (l : Local) (r : Result (List Local) EmitError) → behind_these found (r >>= λ ls. Ok (l ∷ ls)) ≡ behind_these (found ++ l ∷ []) r
-  one_behind found l (Ok ls) = ap Ok (sym (append_assoc found (l ∷ []) ls))
-  one_behind found l (Err e) = refl
+  one_after : (found : List Local) (l : Local) (r : Result (List Local) EmitError) → after_these found (r >>= λ ls. Ok (l ∷ ls)) ≡ after_these (found ++ l ∷ []) r
+  one_after found l (Ok ls) = ap Ok (sym (append_assoc found (l ∷ []) ls))
+  one_after found l (Err e) = refl
 
   pub other_found : (id : ℕ) (t : ValType ℕ) (rest ids : List ℕ) (found more : List Local) (whole : Result (List Local) EmitError) → ids ≡ id ∷ rest → is_some (lookup (same_id id) numbers) ≡ false
-      → slice_get types id ≡ Some t → more ≡ found ++ (t, id) ∷ [] → behind_these found (Others ids) ≡ whole → behind_these more (Others rest) ≡ whole
+      → slice_get types id ≡ Some t → more ≡ found ++ (t, id) ∷ [] → after_these found (Others ids) ≡ whole → after_these more (Others rest) ≡ whole
   other_found id t rest ids found more whole first has type pushed before =
-      ap (λ ls. behind_these ls (Others rest)) pushed
-      ∙ (sym (one_behind found (t, id) (Others rest))
-      ∙ (ap (λ (o : Option (ValType ℕ)). behind_these found ((some_or o UnknownLocal >>= λ u. Ok (u, id)) >>= λ l. Others rest >>= λ ls. Ok (l ∷ ls))) (sym type)
-      ∙ (ap (behind_these found) (sym (taken id rest ids false first has)) ∙ before)))
+      ap (λ ls. after_these ls (Others rest)) pushed
+      ∙ (sym (one_after found (t, id) (Others rest))
+      ∙ (ap (λ (o : Option (ValType ℕ)). after_these found ((some_or o UnknownLocal >>= λ u. Ok (u, id)) >>= λ l. Others rest >>= λ ls. Ok (l ∷ ls))) (sym type)
+      ∙ (ap (after_these found) (sym (taken id rest ids false first has)) ∙ before)))
 
   pub other_unknown : (id : ℕ) (rest ids : List ℕ) (found : List Local) (whole : Result (List Local) EmitError) → ids ≡ id ∷ rest → is_some (lookup (same_id id) numbers) ≡ false
-      → slice_get types id ≡ None → behind_these found (Others ids) ≡ whole → whole ≡ Err UnknownLocal
+      → slice_get types id ≡ None → after_these found (Others ids) ≡ whole → whole ≡ Err UnknownLocal
   other_unknown id rest ids found whole first has type before =
       sym before
-      ∙ (ap (behind_these found) (taken id rest ids false first has)
-      ∙ ap (λ (o : Option (ValType ℕ)). behind_these found ((some_or o UnknownLocal >>= λ u. Ok (u, id)) >>= λ l. Others rest >>= λ ls. Ok (l ∷ ls))) type)
+      ∙ (ap (after_these found) (taken id rest ids false first has)
+      ∙ ap (λ (o : Option (ValType ℕ)). after_these found ((some_or o UnknownLocal >>= λ u. Ok (u, id)) >>= λ l. Others rest >>= λ ls. Ok (l ∷ ls))) type)
 
 abbrev Typed : List (ValType ℕ) → Local → Type 0
 Typed types l = slice_get types l.1 ≡ Some l.0
@@ -196,11 +196,11 @@ each_typed types (id ∷ ids) ls h =
 record IsUntyped (types : List (ValType ℕ)) (ids : List ℕ) (e : EmitError) : Type 0 where
   fault : e ≡ UnknownLocal
   id : ℕ
-  stands : among id ids ≡ true
+  is_among : among id ids ≡ true
   has_none : slice_get types id ≡ None
 
-untyped_behind : (types : List (ValType ℕ)) (id : ℕ) (ids : List ℕ) (e : EmitError) → IsUntyped types ids e → IsUntyped types (id ∷ ids) e
-untyped_behind types id ids e h = record { fault = h.fault; id = h.id; stands = ap (λ b. (h.id == id) || b) h.stands ∙ or-true (h.id == id); has_none = h.has_none }
+untyped_after : (types : List (ValType ℕ)) (id : ℕ) (ids : List ℕ) (e : EmitError) → IsUntyped types ids e → IsUntyped types (id ∷ ids) e
+untyped_after types id ids e h = record { fault = h.fault; id = h.id; is_among = ap (λ b. (h.id == id) || b) h.is_among ∙ or-true (h.id == id); has_none = h.has_none }
 
 each_untyped : (types : List (ValType ℕ)) (ids : List ℕ) (e : EmitError) → each (typed_local types) ids ≡ Err e → IsUntyped types ids e
 each_untyped types [] e h = cc
@@ -209,9 +209,9 @@ each_untyped types (id ∷ ids) e h =
       | Some t ↦ λ has f.
           (elim (each (typed_local types) ids) as (λ r. each (typed_local types) ids ≡ r → (r >>= λ ks. Ok ((t, id) ∷ ks)) ≡ Err e → IsUntyped types (id ∷ ids) e) [
             | Ok ms ↦ λ are g. cc
-            | Err x ↦ λ are g. let is : x ≡ e = cc in untyped_behind types id ids e (each_untyped types ids e (are ∙ ap Err is))
+            | Err x ↦ λ are g. let is : x ≡ e = cc in untyped_after types id ids e (each_untyped types ids e (are ∙ ap Err is))
           ]) refl f
-      | None ↦ λ has f. let is : e ≡ UnknownLocal = cc in record { fault = is; id = id; stands = ap (λ b. b || among id ids) (eq-eqb id id refl); has_none = has }
+      | None ↦ λ has f. let is : e ≡ UnknownLocal = cc in record { fault = is; id = id; is_among = ap (λ b. b || among id ids) (eq-eqb id id refl); has_none = has }
     ] refl h
 
 -- the ids that a filter keeps
@@ -328,7 +328,7 @@ module _ (types : List (ValType ℕ)) (args keys : List ℕ) (numbers : List (�
   pub unknown_local : (e : EmitError) → unnumbered types numbers keys ≡ Err e → (e ≡ UnknownLocal) × HasUnknown types args (λ id. among id keys)
   unknown_local e is =
       let un = each_untyped types (filter Free keys) e is in
-      let parts = both_parts (among un.id keys) (among un.id args) (sym (free_used un.id) ∙ un.stands) in
+      let parts = both_parts (among un.id keys) (among un.id args) (sym (free_used un.id) ∙ un.is_among) in
       (un.fault, record { id = un.id; is_used = parts.0; is_no_argument = parts.1; has_no_type = un.has_none })
 
 -- ---- the function as a whole
@@ -348,21 +348,21 @@ some_place (x ∷ xs) id =
     ]))
 
 -- whether the map has a number for an id says whether it is an argument
-pub arguments_told : (args : List ℕ) (es : List (ℕ × ℕ)) → ((id : ℕ) → number_in es id ≡ option_map cut (last_place args id)) → (id : ℕ) → is_some (number_in es id) ≡ among id args
-arguments_told args es h id =
+pub arguments_are_numbered : (args : List ℕ) (es : List (ℕ × ℕ)) → ((id : ℕ) → number_in es id ≡ option_map saturated (last_place args id)) → (id : ℕ) → is_some (number_in es id) ≡ among id args
+arguments_are_numbered args es h id =
     ap is_some (h id)
-    ∙ (elim (last_place args id) as (λ o. is_some (option_map cut o) ≡ is_some o) [ Some n ↦ refl | None ↦ refl ]
+    ∙ (elim (last_place args id) as (λ o. is_some (option_map saturated o) ≡ is_some o) [ Some n ↦ refl | None ↦ refl ]
     ∙ some_place args id)
 
-cut_fits : (n : ℕ) → n < 2 ^ 32 → cut n ≡ n
-cut_fits n h = ap (λ b. cond b n (2 ^ 32 - 1)) (lt-ltb n (2 ^ 32) h)
+saturated_fits : (n : ℕ) → n < 2 ^ 32 → saturated n ≡ n
+saturated_fits n h = ap (λ b. cond b n (2 ^ 32 - 1)) (lt-ltb n (2 ^ 32) h)
 
 -- if all positions fit, no number is cut
-pub nothing_cut : (args : List ℕ) (es : List (ℕ × ℕ)) → length args ≤ 2 ^ 32 → ((id : ℕ) → number_in es id ≡ option_map cut (last_place args id)) → (id : ℕ) → number_in es id ≡ last_place args id
-nothing_cut args es fit h id =
+pub nothing_saturated : (args : List ℕ) (es : List (ℕ × ℕ)) → length args ≤ 2 ^ 32 → ((id : ℕ) → number_in es id ≡ option_map saturated (last_place args id)) → (id : ℕ) → number_in es id ≡ last_place args id
+nothing_saturated args es fit h id =
     h id
-    ∙ elim (last_place args id) as (λ o. last_place args id ≡ o → option_map cut o ≡ o) [
-      | Some n ↦ λ is. let within = slice_get_within args n id (last_place_get args id n is) in ap Some (cut_fits n (omega (arith, within)))
+    ∙ elim (last_place args id) as (λ o. last_place args id ≡ o → option_map saturated o ≡ o) [
+      | Some n ↦ λ is. let within = slice_get_within args n id (last_place_get args id n is) in ap Some (saturated_fits n (omega (arith, within)))
       | None ↦ λ is. refl
     ] refl
 

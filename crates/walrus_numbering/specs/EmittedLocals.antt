@@ -39,14 +39,14 @@ pub record HasFault (to : Numbers) (types : List (ValType ℕ)) (args : List ℕ
   pub fault_is : declared to (length args) others ≡ Err e
 
 -- Memory ran out, a local isn't in the module, or the declarations have this fault.
-abbrev pub IsUndeclared : Numbers → List (ValType ℕ) → List ℕ → (ℕ → Bool) → EmitError → Type 0
-IsUndeclared to types args used e = (e ≡ Memory) ⊎ (((e ≡ UnknownLocal) × HasUnknown types args used) ⊎ HasFault to types args used e)
+abbrev pub IsNotDeclared : Numbers → List (ValType ℕ) → List ℕ → (ℕ → Bool) → EmitError → Type 0
+IsNotDeclared to types args used e = (e ≡ Memory) ⊎ (((e ≡ UnknownLocal) × HasUnknown types args used) ⊎ HasFault to types args used e)
 
 -- ---- intermediate results
 
 -- the number itself, or the greatest one of 32 bits
-abbrev pub cut : ℕ → ℕ
-cut n = if nat_lt n (2 ^ 32) then n else 2 ^ 32 - 1
+abbrev pub saturated : ℕ → ℕ
+saturated n = if nat_lt n (2 ^ 32) then n else 2 ^ 32 - 1
 
 -- a local with its type
 abbrev pub typed_local : List (ValType ℕ) → ℕ → Result Local EmitError

@@ -12,15 +12,15 @@ fn are_same_lists(a: &[ValType], b: &[ValType]) -> bool
 {
     let mut left = a;
     let mut right = b;
-    'left: while let Some((first, left_behind)) = left.split_first() {
-        let Some((second, right_behind)) = right.split_first() else {
+    'left: while let Some((first, left_rest)) = left.split_first() {
+        let Some((second, right_rest)) = right.split_first() else {
             return false;
         };
         if !are_same(first, second) {
             return false;
         }
-        left = left_behind;
-        right = right_behind;
+        left = left_rest;
+        right = right_rest;
     }
     right.is_empty()
 }

@@ -8,7 +8,7 @@ ghost use Rattle.walrus_ir.specs.Types.{same_type};
 ghost use Rattle.walrus_ir.specs.Unfolding.{among, Apart};
 ghost use Rattle.wasm_body.specs.declared.error.EmitError.TheVariants.{Memory, UnknownLocal};
 ghost use Rattle.wasm_body.specs.LocalNumbers.{AreDeclared, types_of, ids_of, last_place, number_of_local, runs, declaration, declarations};
-ghost use Rattle.walrus_numbering.specs.EmittedLocals.{number_in, cut, unnumbered, leading, Declares, HasUnknown, IsUndeclared};
+ghost use Rattle.walrus_numbering.specs.EmittedLocals.{number_in, saturated, unnumbered, leading, Declares, HasUnknown, IsNotDeclared};
 ghost use Rattle.walrus_numbering.specs.NumberMaps.{numbers_by, numbers_of};
 
 use crate::number_maps::NumberMaps;
@@ -25,8 +25,8 @@ use wasm_operators::RawValType;
 const NUMBERS: usize = 1 << 32;
 
 /// The number of this position, or the greatest number if the position doesn't fit 32 bits.
-fn cut_number(place: usize) -> u32
-    ensures { result ≡ cut place }
+fn saturated_number(place: usize) -> u32
+    ensures { result ≡ saturated place }
 {
     if place < NUMBERS {
         place as u32
@@ -39,11 +39,11 @@ fn cut_number(place: usize) -> u32
 /// that the map still has all arguments.
 fn number_arguments(alloc: Global, args: &[LocalId]) -> Result<IdHashMap<LocalId, u32>, AllocError>
     ensures { IfOk result (λ numbers. (id : ℕ)
-        → number_in numbers.entries id ≡ option_map cut (last_place args.now id)) }
+        → number_in numbers.entries id ≡ option_map saturated (last_place args.now id)) }
 {
     let mut numbers = IdHashMap::new(alloc);
     for (place, id) in args.iter().enumerate() {
-        numbers.insert(*id, cut_number(place))?;
+        numbers.insert(*id, saturated_number(place))?;
     }
     Ok(numbers)
 }
@@ -144,10 +144,10 @@ fn runs(alloc: Global, locals: &[(ValType, LocalId)]) -> Result<Vec<(usize, ValT
 {
     let mut found = Vec::new(alloc);
     let mut left = locals;
-    'left: while let Some(((ty, _id), behind)) = left.split_first() {
-        let more = leading(ty, behind);
+    'left: while let Some(((ty, _id), following)) = left.split_first() {
+        let more = leading(ty, following);
         found.push((more + 1, *ty))?;
-        left = &behind[more..];
+        left = &following[more..];
     }
     Ok(found)
 }
@@ -173,7 +173,7 @@ fn written_runs(
 {
     let mut made = Vec::new(alloc);
     let mut left = runs;
-    'runs: while let Some(((count, ty), behind)) = left.split_first() {
+    'runs: while let Some(((count, ty), following)) = left.split_first() {
         let ty = match value_type(numbers, *ty) {
             Ok(ty) => ty,
             Err(fault) => return Err(fault),
@@ -181,7 +181,7 @@ fn written_runs(
         if made.push((*count as u32, ty)).is_err() {
             return Err(EmitError::Memory);
         }
-        left = behind;
+        left = following;
     }
     Ok(made)
 }
@@ -224,7 +224,7 @@ pub fn emit_locals(
     ensures ok { IfOk result (λ made. Declares (numbers_by «module».now.types indices.now [])
         «module».now.locals args.now (contains (λ x y. x == y) used.now) made.0.items
         made.1.entries) }
-    ensures err { IfErr result (IsUndeclared (numbers_by «module».now.types indices.now [])
+    ensures err { IfErr result (IsNotDeclared (numbers_by «module».now.types indices.now [])
         «module».now.locals args.now (contains (λ x y. x == y) used.now)) }
 {
     let mut numbers = number_arguments(alloc, args)?;

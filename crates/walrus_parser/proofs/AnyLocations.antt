@@ -14,18 +14,18 @@ use Rattle.wasm_body.specs.SourceTree.{Sequence, Body}
 use Rattle.wasm_body.specs.Frames.{Frame, moves}
 use Rattle.wasm_body.specs.Naming.{Environment, NamedOperation, Occurrence, named_in}
 use Rattle.wasm_body.specs.Parsing.Accepted.{mark, has_location, location_at, Setting, Handled, handled}
-use Rattle.wasm_body.specs.Parsing.Lists.{behind, parsed_from}
+use Rattle.wasm_body.specs.Parsing.Lists.{continue_from, parsed_from}
 use Rattle.wasm_body.specs.Parsing.Progress.{Layer, Progress, Within, Whole, NoBody, nothing_read, frames_of, further}
 use Rattle.wasm_body.proofs.Structure.ReadFrames.{progress_frames, further_frames}
-use Rattle.wasm_body.proofs.ReadBack.FrameNames.{behind_frames, moves_frames, named_of, shapes, named_same}
+use Rattle.wasm_body.proofs.ReadBack.FrameNames.{after_frames, moves_frames, named_of, shapes, named_same}
 use Rattle.walrus_parser.specs.Checking.{placed_at}
 use Rattle.walrus_parser.specs.Settings.{Taken, taken, given_with, BothOrNone}
-use Rattle.walrus_parser.proofs.SoFars.{occurrence}
+use Rattle.walrus_parser.proofs.ParsedSoFar.{occurrence}
 
 -- ---- one fault
 
 abbrev progress_shapes : Progress Occurrence → Option (List (Frame NamedOperation))
-progress_shapes p = behind_frames named_of (progress_frames p)
+progress_shapes p = after_frames named_of (progress_frames p)
 
 within_shapes : (ls ks : List (Layer Occurrence)) (s t : Sequence Occurrence) → progress_shapes (Within ls s) ≡ progress_shapes (Within ks t) → shapes (frames_of ls) ≡ shapes (frames_of ks)
 within_shapes ls ks s t e = cc
@@ -33,11 +33,11 @@ within_shapes ls ks s t e = cc
 further_shapes : (ls ks : List (Layer Occurrence)) (s t : Sequence Occurrence) (op : RawOperation) (place l m : ℕ) (named : NamedOperation) → shapes (frames_of ls) ≡ shapes (frames_of ks) →
     progress_shapes (further (Within ls s) (mark (occurrence op place l named))) ≡ progress_shapes (further (Within ks t) (mark (occurrence op place m named)))
 further_shapes ls ks s t op place l m named e =
-    ap (behind_frames named_of) (further_frames (Within ls s) (mark (occurrence op place l named)))
+    ap (after_frames named_of) (further_frames (Within ls s) (mark (occurrence op place l named)))
     ∙ moves_frames named_of (control_of named) (occurrence op place l named) (frames_of ls)
     ∙ ap (moves (control_of named) named) e
     ∙ sym (moves_frames named_of (control_of named) (occurrence op place m named) (frames_of ks))
-    ∙ sym (ap (behind_frames named_of) (further_frames (Within ks t) (mark (occurrence op place m named))))
+    ∙ sym (ap (after_frames named_of) (further_frames (Within ks t) (mark (occurrence op place m named))))
 
 module _ {S : Type 0} (env : Environment) (start : ℕ) (check : S → Placed → Result S ℕ) (first : S) where
   abbrev given : Option (ℕ → ℕ) → Setting S
@@ -95,7 +95,7 @@ module _ {S : Type 0} (env : Environment) (start : ℕ) (check : S → Placed �
         parsed_from (given l) turns p v place bytes ≡ Err f → parsed_from (given m) turns q v place bytes ≡ Err f
 
     abbrev after : Option (ℕ → ℕ) → ℕ → (ls : List (Layer Occurrence)) (s : Sequence Occurrence) (place size : ℕ) → Result (Handled S) ParseError → Result (Body Occurrence) ParseFailure
-    after locations turns ls s place size r = behind place r (λ h. parsed_from (given locations) turns (further (Within ls s) (mark h.operator)) h.state (place + (size - length h.rest)) h.rest)
+    after locations turns ls s place size r = continue_from place r (λ h. parsed_from (given locations) turns (further (Within ls s) (mark h.operator)) h.state (place + (size - length h.rest)) h.rest)
 
     turn_same : (turns : ℕ) → SameFault turns → (ls ks : List (Layer Occurrence)) (s t : Sequence Occurrence) (place size : ℕ) (f : ParseFailure) → shapes (frames_of ls) ≡ shapes (frames_of ks) →
         (r : Result (NamedOperation × Taken S) ParseError) → after l turns ls s place size (r >>= λ k. Ok (put l place k)) ≡ Err f → after m turns ks t place size (r >>= λ k. Ok (put m place k)) ≡ Err f

@@ -29,8 +29,8 @@ use Rattle.walrus_parser.specs.BodyParsers.{state_with}
 entry_signature : (types : List ModuleType) (results : List (ValType ℕ)) (id : ℕ) → find_entry types results ≡ Some id → (s : Signature) × (signature_of types id ≡ Some s)
 entry_signature types results id is =
     let found = position-Some (is_entry results) types id Other is in
-    let stands = slice_get-get_or types id Other found.0 in
-    by_type (get_or types id Other) stands found.1
+    let in_arena = slice_get-get_or types id Other found.0 in
+    by_type (get_or types id Other) in_arena found.1
   where
     by_type : (t : ModuleType) → slice_get types id ≡ Some t → is_entry results t ≡ true → (s : Signature) × (signature_of types id ≡ Some s)
     by_type (Entry rs) e h = (record { parameters = []; results = rs }, rw e refl)
@@ -68,7 +68,7 @@ module _ (c : OpenTrees) (ty entry : ℕ) where
   first_keeps s is = record {
     kept = record { items = no_items; are_items = are_no_items; rise = (let n : 1 ≤ 1 = omega arith in n); is_normal = refl; is_dead = refl };
     alone = refl;
-    reserved = record { seq = empty_sequence 0 (MultiValue entry); stands = refl; has_type = sym (ap entry_type is); has_no_end = refl };
+    reserved = record { seq = empty_sequence 0 (MultiValue entry); in_arena = refl; has_type = sym (ap entry_type is); has_no_end = refl };
     first = refl;
     kind = refl;
     no_if = refl;

@@ -17,12 +17,12 @@ use Rattle.walrus_parser.specs.declared.body_parser.BodyParser.{BodyParser}
 use Rattle.walrus_parser.specs.Advancing.{Keeps, KeepsProgress}
 use Rattle.walrus_parser.specs.Bodies.{ParseInput, mapped_by, operators_parsed, IsRefusedAnyway}
 use Rattle.walrus_parser.specs.BodyParsers.{Begins, state_of}
-use Rattle.walrus_parser.specs.Locating.{Locates, MayAsk}
+use Rattle.walrus_parser.specs.Locating.{Locates, MayCall}
 use Rattle.walrus_context.specs.OpenTrees.{env_of}
 use Rattle.walrus_parser.specs.Settings.{has_place, taken, BothOrNone, locations_in, operators_of, IsMapping}
 use Rattle.walrus_parser.proofs.AnyLocations.{any_locations}
-use Rattle.walrus_parser.proofs.Mappings.{may_ask_next, rise-wider}
-use Rattle.walrus_parser.proofs.SoFars.{Reads, begins, occurrence, goes_over, not_taken, broken, missing, whole, trailing, whole_operators}
+use Rattle.walrus_parser.proofs.Mappings.{may_call_next, rise-wider}
+use Rattle.walrus_parser.proofs.ParsedSoFar.{Reads, begins, occurrence, goes_over, not_taken, broken, missing, whole, trailing, whole_operators}
 
 abbrev pub body_at : Sequence Occurrence → (place location : ℕ) → Body Occurrence
 body_at s place location = record { sequence = s; close = occurrence end_operation place location end_operation }
@@ -49,11 +49,11 @@ module _ {S F : Type 0} (g : Shared F (Bor ℕ × Unit {0}) ℕ) (i : ParseInput
     entry = fresh.entry;
   }
 
-  pub goes_on : (p : BodyParser) (progress : Progress Occurrence) (state : S) (place : ℕ) (rest : List ℕ) (mapping : List (ℕ × ℕ)) → env_of p.context ≡ i.environment → p.context.builder.entry ≡ Some 0 →
+  pub continues : (p : BodyParser) (progress : Progress Occurrence) (state : S) (place : ℕ) (rest : List ℕ) (mapping : List (ℕ × ℕ)) → env_of p.context ≡ i.environment → p.context.builder.entry ≡ Some 0 →
       KeepsProgress (env_of p.context) (state_of p) progress → ReadsSo progress state place rest mapping → SoFar p state place rest mapping
-  goes_on p (Within ls s) state place rest mapping e entry keeps reads = record { layers = ls; sequence = s; reads = reads; env_is = e; keeps = keeps; entry = entry }
-  goes_on p (Whole b) state place rest mapping e entry keeps reads = absurd keeps
-  goes_on p NoBody state place rest mapping e entry keeps reads = absurd keeps
+  continues p (Within ls s) state place rest mapping e entry keeps reads = record { layers = ls; sequence = s; reads = reads; env_is = e; keeps = keeps; entry = entry }
+  continues p (Whole b) state place rest mapping e entry keeps reads = absurd keeps
+  continues p NoBody state place rest mapping e entry keeps reads = absurd keeps
 
   -- ---- refusals
 
@@ -89,23 +89,23 @@ module _ {S F : Type 0} (g : Shared F (Bor ℕ × Unit {0}) ℕ) (i : ParseInput
     -- ---- one more operator
 
     -- the operator was read and taken, and it has a name
-    pub over_next : (p : BodyParser) (state next_state : S) (place next : ℕ) (rest after : List ℕ) (mapping behind : List (ℕ × ℕ)) (op : RawOperation) (location : ℕ) (named : NamedOperation) (s : SoFar p state place rest mapping) →
+    pub over_next : (p : BodyParser) (state next_state : S) (place next : ℕ) (rest after : List ℕ) (mapping following : List (ℕ × ℕ)) (op : RawOperation) (location : ℕ) (named : NamedOperation) (s : SoFar p state place rest mapping) →
         taken (has_place i.on_instr_pos) i.check state place rest ≡ Ok (record { spelt = op; rest = after; state = next_state }) → Locates g i.on_instr_pos place location → named_in (env_of p.context) (frames_of s.layers) op ≡ Ok named →
-        next + length after ≡ place + length rest → length after < length rest → behind ≡ mapping ++ (place - i.offset, location) ∷ [] →
-        ReadsSo (further (Within s.layers s.sequence) (mark (occurrence op place location named))) next_state next after behind
-    over_next p state next_state place next rest after mapping behind op location named s take located is moved shorter pushed =
+        next + length after ≡ place + length rest → length after < length rest → following ≡ mapping ++ (place - i.offset, location) ∷ [] →
+        ReadsSo (further (Within s.layers s.sequence) (mark (occurrence op place location named))) next_state next after following
+    over_next p state next_state place next rest after mapping following op location named s take located is moved shorter pushed =
         subst (ReadsSo (further (Within s.layers s.sequence) (mark (occurrence op place location named))) next_state next after) (sym pushed)
         (goes_over g i.on_instr_pos i.environment i.start i.offset i.check i.first i.bytes s.layers s.sequence state next_state place next rest after mapping op location named s.reads take located
         (ap (λ v. named_in v (frames_of s.layers) op) (sym s.env_is) ∙ is) moved shorter)
 
     -- it was the function's own `end`
-    pub over_end : (p : BodyParser) (state next_state : S) (place next : ℕ) (rest after : List ℕ) (mapping behind : List (ℕ × ℕ)) (location : ℕ) (s : SoFar p state place rest mapping) → s.layers ≡ [] →
+    pub over_end : (p : BodyParser) (state next_state : S) (place next : ℕ) (rest after : List ℕ) (mapping following : List (ℕ × ℕ)) (location : ℕ) (s : SoFar p state place rest mapping) → s.layers ≡ [] →
         taken (has_place i.on_instr_pos) i.check state place rest ≡ Ok (record { spelt = end_operation; rest = after; state = next_state }) → Locates g i.on_instr_pos place location →
-        next + length after ≡ place + length rest → length after < length rest → behind ≡ mapping ++ (place - i.offset, location) ∷ [] →
-        ReadsSo (Whole (body_at s.sequence place location)) next_state next after behind
-    over_end p state next_state place next rest after mapping behind location s top take located moved shorter pushed =
-        subst (λ ls. ReadsSo (further (Within ls s.sequence) (mark (occurrence end_operation place location end_operation))) next_state next after behind) top
-        (over_next p state next_state place next rest after mapping behind end_operation location end_operation s take located
+        next + length after ≡ place + length rest → length after < length rest → following ≡ mapping ++ (place - i.offset, location) ∷ [] →
+        ReadsSo (Whole (body_at s.sequence place location)) next_state next after following
+    over_end p state next_state place next rest after mapping following location s top take located moved shorter pushed =
+        subst (λ ls. ReadsSo (further (Within ls s.sequence) (mark (occurrence end_operation place location end_operation))) next_state next after following) top
+        (over_next p state next_state place next rest after mapping following end_operation location end_operation s take located
         (ap (λ ls. named_in (env_of p.context) (frames_of ls) end_operation) top) moved shorter pushed)
 
     -- ---- the body is whole
@@ -121,10 +121,10 @@ module _ {S F : Type 0} (g : Shared F (Bor ℕ × Unit {0}) ℕ) (i : ParseInput
     whole_mapping b state place rest mapping r =
         let at = r.place_is in
         subst (λ xs. IsMapping g i.on_instr_pos i.offset i.start (i.start + length i.bytes) xs mapping) (whole_operators g i.on_instr_pos i.environment i.start i.offset i.check i.first i.bytes b state place rest mapping r)
-        (record { pairs = r.is_mapping.pairs; rise = rise-wider r.operators i.start place (i.start + length i.bytes) (omega arith) r.is_mapping.rise; answers = r.is_mapping.answers })
+        (record { pairs = r.is_mapping.pairs; rise = rise-wider r.operators i.start place (i.start + length i.bytes) (omega arith) r.is_mapping.rise; are_located = r.is_mapping.are_located })
 
-  pub asks_next : (pre : F → Bor ℕ → Type 0) (p : BodyParser) (state : S) (place : ℕ) (rest : List ℕ) (mapping : List (ℕ × ℕ)) → SoFar p state place rest mapping → 0 < length rest →
-      MayAsk pre i.on_instr_pos i.start (i.start + length i.bytes) → MayAsk pre i.on_instr_pos place (place + 1)
-  asks_next pre p state place rest mapping s some may =
+  pub may_call_here : (pre : F → Bor ℕ → Type 0) (p : BodyParser) (state : S) (place : ℕ) (rest : List ℕ) (mapping : List (ℕ × ℕ)) → SoFar p state place rest mapping → 0 < length rest →
+      MayCall pre i.on_instr_pos i.start (i.start + length i.bytes) → MayCall pre i.on_instr_pos place (place + 1)
+  may_call_here pre p state place rest mapping s some may =
       let at = s.reads.place_is in
-      may_ask_next pre i.on_instr_pos i.start (i.start + length i.bytes) place s.reads.started (omega arith) may
+      may_call_next pre i.on_instr_pos i.start (i.start + length i.bytes) place s.reads.started (omega arith) may

@@ -11,7 +11,7 @@ use Rattle.wasm_body.specs.Naming.{Occurrence}
 use Rattle.wasm_body.specs.FunctionTree.{LegacyClause, Instruction}
 use Rattle.wasm_body.specs.NormalForm.{instruction, name_at}
 use Rattle.wasm_body.specs.InstructionTable.{operation_of, legacy_clause, clauses_of_try}
-use Rattle.wasm_body.specs.TreeOfFunction.{aimed, instruction_in}
+use Rattle.wasm_body.specs.TreeOfFunction.{with_targets, instruction_in}
 use Rattle.wasm_body.specs.Parsing.Progress.{OpenConstruct}
 use Rattle.walrus_context.specs.OpenConstructs.{opener_in, clauses_in}
 use Rattle.walrus_context.specs.OpenFrames.{OpenFrame, changed_at, with_instr}
@@ -39,7 +39,7 @@ gained_places x y clause h =
 pub gained_instruction : (around : List ℕ) (x y : LocatedInstr) (clause : LegacyCatch) (a : Occurrence) (cs : List LegacyClause) → GainsClause x y clause → instruction_in around x ≡ instruction (name_at a) cs →
     instruction_in around y ≡ instruction (name_at a) (cs ++ legacy_clause clause ∷ [])
 gained_instruction around x y clause a cs h is =
-    let opcode : aimed around (operation_of y.0) ≡ aimed around (operation_of x.0) = ap (λ i. aimed around (operation_of i)) h.is ∙ ap (λ i. aimed around (operation_of i)) (sym h.was) in
+    let opcode : with_targets around (operation_of y.0) ≡ with_targets around (operation_of x.0) = ap (λ i. with_targets around (operation_of i)) h.is ∙ ap (λ i. with_targets around (operation_of i)) (sym h.was) in
     let before : map legacy_clause h.old.catches ≡ cs = ap clauses_of_try (sym h.was) ∙ ap (λ (i : Instruction). i.clauses) is in
     let clauses : clauses_of_try y.0 ≡ cs ++ legacy_clause clause ∷ [] =
     ap clauses_of_try h.is ∙ ap (map legacy_clause) h.clauses ∙ map-append legacy_clause h.old.catches (clause ∷ []) ∙ ap (λ ds. ds ++ legacy_clause clause ∷ []) before in

@@ -19,15 +19,15 @@ of_wrapper OfLoop = tt
 of_wrapper (OfTryTable cs) = tt
 
 -- whether a clause of a legacy `try` is allowed after the frame
-abbrev pub IsBehindTry : BlockKind → Type 0
-IsBehindTry kind.Try = Unit {0}
-IsBehindTry kind.Catch = Unit {0}
-IsBehindTry _ = ⊥
+abbrev pub MayHaveClause : BlockKind → Type 0
+MayHaveClause kind.Try = Unit {0}
+MayHaveClause kind.Catch = Unit {0}
+MayHaveClause _ = ⊥
 
-behind_no_wrapper : (w : Wrapper) → IsBehindTry (wrapper_kind w) → ⊥
-behind_no_wrapper OfBlock m = m
-behind_no_wrapper OfLoop m = m
-behind_no_wrapper (OfTryTable cs) m = m
+no_clause_after_wrapper : (w : Wrapper) → MayHaveClause (wrapper_kind w) → ⊥
+no_clause_after_wrapper OfBlock m = m
+no_clause_after_wrapper OfLoop m = m
+no_clause_after_wrapper (OfTryTable cs) m = m
 
 module _ (P : OpenConstruct Occurrence → Type 0) where
   pub by_if : ((a : Occurrence) → P (InThen a)) → (p : OpenConstruct Occurrence) → kind_in p ≡ kind.If → P p
@@ -55,10 +55,10 @@ module _ (P : OpenConstruct Occurrence → Type 0) where
   by_try go (InCatchAll a b cs i) e = absurd cc
 
   pub by_clause : ((a : Occurrence) → P (InTry a)) → ((a : Occurrence) (b : Sequence Occurrence) (cs : List (ClosedClause Occurrence)) (i : Occurrence) (t : ℕ) → P (InCatch a b cs i t)) →
-      (p : OpenConstruct Occurrence) → IsBehindTry (kind_in p) → P p
+      (p : OpenConstruct Occurrence) → MayHaveClause (kind_in p) → P p
   by_clause go more (InTry a) m = go a
   by_clause go more (InCatch a b cs i t) m = more a b cs i t
-  by_clause go more (InWrapper a w) m = absurd (behind_no_wrapper w m)
+  by_clause go more (InWrapper a w) m = absurd (no_clause_after_wrapper w m)
   by_clause go more (InThen a) m = absurd m
   by_clause go more (InElse a b l) m = absurd m
   by_clause go more (InCatchAll a b cs i) m = absurd m

@@ -9,20 +9,21 @@ use Rattle.walrus_ir.specs.declared.instr.Instr.{Instr}
 use Rattle.walrus_ir.specs.declared.instr.Instr.TheVariants as instr
 use Rattle.walrus_ir.specs.Tree.{no_items, item, Sequences, no_sequences, sequence}
 use Rattle.walrus_ir.specs.Unfolding.{SequenceAt, LocatedInstr, slots_in, AreItems, AreSequences, are_no_items, are_items, are_no_sequences, are_sequences}
+use Rattle.walrus_ir.specs.Locations.{default_location}
 use Rattle.wasm_body.specs.SourceTree.{Sequence, Empty, map_sequence}
 use Rattle.wasm_body.specs.Naming.{Occurrence, Environment, block_signature}
 use Rattle.wasm_body.specs.NormalForm.{typing_of, instruction, head, normal, name_at}
-use Rattle.wasm_body.specs.FunctionTree.{Head, Instruction, default_location}
+use Rattle.wasm_body.specs.FunctionTree.{Head, Instruction}
 use Rattle.wasm_body.specs.Keeping.{is_dead}
 use Rattle.wasm_body.specs.TreeOfFunction.{instruction_in, items_in, sequences_in, head_of}
 use Rattle.wasm_body.specs.Intervals.{RiseIn, AllRiseIn}
 use Rattle.wasm_body.specs.Parsing.Progress.{append, closed, OpenConstruct, InWrapper, InThen, InElse, InTry, InCatch, InCatchAll, Layer, layer}
 use Rattle.wasm_body.proofs.NormalForm.ArenaLemmas.{all_rise-range, all_rise-wider, SameIn, items-same, sequences-same}
 use Rattle.walrus_context.specs.declared.frame.IfElseState.{IfElseState}
-use Rattle.walrus_context.specs.OpenConstructs.{opener_in, kind_in, clauses_in, closed_in, type_in, added_in, sequences_joined, sequences_closed, reshown_construct}
+use Rattle.walrus_context.specs.OpenConstructs.{opener_in, kind_in, clauses_in, closed_in, type_in, added_in, sequences_joined, sequences_closed, map_open_construct}
 use Rattle.walrus_context.specs.OpenFrames.{OpenFrame, new_frame, changed_at, with_instr}
 use Rattle.walrus_context.specs.Keeping.{slots, the_if, IsKept, TakesParameters, Encloses, IsAppended, OpensWith, Holds}
-use Rattle.walrus_parser.proofs.Closing.{normal_closed, reshown_in, same_opener}
+use Rattle.walrus_parser.proofs.Closing.{normal_closed, mapped_in, same_opener}
 use Rattle.walrus_parser.proofs.Frames.{slots_changed, kept_below, holds_same, AreNormal, taken_alive, holds_takes}
 
 -- ---- an arena with one more sequence
@@ -49,12 +50,12 @@ pub record IsOpened (env : Environment) (slot : ℕ) (p : OpenConstruct Occurren
   pub kind : f.kind ≡ kind_in p
   pub takes : TakesParameters env p f.start_types
   pub gives : f.end_types ≡ (block_signature (opener_in p).named).results
-  pub has_type : seq.ty ≡ type_in (typing_of env) (reshown_construct name_at p)
+  pub has_type : seq.ty ≡ type_in (typing_of env) (map_open_construct name_at p)
   pub has_no_end : seq.end ≡ default_location
 
 -- a new frame is that of a construct with these parameters and results
 pub is_opened : (env : Environment) (slot : ℕ) (p : OpenConstruct Occurrence) (f : OpenFrame) (seq : InstrSeq) (k : BlockKind) (takes gives : List (ValType ℕ)) → f ≡ new_frame k takes gives slot → k ≡ kind_in p → TakesParameters env p f.start_types →
-    gives ≡ (block_signature (opener_in p).named).results → seq.ty ≡ type_in (typing_of env) (reshown_construct name_at p) → seq.end ≡ default_location → IsOpened env slot p f seq
+    gives ≡ (block_signature (opener_in p).named).results → seq.ty ≡ type_in (typing_of env) (map_open_construct name_at p) → seq.end ≡ default_location → IsOpened env slot p f seq
 is_opened env slot p f seq k takes gives frame kind has gives_so type no_end = record {
   here = ap (λ (g : OpenFrame). g.sequence) frame;
   is_empty = ap (λ (g : OpenFrame). g.instrs) frame;
@@ -72,7 +73,7 @@ kept_empty env b high f around empty alive below =
     record { items = no_items; are_items = subst (λ xs. AreItems b xs no_items) (sym empty) are_no_items; rise = omega arith; is_normal = refl; is_dead = alive }
 
 pub holds_opened : (env : Environment) (b : List InstrSeq) (seq : InstrSeq) (ls : List (Layer Occurrence)) (s : Sequence Occurrence) (p : OpenConstruct Occurrence) (f : OpenFrame) (around outside : List OpenFrame) (ifs other_ifs : List IfElseState) →
-    IsOpened env (length b) p f seq → closed_in (typing_of env) (reshown_construct name_at p) ≡ no_sequences → OpensWith (slots around) [] f.sequence p around outside ifs other_ifs →
+    IsOpened env (length b) p f seq → closed_in (typing_of env) (map_open_construct name_at p) ≡ no_sequences → OpensWith (slots around) [] f.sequence p around outside ifs other_ifs →
     Holds env b ls s (length b) outside other_ifs → Holds env (b ++ seq ∷ []) (layer s p ∷ ls) Empty (length (b ++ seq ∷ [])) (f ∷ around) ifs
 holds_opened env b seq ls s p f around outside ifs other_ifs o none opens h =
     let more : length (b ++ seq ∷ []) ≡ length b + 1 = length_push b seq in
@@ -86,7 +87,7 @@ holds_opened env b seq ls s p f around outside ifs other_ifs o none opens h =
         are_sequences = are_no_sequences;
         rise = omega arith;
         is_normal = sym none;
-        reserved = record { seq = seq; stands = ap (slice_get (b ++ seq ∷ [])) o.here ∙ grown_at b seq; has_type = o.has_type; has_no_end = o.has_no_end };
+        reserved = record { seq = seq; in_arena = ap (slice_get (b ++ seq ∷ [])) o.here ∙ grown_at b seq; has_type = o.has_type; has_no_end = o.has_no_end };
         kind = o.kind;
         takes = o.takes;
         gives = o.gives;
@@ -124,7 +125,7 @@ pub record AreClosed (env : Environment) (c : List InstrSeq) (low high : ℕ) (a
   pub inside : Sequences SequenceAt LocatedInstr
   pub are_sequences : AreSequences c places inside
   pub rise : AllRiseIn low inside high
-  pub is_normal : sequences_in around inside ≡ sequences_closed (typing_of env) (reshown_construct name_at p) (normal (typing_of env) (map_sequence name_at s)) location rest
+  pub is_normal : sequences_in around inside ≡ sequences_closed (typing_of env) (map_open_construct name_at p) (normal (typing_of env) (map_sequence name_at s)) location rest
 
 -- The frame's sequence is in its slot, closed at this location; the others are as before.
 pub record IsSealed (env : Environment) (b c : List InstrSeq) (f : OpenFrame) (p : OpenConstruct Occurrence) (location : ℕ) : Type 0 where
@@ -132,7 +133,7 @@ pub record IsSealed (env : Environment) (b c : List InstrSeq) (f : OpenFrame) (p
   pub written : IsWritten b f.sequence seq c
   pub instrs : seq.instrs ≡ f.instrs
   pub end_is : seq.end ≡ location
-  pub type : seq.ty ≡ type_in (typing_of env) (reshown_construct name_at p)
+  pub type : seq.ty ≡ type_in (typing_of env) (map_open_construct name_at p)
 
 pub sequence_closed : (env : Environment) (b c : List InstrSeq) (low : ℕ) (f : OpenFrame) (around before : List ℕ) (p : OpenConstruct Occurrence) (s : Sequence Occurrence) (location : ℕ) →
     IsKept env b (length b) f around s → Encloses env b low f around p before → IsSealed env b c f p location →
@@ -144,7 +145,7 @@ sequence_closed env b c low f around before p s location k o w =
     let others : AreSequences c before o.inside = sequences-same c low f.sequence (λ q l h. w.written.elsewhere q (λ e. let d : q ≡ f.sequence = e in omega arith)) o.rise o.are_sequences in
     let wide : RiseIn (suc f.sequence) k.items (length c) = subst (RiseIn (suc f.sequence) k.items) (sym w.written.as_many) k.rise in
     let last : Sequences SequenceAt LocatedInstr = sequence (record { slot = f.sequence; seq = w.seq }) k.items no_sequences in
-    let top : head_of w.seq ≡ head (type_in (typing_of env) (reshown_construct name_at p)) location = λ i. record { type = w.type i; end_location = w.end_is i } in
+    let top : head_of w.seq ≡ head (type_in (typing_of env) (map_open_construct name_at p)) location = λ i. record { type = w.type i; end_location = w.end_is i } in
     record {
       inside = sequences_joined o.inside last;
       are_sequences = are_joined others (are_sequences w.written.here inside are_no_sequences);
@@ -159,11 +160,11 @@ sequence_closed env b c low f around before p s location k o w =
 -- the instruction with these sequences is the normal form of the closed construct
 pub closed_item : (env : Environment) (c : List InstrSeq) (low high : ℕ) (around places : List ℕ) (p : OpenConstruct Occurrence) (s : Sequence Occurrence) (e : Occurrence) (x : LocatedInstr) →
     slots_in x.0 ≡ places → instruction_in around x ≡ instruction (name_at (opener_in p)) (clauses_in p) →
-    AreClosed env c low high around places p s e.location (added_in (typing_of env) (reshown_construct name_at p)) →
+    AreClosed env c low high around places p s e.location (added_in (typing_of env) (map_open_construct name_at p)) →
     AreNormal env c low high around (x ∷ []) (closed p s e)
 closed_item env c low high around places p s e x at is a =
     let m = typing_of env in
-    let q = reshown_construct name_at p in
+    let q = map_open_construct name_at p in
     let inside : AreSequences c (slots_in x.0) a.inside = subst (λ ps. AreSequences c ps a.inside) (sym at) a.are_sequences in
     let named : instruction (name_at (opener_in p)) (clauses_in p) ≡ instruction (opener_in q) (clauses_in q) = same_opener p in
     record {
@@ -173,7 +174,7 @@ closed_item env c low high around places p s e x at is a =
       is_normal =
           (λ i. item ((is ∙ named) i) (a.is_normal i) no_items)
           ∙ sym (normal_closed m q (map_sequence name_at s) (name_at e))
-          ∙ ap (normal m) (sym (reshown_in name_at p s e));
+          ∙ ap (normal m) (sym (mapped_in name_at p s e));
     }
 
 -- changing a sequence leaves those before it unchanged
@@ -185,10 +186,10 @@ none_holds env b [] s high ifs h = h
 none_holds env b (l ∷ ls) s high ifs h = h
 
 -- the construct is added to the frame around
-pub holds_behind : (env : Environment) (c : List InstrSeq) (ls : List (Layer Occurrence)) (s t : Sequence Occurrence) (low high : ℕ) (fs : List OpenFrame) (ifs : List IfElseState) (x : LocatedInstr) → low ≤ high → is_dead t ≡ false →
+pub holds_after : (env : Environment) (c : List InstrSeq) (ls : List (Layer Occurrence)) (s t : Sequence Occurrence) (low high : ℕ) (fs : List OpenFrame) (ifs : List IfElseState) (x : LocatedInstr) → low ≤ high → is_dead t ≡ false →
     AreNormal env c low high (slots fs) (x ∷ []) t → Holds env c ls s low fs ifs → Holds env c ls (append s t) high (changed_at 0 (with_instr x) fs) ifs
-holds_behind env c ls s t low high [] ifs x wider alive a h = absurd (none_holds env c ls s low ifs h)
-holds_behind env c ls s t low high (f ∷ fs) ifs x wider alive a h =
+holds_after env c ls s t low high [] ifs x wider alive a h = absurd (none_holds env c ls s low ifs h)
+holds_after env c ls s t low high (f ∷ fs) ifs x wider alive a h =
     subst (λ g. Holds env c ls (append s t) high (g ∷ fs) ifs) (taken_alive x f) (holds_takes env c ls s t low high f fs ifs x false wider alive a h)
 
 closed_alive : (p : OpenConstruct Occurrence) (s : Sequence Occurrence) (e : Occurrence) → is_dead (closed p s e) ≡ false
@@ -206,7 +207,7 @@ closed_range {low = low} {high = high} a = all_rise-range low a.inside high a.ri
 
 -- `end` closes a construct whose instruction is already there
 pub holds_ended : (env : Environment) (b c : List InstrSeq) (ls : List (Layer Occurrence)) (before s : Sequence Occurrence) (p : OpenConstruct Occurrence) (IsOpener : Instr → Type 0) (f : OpenFrame) (fs outside : List OpenFrame) (ifs : List IfElseState)
-    (low : ℕ) (places : List ℕ) (e : Occurrence) → added_in (typing_of env) (reshown_construct name_at p) ≡ no_sequences →
+    (low : ℕ) (places : List ℕ) (e : Occurrence) → added_in (typing_of env) (map_open_construct name_at p) ≡ no_sequences →
     IsKept env b (length b) f (slots fs) s → Encloses env b low f (slots fs) p places → IsAppended (slots fs) places f.sequence p IsOpener fs outside → IsSealed env b c f p e.location →
     Holds env b ls before low outside ifs → Holds env c ls (append before (closed p s e)) (length c) fs ifs
 holds_ended env b c ls before s p IsOpener f fs outside ifs low places e none k o a w h =
@@ -216,7 +217,7 @@ holds_ended env b c ls before s p IsOpener f fs outside ifs low places e none k 
     let more = closed_item env c low (length c) (slots fs) (places ++ f.sequence ∷ []) p s e a.opener a.places a.is_instruction whole in
     let range = all_rise-range low o.inside f.sequence o.rise in
     subst (λ gs. Holds env c ls (append before (closed p s e)) (length c) gs ifs) (sym a.frames)
-    (holds_behind env c ls before (closed p s e) low (length c) outside ifs a.opener (closed_range closes) (closed_alive p s e)
+    (holds_after env c ls before (closed p s e) low (length c) outside ifs a.opener (closed_range closes) (closed_alive p s e)
     (subst (λ ps. AreNormal env c low (length c) ps (a.opener ∷ []) (closed p s e)) same_slots more)
     (holds_same env b c ls before low outside ifs (λ q m n. w.written.elsewhere q (λ d. let at : q ≡ f.sequence = d in omega arith)) h))
 
@@ -235,7 +236,7 @@ holds_chosen env b c ls before s t a l e f fs ifs low consequent is k o w h =
     let p = InElse a s l in
     let closes = sequence_closed env b c low f (slots fs) (consequent ∷ []) p t e.location k o w in
     let range = all_rise-range low o.inside f.sequence o.rise in
-    holds_behind env c ls before (closed p t e) low (length c) fs ifs (if_else consequent f.sequence a.location) (closed_range closes) refl
+    holds_after env c ls before (closed p t e) low (length c) fs ifs (if_else consequent f.sequence a.location) (closed_range closes) refl
     (closed_item env c low (length c) (slots fs) (consequent ∷ f.sequence ∷ []) p t e (if_else consequent f.sequence a.location) refl (is_if (slots fs) consequent f.sequence a is) closes)
     (holds_same env b c ls before low fs ifs (λ q m n. w.written.elsewhere q (λ d. let at : q ≡ f.sequence = d in omega arith)) h)
 
@@ -272,20 +273,20 @@ holds_chosen_alone env b c other ls before s a e f fs ifs low is k o w type empt
     let range = all_rise-range low o.inside f.sequence o.rise in
     let below = kept_below env b (length b) f (slots fs) s k in
     let as_many = w.written.as_many in
-    holds_behind env d ls before (closed p s e) low (length d) fs ifs (if_else f.sequence (length c) a.location) (closed_range closes) refl
+    holds_after env d ls before (closed p s e) low (length d) fs ifs (if_else f.sequence (length c) a.location) (closed_range closes) refl
     (closed_item env d low (length d) (slots fs) (f.sequence ∷ length c ∷ []) p s e (if_else f.sequence (length c) a.location) refl (is_if (slots fs) f.sequence (length c) a is) closes)
     (holds_same env c d ls before low fs ifs (λ q m n. same_grown c other q m (omega arith))
     (holds_same env b c ls before low fs ifs (λ q m n. w.written.elsewhere q (λ d. let at : q ≡ f.sequence = d in omega arith)) h))
 
 -- ---- the next sequence of a construct is opened
 
-pub holds_parted : (env : Environment) (b c : List InstrSeq) (seq : InstrSeq) (ls : List (Layer Occurrence)) (before s : Sequence Occurrence) (p q : OpenConstruct Occurrence) (f g : OpenFrame) (fs gs outside : List OpenFrame) (ifs other_ifs : List IfElseState)
+pub holds_next_open : (env : Environment) (b c : List InstrSeq) (seq : InstrSeq) (ls : List (Layer Occurrence)) (before s : Sequence Occurrence) (p q : OpenConstruct Occurrence) (f g : OpenFrame) (fs gs outside : List OpenFrame) (ifs other_ifs : List IfElseState)
     (low : ℕ) (places : List ℕ) (location : ℕ) →
     IsKept env b (length b) f (slots fs) s → Encloses env b low f (slots fs) p places → IsSealed env b c f p location → IsOpened env (length c) q g seq → slots gs ≡ slots fs →
-    closed_in (typing_of env) (reshown_construct name_at q) ≡ sequences_closed (typing_of env) (reshown_construct name_at p) (normal (typing_of env) (map_sequence name_at s)) location no_sequences →
+    closed_in (typing_of env) (map_open_construct name_at q) ≡ sequences_closed (typing_of env) (map_open_construct name_at p) (normal (typing_of env) (map_sequence name_at s)) location no_sequences →
     OpensWith (slots gs) (places ++ f.sequence ∷ []) g.sequence q gs outside ifs other_ifs →
     Holds env b ls before low outside other_ifs → Holds env (c ++ seq ∷ []) (layer before q ∷ ls) Empty (length (c ++ seq ∷ [])) (g ∷ gs) ifs
-holds_parted env b c seq ls before s p q f g fs gs outside ifs other_ifs low places location k o w n same are opens h =
+holds_next_open env b c seq ls before s p q f g fs gs outside ifs other_ifs low places location k o w n same are opens h =
     let d = c ++ seq ∷ [] in
     let more : length d ≡ length c + 1 = length_push c seq in
     let here = n.here in
@@ -302,7 +303,7 @@ holds_parted env b c seq ls before s p q f g fs gs outside ifs other_ifs low pla
         are_sequences = sequences-same d low (length c) (λ q m n. same_grown c seq q (omega arith) n) closes.rise closes.are_sequences;
         rise = subst (AllRiseIn low closes.inside) (sym n.here) closes.rise;
         is_normal = ap (λ ps. sequences_in ps closes.inside) same ∙ closes.is_normal ∙ sym are;
-        reserved = record { seq = seq; stands = ap (slice_get d) n.here ∙ grown_at c seq; has_type = n.has_type; has_no_end = n.has_no_end };
+        reserved = record { seq = seq; in_arena = ap (slice_get d) n.here ∙ grown_at c seq; has_type = n.has_type; has_no_end = n.has_no_end };
         kind = n.kind;
         takes = n.takes;
         gives = n.gives;

@@ -11,7 +11,7 @@ use Rattle.wasm_body.specs.Control.{delegate_operation}
 use Rattle.wasm_body.specs.Frames.{OfFunction, delegate_moves}
 use Rattle.wasm_body.specs.Naming.{NamedOperation, Occurrence, open_label, named_in}
 use Rattle.wasm_body.specs.SourceTree.{Sequence}
-use Rattle.wasm_body.specs.Parsing.Progress.{OpenConstruct, InWrapper, InThen, InElse, InTry, InCatch, InCatchAll, Layer, frame_of, frames_of, go_on_behind}
+use Rattle.wasm_body.specs.Parsing.Progress.{OpenConstruct, InWrapper, InThen, InElse, InTry, InCatch, InCatchAll, Layer, frame_of, frames_of, continue_after}
 use Rattle.walrus_context.specs.declared.frame.ControlFrame.{ControlFrame}
 use Rattle.walrus_context.specs.declared.frame.IfElseState.{IfElseState}
 use Rattle.walrus_context.specs.OpenConstructs.{kind_in}
@@ -24,7 +24,7 @@ use Rattle.walrus_parser.specs.BodyParsers.{state_with}
 use Rattle.walrus_parser.proofs.Handlers.{GetsClause, gets_clause, has_try}
 use Rattle.walrus_parser.proofs.ConstructKinds.{by_try}
 use Rattle.walrus_parser.proofs.Labels.{get_past, holds_length}
-use Rattle.walrus_parser.proofs.Partings.{some_open, some_around}
+use Rattle.walrus_parser.proofs.NextSequences.{some_open, some_around}
 use Rattle.walrus_parser.proofs.Rules.{named_delegate}
 use Rattle.walrus_parser.proofs.Sealing.{closes_seals}
 use Rattle.walrus_parser.proofs.Steps.{Seals, delegate_ends}
@@ -170,5 +170,5 @@ module _ (old : OpenTrees) (ifs : List IfElseState) (s : Sequence Occurrence) (p
             record {
               named = delegate_operation n;
               is_named = named_as l ls keeps true is_open;
-              keeps = subst (λ o. KeepsProgress (env_of old) (state_with new ifs) (go_on_behind ls l.before o)) (sym made.1) made.2;
+              keeps = subst (λ o. KeepsProgress (env_of old) (state_with new ifs) (continue_after ls l.before o)) (sym made.1) made.2;
             }

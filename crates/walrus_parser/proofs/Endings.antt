@@ -23,14 +23,14 @@ use Rattle.walrus_parser.specs.declared.body_parser.BodyParser.{BodyParser}
 use Rattle.walrus_parser.specs.Advancing.{ParseState, Keeps, occurrence, Advances, IsStep}
 use Rattle.walrus_context.specs.Keeping.{IsWithin, Holds}
 use Rattle.walrus_context.specs.OpenConstructs.{kind_in}
-use Rattle.walrus_context.specs.OpenFrames.{OpenFrame, new_frame, changed_at, killed, with_instr}
+use Rattle.walrus_context.specs.OpenFrames.{OpenFrame, new_frame, changed_at, marked_dead, with_instr}
 use Rattle.walrus_context.specs.OpenTrees.{OpenTrees, Pops, Opens, EndsAt, env_of}
-use Rattle.walrus_parser.specs.BodyParsers.{AddsEmpty, AppendsIf, HasNoIf, either, if_else, state_with, taking}
+use Rattle.walrus_parser.specs.BodyParsers.{AddsEmpty, AppendsIf, HasNoIf, either, if_else, state_with, with_appended}
 use Rattle.walrus_parser.proofs.Constructs.{grown_at}
 use Rattle.walrus_parser.proofs.ConstructKinds.{by_if, by_else}
 use Rattle.walrus_parser.proofs.Labels.{holds_length}
 use Rattle.walrus_parser.proofs.Openings.{reverse_last}
-use Rattle.walrus_parser.proofs.Partings.{seals_end, some_around}
+use Rattle.walrus_parser.proofs.NextSequences.{seals_end, some_around}
 use Rattle.walrus_parser.proofs.Rules.{named_end}
 use Rattle.walrus_parser.proofs.Steps.{Seals, ended, chosen, chosen_alone, ends_body}
 
@@ -236,20 +236,20 @@ finishes old mid end ifs s e location c block h ended_at here keeps =
 
 -- ---- an instruction, and what follows it
 
-module _ (a b n : OpenTrees) (x : LocatedInstr) (cuts : Bool) (r : Result (Unit {0}) ParseError) (cut : cuts ≡ true) (some : 0 < length a.frames) (appended : b ≡ record a { frames = changed_at 0 (with_instr x) a.frames }) where
-  both : (fs : List OpenFrame) → changed_at 0 killed (changed_at 0 (with_instr x) fs) ≡ changed_at 0 (taking x cuts) fs
+module _ (a b n : OpenTrees) (x : LocatedInstr) (diverges : Bool) (r : Result (Unit {0}) ParseError) (diverging : diverges ≡ true) (some : 0 < length a.frames) (appended : b ≡ record a { frames = changed_at 0 (with_instr x) a.frames }) where
+  both : (fs : List OpenFrame) → changed_at 0 marked_dead (changed_at 0 (with_instr x) fs) ≡ changed_at 0 (with_appended x diverges) fs
   both [] = refl
-  both (f ∷ fs) = rw cut refl
+  both (f ∷ fs) = rw diverging refl
 
-  pub takes_ok : OnOk r ((0 < length b.frames) × (n ≡ record b { frames = changed_at 0 killed b.frames })) → OnOk r ((0 < length a.frames) × (n ≡ record a { frames = changed_at 0 (taking x cuts) a.frames }))
-  takes_ok = of_answer r
+  pub appends_ok : OnOk r ((0 < length b.frames) × (n ≡ record b { frames = changed_at 0 marked_dead b.frames })) → OnOk r ((0 < length a.frames) × (n ≡ record a { frames = changed_at 0 (with_appended x diverges) a.frames }))
+  appends_ok = of_result r
     where
-      of_answer : (q : Result (Unit {0}) ParseError) → OnOk q ((0 < length b.frames) × (n ≡ record b { frames = changed_at 0 killed b.frames })) → OnOk q ((0 < length a.frames) × (n ≡ record a { frames = changed_at 0 (taking x cuts) a.frames }))
-      of_answer (Ok u) h = (some, h.1 ∙ ap (λ (z : OpenTrees). record z { frames = changed_at 0 killed z.frames }) appended ∙ ap (λ fs. record a { frames = fs }) (both a.frames))
-      of_answer (Err e) h = tt
+      of_result : (q : Result (Unit {0}) ParseError) → OnOk q ((0 < length b.frames) × (n ≡ record b { frames = changed_at 0 marked_dead b.frames })) → OnOk q ((0 < length a.frames) × (n ≡ record a { frames = changed_at 0 (with_appended x diverges) a.frames }))
+      of_result (Ok u) h = (some, h.1 ∙ ap (λ (z : OpenTrees). record z { frames = changed_at 0 marked_dead z.frames }) appended ∙ ap (λ fs. record a { frames = fs }) (both a.frames))
+      of_result (Err e) h = tt
 
-  pub takes_err : IfErr r (λ e. (e ≡ NoFrame) × (b.frames ≡ [])) → IfErr r (λ e. (e ≡ Memory) ⊎ ((e ≡ NoFrame) × (length a.frames ≤ 0)))
-  takes_err = of_answer r
+  pub appends_err : IfErr r (λ e. (e ≡ NoFrame) × (b.frames ≡ [])) → IfErr r (λ e. (e ≡ Memory) ⊎ ((e ≡ NoFrame) × (length a.frames ≤ 0)))
+  appends_err = of_result r
     where
       none : b.frames ≡ [] → ⊥
       none e = of_frames a.frames some (ap (λ (z : OpenTrees). z.frames) (sym appended) ∙ e)
@@ -258,6 +258,6 @@ module _ (a b n : OpenTrees) (x : LocatedInstr) (cuts : Bool) (r : Result (Unit 
           of_frames [] l q = absurd (omega arith)
           of_frames (f ∷ fs) l q = cc q
 
-      of_answer : (q : Result (Unit {0}) ParseError) → IfErr q (λ e. (e ≡ NoFrame) × (b.frames ≡ [])) → IfErr q (λ e. (e ≡ Memory) ⊎ ((e ≡ NoFrame) × (length a.frames ≤ 0)))
-      of_answer (Ok u) h = tt
-      of_answer (Err e) h = absurd (none h.1)
+      of_result : (q : Result (Unit {0}) ParseError) → IfErr q (λ e. (e ≡ NoFrame) × (b.frames ≡ [])) → IfErr q (λ e. (e ≡ Memory) ⊎ ((e ≡ NoFrame) × (length a.frames ≤ 0)))
+      of_result (Ok u) h = tt
+      of_result (Err e) h = absurd (none h.1)

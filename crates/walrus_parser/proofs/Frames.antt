@@ -14,10 +14,10 @@ use Rattle.wasm_body.specs.Keeping.{is_dead, joined, joined_alive}
 use Rattle.wasm_body.specs.TreeOfFunction.{items_in}
 use Rattle.wasm_body.specs.Intervals.{RiseIn}
 use Rattle.wasm_body.specs.Parsing.Progress.{append, OpenConstruct, InWrapper, InThen, InElse, InTry, InCatch, InCatchAll, Layer}
-use Rattle.wasm_body.proofs.NormalForm.KeepingLemmas.{dead_append, dead_reshown, reshown_append, normal_append}
+use Rattle.wasm_body.proofs.NormalForm.KeepingLemmas.{dead_append, dead_mapped, mapped_append, normal_append}
 use Rattle.wasm_body.proofs.NormalForm.ArenaLemmas.{rise-range, all_rise-range, rise-wider, rise-joined, items-joined, in-joined, SameIn, items-same, sequences-same}
 use Rattle.walrus_context.specs.declared.frame.IfElseState.{IfElseState}
-use Rattle.walrus_context.specs.OpenFrames.{OpenFrame, changed_at, killed, with_instr}
+use Rattle.walrus_context.specs.OpenFrames.{OpenFrame, changed_at, marked_dead, with_instr}
 use Rattle.walrus_context.specs.Keeping.{slots, IsKept, IsReserved, Encloses, OpensWith, Holds}
 
 -- ---- the slots of frames
@@ -65,7 +65,7 @@ pub kept_below : (env : Environment) (b : List InstrSeq) (high : ℕ) (f : OpenF
 kept_below env b high f around s k = let r = rise-range (suc f.sequence) k.items high k.rise in omega arith
 
 reserved_same : (b c : List InstrSeq) (slot : ℕ) (t : InstrSeqType) → slice_get c slot ≡ slice_get b slot → IsReserved b slot t → IsReserved c slot t
-reserved_same b c slot t e r = record { seq = r.seq; stands = e ∙ r.stands; has_type = r.has_type; has_no_end = r.has_no_end }
+reserved_same b c slot t e r = record { seq = r.seq; in_arena = e ∙ r.in_arena; has_type = r.has_type; has_no_end = r.has_no_end }
 
 encloses_same : (env : Environment) (b c : List InstrSeq) (low : ℕ) (f : OpenFrame) (around : List ℕ) (p : OpenConstruct Occurrence) (before : List ℕ) → SameIn b c 0 (suc f.sequence) → Encloses env b low f around p before → Encloses env c low f around p before
 encloses_same env b c low f around p before same o = record {
@@ -144,9 +144,9 @@ holds_changed env b (l ∷ ls) s t middle high f fs ifs instrs dead change h = r
 
 kept_append : (env : Environment) (s t : Sequence Occurrence) → Kept env (append s t) ≡ joined_alive (is_dead s) (Kept env s) (Kept env t)
 kept_append env s t =
-    ap (normal (typing_of env)) (reshown_append name_at s t)
+    ap (normal (typing_of env)) (mapped_append name_at s t)
     ∙ normal_append (typing_of env) (map_sequence name_at s) (map_sequence name_at t)
-    ∙ ap (λ d. joined_alive d (Kept env s) (Kept env t)) (dead_reshown name_at s)
+    ∙ ap (λ d. joined_alive d (Kept env s) (Kept env t)) (dead_mapped name_at s)
 
 -- instructions that are the normal form of an added sequence, with their own sequences in slots from `low` on
 pub record AreNormal (env : Environment) (b : List InstrSeq) (low high : ℕ) (around : List ℕ) (more : List LocatedInstr) (t : Sequence Occurrence) : Type 0 where
@@ -158,7 +158,7 @@ pub record AreNormal (env : Environment) (b : List InstrSeq) (low high : ℕ) (a
 pub kept_add : (env : Environment) (b : List InstrSeq) (middle high : ℕ) (f : OpenFrame) (around : List ℕ) (s t : Sequence Occurrence) (more : List LocatedInstr) →
     IsKept env b middle f around s → f.dead ≡ false → AreNormal env b middle high (f.sequence ∷ around) more t → IsKept env b high (with_body f (f.instrs ++ more) (is_dead t)) around (append s t)
 kept_add env b middle high f around s t more k alive a =
-    let goes_on : is_dead s ≡ false = sym k.is_dead ∙ alive in
+    let continues : is_dead s ≡ false = sym k.is_dead ∙ alive in
     record {
       items = joined k.items a.items;
       are_items = items-joined k.are_items a.are_items;
@@ -167,28 +167,28 @@ kept_add env b middle high f around s t more k alive a =
           in-joined (f.sequence ∷ around) k.items a.items
           ∙ ap (λ is. joined is (items_in (f.sequence ∷ around) a.items)) k.is_normal
           ∙ ap (joined (Kept env s)) a.is_normal
-          ∙ ap (λ d. joined_alive d (Kept env s) (Kept env t)) (sym goes_on)
+          ∙ ap (λ d. joined_alive d (Kept env s) (Kept env t)) (sym continues)
           ∙ sym (kept_append env s t);
-      is_dead = ap (λ d. d || is_dead t) (sym goes_on) ∙ sym (dead_append s t);
+      is_dead = ap (λ d. d || is_dead t) (sym continues) ∙ sym (dead_append s t);
     }
 
 pub kept_drop : (env : Environment) (b : List InstrSeq) (middle high : ℕ) (f : OpenFrame) (around : List ℕ) (s t : Sequence Occurrence) →
     IsKept env b middle f around s → f.dead ≡ true → middle ≤ high → IsKept env b high f around (append s t)
 kept_drop env b middle high f around s t k dead wider =
-    let is_cut : is_dead s ≡ true = sym k.is_dead ∙ dead in
+    let is_diverging : is_dead s ≡ true = sym k.is_dead ∙ dead in
     record {
       items = k.items;
       are_items = k.are_items;
       rise = rise-wider (suc f.sequence) (suc f.sequence) k.items middle high (omega arith) wider k.rise;
-      is_normal = k.is_normal ∙ ap (λ d. joined_alive d (Kept env s) (Kept env t)) (sym is_cut) ∙ sym (kept_append env s t);
-      is_dead = dead ∙ ap (λ d. d || is_dead t) (sym is_cut) ∙ sym (dead_append s t);
+      is_normal = k.is_normal ∙ ap (λ d. joined_alive d (Kept env s) (Kept env t)) (sym is_diverging) ∙ sym (kept_append env s t);
+      is_dead = dead ∙ ap (λ d. d || is_dead t) (sym is_diverging) ∙ sym (dead_append s t);
     }
 
 -- ---- the innermost frame with one more instruction
 
 -- one more instruction, after which the frame may be dead; a frame that was dead is unchanged
 abbrev pub taken : LocatedInstr → Bool → OpenFrame → OpenFrame
-taken x cut f = with_body f (cond f.dead f.instrs (f.instrs ++ x ∷ [])) (f.dead || cut)
+taken x diverging f = with_body f (cond f.dead f.instrs (f.instrs ++ x ∷ [])) (f.dead || diverging)
 
 pub taken_alive : (x : LocatedInstr) (f : OpenFrame) → taken x false f ≡ with_instr x f
 taken_alive x f = ap (with_body f (cond f.dead f.instrs (f.instrs ++ x ∷ []))) (or_false f.dead)
@@ -197,28 +197,28 @@ taken_alive x f = ap (with_body f (cond f.dead f.instrs (f.instrs ++ x ∷ [])))
     or_false true = refl
     or_false false = refl
 
-pub taken_dead : (x : LocatedInstr) (f : OpenFrame) → taken x true f ≡ killed (with_instr x f)
+pub taken_dead : (x : LocatedInstr) (f : OpenFrame) → taken x true f ≡ marked_dead (with_instr x f)
 taken_dead x f = ap (with_body f (cond f.dead f.instrs (f.instrs ++ x ∷ []))) (or_true f.dead)
   where
     or_true : (d : Bool) → d || true ≡ true
     or_true true = refl
     or_true false = refl
 
-kept_takes : (env : Environment) (b : List InstrSeq) (middle high : ℕ) (f : OpenFrame) (around : List ℕ) (s t : Sequence Occurrence) (x : LocatedInstr) (cut d : Bool) → f.dead ≡ d → middle ≤ high → is_dead t ≡ cut →
+kept_takes : (env : Environment) (b : List InstrSeq) (middle high : ℕ) (f : OpenFrame) (around : List ℕ) (s t : Sequence Occurrence) (x : LocatedInstr) (diverging d : Bool) → f.dead ≡ d → middle ≤ high → is_dead t ≡ diverging →
     AreNormal env b middle high (f.sequence ∷ around) (x ∷ []) t → IsKept env b middle f around s →
-    IsKept env b high (with_body f (cond d f.instrs (f.instrs ++ x ∷ [])) (d || cut)) around (append s t)
-kept_takes env b middle high f around s t x cut true dead wider is a k =
+    IsKept env b high (with_body f (cond d f.instrs (f.instrs ++ x ∷ [])) (d || diverging)) around (append s t)
+kept_takes env b middle high f around s t x diverging true dead wider is a k =
     let dropped = kept_drop env b middle high f around s t k dead wider in
     record { items = dropped.items; are_items = dropped.are_items; rise = dropped.rise; is_normal = dropped.is_normal; is_dead = sym dead ∙ dropped.is_dead }
-kept_takes env b middle high f around s t x cut false alive wider is a k =
+kept_takes env b middle high f around s t x diverging false alive wider is a k =
     let added = kept_add env b middle high f around s t (x ∷ []) k alive a in
     record { items = added.items; are_items = added.are_items; rise = added.rise; is_normal = added.is_normal; is_dead = sym is ∙ added.is_dead }
 
-pub holds_takes : (env : Environment) (b : List InstrSeq) (ls : List (Layer Occurrence)) (s t : Sequence Occurrence) (middle high : ℕ) (f : OpenFrame) (fs : List OpenFrame) (ifs : List IfElseState) (x : LocatedInstr) (cut : Bool) → middle ≤ high → is_dead t ≡ cut →
-    AreNormal env b middle high (f.sequence ∷ slots fs) (x ∷ []) t → Holds env b ls s middle (f ∷ fs) ifs → Holds env b ls (append s t) high (taken x cut f ∷ fs) ifs
-holds_takes env b ls s t middle high f fs ifs x cut wider is a =
-    holds_changed env b ls s (append s t) middle high f fs ifs (cond f.dead f.instrs (f.instrs ++ x ∷ [])) (f.dead || cut)
-    (kept_takes env b middle high f (slots fs) s t x cut f.dead refl wider is a)
+pub holds_takes : (env : Environment) (b : List InstrSeq) (ls : List (Layer Occurrence)) (s t : Sequence Occurrence) (middle high : ℕ) (f : OpenFrame) (fs : List OpenFrame) (ifs : List IfElseState) (x : LocatedInstr) (diverging : Bool) → middle ≤ high → is_dead t ≡ diverging →
+    AreNormal env b middle high (f.sequence ∷ slots fs) (x ∷ []) t → Holds env b ls s middle (f ∷ fs) ifs → Holds env b ls (append s t) high (taken x diverging f ∷ fs) ifs
+holds_takes env b ls s t middle high f fs ifs x diverging wider is a =
+    holds_changed env b ls s (append s t) middle high f fs ifs (cond f.dead f.instrs (f.instrs ++ x ∷ [])) (f.dead || diverging)
+    (kept_takes env b middle high f (slots fs) s t x diverging f.dead refl wider is a)
 
 -- an operator that is dropped leaves the frame unchanged
 kept_passes : (env : Environment) (b : List InstrSeq) (high : ℕ) (f : OpenFrame) (around : List ℕ) (s t : Sequence Occurrence) (d : Bool) → f.dead ≡ d → is_dead t ≡ false → Kept env t ≡ no_items →

@@ -22,7 +22,7 @@ use Rattle.wasm_body.specs.NormalForm.{parameters_of, typing_of}
 use Rattle.wasm_body.specs.Frames.{Frame, OfFunction, OfWrapper, Consequent, Alternative, TryBody, Handler, HandlerOfAll, catch_moves, catch_all_moves}
 use Rattle.wasm_body.specs.Naming.{Environment, NamedOperation, Occurrence, id_at, function_type, tag_type, has_pick, construct_results, block_signature, named_in}
 use Rattle.wasm_body.specs.SourceTree.{Sequence, Empty, OfBlock, OfLoop, OfTryTable}
-use Rattle.wasm_body.specs.Parsing.Progress.{OpenConstruct, InWrapper, InThen, InElse, InTry, InCatch, InCatchAll, Layer, layer, frame_of, frames_of, parted_by_catch, parted_by_catch_all, go_on_in, further_within}
+use Rattle.wasm_body.specs.Parsing.Progress.{OpenConstruct, InWrapper, InThen, InElse, InTry, InCatch, InCatchAll, Layer, layer, frame_of, frames_of, with_catch_open, with_catch_all_open, continue_in, further_within}
 use Rattle.walrus_context.specs.declared.frame.ControlFrame.{ControlFrame}
 use Rattle.walrus_context.specs.declared.frame.IfElseState.{IfElseState}
 use Rattle.walrus_context.specs.OpenConstructs.{kind_in, opener_in}
@@ -33,9 +33,9 @@ use Rattle.walrus_parser.specs.Advancing.{Keeps, KeepsProgress, occurrence, Adva
 use Rattle.walrus_parser.specs.BodyParsers.{state_with}
 use Rattle.walrus_parser.specs.Handlers.{clause_operation, handled, handler_kind, clause_of, has_clauses}
 use Rattle.walrus_parser.proofs.Clauses.{GainsClause, AddsClause}
-use Rattle.walrus_parser.proofs.ConstructKinds.{IsBehindTry, by_clause}
+use Rattle.walrus_parser.proofs.ConstructKinds.{MayHaveClause, by_clause}
 use Rattle.walrus_context.proofs.LastClauses.{last_clause, clause_kept}
-use Rattle.walrus_parser.proofs.Partings.{seals_end, some_is, some_around}
+use Rattle.walrus_parser.proofs.NextSequences.{seals_end, some_is, some_around}
 use Rattle.walrus_parser.proofs.Rules.{named_catch, named_catch_all}
 use Rattle.walrus_parser.proofs.Steps.{Seals, catch_parts, catch_all_parts}
 
@@ -70,11 +70,11 @@ pub record GetsClause (clause : LegacyCatch) (g : OpenFrame) (fs all : List Open
 
 pub gets_clause : (clause : LegacyCatch) (g : OpenFrame) (fs all : List OpenFrame) → with_clause_around clause (g ∷ fs) ≡ Ok all → GetsClause clause g fs all
 gets_clause clause g [] all e = absurd cc
-gets_clause clause g (f ∷ fs) all e = by_answer (with_clause clause f) refl e
+gets_clause clause g (f ∷ fs) all e = by_result (with_clause clause f) refl e
   where
-    by_answer : (o : Option OpenFrame) → with_clause clause f ≡ o → (some_or o NoTry >>= λ h. let r : Result (List OpenFrame) ParseError = Ok (g ∷ h ∷ fs) in r) ≡ Ok all → GetsClause clause g (f ∷ fs) all
-    by_answer None is e = absurd cc
-    by_answer (Some h) is e =
+    by_result : (o : Option OpenFrame) → with_clause clause f ≡ o → (some_or o NoTry >>= λ h. let r : Result (List OpenFrame) ParseError = Ok (g ∷ h ∷ fs) in r) ≡ Ok all → GetsClause clause g (f ∷ fs) all
+    by_result None is e = absurd cc
+    by_result (Some h) is e =
         let made : g ∷ h ∷ fs ≡ all = cc e in
         record {
           around = h ∷ fs;
@@ -112,8 +112,8 @@ has_try clause g fs (o ∷ os) x e some frames opener refused =
 
 module _ (env : Environment) (f : Frame Occurrence) (fs : List (Frame Occurrence)) where
   abbrev pub clause_named : Option ℕ → Bool → Result NamedOperation ParseError
-  clause_named tag stands =
-      unless stands CatchOutsideTry >>= λ _. handled env tag >>= λ h. has_pick env (signature h.1 (construct_results (f ∷ fs))) >>= λ _. Ok (clause_operation h.0)
+  clause_named tag allowed =
+      unless allowed CatchOutsideTry >>= λ _. handled env tag >>= λ h. has_pick env (signature h.1 (construct_results (f ∷ fs))) >>= λ _. Ok (clause_operation h.0)
 
   same_moves : is_some (catch_all_moves f) ≡ is_some (catch_moves f)
   same_moves = by_frame f
@@ -129,7 +129,7 @@ module _ (env : Environment) (f : Frame Occurrence) (fs : List (Frame Occurrence
 
   pub named_clause : (tag : Option ℕ) → named_in env (f ∷ fs) (clause_operation tag) ≡ clause_named tag (is_some (catch_moves f))
   named_clause None = named_catch_all env f fs ∙ ap (λ b. unless b CatchOutsideTry >>= λ _. has_pick env (signature [] (construct_results (f ∷ fs))) >>= λ _. let r : Result NamedOperation ParseError = Ok catch_all_operation in r) same_moves
-  named_clause (Some n) = named_catch env f fs n ∙ by_answers (is_some (catch_moves f)) (id_at env Tags n)
+  named_clause (Some n) = named_catch env f fs n ∙ by_results (is_some (catch_moves f)) (id_at env Tags n)
     where
       with_tag : (tag : ℕ) (r : Result Signature ParseError) →
           ((r >>= λ s. has_pick env (signature s.parameters (construct_results (f ∷ fs)))) >>= λ _. let q : Result NamedOperation ParseError = Ok (operation catch_opcode (index Tags tag ∷ [])) in q)
@@ -137,23 +137,23 @@ module _ (env : Environment) (f : Frame Occurrence) (fs : List (Frame Occurrence
       with_tag tag (Ok s) = refl
       with_tag tag (Err e) = refl
 
-      by_answers : (b : Bool) (r : Result ℕ ParseError) →
+      by_results : (b : Bool) (r : Result ℕ ParseError) →
           (unless b CatchOutsideTry >>= λ _. r >>= λ tag. (tag_type env tag >>= λ s. has_pick env (signature s.parameters (construct_results (f ∷ fs)))) >>= λ _. let q : Result NamedOperation ParseError = Ok (operation catch_opcode (index Tags tag ∷ [])) in q)
           ≡ (unless b CatchOutsideTry >>= λ _. (r >>= λ tag. tag_type env tag >>= λ s. let q : Result (Option ℕ × List (ValType ℕ)) ParseError = Ok (Some tag, s.parameters) in q) >>= λ h. has_pick env (signature h.1 (construct_results (f ∷ fs))) >>= λ _. Ok (clause_operation h.0))
-      by_answers true (Ok tag) = with_tag tag (tag_type env tag)
-      by_answers true (Err e) = refl
-      by_answers false r = refl
+      by_results true (Ok tag) = with_tag tag (tag_type env tag)
+      by_results true (Err e) = refl
+      by_results false r = refl
 
 -- whether a clause is allowed, if the innermost frame is that of this construct
-stands_behind : (p : OpenConstruct Occurrence) → is_some (catch_moves (frame_of p)) ≡ has_clauses (kind_in p)
-stands_behind (InWrapper a OfBlock) = refl
-stands_behind (InWrapper a OfLoop) = refl
-stands_behind (InWrapper a (OfTryTable cs)) = refl
-stands_behind (InThen a) = refl
-stands_behind (InElse a b l) = refl
-stands_behind (InTry a) = refl
-stands_behind (InCatch a b gs h t) = refl
-stands_behind (InCatchAll a b gs h) = refl
+allows_clause : (p : OpenConstruct Occurrence) → is_some (catch_moves (frame_of p)) ≡ has_clauses (kind_in p)
+allows_clause (InWrapper a OfBlock) = refl
+allows_clause (InWrapper a OfLoop) = refl
+allows_clause (InWrapper a (OfTryTable cs)) = refl
+allows_clause (InThen a) = refl
+allows_clause (InElse a b l) = refl
+allows_clause (InTry a) = refl
+allows_clause (InCatch a b gs h t) = refl
+allows_clause (InCatchAll a b gs h) = refl
 
 results_around : (p : OpenConstruct Occurrence) (fs : List (Frame Occurrence)) → construct_results (frame_of p ∷ fs) ≡ (block_signature (opener_in p).named).results
 results_around (InWrapper a w) fs = refl
@@ -163,16 +163,16 @@ results_around (InTry a) fs = refl
 results_around (InCatch a b gs h t) fs = refl
 results_around (InCatchAll a b gs h) fs = refl
 
-behind_try : (k : BlockKind) → has_clauses k ≡ true → IsBehindTry k
-behind_try kind.Try e = tt
-behind_try kind.Catch e = tt
-behind_try kind.Block e = absurd cc
-behind_try kind.Loop e = absurd cc
-behind_try kind.If e = absurd cc
-behind_try kind.Else e = absurd cc
-behind_try kind.FunctionEntry e = absurd cc
-behind_try kind.TryTable e = absurd cc
-behind_try kind.CatchAll e = absurd cc
+may_have_clause : (k : BlockKind) → has_clauses k ≡ true → MayHaveClause k
+may_have_clause kind.Try e = tt
+may_have_clause kind.Catch e = tt
+may_have_clause kind.Block e = absurd cc
+may_have_clause kind.Loop e = absurd cc
+may_have_clause kind.If e = absurd cc
+may_have_clause kind.Else e = absurd cc
+may_have_clause kind.FunctionEntry e = absurd cc
+may_have_clause kind.TryTable e = absurd cc
+may_have_clause kind.CatchAll e = absurd cc
 
 -- ---- the parameters of a handler
 
@@ -204,12 +204,12 @@ is_tagged env (Some n) h e = by_id (id_at env Tags n) e
     by_id (Err f) q = absurd cc
 
 -- the construct after a clause, and the parse
-abbrev parted_by : Option ℕ → OpenConstruct Occurrence → Sequence Occurrence → Occurrence → Option (OpenConstruct Occurrence)
-parted_by (Some tag) p s x = parted_by_catch p s x tag
-parted_by None p s x = parted_by_catch_all p s x
+abbrev with_clause_open : Option ℕ → OpenConstruct Occurrence → Sequence Occurrence → Occurrence → Option (OpenConstruct Occurrence)
+with_clause_open (Some tag) p s x = with_catch_open p s x tag
+with_clause_open None p s x = with_catch_all_open p s x
 
 further_by : (tag : Option ℕ) (x : Occurrence) (l : Layer Occurrence) (ls : List (Layer Occurrence)) (s : Sequence Occurrence) →
-    further_within (control_of {B = Signature} (clause_operation tag)) x (l ∷ ls) s ≡ go_on_in ls l.before (parted_by tag l.construct s x)
+    further_within (control_of {B = Signature} (clause_operation tag)) x (l ∷ ls) s ≡ continue_in ls l.before (with_clause_open tag l.construct s x)
 further_by (Some tag) x l ls s = refl
 further_by None x l ls s = refl
 
@@ -238,7 +238,7 @@ module _ (old mid : OpenTrees) (ifs : List IfElseState) (s : Sequence Occurrence
   pub no_clause : has_clauses c.kind ≡ false → (ls : List (Layer Occurrence)) → Kept ls → named_in (env_of old) (frames_of ls) (clause_operation tag) ≡ Err CatchOutsideTry
   no_clause other [] keeps = named_clause (env_of old) OfFunction [] tag
   no_clause other (l ∷ ls) keeps = named_clause (env_of old) (frame_of l.construct) (frames_of ls) tag
-      ∙ ap (clause_named (env_of old) (frame_of l.construct) (frames_of ls) tag) (stands_behind l.construct ∙ ap has_clauses (sym (within l ls keeps).encloses.kind ∙ kind_is) ∙ other)
+      ∙ ap (clause_named (env_of old) (frame_of l.construct) (frames_of ls) tag) (allows_clause l.construct ∙ ap has_clauses (sym (within l ls keeps).encloses.kind ∙ kind_is) ∙ other)
 
   module _ (may : has_clauses c.kind ≡ true) where
     -- lookups return the same as before
@@ -256,7 +256,7 @@ module _ (old mid : OpenTrees) (ifs : List IfElseState) (s : Sequence Occurrence
     named_as l ls keeps =
         let inside = within l ls keeps in
         named_clause (env_of old) (frame_of l.construct) (frames_of ls) tag
-        ∙ ap (clause_named (env_of old) (frame_of l.construct) (frames_of ls) tag) (stands_behind l.construct ∙ ap has_clauses (sym inside.encloses.kind ∙ kind_is) ∙ may)
+        ∙ ap (clause_named (env_of old) (frame_of l.construct) (frames_of ls) tag) (allows_clause l.construct ∙ ap has_clauses (sym inside.encloses.kind ∙ kind_is) ∙ may)
         ∙ ap (λ r. handled (env_of old) tag >>= λ h. has_pick (env_of old) (signature h.1 r) >>= λ _. let q : Result NamedOperation ParseError = Ok (clause_operation h.0) in q) (results_around l.construct (frames_of ls) ∙ sym inside.encloses.gives ∙ ends)
 
     -- the tag isn't found
@@ -292,16 +292,16 @@ module _ (old mid : OpenTrees) (ifs : List IfElseState) (s : Sequence Occurrence
         not_refused e refused [] keeps = not_outermost keeps
         not_refused e refused (l ∷ ls) keeps =
             let inside = within l ls keeps in
-            let around = by_clause (λ p. Within l ls p → StandsBehind) (λ a i. stands a i.opens.0) (λ a b cs x u i. stands a i.opens.0) l.construct (behind_try (kind_in l.construct) (ap has_clauses (sym inside.encloses.kind ∙ kind_is) ∙ may)) inside in
+            let around = by_clause (λ p. Within l ls p → AllowsClause) (λ a i. allowed a i.opens.0) (λ a b cs x u i. allowed a i.opens.0) l.construct (may_have_clause (kind_in l.construct) (ap has_clauses (sym inside.encloses.kind ∙ kind_is) ∙ may)) inside in
             has_try (clause_of h.0 id) (new_frame (handler_kind h.0) h.1 gives id) mid.frames around.0.1 around.0.0 e
             (some_around (env_of old) (state_with old ifs) l ls s f mid.frames keeps popped.closes.frames) around.1 around.2
             (ap (with_clause_around (clause_of h.0 id)) (sym frames_pushed) ∙ refused)
           where
-            StandsBehind : Type 0
-            StandsBehind = (x : LocatedInstr × List OpenFrame) × (mid.frames ≡ changed_at 0 (with_instr x.0) x.1) × IsTry x.0.0
+            AllowsClause : Type 0
+            AllowsClause = (x : LocatedInstr × List OpenFrame) × (mid.frames ≡ changed_at 0 (with_instr x.0) x.1) × IsTry x.0.0
 
-            stands : {around before : List ℕ} {slot : ℕ} {p : OpenConstruct Occurrence} {outside : List OpenFrame} → Occurrence → IsAppended around before slot p IsTry mid.frames outside → StandsBehind
-            stands {outside = outside} a i = ((i.opener, outside), i.frames, i.is_opener)
+            allowed : {around before : List ℕ} {slot : ℕ} {p : OpenConstruct Occurrence} {outside : List OpenFrame} → Occurrence → IsAppended around before slot p IsTry mid.frames outside → AllowsClause
+            allowed {outside = outside} a i = ((i.opener, outside), i.frames, i.is_opener)
 
         module _ (added : AddsClauseAround (clause_of h.0 id) pushed new) (l : Layer Occurrence) (ls : List (Layer Occurrence)) (keeps : Kept (l ∷ ls)) where
           abbrev b : List InstrSeq
@@ -310,16 +310,16 @@ module _ (old mid : OpenTrees) (ifs : List IfElseState) (s : Sequence Occurrence
           sealed_at : Seals old.builder.sequences b f (Some location)
           sealed_at = seals_end old mid end f location popped.closes (subst (λ n. EndsAt mid end n location) popped.is_block ended)
 
-          abbrev GoesOn : Option (OpenConstruct Occurrence) → Type 0
-          GoesOn o = (q : OpenConstruct Occurrence) × (o ≡ Some q) × Keeps (env_of old) (state_with new ifs) (layer l.before q ∷ ls) Empty
+          abbrev Continues : Option (OpenConstruct Occurrence) → Type 0
+          Continues o = (q : OpenConstruct Occurrence) × (o ≡ Some q) × Keeps (env_of old) (state_with new ifs) (layer l.before q ∷ ls) Empty
 
           gets_here : (u : Option ℕ) (parameters : List (ValType ℕ)) → h ≡ (u, parameters) → GetsClause (clause_of u id) (new_frame (handler_kind u) parameters gives id) mid.frames new.frames
           gets_here u parameters same = gets_clause (clause_of u id) (new_frame (handler_kind u) parameters gives id) mid.frames new.frames
               (subst (λ (z : Option ℕ × List (ValType ℕ)). with_clause_around (clause_of z.0 id) (new_frame (handler_kind z.0) z.1 gives id ∷ mid.frames) ≡ Ok new.frames) same
               (ap (with_clause_around (clause_of h.0 id)) (sym frames_pushed) ∙ added.0))
 
-          may_here : IsBehindTry f.kind
-          may_here = behind_try f.kind (ap has_clauses kind_is ∙ may)
+          may_here : MayHaveClause f.kind
+          may_here = may_have_clause f.kind (ap has_clauses kind_is ∙ may)
 
           same_gives : gives ≡ f.end_types
           same_gives = gives_is ∙ sym ends
@@ -331,14 +331,14 @@ module _ (old mid : OpenTrees) (ifs : List IfElseState) (s : Sequence Occurrence
           arena_new = ap (λ (z : OpenTrees). z.builder.sequences) added.1 ∙ ap (λ (z : OpenTrees). z.builder.sequences) opens.is
 
           -- the construct goes on in the handler of this clause
-          goes_on : (u : Option ℕ) (parameters : List (ValType ℕ)) → IsTagged (env_of old) u parameters → h ≡ (u, parameters) → (x : Occurrence) → x.location ≡ location → GoesOn (parted_by u l.construct s x)
-          goes_on (Some u) parameters tagged same x at =
+          continues : (u : Option ℕ) (parameters : List (ValType ℕ)) → IsTagged (env_of old) u parameters → h ≡ (u, parameters) → (x : Occurrence) → x.location ≡ location → Continues (with_clause_open u l.construct s x)
+          continues (Some u) parameters tagged same x at =
               let gets = gets_here (Some u) parameters same in
               catch_parts (env_of old) (state_with old ifs) l ls s f mid.frames popped.closes.frames keeps l.construct (state_with new ifs) b (empty_sequence (length b) t) (new_frame kind.Catch parameters gives id) gets.around x u parameters
               may_here (subst (λ n. Seals old.builder.sequences b f (Some n)) (sym at) sealed_at) tagged (picks_here parameters (ap (λ (z : Option ℕ × List (ValType ℕ)). z.1) same)) refl arena_new
               (λ i. new_frame kind.Catch parameters (same_gives i) (opens.is_next i)) gets.are refl gets.same_slots
               (subst (λ n. AddsClause mid.frames gets.around (Catch u n)) opens.is_next gets.adds) (within l ls keeps)
-          goes_on None parameters tagged same x at =
+          continues None parameters tagged same x at =
               let gets = gets_here None parameters same in
               catch_all_parts (env_of old) (state_with old ifs) l ls s f mid.frames popped.closes.frames keeps l.construct (state_with new ifs) b (empty_sequence (length b) t) (new_frame kind.CatchAll parameters gives id) gets.around x
               may_here (subst (λ n. Seals old.builder.sequences b f (Some n)) (sym at) sealed_at) (picks_here [] (ap (λ (z : Option ℕ × List (ValType ℕ)). z.1) same ∙ tagged)) refl arena_new
@@ -349,11 +349,11 @@ module _ (old mid : OpenTrees) (ifs : List IfElseState) (s : Sequence Occurrence
           parts_try =
               let named : NamedOperation = clause_operation h.0 in
               let x = occurrence (clause_operation tag) place location named in
-              let made = goes_on h.0 h.1 (is_tagged (env_of old) tag h is_handled) refl x refl in
+              let made = continues h.0 h.1 (is_tagged (env_of old) tag h is_handled) refl x refl in
               record {
                 named = named;
                 is_named = named_by l ls (Some t) keeps picks;
-                keeps = subst (KeepsProgress (env_of old) (state_with new ifs)) (sym (further_by h.0 x l ls s)) (subst (λ o. KeepsProgress (env_of old) (state_with new ifs) (go_on_in ls l.before o)) (sym made.1) made.2);
+                keeps = subst (KeepsProgress (env_of old) (state_with new ifs)) (sym (further_by h.0 x l ls s)) (subst (λ o. KeepsProgress (env_of old) (state_with new ifs) (continue_in ls l.before o)) (sym made.1) made.2);
               }
 
         pub steps_try : AddsClauseAround (clause_of h.0 id) pushed new → (ls : List (Layer Occurrence)) → Kept ls → Advances (env_of old) (state_with new ifs) ls s (clause_operation tag) place location
@@ -367,10 +367,10 @@ module _ (old mid : OpenTrees) (ifs : List IfElseState) (s : Sequence Occurrence
       clause_steps pushed new id k clause same_kind same_clause is_pushed r ok err ls keeps =
           let made = some_is (existing end.module.types h.1 gives) is_pushed in
           let opens : Opens end pushed (handler_kind h.0) made.0 h.1 gives id = subst (λ q. Opens end pushed q made.0 h.1 gives id) same_kind made.2 in
-          by_answer r made.0 made.1 opens ok err
+          by_result r made.0 made.1 opens ok err
         where
-          by_answer : (r : Result (Unit {0}) ParseError) (t : InstrSeqType) → existing end.module.types h.1 gives ≡ Some t → Opens end pushed (handler_kind h.0) t h.1 gives id → OnOk r (AddsClauseAround clause pushed new) →
+          by_result : (r : Result (Unit {0}) ParseError) (t : InstrSeqType) → existing end.module.types h.1 gives ≡ Some t → Opens end pushed (handler_kind h.0) t h.1 gives id → OnOk r (AddsClauseAround clause pushed new) →
               IfErr r (λ e. (e ≡ Memory) ⊎ (with_clause_around clause pushed.frames ≡ Err e)) → IsStep (env_of old) (state_with new ifs) ls s (clause_operation tag) place location r
-          by_answer (Ok u) t picks opens ok err = steps_try pushed new t id picks opens (subst (λ q. AddsClauseAround q pushed new) same_clause ok) ls keeps
-          by_answer (Err e) t picks opens ok (inl is) = inl is
-          by_answer (Err e) t picks opens ok (inr is) = absurd (not_refused pushed new t id picks opens e (ap (λ q. with_clause_around q pushed.frames) (sym same_clause) ∙ is) ls keeps)
+          by_result (Ok u) t picks opens ok err = steps_try pushed new t id picks opens (subst (λ q. AddsClauseAround q pushed new) same_clause ok) ls keeps
+          by_result (Err e) t picks opens ok (inl is) = inl is
+          by_result (Err e) t picks opens ok (inr is) = absurd (not_refused pushed new t id picks opens e (ap (λ q. with_clause_around q pushed.frames) (sym same_clause) ∙ is) ls keeps)

@@ -8,11 +8,11 @@ pub mod Clauses
 pub mod ConstructKinds
 pub mod Steps
 pub mod Openings
-pub mod Partings
+pub mod NextSequences
 pub mod Endings
 pub mod Placements
 pub mod Roles
-pub mod Alone
+pub mod SingleInstructions
 pub mod AtOnce
 pub mod Handlers
 pub mod Delegates
@@ -20,8 +20,8 @@ pub mod TryTables
 pub mod Sealing
 pub mod AnyLocations
 pub mod Mappings
-pub mod SoFars
+pub mod ParsedSoFar
 pub mod Taking
 pub mod Beginnings
 pub mod Bodies
-pub mod BodyAnswers
+pub mod BodyResults

@@ -9,7 +9,7 @@ use Rattle.std.proofs.lemmas.Bool.{eq-eqb}
 use Rattle.std.proofs.Common.{refl, ap, sym, ◌∙◌, arith, inl, inr}
 use Rattle.wasm_body.specs.Naming.{Occurrence}
 use Rattle.wasm_body.specs.Parsing.Accepted.{location_at}
-use Rattle.walrus_parser.specs.Locating.{Locates, MayAsk}
+use Rattle.walrus_parser.specs.Locating.{Locates, MayCall}
 use Rattle.walrus_parser.specs.Settings.{pair_of, found, locations_in, BothOrNone, RiseFrom, IsMapping}
 
 pub all-append : {A : Type 0} (P : A → Type 0) (xs : List A) (x : A) → AllByRecursion P xs → P x → AllByRecursion P (xs ++ x ∷ [])
@@ -35,7 +35,7 @@ module _ {F : Type 0} (g : Shared F (Bor ℕ × Unit {0}) ℕ) (o : Option (Bor 
   mapping-append offset from place next xs mapping x m at less located = record {
     pairs = ap (λ ps. ps ++ pair_of offset x ∷ []) m.pairs ∙ sym (map-append (pair_of offset) xs (x ∷ []));
     rise = rise-append xs x from place next m.rise at less;
-    answers = all-append (λ y. Locates g o y.place y.location) xs x m.answers located;
+    are_located = all-append (λ y. Locates g o y.place y.location) xs x m.are_located located;
   }
 
 -- ---- the locations in the mapping
@@ -74,7 +74,7 @@ module _ {F : Type 0} (g : Shared F (Bor ℕ × Unit {0}) ℕ) where
   -- the mapping has each operator's location
   pub mapped_locations : (o : Option (Bor F)) (offset from below : ℕ) (xs : List Occurrence) (mapping : List (ℕ × ℕ)) → offset ≤ from → IsMapping g o offset from below xs mapping →
       AllByRecursion (λ x. x.location ≡ location_at (locations_in o offset mapping) x.place) xs
-  mapped_locations None offset from below xs mapping fits m = all-mapped (λ x. Locates g None x.place x.location) (λ x. x.location ≡ x.place) (λ x p. p.1) xs m.answers
+  mapped_locations None offset from below xs mapping fits m = all-mapped (λ x. Locates g None x.place x.location) (λ x. x.location ≡ x.place) (λ x p. p.1) xs m.are_located
   mapped_locations (Some f) offset from below xs mapping fits m =
       all-mapped (λ x. (x.location ≡ found (map (pair_of offset) xs) (x.place - offset)) × (from ≤ x.place)) (λ x. x.location ≡ found mapping (x.place - offset))
       (λ x p. p.0 ∙ ap (λ ps. found ps (x.place - offset)) (sym m.pairs)) xs (found_all offset xs from below fits m.rise)
@@ -84,9 +84,9 @@ mapped_both None offset mapping = tt
 mapped_both (Some f) offset mapping = tt
 
 -- the function may be called at the next operator
-pub may_ask_next : {F : Type 0} (pre : F → Bor ℕ → Type 0) (o : Option (Bor F)) (from to place : ℕ) → from ≤ place → place < to → MayAsk pre o from to → MayAsk pre o place (place + 1)
-may_ask_next pre None from to place low high may = tt
-may_ask_next pre (Some f) from to place low high may = λ p least most. may p (omega arith) (omega arith)
+pub may_call_next : {F : Type 0} (pre : F → Bor ℕ → Type 0) (o : Option (Bor F)) (from to place : ℕ) → from ≤ place → place < to → MayCall pre o from to → MayCall pre o place (place + 1)
+may_call_next pre None from to place low high may = tt
+may_call_next pre (Some f) from to place low high may = λ p least most. may p (omega arith) (omega arith)
 
 pub rise-wider : (xs : List Occurrence) (from below above : ℕ) → below ≤ above → RiseFrom xs from below → RiseFrom xs from above
 rise-wider [] from below above less rise = omega arith

@@ -24,11 +24,11 @@ use Rattle.walrus_ir.specs.Results.{◌>>=◌}
 use Rattle.wasm_body.specs.Naming.{Occurrence, Environment, NamedOperation, block_signature, name_block, has_pick, named_in}
 use Rattle.wasm_body.specs.NormalForm.{typing_of, construct_type, kept_operation, instruction, name_at}
 use Rattle.wasm_body.specs.InstructionTable.{operation_of, clauses_of_try}
-use Rattle.wasm_body.specs.TreeOfFunction.{aimed}
+use Rattle.wasm_body.specs.TreeOfFunction.{with_targets}
 use Rattle.wasm_body.specs.Frames.{OfFunction}
 use Rattle.wasm_body.specs.Parsing.Progress.{Layer, opened, frame_of, frames_of}
 use Rattle.walrus_context.specs.declared.frame.IfElseState.{IfElseState}
-use Rattle.walrus_context.specs.OpenConstructs.{kind_in, type_in, opener_in, clauses_in, closed_in, reshown_construct}
+use Rattle.walrus_context.specs.OpenConstructs.{kind_in, type_in, opener_in, clauses_in, closed_in, map_open_construct}
 use Rattle.walrus_context.specs.OpenFrames.{OpenFrame, new_frame, changed_at, with_instr}
 use Rattle.walrus_context.specs.OpenTrees.{OpenTrees, Opens, OpensAs, env_of, opened_type}
 use Rattle.walrus_context.specs.Keeping.{slots, TakesParameters, IsAny, IsTry, IsAppended, OpensWith}
@@ -81,10 +81,10 @@ named_as c m k b id (Err f) e h = absurd h
 pub record IsOpenedAtOnce (env : Environment) (construct : Construct) (k : BlockKind) (IsOpener : Instr → Type 0) : Type 0 where
   pub kind : (a : Occurrence) → k ≡ kind_in (opened a construct)
   pub takes : (a : Occurrence) (types : List (ValType ℕ)) → TakesParameters env (opened a construct) types
-  pub type : (a : Occurrence) → type_in (typing_of env) (reshown_construct name_at (opened a construct)) ≡ construct_type (typing_of env) a.named
+  pub type : (a : Occurrence) → type_in (typing_of env) (map_open_construct name_at (opened a construct)) ≡ construct_type (typing_of env) a.named
   pub opener : (a : Occurrence) → opener_in (opened a construct) ≡ a
   pub clauses : (a : Occurrence) → clauses_in (opened a construct) ≡ []
-  pub closed : (a : Occurrence) → closed_in (typing_of env) (reshown_construct name_at (opened a construct)) ≡ no_sequences
+  pub closed : (a : Occurrence) → closed_in (typing_of env) (map_open_construct name_at (opened a construct)) ≡ no_sequences
   pub opens : (a : Occurrence) (around : List ℕ) (slot : ℕ) (fs outside : List OpenFrame) (ifs : List IfElseState) → IsAppended around [] slot (opened a construct) IsOpener fs outside → OpensWith around [] slot (opened a construct) fs outside ifs ifs
 
 pub block_at_once : (env : Environment) → IsOpenedAtOnce env Block kind.Block IsAny
@@ -110,9 +110,9 @@ module _ (c m n : OpenTrees) (ifs : List IfElseState) (ls : List (Layer Occurren
 
   -- Its name is an opener of the construct, with the parameters and results of the named block type.
   pub opens_as : (k : BlockKind) (h : Named c m k b id) (construct : Construct) (IsOpener : Instr → Type 0) (i : Instr) (o : RawOperation) (named : NamedOperation) → IsOpenedAtOnce (env_of c) construct k IsOpener →
-      named_in (env_of c) (frames_of ls) o ≡ Ok named → control_of named ≡ OpensConstruct construct → block_signature named ≡ h.signature → slots_in i ≡ id ∷ [] → clauses_of_try i ≡ [] → aimed (slots c.frames) (operation_of i) ≡ kept_operation named →
+      named_in (env_of c) (frames_of ls) o ≡ Ok named → control_of named ≡ OpensConstruct construct → block_signature named ≡ h.signature → slots_in i ≡ id ∷ [] → clauses_of_try i ≡ [] → with_targets (slots c.frames) (operation_of i) ≡ kept_operation named →
       IsOpener i → Appended i → Advances (env_of c) (state_with n ifs) ls s o place location
-  opens_as k h construct IsOpener i o named at_once is_named control same_signature places no_clauses aims is_opener e =
+  opens_as k h construct IsOpener i o named at_once is_named control same_signature places no_clauses retargeted is_opener e =
       let x : LocatedInstr = (i, location) in
       let a = occurrence o place location named in
       let seq = empty_sequence (length c.builder.sequences) h.type in
@@ -130,18 +130,18 @@ module _ (c m n : OpenTrees) (ifs : List IfElseState) (ls : List (Layer Occurren
         has_no_end = refl;
       })
       (at_once.closed a) (λ around appended. at_once.opens a (slots around) id around c.frames ifs appended) places
-      ((λ j. record { op = aims j; clauses = no_clauses j; location = location }) ∙ (λ j. instruction (name_at (sym (at_once.opener a) j)) (sym (at_once.clauses a) j)))
+      ((λ j. record { op = retargeted j; clauses = no_clauses j; location = location }) ∙ (λ j. instruction (name_at (sym (at_once.opener a) j)) (sym (at_once.clauses a) j)))
       is_opener (state_is k h x e)
 
   -- an opener with a block type alone
   pub opens_block_type : (opcode : Opcode) (construct : Construct) (k : BlockKind) (IsOpener : Instr → Type 0) (i : Instr) → IsOpenedAtOnce (env_of c) construct k IsOpener →
       control_of (operation opcode (block b ∷ [])) ≡ OpensConstruct construct → ((z : Signature) → control_of (operation opcode (block z ∷ [])) ≡ OpensConstruct construct) →
-      slots_in i ≡ id ∷ [] → clauses_of_try i ≡ [] → aimed (slots c.frames) (operation_of i) ≡ operation opcode (block tt ∷ []) → IsOpener i →
+      slots_in i ≡ id ∷ [] → clauses_of_try i ≡ [] → with_targets (slots c.frames) (operation_of i) ≡ operation opcode (block tt ∷ []) → IsOpener i →
       OpensAs c m k id (name_block (env_of c) b) → Appended i → Advances (env_of c) (state_with n ifs) ls s (operation opcode (block b ∷ [])) place location
-  opens_block_type opcode construct k IsOpener i at_once raw control places no_clauses aims is_opener o e =
+  opens_block_type opcode construct k IsOpener i at_once raw control places no_clauses retargeted is_opener o e =
       let h = named_as c m k b id (name_block (env_of c) b) refl o in
       opens_as k h construct IsOpener i (operation opcode (block b ∷ [])) (operation opcode (block h.signature ∷ [])) at_once
-      (opener_is (env_of c) ls opcode construct b h.signature h.type raw control h.is_named h.picked) (control h.signature) refl places no_clauses aims is_opener e
+      (opener_is (env_of c) ls opcode construct b h.signature h.type raw control h.is_named h.picked) (control h.signature) refl places no_clauses retargeted is_opener e
 
   -- `if`, whose instruction is appended later
   pub opens_if : OpensAs c m kind.If id (name_block (env_of c) b) → Advances (env_of c) (state_with m (record { start = location; consequent = id; alternative = None } ∷ ifs)) ls s (operation (Byte 0x04) (block b ∷ [])) place location

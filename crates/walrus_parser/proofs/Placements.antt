@@ -9,14 +9,14 @@ use Rattle.wasm_operators.specs.Operations.{Immediate, operation, RawOperation}
 use Rattle.walrus_ir.specs.Types.{Signature}
 use Rattle.wasm_body.specs.declared.error.ParseError.{ParseError}
 use Rattle.wasm_body.specs.declared.error.ParseError.TheVariants.{NoSuchLabel}
-use Rattle.walrus_ir.specs.Results.{◌>>=◌, sure, some_or, unless}
+use Rattle.walrus_ir.specs.Results.{◌>>=◌, infallible, some_or, unless}
 use Rattle.wasm_body.specs.Frames.{Frame, outside}
 use Rattle.wasm_body.specs.Translation.{translate, translate_immediates}
 use Rattle.wasm_body.specs.Naming.{Environment, NamedOperation, naming, id_at, name_block, open_label, block_types}
 use Rattle.wasm_body.specs.FunctionTree.{Target, Depth}
 use Rattle.wasm_body.specs.NormalForm.{kept_operation}
 use Rattle.wasm_body.specs.InstructionTable.{PlacedOperation}
-use Rattle.wasm_body.specs.TreeOfFunction.{target_in, aiming, aimed}
+use Rattle.wasm_body.specs.TreeOfFunction.{target_in, to_targets, with_targets}
 use Rattle.wasm_body.proofs.Translation.Steps.{Leads, bound, all_of}
 use Rattle.wasm_body.proofs.Translation.Translations.{LeadAll, lead_all, translate_leads}
 use Rattle.wasm_body.proofs.NormalForm.KeptNames.{kept_raw, number_leads, open_same, handler_same, same_leads, kept_of}
@@ -49,7 +49,7 @@ module _ {A : Type 0} (env : Environment) (fs : List (Frame A)) (open_frames : L
       outer_many (o ∷ os) [] e = absurd (omega arith)
       outer_many (o ∷ os) (g ∷ gs) e = (let same : length os ≡ length gs = omega arith in same)
 
-  placed_lead : LeadAll (placing env open_frames) (aiming ps) (kept_raw env)
+  placed_lead : LeadAll (placing env open_frames) (to_targets ps) (kept_raw env)
   placed_lead = record {
     indices = λ space n q e. number_leads (id_at env space n) q e;
     locals = λ n q e. number_leads ((naming env fs).local n) q e;
@@ -102,7 +102,7 @@ module _ {A : Type 0} (env : Environment) (fs : List (Frame A)) (open_frames : L
     pub named : NamedOperation
     pub is_named : translate (naming env fs) o ≡ Ok named
     pub same_opcode : named.opcode ≡ o.opcode
-    pub kept : aimed ps placed ≡ kept_operation named
+    pub kept : with_targets ps placed ≡ kept_operation named
 
   alike_ok : {X Y : Type 0} → (r : Result X ParseError) (s : Result Y ParseError) (x : X) → Alike r s → r ≡ Ok x → (y : Y) × (s ≡ Ok y)
   alike_ok r (Ok y) x a e = (y, refl)
@@ -114,26 +114,26 @@ module _ {A : Type 0} (env : Environment) (fs : List (Frame A)) (open_frames : L
       let is : placed ≡ record { opcode = o.opcode; immediates = first.0 } = cc first.2 in
       let alike = translate_alike (placing env open_frames) (naming env fs) placing_alike o.immediates in
       let second = alike_ok (translate_immediates (placing env open_frames) o.immediates) (translate_immediates (naming env fs) o.immediates) first.0 alike first.1 in
-      let aims = translate_leads (placing env open_frames) (aiming ps) (kept_raw env) o.immediates
-      (lead_all (placing env open_frames) (aiming ps) (kept_raw env) placed_lead o.immediates (all_of (Leads (placing env open_frames).block (aiming ps).block (kept_raw env).block) (λ b d h. refl) (block_types o.immediates)))
+      let retargeted = translate_leads (placing env open_frames) (to_targets ps) (kept_raw env) o.immediates
+      (lead_all (placing env open_frames) (to_targets ps) (kept_raw env) placed_lead o.immediates (all_of (Leads (placing env open_frames).block (to_targets ps).block (kept_raw env).block) (λ b d h. refl) (block_types o.immediates)))
       first.0 first.1 in
       let named : NamedOperation = record { opcode = o.opcode; immediates = second.0 } in
       let is_named : translate (naming env fs) o ≡ Ok named = ap (λ r. r >>= λ is. Ok (record { opcode = o.opcode; immediates = is })) second.1 in
-      let same = aims ∙ (kept_of env fs o named is_named).kept in
+      let same = retargeted ∙ (kept_of env fs o named is_named).kept in
       record {
         named = named;
         is_named = is_named;
         same_opcode = refl;
-        kept = ap (aimed ps) is ∙ (λ i. record { opcode = o.opcode; immediates = sure (same i) });
+        kept = ap (with_targets ps) is ∙ (λ i. record { opcode = o.opcode; immediates = infallible (same i) });
       }
 
   pub placed_refused : (o : RawOperation) (f : ParseError) → translate (placing env open_frames) o ≡ Err f → translate (naming env fs) o ≡ Err f
   placed_refused o f e =
       let alike = translate_alike (placing env open_frames) (naming env fs) placing_alike o.immediates in
-      by_answers (translate_immediates (placing env open_frames) o.immediates) (translate_immediates (naming env fs) o.immediates) alike e
+      by_results (translate_immediates (placing env open_frames) o.immediates) (translate_immediates (naming env fs) o.immediates) alike e
     where
-      by_answers : (r : Result (List (Immediate ℕ (Unit {0}))) ParseError) (t : Result (List (Immediate ℕ Signature)) ParseError) → Alike r t →
+      by_results : (r : Result (List (Immediate ℕ (Unit {0}))) ParseError) (t : Result (List (Immediate ℕ Signature)) ParseError) → Alike r t →
           (r >>= λ is. Ok (operation o.opcode is)) ≡ Err f → (t >>= λ is. Ok (operation o.opcode is)) ≡ Err f
-      by_answers (Ok x) t a e = absurd cc
-      by_answers (Err g) (Ok y) a e = absurd cc
-      by_answers (Err g) (Err h) a e = let c : g ≡ f = cc e in let d : g ≡ h = cc a in ap Err (sym d ∙ c)
+      by_results (Ok x) t a e = absurd cc
+      by_results (Err g) (Ok y) a e = absurd cc
+      by_results (Err g) (Err h) a e = let c : g ≡ f = cc e in let d : g ≡ h = cc a in ap Err (sym d ∙ c)

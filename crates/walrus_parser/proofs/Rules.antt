@@ -25,11 +25,11 @@ module _ (env : Environment) (f : Frame Occurrence) (fs : List (Frame Occurrence
   module _ (opcode : Opcode) (construct : Construct) where
     pub named_opener : (b : BlockType) → control_of (operation opcode (block b ∷ [])) ≡ Opens construct → ((s : Signature) → control_of (operation opcode (block s ∷ [])) ≡ Opens construct) →
         named_in env (f ∷ fs) (operation opcode (block b ∷ [])) ≡ opener_named opcode (name_block env b)
-    named_opener b raw named = by_answer (name_block env b) refl
+    named_opener b raw named = by_result (name_block env b) refl
       where
-        by_answer : (r : Result Signature ParseError) → name_block env b ≡ r → named_in env (f ∷ fs) (operation opcode (block b ∷ [])) ≡ opener_named opcode r
-        by_answer (Ok s) e = rw (raw, e, named s) refl
-        by_answer (Err g) e = rw (raw, e) refl
+        by_result : (r : Result Signature ParseError) → name_block env b ≡ r → named_in env (f ∷ fs) (operation opcode (block b ∷ [])) ≡ opener_named opcode r
+        by_result (Ok s) e = rw (raw, e, named s) refl
+        by_result (Err g) e = rw (raw, e) refl
 
   -- `try_table`: its clauses are looked up after the block type, and the picked type comes last
   abbrev pub table_named : Result Signature ParseError → Result (List (CatchClause ℕ)) ParseError → Result NamedOperation ParseError
@@ -39,13 +39,13 @@ module _ (env : Environment) (f : Frame Occurrence) (fs : List (Frame Occurrence
   clauses_named cs = each (translate_clause (naming env (f ∷ fs))) cs
 
   pub named_try_table : (b : BlockType) (cs : List (CatchClause ℕ)) → named_in env (f ∷ fs) (operation (Byte 0x1f) (block b ∷ clauses cs ∷ [])) ≡ table_named (name_block env b) (clauses_named cs)
-  named_try_table b cs = by_answers (name_block env b) refl (clauses_named cs) refl
+  named_try_table b cs = by_results (name_block env b) refl (clauses_named cs) refl
     where
-      by_answers : (r : Result Signature ParseError) → name_block env b ≡ r → (q : Result (List (CatchClause ℕ)) ParseError) → clauses_named cs ≡ q →
+      by_results : (r : Result Signature ParseError) → name_block env b ≡ r → (q : Result (List (CatchClause ℕ)) ParseError) → clauses_named cs ≡ q →
           named_in env (f ∷ fs) (operation (Byte 0x1f) (block b ∷ clauses cs ∷ [])) ≡ table_named r q
-      by_answers (Ok s) e (Ok ds) d = rw (e, d) refl
-      by_answers (Ok s) e (Err g) d = rw (e, d) refl
-      by_answers (Err g) e q d = rw e refl
+      by_results (Ok s) e (Ok ds) d = rw (e, d) refl
+      by_results (Ok s) e (Err g) d = rw (e, d) refl
+      by_results (Err g) e q d = rw e refl
 
   -- ---- operators that divide a construct
 
@@ -64,13 +64,13 @@ module _ (env : Environment) (f : Frame Occurrence) (fs : List (Frame Occurrence
   catch_named r = r >>= λ tag. catch_types tag >>= λ _. Ok (operation catch_opcode (index Tags tag ∷ []))
 
   pub named_catch : (n : ℕ) → named_in env (f ∷ fs) (operation catch_opcode (index Tags n ∷ [])) ≡ (unless (is_some (catch_moves f)) CatchOutsideTry >>= λ _. catch_named (id_at env Tags n))
-  named_catch n = by_answers (is_some (catch_moves f)) refl (id_at env Tags n) refl
+  named_catch n = by_results (is_some (catch_moves f)) refl (id_at env Tags n) refl
     where
-      by_answers : (b : Bool) → is_some (catch_moves f) ≡ b → (r : Result ℕ ParseError) → id_at env Tags n ≡ r →
+      by_results : (b : Bool) → is_some (catch_moves f) ≡ b → (r : Result ℕ ParseError) → id_at env Tags n ≡ r →
           named_in env (f ∷ fs) (operation catch_opcode (index Tags n ∷ [])) ≡ (unless b CatchOutsideTry >>= λ _. catch_named r)
-      by_answers true e (Ok tag) d = rw (e, d) refl
-      by_answers true e (Err g) d = rw (e, d) refl
-      by_answers false e r d = rw e refl
+      by_results true e (Ok tag) d = rw (e, d) refl
+      by_results true e (Err g) d = rw (e, d) refl
+      by_results false e r d = rw e refl
 
   pub named_catch_all : named_in env (f ∷ fs) catch_all_operation
       ≡ (unless (is_some (catch_all_moves f)) CatchOutsideTry >>= λ _. has_pick env (signature [] (construct_results (f ∷ fs))) >>= λ _. Ok catch_all_operation)
@@ -88,20 +88,20 @@ module _ (env : Environment) (f : Frame Occurrence) (fs : List (Frame Occurrence
 
   pub named_delegate : (n : ℕ) → named_in env (f ∷ fs) (delegate_operation n)
       ≡ (unless (is_some (delegate_moves fs f)) DelegateOutsideTry >>= λ _. open_label fs n >>= λ m. Ok (delegate_operation m))
-  named_delegate n = by_answers (is_some (delegate_moves fs f)) refl (open_label fs n) refl
+  named_delegate n = by_results (is_some (delegate_moves fs f)) refl (open_label fs n) refl
     where
-      by_answers : (b : Bool) → is_some (delegate_moves fs f) ≡ b → (r : Result ℕ ParseError) → open_label fs n ≡ r →
+      by_results : (b : Bool) → is_some (delegate_moves fs f) ≡ b → (r : Result ℕ ParseError) → open_label fs n ≡ r →
           named_in env (f ∷ fs) (delegate_operation n) ≡ (unless b DelegateOutsideTry >>= λ _. r >>= λ m. Ok (delegate_operation m))
-      by_answers true e (Ok m) d = rw (e, d) refl
-      by_answers true e (Err g) d = rw (e, d) refl
-      by_answers false e r d = rw e refl
+      by_results true e (Ok m) d = rw (e, d) refl
+      by_results true e (Err g) d = rw (e, d) refl
+      by_results false e r d = rw e refl
 
   -- ---- operators by themselves
 
   pub named_alone : (o : RawOperation) (action : Action) → control_of o ≡ Does action → ((named : NamedOperation) → translate (naming env (f ∷ fs)) o ≡ Ok named → (a : Action) × (control_of named ≡ Does a)) →
       named_in env (f ∷ fs) o ≡ translate (naming env (f ∷ fs)) o
-  named_alone o action raw named = by_answer (translate (naming env (f ∷ fs)) o) refl
+  named_alone o action raw named = by_result (translate (naming env (f ∷ fs)) o) refl
     where
-      by_answer : (r : Result NamedOperation ParseError) → translate (naming env (f ∷ fs)) o ≡ r → named_in env (f ∷ fs) o ≡ r
-      by_answer (Ok x) e = rw (raw, e, (named x e).1) refl
-      by_answer (Err g) e = rw (raw, e) refl
+      by_result : (r : Result NamedOperation ParseError) → translate (naming env (f ∷ fs)) o ≡ r → named_in env (f ∷ fs) o ≡ r
+      by_result (Ok x) e = rw (raw, e, (named x e).1) refl
+      by_result (Err g) e = rw (raw, e) refl

@@ -17,24 +17,25 @@ use Rattle.wasm_body.specs.SourceTree.{Sequence, Empty, Single, TryDelegate, Wra
 use Rattle.wasm_body.specs.Naming.{Environment, NamedOperation, Occurrence, block_signature, named_in}
 use Rattle.walrus_ir.specs.Types.{signature, pick}
 use Rattle.walrus_ir.specs.declared.val_type.InstrSeqType.TheVariants.{Simple}
-use Rattle.wasm_body.specs.NormalForm.{Fate, Drops, Stays, Cuts, fate, with_fate, construct_type, handler_type, normal, typing_of, kept_operation, instruction, name_at, normal_form, named_body}
-use Rattle.wasm_body.specs.FunctionTree.{Instruction, handles, handles_all, delegates, default_location}
-use Rattle.wasm_body.specs.Keeping.{dead_behind}
+use Rattle.walrus_ir.specs.Locations.{default_location}
+use Rattle.wasm_body.specs.NormalForm.{Fate, Drops, Stays, Diverges, fate, with_fate, construct_type, handler_type, normal, typing_of, kept_operation, instruction, name_at, normal_form, named_body}
+use Rattle.wasm_body.specs.FunctionTree.{Instruction, handles, handles_all, delegates}
+use Rattle.wasm_body.specs.Keeping.{dead_after}
 use Rattle.wasm_body.specs.InstructionTable.{operation_of, legacy_clause, clauses_of_try}
-use Rattle.wasm_body.specs.TreeOfFunction.{aimed, instruction_in, items_in, HasTree}
+use Rattle.wasm_body.specs.TreeOfFunction.{with_targets, instruction_in, items_in, HasTree}
 use Rattle.wasm_body.specs.Intervals.{RiseIn}
-use Rattle.wasm_body.specs.Parsing.Progress.{append, closed, closed_clause, parted_by_catch, parted_by_catch_all, delegated, parted_by_else, opened, OpenConstruct, ClosedClause, InWrapper, InThen, InElse, InTry, InCatch, InCatchAll, Layer, layer, frames_of, further_within}
+use Rattle.wasm_body.specs.Parsing.Progress.{append, closed, closed_clause, with_catch_open, with_catch_all_open, delegated, with_else_open, opened, OpenConstruct, ClosedClause, InWrapper, InThen, InElse, InTry, InCatch, InCatchAll, Layer, layer, frames_of, further_within}
 use Rattle.wasm_body.proofs.NormalForm.ArenaLemmas.{all_rise-range, items-same, all_reached-fresh}
 use Rattle.walrus_context.specs.declared.frame.IfElseState.{IfElseState}
 use Rattle.walrus_context.specs.OpenFrames.{OpenFrame, new_frame, changed_at, with_instr}
 use Rattle.walrus_context.specs.Keeping.{slots, TakesParameters, the_if, IsAny, IsTry, Encloses, IsAppended, OpensWith, IsWithin, Holds}
-use Rattle.walrus_context.specs.OpenConstructs.{reshown_closed, kind_in, type_in, sequences_closed, added_in, opener_in, clauses_in, closed_in, reshown_construct}
-use Rattle.walrus_parser.specs.Advancing.{IsFate, IsCut, ParseState, Keeps, KeepsProgress, occurrence, Advances}
+use Rattle.walrus_context.specs.OpenConstructs.{map_closed, kind_in, type_in, sequences_closed, added_in, opener_in, clauses_in, closed_in, map_open_construct}
+use Rattle.walrus_parser.specs.Advancing.{IsFate, DivergesAs, ParseState, Keeps, KeepsProgress, occurrence, Advances}
 use Rattle.walrus_parser.proofs.Frames.{holds_same, slots_changed, AreNormal, taken, holds_takes, holds_passes}
-use Rattle.walrus_parser.proofs.ConstructKinds.{IsBehindTry, by_if, by_else, by_try, by_clause}
+use Rattle.walrus_parser.proofs.ConstructKinds.{MayHaveClause, by_if, by_else, by_try, by_clause}
 use Rattle.walrus_parser.proofs.Closing.{clauses_more, closed_by_catch}
 use Rattle.walrus_parser.proofs.Clauses.{gained_places, gained_instruction, AddsClause, adds_within}
-use Rattle.walrus_parser.proofs.Constructs.{closed_range, holds_behind, sequence_closed, IsWritten, IsSealed, IsOpened, is_opened, holds_opened, holds_ended, holds_chosen, holds_chosen_alone, holds_parted, if_else}
+use Rattle.walrus_parser.proofs.Constructs.{closed_range, holds_after, sequence_closed, IsWritten, IsSealed, IsOpened, is_opened, holds_opened, holds_ended, holds_chosen, holds_chosen_alone, holds_next_open, if_else}
 
 module _ (env : Environment) (old : ParseState) (ls : List (Layer Occurrence)) (s : Sequence Occurrence) (o : RawOperation) (place location : ℕ) (keeps : Keeps env old ls s) where
   abbrev at : NamedOperation → Occurrence
@@ -55,39 +56,39 @@ module _ (env : Environment) (old : ParseState) (ls : List (Layer Occurrence)) (
     keeps = keeps_as old named (Does action) control
         (subst (λ gs. Holds env old.arena ls (append s (Single (at named) action Empty)) (length old.arena) gs old.ifs) (sym frames)
         (holds_passes env old.arena ls s (Single (at named) action Empty) (length old.arena) f fs old.ifs
-        (ap (λ t. dead_behind t false) drops) (ap (λ t. with_fate t (instruction (name_at (at named)) []) no_items) drops)
+        (ap (λ t. dead_after t false) drops) (ap (λ t. with_fate t (instruction (name_at (at named)) []) no_items) drops)
         (subst (λ gs. Holds env old.arena ls s (length old.arena) gs old.ifs) frames keeps)));
   }
 
   -- one more instruction
-  pub steps_alone : (new : ParseState) (f : OpenFrame) (fs : List OpenFrame) (named : NamedOperation) (action : Action) (i : Instr) (cut : Bool) → old.frames ≡ f ∷ fs → named_in env (frames_of ls) o ≡ Ok named → control_of named ≡ Does action → IsCut action cut →
-      slots_in i ≡ [] → clauses_of_try i ≡ [] → aimed (slots old.frames) (operation_of i) ≡ kept_operation named →
-      new ≡ record old { frames = taken (i, location) cut f ∷ fs } → Advances env new ls s o place location
-  steps_alone new f fs named action i cut frames is control cuts alone no_clauses aims is_new = record {
+  pub steps_alone : (new : ParseState) (f : OpenFrame) (fs : List OpenFrame) (named : NamedOperation) (action : Action) (i : Instr) (diverging : Bool) → old.frames ≡ f ∷ fs → named_in env (frames_of ls) o ≡ Ok named → control_of named ≡ Does action → DivergesAs action diverging →
+      slots_in i ≡ [] → clauses_of_try i ≡ [] → with_targets (slots old.frames) (operation_of i) ≡ kept_operation named →
+      new ≡ record old { frames = taken (i, location) diverging f ∷ fs } → Advances env new ls s o place location
+  steps_alone new f fs named action i diverging frames is control diverges alone no_clauses retargeted is_new = record {
     named = named;
     is_named = is;
     keeps = subst (λ q. KeepsProgress env q (further_within (control_of named) (at named) ls s)) (sym is_new)
-        (keeps_as (record old { frames = taken (i, location) cut f ∷ fs }) named (Does action) control
-        (holds_takes env old.arena ls s (Single (at named) action Empty) (length old.arena) (length old.arena) f fs old.ifs (i, location) cut (omega arith) (dead_as (fate action) cut cuts)
+        (keeps_as (record old { frames = taken (i, location) diverging f ∷ fs }) named (Does action) control
+        (holds_takes env old.arena ls s (Single (at named) action Empty) (length old.arena) (length old.arena) f fs old.ifs (i, location) diverging (omega arith) (dead_as (fate action) diverging diverges)
         (record {
           items = item (i, location) no_sequences no_items;
           are_items = are_items (subst (λ ps. AreSequences old.arena ps no_sequences) (sym alone) are_no_sequences) are_no_items;
           rise = (length old.arena, (let n : length old.arena ≤ length old.arena = omega arith in n), (let n : length old.arena ≤ length old.arena = omega arith in n));
-          is_normal = (λ k. item (record { op = subst (λ gs. aimed (slots gs) (operation_of i) ≡ kept_operation named) frames aims k; clauses = no_clauses k; location = location }) no_sequences no_items)
-              ∙ sym (kept_as (fate action) cut (instruction (name_at (at named)) []) cuts);
+          is_normal = (λ k. item (record { op = subst (λ gs. with_targets (slots gs) (operation_of i) ≡ kept_operation named) frames retargeted k; clauses = no_clauses k; location = location }) no_sequences no_items)
+              ∙ sym (kept_as (fate action) diverging (instruction (name_at (at named)) []) diverges);
         })
         (subst (λ gs. Holds env old.arena ls s (length old.arena) gs old.ifs) frames keeps)));
   }
     where
-      dead_as : (t : Fate) (c : Bool) → IsFate t c → dead_behind t false ≡ c
+      dead_as : (t : Fate) (c : Bool) → IsFate t c → dead_after t false ≡ c
       dead_as Drops c h = absurd h
       dead_as Stays c h = sym h
-      dead_as Cuts c h = sym h
+      dead_as Diverges c h = sym h
 
       kept_as : (t : Fate) (c : Bool) (x : Instruction) → IsFate t c → with_fate t x no_items ≡ item x no_sequences no_items
       kept_as Drops c x h = absurd h
       kept_as Stays c x h = refl
-      kept_as Cuts c x h = refl
+      kept_as Diverges c x h = refl
 
   -- ---- a construct is opened
 
@@ -99,7 +100,7 @@ module _ (env : Environment) (old : ParseState) (ls : List (Layer Occurrence)) (
   -- a construct whose instruction is appended to the frame around; this is its only sequence so far
   pub steps_opened : (new : ParseState) (named : NamedOperation) (c : Construct) (IsOpener : Instr → Type 0) (g : OpenFrame) (seq : InstrSeq) (x : LocatedInstr) →
       named_in env (frames_of ls) o ≡ Ok named → control_of named ≡ Opens c → IsOpened env (length old.arena) (opened (at named) c) g seq →
-      closed_in (typing_of env) (reshown_construct name_at (opened (at named) c)) ≡ no_sequences →
+      closed_in (typing_of env) (map_open_construct name_at (opened (at named) c)) ≡ no_sequences →
       ((around : List OpenFrame) → IsAppended (slots around) [] g.sequence (opened (at named) c) IsOpener around old.frames → OpensWith (slots around) [] g.sequence (opened (at named) c) around old.frames old.ifs old.ifs) →
       slots_in x.0 ≡ g.sequence ∷ [] → instruction_in (slots old.frames) x ≡ instruction (name_at (opener_in (opened (at named) c))) (clauses_in (opened (at named) c)) → IsOpener x.0 →
       new ≡ record { arena = old.arena ++ seq ∷ []; frames = g ∷ changed_at 0 (with_instr x) old.frames; ifs = old.ifs } → Advances env new ls s o place location
@@ -146,7 +147,7 @@ pub record Seals (b c : List InstrSeq) (f : OpenFrame) (closing : Option ℕ) : 
 
 pub sealed : (env : Environment) (b c : List InstrSeq) (low : ℕ) (f : OpenFrame) (around before : List ℕ) (p : OpenConstruct Occurrence) (closing : Option ℕ) → Encloses env b low f around p before → Seals b c f closing → IsSealed env b c f p (unwrap_or closing default_location)
 sealed env b c low f around before p closing o h =
-    let found : Some o.reserved.seq ≡ Some h.was = sym o.reserved.stands ∙ h.before in
+    let found : Some o.reserved.seq ≡ Some h.was = sym o.reserved.in_arena ∙ h.before in
     let same : o.reserved.seq ≡ h.was = cc found in
     record {
       seq = h.seq;
@@ -167,7 +168,7 @@ module _ (env : Environment) (old : ParseState) (l : Layer Occurrence) (ls : Lis
   Inside p = IsWithin env old.arena (length old.arena) f fs old.ifs p s Outside
 
   -- a construct whose instruction is already there
-  ended_as : (p : OpenConstruct Occurrence) (IsOpener : Instr → Type 0) (new : ParseState) (e : Occurrence) (h : Inside p) → added_in (typing_of env) (reshown_construct name_at p) ≡ no_sequences →
+  ended_as : (p : OpenConstruct Occurrence) (IsOpener : Instr → Type 0) (new : ParseState) (e : Occurrence) (h : Inside p) → added_in (typing_of env) (map_open_construct name_at p) ≡ no_sequences →
       IsAppended (slots fs) h.before f.sequence p IsOpener fs h.outside → old.ifs ≡ h.other_ifs → Seals old.arena new.arena f (Some e.location) → new.frames ≡ fs → new.ifs ≡ old.ifs → Keeps env new ls (append l.before (closed p s e))
   ended_as p IsOpener new e h none a same_outside seals same_frames same_ifs =
       let whole = holds_ended env old.arena new.arena ls l.before s p IsOpener f fs h.outside h.other_ifs h.low h.before e none h.kept h.encloses a
@@ -241,28 +242,28 @@ module _ (env : Environment) (old : ParseState) (l : Layer Occurrence) (ls : Lis
     pub seq : InstrSeq
     pub grows : d ≡ c ++ seq ∷ []
     pub opens : IsOpened env (length c) q g seq
-    pub same : closed_in (typing_of env) (reshown_construct name_at q) ≡ sequences_closed (typing_of env) (reshown_construct name_at p) (normal (typing_of env) (map_sequence name_at s)) location no_sequences
+    pub same : closed_in (typing_of env) (map_open_construct name_at q) ≡ sequences_closed (typing_of env) (map_open_construct name_at p) (normal (typing_of env) (map_sequence name_at s)) location no_sequences
 
-  parted : (p q : OpenConstruct Occurrence) (new : ParseState) (c : List InstrSeq) (g : OpenFrame) (gs : List OpenFrame) (location : ℕ) (h : Inside p) → Parts c new.arena p q g location → new.frames ≡ g ∷ gs → slots gs ≡ slots fs →
+  next_open : (p q : OpenConstruct Occurrence) (new : ParseState) (c : List InstrSeq) (g : OpenFrame) (gs : List OpenFrame) (location : ℕ) (h : Inside p) → Parts c new.arena p q g location → new.frames ≡ g ∷ gs → slots gs ≡ slots fs →
       OpensWith (slots gs) (h.before ++ f.sequence ∷ []) g.sequence q gs h.outside new.ifs h.other_ifs → Keeps env new (layer l.before q ∷ ls) Empty
-  parted p q new c g gs location h m is same opens =
-      let whole = holds_parted env old.arena c m.seq ls l.before s p q f g fs gs h.outside new.ifs h.other_ifs h.low h.before location h.kept h.encloses
+  next_open p q new c g gs location h m is same opens =
+      let whole = holds_next_open env old.arena c m.seq ls l.before s p q f g fs gs h.outside new.ifs h.other_ifs h.low h.before location h.kept h.encloses
       (sealed env old.arena c h.low f (slots fs) h.before p (Some location) h.encloses m.seals) m.opens same m.same opens h.outer in
       subst (λ d. Holds env d (layer l.before q ∷ ls) Empty (length d) new.frames new.ifs) (sym m.grows)
       (subst (λ ks. Holds env (c ++ m.seq ∷ []) (layer l.before q ∷ ls) Empty (length (c ++ m.seq ∷ [])) ks new.ifs) (sym is) whole)
 
   -- the construct goes on as this one, with a new empty sequence
-  abbrev IsParted : ParseState → Option (OpenConstruct Occurrence) → Type 0
-  IsParted new o = (q : OpenConstruct Occurrence) × (o ≡ Some q) × Keeps env new (layer l.before q ∷ ls) Empty
+  abbrev HasNextOpen : ParseState → Option (OpenConstruct Occurrence) → Type 0
+  HasNextOpen new o = (q : OpenConstruct Occurrence) × (o ≡ Some q) × Keeps env new (layer l.before q ∷ ls) Empty
 
   -- `else` after a consequent
   pub else_parts : (p : OpenConstruct Occurrence) (new : ParseState) (c : List InstrSeq) (seq : InstrSeq) (g : OpenFrame) (x : Occurrence) (top : IfElseState) (others : List IfElseState) → f.kind ≡ kind.If → old.ifs ≡ top ∷ others → Seals old.arena c f (Some x.location) →
       pick env.types (signature f.start_types f.end_types) ≡ Some seq.ty → seq.end ≡ default_location → new.arena ≡ c ++ seq ∷ [] → g ≡ new_frame kind.Else f.start_types f.end_types (length c) →
       new.frames ≡ g ∷ fs → new.ifs ≡ record top { alternative = Some g.sequence } ∷ others → Inside p →
-      IsParted new (parted_by_else p s x)
-  else_parts p new c seq g x top others is_if ifs seals picks no_end arena frame gs is within = by_if (λ q. Inside q → IsParted new (parted_by_else q s x)) of_then p (sym within.encloses.kind ∙ is_if) within
+      HasNextOpen new (with_else_open p s x)
+  else_parts p new c seq g x top others is_if ifs seals picks no_end arena frame gs is within = by_if (λ q. Inside q → HasNextOpen new (with_else_open q s x)) of_then p (sym within.encloses.kind ∙ is_if) within
     where
-      of_then : (a : Occurrence) → Inside (InThen a) → IsParted new (parted_by_else (InThen a) s x)
+      of_then : (a : Occurrence) → Inside (InThen a) → HasNextOpen new (with_else_open (InThen a) s x)
       of_then a h =
           let made : IfElseState = record { start = a.location; consequent = f.sequence; alternative = None } in
           let both : top ∷ others ≡ made ∷ h.other_ifs = sym ifs ∙ h.opens.kept in
@@ -274,7 +275,7 @@ module _ (env : Environment) (old : ParseState) (l : Layer Occurrence) (ls : Lis
           is ∙ (λ i. record { start = (first i).start; consequent = (first i).consequent; alternative = Some g.sequence } ∷ rest i) in (
             InElse a s x,
             refl,
-            parted (InThen a) (InElse a s x) new c g fs x.location h
+            next_open (InThen a) (InElse a s x) new c g fs x.location h
                 (record {
                   seals = seals;
                   seq = seq;
@@ -290,15 +291,15 @@ module _ (env : Environment) (old : ParseState) (l : Layer Occurrence) (ls : Lis
       pick env.types (signature parameters f.end_types) ≡ Some seq.ty → seq.end ≡ default_location → new.arena ≡ c ++ seq ∷ [] → g ≡ new_frame kind parameters f.end_types (length c) →
       new.frames ≡ g ∷ gs → new.ifs ≡ old.ifs → slots gs ≡ slots fs → AddsClause fs gs clause → handler_of clause ≡ length c ∷ [] → (h : Inside p) → IsAppended (slots fs) h.before f.sequence p IsTry fs h.outside → old.ifs ≡ h.other_ifs →
       opener_in q ≡ opener_in p → clauses_in q ≡ clauses_in p ++ legacy_clause clause ∷ [] → kind ≡ kind_in q → ((ts : _) → TakesParameters env q ts) →
-      type_in (typing_of env) (reshown_construct name_at q) ≡ handler_type (typing_of env) (name_at (opener_in p)).op parameters →
-      closed_in (typing_of env) (reshown_construct name_at q) ≡ sequences_closed (typing_of env) (reshown_construct name_at p) (normal (typing_of env) (map_sequence name_at s)) location no_sequences →
+      type_in (typing_of env) (map_open_construct name_at q) ≡ handler_type (typing_of env) (name_at (opener_in p)).op parameters →
+      closed_in (typing_of env) (map_open_construct name_at q) ≡ sequences_closed (typing_of env) (map_open_construct name_at p) (normal (typing_of env) (map_sequence name_at s)) location no_sequences →
       ((around before : List ℕ) (slot : ℕ) (hs outside : List OpenFrame) (is js : List IfElseState) → IsAppended around before slot q IsTry hs outside × (is ≡ js) → OpensWith around before slot q hs outside is js) →
       Keeps env new (layer l.before q ∷ ls) Empty
   handler_parts p q new c seq g gs location kind parameters clause seals picks no_end arena frame gs_are is same_slots adds handler h appended others same clauses is_kind takes type closed_same opens =
       let here : g.sequence ≡ length c = ap (λ (k : OpenFrame). k.sequence) frame in
       let typed : seq.ty ≡ handler_type (typing_of env) (name_at (opener_in p)).op parameters =
       sym (ap (λ r. unwrap_or (pick env.types (signature parameters r)) (Simple None)) (sym h.encloses.gives) ∙ ap (λ t. unwrap_or t (Simple None)) picks) in
-      parted p q new c g gs location h
+      next_open p q new c g gs location h
       (record {
         seals = seals;
         seq = seq;
@@ -313,14 +314,14 @@ module _ (env : Environment) (old : ParseState) (l : Layer Occurrence) (ls : Lis
         is ∙ others,
       ))
 
-  pub catch_parts : (p : OpenConstruct Occurrence) (new : ParseState) (c : List InstrSeq) (seq : InstrSeq) (g : OpenFrame) (gs : List OpenFrame) (x : Occurrence) (tag : ℕ) (parameters : List (ValType ℕ)) → IsBehindTry f.kind → Seals old.arena c f (Some x.location) →
+  pub catch_parts : (p : OpenConstruct Occurrence) (new : ParseState) (c : List InstrSeq) (seq : InstrSeq) (g : OpenFrame) (gs : List OpenFrame) (x : Occurrence) (tag : ℕ) (parameters : List (ValType ℕ)) → MayHaveClause f.kind → Seals old.arena c f (Some x.location) →
       (typing_of env).tag_parameters tag ≡ parameters → pick env.types (signature parameters f.end_types) ≡ Some seq.ty → seq.end ≡ default_location → new.arena ≡ c ++ seq ∷ [] → g ≡ new_frame kind.Catch parameters f.end_types (length c) →
       new.frames ≡ g ∷ gs → new.ifs ≡ old.ifs → slots gs ≡ slots fs → AddsClause fs gs (Catch tag (length c)) → Inside p →
-      IsParted new (parted_by_catch p s x tag)
+      HasNextOpen new (with_catch_open p s x tag)
   catch_parts p new c seq g gs x tag parameters may seals tagged picks no_end arena frame gs_are is same_slots adds within =
-      by_clause (λ q. Inside q → IsParted new (parted_by_catch q s x tag)) of_try of_catch p (subst IsBehindTry within.encloses.kind may) within
+      by_clause (λ q. Inside q → HasNextOpen new (with_catch_open q s x tag)) of_try of_catch p (subst MayHaveClause within.encloses.kind may) within
     where
-      of_try : (a : Occurrence) → Inside (InTry a) → IsParted new (parted_by_catch (InTry a) s x tag)
+      of_try : (a : Occurrence) → Inside (InTry a) → HasNextOpen new (with_catch_open (InTry a) s x tag)
       of_try a h =
           let q = InCatch a s [] x tag in (
             q,
@@ -329,24 +330,24 @@ module _ (env : Environment) (old : ParseState) (l : Layer Occurrence) (ls : Lis
                 refl refl refl (λ ts. tt) (ap (handler_type (typing_of env) a.named) tagged) refl (λ around before slot hs outside is js o. o),
           )
 
-      of_catch : (a : Occurrence) (b : Sequence Occurrence) (cs : List (ClosedClause Occurrence)) (i : Occurrence) (u : ℕ) → Inside (InCatch a b cs i u) → IsParted new (parted_by_catch (InCatch a b cs i u) s x tag)
+      of_catch : (a : Occurrence) (b : Sequence Occurrence) (cs : List (ClosedClause Occurrence)) (i : Occurrence) (u : ℕ) → Inside (InCatch a b cs i u) → HasNextOpen new (with_catch_open (InCatch a b cs i u) s x tag)
       of_catch a b cs i u h =
           let q = InCatch a b (closed_clause i u s ∷ cs) x tag in (
             q,
             refl,
             handler_parts (InCatch a b cs i u) q new c seq g gs x.location kind.Catch parameters (Catch tag (length c)) seals picks no_end arena frame gs_are is same_slots adds refl h h.opens.0 h.opens.1
                 refl (clauses_more cs (handles u ∷ []) (handles tag ∷ [])) refl (λ ts. tt) (ap (handler_type (typing_of env) a.named) tagged)
-                (closed_by_catch (typing_of env) (name_at a) (map_sequence name_at b) (map_sequence name_at s) (reshown_closed name_at cs) (name_at i) (name_at x) tag u) (λ around before slot hs outside is js o. o),
+                (closed_by_catch (typing_of env) (name_at a) (map_sequence name_at b) (map_sequence name_at s) (map_closed name_at cs) (name_at i) (name_at x) tag u) (λ around before slot hs outside is js o. o),
           )
 
-  pub catch_all_parts : (p : OpenConstruct Occurrence) (new : ParseState) (c : List InstrSeq) (seq : InstrSeq) (g : OpenFrame) (gs : List OpenFrame) (x : Occurrence) → IsBehindTry f.kind → Seals old.arena c f (Some x.location) →
+  pub catch_all_parts : (p : OpenConstruct Occurrence) (new : ParseState) (c : List InstrSeq) (seq : InstrSeq) (g : OpenFrame) (gs : List OpenFrame) (x : Occurrence) → MayHaveClause f.kind → Seals old.arena c f (Some x.location) →
       pick env.types (signature [] f.end_types) ≡ Some seq.ty → seq.end ≡ default_location → new.arena ≡ c ++ seq ∷ [] → g ≡ new_frame kind.CatchAll [] f.end_types (length c) →
       new.frames ≡ g ∷ gs → new.ifs ≡ old.ifs → slots gs ≡ slots fs → AddsClause fs gs (CatchAll (length c)) → Inside p →
-      IsParted new (parted_by_catch_all p s x)
+      HasNextOpen new (with_catch_all_open p s x)
   catch_all_parts p new c seq g gs x may seals picks no_end arena frame gs_are is same_slots adds within =
-      by_clause (λ q. Inside q → IsParted new (parted_by_catch_all q s x)) of_try of_catch p (subst IsBehindTry within.encloses.kind may) within
+      by_clause (λ q. Inside q → HasNextOpen new (with_catch_all_open q s x)) of_try of_catch p (subst MayHaveClause within.encloses.kind may) within
     where
-      of_try : (a : Occurrence) → Inside (InTry a) → IsParted new (parted_by_catch_all (InTry a) s x)
+      of_try : (a : Occurrence) → Inside (InTry a) → HasNextOpen new (with_catch_all_open (InTry a) s x)
       of_try a h =
           let q = InCatchAll a s [] x in (
             q,
@@ -355,14 +356,14 @@ module _ (env : Environment) (old : ParseState) (l : Layer Occurrence) (ls : Lis
                 refl refl refl (λ ts. tt) refl refl (λ around before slot hs outside is js o. o),
           )
 
-      of_catch : (a : Occurrence) (b : Sequence Occurrence) (cs : List (ClosedClause Occurrence)) (i : Occurrence) (u : ℕ) → Inside (InCatch a b cs i u) → IsParted new (parted_by_catch_all (InCatch a b cs i u) s x)
+      of_catch : (a : Occurrence) (b : Sequence Occurrence) (cs : List (ClosedClause Occurrence)) (i : Occurrence) (u : ℕ) → Inside (InCatch a b cs i u) → HasNextOpen new (with_catch_all_open (InCatch a b cs i u) s x)
       of_catch a b cs i u h =
           let q = InCatchAll a b (closed_clause i u s ∷ cs) x in (
             q,
             refl,
             handler_parts (InCatch a b cs i u) q new c seq g gs x.location kind.CatchAll [] (CatchAll (length c)) seals picks no_end arena frame gs_are is same_slots adds refl h h.opens.0 h.opens.1
                 refl (clauses_more cs (handles u ∷ []) (handles_all ∷ [])) refl (λ ts. tt) refl
-                (closed_by_catch (typing_of env) (name_at a) (map_sequence name_at b) (map_sequence name_at s) (reshown_closed name_at cs) (name_at i) (name_at x) 0 u) (λ around before slot hs outside is js o. o),
+                (closed_by_catch (typing_of env) (name_at a) (map_sequence name_at b) (map_sequence name_at s) (map_closed name_at cs) (name_at i) (name_at x) 0 u) (λ around before slot hs outside is js o. o),
           )
 
   -- `delegate` after the body of a legacy `try`
@@ -387,7 +388,7 @@ module _ (env : Environment) (old : ParseState) (l : Layer Occurrence) (ls : Lis
             rise = (length new.arena, closes.rise, (let m : length new.arena ≤ length new.arena = omega arith in m));
             is_normal = λ i. item (made i) (closes.is_normal i) no_items;
           } in
-          let whole = holds_behind env new.arena ls l.before (TryDelegate a s x n Empty) h.low (length new.arena) h.outside h.other_ifs added.0 (closed_range closes) refl
+          let whole = holds_after env new.arena ls l.before (TryDelegate a s x n Empty) h.low (length new.arena) h.outside h.other_ifs added.0 (closed_range closes) refl
           (subst (λ ps. AreNormal env new.arena h.low (length new.arena) ps (added.0 ∷ []) (TryDelegate a s x n Empty)) same_slots more)
           (holds_same env old.arena new.arena ls l.before h.low h.outside h.other_ifs (λ q m k. seals.written.elsewhere q (λ d. let at : q ≡ f.sequence = d in omega arith)) h.outer) in (
             TryDelegate a s x n Empty,
@@ -406,9 +407,9 @@ ends_body env b c f fs ifs s e w h =
     let inside : AreItems c w.seq.instrs k.items = subst (λ xs. AreItems c xs k.items) (sym w.instrs)
     (items-same c (suc f.sequence) (length b) (λ q l m. w.written.elsewhere q (λ e. let d : q ≡ f.sequence = e in omega arith)) k.rise k.are_items) in
     let wide : RiseIn (suc f.sequence) k.items (length c) = subst (RiseIn (suc f.sequence) k.items) (sym w.written.as_many) k.rise in
-    let stands : slice_get c 0 ≡ Some w.seq = subst (λ p. slice_get c p ≡ Some w.seq) at_first w.written.here in
+    let in_arena : slice_get c 0 ≡ Some w.seq = subst (λ p. slice_get c p ≡ Some w.seq) at_first w.written.here in
     let rises : RiseIn 1 k.items (length c) = subst (λ p. RiseIn (suc p) k.items (length c)) at_first wide in
-    let found : Some h.reserved.seq ≡ Some w.was = sym h.reserved.stands ∙ ap (slice_get b) (sym at_first) ∙ w.before in
+    let found : Some h.reserved.seq ≡ Some w.was = sym h.reserved.in_arena ∙ ap (slice_get b) (sym at_first) ∙ w.before in
     let same : h.reserved.seq ≡ w.was = cc found in
     let type : w.seq.ty ≡ (typing_of env).entry = w.same_type ∙ ap (λ (q : InstrSeq). q.ty) (sym same) ∙ h.reserved.has_type in
     let alone : slots fs ≡ [] = ap slots h.alone in
@@ -418,7 +419,7 @@ ends_body env b c f fs ifs s e w h =
     record {
       unfolded = record { head = top; items = k.items };
       is_tree = record {
-        unfolds = are_sequences stands inside are_no_sequences;
+        unfolds = are_sequences in_arena inside are_no_sequences;
         apart = (all_reached-fresh 0 (sequence top k.items no_sequences) (length c) [] (length c, (let n : 0 ≤ 0 = omega arith in n), rises, (let n : length c ≤ length c = omega arith in n)) (record { apart = tt; below = tt })).apart;
       };
       is = λ i. record { head = record { type = type i; end_location = w.end_is i }; items = normal_is i };

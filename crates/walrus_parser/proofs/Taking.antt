@@ -11,7 +11,7 @@ use Rattle.wasm_body.specs.declared.error.ParseError.{ParseError}
 use Rattle.wasm_body.specs.declared.error.ParseError.TheVariants.{Read, PlaceTooGreat, Checked, Memory}
 use Rattle.walrus_ir.specs.Results.{◌>>=◌, unless, with_fault}
 use Rattle.walrus_parser.specs.declared.check.CheckError.{CheckError}
-use Rattle.walrus_parser.specs.declared.check.CheckError.TheVariants.{Refused, Memory as wants_memory}
+use Rattle.walrus_parser.specs.declared.check.CheckError.TheVariants.{Refused, Memory as out_of_memory}
 use Rattle.walrus_parser.specs.Checking.{placed_at, Checks, fault_of}
 use Rattle.walrus_parser.specs.Locating.{Locates, HasNoLocation}
 use Rattle.walrus_parser.specs.Settings.{has_place, Taken, taken}
@@ -44,7 +44,7 @@ module _ {S : Type 0} (fits : ℕ → Bool) (check : S → Placed → Result S �
   pub is_not_taken_there : (o : RawOperation) (e : CheckError) (t : S) → fits place ≡ true → Checks check s (placed_at o place) (Err e) t →
       (fault_of e ≡ Memory) ⊎ ((bytes rest : List ℕ) → read_operation bytes ≡ Ok (o, rest) → taken fits check s place bytes ≡ Err (fault_of e))
   is_not_taken_there o (Refused n) t fit checked = inr (λ bytes rest read. is_refused bytes rest o n read fit checked)
-  is_not_taken_there o wants_memory t fit checked = inl refl
+  is_not_taken_there o out_of_memory t fit checked = inl refl
 
   -- it can't be read
   pub is_not_read : (bytes : List ℕ) (fault : ReadFault) → read_operation bytes ≡ Err fault → taken fits check s place bytes ≡ Err (Read (record { fault = fault; at = place }))

@@ -80,7 +80,7 @@ pub record IsFunction (function : Function) (tree : FunctionTree) : Type 0 where
   pub entry : function.entry ≡ Some 0
   pub holds : HasTree function.sequences 0 tree
 
-module _ {S F : Type 0} (asks : Shared F (Bor ℕ × Unit {0}) ℕ) (i : ParseInput S F) where
+module _ {S F : Type 0} (calls : Shared F (Bor ℕ × Unit {0}) ℕ) (i : ParseInput S F) where
   -- there is a location function exactly if the caller passed one
   abbrev pub AreGiven : Option (ℕ → ℕ) → Type 0
   AreGiven locations = BothOrNone i.on_instr_pos locations
@@ -96,7 +96,7 @@ module _ {S F : Type 0} (asks : Shared F (Bor ℕ × Unit {0}) ℕ) (i : ParseIn
     pub accepted : Accepted (setting_with i (mapped_by mapping)) i.bytes body
     pub type : function.type ≡ i.environment.type
     pub is_function : IsFunction function (normal_form (typing_of i.environment) (named_body body))
-    pub is_mapping : IsMapping asks i.on_instr_pos i.offset i.start (i.start + length i.bytes) (operators_of body) mapping
+    pub is_mapping : IsMapping calls i.on_instr_pos i.offset i.start (i.start + length i.bytes) (operators_of body) mapping
 
   -- This is the first fault, whatever the location function; or memory ran out, for the validator or for a list.
   abbrev pub RefusesBody : ParseFailure → Type 0
@@ -112,7 +112,7 @@ module _ {S F : Type 0} (asks : Shared F (Bor ℕ × Unit {0}) ℕ) (i : ParseIn
     pub is_parsed : operators_parsed (mapped_by made.instruction_mapping.items) ≡ Ok body
     pub type : made.builder.type ≡ i.environment.type
     pub is_function : IsFunction made.builder (normal_form (typing_of i.environment) (named_body body))
-    pub is_mapping : IsMapping asks i.on_instr_pos i.offset i.start (i.start + length i.bytes) (operators_of body) made.instruction_mapping.items
+    pub is_mapping : IsMapping calls i.on_instr_pos i.offset i.start (i.start + length i.bytes) (operators_of body) made.instruction_mapping.items
 
   abbrev pub IsRefusedAnyway : ParseFailure → Type 0
   IsRefusedAnyway f = (locations : Option (ℕ → ℕ)) → AreGiven locations → operators_parsed locations ≡ Err f

@@ -15,7 +15,7 @@ use Rattle.wasm_body.specs.TreeOfFunction.{HasTree}
 use Rattle.wasm_body.specs.Parsing.Progress.{Layer}
 use Rattle.walrus_parser.specs.declared.body_parser.BodyParser.{BodyParser}
 use Rattle.walrus_context.specs.declared.frame.IfElseState.{IfElseState}
-use Rattle.walrus_context.specs.OpenFrames.{OpenFrame, changed_at, killed, with_instr}
+use Rattle.walrus_context.specs.OpenFrames.{OpenFrame, changed_at, marked_dead, with_instr}
 use Rattle.walrus_context.specs.OpenTrees.{OpenTrees, env_of}
 use Rattle.walrus_context.specs.Placing.{placing}
 use Rattle.walrus_parser.specs.Advancing.{ParseState, Keeps, IsStep}
@@ -83,8 +83,8 @@ pub record IsSameBody (old new : OpenTrees) : Type 0 where
   pub entry : new.builder.entry ≡ old.builder.entry
 
 -- one more instruction; what follows it is dropped if it cuts
-abbrev pub taking : LocatedInstr → (cuts : Bool) → OpenFrame → OpenFrame
-taking x cuts f = cond cuts (killed (with_instr x f)) (with_instr x f)
+abbrev pub with_appended : LocatedInstr → (diverges : Bool) → OpenFrame → OpenFrame
+with_appended x diverges f = cond diverges (marked_dead (with_instr x f)) (with_instr x f)
 
 -- The builder has the normal form of the body that consists of the operators and the function's own `end`.
 pub record Finishes (old : BodyParser) (location : ℕ) (new : Function) : Type 0 where

@@ -5,9 +5,9 @@ use Rattle.std.specs.Fn.{Shared, FnReturnsAt}
 use Rattle.wasm_body.specs.Parsing.Accepted.{has_location}
 
 -- The function, if there is one, may be called at each place from `from` on and below `to`.
-abbrev pub MayAsk : {F : Type 0} → (F → Bor ℕ → Type 0) → Option (Bor F) → (from to : ℕ) → Type 0
-MayAsk pre None from to = Unit {0}
-MayAsk pre (Some f) from to = (place : Bor ℕ) → from ≤ place.now → place.now < to → pre f.now place
+abbrev pub MayCall : {F : Type 0} → (F → Bor ℕ → Type 0) → Option (Bor F) → (from to : ℕ) → Type 0
+MayCall pre None from to = Unit {0}
+MayCall pre (Some f) from to = (place : Bor ℕ) → from ≤ place.now → place.now < to → pre f.now place
 
 -- The place has this location: the one that the function returns. Without a function it is the place itself, if that is small
 -- enough.

@@ -4,12 +4,12 @@ use Rattle.wasm_operators.specs.Meaning.{Listed}
 use Rattle.wasm_operators.specs.declared.operator.Op.TheVariants.{Unreachable, Throw, Rethrow, ThrowRef, Br, BrTable, Return}
 
 -- operators after which nothing in their sequence is executed
-abbrev pub is_cut : Listed → Bool
-is_cut Unreachable = true
-is_cut (Br depth) = true
-is_cut (BrTable table) = true
-is_cut Return = true
-is_cut (Throw tag) = true
-is_cut (Rethrow depth) = true
-is_cut ThrowRef = true
-is_cut _ = false
+abbrev pub is_diverging : Listed → Bool
+is_diverging Unreachable = true
+is_diverging (Br depth) = true
+is_diverging (BrTable table) = true
+is_diverging Return = true
+is_diverging (Throw tag) = true
+is_diverging (Rethrow depth) = true
+is_diverging ThrowRef = true
+is_diverging _ = false

@@ -9,9 +9,10 @@ use Rattle.wasm_operators.specs.Spelling.{read_operation}
 use Rattle.wasm_body.specs.declared.error.ParseError.{ParseError}
 use Rattle.wasm_body.specs.declared.error.ParseError.TheVariants.{Read, PlaceTooGreat, Checked}
 use Rattle.walrus_ir.specs.Results.{◌>>=◌, unless, with_fault}
+use Rattle.walrus_ir.specs.Locations.{default_location}
 use Rattle.wasm_body.specs.SourceTree.{Body, body_text}
 use Rattle.wasm_body.specs.Naming.{Environment, Occurrence}
-use Rattle.wasm_body.specs.Parsing.Accepted.{Setting, location_limit}
+use Rattle.wasm_body.specs.Parsing.Accepted.{Setting}
 use Rattle.walrus_parser.specs.Checking.{placed_at}
 use Rattle.walrus_parser.specs.Locating.{Locates}
 
@@ -19,7 +20,7 @@ use Rattle.walrus_parser.specs.Locating.{Locates}
 
 -- without a location function, a place must be small enough
 abbrev pub has_place : {F : Type 0} → Option F → ℕ → Bool
-has_place None place = nat_lt place location_limit
+has_place None place = nat_lt place default_location
 has_place (Some f) place = true
 
 -- an operator that was read and that the validator accepted, the bytes after it, and the validator's next state
@@ -77,4 +78,4 @@ RiseFrom (x ∷ xs) from below = (from ≤ x.place) × RiseFrom xs (x.place + 1)
 pub record IsMapping {F : Type 0} (g : Shared F (Bor ℕ × Unit {0}) ℕ) (on_instr_pos : Option (Bor F)) (offset from below : ℕ) (xs : List Occurrence) (mapping : List (ℕ × ℕ)) : Type 0 where
   pub pairs : mapping ≡ map (pair_of offset) xs
   pub rise : RiseFrom xs from below
-  pub answers : AllByRecursion (λ x. Locates g on_instr_pos x.place x.location) xs
+  pub are_located : AllByRecursion (λ x. Locates g on_instr_pos x.place x.location) xs

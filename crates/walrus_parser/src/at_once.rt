@@ -9,7 +9,7 @@ ghost use Rattle.wasm_encode.specs.Writable.{IsWritable};
 ghost use Rattle.walrus_ir.specs.Unfolding.{slots_in};
 ghost use Rattle.wasm_body.specs.InstructionTable.{operation_of, clauses_of_try};
 ghost use Rattle.walrus_instructions.specs.OperatorKinds.{is_instruction};
-ghost use Rattle.walrus_parser.specs.OperatorKinds.{is_cut};
+ghost use Rattle.walrus_parser.specs.OperatorKinds.{is_diverging};
 ghost use Rattle.walrus_parser.specs.BodyParsers.{TakesAtOnce, placed_in};
 
 use crate::body_parser::BodyParser;
@@ -28,10 +28,10 @@ impl BodyParser<'_> {
         operator: &Operator<'_>,
         instr: Instr,
         location: InstrLocId,
-        cuts: bool,
+        diverges: bool,
     ) -> bool
         requires kind { is_instruction operator.now ≡ true }
-        requires cuts { cuts ≡ is_cut operator.now }
+        requires diverges { diverges ≡ is_diverging operator.now }
         requires placed { placed_in self.old (meaning operator.now) ≡ Ok (operation_of instr) }
         requires plain { (slots_in instr ≡ []) × (clauses_of_try instr ≡ []) }
         ensures { TakesAtOnce self.old self.new (meaning operator.now) location result }
@@ -39,7 +39,7 @@ impl BodyParser<'_> {
         if !self.context.append_innermost(instr, location) {
             return false;
         }
-        if !cuts {
+        if !diverges {
             return true;
         }
         self.context.kill_innermost();
@@ -93,7 +93,7 @@ impl BodyParser<'_> {
 
     /// Takes a load.
     #[inline(always)]
-    fn take_load(
+    fn push_load(
         &mut self,
         operator: &Operator<'_>,
         kind: LoadKind,
@@ -116,7 +116,7 @@ impl BodyParser<'_> {
 
     /// Takes a store.
     #[inline(always)]
-    fn take_store(
+    fn push_store(
         &mut self,
         operator: &Operator<'_>,
         kind: StoreKind,
@@ -139,7 +139,7 @@ impl BodyParser<'_> {
 
     /// Takes a `call`.
     #[inline(always)]
-    fn take_call(&mut self, operator: &Operator<'_>, index: u32, location: InstrLocId) -> bool
+    fn push_call(&mut self, operator: &Operator<'_>, index: u32, location: InstrLocId) -> bool
         requires { operator.now ≡ op.Call index }
         ensures { TakesAtOnce self.old self.new (meaning operator.now) location result }
     {
@@ -154,7 +154,7 @@ impl BodyParser<'_> {
 
     /// Takes a `global.get`.
     #[inline(always)]
-    fn take_global_get(&mut self, operator: &Operator<'_>, index: u32, location: InstrLocId) -> bool
+    fn push_global_get(&mut self, operator: &Operator<'_>, index: u32, location: InstrLocId) -> bool
         requires { operator.now ≡ op.GlobalGet index }
         ensures { TakesAtOnce self.old self.new (meaning operator.now) location result }
     {
@@ -169,7 +169,7 @@ impl BodyParser<'_> {
 
     /// Takes a `global.set`.
     #[inline(always)]
-    fn take_global_set(&mut self, operator: &Operator<'_>, index: u32, location: InstrLocId) -> bool
+    fn push_global_set(&mut self, operator: &Operator<'_>, index: u32, location: InstrLocId) -> bool
         requires { operator.now ≡ op.GlobalSet index }
         ensures { TakesAtOnce self.old self.new (meaning operator.now) location result }
     {
@@ -199,7 +199,7 @@ impl BodyParser<'_> {
 
     /// Takes a `br_if`.
     #[inline(always)]
-    fn take_br_if(&mut self, operator: &Operator<'_>, label: u32, location: InstrLocId) -> bool
+    fn push_br_if(&mut self, operator: &Operator<'_>, label: u32, location: InstrLocId) -> bool
         requires { operator.now ≡ op.BrIf label }
         ensures { TakesAtOnce self.old self.new (meaning operator.now) location result }
     {
@@ -235,16 +235,16 @@ impl BodyParser<'_> {
                 self.take_at_once(operator, Instr::Binop(Binop { op: *op }), location, false)
             }
             Operator::Load { kind, memarg } => {
-                self.take_load(operator, *kind, *memarg, location)
+                self.push_load(operator, *kind, *memarg, location)
             }
             Operator::Store { kind, memarg } => {
-                self.take_store(operator, *kind, *memarg, location)
+                self.push_store(operator, *kind, *memarg, location)
             }
-            Operator::Call { func } => self.take_call(operator, *func, location),
-            Operator::GlobalGet { global } => self.take_global_get(operator, *global, location),
-            Operator::GlobalSet { global } => self.take_global_set(operator, *global, location),
+            Operator::Call { func } => self.push_call(operator, *func, location),
+            Operator::GlobalGet { global } => self.push_global_get(operator, *global, location),
+            Operator::GlobalSet { global } => self.push_global_set(operator, *global, location),
             Operator::Br { label } => self.take_br(operator, *label, location),
-            Operator::BrIf { label } => self.take_br_if(operator, *label, location),
+            Operator::BrIf { label } => self.push_br_if(operator, *label, location),
             Operator::Drop => self.take_at_once(operator, Instr::Drop, location, false),
             _ => false,
         }

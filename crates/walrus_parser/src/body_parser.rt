@@ -7,7 +7,7 @@ ghost use Rattle.wasm_operators.specs.declared.operator.Op.TheVariants as op;
 ghost use Rattle.wasm_operators.specs.Meaning.{meaning};
 ghost use Rattle.wasm_encode.specs.Writable.{IsWritable};
 ghost use Rattle.walrus_instructions.specs.OperatorKinds.{is_instruction};
-ghost use Rattle.walrus_parser.specs.OperatorKinds.{is_cut};
+ghost use Rattle.walrus_parser.specs.OperatorKinds.{is_diverging};
 ghost use Rattle.wasm_body.specs.declared.error.ParseError.{ParseError as ParseFault};
 ghost use Rattle.wasm_body.specs.Control.{end_operation, else_operation};
 ghost use Rattle.walrus_ir.specs.Unfolding.{slots_in};
@@ -16,11 +16,11 @@ ghost use Rattle.wasm_body.specs.Naming.{entry_type_id as entry_type_of};
 ghost use Rattle.walrus_maps.specs.Environments.{environment_of};
 ghost use Rattle.walrus_context.specs.OpenFrames.{changed_at};
 ghost use Rattle.walrus_context.specs.OpenTrees.{env_of};
-ghost use Rattle.walrus_parser.specs.BodyParsers.{Begins, IsSameBody, Steps, with_alternative, AppendsIf, HasNoIf, AddsEmpty, Finishes, taking, placed_in};
+ghost use Rattle.walrus_parser.specs.BodyParsers.{Begins, IsSameBody, Steps, with_alternative, AppendsIf, HasNoIf, AddsEmpty, Finishes, with_appended, placed_in};
 
 use std::alloc::Global;
 use std::mem;
-use walrus_context::{IfElseState, ValidationContext, pushed};
+use walrus_context::{IfElseState, ValidationContext, push_or_fail};
 use walrus_instructions::instruction;
 use walrus_ir::{
     Block, BlockKind, FunctionBuilder, FunctionId, IfElse, Instr, InstrLocId, InstrSeqId,
@@ -129,7 +129,7 @@ impl BodyParser<'_> {
         ensures rest { OnOk result (IsSameBody self.old.context self.new.context) }
     {
         match self.context.push_block(BlockKind::If, ty) {
-            Ok(consequent) => pushed(
+            Ok(consequent) => push_or_fail(
                 &mut self.if_else,
                 IfElseState {
                     start,
@@ -153,7 +153,7 @@ impl BodyParser<'_> {
     }
 
     /// Takes an `else`.
-    fn part_else(&mut self, location: InstrLocId) -> Result<(), ParseError>
+    fn begin_else(&mut self, location: InstrLocId) -> Result<(), ParseError>
         ensures step { Steps self.old self.new else_operation location result }
         ensures rest { OnOk result (IsSameBody self.old.context self.new.context) }
     {
@@ -250,54 +250,55 @@ impl BodyParser<'_> {
     /// Appends an instruction to the innermost frame. If it cuts, what follows in the frame is
     /// dropped.
     #[inline(always)]
-    fn take(&mut self, instr: Instr, location: InstrLocId, cuts: bool) -> Result<(), ParseError>
+    fn append_instr(
+        &mut self,
+        instr: Instr,
+        location: InstrLocId,
+        diverges: bool,
+    ) -> Result<(), ParseError>
         ensures ok { OnOk result ((0 < length self.old.context.frames)
             × (self.new.context ≡ record self.old.context {
-              frames = changed_at 0 (taking (instr, location) cuts) self.old.context.frames;
+              frames = changed_at 0 (with_appended (instr, location) diverges) self.old.context.frames;
             })) }
         ensures err { IfErr result (λ e. (e ≡ ParseFault.Memory)
             ⊎ ((e ≡ ParseFault.NoFrame) × (length self.old.context.frames ≤ 0))) }
         ensures ifs { self.new.if_else ≡ self.old.if_else }
     {
         match self.context.alloc_instr(instr, location) {
-            Ok(()) if cuts => self.context.unreachable(),
+            Ok(()) if diverges => self.context.unreachable(),
             result => result,
         }
     }
 
     /// Takes an operator that makes an instruction by itself, which is this one.
     #[inline(always)]
-    fn take_made(
+    fn push_instr(
         &mut self,
         operator: &Operator<'_>,
         instr: Instr,
         location: InstrLocId,
-        cuts: bool,
+        diverges: bool,
     ) -> Result<(), ParseError>
         requires kind { is_instruction operator.now ≡ true }
-        requires cuts { cuts ≡ is_cut operator.now }
+        requires diverges { diverges ≡ is_diverging operator.now }
         requires placed { placed_in self.old (meaning operator.now) ≡ Ok (operation_of instr) }
         requires plain { (slots_in instr ≡ []) × (clauses_of_try instr ≡ []) }
         ensures step { Steps self.old self.new (meaning operator.now) location result }
         ensures rest { OnOk result (IsSameBody self.old.context self.new.context) }
     {
-        self.take(instr, location, cuts)
+        self.append_instr(instr, location, diverges)
     }
 
     /// Takes an operator, other than `nop`, that makes an instruction by itself.
     #[inline(never)]
-    fn take_alone(
-        &mut self,
-        operator: &Operator<'_>,
-        location: InstrLocId,
-    ) -> Result<(), ParseError>
+    fn push_any(&mut self, operator: &Operator<'_>, location: InstrLocId) -> Result<(), ParseError>
         requires kind { is_instruction operator.now ≡ true }
         requires writable { IsWritable (meaning operator.now) }
         ensures step { Steps self.old self.new (meaning operator.now) location result }
         ensures rest { OnOk result (IsSameBody self.old.context self.new.context) }
     {
         match instruction(*self.if_else.allocator(), &self.context, operator) {
-            Ok(instr) => self.take_made(operator, instr, location, is_cut(operator)),
+            Ok(instr) => self.push_instr(operator, instr, location, is_diverging(operator)),
             Err(error) => Err(error),
         }
     }
@@ -333,14 +334,14 @@ impl BodyParser<'_> {
             Operator::Block { ty } => self.open_block(*ty, location),
             Operator::Loop { ty } => self.open_loop(*ty, location),
             Operator::If { ty } => self.open_if(*ty, location),
-            Operator::Else => self.part_else(location),
+            Operator::Else => self.begin_else(location),
             Operator::Try { ty } => self.open_try(*ty, location),
-            Operator::Catch { tag } => self.part_try(Some(*tag), location),
-            Operator::CatchAll => self.part_try(None, location),
+            Operator::Catch { tag } => self.begin_clause(Some(*tag), location),
+            Operator::CatchAll => self.begin_clause(None, location),
             Operator::Delegate { depth } => self.close_delegate(*depth),
             Operator::TryTable { ty, catches } => self.open_try_table(*ty, catches, location),
             Operator::End => self.end_construct(location),
-            _ => self.take_alone(operator, location),
+            _ => self.push_any(operator, location),
         }
     }
 
@@ -367,8 +368,8 @@ impl BodyParser<'_> {
 }
 
 /// Whether what follows the operator in its sequence is dropped.
-fn is_cut(operator: &Operator<'_>) -> bool
-    ensures { result ≡ is_cut operator.now }
+fn is_diverging(operator: &Operator<'_>) -> bool
+    ensures { result ≡ is_diverging operator.now }
 {
     matches!(
         operator,

@@ -93,7 +93,7 @@ impl BodyParser<'_> {
 
     /// Takes a clause of a legacy `try`: the `catch` of the tag with this old index, or
     /// `catch_all`.
-    pub fn part_try(&mut self, tag: Option<u32>, location: InstrLocId) -> Result<(), ParseError>
+    pub fn begin_clause(&mut self, tag: Option<u32>, location: InstrLocId) -> Result<(), ParseError>
         ensures step { Steps self.old self.new (clause_operation tag) location result }
         ensures rest { OnOk result (IsSameBody self.old.context self.new.context) }
     {

@@ -1,6 +1,6 @@
 //! Locations of operators.
 ghost use Rattle.std.specs.Prelude.{◌+◌, MatchOption};
-ghost use Rattle.walrus_parser.specs.Locating.{MayAsk, Locates, HasNoLocation};
+ghost use Rattle.walrus_parser.specs.Locating.{MayCall, Locates, HasNoLocation};
 
 use walrus_ir::InstrLocId;
 
@@ -11,7 +11,7 @@ pub fn location_at<F: Fn(&usize) -> InstrLocId>(
     on_instr_pos: Option<&F>,
     place: usize,
 ) -> Option<InstrLocId>
-    requires { MayAsk F.pre on_instr_pos place (place + 1) }
+    requires { MayCall F.pre on_instr_pos place (place + 1) }
     ensures { MatchOption result (HasNoLocation on_instr_pos.entry place)
         (λ location. Locates F.Fn on_instr_pos.entry place location) }
 {

@@ -6,7 +6,7 @@ ghost use Rattle.wasm_encode.specs.Writable.{IsWritable};
 ghost use Rattle.wasm_body.specs.declared.error.ParseError.{ParseError as ParseFault};
 ghost use Rattle.wasm_body.specs.Parsing.Lists.{failure};
 ghost use Rattle.walrus_parser.specs.Checking.{fault_of, fault_of_refusal};
-ghost use Rattle.walrus_parser.specs.Locating.{MayAsk, Locates};
+ghost use Rattle.walrus_parser.specs.Locating.{MayCall, Locates};
 ghost use Rattle.walrus_parser.specs.Settings.{has_place, taken};
 
 use crate::check::{CheckError, OpCheck};
@@ -52,7 +52,7 @@ pub fn refused(refusal: Refusal, at: usize) -> ParseFailure
 /// Reads the next operator.
 #[inline(always)]
 pub fn read_next<'a>(reader: &mut Reader<'a>) -> Result<Operator<'a>, ReadError>
-    ensures answer { IfOk result (λ x.
+    ensures is_read { IfOk result (λ x.
         read_operation reader.old.rest ≡ Ok (meaning x, reader.new.rest)) }
     ensures writable { IfOk result (λ x. IsWritable (meaning x)) }
     ensures moves { IfOk result (λ x.
@@ -72,7 +72,7 @@ pub fn accepted_at<V: OpCheck, F: Fn(&usize) -> InstrLocId>(
     on_instr_pos: Option<&F>,
     validator: &mut V,
 ) -> Result<InstrLocId, Refusal>
-    requires { MayAsk F.pre on_instr_pos at (at + 1) }
+    requires { MayCall F.pre on_instr_pos at (at + 1) }
     ensures ok { IfOk result (λ _. (bytes rest : List ℕ)
         → read_operation bytes ≡ Ok (meaning operator.now, rest)
         → taken (has_place on_instr_pos.entry) V.check (V.state validator.old) at bytes

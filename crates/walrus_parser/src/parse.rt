@@ -5,7 +5,7 @@ ghost use Rattle.wasm_body.specs.Parsing.Lists.{failure};
 ghost use Rattle.wasm_body.specs.SourceTree.{Empty};
 ghost use Rattle.wasm_body.specs.Naming.{entry_type_id as entry_type_of};
 ghost use Rattle.walrus_maps.specs.Environments.{environment_of};
-ghost use Rattle.walrus_parser.specs.Locating.{MayAsk};
+ghost use Rattle.walrus_parser.specs.Locating.{MayCall};
 ghost use Rattle.walrus_context.specs.OpenTrees.{env_of};
 ghost use Rattle.walrus_parser.specs.BodyParsers.{Begins};
 ghost use Rattle.walrus_parser.specs.Bodies.{input_of, operators_input, ParsesOperators, AcceptsBody, RefusesBody};
@@ -50,7 +50,7 @@ fn parse_operators<V: OpCheck, F: Fn(&usize) -> InstrLocId>(
 ) -> Result<ParsedOperators, ParseFailure>
     requires fresh { Begins parser }
     requires offset { code_offset ≤ reader.old.place }
-    requires may_ask { MayAsk F.pre on_instr_pos reader.old.place
+    requires may_call { MayCall F.pre on_instr_pos reader.old.place
         (reader.old.place + length reader.old.rest) }
     ensures { ParsesOperators F.Fn (operators_input (env_of parser.entry.context) reader.old
         code_offset on_instr_pos.entry V.check (V.state validator)) result }
@@ -112,7 +112,7 @@ pub fn parse_function<V: OpCheck, F: Fn(&usize) -> InstrLocId>(
 ) -> Result<ParsedOperators, ParseFailure>
     requires offset { «module».now.code_section_offset ≤ start }
     requires fits { start + length ops.now < 2 ^ 64 }
-    requires may_ask { MayAsk F.pre on_instr_pos start (start + length ops.now) }
+    requires may_call { MayCall F.pre on_instr_pos start (start + length ops.now) }
     ensures ok { IfOk result (λ made. AcceptsBody F.Fn (input_of «module».now indices.now function
         ty start ops.now on_instr_pos.entry V.check (V.state validator))
         made.builder made.instruction_mapping.items) }

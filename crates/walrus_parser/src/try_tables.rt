@@ -8,7 +8,7 @@ ghost use Rattle.wasm_body.specs.InstructionTable.{table_clause};
 ghost use Rattle.walrus_parser.specs.BodyParsers.{IsSameBody, Steps, clause_in};
 
 use crate::body_parser::BodyParser;
-use walrus_context::pushed;
+use walrus_context::push_or_fail;
 use walrus_instructions::branch_target;
 use walrus_ir::{BlockKind, Instr, InstrLocId, InstrSeqId, TagId, TryTable, TryTableCatch};
 use wasm_body::ParseError;
@@ -56,7 +56,7 @@ impl BodyParser<'_> {
                 Ok(clause) => clause,
                 Err(error) => return Err(error),
             };
-            match pushed(&mut made, clause) {
+            match push_or_fail(&mut made, clause) {
                 Ok(()) => {}
                 Err(error) => return Err(error),
             }

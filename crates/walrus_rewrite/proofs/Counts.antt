@@ -2,6 +2,7 @@
 use Rattle.std.proofs.Common.{◌≡◌, ℕ, suc, ◌+◌, ◌≤◌, List, [], ◌∷◌, length, map, sym, ap, ◌∙◌, arith}
 use Rattle.std.proofs.lemmas.List.{length-append, length-map}
 use Rattle.walrus_ir.specs.Tree.{Items, no_items, item, Sequences, no_sequences, sequence}
+use Rattle.walrus_ir.specs.Locations.{default_location}
 use Rattle.wasm_operators.specs.OperatorList.{Placed, Lists}
 use Rattle.wasm_operators.proofs.ListLaws.{spelt_length}
 use Rattle.wasm_body.specs.Control.{Else, End, Delegate, Marked, with_control}
@@ -9,10 +10,10 @@ use Rattle.wasm_body.specs.SourceTree.{Sequence, Empty, Single, Wrapped, IfThen,
 use Rattle.wasm_body.specs.Translation.{Located}
 use Rattle.wasm_body.specs.Naming.{NamedOperation, Environment, Occurrence}
 use Rattle.wasm_body.specs.Parsing.Accepted.{placed, IsBody}
-use Rattle.wasm_body.specs.FunctionTree.{Head, Instruction, delegates, default_location}
-use Rattle.wasm_body.specs.NormalForm.{Typing, typing_of, Fate, Drops, Stays, Cuts, fate, with_fate, instruction, head, construct_type, handler_type, closed_at, legacy_clauses, normal, handlers, name_at, named_body, body_tree}
+use Rattle.wasm_body.specs.FunctionTree.{Head, Instruction, delegates}
+use Rattle.wasm_body.specs.NormalForm.{Typing, typing_of, Fate, Drops, Stays, Diverges, fate, with_fate, instruction, head, construct_type, handler_type, closed_at, legacy_clauses, normal, handlers, name_at, named_body, body_tree}
 use Rattle.wasm_body.specs.TextLaws.{mark_named}
-use Rattle.wasm_body.proofs.Structure.Reshown.{is_named_body}
+use Rattle.wasm_body.proofs.Structure.Mapped.{is_named_body}
 use Rattle.walrus_facts.specs.Facts.{instructions, instructions_inside, count}
 
 abbrev Named : Type 0
@@ -34,7 +35,7 @@ first_inside h is ss = length-append (instructions is) (instructions_inside ss)
 single_bound : (f : Fate) (i : Instruction) (r : Items Head Instruction) (k t : ℕ) → items_count r + k ≤ t → items_count (with_fate f i r) + k ≤ suc t
 single_bound Drops i r k t h = omega (arith, h)
 single_bound Stays i r k t h = omega (arith, h, one_more i no_sequences r)
-single_bound Cuts i r k t h = omega (arith, h)
+single_bound Diverges i r k t h = omega (arith, h)
 
 module _ (m : Typing) where
   abbrev of : Sequence Named → ℕ
@@ -56,14 +57,14 @@ module _ (m : Typing) where
         let h = head (construct_type m a.op) l.location in
         let g = head (construct_type m a.op) e.location in
         let other = sequence g (normal m c) no_sequences in
-        let behind = with_control e End ∷ text r k in
+        let following = with_control e End ∷ text r k in
         omega (
           arith,
           one_more (instruction a []) (sequence h (normal m b) other) (normal m r),
           first_inside h (normal m b) other,
           first_inside g (normal m c) no_sequences,
-          bound b (with_control l Else ∷ text c behind),
-          bound c behind,
+          bound b (with_control l Else ∷ text c following),
+          bound c following,
           bound r k,
         )
     bound (TryCatch a b cs r) k =

@@ -26,7 +26,7 @@ module _ (f : Function) (t : FunctionTree) (has : IsFunction f t) where
   only_tree u h = one_function f.sequences (first_slot f) u t h from_slot
 
   pub begins : HasEntry f
-  begins = record { is = has.entry ∙ ap Some (sym slot_is); stands = within (first_slot f) from_slot.is_tree.unfolds }
+  begins = record { is = has.entry ∙ ap Some (sym slot_is); in_arena = within (first_slot f) from_slot.is_tree.unfolds }
     where
       within : (slot : ℕ) {rest : Sequences SequenceAt LocatedInstr} → AreSequences f.sequences (slot ∷ []) rest → slot < length f.sequences
-      within slot (are_sequences stands items rest) = slice_get_within f.sequences slot _ stands
+      within slot (are_sequences in_arena items rest) = slice_get_within f.sequences slot _ in_arena

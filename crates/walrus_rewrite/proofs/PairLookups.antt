@@ -84,17 +84,17 @@ module _ (ps : List Pair) (rises : PlacesRise ps) where
     searched (Ok i) in_range equal =
         let key : (pair_at ps i).1 ≡ place = ranked _ place _ (sym (equal (0, 0))) in
         sym (found ps place i in_range key (λ j lt. subst (λ n. (pair_at ps j).1 < n) key (above j i lt in_range)))
-    searched (Err i) in_range parted = sym (absent ps place none)
+    searched (Err i) in_range partitioned = sym (absent ps place none)
       where
         none : (j : ℕ) → j < length ps → (pair_at ps j).1 ≡ place → ⊥
         none j l same =
             elim (nat_lt j i) as (λ b. nat_lt j i ≡ b → ⊥) [
               | true ↦ λ e.
                   let lt : j < i = ltb-true j i e in
-                  let smaller : (pair_at ps j).1 < place = ranked _ place _ (sym ((parted comparisons_rise).0 j (0, 0) (omega arith) lt)) in
+                  let smaller : (pair_at ps j).1 < place = ranked _ place _ (sym ((partitioned comparisons_rise).0 j (0, 0) (omega arith) lt)) in
                   omega (arith, smaller, same)
               | false ↦ λ e.
                   let le : i ≤ j = grind arith in
-                  let greater : place < (pair_at ps j).1 = ranked _ place _ (sym ((parted comparisons_rise).1 j (0, 0) le l)) in
+                  let greater : place < (pair_at ps j).1 = ranked _ place _ (sym ((partitioned comparisons_rise).1 j (0, 0) le l)) in
                   omega (arith, greater, same)
             ] refl

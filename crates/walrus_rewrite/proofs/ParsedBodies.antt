@@ -23,7 +23,7 @@ use Rattle.wasm_body.proofs.LocalNumbers.{last_place_get}
 use Rattle.walrus_maps.specs.declared.ids_to_indices.IdsToIndices.{IdsToIndices}
 use Rattle.walrus_maps.specs.IndexMaps.{numbers_in}
 use Rattle.walrus_numbering.specs.NumberMaps.{fitting, numbers_by}
-use Rattle.walrus_rewrite.specs.RawBodies.{Given, HasNoRawBody, unknown, undeclared, unwritten, HasNoParsedBody}
+use Rattle.walrus_rewrite.specs.RawBodies.{EmitInput, HasNoRawBody, unknown, undeclared, unwritten, HasNoParsedBody}
 use Rattle.walrus_rewrite.proofs.RawBodyLemmas.{passed}
 
 -- ---- new indices are numbers of 32 bits
@@ -56,7 +56,7 @@ local_fits args others id few (Some n) e =
 -- ---- the reasons
 
 pub no_parsed_body : (env : Environment) (xs : List Occurrence) (b : Body Occurrence) → AllByRecursion HasSpelling xs → Lawful env xs b →
-    (by : Given) → AreIdNumbers by.to → (e : EmitError) → HasNoRawBody by (body_tree env b) e → HasNoParsedBody by (body_tree env b) e
+    (by : EmitInput) → AreIdNumbers by.to → (e : EmitError) → HasNoRawBody by (body_tree env b) e → HasNoParsedBody by (body_tree env b) e
 no_parsed_body env xs b spelt lawful by ids e (unknown is missing) = record { has_none = unknown is missing; is_of_parsed = tt }
 no_parsed_body env xs b spelt lawful by ids e (undeclared others declared_are fault) = record {
   has_none = undeclared others declared_are fault;

@@ -26,11 +26,11 @@ use Rattle.walrus_maps.specs.declared.ids_to_indices.IdsToIndices.{IdsToIndices}
 use Rattle.walrus_numbering.specs.EmittedLocals.{number_in, HasUnknown}
 use Rattle.walrus_facts.specs.Facts.{locals_used}
 use Rattle.walrus_body.specs.LocalFunctions.{first_slot}
-use Rattle.walrus_body.specs.EmittedInstructions.{IsUnemitted}
+use Rattle.walrus_body.specs.EmittedInstructions.{IsNotEmitted}
 use Rattle.walrus_numbering.specs.NumberMaps.{numbers_by}
 use Rattle.walrus_facts.proofs.LocalsOfTrees.{locals_of_tree}
 use Rattle.walrus_rewrite.proofs.OneTree.{one_function}
-use Rattle.walrus_rewrite.specs.RawBodies.{Given, HasNoRawBody, unknown, undeclared, unwritten, IsRawBodyOf, Begins, IsNotBegun, Writes, WritesBytes, WritesBoth, Declines, not_begun, not_written}
+use Rattle.walrus_rewrite.specs.RawBodies.{EmitInput, HasNoRawBody, unknown, undeclared, unwritten, IsRawBodyOf, Begins, IsNotBegun, Writes, WritesBytes, WritesBoth, Declines, not_begun, not_written}
 
 -- ---- declarations
 
@@ -66,7 +66,7 @@ same_numbers ms out entries args others h =
 -- ---- the results of the calls
 
 module _ (ms : List ModuleType) (out : IdsToIndices) (types : List (ValType ℕ)) (args : List ℕ) (used : ℕ → Bool) (f : Function) where
-  abbrev by : Given
+  abbrev by : EmitInput
   by = record { to = numbers_by ms out []; types = types; args = args }
 
   module _ (encoder : List ℕ) (entries : List (ℕ × ℕ)) (b : Begins by used encoder entries) where
@@ -84,9 +84,9 @@ module _ (ms : List ModuleType) (out : IdsToIndices) (types : List (ValType ℕ)
           (subst (λ to. IsWritten to encoder) numbered h);
     }
 
-    pub declines : (e : EmitError) → IsUnemitted f (numbers_by ms out entries) e → Declines by used f e
+    pub declines : (e : EmitError) → IsNotEmitted f (numbers_by ms out entries) e → Declines by used f e
     declines e u =
-        not_written b.declares.others b.declarations b.declares.are_declared b.declares.declarations_are (subst (λ to. IsUnemitted f to e) numbered u)
+        not_written b.declares.others b.declarations b.declares.are_declared b.declares.declarations_are (subst (λ to. IsNotEmitted f to e) numbered u)
 
 -- ---- of a function that has a tree, with the locals that are found in it
 
@@ -106,13 +106,13 @@ module _ (f : Function) (u : Tree SequenceAt LocatedInstr) (is_tree : IsTree f.s
   used_is : used ≡ uses_local (tree_of u)
   used_is = λ k. λ l. (used_are l ∙ ap (λ ls. among l ls) (sym (locals_of_tree u))) k
 
-  module _ (by : Given) where
+  module _ (by : EmitInput) where
     pub declared_so : (others : List Local) → AreDeclared by.types by.args used others → AreDeclared by.types by.args (uses_local (tree_of u)) others
     declared_so others h = subst (λ (g : ℕ → Bool). AreDeclared by.types by.args g others) used_is h
 
     abbrev its_raw_body : (others : List Local) (ds : List (ℕ × ValType ℕ)) → AreDeclared by.types by.args (uses_local (tree_of u)) others → declared by.to (length by.args) others ≡ Ok ds
         → (operators bytes : List ℕ) (pairs : List Pair) → tree_bytes (with_locals by.to by.args (ids_of others)) (tree_of u) ≡ Ok operators
-        → bytes ≡ encoded.declarations ds ++ operators → tree_pairs (with_locals by.to by.args (ids_of others)) (tree_of u) (length (encoded.declarations ds)) ≡ Ok pairs
+        → bytes ≡ encoded.declaration_bytes ds ++ operators → tree_pairs (with_locals by.to by.args (ids_of others)) (tree_of u) (length (encoded.declaration_bytes ds)) ≡ Ok pairs
         → IsRawBodyOf by f bytes pairs
     its_raw_body others ds a d operators bytes pairs o b p = record {
       tree = tree_of u;
@@ -135,7 +135,7 @@ module _ (f : Function) (u : Tree SequenceAt LocatedInstr) (is_tree : IsTree f.s
         let to = with_locals by.to by.args (ids_of w.others) in
         let made = w.is_written in
         let written = subst (λ t. tree_bytes to t ≡ Ok made.bytes) (only_tree made.tree made.has_tree) made.bytes_are in
-        let ps = with_pairs to (tree_of u) made.bytes (length (encoded.declarations w.declarations)) written in
+        let ps = with_pairs to (tree_of u) made.bytes (length (encoded.declaration_bytes w.declarations)) written in
         (ps.0, its_raw_body w.others w.declarations (declared_so w.others w.are_declared) w.declarations_are made.bytes bytes ps.0 written made.appends ps.1)
 
     -- with an empty one
@@ -144,7 +144,7 @@ module _ (f : Function) (u : Tree SequenceAt LocatedInstr) (is_tree : IsTree f.s
         let to = with_locals by.to by.args (ids_of w.others) in
         let made = w.is_written in
         let same = only_tree made.tree made.has_tree in
-        let before = length (encoded.declarations w.declarations) in
+        let before = length (encoded.declaration_bytes w.declarations) in
         its_raw_body w.others w.declarations (declared_so w.others w.are_declared) w.declarations_are made.bytes bytes new_pairs
         (subst (λ t. tree_bytes to t ≡ Ok made.bytes) same made.bytes_are) made.appends_bytes
         (subst (λ t. tree_pairs to t before ≡ Ok new_pairs) same (subst (λ l. tree_pairs to made.tree before ≡ Ok l) (sym made.appends_pairs) made.pairs_are))
@@ -159,7 +159,7 @@ module _ (f : Function) (u : Tree SequenceAt LocatedInstr) (is_tree : IsTree f.s
     why_not_begun e (inr (inr fault)) = inr (tree_of u, has_tree, undeclared fault.others (declared_so fault.others fault.are_declared) fault.fault_is)
 
     why_not_written : (e : EmitError) (others : List Local) (ds : List (ℕ × ValType ℕ)) → AreDeclared by.types by.args used others → declared by.to (length by.args) others ≡ Ok ds
-        → IsUnemitted f (with_locals by.to by.args (ids_of others)) e → Why e
+        → IsNotEmitted f (with_locals by.to by.args (ids_of others)) e → Why e
     why_not_written e others ds a d (inl memory) = inl memory
     why_not_written e others ds a d (inr (inl walk)) = absurd (tree_has_no_fault f.sequences (first_slot f) u walk.0 is_tree walk.1)
     why_not_written e others ds a d (inr (inr fault)) =
@@ -181,16 +181,16 @@ pairs_within (x ∷ xs) place end h =
     let whole = length-append (short x.op) (bytes_of xs) in
     (omega (arith, h), pairs_within xs (place + length (short x.op)) end (omega (arith, h, whole)))
 
-pub raw_pairs_within : (by : Given) (f : Function) (bytes : List ℕ) (pairs : List Pair) → IsRawBodyOf by f bytes pairs → AreWithin (length bytes) pairs
+pub raw_pairs_within : (by : EmitInput) (f : Function) (bytes : List ℕ) (pairs : List Pair) → IsRawBodyOf by f bytes pairs → AreWithin (length bytes) pairs
 raw_pairs_within by f bytes pairs r =
     let w = r.is_raw_body in
     let to = with_locals by.to by.args (ids_of w.others) in
-    let before = length (encoded.declarations w.declarations) in
+    let before = length (encoded.declaration_bytes w.declarations) in
     let xs = bound (numbered_text to r.tree) (λ xs. Ok (pairs_from before xs)) pairs w.pairs_are in
     let ys = bound (numbered_text to r.tree) (λ ys. Ok (bytes_of ys)) w.operators w.operators_are in
     let one : xs.0 ≡ ys.0 = let both : Ok xs.0 ≡ Ok ys.0 = sym xs.1 ∙ ys.1 in cc in
     let operators : bytes_of xs.0 ≡ w.operators = ap bytes_of one ∙ (let both : Ok (bytes_of ys.0) ≡ Ok w.operators = ys.2 in cc) in
-    let whole = ap length w.bytes_are ∙ length-append (encoded.declarations w.declarations) w.operators in
+    let whole = ap length w.bytes_are ∙ length-append (encoded.declaration_bytes w.declarations) w.operators in
     let fits : before + length (bytes_of xs.0) ≤ length bytes = omega (arith, whole, ap length operators) in
     let same : pairs_from before xs.0 ≡ pairs = let both : Ok (pairs_from before xs.0) ≡ Ok pairs = xs.2 in cc in
     subst (AreWithin (length bytes)) same (pairs_within xs.0 before (length bytes) fits)

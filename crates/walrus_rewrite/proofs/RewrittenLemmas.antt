@@ -25,7 +25,7 @@ use Rattle.wasm_body.specs.LocalNumbers.{ids_of, with_locals}
 use Rattle.wasm_body.specs.Pairs.{Pair, tree_pairs}
 use Rattle.wasm_body.specs.Parsing.Accepted.{HasSpelling, Lawful, placed}
 use Rattle.wasm_body.proofs.Bytes.LawfulTyped.{lawful_named}
-use Rattle.wasm_body.proofs.Executions.Locations.{places_increase, pairs_located, say_locations}
+use Rattle.wasm_body.proofs.Executions.Locations.{places_increase, pairs_located, locations_agree}
 use Rattle.wasm_body.proofs.Executions.NormalForms.{named_executions_kept}
 use Rattle.wasm_body.proofs.NormalForm.NamedTexts.{has_text}
 use Rattle.wasm_body.proofs.Validity.ValidNormalForms.{text_stays_valid}
@@ -41,11 +41,11 @@ use Rattle.walrus_numbering.specs.NumberMaps.{numbers_by}
 use Rattle.walrus_facts.proofs.LocalsOfTrees.{count_of_tree}
 use Rattle.walrus_rewrite.specs.declared.error.RewriteError.{RewriteError}
 use Rattle.walrus_rewrite.specs.declared.error.RewriteError.TheVariants.{Parse, Walk, Emit}
-use Rattle.walrus_rewrite.specs.RawBodies.{Given, IsRawBody, HasNoRawBody, IsRawBodyOf, AppendsPairs, AppendsBytes, AppendsBoth, IsUnappended, IsUnfinished, given}
+use Rattle.walrus_rewrite.specs.RawBodies.{EmitInput, IsRawBody, HasNoRawBody, IsRawBodyOf, AppendsPairs, AppendsBytes, AppendsBoth, IsNotAppended, IsNotFinished, emit_input}
 use Rattle.walrus_rewrite.proofs.Counts.{few_instructions}
 use Rattle.walrus_rewrite.proofs.ParsedBodies.{are_id_numbers, no_parsed_body}
 use Rattle.walrus_rewrite.specs.RewrittenBodies.{KeepsSource, Rewrites, IsAcceptedAs, RefusesRewriting, IsOfWriting}
-use Rattle.walrus_rewrite.specs.Errors.{WantsMemory}
+use Rattle.walrus_rewrite.specs.Errors.{IsOutOfMemory}
 use Rattle.walrus_rewrite.proofs.OneTree.{from_slot, only_tree, begins}
 
 -- operators that bytes list have encodings
@@ -70,12 +70,12 @@ keeps_source env xs b spelt lawful to alike before ps e =
       stays_valid = text_stays_valid m (map name_at xs) (named_body b) named.0 named.1 kept.text kept.is_text;
       locations = pairs_located m (map name_at xs) (named_body b) named.0 named.1 kept.text kept.is_text to alike before ps e;
       places = places_increase to (body_tree env b) before ps e;
-      honest = say_locations m (map name_at xs) (named_body b) named.0 named.1 kept.text kept.is_text to alike before ps e;
+      honest = locations_agree m (map name_at xs) (named_body b) named.0 named.1 kept.text kept.is_text to alike before ps e;
     }
 
 -- ---- of a function that a parse made
 
-module _ {S F : Type 0} (asks : Shared F (Bor ℕ × Unit {0}) ℕ) (i : ParseInput S F) (by : Given) (f : Function) (mapping : List (ℕ × ℕ)) (a : AcceptsBody asks i f mapping) where
+module _ {S F : Type 0} (calls : Shared F (Bor ℕ × Unit {0}) ℕ) (i : ParseInput S F) (by : EmitInput) (f : Function) (mapping : List (ℕ × ℕ)) (a : AcceptsBody calls i f mapping) where
   abbrev tree : FunctionTree
   tree = body_tree i.environment a.body
 
@@ -86,7 +86,7 @@ module _ {S F : Type 0} (asks : Shared F (Bor ℕ × Unit {0}) ℕ) (i : ParseIn
   its_spellings = listed_spelt a.accepted.operators _ i.bytes [] a.accepted.all.spelt
 
   pub rewrites : {Z : Type 0} → BalanceAlike (typing_of i.environment) by.to → (old new : List ℕ) (entry : Option (LentPairs Z)) (exit : Left (LentPairs Z)) (bytes : List ℕ) (pairs : List Pair) → IsRawBodyOf by f bytes pairs
-      → new ≡ old ++ bytes → AppendsPairs pairs entry exit → Rewrites asks i by f mapping old new entry exit
+      → new ≡ old ++ bytes → AppendsPairs pairs entry exit → Rewrites calls i by f mapping old new entry exit
   rewrites alike old new entry exit bytes pairs h appends appends_pairs =
       let raw = subst (λ t. IsRawBody by t bytes pairs) (only_tree f tree a.is_function h.tree h.has_tree) h.is_raw_body in
       record {
@@ -94,7 +94,7 @@ module _ {S F : Type 0} (asks : Shared F (Bor ℕ × Unit {0}) ℕ) (i : ParseIn
         raw = bytes;
         pairs = pairs;
         is_raw_body = raw;
-        keeps = keeps_source i.environment a.accepted.operators a.body its_spellings a.accepted.lawful (with_locals by.to by.args (ids_of raw.others)) alike (length (encoded.declarations raw.declarations)) pairs raw.pairs_are;
+        keeps = keeps_source i.environment a.accepted.operators a.body its_spellings a.accepted.lawful (with_locals by.to by.args (ids_of raw.others)) alike (length (encoded.declaration_bytes raw.declarations)) pairs raw.pairs_are;
         bytes = appends;
         appends_pairs = appends_pairs;
       }
@@ -103,11 +103,11 @@ module _ {S F : Type 0} (asks : Shared F (Bor ℕ × Unit {0}) ℕ) (i : ParseIn
   given_both None = tt
   given_both (Some g) = tt
 
-  is_accepted : IsAcceptedAs asks i by a.body
-  is_accepted = record { locations = mapped_by asks i mapping; are_given = given_both i.on_instr_pos; accepted = a.accepted }
+  is_accepted : IsAcceptedAs calls i by a.body
+  is_accepted = record { locations = mapped_by calls i mapping; are_given = given_both i.on_instr_pos; accepted = a.accepted }
 
   -- its instructions can be counted: they are no more than the bytes
-  pub refuses : AreIdNumbers by.to → length i.bytes < 2 ^ 64 → (e : RewriteError) → IsUnappended by f e → RefusesRewriting asks i by e
+  pub refuses : AreIdNumbers by.to → length i.bytes < 2 ^ 64 → (e : RewriteError) → IsNotAppended by f e → RefusesRewriting calls i by e
   refuses ids few (Parse p) h = absurd h
   refuses ids few (Walk w) (inl (inl memory)) = memory
   refuses ids few (Walk w) (inl (inr fault)) = absurd (tree_has_no_fault f.sequences (first_slot f) its_tree.unfolded w its_tree.is_tree fault)
@@ -128,42 +128,42 @@ few_operators body fits = omega (arith, fits, length-drop body.ops body.bytes.no
 
 -- ---- after a parse
 
-module _ {S F : Type 0} (asks : Shared F (Bor ℕ × Unit {0}) ℕ) (i : ParseInput S F) (m : Module) (out : IdsToIndices) (args : List ℕ) where
-  abbrev by : Given
+module _ {S F : Type 0} (calls : Shared F (Bor ℕ × Unit {0}) ℕ) (i : ParseInput S F) (m : Module) (out : IdsToIndices) (args : List ℕ) where
+  abbrev by : EmitInput
   by = record { to = numbers_by m.types out []; types = m.locals; args = args }
 
-  by_is : (p : FunctionParts) → p.args ≡ args → given out m p ≡ by
-  by_is p e = ap (λ list. (let g : Given = record { to = numbers_by m.types out []; types = m.locals; args = list } in g)) e
+  by_is : (p : FunctionParts) → p.args ≡ args → emit_input out m p ≡ by
+  by_is p e = ap (λ list. (let g : EmitInput = record { to = numbers_by m.types out []; types = m.locals; args = list } in g)) e
 
   abbrev IsOfModule : Type 0
   IsOfModule = BalanceAlike (typing_of i.environment) (numbers_by m.types out [])
 
   abbrev Accepts : FunctionParts → Type 0
-  Accepts p = AcceptsBody asks i p.builder p.instruction_mapping
+  Accepts p = AcceptsBody calls i p.builder p.instruction_mapping
 
   pub with_map : {Z : Type 0} → IsOfModule → (p : FunctionParts) → p.args ≡ args → Accepts p → (old new : List ℕ) (list left : LentPairs Z)
-      → AppendsBoth (given out m p) p.builder old new list.now.items left.now.items
-      → Rewrites asks i by p.builder p.instruction_mapping old new (Some list) (inr (inl (left, tt)))
+      → AppendsBoth (emit_input out m p) p.builder old new list.now.items left.now.items
+      → Rewrites calls i by p.builder p.instruction_mapping old new (Some list) (inr (inl (left, tt)))
   with_map alike p e a old new list left w =
       let h = subst (λ g. IsRawBodyOf g p.builder w.raw w.pairs) (by_is p e) w.is_raw_body in
-      rewrites asks i by p.builder p.instruction_mapping a alike old new (Some list) (inr (inl (left, tt))) w.raw w.pairs h w.appends w.appends_pairs
+      rewrites calls i by p.builder p.instruction_mapping a alike old new (Some list) (inr (inl (left, tt))) w.raw w.pairs h w.appends w.appends_pairs
 
-  pub without_map : {Z : Type 0} → IsOfModule → (p : FunctionParts) → p.args ≡ args → Accepts p → (old new : List ℕ) → AppendsBytes (given out m p) p.builder old new
-      → Rewrites asks i by {Z = Z} p.builder p.instruction_mapping old new None (inl tt)
+  pub without_map : {Z : Type 0} → IsOfModule → (p : FunctionParts) → p.args ≡ args → Accepts p → (old new : List ℕ) → AppendsBytes (emit_input out m p) p.builder old new
+      → Rewrites calls i by {Z = Z} p.builder p.instruction_mapping old new None (inl tt)
   without_map alike p e a old new w =
       let h = subst (λ g. IsRawBodyOf g p.builder w.raw w.pairs) (by_is p e) w.is_raw_body in
-      rewrites asks i by p.builder p.instruction_mapping a alike old new None (inl tt) w.raw w.pairs h w.appends tt
+      rewrites calls i by p.builder p.instruction_mapping a alike old new None (inl tt) w.raw w.pairs h w.appends tt
 
   pub all_with_map : {Z : Type 0} → IsOfModule → (r : Result FunctionParts ParseFailure) (s : Result FunctionParts RewriteError) → IfOk r Accepts → IfOk r (λ p. p.args ≡ args)
-      → (old new : List ℕ) (list left : LentPairs Z) → IfOk s (λ made. (r ≡ Ok made) × AppendsBoth (given out m made) made.builder old new list.now.items left.now.items)
-      → IfOk s (λ made. Rewrites asks i by made.builder made.instruction_mapping old new (Some list) (inr (inl (left, tt))))
+      → (old new : List ℕ) (list left : LentPairs Z) → IfOk s (λ made. (r ≡ Ok made) × AppendsBoth (emit_input out m made) made.builder old new list.now.items left.now.items)
+      → IfOk s (λ made. Rewrites calls i by made.builder made.instruction_mapping old new (Some list) (inr (inl (left, tt))))
   all_with_map alike r (Err e) a g old new list left h = tt
   all_with_map alike r (Ok made) a g old new list left h =
       with_map alike made (subst (λ q. IfOk q (λ p. p.args ≡ args)) h.0 g) (subst (λ q. IfOk q Accepts) h.0 a) old new list left h.1
 
   pub all_without_map : (Z : Type 0) → IsOfModule → (r : Result FunctionParts ParseFailure) (s : Result FunctionParts RewriteError) → IfOk r Accepts → IfOk r (λ p. p.args ≡ args)
-      → (old new : List ℕ) → IfOk s (λ made. (r ≡ Ok made) × AppendsBytes (given out m made) made.builder old new)
-      → IfOk s (λ made. Rewrites asks i by {Z = Z} made.builder made.instruction_mapping old new None (inl tt))
+      → (old new : List ℕ) → IfOk s (λ made. (r ≡ Ok made) × AppendsBytes (emit_input out m made) made.builder old new)
+      → IfOk s (λ made. Rewrites calls i by {Z = Z} made.builder made.instruction_mapping old new None (inl tt))
   all_without_map Z alike r (Err e) a g old new h = tt
   all_without_map Z alike r (Ok made) a g old new h =
       without_map {Z = Z} alike made (subst (λ q. IfOk q (λ p. p.args ≡ args)) h.0 g) (subst (λ q. IfOk q Accepts) h.0 a) old new h.1
@@ -172,30 +172,30 @@ module _ {S F : Type 0} (asks : Shared F (Bor ℕ × Unit {0}) ℕ) (i : ParseIn
   begins_all (Ok p) a = begins p.builder (body_tree i.environment a.body) a.is_function
   begins_all (Err f) a = tt
 
-  refuses_all : (r : Result FunctionParts ParseFailure) → IfOk r Accepts → IfErr r (RefusesBody asks i) → IfOk r (λ p. p.args ≡ args) → length i.bytes < 2 ^ 64 → (e : RewriteError)
-      → IsUnfinished (given out m) r e → RefusesRewriting asks i by e
-  refuses_all (Ok p) a f g few e h = refuses asks i by p.builder p.instruction_mapping a (are_id_numbers m.types out) few e (subst (λ b. IsUnappended b p.builder e) (by_is p g) h)
-  refuses_all (Err p) a f g few e h = subst (RefusesRewriting asks i by) (sym h) f
+  refuses_all : (r : Result FunctionParts ParseFailure) → IfOk r Accepts → IfErr r (RefusesBody calls i) → IfOk r (λ p. p.args ≡ args) → length i.bytes < 2 ^ 64 → (e : RewriteError)
+      → IsNotFinished (emit_input out m) r e → RefusesRewriting calls i by e
+  refuses_all (Ok p) a f g few e h = refuses calls i by p.builder p.instruction_mapping a (are_id_numbers m.types out) few e (subst (λ b. IsNotAppended b p.builder e) (by_is p g) h)
+  refuses_all (Err p) a f g few e h = subst (RefusesRewriting calls i by) (sym h) f
 
-  pub refused_all : (r : Result FunctionParts ParseFailure) → IfOk r Accepts → IfErr r (RefusesBody asks i) → IfOk r (λ p. p.args ≡ args) → length i.bytes < 2 ^ 64
-      → (s : Result FunctionParts RewriteError) → IfErr s (IsUnfinished (given out m) r) → IfErr s (RefusesRewriting asks i by)
+  pub refused_all : (r : Result FunctionParts ParseFailure) → IfOk r Accepts → IfErr r (RefusesBody calls i) → IfOk r (λ p. p.args ≡ args) → length i.bytes < 2 ^ 64
+      → (s : Result FunctionParts RewriteError) → IfErr s (IsNotFinished (emit_input out m) r) → IfErr s (RefusesRewriting calls i by)
   refused_all r a f g few (Ok made) h = tt
   refused_all r a f g few (Err e) h = refuses_all r a f g few e h
 
   -- a fault of the parse is returned
   pub faults_all : (r : Result FunctionParts ParseFailure) (p : ParseFailure) → IsErr r × IfErr r (λ q. (q.error ≡ parse.Memory) ⊎ (q ≡ p))
-      → (P : FunctionParts → Type 0) (s : Result FunctionParts RewriteError) → IfOk s (λ made. (r ≡ Ok made) × P made) → IfErr s (IsUnfinished (given out m) r) → IsErr s × IfErr s (λ e. WantsMemory e ⊎ (e ≡ Parse p))
+      → (P : FunctionParts → Type 0) (s : Result FunctionParts RewriteError) → IfOk s (λ made. (r ≡ Ok made) × P made) → IfErr s (IsNotFinished (emit_input out m) r) → IsErr s × IfErr s (λ e. IsOutOfMemory e ⊎ (e ≡ Parse p))
   faults_all (Ok q) p h P s ok err = absurd (let no = h.0 in cc)
   faults_all (Err q) p h P (Ok made) ok err = absurd (let no = ok.0 in cc)
   faults_all (Err q) p h P (Err e) ok err = (refl, of_fault h.1)
     where
-      of_fault : (q.error ≡ parse.Memory) ⊎ (q ≡ p) → WantsMemory e ⊎ (e ≡ Parse p)
-      of_fault (inl memory) = inl (subst WantsMemory (sym err) memory)
+      of_fault : (q.error ≡ parse.Memory) ⊎ (q ≡ p) → IsOutOfMemory e ⊎ (e ≡ Parse p)
+      of_fault (inl memory) = inl (subst IsOutOfMemory (sym err) memory)
       of_fault (inr is) = inr (err ∙ ap Parse is)
 
   -- and an accepted body isn't refused by it
   pub bodies_all : (r : Result FunctionParts ParseFailure) → IfErr r (λ q. q.error ≡ parse.Memory) → (s : Result FunctionParts RewriteError)
-      → IfErr s (IsUnfinished (given out m) r) → IfErr s IsOfWriting
+      → IfErr s (IsNotFinished (emit_input out m) r) → IfErr s IsOfWriting
   bodies_all r h (Ok made) err = tt
   bodies_all (Ok p) h (Err (Parse f)) err = absurd err
   bodies_all (Ok p) h (Err (Walk w)) err = tt

@@ -7,7 +7,7 @@ use Rattle.walrus_rewrite.specs.declared.error.RewriteError.{RewriteError}
 use Rattle.walrus_rewrite.specs.declared.error.RewriteError.TheVariants.{Parse, Walk, Emit}
 
 -- memory ran out
-abbrev pub WantsMemory : RewriteError → Type 0
-WantsMemory (Parse f) = f.error ≡ parse.Memory
-WantsMemory (Walk w) = w ≡ walk.Memory
-WantsMemory (Emit e) = e ≡ emit.Memory
+abbrev pub IsOutOfMemory : RewriteError → Type 0
+IsOutOfMemory (Parse f) = f.error ≡ parse.Memory
+IsOutOfMemory (Walk w) = w ≡ walk.Memory
+IsOutOfMemory (Emit e) = e ≡ emit.Memory

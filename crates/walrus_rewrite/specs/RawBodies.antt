@@ -12,47 +12,47 @@ use Rattle.wasm_body.specs.declared.error.EmitError.{EmitError}
 use Rattle.wasm_body.specs.declared.error.EmitError.TheVariants.{Memory, TooLarge, UnknownLocal, UnknownSequence}
 use Rattle.wasm_body.specs.declared.error.ParseFailure.{ParseFailure}
 use Rattle.wasm_body.specs.Bytes.{Numbers, tree_bytes}
-use Rattle.wasm_body.specs.EmissionFaults.{IsUnnumbered}
+use Rattle.wasm_body.specs.EmissionFaults.{HasNoNumber}
 use Rattle.wasm_body.specs.FunctionTree.{FunctionTree}
 use Rattle.wasm_body.specs.LocalNumbers.{Local, ids_of, AreDeclared, declared, uses_local, with_locals}
 use Rattle.wasm_body.specs.Pairs.{Pair, tree_pairs}
 use Rattle.wasm_body.specs.TreeOfFunction.{HasTree, fault_of_walk}
 use Rattle.walrus_maps.specs.declared.ids_to_indices.IdsToIndices.{IdsToIndices}
-use Rattle.walrus_numbering.specs.EmittedLocals.{Declares, HasUnknown, IsUndeclared}
+use Rattle.walrus_numbering.specs.EmittedLocals.{Declares, HasUnknown, IsNotDeclared}
 use Rattle.walrus_body.specs.Emitting.{Written}
 use Rattle.walrus_body.specs.FunctionParts.{FunctionParts}
 use Rattle.walrus_body.specs.LocalFunctions.{first_slot, HasEntry}
 use Rattle.walrus_facts.specs.Sizes.{IsTooLarge}
-use Rattle.walrus_body.specs.EmittedInstructions.{LentPairs, Left, IsUnemitted}
+use Rattle.walrus_body.specs.EmittedInstructions.{LentPairs, Left, IsNotEmitted}
 use Rattle.walrus_emitter.specs.TreeWriting.Trees as trees
 use Rattle.walrus_numbering.specs.NumberMaps.{numbers_by}
 use Rattle.walrus_rewrite.specs.declared.error.RewriteError.{RewriteError}
 use Rattle.walrus_rewrite.specs.declared.error.RewriteError.TheVariants.{Parse, Walk, Emit}
 
 -- The input of writing a body: the numbers of ids, the types of the module's locals, and the function's arguments.
-pub record Given : Type 0 where
+pub record EmitInput : Type 0 where
   pub to : Numbers
   pub types : List (ValType ℕ)
   pub args : List ℕ
 
 -- the same for a function in a module, with the numbers of index maps
-abbrev pub given : IdsToIndices → Module → FunctionParts → Given
-given out m f = record { to = numbers_by m.types out []; types = m.locals; args = f.args }
+abbrev pub emit_input : IdsToIndices → Module → FunctionParts → EmitInput
+emit_input out m f = record { to = numbers_by m.types out []; types = m.locals; args = f.args }
 
 -- These are the bytes and the location pairs of a tree as a raw body, the places counted from its first byte.
-pub record IsRawBody (by : Given) (t : FunctionTree) (bytes : List ℕ) (pairs : List Pair) : Type 0 where
+pub record IsRawBody (by : EmitInput) (t : FunctionTree) (bytes : List ℕ) (pairs : List Pair) : Type 0 where
   pub others : List Local
   pub are_declared : AreDeclared by.types by.args (uses_local t) others
   pub declarations : List (ℕ × ValType ℕ)
   pub declarations_are : declared by.to (length by.args) others ≡ Ok declarations
   pub operators : List ℕ
   pub operators_are : tree_bytes (with_locals by.to by.args (ids_of others)) t ≡ Ok operators
-  pub bytes_are : bytes ≡ encoded.declarations declarations ++ operators
-  pub pairs_are : tree_pairs (with_locals by.to by.args (ids_of others)) t (length (encoded.declarations declarations)) ≡ Ok pairs
+  pub bytes_are : bytes ≡ encoded.declaration_bytes declarations ++ operators
+  pub pairs_are : tree_pairs (with_locals by.to by.args (ids_of others)) t (length (encoded.declaration_bytes declarations)) ≡ Ok pairs
 
 -- This is why a tree has no raw body: a used local isn't known, or else the declarations have this first fault, or else the
 -- operators.
-pub data HasNoRawBody (by : Given) (t : FunctionTree) (e : EmitError) : Type 0 where
+pub data HasNoRawBody (by : EmitInput) (t : FunctionTree) (e : EmitError) : Type 0 where
   unknown : e ≡ UnknownLocal → HasUnknown by.types by.args (uses_local t) → HasNoRawBody by t e
   undeclared :
       (others : List Local) → AreDeclared by.types by.args (uses_local t) others → declared by.to (length by.args) others ≡ Err e →
@@ -64,20 +64,20 @@ pub data HasNoRawBody (by : Given) (t : FunctionTree) (e : EmitError) : Type 0 w
 
 -- The tree of a parsed body has no raw body for these reasons only: a used local isn't known; the declarations count too many
 -- locals, or name a type without a number; or an operator names an id or a local without a number.
-abbrev pub IsOfParsed : (by : Given) (t : FunctionTree) (e : EmitError) → HasNoRawBody by t e → Type 0
+abbrev pub IsOfParsed : (by : EmitInput) (t : FunctionTree) (e : EmitError) → HasNoRawBody by t e → Type 0
 IsOfParsed by t e (unknown is missing) = Unit {0}
-IsOfParsed by t e (undeclared others are_declared fault) = (e ≡ TooLarge) ⊎ IsUnnumbered e
-IsOfParsed by t e (unwritten others declarations are_declared declarations_are fault) = IsUnnumbered e
+IsOfParsed by t e (undeclared others are_declared fault) = (e ≡ TooLarge) ⊎ HasNoNumber e
+IsOfParsed by t e (unwritten others declarations are_declared declarations_are fault) = HasNoNumber e
 
 -- This is why the tree of a parsed body has no raw body.
-pub record HasNoParsedBody (by : Given) (t : FunctionTree) (e : EmitError) : Type 0 where
+pub record HasNoParsedBody (by : EmitInput) (t : FunctionTree) (e : EmitError) : Type 0 where
   pub has_none : HasNoRawBody by t e
   pub is_of_parsed : IsOfParsed by t e has_none
 
 -- ---- of a function
 
 -- These are the bytes and the pairs of the function's tree.
-pub record IsRawBodyOf (by : Given) (f : Function) (bytes : List ℕ) (pairs : List Pair) : Type 0 where
+pub record IsRawBodyOf (by : EmitInput) (f : Function) (bytes : List ℕ) (pairs : List Pair) : Type 0 where
   pub tree : FunctionTree
   pub has_tree : HasTree f.sequences (first_slot f) tree
   pub is_raw_body : IsRawBody by tree bytes pairs
@@ -89,33 +89,33 @@ moved n p = (p.0, n + p.1)
 -- ---- of a function, with the list of its used locals given
 
 -- These locals are declared so in an encoder, and they and the arguments have these numbers.
-pub record Begins (by : Given) (used : ℕ → Bool) (encoder : List ℕ) (numbers : List (ℕ × ℕ)) : Type 0 where
+pub record Begins (by : EmitInput) (used : ℕ → Bool) (encoder : List ℕ) (numbers : List (ℕ × ℕ)) : Type 0 where
   pub declarations : List (ℕ × ValType ℕ)
   pub declares : Declares by.to by.types by.args used declarations numbers
-  pub encoder_is : encoder ≡ encoded.declarations declarations
+  pub encoder_is : encoder ≡ encoded.declaration_bytes declarations
 
-abbrev pub IsNotBegun : Given → (ℕ → Bool) → EmitError → Type 0
-IsNotBegun by used e = IsUndeclared by.to by.types by.args used e
+abbrev pub IsNotBegun : EmitInput → (ℕ → Bool) → EmitError → Type 0
+IsNotBegun by used e = IsNotDeclared by.to by.types by.args used e
 
 -- The operators, written with the numbers of the locals, follow the declarations.
-pub record Writes (by : Given) (used : ℕ → Bool) (IsWritten : Numbers → List ℕ → Type 0) : Type 0 where
+pub record Writes (by : EmitInput) (used : ℕ → Bool) (IsWritten : Numbers → List ℕ → Type 0) : Type 0 where
   pub others : List Local
   pub are_declared : AreDeclared by.types by.args used others
   pub declarations : List (ℕ × ValType ℕ)
   pub declarations_are : declared by.to (length by.args) others ≡ Ok declarations
-  pub is_written : IsWritten (with_locals by.to by.args (ids_of others)) (encoded.declarations declarations)
+  pub is_written : IsWritten (with_locals by.to by.args (ids_of others)) (encoded.declaration_bytes declarations)
 
-abbrev pub WritesBytes : Given → (ℕ → Bool) → Function → List ℕ → Type 0
+abbrev pub WritesBytes : EmitInput → (ℕ → Bool) → Function → List ℕ → Type 0
 WritesBytes by used f bytes = Writes by used (λ to old. trees.AppendsBytes f.sequences (first_slot f) to old bytes)
 
-abbrev pub WritesBoth : Given → (ℕ → Bool) → Function → List ℕ → (old_pairs new_pairs : List Pair) → Type 0
+abbrev pub WritesBoth : EmitInput → (ℕ → Bool) → Function → List ℕ → (old_pairs new_pairs : List Pair) → Type 0
 WritesBoth by used f bytes old_pairs new_pairs = Writes by used (λ to old. trees.Appends f.sequences (first_slot f) to old bytes old_pairs new_pairs)
 
-pub data Declines (by : Given) (used : ℕ → Bool) (f : Function) (e : EmitError) : Type 0 where
+pub data Declines (by : EmitInput) (used : ℕ → Bool) (f : Function) (e : EmitError) : Type 0 where
   not_begun : IsNotBegun by used e → Declines by used f e
   not_written :
       (others : List Local) (declarations : List (ℕ × ValType ℕ)) → AreDeclared by.types by.args used others →
-      declared by.to (length by.args) others ≡ Ok declarations → IsUnemitted f (with_locals by.to by.args (ids_of others)) e →
+      declared by.to (length by.args) others ≡ Ok declarations → IsNotEmitted f (with_locals by.to by.args (ids_of others)) e →
       Declines by used f e
 
 -- ---- appended
@@ -127,14 +127,14 @@ AppendsPairs pairs (Some list) (inr (inl left)) = left.0.now.items ≡ list.now.
 AppendsPairs pairs _ _ = ⊥
 
 -- The function's raw body is appended.
-pub record AppendsBytes (by : Given) (f : Function) (old new : List ℕ) : Type 0 where
+pub record AppendsBytes (by : EmitInput) (f : Function) (old new : List ℕ) : Type 0 where
   pub raw : List ℕ
   pub pairs : List Pair
   pub is_raw_body : IsRawBodyOf by f raw pairs
   pub appends : new ≡ old ++ raw
 
 -- And its pairs are appended to a list of pairs.
-pub record AppendsBoth (by : Given) (f : Function) (old new : List ℕ) (old_pairs new_pairs : List Pair) : Type 0 where
+pub record AppendsBoth (by : EmitInput) (f : Function) (old new : List ℕ) (old_pairs new_pairs : List Pair) : Type 0 where
   pub raw : List ℕ
   pub pairs : List Pair
   pub is_raw_body : IsRawBodyOf by f raw pairs
@@ -142,38 +142,38 @@ pub record AppendsBoth (by : Given) (f : Function) (old new : List ℕ) (old_pai
   pub appends_pairs : new_pairs ≡ old_pairs ++ pairs
 
 -- Memory ran out, or facts about the function can't be gathered, or it can't be written.
-abbrev pub IsUnappended : Given → Function → RewriteError → Type 0
-IsUnappended by f (Parse p) = ⊥
-IsUnappended by f (Walk w) = HasNoWalk f.sequences (first_slot f) w ⊎ IsTooLarge f.sequences (first_slot f) w
-IsUnappended by f (Emit e) = (e ≡ Memory) ⊎ ((t : FunctionTree) × HasTree f.sequences (first_slot f) t × HasNoRawBody by t e)
+abbrev pub IsNotAppended : EmitInput → Function → RewriteError → Type 0
+IsNotAppended by f (Parse p) = ⊥
+IsNotAppended by f (Walk w) = HasNoWalk f.sequences (first_slot f) w ⊎ IsTooLarge f.sequences (first_slot f) w
+IsNotAppended by f (Emit e) = (e ≡ Memory) ⊎ ((t : FunctionTree) × HasTree f.sequences (first_slot f) t × HasNoRawBody by t e)
 
 -- After a parse: its failure, or why the raw body of its function isn't appended.
-abbrev pub IsUnfinished : (FunctionParts → Given) → Result FunctionParts ParseFailure → RewriteError → Type 0
-IsUnfinished by (Ok made) e = IsUnappended (by made) made.builder e
-IsUnfinished by (Err f) e = e ≡ Parse f
+abbrev pub IsNotFinished : (FunctionParts → EmitInput) → Result FunctionParts ParseFailure → RewriteError → Type 0
+IsNotFinished by (Ok made) e = IsNotAppended (by made) made.builder e
+IsNotFinished by (Err f) e = e ≡ Parse f
 
 -- ---- the entry of a function in the code section
 
 -- The function has an entry, the bytes are its raw body, and the pairs are its own, moved up by the number of bytes before.
-pub record WritesEntry (by : Given) (f : Function) (before : ℕ) (written : Written) : Type 0 where
+pub record WritesEntry (by : EmitInput) (f : Function) (before : ℕ) (written : Written) : Type 0 where
   pub has_entry : HasEntry f
   pub pairs : List Pair
   pub is_raw_body : IsRawBodyOf by f written.bytes pairs
   pub are_moved : written.code_transform ≡ map (moved before) pairs
 
 -- Both are appended.
-pub record AppendsEntry (by : Given) (f : Function) (old new : List ℕ) (old_pairs new_pairs : List Pair) : Type 0 where
+pub record AppendsEntry (by : EmitInput) (f : Function) (old new : List ℕ) (old_pairs new_pairs : List Pair) : Type 0 where
   pub written : Written
   pub writes : WritesEntry by f (length old) written
   pub appends : new ≡ old ++ written.bytes
   pub appends_pairs : new_pairs ≡ old_pairs ++ written.code_transform
 
 -- Why a function with an entry isn't appended: memory ran out, or there is no walk, or too many instructions, or no raw body.
-abbrev pub RefusesEntry : Given → Function → EmitError → Type 0
+abbrev pub RefusesEntry : EmitInput → Function → EmitError → Type 0
 RefusesEntry by f e =
     (e ≡ Memory) ⊎ (((w : WalkError) × (HasNoWalk f.sequences (first_slot f) w ⊎ IsTooLarge f.sequences (first_slot f) w) × (e ≡ fault_of_walk w))
     ⊎ ((t : FunctionTree) × HasTree f.sequences (first_slot f) t × HasNoRawBody by t e))
 
 -- And why any function isn't: its entry isn't a sequence of its builder, or one of these.
-abbrev pub RefusesAnyEntry : Given → Function → EmitError → Type 0
+abbrev pub RefusesAnyEntry : EmitInput → Function → EmitError → Type 0
 RefusesAnyEntry by f e = (HasEntry f × RefusesEntry by f e) ⊎ ((HasEntry f → ⊥) × (e ≡ UnknownSequence))

@@ -14,7 +14,7 @@ use Rattle.wasm_body.specs.NormalForm.{typing_of, name_at, named_body, body_tree
 use Rattle.wasm_body.specs.RewrittenTree.{rewritten_text}
 use Rattle.wasm_body.specs.TextLaws.{IsTextOf}
 use Rattle.wasm_body.specs.ExecutionLaws.{ExecuteAlike}
-use Rattle.wasm_body.specs.LocationLaws.{SayLocations}
+use Rattle.wasm_body.specs.LocationLaws.{LocationsAgree}
 use Rattle.wasm_body.specs.ValidityLaws.{KnownOperand, StaysValid}
 use Rattle.wasm_body.specs.Pairs.{Pair}
 use Rattle.wasm_body.specs.Parsing.Accepted.{Accepted}
@@ -22,7 +22,7 @@ use Rattle.walrus_parser.specs.Bodies.{ParseInput, setting_with, AcceptsBody, Re
 use Rattle.walrus_body.specs.EmittedInstructions.{LentPairs, Left}
 use Rattle.walrus_rewrite.specs.declared.error.RewriteError.{RewriteError}
 use Rattle.walrus_rewrite.specs.declared.error.RewriteError.TheVariants.{Parse, Walk, Emit}
-use Rattle.walrus_rewrite.specs.RawBodies.{Given, IsRawBody, HasNoParsedBody, AppendsPairs}
+use Rattle.walrus_rewrite.specs.RawBodies.{EmitInput, IsRawBody, HasNoParsedBody, AppendsPairs}
 
 -- ---- relation to the source
 
@@ -42,15 +42,15 @@ pub record KeepsSource (env : Environment) (xs : List Occurrence) (b : Body Occu
   pub stays_valid : StaysValid KnownOperand (typing_of env) (map name_at xs) text
   pub locations : map (λ (p : Pair). p.0) pairs ≡ map (λ y. y.location) text
   pub places : PlacesRise pairs
-  pub honest : SayLocations pairs text (map name_at xs)
+  pub honest : LocationsAgree pairs text (map name_at xs)
 
 -- ---- the bytes
 
-module _ {S F : Type 0} (asks : Shared F (Bor ℕ × Unit {0}) ℕ) (i : ParseInput S F) (by : Given) where
+module _ {S F : Type 0} (calls : Shared F (Bor ℕ × Unit {0}) ℕ) (i : ParseInput S F) (by : EmitInput) where
   -- The bytes are accepted as a body, the function is the parsed one, and the raw body of its normal form is appended.
   pub record Rewrites {Z : Type 0} (made : Function) (mapping : List (ℕ × ℕ)) (old new : List ℕ) (entry : Option (LentPairs Z)) (exit : Left (LentPairs Z))
       : Type 0 where
-    pub accepts : AcceptsBody asks i made mapping
+    pub accepts : AcceptsBody calls i made mapping
     pub raw : List ℕ
     pub pairs : List Pair
     pub is_raw_body : IsRawBody by (body_tree i.environment accepts.body) raw pairs
@@ -61,13 +61,13 @@ module _ {S F : Type 0} (asks : Shared F (Bor ℕ × Unit {0}) ℕ) (i : ParseIn
   -- the bytes are accepted as this body, with some location function if the caller passed one
   pub record IsAcceptedAs (b : Body Occurrence) : Type 0 where
     pub locations : Option (ℕ → ℕ)
-    pub are_given : AreGiven asks i locations
+    pub are_given : AreGiven calls i locations
     pub accepted : Accepted (setting_with i locations) i.bytes b
 
   -- The bytes are refused by the parse; or they are accepted, and there is no raw body, for one of the few reasons for which a
   -- parsed body has none. Or memory ran out.
   abbrev pub RefusesRewriting : RewriteError → Type 0
-  RefusesRewriting (Parse f) = RefusesBody asks i f
+  RefusesRewriting (Parse f) = RefusesBody calls i f
   RefusesRewriting (Walk w) = w ≡ walk.Memory
   RefusesRewriting (Emit e) = (e ≡ emit.Memory) ⊎ ((b : Body Occurrence) × IsAcceptedAs b × HasNoParsedBody by (body_tree i.environment b) e)
 

@@ -2,7 +2,7 @@
 ghost use Rattle.std.specs.Prelude.{◌≡◌, ◌+◌, ◌<◌, ◌≤◌, ◌^◌, length, map, OnOk, OnErr, IfOk, IfErr};
 ghost use Rattle.std.specs.List.{AllByRecursion};
 ghost use Rattle.walrus_body.specs.LocalFunctions.{HasEntry};
-ghost use Rattle.walrus_rewrite.specs.RawBodies.{given, moved, WritesEntry, RefusesEntry, AppendsEntry};
+ghost use Rattle.walrus_rewrite.specs.RawBodies.{emit_input, moved, WritesEntry, RefusesEntry, AppendsEntry};
 
 use crate::raw_body::raw_body_with_map;
 use crate::whole_body::append_both;
@@ -22,9 +22,9 @@ fn moved_pairs(
 {
     let mut made = Vec::new(alloc);
     let mut left = pairs;
-    'left: while let Some(((location, place), behind)) = left.split_first() {
+    'left: while let Some(((location, place), following)) = left.split_first() {
         made.push((*location, base + *place))?;
-        left = behind;
+        left = following;
     }
     Ok(made)
 }
@@ -43,9 +43,9 @@ fn append_entry(
     map: &mut Vec<(InstrLocId, usize)>,
 ) -> Result<(), EmitError>
     requires { HasEntry function.now.builder }
-    ensures ok { OnOk result (AppendsEntry (given indices.now «module».now function.now)
+    ensures ok { OnOk result (AppendsEntry (emit_input indices.now «module».now function.now)
         function.now.builder bytes.old.items bytes.new.items map.old.items map.new.items) }
-    ensures err { IfErr result (RefusesEntry (given indices.now «module».now function.now)
+    ensures err { IfErr result (RefusesEntry (emit_input indices.now «module».now function.now)
         function.now.builder) }
     ensures same_bytes { OnErr result (bytes.new.items ≡ bytes.old.items) }
     ensures same_pairs { OnErr result (map.new.items ≡ map.old.items) }
@@ -86,14 +86,14 @@ pub struct CodeEntry<'a> {
 impl Emit for CodeEntry<'_> {
     ghost use Rattle.std.specs.Prelude.{length};
     ghost use Rattle.walrus_body.specs.Emitting.{ChangesNothingElse};
-    ghost use Rattle.walrus_rewrite.specs.RawBodies.{given, WritesEntry, RefusesAnyEntry};
+    ghost use Rattle.walrus_rewrite.specs.RawBodies.{emit_input, WritesEntry, RefusesAnyEntry};
 
-    ghost writes = { λ entry cx. WritesEntry (given cx.indices.now cx.module.now entry.func.now)
+    ghost writes = { λ entry cx. WritesEntry (emit_input cx.indices.now cx.module.now entry.func.now)
         entry.func.now.builder (length cx.bytes.items) };
 
     ghost changes = { λ _. ChangesNothingElse };
 
-    ghost refuses = { λ entry cx. RefusesAnyEntry (given cx.indices.now cx.module.now
+    ghost refuses = { λ entry cx. RefusesAnyEntry (emit_input cx.indices.now cx.module.now
         entry.func.now) entry.func.now.builder };
 
     fn emit(&self, cx: &mut EmitContext<'_>) -> Result<(), EmitError> {

@@ -7,13 +7,13 @@ ghost use Rattle.wasm_body.specs.Parsing.Accepted.{Accepted, FirstFault};
 ghost use Rattle.walrus_parser.specs.Ranges.{range_at};
 ghost use Rattle.walrus_body.specs.LocalFunctions.{HasEntry};
 ghost use Rattle.walrus_parser.specs.Bodies.{body_input, body_setting, body_operators};
-ghost use Rattle.walrus_parser.specs.Locating.{MayAsk};
+ghost use Rattle.walrus_parser.specs.Locating.{MayCall};
 ghost use Rattle.walrus_parser.specs.Settings.{BothOrNone};
 ghost use Rattle.walrus_body.specs.EmittedInstructions.{KeepsPairs};
 ghost use Rattle.walrus_numbering.specs.NumberMaps.{numbers_by};
 ghost use Rattle.walrus_rewrite.specs.declared.error.RewriteError.TheVariants.{Parse};
-ghost use Rattle.walrus_rewrite.specs.Errors.{WantsMemory};
-ghost use Rattle.walrus_rewrite.specs.RawBodies.{given, AppendsBytes, AppendsBoth, IsUnappended, IsUnfinished};
+ghost use Rattle.walrus_rewrite.specs.Errors.{IsOutOfMemory};
+ghost use Rattle.walrus_rewrite.specs.RawBodies.{emit_input, AppendsBytes, AppendsBoth, IsNotAppended, IsNotFinished};
 ghost use Rattle.walrus_rewrite.specs.RewrittenBodies.{Rewrites, RefusesRewriting, IsOfWriting};
 
 use crate::error::RewriteError;
@@ -53,9 +53,9 @@ pub fn append_raw_body(
     dst: &mut Vec<u8>,
 ) -> Result<(), RewriteError>
     requires { HasEntry function.now.builder }
-    ensures ok { OnOk result (AppendsBytes (given indices.now «module».now function.now)
+    ensures ok { OnOk result (AppendsBytes (emit_input indices.now «module».now function.now)
         function.now.builder dst.old.items dst.new.items) }
-    ensures err { IfErr result (IsUnappended (given indices.now «module».now function.now)
+    ensures err { IfErr result (IsNotAppended (emit_input indices.now «module».now function.now)
         function.now.builder) }
     ensures same_bytes { OnErr result (dst.new.items ≡ dst.old.items) }
 {
@@ -89,9 +89,9 @@ pub fn append_raw_body_with_map(
     map: &mut Vec<(InstrLocId, usize)>,
 ) -> Result<(), RewriteError>
     requires { HasEntry function.now.builder }
-    ensures ok { OnOk result (AppendsBoth (given indices.now «module».now function.now)
+    ensures ok { OnOk result (AppendsBoth (emit_input indices.now «module».now function.now)
         function.now.builder dst.old.items dst.new.items map.old.items map.new.items) }
-    ensures err { IfErr result (IsUnappended (given indices.now «module».now function.now)
+    ensures err { IfErr result (IsNotAppended (emit_input indices.now «module».now function.now)
         function.now.builder) }
     ensures same_bytes { OnErr result (dst.new.items ≡ dst.old.items) }
     ensures same_pairs { OnErr result (map.new.items ≡ map.old.items) }
@@ -122,9 +122,9 @@ fn finish(
 ) -> Result<LocalFunction, RewriteError>
     requires { IfOk parsed (λ made. HasEntry made.builder) }
     ensures ok { IfOk result (λ made. (parsed ≡ Ok made)
-        × AppendsBytes (given indices.now «module».now made) made.builder dst.old.items
+        × AppendsBytes (emit_input indices.now «module».now made) made.builder dst.old.items
         dst.new.items) }
-    ensures err { IfErr result (IsUnfinished (given indices.now «module».now) parsed) }
+    ensures err { IfErr result (IsNotFinished (emit_input indices.now «module».now) parsed) }
     ensures same_bytes { OnErr result (dst.new.items ≡ dst.old.items) }
 {
     match parsed {
@@ -150,9 +150,9 @@ fn finish_with_map(
 ) -> Result<LocalFunction, RewriteError>
     requires { IfOk parsed (λ made. HasEntry made.builder) }
     ensures ok { IfOk result (λ made. (parsed ≡ Ok made)
-        × AppendsBoth (given indices.now «module».now made) made.builder dst.old.items
+        × AppendsBoth (emit_input indices.now «module».now made) made.builder dst.old.items
         dst.new.items map.old.items map.new.items) }
-    ensures err { IfErr result (IsUnfinished (given indices.now «module».now) parsed) }
+    ensures err { IfErr result (IsNotFinished (emit_input indices.now «module».now) parsed) }
     ensures same_bytes { OnErr result (dst.new.items ≡ dst.old.items) }
     ensures same_pairs { OnErr result (map.new.items ≡ map.old.items) }
 {
@@ -218,7 +218,7 @@ pub fn rewrite_body<V: OpCheck, F: Fn(&usize) -> InstrLocId>(
     requires offset { «module».now.code_section_offset ≤ body.start }
     requires ops { body.ops ≤ length body.bytes.now }
     requires fits { body.start + length body.bytes.now < 2 ^ 64 }
-    requires may_ask { MayAsk F.pre on_instr_pos (body.start + body.ops)
+    requires may_call { MayCall F.pre on_instr_pos (body.start + body.ops)
         (body.start + length body.bytes.now) }
     // The appended bytes are the raw body of the accepted body's normal form: for every list of
     // outcomes and bound on turns it executes the operators of the source and ends alike, and its
@@ -245,7 +245,7 @@ pub fn rewrite_body<V: OpCheck, F: Fn(&usize) -> InstrLocId>(
         → BothOrNone on_instr_pos.entry locations
         → FirstFault (body_setting «module».now indices.now id ty body.entry V.check
         (V.state validator) locations) (body_operators body.entry) f
-        → IsErr result × IfErr result (λ e. WantsMemory e ⊎ (e ≡ Parse f)) }
+        → IsErr result × IfErr result (λ e. IsOutOfMemory e ⊎ (e ≡ Parse f)) }
     ensures same_bytes { OnErr result (dst.new.items ≡ dst.old.items) }
     ensures same_pairs { OnErr result (KeepsPairs map.entry map.exit) }
     // The arguments of the function are these.

@@ -25,11 +25,11 @@ use Rattle.wasm_body.specs.NormalForm.{typing_of, name_at, body_tree}
 use Rattle.wasm_body.specs.Parsing.Accepted.{mark, Lawful}
 use Rattle.wasm_body.specs.LocalNumbers.{Local, ids_of, types_of, locals_among, locals_of, uses_local, AreDeclared, last_place, number_of_local, one_more, runs, declaration, declarations, declared, with_locals}
 use Rattle.wasm_body.specs.Bytes.{Numbers, in_32_bits, numbered_block, tree_bytes}
-use Rattle.wasm_body.proofs.LocalNumbers.{Below, Ascends, ascends, Stands, stands_all, stands_among, last_place_get}
+use Rattle.wasm_body.proofs.LocalNumbers.{Below, Ascends, ascends, IsLocalIn, holds_of_local, local_among, last_place_get}
 use Rattle.wasm_body.proofs.Bytes.LawfulTyped.{NamedSomewhere, named_somewhere}
 use Rattle.wasm_body.proofs.Bytes.NumberedBodies.{HasNumbers, HasText, translated, body_bytes_ok}
 use Rattle.wasm_body.proofs.Bytes.OtherLocals.{IsOfLocal, Has, named_locals, normal_has, same_block, same_bytes_at}
-use Rattle.wasm_body.proofs.Structure.Along.{AllMarked, each_of, each_reshown}
+use Rattle.wasm_body.proofs.Structure.Along.{AllMarked, each_of, each_mapped}
 use Rattle.walrus_numbering.specs.EmittedLocals.{HasUnknown}
 use Rattle.walrus_rewrite.specs.RawBodies.{HasNoRawBody, unknown, undeclared, unwritten}
 use Rattle.walrus_run.specs.Demo.{demo_args, demo_locals, demo_environment, demo_numbers}
@@ -61,9 +61,9 @@ all_among P (x ∷ ls) h =
     or_true true = refl
     or_true false = refl
 
-all_standing : (P : Local → Type 0) (ls : List Local) → ((l : Local) → Stands l ls → P l) → AllByRecursion P ls
-all_standing P [] h = tt
-all_standing P (l ∷ ls) h = (h l (inl refl), all_standing P ls (λ k s. h k (inr s)))
+all_of_each_local : (P : Local → Type 0) (ls : List Local) → ((l : Local) → IsLocalIn l ls → P l) → AllByRecursion P ls
+all_of_each_local P [] h = tt
+all_of_each_local P (l ∷ ls) h = (h l (inl refl), all_of_each_local P ls (λ k s. h k (inr s)))
 
 some_place : (xs : List ℕ) (id : ℕ) → among id xs ≡ true → (n : ℕ) × (last_place xs id ≡ Some n)
 some_place [] id h = absurd cc
@@ -210,7 +210,7 @@ module _ (xs : List Occurrence) (b : Body Occurrence) (texts : AllByRecursion Ha
       let marks = subst (AllMarked Q) lawful.is_body (all_named xs (named_somewhere demo_environment xs b lawful)) in
       let each = (each_of Q b.sequence (with_control b.close End ∷ []) marks).0 in
       normal_has (IsOfLocal demo_environment) (typing_of demo_environment) (map_sequence name_at b.sequence)
-      (each_reshown (Has (IsOfLocal demo_environment)) name_at b.sequence each)
+      (each_mapped (Has (IsOfLocal demo_environment)) name_at b.sequence each)
 
   pub none_unknown : HasUnknown demo_locals demo_args (uses_local tree) → ⊥
   none_unknown h = is_known h.id (old_local h.id (among_all (IsOfLocal demo_environment) h.id (locals_of tree) all_old h.is_used)) h.has_no_type
@@ -218,9 +218,9 @@ module _ (xs : List Occurrence) (b : Body Occurrence) (texts : AllByRecursion Ha
   module _ (others : List Local) (d : AreDeclared demo_locals demo_args (uses_local tree) others) where
     are_others : AllByRecursion IsOther others
     are_others =
-        all_standing IsOther others (λ l s.
-        other_local l.1 l.0 (uses_local tree l.1) (sym (stands_among l others s) ∙ d.are_all l.1)
-        (stands_all (λ k. slice_get demo_locals k.1 ≡ Some k.0) l others (recursion_from_All _ others d.typed) s))
+        all_of_each_local IsOther others (λ l s.
+        other_local l.1 l.0 (uses_local tree l.1) (sym (local_among l others s) ∙ d.are_all l.1)
+        (holds_of_local (λ k. slice_get demo_locals k.1 ≡ Some k.0) l others (recursion_from_All _ others d.typed) s))
 
     from_one : (ls : List Local) → AllByRecursion IsOther ls → AllByRecursion (λ l. 1 ≤ l.1) ls
     from_one [] h = tt

@@ -8,7 +8,7 @@ use Rattle.wasm_body.specs.declared.error.ParseFailure.{ParseFailure}
 use Rattle.wasm_body.specs.SourceTree.{Body}
 use Rattle.wasm_body.specs.Naming.{Occurrence}
 use Rattle.wasm_body.specs.Parsing.Accepted.{Setting, Accepted, FirstFault}
-use Rattle.wasm_body.proofs.Parsing.Answers.{accepted_has_no_fault, one_first_fault, accepted_or_fault}
+use Rattle.wasm_body.proofs.Parsing.ParseResults.{accepted_has_no_fault, one_first_fault, accepted_or_fault}
 use Rattle.walrus_parser.specs.Settings.{operators_of}
 use Rattle.walrus_run.specs.NamedBodies.{BodyNames, names_of}
 use Rattle.walrus_run.specs.Namers.{AreLeft}

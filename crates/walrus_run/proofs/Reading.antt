@@ -32,21 +32,21 @@ module _ (env : Environment) where
   pub others_left : (at next : Position) (x : Occurrence) (xs : List Occurrence) → (left : AreLeft env at (x ∷ xs)) → Moves at left.spelt.1 next → AreLeft env next xs
   others_left at next x xs left moves =
       let text = left.spelt.1 in
-      let behind : left.spelt.2 ≡ next.rest = append_cancel_left text left.spelt.2 next.rest (sym left.spelt.3 ∙ moves.parts) in
+      let following : left.spelt.2 ≡ next.rest = append_cancel_left text left.spelt.2 next.rest (sym left.spelt.3 ∙ moves.parts) in
       record {
-        spelt = subst (λ bytes. Lists (map placed xs) next.place bytes []) behind (subst (λ place. Lists (map placed xs) place left.spelt.2 []) (sym moves.place) left.spelt.5);
+        spelt = subst (λ bytes. Lists (map placed xs) next.place bytes []) following (subst (λ place. Lists (map placed xs) place left.spelt.2 []) (sym moves.place) left.spelt.5);
         named = left.named.1;
       }
 
   -- the result is the name, unless memory runs out
-  pub name_answered : (x : Occurrence) (o : RawOperation) (r : Result NamedOp ParseError) → HasName env x → o ≡ x.spelt → GivesOrMemory named_operation r (translate (anywhere env) o)
+  pub name_returned : (x : Occurrence) (o : RawOperation) (r : Result NamedOp ParseError) → HasName env x → o ≡ x.spelt → GivesOrMemory named_operation r (translate (anywhere env) o)
       → IfErr r (λ e. e ≡ Memory) × IfOk r (λ n. named_operation n ≡ x.named)
-  name_answered x o (Ok n) has is given = (tt, same (sym (sym given ∙ ap (translate (anywhere env)) is ∙ has)))
+  name_returned x o (Ok n) has is given = (tt, same (sym (sym given ∙ ap (translate (anywhere env)) is ∙ has)))
     where
       same : {A : Type 0} {p q : A} → (let r : Result A ParseError = Ok p in r) ≡ Ok q → q ≡ p
       same e = cc
-  name_answered x o (Err e) has is (inl memory) = (memory, tt)
-  name_answered x o (Err e) has is (inr refused) =
+  name_returned x o (Err e) has is (inl memory) = (memory, tt)
+  name_returned x o (Err e) has is (inr refused) =
       absurd (let both : (let r : Result NamedOperation ParseError = Err e in r) ≡ Ok x.named = sym refused ∙ ap (translate (anywhere env)) is ∙ has in cc)
 
 -- ---- the operators taken come before the remaining ones

@@ -28,7 +28,7 @@ use Rattle.wasm_body.specs.Pairs.{Pair}
 use Rattle.wasm_body.specs.Parsing.Accepted.{Accepted, FirstFault, placed}
 use Rattle.wasm_body.specs.Parsing.Lists.{parsed}
 use Rattle.wasm_body.specs.Bytes.{tree_bytes}
-use Rattle.wasm_body.proofs.Parsing.Answers.{accepted_parsed, fault_parsed}
+use Rattle.wasm_body.proofs.Parsing.ParseResults.{accepted_parsed, fault_parsed}
 use Rattle.wasm_body.proofs.Bytes.NumberedBodies.{HasText}
 use Rattle.walrus_maps.specs.declared.indices_to_ids.IndicesToIds.{IndicesToIds}
 use Rattle.walrus_maps.specs.declared.ids_to_indices.IdsToIndices.{IdsToIndices}
@@ -43,13 +43,13 @@ use Rattle.walrus_facts.proofs.LocalsOfTrees.{count_of_tree}
 use Rattle.walrus_rewrite.specs.declared.error.RewriteError.{RewriteError}
 use Rattle.walrus_rewrite.specs.declared.error.RewriteError.TheVariants.{Parse}
 use Rattle.walrus_run.specs.Demo.{demo_module, demo_types, demo_indices, demo_locals, demo_args, demo_environment, demo, demo_numbers}
-use Rattle.walrus_rewrite.specs.RawBodies.{Given, given, IsRawBodyOf, HasNoRawBody}
+use Rattle.walrus_rewrite.specs.RawBodies.{EmitInput, emit_input, IsRawBodyOf, HasNoRawBody}
 use Rattle.walrus_run.specs.Rewriting.{IsNormalBytes, IsRewritten, IsParsed, IsFaulty}
-use Rattle.walrus_rewrite.specs.Errors.{WantsMemory}
+use Rattle.walrus_rewrite.specs.Errors.{IsOutOfMemory}
 use Rattle.walrus_rewrite.proofs.Counts.{few_instructions}
 use Rattle.walrus_run.proofs.DemoLocals.{has_raw_body}
 use Rattle.walrus_rewrite.proofs.OneTree.{from_slot, only_tree, begins}
-use Rattle.walrus_rewrite.proofs.SameAnswers.{same_answer, same_refusal, not_both}
+use Rattle.walrus_rewrite.proofs.SameResults.{same_result, same_refusal, not_both}
 
 abbrev pub demo_tree : Body Occurrence → FunctionTree
 demo_tree b = body_tree demo_environment b
@@ -66,8 +66,8 @@ accepted_texts ops b a = listed_texts a.operators _ ops [] a.all.spelt
 
 -- ---- a function that a parse in the demo module made
 
-abbrev pub demo_given : Given
-demo_given = record { to = demo_numbers; types = demo_locals; args = demo_args }
+abbrev pub demo_emit_input : EmitInput
+demo_emit_input = record { to = demo_numbers; types = demo_locals; args = demo_args }
 
 module _ (f : Function) (p : IsParsed f) where
   abbrev tree : FunctionTree
@@ -91,33 +91,33 @@ module _ (f : Function) (p : IsParsed f) where
       absurd (omega (arith, t.holds, counted, bounded, p.few))
 
   -- and it has a raw body
-  pub no_fault : (e : EmitError) → (e ≡ Memory) ⊎ ((t : FunctionTree) × HasTree f.sequences (first_slot f) t × HasNoRawBody demo_given t e) → e ≡ Memory
+  pub no_fault : (e : EmitError) → (e ≡ Memory) ⊎ ((t : FunctionTree) × HasTree f.sequences (first_slot f) t × HasNoRawBody demo_emit_input t e) → e ≡ Memory
   no_fault e (inl memory) = memory
   no_fault e (inr h) =
       let same = only_tree f tree p.is_function h.0 h.1 in
-      absurd (has_raw_body p.accepted.operators p.body (accepted_texts p.ops p.body p.accepted) p.accepted.lawful e (subst (λ t. HasNoRawBody demo_given t e) same h.2))
+      absurd (has_raw_body p.accepted.operators p.body (accepted_texts p.ops p.body p.accepted) p.accepted.lawful e (subst (λ t. HasNoRawBody demo_emit_input t e) same h.2))
 
   -- whose bytes after the declarations are those of the normal form
-  pub normal_bytes : (g : Given) → g ≡ demo_given → (raw : List ℕ) (pairs : List Pair) (r : IsRawBodyOf g f raw pairs) (out : List ℕ)
-      → out ≡ drop (length (encoded.declarations r.is_raw_body.declarations)) raw → (b : Body Occurrence) → IsFunction f (demo_tree b) → IsNormalBytes b out
+  pub normal_bytes : (g : EmitInput) → g ≡ demo_emit_input → (raw : List ℕ) (pairs : List Pair) (r : IsRawBodyOf g f raw pairs) (out : List ℕ)
+      → out ≡ drop (length (encoded.declaration_bytes r.is_raw_body.declarations)) raw → (b : Body Occurrence) → IsFunction f (demo_tree b) → IsNormalBytes b out
   normal_bytes g same raw pairs r out is b has =
       let tree_is = only_tree f (demo_tree b) has r.tree r.has_tree in
       let w = r.is_raw_body in
-      let declared = encoded.declarations w.declarations in
+      let declared = encoded.declaration_bytes w.declarations in
       let written = is ∙ (ap (λ l. drop (length declared) l) w.bytes_are ∙ drop-append_seam declared w.operators) in
       record {
         others = w.others;
-        are_declared = subst (λ (h : Given). AreDeclared h.types h.args (uses_local (demo_tree b)) w.others) same (subst (λ t. AreDeclared g.types g.args (uses_local t) w.others) tree_is w.are_declared);
+        are_declared = subst (λ (h : EmitInput). AreDeclared h.types h.args (uses_local (demo_tree b)) w.others) same (subst (λ t. AreDeclared g.types g.args (uses_local t) w.others) tree_is w.are_declared);
         bytes_are =
-            subst (λ (h : Given). tree_bytes (with_locals h.to h.args (ids_of w.others)) (demo_tree b) ≡ Ok w.operators) same
+            subst (λ (h : EmitInput). tree_bytes (with_locals h.to h.args (ids_of w.others)) (demo_tree b) ≡ Ok w.operators) same
             (subst (λ t. tree_bytes (with_locals g.to g.args (ids_of w.others)) t ≡ Ok w.operators) tree_is w.operators_are)
             ∙ ap Ok (sym written);
       }
 
 -- the numbers, types and arguments of the demo module's functions
-pub same_given : (out : IdsToIndices) (m : Module) (f : FunctionParts) → numbers_by demo_types out [] ≡ demo_numbers → m ≡ demo_module → f.args ≡ demo_args
-    → given out m f ≡ demo_given
-same_given out m f numbers module_is args =
+pub same_emit_input : (out : IdsToIndices) (m : Module) (f : FunctionParts) → numbers_by demo_types out [] ≡ demo_numbers → m ≡ demo_module → f.args ≡ demo_args
+    → emit_input out m f ≡ demo_emit_input
+same_emit_input out m f numbers module_is args =
     let to : numbers_by m.types out [] ≡ demo_numbers = ap (λ (n : Module). numbers_by n.types out []) module_is ∙ numbers in
     λ k. record { to = to k; types = (module_is k).locals; args = args k }
 
@@ -138,7 +138,7 @@ module _ {F : Type 0} (g : Shared F (Bor ℕ × Unit {0}) ℕ) (m : Module) (i :
 -- a refusal doesn't depend on a location function
 pub demo_refuses : (m : Module) (i : IndicesToIds) (function type : ℕ) → m ≡ demo_module → i ≡ demo_indices → function ≡ 0 → type ≡ 1 → (ops : List ℕ) (f : ParseFailure) →
     (f.error ≡ parse.Memory) ⊎ ((locations : Option (ℕ → ℕ)) → (let none : Option (Bor ℕ) = None in BothOrNone none locations) → FirstFault (setting_with (demo_input {F = ℕ} m i function type ops) locations) ops f) →
-    WantsMemory (Parse f) ⊎ IsFaulty ops (Parse f)
+    IsOutOfMemory (Parse f) ⊎ IsFaulty ops (Parse f)
 demo_refuses m i function type m_is i_is function_is type_is ops f (inl memory) = inl memory
 demo_refuses m i function type m_is i_is function_is type_is ops f (inr fault) =
     let same : demo_input {F = ℕ} m i function type ops ≡ demo_input demo_module demo_indices 0 1 ops = λ k. demo_input (m_is k) (i_is k) (function_is k) (type_is k) ops in
@@ -147,12 +147,12 @@ demo_refuses m i function type m_is i_is function_is type_is ops f (inr fault) =
 -- ---- each body and each fault
 
 -- the bytes of an accepted body are returned; it is refused only if memory runs out
-pub body_answered : (ops out : List ℕ) (b : Body Occurrence) → Accepted demo ops b → IsRewritten ops out → IsNormalBytes b out
-body_answered ops out b a w =
+pub body_returned : (ops out : List ℕ) (b : Body Occurrence) → Accepted demo ops b → IsRewritten ops out → IsNormalBytes b out
+body_returned ops out b a w =
     subst (λ (c : Body Occurrence). IsNormalBytes c out)
-    (same_answer (parsed demo ops) w.0 b (accepted_parsed demo reading_agrees ops w.0 w.1) (accepted_parsed demo reading_agrees ops b a)) w.2
+    (same_result (parsed demo ops) w.0 b (accepted_parsed demo reading_agrees ops w.0 w.1) (accepted_parsed demo reading_agrees ops b a)) w.2
 
-pub body_not_refused : (ops : List ℕ) (e : RewriteError) (b : Body Occurrence) → Accepted demo ops b → WantsMemory e ⊎ IsFaulty ops e → WantsMemory e
+pub body_not_refused : (ops : List ℕ) (e : RewriteError) (b : Body Occurrence) → Accepted demo ops b → IsOutOfMemory e ⊎ IsFaulty ops e → IsOutOfMemory e
 body_not_refused ops e b a (inl memory) = memory
 body_not_refused ops e b a (inr f) = absurd (not_both (parsed demo ops) b f.0 (accepted_parsed demo reading_agrees ops b a) (fault_parsed demo reading_agrees ops f.0 f.1))
 
@@ -160,7 +160,7 @@ body_not_refused ops e b a (inr f) = absurd (not_both (parsed demo ops) b f.0 (a
 pub fault_not_written : (ops out : List ℕ) (f : ParseFailure) → FirstFault demo ops f → IsRewritten ops out → ⊥
 fault_not_written ops out f fault w = not_both (parsed demo ops) w.0 f (accepted_parsed demo reading_agrees ops w.0 w.1) (fault_parsed demo reading_agrees ops f fault)
 
-pub fault_answered : (ops : List ℕ) (e : RewriteError) (f : ParseFailure) → FirstFault demo ops f → WantsMemory e ⊎ IsFaulty ops e → WantsMemory e ⊎ (e ≡ Parse f)
-fault_answered ops e f fault (inl memory) = inl memory
-fault_answered ops e f fault (inr g) =
+pub fault_returned : (ops : List ℕ) (e : RewriteError) (f : ParseFailure) → FirstFault demo ops f → IsOutOfMemory e ⊎ IsFaulty ops e → IsOutOfMemory e ⊎ (e ≡ Parse f)
+fault_returned ops e f fault (inl memory) = inl memory
+fault_returned ops e f fault (inr g) =
     inr (g.2 ∙ ap Parse (same_refusal (parsed demo ops) g.0 f (fault_parsed demo reading_agrees ops g.0 g.1) (fault_parsed demo reading_agrees ops f fault)))

@@ -14,11 +14,11 @@ mod trace_words;
 
 pub use execution::execute;
 pub use named_body::NamedBody;
-pub use program::run_words;
+pub use program::run_arguments;
 pub use rewriting::rewrite_demo;
 pub use walrus_body::{
-    law_accepted_again, law_any_locations, law_emission_faults, law_empty_goes_on, law_executions,
-    law_inverse_undoes, law_locations, law_read_back, law_validity,
+    law_accepted_again, law_any_locations, law_emission_faults, law_empty_continues,
+    law_executions, law_inverse_undoes, law_locations, law_read_back, law_validity,
 };
 pub use walrus_machine::{
     Ending, Event, NamedBlockType, NamedCast, NamedCatch, NamedImmediates, NamedIndex, NamedMemArg,

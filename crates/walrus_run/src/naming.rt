@@ -53,7 +53,7 @@ fn block_type(
 }
 
 /// Pushes an item.
-fn pushed<T: Drop>(list: &mut Vec<T>, item: T) -> Result<(), ParseError>
+fn push_or_fail<T: Drop>(list: &mut Vec<T>, item: T) -> Result<(), ParseError>
     ensures ok { OnOk result (list.new.items ≡ list.old.items ++ item ∷ []) }
     ensures err { IfErr result (λ e. e ≡ ParseFault.Memory) }
 {
@@ -163,7 +163,7 @@ impl Namer<'_> {
                 tag,
                 label: clause.label,
             };
-            match pushed(&mut made, clause) {
+            match push_or_fail(&mut made, clause) {
                 Ok(()) => {}
                 Err(error) => return Err(error),
             }

@@ -17,58 +17,58 @@ use walrus_rewrite::RewriteError;
 /// Why nothing is printed to standard output. Its text is the line that is printed to standard
 /// error instead.
 #[derive(Debug, Drop, Error)]
-enum Stop {
+enum Failure {
     #[error("usage: wbody rewrite HEX | wbody trace TURNS OUTCOMES HEX")]
-    WrongUse,
+    UsageError,
     #[error("refused: {name} at {at}")]
     RefusedAt { name: &'static str, at: usize },
     #[error("refused: {name}")]
     Refused { name: &'static str },
 }
 
-const OUT_OF_MEMORY: Stop = Stop::Refused { name: "Memory" };
+const OUT_OF_MEMORY: Failure = Failure::Refused { name: "Memory" };
 
-impl From<AllocError> for Stop {
-    fn from(_: AllocError) -> Stop {
+impl From<AllocError> for Failure {
+    fn from(_: AllocError) -> Failure {
         OUT_OF_MEMORY
     }
 }
 
-impl From<hex::FromHexError> for Stop {
-    fn from(error: hex::FromHexError) -> Stop {
+impl From<hex::FromHexError> for Failure {
+    fn from(error: hex::FromHexError) -> Failure {
         match error {
             hex::FromHexError::OutOfMemory => OUT_OF_MEMORY,
-            _ => Stop::WrongUse,
+            _ => Failure::UsageError,
         }
     }
 }
 
-impl From<RewriteError> for Stop {
-    fn from(error: RewriteError) -> Stop {
+impl From<RewriteError> for Failure {
+    fn from(error: RewriteError) -> Failure {
         let name = rewrite_name(error);
         match error {
             RewriteError::Parse(failure) if failure.error != ParseError::Memory => {
-                Stop::RefusedAt {
+                Failure::RefusedAt {
                     name,
                     at: failure.at,
                 }
             }
-            _ => Stop::Refused { name },
+            _ => Failure::Refused { name },
         }
     }
 }
 
-impl Stop {
+impl Failure {
     fn status(&self) -> u8 {
         match self {
-            Stop::WrongUse => 2,
-            Stop::RefusedAt { .. } | Stop::Refused { .. } => 1,
+            Failure::UsageError => 2,
+            Failure::RefusedAt { .. } | Failure::Refused { .. } => 1,
         }
     }
 }
 
 /// The written operators of a body, as hexadecimal text.
-fn rewritten(alloc: Global, body: &str) -> Result<String, Stop> {
+fn rewritten(alloc: Global, body: &str) -> Result<String, Failure> {
     let body = hex::decode(alloc, body)?;
     let written = rewrite_demo(alloc, &body)?;
     Ok(hex::encode(alloc, written)?)
@@ -99,9 +99,9 @@ fn traced(
     turns_word: &str,
     outcomes_word: &str,
     body: &str,
-) -> Result<String, Stop> {
+) -> Result<String, Failure> {
     let (Some(turns), Some(outcomes)) = (turns(turns_word), outcomes(alloc, outcomes_word)?) else {
-        return Err(Stop::WrongUse);
+        return Err(Failure::UsageError);
     };
     let bytes = hex::decode(alloc, body)?;
     let body = read_demo(alloc, &bytes)?;
@@ -110,7 +110,7 @@ fn traced(
 }
 
 /// The output for these arguments, without the last line end.
-fn answer(alloc: Global, words: &[String]) -> Result<String, Stop> {
+fn output_of(alloc: Global, words: &[String]) -> Result<String, Failure> {
     match words {
         [command, body] if command.as_str() == "rewrite" => rewritten(alloc, body.as_str()),
         [command, turns, outcomes, body] if command.as_str() == "trace" => traced(
@@ -119,7 +119,7 @@ fn answer(alloc: Global, words: &[String]) -> Result<String, Stop> {
             outcomes.as_str(),
             body.as_str(),
         ),
-        _ => Err(Stop::WrongUse),
+        _ => Err(Failure::UsageError),
     }
 }
 
@@ -136,15 +136,15 @@ fn answer(alloc: Global, words: &[String]) -> Result<String, Stop> {
 /// TURNS is a decimal number. OUTCOMES is `-` for none, or items with commas between them: `g` goes
 /// on, `t` traps, `1` and `0` say whether a branch is taken or a condition holds, `e` with a number
 /// is the operand of a `br_table`, and `r` with tags, which have a `+` between them, raises.
-pub fn run_words<W: Write, E: Write>(
+pub fn run_arguments<W: Write, E: Write>(
     alloc: Global,
     words: &[String],
     out: &mut W,
     err: &mut E,
 ) -> u8 {
-    let (written, status) = match answer(alloc, words) {
+    let (written, status) = match output_of(alloc, words) {
         Ok(line) => (writeln!(out, "{line}"), 0),
-        Err(stop) => (writeln!(err, "{stop}"), stop.status()),
+        Err(refusal) => (writeln!(err, "{refusal}"), refusal.status()),
     };
     if written.is_ok() { status } else { 1 }
 }

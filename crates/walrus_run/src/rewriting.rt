@@ -10,7 +10,7 @@ ghost use Rattle.walrus_numbering.specs.NumberMaps.{numbers_by};
 ghost use Rattle.walrus_rewrite.specs.declared.error.RewriteError.TheVariants.{Parse};
 ghost use Rattle.walrus_run.specs.Demo.{demo, demo_module, demo_types, demo_indices, demo_args, demo_environment, demo_numbers};
 ghost use Rattle.walrus_run.specs.Rewriting.{IsNormalBytes, IsRewritten, IsParsed, IsFaulty};
-ghost use Rattle.walrus_rewrite.specs.Errors.{WantsMemory};
+ghost use Rattle.walrus_rewrite.specs.Errors.{IsOutOfMemory};
 
 use crate::demo;
 use std::alloc::{AllocError, Global};
@@ -20,7 +20,11 @@ use walrus_rewrite::{RewriteError, begin_body};
 use wasm_encode::FunctionEncoder;
 
 /// The bytes of an encoder after the first `count`.
-fn behind(alloc: Global, encoder: &FunctionEncoder, count: usize) -> Result<Vec<u8>, AllocError>
+fn bytes_after(
+    alloc: Global,
+    encoder: &FunctionEncoder,
+    count: usize,
+) -> Result<Vec<u8>, AllocError>
     requires { count ≤ length encoder.now }
     ensures { IfOk result (λ out. out.items ≡ drop count encoder.now) }
 {
@@ -44,7 +48,7 @@ fn written_operators(
     ensures ok { IfOk result (λ out. (b : Body Occurrence)
         → IsFunction function.now.builder (body_tree demo_environment b)
         → IsNormalBytes b out.items) }
-    ensures err { IfErr result WantsMemory }
+    ensures err { IfErr result IsOutOfMemory }
 {
     let facts = match function.emit_facts() {
         Ok(facts) => facts,
@@ -57,7 +61,7 @@ fn written_operators(
     };
     let declared = encoder.byte_len();
     match function.emit_instructions(&module.types, numbers, &locals, &mut encoder, None) {
-        Ok(()) => Ok(behind(alloc, &encoder, declared)?),
+        Ok(()) => Ok(bytes_after(alloc, &encoder, declared)?),
         Err(fault) => Err(RewriteError::Emit(fault)),
     }
 }
@@ -74,7 +78,7 @@ fn rewrite(
     requires indices_are { indices.now ≡ demo_indices }
     requires numbers_are { numbers_by demo_types numbers.now [] ≡ demo_numbers }
     ensures ok { IfOk result (λ out. IsRewritten ops.now out.items) }
-    ensures err { IfErr result (λ e. WantsMemory e ⊎ IsFaulty ops.now e) }
+    ensures err { IfErr result (λ e. IsOutOfMemory e ⊎ IsFaulty ops.now e) }
 {
     let body = FunctionBody {
         bytes: ops,
@@ -115,11 +119,11 @@ pub fn rewrite_demo(alloc: Global, ops: &[u8]) -> Result<Vec<u8>, RewriteError>
     // The result is the bytes of an accepted body's normal form, and a refusal is for the first
     // fault.
     ensures written { IfOk result (λ out. IsRewritten ops.now out.items) }
-    ensures refused { IfErr result (λ e. WantsMemory e ⊎ IsFaulty ops.now e) }
+    ensures refused { IfErr result (λ e. IsOutOfMemory e ⊎ IsFaulty ops.now e) }
 
     // Unless memory runs out, each accepted body is rewritten and each first fault is reported.
-    ensures each_body { (b : Body Occurrence) → Accepted demo ops.now b → IfErr result WantsMemory × IfOk result (λ out. IsNormalBytes b out.items) }
-    ensures each_fault { (f : Failure) → FirstFault demo ops.now f → IsErr result × IfErr result (λ e. WantsMemory e ⊎ (e ≡ Parse f)) }
+    ensures each_body { (b : Body Occurrence) → Accepted demo ops.now b → IfErr result IsOutOfMemory × IfOk result (λ out. IsNormalBytes b out.items) }
+    ensures each_fault { (f : Failure) → FirstFault demo ops.now f → IsErr result × IfErr result (λ e. IsOutOfMemory e ⊎ (e ≡ Parse f)) }
 {
     let module = demo::module(alloc)?;
     let (Ok(indices), Ok(numbers)) = (demo::indices(alloc), demo::numbers(alloc)) else {

@@ -2,7 +2,7 @@
 pub mod Structure
 -- translations of operators: one after the other, and those that fail alike; the kinds of immediates, which translations keep
 pub mod Translation
--- the result of parsing on lists is the accepted body or the first fault (`law_one_answer`)
+-- the result of parsing on lists is the accepted body or the first fault (`law_one_result`)
 pub mod Parsing
 -- the text of a normal form is a body, and its normal form is the same tree; arenas and sequences that grow, for the parser
 pub mod NormalForm

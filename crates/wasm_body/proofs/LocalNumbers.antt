@@ -32,27 +32,27 @@ not_both l m a b =
     let less : Less ≡ ordering_reverse Less = sym a ∙ (turned ∙ ap ordering_reverse b) in
     cc
 
-abbrev pub Stands : Local → List Local → Type 0
-Stands x [] = ⊥
-Stands x (l ∷ ls) = (x ≡ l) ⊎ Stands x ls
+abbrev pub IsLocalIn : Local → List Local → Type 0
+IsLocalIn x [] = ⊥
+IsLocalIn x (l ∷ ls) = (x ≡ l) ⊎ IsLocalIn x ls
 
 -- each local is below all that follow it
 abbrev pub Ascends : List Local → Type 0
 Ascends [] = Unit {0}
 Ascends (l ∷ ls) = AllByRecursion (Below l) ls × Ascends ls
 
-pub stands_all : (P : Local → Type 0) (x : Local) (ls : List Local) → AllByRecursion P ls → Stands x ls → P x
-stands_all P x [] h s = absurd s
-stands_all P x (l ∷ ls) h (inl e) = subst P (sym e) h.0
-stands_all P x (l ∷ ls) h (inr s) = stands_all P x ls h.1 s
+pub holds_of_local : (P : Local → Type 0) (x : Local) (ls : List Local) → AllByRecursion P ls → IsLocalIn x ls → P x
+holds_of_local P x [] h s = absurd s
+holds_of_local P x (l ∷ ls) h (inl e) = subst P (sym e) h.0
+holds_of_local P x (l ∷ ls) h (inr s) = holds_of_local P x ls h.1 s
 
 all_below : (l m : Local) (ls : List Local) → Below l m → AllByRecursion (Below m) ls → AllByRecursion (Below l) ls
 all_below l m [] h a = tt
 all_below l m (k ∷ ls) h a = (local_order-total.trans l m k h a.0, all_below l m ls h a.1)
 
 -- a relation of neighbours in a list is one of neighbours in its tail
-behind_first : {A : Type 0} (R : A → A → Type 0) (x : A) (xs : List A) → AllAdjacentBelow R (x ∷ xs) (length (x ∷ xs)) → AllAdjacentBelow R xs (length xs)
-behind_first R x xs h = λ k d within.
+after_first : {A : Type 0} (R : A → A → Type 0) (x : A) (xs : List A) → AllAdjacentBelow R (x ∷ xs) (length (x ∷ xs)) → AllAdjacentBelow R xs (length xs)
+after_first R x xs h = λ k d within.
     let next : suc k + 1 ≡ suc (k + 1) = omega arith in
     subst (λ n. R (get_or xs k d) (get_or (x ∷ xs) n d)) next (h (suc k) d (omega arith))
 
@@ -63,13 +63,13 @@ pub ascends : (ls : List Local) → AllAdjacentBelow Below ls (length ls) → As
 ascends [] h = tt
 ascends (l ∷ []) h = (tt, tt)
 ascends (l ∷ m ∷ ls) h =
-    let rest = ascends (m ∷ ls) (behind_first Below l (m ∷ ls) h) in
+    let rest = ascends (m ∷ ls) (after_first Below l (m ∷ ls) h) in
     let first = first_two Below l m ls h in
     ((first, all_below l m ls first rest.0), rest)
 
 -- two ascending lists of the same locals are equal
 abbrev Within : List Local → List Local → Type 0
-Within ls ms = (x : Local) → Stands x ls → Stands x ms
+Within ls ms = (x : Local) → IsLocalIn x ls → IsLocalIn x ms
 
 same_first : (l m : Local) (ls ms : List Local) → Ascends (l ∷ ls) → Ascends (m ∷ ms) → Within (l ∷ ls) (m ∷ ms) → Within (m ∷ ms) (l ∷ ls) → l ≡ m
 same_first l m ls ms a b to from =
@@ -77,7 +77,7 @@ same_first l m ls ms a b to from =
       | inl e ↦ e
       | inr s ↦ elim (from m (inl refl)) [
         | inl e ↦ sym e
-        | inr t ↦ absurd (not_both l m (stands_all (Below l) m ls a.0 t) (stands_all (Below m) l ms b.0 s))
+        | inr t ↦ absurd (not_both l m (holds_of_local (Below l) m ls a.0 t) (holds_of_local (Below m) l ms b.0 s))
       ]
     ]
 
@@ -85,7 +85,7 @@ within_rest : (l m : Local) (ls ms : List Local) → l ≡ m → AllByRecursion 
 within_rest l m ls ms e below to x s =
     elim (to x (inr s)) [
       | inl f ↦
-          let less = stands_all (Below l) x ls below s in
+          let less = holds_of_local (Below l) x ls below s in
           let same : x ≡ l = f ∙ sym e in
           absurd (not_both l l (subst (Below l) same less) (subst (Below l) same less))
       | inr t ↦ t
@@ -102,30 +102,30 @@ same_locals (l ∷ ls) (m ∷ ms) a b to from =
 
 -- ---- at most one list is declared
 
-pub stands_among : (x : Local) (ls : List Local) → Stands x ls → among x.1 (ids_of ls) ≡ true
-stands_among x [] s = absurd s
-stands_among x (l ∷ ls) (inl e) = ap (λ b. b || among x.1 (ids_of ls)) (eq-eqb x.1 l.1 (ap (λ (k : Local). k.1) e))
-stands_among x (l ∷ ls) (inr s) = ap (λ b. (x.1 == l.1) || b) (stands_among x ls s) ∙ or-true (x.1 == l.1)
+pub local_among : (x : Local) (ls : List Local) → IsLocalIn x ls → among x.1 (ids_of ls) ≡ true
+local_among x [] s = absurd s
+local_among x (l ∷ ls) (inl e) = ap (λ b. b || among x.1 (ids_of ls)) (eq-eqb x.1 l.1 (ap (λ (k : Local). k.1) e))
+local_among x (l ∷ ls) (inr s) = ap (λ b. (x.1 == l.1) || b) (local_among x ls s) ∙ or-true (x.1 == l.1)
 
-abbrev StandsWith : ℕ → List Local → Type 0
-StandsWith id ls = (x : Local) × (x.1 ≡ id) × Stands x ls
+abbrev IsIdIn : ℕ → List Local → Type 0
+IsIdIn id ls = (x : Local) × (x.1 ≡ id) × IsLocalIn x ls
 
-among_stands : (id : ℕ) (ls : List Local) → among id (ids_of ls) ≡ true → StandsWith id ls
-among_stands id [] h = cc
-among_stands id (l ∷ ls) h =
-    elim (id == l.1) as (λ b. (id == l.1) ≡ b → (b || among id (ids_of ls)) ≡ true → StandsWith id (l ∷ ls)) [
+among_local : (id : ℕ) (ls : List Local) → among id (ids_of ls) ≡ true → IsIdIn id ls
+among_local id [] h = cc
+among_local id (l ∷ ls) h =
+    elim (id == l.1) as (λ b. (id == l.1) ≡ b → (b || among id (ids_of ls)) ≡ true → IsIdIn id (l ∷ ls)) [
       | true ↦ λ same all. (l, sym (eqb-true id l.1 same), inl refl)
-      | false ↦ λ other all. let found = among_stands id ls all in (found.0, found.1, inr found.2)
+      | false ↦ λ other all. let found = among_local id ls all in (found.0, found.1, inr found.2)
     ] refl h
 
 module _ {types : List (ValType ℕ)} {args : List ℕ} {used : ℕ → Bool} where
   declared_within : (ls ms : List Local) → AreDeclared types args used ls → AreDeclared types args used ms → Within ls ms
   declared_within ls ms a b x s =
-      let found = among_stands x.1 ms (b.are_all x.1 ∙ sym (a.are_all x.1) ∙ stands_among x ls s) in
-      let mine : slice_get types x.1 ≡ Some x.0 = stands_all (λ l. slice_get types l.1 ≡ Some l.0) x ls (recursion_from_All _ ls a.typed) s in
-      let its : slice_get types found.0.1 ≡ Some found.0.0 = stands_all (λ l. slice_get types l.1 ≡ Some l.0) found.0 ms (recursion_from_All _ ms b.typed) found.2 in
+      let found = among_local x.1 ms (b.are_all x.1 ∙ sym (a.are_all x.1) ∙ local_among x ls s) in
+      let mine : slice_get types x.1 ≡ Some x.0 = holds_of_local (λ l. slice_get types l.1 ≡ Some l.0) x ls (recursion_from_All _ ls a.typed) s in
+      let its : slice_get types found.0.1 ≡ Some found.0.0 = holds_of_local (λ l. slice_get types l.1 ≡ Some l.0) found.0 ms (recursion_from_All _ ms b.typed) found.2 in
       let type : found.0.0 ≡ x.0 = same_Some _ _ (sym its ∙ (ap (slice_get types) found.1 ∙ mine)) in
-      subst (λ (y : Local). Stands y ms) (λ i. (type i, found.1 i)) found.2
+      subst (λ (y : Local). IsLocalIn y ms) (λ i. (type i, found.1 i)) found.2
 
 pub one_declared : OneDeclared
 one_declared types args used ls ms a b =
@@ -264,7 +264,7 @@ maximal_one r k d within = absurd (omega arith)
 maximal_longer : (n : ℕ) (t : ValType ℕ) (r : ℕ × ValType ℕ) (rs : List (ℕ × ValType ℕ)) → t ≡ r.1 → Maximal (r ∷ rs) → Maximal ((n, t) ∷ rs)
 maximal_longer n t r [] same h = maximal_one (n, t)
 maximal_longer n t r (s ∷ rs) same h =
-    maximal_cons (n, t) s rs (subst (λ u. same_type u s.1 ≡ false) (sym same) (first_two Differ r s rs h)) (behind_first Differ r (s ∷ rs) h)
+    maximal_cons (n, t) s rs (subst (λ u. same_type u s.1 ≡ false) (sym same) (first_two Differ r s rs h)) (after_first Differ r (s ∷ rs) h)
 
 one_more_maximal : (t : ValType ℕ) (rs : List (ℕ × ValType ℕ)) → Maximal rs → Maximal (one_more t rs)
 one_more_maximal t [] h = maximal_one (1, t)

@@ -2,5 +2,5 @@
 pub mod NamingLemmas
 pub mod Parses
 pub mod Stops
-pub mod Answers
+pub mod ParseResults
 pub mod Longest

@@ -4,5 +4,5 @@ pub mod ReadTexts
 pub mod ReadFrames
 pub mod ReadingSequences
 pub mod Along
-pub mod Reshown
+pub mod Mapped
 pub mod Lifted

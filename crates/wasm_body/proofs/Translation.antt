@@ -4,4 +4,4 @@ pub mod Kinds
 pub mod LocalsKept
 pub mod Translations
 pub mod Outcomes
-pub mod Answering
+pub mod Faults

@@ -14,15 +14,15 @@ use Rattle.wasm_body.specs.Bytes.{Numbers, tree_bytes}
 use Rattle.wasm_body.specs.LocalNumbers.{Local, declared}
 
 -- An id, or a local, has no number.
-abbrev pub IsUnnumbered : EmitError → Type 0
-IsUnnumbered (Index (Unnumbered space)) = Unit {0}
-IsUnnumbered UnnumberedLocal = Unit {0}
-IsUnnumbered _ = ⊥
+abbrev pub HasNoNumber : EmitError → Type 0
+HasNoNumber (Index (Unnumbered space)) = Unit {0}
+HasNoNumber UnnumberedLocal = Unit {0}
+HasNoNumber _ = ⊥
 
 -- The result is a number that fits 32 bits, or there is no number.
 abbrev pub IsNumber : Result ℕ EmitError → Type 0
 IsNumber (Ok n) = n < 2 ^ 32
-IsNumber (Err e) = IsUnnumbered e
+IsNumber (Err e) = HasNoNumber e
 
 abbrev pub AreIdNumbers : Numbers → Type 0
 AreIdNumbers to = (space : Space) (id : ℕ) → IsNumber (to.number_of space id)
@@ -36,10 +36,10 @@ pub record AreNumbers (to : Numbers) : Type 0 where
 abbrev pub EmissionFaults : Type 0
 EmissionFaults =
     (env : Environment) (xs : List Occurrence) (b : Body Occurrence) → AllByRecursion HasSpelling xs → Lawful env xs b →
-    (to : Numbers) → AreNumbers to → (e : EmitError) → tree_bytes to (body_tree env b) ≡ Err e → IsUnnumbered e
+    (to : Numbers) → AreNumbers to → (e : EmitError) → tree_bytes to (body_tree env b) ≡ Err e → HasNoNumber e
 
 -- Locals can be declared, unless there are too many, or an id in their types has no number.
 abbrev pub DeclarationFaults : Type 0
 DeclarationFaults =
     (to : Numbers) → AreIdNumbers to → (arguments : ℕ) (locals : List Local) (e : EmitError) → declared to arguments locals ≡ Err e →
-    (e ≡ TooLarge) ⊎ IsUnnumbered e
+    (e ≡ TooLarge) ⊎ HasNoNumber e

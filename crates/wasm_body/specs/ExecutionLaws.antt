@@ -68,8 +68,8 @@ CountSuffices =
 
 -- A sequence whose normal form is empty executes nothing and goes on: at its first operator the machine does what it does at the
 -- place after its last one, with as many operators less to go. So to enter an `else` that isn't written is to go on after its `end`.
-abbrev pub EmptyGoesOn : Type 0
-EmptyGoesOn =
+abbrev pub EmptyContinues : Type 0
+EmptyContinues =
     (m : Typing) (s : Sequence (Located NamedOperation)) → normal m s ≡ no_items →
     (again : From (Located NamedOperation)) (count : ℕ) (rest : List (Marked (Located NamedOperation))) (labels : List (Label (Located NamedOperation)))
     (outcomes : List Outcome) → straight again (length (text s []) + count) (text s rest) labels outcomes ≡ straight again count rest labels outcomes

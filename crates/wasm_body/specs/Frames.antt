@@ -102,22 +102,22 @@ moved None x = None
 moved (Some fs) x = moves x.control x.shown fs
 
 -- the frames after these operators
-abbrev pub frames_behind : {A : Type 0} → Option (List (Frame A)) → List (Marked A) → Option (List (Frame A))
-frames_behind frames [] = frames
-frames_behind frames (x ∷ xs) = frames_behind (moved frames x) xs
+abbrev pub frames_after : {A : Type 0} → Option (List (Frame A)) → List (Marked A) → Option (List (Frame A))
+frames_after frames [] = frames
+frames_after frames (x ∷ xs) = frames_after (moved frames x) xs
 
 -- ---- conditions of the rules on frames
 
 -- whether an operator is allowed in the innermost sequence
-abbrev pub may_stand : {A : Type 0} → List (Frame A) → Control → Bool
-may_stand [] c = false
-may_stand (f ∷ fs) (Does action) = true
-may_stand (f ∷ fs) (Opens construct) = true
-may_stand (f ∷ fs) Else = is_some (else_moves f)
-may_stand (f ∷ fs) (Catch t) = is_some (catch_moves f)
-may_stand (f ∷ fs) CatchAll = is_some (catch_all_moves f)
-may_stand (f ∷ fs) End = true
-may_stand (f ∷ fs) (Delegate n) = is_some (delegate_moves fs f)
+abbrev pub is_allowed : {A : Type 0} → List (Frame A) → Control → Bool
+is_allowed [] c = false
+is_allowed (f ∷ fs) (Does action) = true
+is_allowed (f ∷ fs) (Opens construct) = true
+is_allowed (f ∷ fs) Else = is_some (else_moves f)
+is_allowed (f ∷ fs) (Catch t) = is_some (catch_moves f)
+is_allowed (f ∷ fs) CatchAll = is_some (catch_all_moves f)
+is_allowed (f ∷ fs) End = true
+is_allowed (f ∷ fs) (Delegate n) = is_some (delegate_moves fs f)
 
 -- whether the sequence is a handler, which `rethrow` may name
 abbrev pub is_handler : {A : Type 0} → Frame A → Bool

@@ -3,6 +3,7 @@
 use Rattle.std.specs.Prelude.{◌≡◌, ℕ, ◌==◌, if◌then◌else◌, List}
 use Rattle.walrus_ir.specs.declared.val_type.InstrSeqType.{InstrSeqType}
 use Rattle.walrus_ir.specs.Tree.{Items, Sequences, Tree, alone, map_items, map_sequences}
+use Rattle.walrus_ir.specs.Locations.{default_location}
 use Rattle.wasm_operators.specs.Operations.{Operation}
 
 -- the target of a branch: a sequence around it, given by the number of sequences between them, or a sequence outside
@@ -34,10 +35,6 @@ pub record Instruction : Type 0 where
 
 abbrev pub FunctionTree : Type 0
 FunctionTree = Tree Head Instruction
-
--- the location that says nothing
-abbrev pub default_location : ℕ
-default_location = 4294967295
 
 -- the second of two locations, or the first if the second says nothing
 abbrev pub last_location : ℕ → ℕ → ℕ

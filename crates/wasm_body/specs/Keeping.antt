@@ -2,17 +2,17 @@
 use Rattle.std.specs.Prelude.{Bool, true, false}
 use Rattle.walrus_ir.specs.Tree.{Items, no_items, item}
 use Rattle.wasm_body.specs.SourceTree.{Sequence, Empty, Single, Wrapped, IfThen, IfElse, TryCatch, TryDelegate}
-use Rattle.wasm_body.specs.NormalForm.{Fate, Drops, Stays, Cuts, fate}
+use Rattle.wasm_body.specs.NormalForm.{Fate, Drops, Stays, Diverges, fate}
 
-abbrev pub dead_behind : Fate → Bool → Bool
-dead_behind Drops rest = rest
-dead_behind Stays rest = rest
-dead_behind Cuts rest = true
+abbrev pub dead_after : Fate → Bool → Bool
+dead_after Drops rest = rest
+dead_after Stays rest = rest
+dead_after Diverges rest = true
 
 -- whether the operators that follow the sequence are dropped
 abbrev pub is_dead : {A : Type 0} → Sequence A → Bool
 is_dead Empty = false
-is_dead (Single a action r) = dead_behind (fate action) (is_dead r)
+is_dead (Single a action r) = dead_after (fate action) (is_dead r)
 is_dead (Wrapped a w b e r) = is_dead r
 is_dead (IfThen a b e r) = is_dead r
 is_dead (IfElse a b l c e r) = is_dead r

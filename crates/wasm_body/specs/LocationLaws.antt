@@ -56,8 +56,8 @@ locations_along ps r = show_run (option_and_then (location_in ps)) r
 
 -- The run of the written text, looked up in the pairs, is the run of these operators at their locations: event by event, for
 -- all outcomes and turns.
-abbrev pub SayLocations : List Pair → (ys xs : List (Located NamedOperation)) → Type 0
-SayLocations ps ys xs = (outcomes : List Outcome) (turns : ℕ) → locations_along ps (written_run ys ps outcomes turns) ≡ locations_of xs outcomes turns
+abbrev pub LocationsAgree : List Pair → (ys xs : List (Located NamedOperation)) → Type 0
+LocationsAgree ps ys xs = (outcomes : List Outcome) (turns : ℕ) → locations_along ps (written_run ys ps outcomes turns) ≡ locations_of xs outcomes turns
 
 -- The pairs of the normal form of a body of named operators give the locations of its operators. The body may have any
 -- construct, and there may be any number of bytes before its own.
@@ -65,7 +65,7 @@ abbrev pub NamedLocationsAreHonest : Type 0
 NamedLocationsAreHonest =
     (m : Typing) (xs : List (Located NamedOperation)) (b : Body (Located NamedOperation)) → IsNamedBody xs b → AreTyped m xs →
     (ys : List (Located NamedOperation)) → IsTextOf m (normal_form m b) ys →
-    (to : Numbers) → BalanceAlike m to → (before : ℕ) (ps : List Pair) → tree_pairs to (normal_form m b) before ≡ Ok ps → SayLocations ps ys xs
+    (to : Numbers) → BalanceAlike m to → (before : ℕ) (ps : List Pair) → tree_pairs to (normal_form m b) before ≡ Ok ps → LocationsAgree ps ys xs
 
 -- The pairs of the normal form of an accepted body give the locations of its operators.
 abbrev pub LocationsAreHonest : Type 0
@@ -73,4 +73,4 @@ LocationsAreHonest =
     (env : Environment) (xs : List Occurrence) (b : Body Occurrence) → AllByRecursion HasSpelling xs → Lawful env xs b →
     (ys : List (Located NamedOperation)) → IsTextOf (typing_of env) (body_tree env b) ys →
     (to : Numbers) → BalanceAlike (typing_of env) to → (before : ℕ) (ps : List Pair) → tree_pairs to (body_tree env b) before ≡ Ok ps →
-    SayLocations ps ys (map name_at xs)
+    LocationsAgree ps ys (map name_at xs)

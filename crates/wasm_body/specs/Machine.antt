@@ -98,8 +98,8 @@ tail [] = []
 tail (x ∷ xs) = xs
 
 -- the place after the closer, where the search starts after the opener
-abbrev pub behind_closer : {A : Type 0} → List (Marked A) → List (Marked A)
-behind_closer xs = tail (seek (λ c. false) 0 0 xs).rest
+abbrev pub after_closer : {A : Type 0} → List (Marked A) → List (Marked A)
+after_closer xs = tail (seek (λ c. false) 0 0 xs).rest
 
 -- ---- labels
 
@@ -107,14 +107,14 @@ behind_closer xs = tail (seek (λ c. false) 0 0 xs).rest
 pub record Label (A : Type 0) : Type 0 where
   pub opener : A
   pub construct : Construct
-  pub behind : List (Marked A)
+  pub following : List (Marked A)
   pub caught : Option Tags
 
 abbrev pub label : {A : Type 0} → A → Construct → List (Marked A) → Label A
-label a construct behind = record { opener = a; construct = construct; behind = behind; caught = None }
+label a construct following = record { opener = a; construct = construct; following = following; caught = None }
 
 abbrev pub handler : {A : Type 0} → Label A → Tags → Label A
-handler l tags = record { opener = l.opener; construct = l.construct; behind = l.behind; caught = Some tags }
+handler l tags = record { opener = l.opener; construct = l.construct; following = l.following; caught = Some tags }
 
 -- a run from a place, with the labels that are open there, innermost first, and the outcomes that are left
 abbrev pub From : Type 0 → Type 0
@@ -127,11 +127,11 @@ From A = List (Marked A) → List (Label A) → List Outcome → Run A
 -- A branch to a loop goes to the operator after the `loop`, and costs a turn. A branch to another construct goes to the
 -- operator after its closer.
 abbrev pub arrive : {A : Type 0} → (again go : From A) → Construct → Label A → List (Label A) → List Outcome → Run A
-arrive again go Block l ls outcomes = go (behind_closer l.behind) ls outcomes
-arrive again go Loop l ls outcomes = again l.behind (l ∷ ls) outcomes
-arrive again go If l ls outcomes = go (behind_closer l.behind) ls outcomes
-arrive again go Try l ls outcomes = go (behind_closer l.behind) ls outcomes
-arrive again go (TryTable cs) l ls outcomes = go (behind_closer l.behind) ls outcomes
+arrive again go Block l ls outcomes = go (after_closer l.following) ls outcomes
+arrive again go Loop l ls outcomes = again l.following (l ∷ ls) outcomes
+arrive again go If l ls outcomes = go (after_closer l.following) ls outcomes
+arrive again go Try l ls outcomes = go (after_closer l.following) ls outcomes
+arrive again go (TryTable cs) l ls outcomes = go (after_closer l.following) ls outcomes
 
 -- A branch to the function's label returns.
 abbrev pub branch : {A : Type 0} → (again go : From A) → ℕ → List (Label A) → List Outcome → Run A
@@ -146,7 +146,7 @@ target targets default k = slice_index_or targets k default
 -- The end of a sequence is reached: the run goes on after the closer of its construct. At the function's end it returns.
 abbrev pub leave : {A : Type 0} → (go : From A) → List (Label A) → List Outcome → Run A
 leave go [] outcomes = ends Returned
-leave go (l ∷ ls) outcomes = go (behind_closer l.behind) ls outcomes
+leave go (l ∷ ls) outcomes = go (after_closer l.following) ls outcomes
 
 -- ---- exceptions
 
@@ -191,15 +191,15 @@ try_responds tags f = clause_found f.passed f.rest
 -- A `try_table` tries its clauses in order. So does a legacy `try` whose body the exception leaves; if `delegate` closes it, it
 -- delegates the exception. A `try` of which the exception leaves a handler lets it pass, as every other construct does.
 abbrev pub responds_as : {A : Type 0} → Tags → Construct → (caught : Option Tags) → List (Marked A) → Response A
-responds_as tags Block caught behind = Passes
-responds_as tags Loop caught behind = Passes
-responds_as tags If caught behind = Passes
-responds_as tags (TryTable cs) caught behind = jump tags 0 cs
-responds_as tags Try (Some t) behind = Passes
-responds_as tags Try None behind = try_responds tags (seek (catches tags) 0 0 behind)
+responds_as tags Block caught following = Passes
+responds_as tags Loop caught following = Passes
+responds_as tags If caught following = Passes
+responds_as tags (TryTable cs) caught following = jump tags 0 cs
+responds_as tags Try (Some t) following = Passes
+responds_as tags Try None following = try_responds tags (seek (catches tags) 0 0 following)
 
 abbrev pub responds : {A : Type 0} → Tags → Label A → Response A
-responds tags l = responds_as tags l.construct l.caught l.behind
+responds tags l = responds_as tags l.construct l.caught l.following
 
 -- A clause that catches is an event, also if no turn is left for its branch. A handler remembers the tags. `outward n` goes
 -- on outwards, from label n on, counted from outside the construct.
@@ -229,29 +229,29 @@ rethrow raised (Some tags) = raised tags
 -- ---- asking for an outcome: a missing one, or one of another kind, ends the run before the operator is executed
 
 -- Go, Trap if the operator may trap, or Raise of tags that it may throw
-abbrev pub ask : {A : Type 0} → (may_raise : Tags → Bool) → (may_trap : Bool) → A → (List Outcome → Run A) → (Tags → List Outcome → Run A) → List Outcome → Run A
-ask may_raise may_trap a on raised [] = ends OutcomesOut
-ask may_raise may_trap a on raised (Go ∷ outcomes) = on outcomes
-ask may_raise may_trap a on raised (Trap ∷ outcomes) = cond may_trap (then (Executed a) (ends Trapped)) (ends Mismatch)
-ask may_raise may_trap a on raised (Raise tags ∷ outcomes) = cond (may_raise tags) (then (Executed a) (raised tags outcomes)) (ends Mismatch)
-ask may_raise may_trap a on raised (Way w ∷ outcomes) = ends Mismatch
-ask may_raise may_trap a on raised (Entry k ∷ outcomes) = ends Mismatch
+abbrev pub take_outcome : {A : Type 0} → (may_raise : Tags → Bool) → (may_trap : Bool) → A → (List Outcome → Run A) → (Tags → List Outcome → Run A) → List Outcome → Run A
+take_outcome may_raise may_trap a on raised [] = ends OutcomesOut
+take_outcome may_raise may_trap a on raised (Go ∷ outcomes) = on outcomes
+take_outcome may_raise may_trap a on raised (Trap ∷ outcomes) = cond may_trap (then (Executed a) (ends Trapped)) (ends Mismatch)
+take_outcome may_raise may_trap a on raised (Raise tags ∷ outcomes) = cond (may_raise tags) (then (Executed a) (raised tags outcomes)) (ends Mismatch)
+take_outcome may_raise may_trap a on raised (Way w ∷ outcomes) = ends Mismatch
+take_outcome may_raise may_trap a on raised (Entry k ∷ outcomes) = ends Mismatch
 
-abbrev pub ask_way : {A : Type 0} → A → (Bool → List Outcome → Run A) → List Outcome → Run A
-ask_way a on [] = ends OutcomesOut
-ask_way a on (Way w ∷ outcomes) = then (Executed a) (on w outcomes)
-ask_way a on (Go ∷ outcomes) = ends Mismatch
-ask_way a on (Trap ∷ outcomes) = ends Mismatch
-ask_way a on (Raise tags ∷ outcomes) = ends Mismatch
-ask_way a on (Entry k ∷ outcomes) = ends Mismatch
+abbrev pub take_way : {A : Type 0} → A → (Bool → List Outcome → Run A) → List Outcome → Run A
+take_way a on [] = ends OutcomesOut
+take_way a on (Way w ∷ outcomes) = then (Executed a) (on w outcomes)
+take_way a on (Go ∷ outcomes) = ends Mismatch
+take_way a on (Trap ∷ outcomes) = ends Mismatch
+take_way a on (Raise tags ∷ outcomes) = ends Mismatch
+take_way a on (Entry k ∷ outcomes) = ends Mismatch
 
-abbrev pub ask_entry : {A : Type 0} → A → (ℕ → List Outcome → Run A) → List Outcome → Run A
-ask_entry a on [] = ends OutcomesOut
-ask_entry a on (Entry k ∷ outcomes) = then (Executed a) (on k outcomes)
-ask_entry a on (Go ∷ outcomes) = ends Mismatch
-ask_entry a on (Trap ∷ outcomes) = ends Mismatch
-ask_entry a on (Raise tags ∷ outcomes) = ends Mismatch
-ask_entry a on (Way w ∷ outcomes) = ends Mismatch
+abbrev pub take_entry : {A : Type 0} → A → (ℕ → List Outcome → Run A) → List Outcome → Run A
+take_entry a on [] = ends OutcomesOut
+take_entry a on (Entry k ∷ outcomes) = then (Executed a) (on k outcomes)
+take_entry a on (Go ∷ outcomes) = ends Mismatch
+take_entry a on (Trap ∷ outcomes) = ends Mismatch
+take_entry a on (Raise tags ∷ outcomes) = ends Mismatch
+take_entry a on (Way w ∷ outcomes) = ends Mismatch
 
 -- ---- the step
 
@@ -261,24 +261,24 @@ abbrev pub act : {A : Type 0} → (again go : From A) → Action → A → List 
 -- `nop` asks for no outcome and gives no event.
 act again go Nop a rest ls outcomes = go rest ls outcomes
 -- A plain operator asks for Go, Trap or Raise.
-act again go Plain a rest ls outcomes = ask (λ s. true) true a (λ o. then (Executed a) (go rest ls o)) (λ s o. raise again go s ls o 0) outcomes
+act again go Plain a rest ls outcomes = take_outcome (λ s. true) true a (λ o. then (Executed a) (go rest ls o)) (λ s o. raise again go s ls o 0) outcomes
 -- `br` asks for no outcome.
 act again go (Branch n) a rest ls outcomes = then (Executed a) (branch again go n ls outcomes)
 -- `br_if` and other conditional branches ask for Way: they branch on true.
-act again go (ConditionalBranch n) a rest ls outcomes = ask_way a (λ w o. cond w (branch again go n ls o) (go rest ls o)) outcomes
+act again go (ConditionalBranch n) a rest ls outcomes = take_way a (λ w o. cond w (branch again go n ls o) (go rest ls o)) outcomes
 -- `br_table` asks for Entry.
-act again go (TableBranch targets default) a rest ls outcomes = ask_entry a (λ k o. branch again go (target targets default k) ls o) outcomes
+act again go (TableBranch targets default) a rest ls outcomes = take_entry a (λ k o. branch again go (target targets default k) ls o) outcomes
 -- `return` and `unreachable` ask for no outcome.
 act again go Return a rest ls outcomes = then (Executed a) (ends Returned)
 act again go Unreachable a rest ls outcomes = then (Executed a) (ends Trapped)
 -- `throw` asks for Raise with its tag.
-act again go (Throw t) a rest ls outcomes = ask (λ s. has s t) false a (λ o. ends Mismatch) (λ s o. raise again go s ls o 0) outcomes
+act again go (Throw t) a rest ls outcomes = take_outcome (λ s. has s t) false a (λ o. ends Mismatch) (λ s o. raise again go s ls o 0) outcomes
 -- `throw_ref` asks for Raise or Trap.
-act again go ThrowRef a rest ls outcomes = ask (λ s. true) true a (λ o. ends Mismatch) (λ s o. raise again go s ls o 0) outcomes
+act again go ThrowRef a rest ls outcomes = take_outcome (λ s. true) true a (λ o. ends Mismatch) (λ s o. raise again go s ls o 0) outcomes
 -- `rethrow` asks for no outcome; its exception goes outwards from the place of the `rethrow`.
 act again go (Rethrow n) a rest ls outcomes = then (Executed a) (rethrow (λ s. raise again go s ls outcomes 0) (caught_at ls n))
 -- A tail call asks for Go or Trap.
-act again go TailCall a rest ls outcomes = ask (λ s. false) true a (λ o. then (Executed a) (ends TailCalled)) (λ s o. ends Mismatch) outcomes
+act again go TailCall a rest ls outcomes = take_outcome (λ s. false) true a (λ o. then (Executed a) (ends TailCalled)) (λ s o. ends Mismatch) outcomes
 
 -- the way of an `if` whose condition is false: to the place after its `else`, or after its `end` if it has no `else`
 abbrev pub is_else : Control → Bool
@@ -299,7 +299,7 @@ enter go Loop a rest ls outcomes = then (Executed a) (go rest (label a Loop rest
 enter go (TryTable cs) a rest ls outcomes = then (Executed a) (go rest (label a (TryTable cs) rest ∷ ls) outcomes)
 enter go Try a rest ls outcomes = then (Executed a) (go rest (label a Try rest ∷ ls) outcomes)
 enter go If a rest ls outcomes =
-    ask_way a (λ w o. cond w (go rest (label a If rest ∷ ls) o) (other_way go (label a If rest) ls o (seek is_else 0 0 rest))) outcomes
+    take_way a (λ w o. cond w (go rest (label a If rest ∷ ls) o) (other_way go (label a If rest) ls o (seek is_else 0 0 rest))) outcomes
 
 -- The operators that part and close constructs ask for no outcome and give no event: the sequence ends there.
 abbrev pub step : {A : Type 0} → (again go : From A) → Control → A → List (Marked A) → List (Label A) → List Outcome → Run A

@@ -14,7 +14,7 @@ use Rattle.wasm_body.specs.declared.error.ParseError.{ParseError}
 use Rattle.wasm_body.specs.declared.error.ParseError.TheVariants.{Index, NoSuchLabel, NotAFunctionType, TypeMissing, EntryTypeMissing, ElseOutsideIf, CatchOutsideTry, DelegateOutsideTry, RethrowOutsideHandler, UnknownId}
 use Rattle.walrus_ir.specs.Results.{◌>>=◌, unless, some_or, with_fault}
 use Rattle.wasm_body.specs.Control.{Control, Does, Opens, Else, Catch, CatchAll, End, Delegate, control_of}
-use Rattle.wasm_body.specs.Frames.{Frame, handler_at, outside, opener_of, may_stand}
+use Rattle.wasm_body.specs.Frames.{Frame, handler_at, outside, opener_of, is_allowed}
 use Rattle.wasm_body.specs.Translation.{Translation, translate, translate_value}
 
 -- An operator by its name: with ids for indices, and with parameters and results for a block type. Depths stay as they are.
@@ -44,8 +44,8 @@ position_fault Else = ElseOutsideIf
 position_fault (Delegate n) = DelegateOutsideTry
 position_fault _ = CatchOutsideTry
 
-abbrev pub stands : {A : Type 0} → List (Frame A) → Control → Result (Unit {0}) ParseError
-stands fs c = unless (may_stand fs c) (position_fault c)
+abbrev pub allowed : {A : Type 0} → List (Frame A) → Control → Result (Unit {0}) ParseError
+allowed fs c = unless (is_allowed fs c) (position_fault c)
 
 -- ---- 2: the immediates, in the order in which they are written
 
@@ -127,7 +127,7 @@ has_types env fs (Delegate n) o = Ok tt
 -- The name of an operator inside these frames, or the fault of the first rule that it breaks.
 abbrev pub named_in : Environment → List (Frame Occurrence) → RawOperation → Result NamedOperation ParseError
 named_in env fs o =
-    stands fs (control_of o) >>= λ _.
+    allowed fs (control_of o) >>= λ _.
     translate (naming env fs) o >>= λ named.
     has_types env fs (control_of named) named >>= λ _.
     Ok named

@@ -6,12 +6,13 @@ use Rattle.walrus_ir.specs.declared.val_type.InstrSeqType.TheVariants.{Simple, M
 use Rattle.walrus_ir.specs.Types.{Signature, signature, signature_of, signature_of_type, pick, same_types}
 use Rattle.walrus_ir.specs.Tree.{Items, no_items, item, Sequences, no_sequences, sequence}
 use Rattle.wasm_body.specs.declared.error.ParseError.{ParseError}
-use Rattle.walrus_ir.specs.Results.{sure}
+use Rattle.walrus_ir.specs.Results.{infallible}
+use Rattle.walrus_ir.specs.Locations.{default_location}
 use Rattle.wasm_body.specs.Control.{Action, Nop, Plain, Branch, ConditionalBranch, TableBranch, Return, Unreachable, Throw, ThrowRef, Rethrow, TailCall}
 use Rattle.wasm_body.specs.SourceTree.{Sequence, Empty, Single, Wrapped, IfThen, IfElse, TryCatch, TryDelegate, Clauses, Ended, Catches, CatchesAll, Body, map_body}
 use Rattle.wasm_body.specs.Translation.{Translation, translate_immediates, Located, at_location}
 use Rattle.wasm_body.specs.Naming.{NamedOperation, Occurrence, Environment, block_signature, entry_type_id}
-use Rattle.wasm_body.specs.FunctionTree.{Target, Depth, TreeOperation, Head, LegacyClause, handles, handles_all, delegates, Instruction, FunctionTree, default_location}
+use Rattle.wasm_body.specs.FunctionTree.{Target, Depth, TreeOperation, Head, LegacyClause, handles, handles_all, delegates, Instruction, FunctionTree}
 
 -- ---- types of sequences
 
@@ -76,7 +77,7 @@ kept = record {
 }
 
 abbrev pub kept_operation : NamedOperation → TreeOperation
-kept_operation o = record { opcode = o.opcode; immediates = sure (translate_immediates kept o.immediates) }
+kept_operation o = record { opcode = o.opcode; immediates = infallible (translate_immediates kept o.immediates) }
 
 abbrev pub instruction : Located NamedOperation → List LegacyClause → Instruction
 instruction a cs = record { op = kept_operation a.op; clauses = cs; location = a.location }
@@ -86,26 +87,26 @@ instruction a cs = record { op = kept_operation a.op; clauses = cs; location = a
 pub data Fate : Type 0 where
   Drops : Fate
   Stays : Fate
-  Cuts : Fate
+  Diverges : Fate
 
 abbrev pub fate : Action → Fate
 fate Nop = Drops
 fate Plain = Stays
-fate (Branch n) = Cuts
+fate (Branch n) = Diverges
 fate (ConditionalBranch n) = Stays
-fate (TableBranch ts d) = Cuts
-fate Return = Cuts
-fate Unreachable = Cuts
-fate (Throw t) = Cuts
-fate ThrowRef = Cuts
-fate (Rethrow n) = Cuts
+fate (TableBranch ts d) = Diverges
+fate Return = Diverges
+fate Unreachable = Diverges
+fate (Throw t) = Diverges
+fate ThrowRef = Diverges
+fate (Rethrow n) = Diverges
 fate TailCall = Stays
 
 -- an operator that is not a construct, before the normal form of the rest of its sequence
 abbrev pub with_fate : Fate → Instruction → Items Head Instruction → Items Head Instruction
 with_fate Drops i rest = rest
 with_fate Stays i rest = item i no_sequences rest
-with_fate Cuts i rest = item i no_sequences no_items
+with_fate Diverges i rest = item i no_sequences no_items
 
 -- ---- trees
 

@@ -2,14 +2,15 @@
 -- (WebAssembly core specification 3.0, control instructions; legacy exception handling). For each operator that is written, the
 -- tree shows which operator of the source it is, or takes the place of, and so which location it has.
 use Rattle.std.specs.Prelude.{ℕ, List, [], ◌∷◌, map, Bool, true, false, ◌&&◌}
+use Rattle.walrus_ir.specs.Locations.{default_location}
 use Rattle.wasm_operators.specs.declared.types.Space.TheVariants.{Tags}
 use Rattle.wasm_operators.specs.Operations.{index, operation}
 use Rattle.wasm_body.specs.Control.{Action, Marked, end_operation, else_operation, catch_opcode, catch_all_operation, delegate_operation}
 use Rattle.wasm_body.specs.SourceTree.{Sequence, Empty, Single, Wrapped, IfThen, IfElse, TryCatch, TryDelegate, Clauses, Ended, Catches, CatchesAll, Body, body_text}
 use Rattle.wasm_body.specs.Translation.{Located, at_location}
 use Rattle.wasm_body.specs.Naming.{NamedOperation}
-use Rattle.wasm_body.specs.FunctionTree.{default_location, last_location}
-use Rattle.wasm_body.specs.NormalForm.{Typing, balances, construct_type, Fate, Drops, Stays, Cuts, fate}
+use Rattle.wasm_body.specs.FunctionTree.{last_location}
+use Rattle.wasm_body.specs.NormalForm.{Typing, balances, construct_type, Fate, Drops, Stays, Diverges, fate}
 
 -- ---- the operators that part and close constructs, each made anew, with this location
 
@@ -35,7 +36,7 @@ delegate_at n l = at_location (delegate_operation n) l
 abbrev pub single_with_fate : Fate → Located NamedOperation → Action → Sequence (Located NamedOperation) → Sequence (Located NamedOperation)
 single_with_fate Drops a action rest = rest
 single_with_fate Stays a action rest = Single a action rest
-single_with_fate Cuts a action rest = Single a action Empty
+single_with_fate Diverges a action rest = Single a action Empty
 
 -- whether nothing of a sequence is written
 abbrev pub is_empty : Sequence (Located NamedOperation) → Bool

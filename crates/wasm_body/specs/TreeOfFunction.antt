@@ -6,7 +6,7 @@ use Rattle.walrus_ir.specs.declared.error.WalkError.{WalkError}
 use Rattle.walrus_ir.specs.declared.error.WalkError.TheVariants as walk
 use Rattle.walrus_ir.specs.Tree.{Items, no_items, item, Sequences, no_sequences, sequence, Tree}
 use Rattle.walrus_ir.specs.Unfolding.{SequenceAt, LocatedInstr, IsTree}
-use Rattle.walrus_ir.specs.Results.{sure}
+use Rattle.walrus_ir.specs.Results.{infallible}
 use Rattle.wasm_body.specs.declared.error.EmitError.{EmitError}
 use Rattle.wasm_body.specs.declared.error.EmitError.TheVariants as emit
 use Rattle.wasm_body.specs.Translation.{Translation, translate_immediates}
@@ -23,8 +23,8 @@ target_in [] place = Outside
 target_in (p ∷ ps) place = if place == p then Depth 0 else deeper (target_in ps place)
 
 -- places of sequences become targets
-abbrev pub aiming : List ℕ → Translation ℕ (Unit {0}) Target (Unit {0}) ⊥
-aiming around = record {
+abbrev pub to_targets : List ℕ → Translation ℕ (Unit {0}) Target (Unit {0}) ⊥
+to_targets around = record {
   index = λ space n. Ok n;
   local = λ n. Ok n;
   label = λ place. Ok (target_in around place);
@@ -36,11 +36,11 @@ aiming around = record {
   count = λ n. Ok tt;
 }
 
-abbrev pub aimed : List ℕ → PlacedOperation → TreeOperation
-aimed around o = record { opcode = o.opcode; immediates = sure (translate_immediates (aiming around) o.immediates) }
+abbrev pub with_targets : List ℕ → PlacedOperation → TreeOperation
+with_targets around o = record { opcode = o.opcode; immediates = infallible (translate_immediates (to_targets around) o.immediates) }
 
 abbrev pub instruction_in : List ℕ → LocatedInstr → Instruction
-instruction_in around x = record { op = aimed around (operation_of x.0); clauses = clauses_of_try x.0; location = x.1 }
+instruction_in around x = record { op = with_targets around (operation_of x.0); clauses = clauses_of_try x.0; location = x.1 }
 
 abbrev pub head_of : InstrSeq → Head
 head_of seq = record { type = seq.ty; end_location = seq.end }

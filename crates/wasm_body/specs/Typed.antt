@@ -9,11 +9,11 @@ use Rattle.wasm_body.specs.Naming.{NamedOperation, block_types, block_signature}
 use Rattle.wasm_body.specs.NormalForm.{Typing}
 
 -- Each of these is the signature of the type of a sequence.
-abbrev pub StandsFor : Typing → InstrSeqType → List Signature → Type 0
-StandsFor m t ss = AllByRecursion (λ s. m.signature_of t ≡ Some s) ss
+abbrev pub HasSignatures : Typing → InstrSeqType → List Signature → Type 0
+HasSignatures m t ss = AllByRecursion (λ s. m.signature_of t ≡ Some s) ss
 
 abbrev pub IsOpener : Typing → NamedOperation → Type 0
-IsOpener m o = StandsFor m (m.picked (block_signature o)) (block_types o.immediates)
+IsOpener m o = HasSignatures m (m.picked (block_signature o)) (block_types o.immediates)
 
 -- If the operator opens a construct, the picked type of a sequence has its block type as signature; another operator has no
 -- block type.

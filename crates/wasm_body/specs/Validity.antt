@@ -334,13 +334,13 @@ module _ {T : Type 0} (m : Typing) (r : OperandRules T) where
   --   catch x, catch_all: the frame is that of `try` or of a `catch`; "push_ctrl" with the types of the tag, or with none
   --   end: "push_vals(frame.end_types)"
   --   delegate n: the frame is that of `try`, there is a label n, and it gives what `end` gives
-  abbrev pub parted : Control → ControlFrame → Stacks T → List ControlFrame → Checked (State T)
-  parted Else c s cs = demand (is_if c.opened) >>= λ u. Ok (push_control OfElse c.start_types c.end_types s cs)
-  parted (Catch tag) c s cs = demand (may_catch c.opened) >>= λ u. Ok (push_control OfCatch (m.tag_parameters tag) c.end_types s cs)
-  parted CatchAll c s cs = demand (may_catch c.opened) >>= λ u. Ok (push_control OfCatchAll [] c.end_types s cs)
-  parted End c s cs = ends c.opened c s >>= λ t. Ok (given c.end_types t cs)
-  parted (Delegate n) c s cs = demand (is_try c.opened) >>= λ u. label cs n >>= λ d. Ok (given c.end_types s cs)
-  parted _ c s cs = Err refused
+  abbrev pub next_sequence : Control → ControlFrame → Stacks T → List ControlFrame → Checked (State T)
+  next_sequence Else c s cs = demand (is_if c.opened) >>= λ u. Ok (push_control OfElse c.start_types c.end_types s cs)
+  next_sequence (Catch tag) c s cs = demand (may_catch c.opened) >>= λ u. Ok (push_control OfCatch (m.tag_parameters tag) c.end_types s cs)
+  next_sequence CatchAll c s cs = demand (may_catch c.opened) >>= λ u. Ok (push_control OfCatchAll [] c.end_types s cs)
+  next_sequence End c s cs = ends c.opened c s >>= λ t. Ok (given c.end_types t cs)
+  next_sequence (Delegate n) c s cs = demand (is_try c.opened) >>= λ u. label cs n >>= λ d. Ok (given c.end_types s cs)
+  next_sequence _ c s cs = Err refused
 
   -- ---- validation
 
@@ -348,7 +348,7 @@ module _ {T : Type 0} (m : Typing) (r : OperandRules T) where
   step_in k o s [] = Err refused
   step_in (Does action) o s (c ∷ cs) = taken action o c (c ∷ cs) s >>= λ t. Ok (after_action action c t cs)
   step_in (Opens construct) o s (c ∷ cs) = taken_by construct o c s >>= λ t. opens construct o t (c ∷ cs)
-  step_in k o s (c ∷ cs) = pop_control c s >>= λ t. parted k c t cs
+  step_in k o s (c ∷ cs) = pop_control c s >>= λ t. next_sequence k c t cs
 
   abbrev pub validate : List (Located NamedOperation) → State T → Checked (State T)
   validate [] st = Ok st

@@ -1,5 +1,5 @@
 //! Laws of trees and texts, each stated as the contract of a function that does nothing.
-ghost use Rattle.wasm_body.specs.ExecutionLaws.{NamedExecutionsKept, ExecutionsKept, RunsShowOperators, CountSuffices, EmptyGoesOn};
+ghost use Rattle.wasm_body.specs.ExecutionLaws.{NamedExecutionsKept, ExecutionsKept, RunsShowOperators, CountSuffices, EmptyContinues};
 ghost use Rattle.wasm_body.specs.LocationLaws.{PlacesIncrease, PairsMatchText, TextIsRewritten, NamedLocationsAreHonest, LocationsAreHonest};
 ghost use Rattle.wasm_body.specs.ReadBack.{ReadBack, NormalFormAgain, SameBytes, InverseUndoes, AcceptedAgain};
 ghost use Rattle.wasm_body.specs.TextLaws.{LawfulAreTyped, HaveTexts, NormalAgain, OneBody, OneSequence, SameTexts};
@@ -18,7 +18,7 @@ pub fn law_unique_reading<A>()
 /// Bytes are accepted as one body, or have one first fault, and never both. The front before a
 /// first fault is the longest that can be completed to a lawful body. `V` is the type of a
 /// validator's state.
-pub fn law_one_answer<V>()
+pub fn law_one_result<V>()
     ensures one_body { OneBodyAccepted V }
     ensures no_fault { AcceptedHasNoFault V }
     ensures one_fault { OneFirstFault V }
@@ -68,8 +68,8 @@ pub fn law_executions()
 
 /// A sequence whose normal form is empty, such as an alternative that is left out, executes nothing
 /// and goes on with what comes after it.
-pub fn law_empty_goes_on()
-    ensures { EmptyGoesOn }
+pub fn law_empty_continues()
+    ensures { EmptyContinues }
 {}
 
 /// Location pairs are right along every run. The places of the pairs that are written for a tree

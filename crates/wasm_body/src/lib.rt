@@ -8,8 +8,9 @@ mod laws;
 
 pub use error::{EmitError, IndexError, ParseError, ParseFailure};
 pub use laws::{
-    law_accepted_again, law_any_locations, law_emission_faults, law_empty_goes_on, law_executions,
-    law_inverse_undoes, law_local_numbers, law_locations, law_normal_again, law_normal_form_texts,
-    law_one_answer, law_read_back, law_same_texts, law_unique_reading, law_validity,
+    law_accepted_again, law_any_locations, law_emission_faults, law_empty_continues,
+    law_executions, law_inverse_undoes, law_local_numbers, law_locations, law_normal_again,
+    law_normal_form_texts, law_one_result, law_read_back, law_same_texts, law_unique_reading,
+    law_validity,
 };
 pub use wasm_operators::Space;

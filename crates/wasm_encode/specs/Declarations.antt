@@ -9,5 +9,5 @@ abbrev pub short_declaration : ℕ × ValType ℕ → List ℕ
 short_declaration local = short_number local.0 ++ short_value local.1
 
 -- the number of pairs of a count and a type, and then each pair
-abbrev pub declarations : List (ℕ × ValType ℕ) → List ℕ
-declarations locals = short_number (length locals) ++ flat_map short_declaration locals
+abbrev pub declaration_bytes : List (ℕ × ValType ℕ) → List ℕ
+declaration_bytes locals = short_number (length locals) ++ flat_map short_declaration locals

@@ -16,7 +16,7 @@ use wasm_operators::RawValType;
 #[tactic(auto, using(crate::proofs::Appending::appending))]
 fn write_declaration(out: &mut Vec<u8>, count: u32, ty: RawValType) -> Result<(), AllocError>
     ensures ok { OnOk result (out.new.items ≡ out.old.items ++ short_declaration (count, ty)) }
-    ensures kept { take (length out.old.items) out.new.items ≡ out.old.items }
+    ensures unchanged { take (length out.old.items) out.new.items ≡ out.old.items }
 {
     write_number(out, count as u64)?;
     write_value_type(out, ty)
@@ -27,7 +27,7 @@ fn write_declaration(out: &mut Vec<u8>, count: u32, ty: RawValType) -> Result<()
 fn write_declarations(out: &mut Vec<u8>, locals: &[(u32, RawValType)]) -> Result<(), AllocError>
     ensures ok { OnOk result
         (out.new.items ≡ out.old.items ++ flat_map short_declaration locals.now) }
-    ensures kept { take (length out.old.items) out.new.items ≡ out.old.items }
+    ensures unchanged { take (length out.old.items) out.new.items ≡ out.old.items }
 {
     for (count, ty) in locals {
         write_declaration(out, *count, *ty)?;
@@ -54,7 +54,7 @@ impl FunctionEncoder {
     ghost use Rattle.std.specs.Prelude.{◌≡◌, ◌++◌, ◌<◌, ◌^◌, OnOk, OnErr, IfOk, length};
     ghost use Rattle.wasm_operators.specs.Meaning.{meaning};
     ghost use Rattle.wasm_operators.specs.Shortest.{short};
-    ghost use Rattle.wasm_encode.specs.Declarations.{declarations};
+    ghost use Rattle.wasm_encode.specs.Declarations.{declaration_bytes};
     ghost use Rattle.wasm_encode.specs.Writable.{IsWritable};
 
     /// An encoder that contains the declarations of these locals (WebAssembly core specification
@@ -65,7 +65,7 @@ impl FunctionEncoder {
     /// Out of memory.
     pub fn new(alloc: Global, locals: &[(u32, RawValType)]) -> Result<Self, AllocError>
         requires { length locals.now < 2 ^ 32 }
-        ensures { IfOk result (λ e. e ≡ declarations locals.now) }
+        ensures { IfOk result (λ e. e ≡ declaration_bytes locals.now) }
     {
         let mut bytes = Vec::new(alloc);
         write_number(&mut bytes, locals.len() as u64)?;

@@ -17,7 +17,7 @@ use wasm_operators::{Immediates, RawCast, RawCatch, RawMemArg, RawValType};
 fn write_pair(out: &mut Vec<u8>, first: u32, second: u32) -> Result<(), AllocError>
     ensures ok { OnOk result
         (out.new.items ≡ out.old.items ++ (short_number first ++ short_number second)) }
-    ensures kept { take (length out.old.items) out.new.items ≡ out.old.items }
+    ensures unchanged { take (length out.old.items) out.new.items ≡ out.old.items }
 {
     write_number(out, first as u64)?;
     write_number(out, second as u64)
@@ -27,7 +27,7 @@ fn write_pair(out: &mut Vec<u8>, first: u32, second: u32) -> Result<(), AllocErr
 #[tactic(auto, using(crate::proofs::Appending::appending), unfolding(wasm_operators::specs::Shortest::short_access))]
 fn write_memarg(out: &mut Vec<u8>, memarg: RawMemArg) -> Result<(), AllocError>
     ensures ok { OnOk result (out.new.items ≡ out.old.items ++ short_access (access_of memarg)) }
-    ensures kept { take (length out.old.items) out.new.items ≡ out.old.items }
+    ensures unchanged { take (length out.old.items) out.new.items ≡ out.old.items }
 {
     if memarg.memory == 0 {
         write_number(out, memarg.exponent as u64)?;
@@ -42,7 +42,7 @@ fn write_memarg(out: &mut Vec<u8>, memarg: RawMemArg) -> Result<(), AllocError>
 #[tactic(auto, using(crate::proofs::Appending::appending))]
 fn write_selected(out: &mut Vec<u8>, ty: RawValType) -> Result<(), AllocError>
     ensures ok { OnOk result (out.new.items ≡ out.old.items ++ 1 ∷ short_value ty) }
-    ensures kept { take (length out.old.items) out.new.items ≡ out.old.items }
+    ensures unchanged { take (length out.old.items) out.new.items ≡ out.old.items }
 {
     write_byte(out, 1)?;
     write_value_type(out, ty)
@@ -64,7 +64,7 @@ fn cast_flags(from_nullable: bool, to_nullable: bool) -> u8
 #[tactic(auto, using(crate::proofs::Appending::appending), unfolding(wasm_operators::specs::Shortest::short_cast))]
 fn write_cast(out: &mut Vec<u8>, cast: RawCast) -> Result<(), AllocError>
     ensures ok { OnOk result (out.new.items ≡ out.old.items ++ short_cast (cast_of cast)) }
-    ensures kept { take (length out.old.items) out.new.items ≡ out.old.items }
+    ensures unchanged { take (length out.old.items) out.new.items ≡ out.old.items }
 {
     write_byte(out, cast_flags(cast.from_nullable, cast.to_nullable))?;
     write_number(out, cast.label as u64)?;
@@ -76,7 +76,7 @@ fn write_cast(out: &mut Vec<u8>, cast: RawCast) -> Result<(), AllocError>
 #[tactic(auto, using(crate::proofs::Appending::appending))]
 fn write_lanes(out: &mut Vec<u8>, lanes: &[u8]) -> Result<(), AllocError>
     ensures ok { OnOk result (out.new.items ≡ out.old.items ++ lanes.now) }
-    ensures kept { take (length out.old.items) out.new.items ≡ out.old.items }
+    ensures unchanged { take (length out.old.items) out.new.items ≡ out.old.items }
 {
     out.extend_from_slice(lanes)
 }
@@ -85,7 +85,7 @@ fn write_lanes(out: &mut Vec<u8>, lanes: &[u8]) -> Result<(), AllocError>
 #[tactic(auto, using(crate::proofs::Appending::appending), unfolding(wasm_operators::specs::Shortest::short_vector))]
 fn write_vector(out: &mut Vec<u8>, bits: u128) -> Result<(), AllocError>
     ensures ok { OnOk result (out.new.items ≡ out.old.items ++ short_vector bits) }
-    ensures kept { take (length out.old.items) out.new.items ≡ out.old.items }
+    ensures unchanged { take (length out.old.items) out.new.items ≡ out.old.items }
 {
     write_bits(out, 16, bits)
 }
@@ -94,7 +94,7 @@ fn write_vector(out: &mut Vec<u8>, bits: u128) -> Result<(), AllocError>
 #[tactic(auto, using(crate::proofs::Appending::appending), unfolding(wasm_operators::specs::Shortest::short_table))]
 fn write_table(out: &mut Vec<u8>, targets: &[u32], default: u32) -> Result<(), AllocError>
     ensures ok { OnOk result (out.new.items ≡ out.old.items ++ short_table targets.now default) }
-    ensures kept { take (length out.old.items) out.new.items ≡ out.old.items }
+    ensures unchanged { take (length out.old.items) out.new.items ≡ out.old.items }
 {
     write_number(out, targets.len() as u64)?;
     for label in targets {
@@ -107,7 +107,7 @@ fn write_table(out: &mut Vec<u8>, targets: &[u32], default: u32) -> Result<(), A
 #[tactic(auto, using(crate::proofs::Appending::appending))]
 fn write_clause(out: &mut Vec<u8>, clause: RawCatch) -> Result<(), AllocError>
     ensures ok { OnOk result (out.new.items ≡ out.old.items ++ short_clause clause) }
-    ensures kept { take (length out.old.items) out.new.items ≡ out.old.items }
+    ensures unchanged { take (length out.old.items) out.new.items ≡ out.old.items }
 {
     match clause.tag {
         Some(tag) => {
@@ -123,7 +123,7 @@ fn write_clause(out: &mut Vec<u8>, clause: RawCatch) -> Result<(), AllocError>
 #[tactic(auto, using(crate::proofs::Appending::appending), unfolding(wasm_operators::specs::Shortest::short_clauses))]
 fn write_clauses(out: &mut Vec<u8>, clauses: &[RawCatch]) -> Result<(), AllocError>
     ensures ok { OnOk result (out.new.items ≡ out.old.items ++ short_clauses clauses.now) }
-    ensures kept { take (length out.old.items) out.new.items ≡ out.old.items }
+    ensures unchanged { take (length out.old.items) out.new.items ≡ out.old.items }
 {
     write_number(out, clauses.len() as u64)?;
     for clause in clauses {
@@ -141,7 +141,7 @@ pub(crate) fn write_immediates(
 ) -> Result<(), AllocError>
     ensures ok { OnOk result
         (out.new.items ≡ out.old.items ++ short_immediates (immediates_of immediates.now)) }
-    ensures kept { take (length out.old.items) out.new.items ≡ out.old.items }
+    ensures unchanged { take (length out.old.items) out.new.items ≡ out.old.items }
 {
     match immediates {
         Immediates::Nothing => Ok(()),

@@ -3,7 +3,7 @@
 ghost use Rattle.std.specs.Prelude.{◌≡◌};
 ghost use Rattle.std.specs.List.{AllByRecursion};
 ghost use Rattle.wasm_operators.specs.Fitting.{FitsLabel, FitsClause, FitsLane, FitsHeap, FitsValue, FitsBlock};
-ghost use Rattle.wasm_operators.specs.Fitting.{AllFit, AreSpeakable};
+ghost use Rattle.wasm_operators.specs.Fitting.{AllFit, AreEncodable};
 ghost use Rattle.wasm_operators.specs.Meaning.{meaning};
 ghost use Rattle.wasm_operators.specs.Parts.{immediates_of};
 ghost use Rattle.wasm_operators.specs.Shortest.{short};
@@ -40,9 +40,9 @@ fn law_clauses(clauses: &[RawCatch])
     ensures { AllByRecursion FitsClause clauses.now }
 {
     let mut left = clauses;
-    'clauses: while let Some((clause, behind)) = left.split_first() {
+    'clauses: while let Some((clause, following)) = left.split_first() {
         law_clause(*clause);
-        left = behind;
+        left = following;
     }
 }
 
@@ -51,8 +51,8 @@ fn law_lanes(lanes: &[u8])
     ensures { AllByRecursion FitsLane lanes.now }
 {
     let mut left = lanes;
-    'lanes: while let Some((_lane, behind)) = left.split_first() {
-        left = behind;
+    'lanes: while let Some((_lane, following)) = left.split_first() {
+        left = following;
     }
 }
 
@@ -104,7 +104,7 @@ fn law_block_type(ty: BlockType)
 
 /// The numbers that follow an opcode fit their spellings.
 fn law_fit(immediates: OutImmediates<'_>)
-    requires { AreSpeakable (immediates_of immediates) }
+    requires { AreEncodable (immediates_of immediates) }
     ensures { AllFit (immediates_of immediates.entry) }
 {
     match immediates {
@@ -144,18 +144,18 @@ fn law_fit(immediates: OutImmediates<'_>)
 }
 
 /// The immediates that follow an opcode.
-macro_rules! behind {
+macro_rules! following {
     (() $opcode:expr, $immediates:expr) => {
         $immediates
     };
 }
 
 /// The immediates that follow the opcode of an operator.
-fn behind_opcode<'a>(op: &OutOp<'a>) -> OutImmediates<'a>
+fn after_opcode<'a>(op: &OutOp<'a>) -> OutImmediates<'a>
     ensures { immediates_of result ≡ (meaning op.now).immediates }
 {
     index_rows!(
-        parts_of, behind () op,
+        parts_of, following () op,
         Op::BrTable(OutTable { targets, default }) => {
             Immediates::Table(OutTable { targets: *targets, default: *default })
         }
@@ -167,17 +167,17 @@ fn behind_opcode<'a>(op: &OutOp<'a>) -> OutImmediates<'a>
 
 /// The numbers of an operator fit their spellings.
 fn law_numbers(op: &OutOp<'_>)
-    requires { AreSpeakable (meaning op.now).immediates }
+    requires { AreEncodable (meaning op.now).immediates }
     ensures { AllFit (meaning op.now).immediates }
 {
-    law_fit(behind_opcode(op));
+    law_fit(after_opcode(op));
 }
 
 /// If the lists of an operator have fewer than 2^32 items and the exponent of its alignment is
 /// below 32, its shortest spelling is one of its spellings. So the operator is read back from the
 /// written bytes.
 pub fn law_written(op: &OutOp<'_>)
-    requires { AreSpeakable (meaning op.now).immediates }
+    requires { AreEncodable (meaning op.now).immediates }
     ensures { Spells (meaning op.now) (short (meaning op.now)) }
 {
     law_numbers(op);

@@ -10,7 +10,7 @@ use std::alloc::AllocError;
 #[inline(always)]
 pub(crate) fn write_byte(out: &mut Vec<u8>, byte: u8) -> Result<(), AllocError>
     ensures ok { OnOk result (out.new.items ≡ out.old.items ++ byte ∷ []) }
-    ensures kept { take (length out.old.items) out.new.items ≡ out.old.items }
+    ensures unchanged { take (length out.old.items) out.new.items ≡ out.old.items }
 {
     out.push(byte)?;
     Ok(())
@@ -20,7 +20,7 @@ pub(crate) fn write_byte(out: &mut Vec<u8>, byte: u8) -> Result<(), AllocError>
 #[tactic(auto, using(crate::proofs::Appending::appending), unfolding(wasm_operators::specs::Shortest::short_unsigned))]
 fn write_unsigned(out: &mut Vec<u8>, more: u32, n: u64) -> Result<(), AllocError>
     ensures ok { OnOk result (out.new.items ≡ out.old.items ++ short_unsigned more n) }
-    ensures kept { take (length out.old.items) out.new.items ≡ out.old.items }
+    ensures unchanged { take (length out.old.items) out.new.items ≡ out.old.items }
 {
     if more == 0 {
         return write_byte(out, (n % 128) as u8);
@@ -43,7 +43,7 @@ fn write_unsigned(out: &mut Vec<u8>, more: u32, n: u64) -> Result<(), AllocError
 #[tactic(auto, unfolding(wasm_operators::specs::Shortest::short_unsigned))]
 pub fn write_number(out: &mut Vec<u8>, n: u64) -> Result<(), AllocError>
     ensures ok { OnOk result (out.new.items ≡ out.old.items ++ short_number n) }
-    ensures kept { take (length out.old.items) out.new.items ≡ out.old.items }
+    ensures unchanged { take (length out.old.items) out.new.items ≡ out.old.items }
 {
     if n <= 127 {
         return write_byte(out, n as u8);
@@ -69,7 +69,7 @@ fn below(n: u64) -> i64
 }
 
 /// The low seven bits of a number, and the number of the other bits.
-fn parted(z: i64) -> (u8, i64)
+fn split_digit(z: i64) -> (u8, i64)
     ensures low { result.0 ≡ low_bits z }
     ensures bits { result.0 < 128 }
     ensures high { result.1 ≡ high_bits z }
@@ -86,9 +86,9 @@ fn parted(z: i64) -> (u8, i64)
 #[tactic(auto, using(crate::proofs::Appending::appending), unfolding(wasm_operators::specs::Shortest::short_signed))]
 fn write_signed(out: &mut Vec<u8>, more: u32, z: i64) -> Result<(), AllocError>
     ensures ok { OnOk result (out.new.items ≡ out.old.items ++ short_signed more z) }
-    ensures kept { take (length out.old.items) out.new.items ≡ out.old.items }
+    ensures unchanged { take (length out.old.items) out.new.items ≡ out.old.items }
 {
-    let (low, high) = parted(z);
+    let (low, high) = split_digit(z);
     if more == 0 {
         return write_byte(out, low);
     }
@@ -102,7 +102,7 @@ fn write_signed(out: &mut Vec<u8>, more: u32, z: i64) -> Result<(), AllocError>
 /// Appends the shortest spelling of a signed number.
 pub(crate) fn write_integer(out: &mut Vec<u8>, z: i64) -> Result<(), AllocError>
     ensures ok { OnOk result (out.new.items ≡ out.old.items ++ short_integer z) }
-    ensures kept { take (length out.old.items) out.new.items ≡ out.old.items }
+    ensures unchanged { take (length out.old.items) out.new.items ≡ out.old.items }
 {
     write_signed(out, 9, z)
 }
@@ -111,7 +111,7 @@ pub(crate) fn write_integer(out: &mut Vec<u8>, z: i64) -> Result<(), AllocError>
 #[tactic(auto, using(crate::proofs::Appending::appending))]
 pub(crate) fn write_bits(out: &mut Vec<u8>, count: u32, bits: u128) -> Result<(), AllocError>
     ensures ok { OnOk result (out.new.items ≡ out.old.items ++ short_bits count bits) }
-    ensures kept { take (length out.old.items) out.new.items ≡ out.old.items }
+    ensures unchanged { take (length out.old.items) out.new.items ≡ out.old.items }
 {
     if count == 0 {
         return Ok(());

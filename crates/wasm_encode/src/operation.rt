@@ -19,7 +19,7 @@ use wasm_operators::{Immediates, Op, Opcode, index_rows, parts_of};
 #[tactic(auto, using(crate::proofs::Appending::appending))]
 fn write_opcode(out: &mut Vec<u8>, opcode: Opcode) -> Result<(), AllocError>
     ensures ok { OnOk result (out.new.items ≡ out.old.items ++ short_opcode opcode) }
-    ensures kept { take (length out.old.items) out.new.items ≡ out.old.items }
+    ensures unchanged { take (length out.old.items) out.new.items ≡ out.old.items }
 {
     match opcode {
         Byte(byte) => write_byte(out, byte),
@@ -40,7 +40,7 @@ fn write_parts(
 ) -> Result<(), AllocError>
     ensures ok { OnOk result (out.new.items
         ≡ out.old.items ++ short (operation opcode (immediates_of immediates.now))) }
-    ensures kept { take (length out.old.items) out.new.items ≡ out.old.items }
+    ensures unchanged { take (length out.old.items) out.new.items ≡ out.old.items }
 {
     write_opcode(out, opcode)?;
     write_immediates(out, immediates)
@@ -58,7 +58,7 @@ macro_rules! written {
 #[tactic(auto, using(crate::proofs::Appending::appending))]
 fn write_whole(out: &mut Vec<u8>, op: &OutOp<'_>) -> Result<(), AllocError>
     ensures ok { OnOk result (out.new.items ≡ out.old.items ++ short (meaning op.now)) }
-    ensures kept { take (length out.old.items) out.new.items ≡ out.old.items }
+    ensures unchanged { take (length out.old.items) out.new.items ≡ out.old.items }
 {
     index_rows!(
         parts_of, written (out) op,

@@ -31,7 +31,7 @@ fn heap_byte(heap: AbstractHeapType) -> u8
 /// Appends a heap type.
 pub(crate) fn write_heap_type(out: &mut Vec<u8>, heap: RawHeapType) -> Result<(), AllocError>
     ensures ok { OnOk result (out.new.items ≡ out.old.items ++ short_heap heap) }
-    ensures kept { take (length out.old.items) out.new.items ≡ out.old.items }
+    ensures unchanged { take (length out.old.items) out.new.items ≡ out.old.items }
 {
     match heap {
         RawHeapType::Abstract(heap) => write_byte(out, heap_byte(heap)),
@@ -43,7 +43,7 @@ pub(crate) fn write_heap_type(out: &mut Vec<u8>, heap: RawHeapType) -> Result<()
 #[tactic(auto, using(crate::proofs::Appending::appending))]
 fn write_reference(out: &mut Vec<u8>, nullable: bool, heap: RawHeapType) -> Result<(), AllocError>
     ensures ok { OnOk result (out.new.items ≡ out.old.items ++ short_reference nullable heap) }
-    ensures kept { take (length out.old.items) out.new.items ≡ out.old.items }
+    ensures unchanged { take (length out.old.items) out.new.items ≡ out.old.items }
 {
     if !nullable {
         write_byte(out, 0x64)?;
@@ -61,7 +61,7 @@ fn write_reference(out: &mut Vec<u8>, nullable: bool, heap: RawHeapType) -> Resu
 /// Appends a value type.
 pub(crate) fn write_value_type(out: &mut Vec<u8>, ty: RawValType) -> Result<(), AllocError>
     ensures ok { OnOk result (out.new.items ≡ out.old.items ++ short_value ty) }
-    ensures kept { take (length out.old.items) out.new.items ≡ out.old.items }
+    ensures unchanged { take (length out.old.items) out.new.items ≡ out.old.items }
 {
     match ty {
         RawValType::I32 => write_byte(out, 0x7f),
@@ -76,7 +76,7 @@ pub(crate) fn write_value_type(out: &mut Vec<u8>, ty: RawValType) -> Result<(), 
 /// Appends a block type.
 pub(crate) fn write_block_type(out: &mut Vec<u8>, ty: BlockType) -> Result<(), AllocError>
     ensures ok { OnOk result (out.new.items ≡ out.old.items ++ short_block ty) }
-    ensures kept { take (length out.old.items) out.new.items ≡ out.old.items }
+    ensures unchanged { take (length out.old.items) out.new.items ≡ out.old.items }
 {
     match ty {
         BlockType::Empty => write_byte(out, 0x40),

@@ -19,21 +19,21 @@ entries_more [] raw = append-nil (entry raw)
 entries_more (r ∷ raws) raw = ap (λ (x : List ℕ). entry r ++ x) (entries_more raws raw) ∙ sym (append_assoc (entry r) (entries raws) (entry raw))
 
 -- these bodies come first, and then the bytes that are left
-abbrev pub StandBefore : (end : ℕ) → (text : List ℕ) → List BodyAt → (left : List ℕ) → Type 0
-StandBefore end text [] left = text ≡ left
-StandBefore end text (b ∷ bs) left =
-    (behind : List ℕ) × (u32 text ≡ Ok (length b.bytes, b.bytes ++ behind)) × (b.start ≡ end - length (b.bytes ++ behind))
-    × StandBefore end behind bs left
+abbrev pub ComeFirst : (end : ℕ) → (text : List ℕ) → List BodyAt → (left : List ℕ) → Type 0
+ComeFirst end text [] left = text ≡ left
+ComeFirst end text (b ∷ bs) left =
+    (following : List ℕ) × (u32 text ≡ Ok (length b.bytes, b.bytes ++ following)) × (b.start ≡ end - length (b.bytes ++ following))
+    × ComeFirst end following bs left
 
-stand_more :
-    (end : ℕ) (text : List ℕ) (bs : List BodyAt) (left : List ℕ) (b : BodyAt) (behind : List ℕ) → StandBefore end text bs left →
-    u32 left ≡ Ok (length b.bytes, b.bytes ++ behind) → b.start ≡ end - length (b.bytes ++ behind) → StandBefore end text (bs ++ b ∷ []) behind
-stand_more end text [] left b behind h e p = (behind, ap u32 h ∙ e, p, refl)
-stand_more end text (a ∷ bs) left b behind h e p = (h.0, h.1, h.2, stand_more end h.0 bs left b behind h.3 e p)
+come_more :
+    (end : ℕ) (text : List ℕ) (bs : List BodyAt) (left : List ℕ) (b : BodyAt) (following : List ℕ) → ComeFirst end text bs left →
+    u32 left ≡ Ok (length b.bytes, b.bytes ++ following) → b.start ≡ end - length (b.bytes ++ following) → ComeFirst end text (bs ++ b ∷ []) following
+come_more end text [] left b following h e p = (following, ap u32 h ∙ e, p, refl)
+come_more end text (a ∷ bs) left b following h e p = (h.0, h.1, h.2, come_more end h.0 bs left b following h.3 e p)
 
-stand_alone : (end : ℕ) (text : List ℕ) (bs : List BodyAt) (left : List ℕ) → StandBefore end text bs left → left ≡ [] → AreBodies end text bs
-stand_alone end text [] left h e = h ∙ e
-stand_alone end text (b ∷ bs) left h e = (h.0, h.1, h.2, stand_alone end h.0 bs left h.3 e)
+come_alone : (end : ℕ) (text : List ℕ) (bs : List BodyAt) (left : List ℕ) → ComeFirst end text bs left → left ≡ [] → AreBodies end text bs
+come_alone end text [] left h e = h ∙ e
+come_alone end text (b ∷ bs) left h e = (h.0, h.1, h.2, come_alone end h.0 bs left h.3 e)
 
 -- the number of functions with a body is that of the source
 same_bodies : (source now : ParsedModule) → Extends source now → count_bodies now ≡ count_bodies source
@@ -61,7 +61,7 @@ module _ (writes : Writes) (source : ParsedModule) where
   -- Of the text after the number of bodies, which ends at this place, the first bodies are written after the number.
   pub record CodeSoFar (stop : ℕ) (text : List ℕ) (left : Bodies) (counter count : ℕ) (old now : Option (List ℕ)) (at end : ℕ) : Type 0 where
     pub bodies : List BodyAt
-    pub stand_before : StandBefore stop text bodies left.left.rest.now
+    pub come_first : ComeFirst stop text bodies left.left.rest.now
     pub stop_is : left.left.end ≡ stop
     pub next_is : left.next ≡ source.imported + length bodies
     pub count_is : length bodies ≡ counter
@@ -74,7 +74,7 @@ module _ (writes : Writes) (source : ParsedModule) where
       left.left.end ≡ stop → left.next ≡ now.imported → Puts old new at end (short_number count) → CodeSoFar stop text left 0 count old new at end
   no_bodies now left count old new at end stop text x t e n p = record {
     bodies = [];
-    stand_before = sym t;
+    come_first = sym t;
     stop_is = e;
     next_is = let same = x.imported in omega arith;
     count_is = refl;
@@ -89,12 +89,12 @@ module _ (writes : Writes) (source : ParsedModule) where
       CodeSoFar stop text t (counter + 1) count old later at end
   one_more_body stop text s t r b counter count old now later at middle end raw p i takes w q =
       let taken : TakesBody s (Some b) t = subst (λ (o : Option Body). TakesBody s o t) i takes in
-      let behind = t.left.rest.now in
-      let start : place_of b ≡ stop - length (bytes_of b ++ behind) =
-      let e = taken.3 in let f = p.stop_is in let len = length-append (bytes_of b) behind in let n = length (bytes_of b) in let m = length behind in omega arith in
+      let following = t.left.rest.now in
+      let start : place_of b ≡ stop - length (bytes_of b ++ following) =
+      let e = taken.3 in let f = p.stop_is in let len = length-append (bytes_of b) following in let n = length (bytes_of b) in let m = length following in omega arith in
       record {
         bodies = p.bodies ++ body_at b ∷ [];
-        stand_before = stand_more stop text p.bodies s.left.rest.now (body_at b) behind p.stand_before taken.4 start;
+        come_first = come_more stop text p.bodies s.left.rest.now (body_at b) following p.come_first taken.4 start;
         stop_is = taken.2 ∙ p.stop_is;
         next_is = let len = length-append p.bodies (body_at b ∷ []) in let n = p.next_is in let k = taken.1 in omega arith;
         count_is = let len = length-append p.bodies (body_at b ∷ []) in let n = p.count_is in omega arith;
@@ -116,7 +116,7 @@ module _ (writes : Writes) (source : ParsedModule) where
         short_number count ++ entries p.raws,
         record {
           bodies = p.bodies;
-          are_bodies = (text, e ∙ ap (λ (n : ℕ). Ok (n, text)) (sym all), stand_alone s.end text p.bodies left.left.rest.now p.stand_before done);
+          are_bodies = (text, e ∙ ap (λ (n : ℕ). Ok (n, text)) (sym all), come_alone s.end text p.bodies left.left.rest.now p.come_first done);
           are_all = all ∙ n ∙ same_bodies source now x;
           raws = p.raws;
           are_written = p.are_written;

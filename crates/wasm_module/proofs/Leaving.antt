@@ -23,8 +23,8 @@ byte_leaves (b ∷ bytes) v rest e = (b ∷ [], ap (λ (p : ℕ × List ℕ). b 
 pub integer_leaves : {V : Type 0} (g : Encoding V) (w : ℕ) → Leaves (integer g w)
 integer_leaves g w bytes v rest e = let t = number_takes g w bytes v rest e in (t.front, t.parts)
 
-behind_both : (bytes first middle second rest : List ℕ) → bytes ≡ first ++ middle → middle ≡ second ++ rest → bytes ≡ (first ++ second) ++ rest
-behind_both bytes first middle second rest p q = p ∙ ap (λ (l : List ℕ). first ++ l) q ∙ sym (append_assoc first second rest)
+after_both : (bytes first middle second rest : List ℕ) → bytes ≡ first ++ middle → middle ≡ second ++ rest → bytes ≡ (first ++ second) ++ rest
+after_both bytes first middle second rest p q = p ∙ ap (λ (l : List ℕ). first ++ l) q ∙ sym (append_assoc first second rest)
 
 -- a reader, and another after it
 then_leaves : {A B : Type 0} (r : Reader A) (s : A → Reader B) → Leaves r → ((a : A) → Leaves (s a)) → Leaves (then_read r s)
@@ -34,7 +34,7 @@ then_leaves {A} {B} r s p q bytes v rest e =
     let first = p bytes x.0.0 x.0.1 x.1 in
     let second = q x.0.0 x.0.1 y.0.0 y.0.1 y.1 in
     let same = ok_is ((x.0.0, y.0.0), y.0.1) (v, rest) y.2 in
-    (first.0 ++ second.0, behind_both bytes first.0 x.0.1 second.0 rest first.1 (second.1 ∙ ap (λ (z : (A × B) × List ℕ). second.0 ++ z.1) same))
+    (first.0 ++ second.0, after_both bytes first.0 x.0.1 second.0 rest first.1 (second.1 ∙ ap (λ (z : (A × B) × List ℕ). second.0 ++ z.1) same))
 
 made_leaves : {A B : Type 0} (r : Reader A) (make : A → Result B ReadFault) → Leaves r → Leaves (made r make)
 made_leaves {A} {B} r make p bytes v rest e =
@@ -56,7 +56,7 @@ many_leaves {A} r (suc n) p bytes v rest e =
     let first = p bytes x.0.0 x.0.1 x.1 in
     let second = many_leaves r n p x.0.1 y.0.0 y.0.1 y.1 in
     let same = ok_is (x.0.0 ∷ y.0.0, y.0.1) (v, rest) y.2 in
-    (first.0 ++ second.0, behind_both bytes first.0 x.0.1 second.0 rest first.1 (second.1 ∙ ap (λ (z : List A × List ℕ). second.0 ++ z.1) same))
+    (first.0 ++ second.0, after_both bytes first.0 x.0.1 second.0 rest first.1 (second.1 ∙ ap (λ (z : List A × List ℕ). second.0 ++ z.1) same))
 
 -- ---- types and declarations
 
@@ -82,7 +82,7 @@ groups_leave bytes v rest e =
     let n = bind_ok (u32 bytes) (λ n. many group n.0 n.1) (v, rest) e in
     let first = integer_leaves unsigned 32 bytes n.0.0 n.0.1 n.1 in
     let second = many_leaves group n.0.0 group_leaves n.0.1 v rest n.2 in
-    (first.0 ++ second.0, behind_both bytes first.0 n.0.1 second.0 rest first.1 second.1)
+    (first.0 ++ second.0, after_both bytes first.0 n.0.1 second.0 rest first.1 second.1)
 
 -- ---- the bytes that are left, by the number of bytes before them
 

@@ -13,7 +13,7 @@ use Rattle.wasm_numbers.specs.Reading.{Reader, many}
 use Rattle.wasm_numbers.proofs.Agreement.{ok_is}
 use Rattle.walrus_maps.specs.declared.indices_to_ids.IndicesToIds.{IndicesToIds}
 use Rattle.wasm_module.proofs.Leaving.{groups_leave, dropped}
-use Rattle.wasm_module.specs.Declarations.{group, groups, named_group, expanded, HaveLocals, HasNoLocals, most_locals, parameters_of, DeclaresGroup, HasNoGroup}
+use Rattle.wasm_module.specs.Declarations.{group, groups, named_group, expanded, HaveLocals, HasNoLocals, max_locals, parameters_of, DeclaresGroup, HasNoGroup}
 
 -- ---- one more after others
 
@@ -22,20 +22,20 @@ bind_is : {A B E : Type 0} (r : Result A E) (f : A → Result B E) (x : A) (y : 
 bind_is r f x y e h = ap (λ q. q >>= f) e ∙ h
 
 many_more :
-    {A : Type 0} (one : Reader A) (n : ℕ) (bytes : List ℕ) (xs : List A) (behind : List ℕ) (x : A) (rest : List ℕ) → many one n bytes ≡ Ok (xs, behind) →
-    one behind ≡ Ok (x, rest) → many one (suc n) bytes ≡ Ok (xs ++ x ∷ [], rest)
+    {A : Type 0} (one : Reader A) (n : ℕ) (bytes : List ℕ) (xs : List A) (following : List ℕ) (x : A) (rest : List ℕ) → many one n bytes ≡ Ok (xs, following) →
+    one following ≡ Ok (x, rest) → many one (suc n) bytes ≡ Ok (xs ++ x ∷ [], rest)
 unfolding many
-many_more {A} one zero bytes xs behind x rest h e =
-    let both = ok_is ([], bytes) (xs, behind) h in
+many_more {A} one zero bytes xs following x rest h e =
+    let both = ok_is ([], bytes) (xs, following) h in
     let here : one bytes ≡ Ok (x, rest) = ap (λ (p : List A × List ℕ). one p.1) both ∙ e in
     bind_is (one bytes) (λ first. many one zero first.1 >>= λ others. Ok (first.0 ∷ others.0, others.1)) (x, rest) (Ok (xs ++ x ∷ [], rest)) here
     (ap (λ (p : List A × List ℕ). Ok (p.0 ++ x ∷ [], rest)) both)
-many_more {A} one (suc n) bytes xs behind x rest h e =
-    let a = bind_ok (one bytes) (λ first. many one n first.1 >>= λ others. Ok (first.0 ∷ others.0, others.1)) (xs, behind) h in
-    let b = bind_ok (many one n a.0.1) (λ others. Ok (a.0.0 ∷ others.0, others.1)) (xs, behind) a.2 in
-    let both = ok_is (a.0.0 ∷ b.0.0, b.0.1) (xs, behind) b.2 in
-    let here : many one n a.0.1 ≡ Ok (b.0.0, behind) = b.1 ∙ ap (λ (p : List A × List ℕ). Ok (b.0.0, p.1)) both in
-    let more = many_more one n a.0.1 b.0.0 behind x rest here e in
+many_more {A} one (suc n) bytes xs following x rest h e =
+    let a = bind_ok (one bytes) (λ first. many one n first.1 >>= λ others. Ok (first.0 ∷ others.0, others.1)) (xs, following) h in
+    let b = bind_ok (many one n a.0.1) (λ others. Ok (a.0.0 ∷ others.0, others.1)) (xs, following) a.2 in
+    let both = ok_is (a.0.0 ∷ b.0.0, b.0.1) (xs, following) b.2 in
+    let here : many one n a.0.1 ≡ Ok (b.0.0, following) = b.1 ∙ ap (λ (p : List A × List ℕ). Ok (b.0.0, p.1)) both in
+    let more = many_more one n a.0.1 b.0.0 following x rest here e in
     bind_is (one bytes) (λ first. many one (suc n) first.1 >>= λ others. Ok (first.0 ∷ others.0, others.1)) a.0 (Ok (xs ++ x ∷ [], rest)) a.1
     (bind_is (many one (suc n) a.0.1) (λ others. Ok (a.0.0 ∷ others.0, others.1)) (b.0.0 ++ x ∷ [], rest) (Ok (xs ++ x ∷ [], rest)) more
     (ap (λ (p : List A × List ℕ). Ok (p.0 ++ x ∷ [], rest)) both))
@@ -68,11 +68,11 @@ unfolding many
 none_declared indices text before types e = record { declared = []; are_read = refl; named = []; are_named = refl; types_are = e ∙ sym (append-nil before) }
 
 pub one_more_declared :
-    (indices : IndicesToIds) (n : ℕ) (text now behind : List ℕ) (before types more : List (ValType ℕ)) → DeclareSoFar indices n text now before types →
-    DeclaresGroup indices now behind types more → DeclareSoFar indices (n + 1) text behind before more
-one_more_declared indices n text now behind before types more p g = record {
+    (indices : IndicesToIds) (n : ℕ) (text now following : List ℕ) (before types more : List (ValType ℕ)) → DeclareSoFar indices n text now before types →
+    DeclaresGroup indices now following types more → DeclareSoFar indices (n + 1) text following before more
+one_more_declared indices n text now following before types more p g = record {
   declared = p.declared ++ g.declared ∷ [];
-  are_read = rw add-one (many_more group n text p.declared now g.declared behind p.are_read g.is_read);
+  are_read = rw add-one (many_more group n text p.declared now g.declared following p.are_read g.is_read);
   named = p.named ++ g.named ∷ [];
   are_named = each_more (named_group indices) p.declared p.named g.declared g.named p.are_named g.is_named;
   types_are =
@@ -95,11 +95,11 @@ all_declared indices n bytes text now before types e p = record {
 -- ---- one group
 
 pub reads_group :
-    (bytes typed behind : List ℕ) (count : ℕ) (type : ValType ℕ) → u32 bytes ≡ Ok (count, typed) → value_type typed ≡ Ok (type, behind) →
-    group bytes ≡ Ok ((count, type), behind)
-reads_group bytes typed behind count type e t =
-    bind_is (u32 bytes) (λ x. value_type x.1 >>= λ y. Ok ((x.0, y.0), y.1)) (count, typed) (Ok ((count, type), behind)) e
-    (bind_is (value_type typed) (λ y. Ok ((count, y.0), y.1)) (type, behind) (Ok ((count, type), behind)) t refl)
+    (bytes typed following : List ℕ) (count : ℕ) (type : ValType ℕ) → u32 bytes ≡ Ok (count, typed) → value_type typed ≡ Ok (type, following) →
+    group bytes ≡ Ok ((count, type), following)
+reads_group bytes typed following count type e t =
+    bind_is (u32 bytes) (λ x. value_type x.1 >>= λ y. Ok ((x.0, y.0), y.1)) (count, typed) (Ok ((count, type), following)) e
+    (bind_is (value_type typed) (λ y. Ok ((count, y.0), y.1)) (type, following) (Ok ((count, type), following)) t refl)
 
 pub names_group :
     (indices : IndicesToIds) (count : ℕ) (type named : ValType ℕ) → translate_value (ids_at indices) type ≡ Ok named →
@@ -123,20 +123,20 @@ operators_left indices parameters given all rest before bytes locals e have b s 
 -- ---- if no more groups are declared
 
 -- the item that follows some of those that are read
-pub record NextRead {A : Type 0} (one : Reader A) (xs ys : List A) (behind : List ℕ) : Type 0 where
+pub record NextRead {A : Type 0} (one : Reader A) (xs ys : List A) (following : List ℕ) : Type 0 where
   pub item : A
   pub others : List A
   pub rest : List ℕ
-  pub is_read : one behind ≡ Ok (item, rest)
+  pub is_read : one following ≡ Ok (item, rest)
   pub are : ys ≡ xs ++ item ∷ others
 
 many_at :
-    {A : Type 0} (one : Reader A) (k n : ℕ) (bytes : List ℕ) (xs : List A) (behind : List ℕ) (ys : List A) (end : List ℕ) → k < n → many one k bytes ≡ Ok (xs, behind) →
-    many one n bytes ≡ Ok (ys, end) → NextRead one xs ys behind
+    {A : Type 0} (one : Reader A) (k n : ℕ) (bytes : List ℕ) (xs : List A) (following : List ℕ) (ys : List A) (end : List ℕ) → k < n → many one k bytes ≡ Ok (xs, following) →
+    many one n bytes ≡ Ok (ys, end) → NextRead one xs ys following
 unfolding many
-many_at {A} one k zero bytes xs behind ys end less h e = absurd (omega arith)
-many_at {A} one zero (suc n) bytes xs behind ys end less h e =
-    let before = ok_is ([], bytes) (xs, behind) h in
+many_at {A} one k zero bytes xs following ys end less h e = absurd (omega arith)
+many_at {A} one zero (suc n) bytes xs following ys end less h e =
+    let before = ok_is ([], bytes) (xs, following) h in
     let a = bind_ok (one bytes) (λ first. many one n first.1 >>= λ others. Ok (first.0 ∷ others.0, others.1)) (ys, end) e in
     let b = bind_ok (many one n a.0.1) (λ others. Ok (a.0.0 ∷ others.0, others.1)) (ys, end) a.2 in
     let both = ok_is (a.0.0 ∷ b.0.0, b.0.1) (ys, end) b.2 in
@@ -148,10 +148,10 @@ many_at {A} one zero (suc n) bytes xs behind ys end less h e =
       is_read = ap (λ (p : List A × List ℕ). one p.1) (sym before) ∙ a.1;
       are = sym (ap (λ (p : List A × List ℕ). p.0) both) ∙ ap (λ (l : List A). l ++ a.0.0 ∷ b.0.0) (sym none);
     }
-many_at {A} one (suc k) (suc n) bytes xs behind ys end less h e =
-    let a = bind_ok (one bytes) (λ first. many one k first.1 >>= λ others. Ok (first.0 ∷ others.0, others.1)) (xs, behind) h in
-    let b = bind_ok (many one k a.0.1) (λ others. Ok (a.0.0 ∷ others.0, others.1)) (xs, behind) a.2 in
-    let before = ok_is (a.0.0 ∷ b.0.0, b.0.1) (xs, behind) b.2 in
+many_at {A} one (suc k) (suc n) bytes xs following ys end less h e =
+    let a = bind_ok (one bytes) (λ first. many one k first.1 >>= λ others. Ok (first.0 ∷ others.0, others.1)) (xs, following) h in
+    let b = bind_ok (many one k a.0.1) (λ others. Ok (a.0.0 ∷ others.0, others.1)) (xs, following) a.2 in
+    let before = ok_is (a.0.0 ∷ b.0.0, b.0.1) (xs, following) b.2 in
     let c = bind_ok (one bytes) (λ first. many one n first.1 >>= λ others. Ok (first.0 ∷ others.0, others.1)) (ys, end) e in
     let d = bind_ok (many one n c.0.1) (λ others. Ok (c.0.0 ∷ others.0, others.1)) (ys, end) c.2 in
     let all = ok_is (c.0.0 ∷ d.0.0, d.0.1) (ys, end) d.2 in
@@ -209,10 +209,10 @@ expanded_at (h ∷ gs) g more =
     let all = length-append (replicate h.0 h.1) (expanded (gs ++ g ∷ more)) in
     omega arith
 
-pub none_behind :
+pub none_after :
     (indices : IndicesToIds) (k n : ℕ) (bytes text now : List ℕ) (before types : List (ValType ℕ)) (count : ℕ) → u32 bytes ≡ Ok (n, text) → k < n →
     DeclareSoFar indices k text now before types → count ≡ length types → HasNoGroup indices now count → HasNoLocals indices before bytes
-none_behind indices k n bytes text now before types count e less p is_count none = λ operators locals have.
+none_after indices k n bytes text now before types count e less p is_count none = λ operators locals have.
     let are_read : many group n text ≡ Ok (have.declared, operators) =
     sym (bind_is (u32 bytes) (λ x. many group x.0 x.1) (n, text) (many group n text) e refl) ∙ have.are_read in
     let r = many_at group k n text p.declared now have.declared operators less p.are_read are_read in
@@ -230,7 +230,7 @@ pub none_of_type :
     (indices : IndicesToIds) (types : List ModuleType) (found : Option ℕ) (type : ℕ) (given : List (ValType ℕ)) (bytes : List ℕ) → found ≡ Some type →
     given ≡ parameters_of types type → HasNoLocals indices given bytes →
     (other : ℕ) (operators : List ℕ) (locals : List (ValType ℕ)) → found ≡ Some other → HaveLocals indices (parameters_of types other) bytes operators locals →
-    most_locals < length locals
+    max_locals < length locals
 none_of_type indices types found type given bytes e g none other operators locals is have =
     let same : type ≡ other = ap (λ (o : Option ℕ). unwrap_or o 0) (sym e ∙ is) in
     none operators locals (subst (λ (ps : List (ValType ℕ)). HaveLocals indices ps bytes operators locals) (sym (g ∙ ap (λ (t : ℕ). parameters_of types t) same)) have)

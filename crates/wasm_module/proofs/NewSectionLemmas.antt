@@ -6,35 +6,35 @@ use Rattle.std.proofs.lemmas.List.{append-nil, drop_all}
 use Rattle.wasm_numbers.specs.Numbers.{u32}
 use Rattle.wasm_numbers.proofs.Agreement.{ok_is}
 use Rattle.wasm_module.specs.declared.changes.Changes.{Changes}
-use Rattle.wasm_module.specs.declared.changes.Given.{Given}
+use Rattle.wasm_module.specs.declared.changes.NewContents.{NewContents}
 use Rattle.wasm_module.specs.declared.fault.ModuleError.{ModuleError}
 use Rattle.wasm_module.specs.declared.sections.Section.{Section}
 use Rattle.wasm_module.specs.declared.sections.Sections.{Sections}
 use Rattle.wasm_module.specs.Sections.{preamble, rank, next_rank, SectionAt, Begins, AreSections, IsModule, section, section_at, id_of, TakesSection}
 use Rattle.wasm_module.specs.declared.parsed.ParsedModule.{ParsedModule}
-use Rattle.wasm_module.specs.WrittenModules.{Puts, Writes, stands_between, between, new_behind, new_behind_section}
+use Rattle.wasm_module.specs.WrittenModules.{Puts, Writes, is_between, between, new_after, new_after_section}
 use Rattle.wasm_module.proofs.WritingLemmas.{puts_then, puts_nothing, puts_same}
 
 -- ---- at the front of a module
 
 -- A section at the front has one rank, and one end.
 one_rank :
-    (end : ℕ) (text : List ℕ) (s t : SectionAt) (behind after : List ℕ) → Begins end text s behind → Begins end text t after →
-    (rank s.id ≡ rank t.id) × (behind ≡ after)
-one_rank end text s t behind after p q =
+    (end : ℕ) (text : List ℕ) (s t : SectionAt) (following after : List ℕ) → Begins end text s following → Begins end text t after →
+    (rank s.id ≡ rank t.id) × (following ≡ after)
+one_rank end text s t following after p q =
     let whole : s.id ∷ p.sized ≡ t.id ∷ q.sized = sym p.id_is ∙ q.id_is in
     let sized = sym p.size_is ∙ ap (λ (l : List ℕ). u32 (drop 1 l)) whole ∙ q.size_is in
-    let same = ok_is (length s.contents, s.contents ++ behind) (length t.contents, t.contents ++ after) sized in (
+    let same = ok_is (length s.contents, s.contents ++ following) (length t.contents, t.contents ++ after) sized in (
       ap (λ (l : List ℕ). rank (get_or l 0 0)) whole,
-      sym (drop-append_seam s.contents behind) ∙ ap (λ (x : ℕ × List ℕ). drop x.0 x.1) same ∙ drop-append_seam t.contents after,
+      sym (drop-append_seam s.contents following) ∙ ap (λ (x : ℕ × List ℕ). drop x.0 x.1) same ∙ drop-append_seam t.contents after,
     )
 
 first_left :
-    (end : ℕ) (text : List ℕ) (left : List SectionAt) (x : SectionAt) (behind : List ℕ) → AreSections end text left → Begins end text x behind →
-    (y : SectionAt) × (ys : List SectionAt) × (left ≡ y ∷ ys) × (rank y.id ≡ rank x.id) × AreSections end behind ys
-first_left end text [] x behind a b = let e : [] ≡ x.id ∷ b.sized = sym a ∙ b.id_is in absurd cc
-first_left end text (y ∷ ys) x behind a b =
-    let same = one_rank end text y x a.0 behind a.1 b in (y, ys, refl, same.0, subst (λ (l : List ℕ). AreSections end l ys) same.1 a.2)
+    (end : ℕ) (text : List ℕ) (left : List SectionAt) (x : SectionAt) (following : List ℕ) → AreSections end text left → Begins end text x following →
+    (y : SectionAt) × (ys : List SectionAt) × (left ≡ y ∷ ys) × (rank y.id ≡ rank x.id) × AreSections end following ys
+first_left end text [] x following a b = let e : [] ≡ x.id ∷ b.sized = sym a ∙ b.id_is in absurd cc
+first_left end text (y ∷ ys) x following a b =
+    let same = one_rank end text y x a.0 following a.1 b in (y, ys, refl, same.0, subst (λ (l : List ℕ). AreSections end l ys) same.1 a.2)
 
 -- ---- the next rank
 
@@ -92,36 +92,36 @@ none_found all r s t o p i takes =
 -- ---- given contents, one after the other
 
 -- The first `i` of the given sections were looked at, and those between the two ranks were written.
-pub record NewSoFar (first second : ℕ) (gs : List Given) (i : ℕ) (old now : Option (List ℕ)) (at end : ℕ) : Type 0 where
+pub record NewSoFar (first second : ℕ) (gs : List NewContents) (i : ℕ) (old now : Option (List ℕ)) (at end : ℕ) : Type 0 where
   pub text : List ℕ
   pub puts : Puts old now at end text
   pub same : text ++ between first second (drop i gs) ≡ between first second gs
 
-pub nothing_new : (first second : ℕ) (gs : List Given) (known : Option (List ℕ)) (at : ℕ) → NewSoFar first second gs 0 known known at at
+pub nothing_new : (first second : ℕ) (gs : List NewContents) (known : Option (List ℕ)) (at : ℕ) → NewSoFar first second gs 0 known known at at
 nothing_new first second gs known at = record { text = []; puts = puts_nothing known at; same = refl }
 
-pub stands : (first middle second : ℕ) → first < middle → middle < second → (nat_lt first middle && nat_lt middle second) ≡ true
-stands first middle second p q = ap (λ (b : Bool). b && nat_lt middle second) (lt-ltb first middle p) ∙ lt-ltb middle second q
+pub is_within_ranks : (first middle second : ℕ) → first < middle → middle < second → (nat_lt first middle && nat_lt middle second) ≡ true
+is_within_ranks first middle second p q = ap (λ (b : Bool). b && nat_lt middle second) (lt-ltb first middle p) ∙ lt-ltb middle second q
 
-pub stands_before : (first middle second : ℕ) → middle ≤ first → (nat_lt first middle && nat_lt middle second) ≡ false
-stands_before first middle second p = ap (λ (b : Bool). b && nat_lt middle second) (le-ltb first middle p)
+pub is_before_ranks : (first middle second : ℕ) → middle ≤ first → (nat_lt first middle && nat_lt middle second) ≡ false
+is_before_ranks first middle second p = ap (λ (b : Bool). b && nat_lt middle second) (le-ltb first middle p)
 
-pub stands_behind : (first middle second : ℕ) → first < middle → second ≤ middle → (nat_lt first middle && nat_lt middle second) ≡ false
-stands_behind first middle second p q = ap (λ (b : Bool). b && nat_lt middle second) (lt-ltb first middle p) ∙ le-ltb middle second q
+pub is_after_ranks : (first middle second : ℕ) → first < middle → second ≤ middle → (nat_lt first middle && nat_lt middle second) ≡ false
+is_after_ranks first middle second p q = ap (λ (b : Bool). b && nat_lt middle second) (lt-ltb first middle p) ∙ le-ltb middle second q
 
-module _ (first second : ℕ) (gs : List Given) (i : ℕ) (g : Given) (within : i < length gs) (is : g ≡ get_or gs i g) where
+module _ (first second : ℕ) (gs : List NewContents) (i : ℕ) (g : NewContents) (within : i < length gs) (is : g ≡ get_or gs i g) where
   -- the bytes for this section and for those after it
   step :
-      (b : Bool) → stands_between first second g ≡ b →
+      (b : Bool) → is_between first second g ≡ b →
       between first second (drop i gs) ≡ (if b then section (id_of g.kind) g.contents.items ++ between first second (drop (i + 1) gs) else between first second (drop (i + 1) gs))
   step b e =
       let here : drop i gs ≡ g ∷ drop (i + 1) gs =
-      drop-cons gs i g within ∙ ap (λ (x : Given). x ∷ drop (suc i) gs) (sym is) ∙ ap (λ (n : ℕ). g ∷ drop n gs) (sym (add-one i)) in
-      ap (λ (l : List Given). between first second l) here
+      drop-cons gs i g within ∙ ap (λ (x : NewContents). x ∷ drop (suc i) gs) (sym is) ∙ ap (λ (n : ℕ). g ∷ drop n gs) (sym (add-one i)) in
+      ap (λ (l : List NewContents). between first second l) here
       ∙ ap (λ (b : Bool). if b then section (id_of g.kind) g.contents.items ++ between first second (drop (i + 1) gs) else between first second (drop (i + 1) gs)) e
 
   pub one_new :
-      (old now later new : Option (List ℕ)) (at middle end last : ℕ) → NewSoFar first second gs i old now at middle → stands_between first second g ≡ true →
+      (old now later new : Option (List ℕ)) (at middle end last : ℕ) → NewSoFar first second gs i old now at middle → is_between first second g ≡ true →
       Puts now later middle end (section (id_of g.kind) g.contents.items) → later ≡ new → end ≡ last → NewSoFar first second gs (i + 1) old new at last
   one_new old now later new at middle end last p b q out end_is =
       let own = section (id_of g.kind) g.contents.items in
@@ -133,7 +133,7 @@ module _ (first second : ℕ) (gs : List Given) (i : ℕ) (g : Given) (within : 
       }
 
   pub one_elsewhere :
-      (old now new : Option (List ℕ)) (at middle last : ℕ) → NewSoFar first second gs i old now at middle → stands_between first second g ≡ false → now ≡ new → middle ≡ last →
+      (old now new : Option (List ℕ)) (at middle last : ℕ) → NewSoFar first second gs i old now at middle → is_between first second g ≡ false → now ≡ new → middle ≡ last →
       NewSoFar first second gs (i + 1) old new at last
   one_elsewhere old now new at middle last p b out end_is = record {
     text = p.text;
@@ -142,16 +142,16 @@ module _ (first second : ℕ) (gs : List Given) (i : ℕ) (g : Given) (within : 
   }
 
 pub all_new :
-    (first second : ℕ) (gs : List Given) (i : ℕ) (old now : Option (List ℕ)) (at end : ℕ) → NewSoFar first second gs i old now at end → length gs ≤ i →
+    (first second : ℕ) (gs : List NewContents) (i : ℕ) (old now : Option (List ℕ)) (at end : ℕ) → NewSoFar first second gs i old now at end → length gs ≤ i →
     Puts old now at end (between first second gs)
 all_new first second gs i old now at end p h =
-    let none = ap (λ (l : List Given). p.text ++ between first second l) (drop_all i gs h) in
+    let none = ap (λ (l : List NewContents). p.text ++ between first second l) (drop_all i gs h) in
     puts_same old now at end p.text (between first second gs) (sym (append-nil p.text) ∙ sym none ∙ p.same) p.puts
 
 -- ---- after a section
 
-pub behind_other :
+pub after_other :
     (writes : Writes) (source : ParsedModule) (changes : Changes) (all : List SectionAt) (r : ℕ) → r ≢ 0 →
-    new_behind changes.given.items all r ≡ new_behind_section writes source changes all r
-behind_other writes source changes all zero h = absurd (h refl)
-behind_other writes source changes all (suc r) h = refl
+    new_after changes.given.items all r ≡ new_after_section writes source changes all r
+after_other writes source changes all zero h = absurd (h refl)
+after_other writes source changes all (suc r) h = refl

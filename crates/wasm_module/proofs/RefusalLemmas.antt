@@ -13,7 +13,7 @@ use Rattle.walrus_parser.specs.Settings.{BothOrNone}
 use Rattle.walrus_numbering.specs.NumberMaps.{numbers_by}
 use Rattle.walrus_rewrite.specs.declared.error.RewriteError.{RewriteError}
 use Rattle.walrus_rewrite.specs.declared.error.RewriteError.TheVariants.{Parse, Walk, Emit}
-use Rattle.walrus_rewrite.specs.Errors.{WantsMemory}
+use Rattle.walrus_rewrite.specs.Errors.{IsOutOfMemory}
 use Rattle.walrus_rewrite.specs.RewrittenBodies.{RefusesRewriting}
 use Rattle.wasm_module.specs.declared.fault.ModuleError.{ModuleError}
 use Rattle.wasm_module.specs.declared.fault.ModuleFault.TheVariants.{Memory}
@@ -31,9 +31,9 @@ pub refused :
     Enters source function b now type args count body → id ≡ 0 →
     (f.error ≡ parse.Memory) ⊎ FirstFault (body_setting now.module now.spaces.indices id type body locals_below count None) (body_operators body) f →
     (f.error ≡ parse.Memory → e.fault ≡ Memory) → e.at ≡ f.at → IsRefused source function b now e
-refused source now function b type id args count body f e enters is_first r wants place =
+refused source now function b type id args count body f e enters is_first r out_of_memory place =
     elim r [
-      | inl memory ↦ inl (wants memory)
+      | inl memory ↦ inl (out_of_memory memory)
       | inr fault ↦ inr (inr (record {
         type = type;
         args = args;
@@ -50,39 +50,39 @@ refused source now function b type id args count body f e enters is_first r want
 -- ---- a rewriting
 
 -- no location function
-abbrev nothing_asked : (F : Type 0) → Option (Bor F)
-nothing_asked F = None
+abbrev no_location_function : (F : Type 0) → Option (Bor F)
+no_location_function F = None
 
 -- without a location function there is none
 accepted_without :
-    (F : Type 0) (given : Option (ℕ → ℕ) → Setting ℕ) (bytes : List ℕ) (tree : Body Occurrence) (locations : Option (ℕ → ℕ)) → BothOrNone (nothing_asked F) locations →
+    (F : Type 0) (given : Option (ℕ → ℕ) → Setting ℕ) (bytes : List ℕ) (tree : Body Occurrence) (locations : Option (ℕ → ℕ)) → BothOrNone (no_location_function F) locations →
     Accepted (given locations) bytes tree → Accepted (given None) bytes tree
 accepted_without F given bytes tree None none a = a
 accepted_without F given bytes tree (Some l) none a = absurd none
 
 pub first_alone :
     (F : Type 0) (given : Option (ℕ → ℕ) → Setting ℕ) (bytes : List ℕ) (f : ParseFailure) →
-    (f.error ≡ parse.Memory) ⊎ ((locations : Option (ℕ → ℕ)) → BothOrNone (nothing_asked F) locations → FirstFault (given locations) bytes f) →
+    (f.error ≡ parse.Memory) ⊎ ((locations : Option (ℕ → ℕ)) → BothOrNone (no_location_function F) locations → FirstFault (given locations) bytes f) →
     (f.error ≡ parse.Memory) ⊎ FirstFault (given None) bytes f
 first_alone F given bytes f (inl memory) = inl memory
 first_alone F given bytes f (inr fault) = inr (fault None tt)
 
 pub not_rewritten :
-    (F : Type 0) (asks : Shared F (Bor ℕ × Unit {0}) ℕ)
+    (F : Type 0) (calls : Shared F (Bor ℕ × Unit {0}) ℕ)
     (source now : ParsedModule) (function : ℕ) (b : BodyAt) (type id : ℕ) (args : List ℕ) (count : ℕ) (body : FunctionBody) (start : ℕ) (x : RewriteError) (e : ModuleError) →
     Enters source function b now type args count body → id ≡ 0 → start ≡ b.start →
-    RefusesRewriting asks (body_input now.module now.spaces.indices id type body (nothing_asked F) locals_below count)
-    (record { to = numbers_by now.module.types now.spaces.numbers []; types = now.module.locals; args = args }) x → (WantsMemory x → e.fault ≡ Memory) → e.at ≡ place_in_file start x →
+    RefusesRewriting calls (body_input now.module now.spaces.indices id type body (no_location_function F) locals_below count)
+    (record { to = numbers_by now.module.types now.spaces.numbers []; types = now.module.locals; args = args }) x → (IsOutOfMemory x → e.fault ≡ Memory) → e.at ≡ place_in_file start x →
     IsNotRewritten source function b now e
-not_rewritten F asks source now function b type id args count body start (Parse f) e enters is_first same r wants place =
-    inl (refused source now function b type id args count body f e enters is_first (first_alone F (λ locations. body_setting now.module now.spaces.indices id type body locals_below count locations) (body_operators body) f r) wants place)
-not_rewritten F asks source now function b type id args count body start (Walk w) e enters is_first same r wants place = inl (inl (wants r))
-not_rewritten F asks source now function b type id args count body start (Emit x) e enters is_first same r wants place =
+not_rewritten F calls source now function b type id args count body start (Parse f) e enters is_first same r out_of_memory place =
+    inl (refused source now function b type id args count body f e enters is_first (first_alone F (λ locations. body_setting now.module now.spaces.indices id type body locals_below count locations) (body_operators body) f r) out_of_memory place)
+not_rewritten F calls source now function b type id args count body start (Walk w) e enters is_first same r out_of_memory place = inl (inl (out_of_memory r))
+not_rewritten F calls source now function b type id args count body start (Emit x) e enters is_first same r out_of_memory place =
     let At : ℕ → Type 0 =
-    λ n. RefusesRewriting asks (body_input now.module now.spaces.indices n type body (nothing_asked F) locals_below count)
+    λ n. RefusesRewriting calls (body_input now.module now.spaces.indices n type body (no_location_function F) locals_below count)
     (record { to = numbers_by now.module.types now.spaces.numbers []; types = now.module.locals; args = args }) (Emit x) in
     elim (subst At is_first r) [
-      | inl memory ↦ inl (inl (wants memory))
+      | inl memory ↦ inl (inl (out_of_memory memory))
       | inr none ↦ inr (
         place ∙ same,
         record {

@@ -9,7 +9,7 @@ use Rattle.walrus_body.specs.FunctionParts.{FunctionParts}
 use Rattle.walrus_parser.specs.Bodies.{AcceptsBody, body_input}
 use Rattle.walrus_body.specs.EmittedInstructions.{LentPairs, Left}
 use Rattle.walrus_numbering.specs.NumberMaps.{numbers_by}
-use Rattle.walrus_rewrite.specs.RawBodies.{Given, given, IsRawBodyOf, AppendsBoth}
+use Rattle.walrus_rewrite.specs.RawBodies.{EmitInput, emit_input, IsRawBodyOf, AppendsBoth}
 use Rattle.walrus_rewrite.specs.RewrittenBodies.{Rewrites}
 use Rattle.wasm_module.specs.declared.parsed.ParsedModule.{ParsedModule}
 use Rattle.wasm_module.specs.CodeSections.{BodyAt}
@@ -18,20 +18,20 @@ use Rattle.wasm_module.specs.RewrittenCode.{Extends, Enters, IsRewrittenAs, IsRe
 use Rattle.wasm_module.proofs.ModuleLemmas.{extends_then}
 
 -- no location function
-abbrev nothing_asked : (F : Type 0) → Option (Bor F)
-nothing_asked F = None
+abbrev no_location_function : (F : Type 0) → Option (Bor F)
+no_location_function F = None
 
 -- bytes that are appended to an empty list
 pub rewritten :
-    {F Z : Type 0} {asks : Shared F (Bor ℕ × Unit {0}) ℕ} {made : Function} {mapping : List (ℕ × ℕ)} {entry : Option (LentPairs Z)} {exit : Left (LentPairs Z)}
+    {F Z : Type 0} {calls : Shared F (Bor ℕ × Unit {0}) ℕ} {made : Function} {mapping : List (ℕ × ℕ)} {entry : Option (LentPairs Z)} {exit : Left (LentPairs Z)}
     (source now : ParsedModule) (function : ℕ) (b : BodyAt) (type id : ℕ) (args : List ℕ) (count : ℕ) (body : FunctionBody) (old raw : List ℕ) →
     Enters source function b now type args count body → id ≡ 0 → old ≡ [] →
-    Rewrites asks (body_input now.module now.spaces.indices id type body (nothing_asked F) locals_below count)
+    Rewrites calls (body_input now.module now.spaces.indices id type body (no_location_function F) locals_below count)
     (record { to = numbers_by now.module.types now.spaces.numbers []; types = now.module.locals; args = args }) made mapping old raw entry exit →
     IsRewritten source function b raw
-rewritten {F} {Z} {asks} {made} {mapping} {entry} {exit} source now function b type id args count body old raw enters is_first none r =
+rewritten {F} {Z} {calls} {made} {mapping} {entry} {exit} source now function b type id args count body old raw enters is_first none r =
     let At : ℕ → Type 0 =
-    λ n. Rewrites asks (body_input now.module now.spaces.indices n type body (nothing_asked F) locals_below count)
+    λ n. Rewrites calls (body_input now.module now.spaces.indices n type body (no_location_function F) locals_below count)
     (record { to = numbers_by now.module.types now.spaces.numbers []; types = now.module.locals; args = args }) made mapping old raw entry exit in
     let x = subst At is_first r in
     let all : x.raw ≡ raw = sym (x.bytes ∙ ap (λ (l : List ℕ). l ++ x.raw) none) in
@@ -50,14 +50,14 @@ rewritten {F} {Z} {asks} {made} {mapping} {entry} {exit} source now function b t
 
 -- the function that a parse returns
 pub parsed :
-    {F : Type 0} {asks : Shared F (Bor ℕ × Unit {0}) ℕ}
+    {F : Type 0} {calls : Shared F (Bor ℕ × Unit {0}) ℕ}
     (source now : ParsedModule) (function : ℕ) (b : BodyAt) (type id : ℕ) (args : List ℕ) (count : ℕ) (body : FunctionBody) (made : FunctionParts) →
     Enters source function b now type args count body → id ≡ 0 →
-    AcceptsBody asks (body_input now.module now.spaces.indices id type body (nothing_asked F) locals_below count) made.builder made.instruction_mapping → made.args ≡ args →
+    AcceptsBody calls (body_input now.module now.spaces.indices id type body (no_location_function F) locals_below count) made.builder made.instruction_mapping → made.args ≡ args →
     IsParsed source function b now made
-parsed {F} {asks} source now function b type id args count body made enters is_first accepts args_are =
+parsed {F} {calls} source now function b type id args count body made enters is_first accepts args_are =
     let At : ℕ → Type 0 =
-    λ n. AcceptsBody asks (body_input now.module now.spaces.indices n type body (nothing_asked F) locals_below count) made.builder made.instruction_mapping in
+    λ n. AcceptsBody calls (body_input now.module now.spaces.indices n type body (no_location_function F) locals_below count) made.builder made.instruction_mapping in
     let x = subst At is_first accepts in
     record {
       type = type;
@@ -123,7 +123,7 @@ parsed_ok source a now function b (Err x) e p = tt
 
 -- bytes and pairs that are appended to empty lists
 pub written_alone :
-    (by : Given) (f : Function) (old new : List ℕ) (old_pairs new_pairs : List Pair) → old ≡ [] → old_pairs ≡ [] → AppendsBoth by f old new old_pairs new_pairs →
+    (by : EmitInput) (f : Function) (old new : List ℕ) (old_pairs new_pairs : List Pair) → old ≡ [] → old_pairs ≡ [] → AppendsBoth by f old new old_pairs new_pairs →
     IsRawBodyOf by f new new_pairs
 written_alone by f old new old_pairs new_pairs e p a =
     let bytes : a.raw ≡ new = sym (a.appends ∙ ap (λ (l : List ℕ). l ++ a.raw) e) in
@@ -132,7 +132,7 @@ written_alone by f old new old_pairs new_pairs e p a =
 
 pub changed :
     (changes : ℕ → (old new : FunctionParts) → Type 0) (source a now : ParsedModule) (function : ℕ) (b : BodyAt) (made new : FunctionParts) (raw : List ℕ) (pairs : List Pair) →
-    Extends source a → IsParsed a function b now made → changes function made new → IsRawBodyOf (given now.spaces.numbers now.module new) new.builder raw pairs →
+    Extends source a → IsParsed a function b now made → changes function made new → IsRawBodyOf (emit_input now.spaces.numbers now.module new) new.builder raw pairs →
     IsChanged changes source function b raw
 changed changes source a now function b made new raw pairs e p c r = record {
   now = now;

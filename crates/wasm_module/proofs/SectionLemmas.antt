@@ -8,25 +8,25 @@ use Rattle.wasm_module.specs.declared.sections.Section.{Section}
 use Rattle.wasm_module.specs.declared.sections.Sections.{Sections}
 use Rattle.wasm_module.specs.Sections.{preamble, SectionAt, Begins, AreSections, IsModule, section_at, TakesSection}
 use Rattle.wasm_module.specs.declared.changes.Changes.{Changes}
-use Rattle.wasm_module.specs.WrittenModules.{Puts, Writes, new_behind, IsWrittenAt, AreWrittenAt, IsWrittenModule}
+use Rattle.wasm_module.specs.WrittenModules.{Puts, Writes, new_after, IsWrittenAt, AreWrittenAt, IsWrittenModule}
 use Rattle.wasm_module.proofs.WritingLemmas.{puts_then, puts_same}
 
 -- ---- one more after others
 
 -- these sections come first, and then the bytes that are left
-abbrev pub StandBefore : (end : ℕ) → (text : List ℕ) → List SectionAt → (left : List ℕ) → Type 0
-StandBefore end text [] left = text ≡ left
-StandBefore end text (s ∷ ss) left = (behind : List ℕ) × Begins end text s behind × StandBefore end behind ss left
+abbrev pub ComeFirst : (end : ℕ) → (text : List ℕ) → List SectionAt → (left : List ℕ) → Type 0
+ComeFirst end text [] left = text ≡ left
+ComeFirst end text (s ∷ ss) left = (following : List ℕ) × Begins end text s following × ComeFirst end following ss left
 
-stand_more :
-    (end : ℕ) (text : List ℕ) (ss : List SectionAt) (left : List ℕ) (s : SectionAt) (behind : List ℕ) → StandBefore end text ss left → Begins end left s behind →
-    StandBefore end text (ss ++ s ∷ []) behind
-stand_more end text [] left s behind h b = (behind, subst (λ (l : List ℕ). Begins end l s behind) (sym h) b, refl)
-stand_more end text (a ∷ ss) left s behind h b = (h.0, h.1, stand_more end h.0 ss left s behind h.2 b)
+come_more :
+    (end : ℕ) (text : List ℕ) (ss : List SectionAt) (left : List ℕ) (s : SectionAt) (following : List ℕ) → ComeFirst end text ss left → Begins end left s following →
+    ComeFirst end text (ss ++ s ∷ []) following
+come_more end text [] left s following h b = (following, subst (λ (l : List ℕ). Begins end l s following) (sym h) b, refl)
+come_more end text (a ∷ ss) left s following h b = (h.0, h.1, come_more end h.0 ss left s following h.2 b)
 
-stand_alone : (end : ℕ) (text : List ℕ) (ss : List SectionAt) (left : List ℕ) → StandBefore end text ss left → left ≡ [] → AreSections end text ss
-stand_alone end text [] left h e = h ∙ e
-stand_alone end text (s ∷ ss) left h e = (h.0, h.1, stand_alone end h.0 ss left h.2 e)
+come_alone : (end : ℕ) (text : List ℕ) (ss : List SectionAt) (left : List ℕ) → ComeFirst end text ss left → left ≡ [] → AreSections end text ss
+come_alone end text [] left h e = h ∙ e
+come_alone end text (s ∷ ss) left h e = (h.0, h.1, come_alone end h.0 ss left h.2 e)
 
 module _ (writes : Writes) (source : ParsedModule) (changes : Changes) (all : List SectionAt) where
   written_more :
@@ -40,7 +40,7 @@ module _ (writes : Writes) (source : ParsedModule) (changes : Changes) (all : Li
 
 -- The sections before those that are left are these.
 pub record ReadSoFar (stop : ℕ) (text : List ℕ) (left : Sections) (ss : List SectionAt) : Type 0 where
-  pub stand_before : StandBefore stop text ss left.left.rest.now
+  pub come_first : ComeFirst stop text ss left.left.rest.now
   pub stop_is : left.left.end ≡ stop
 
 module _ (writes : Writes) (source : ParsedModule) (changes : Changes) where
@@ -50,18 +50,18 @@ module _ (writes : Writes) (source : ParsedModule) (changes : Changes) where
     pub are_read : ReadSoFar stop text left sections
     pub written :
         (all : List SectionAt) → IsModule source.bytes.now all →
-        (new : List ℕ) × AreWrittenAt writes source changes all sections new × Puts old now at end (preamble ++ (new_behind changes.given.items all 0 ++ new))
+        (new : List ℕ) × AreWrittenAt writes source changes all sections new × Puts old now at end (preamble ++ (new_after changes.given.items all 0 ++ new))
 
   pub no_sections :
       (stop : ℕ) (text : List ℕ) (left : Sections) (old middle now : Option (List ℕ)) (at begin end : ℕ) (front : List ℕ) → left.left.rest.now ≡ text → left.left.end ≡ stop →
       front ≡ preamble → Puts old middle at begin front →
-      ((all : List SectionAt) → IsModule source.bytes.now all → Puts middle now begin end (new_behind changes.given.items all 0)) → ModuleSoFar stop text left old now at end
+      ((all : List SectionAt) → IsModule source.bytes.now all → Puts middle now begin end (new_after changes.given.items all 0)) → ModuleSoFar stop text left old now at end
   no_sections stop text left old middle now at begin end front t e f p q = record {
     sections = [];
-    are_read = record { stand_before = sym t; stop_is = e };
+    are_read = record { come_first = sym t; stop_is = e };
     written = λ all m.
-        let both = puts_then old middle now at begin end preamble (new_behind changes.given.items all 0) (puts_same old middle at begin front preamble f p) (q all m) in
-        ([], refl, puts_same old now at end (preamble ++ new_behind changes.given.items all 0) (preamble ++ (new_behind changes.given.items all 0 ++ [])) (ap (λ (l : List ℕ). preamble ++ l) (sym (append-nil (new_behind changes.given.items all 0)))) both);
+        let both = puts_then old middle now at begin end preamble (new_after changes.given.items all 0) (puts_same old middle at begin front preamble f p) (q all m) in
+        ([], refl, puts_same old now at end (preamble ++ new_after changes.given.items all 0) (preamble ++ (new_after changes.given.items all 0 ++ [])) (ap (λ (l : List ℕ). preamble ++ l) (sym (append-nil (new_after changes.given.items all 0)))) both);
   }
 
   pub one_more_section :
@@ -75,13 +75,13 @@ module _ (writes : Writes) (source : ParsedModule) (changes : Changes) where
       record {
         sections = p.sections ++ section_at x ∷ [];
         are_read = record {
-          stand_before = stand_more stop text p.sections s.left.rest.now (section_at x) t.left.rest.now p.are_read.stand_before begins;
+          come_first = come_more stop text p.sections s.left.rest.now (section_at x) t.left.rest.now p.are_read.come_first begins;
           stop_is = taken.1 ∙ p.are_read.stop_is;
         };
         written = λ all m.
             let before = p.written all m in
             let w = q all m in
-            let front = new_behind changes.given.items all 0 in
+            let front = new_after changes.given.items all 0 in
             let parts : (preamble ++ (front ++ before.0)) ++ w.0 ≡ preamble ++ (front ++ (before.0 ++ w.0)) =
             append_assoc preamble (front ++ before.0) w.0 ∙ ap (λ (l : List ℕ). preamble ++ l) (append_assoc front before.0 w.0) in (
               before.0 ++ w.0,
@@ -97,10 +97,10 @@ module _ (writes : Writes) (source : ParsedModule) (changes : Changes) where
       (new : List ℕ) × IsWrittenModule writes source changes new × Appends old now new
   all_sections file text s t r old now at end f e p i takes =
       let none : TakesSection s None t = subst (λ (o : Option (Result Section ModuleError)). TakesSection s o t) i takes in
-      let is_module : IsModule file p.sections = (text, e, stand_alone (length file) text p.sections s.left.rest.now p.are_read.stand_before none) in
+      let is_module : IsModule file p.sections = (text, e, come_alone (length file) text p.sections s.left.rest.now p.are_read.come_first none) in
       let here = subst (λ (l : List ℕ). IsModule l p.sections) f is_module in
       let w = p.written p.sections here in (
-        preamble ++ (new_behind changes.given.items p.sections 0 ++ w.0),
+        preamble ++ (new_after changes.given.items p.sections 0 ++ w.0),
         record {
           sections = p.sections;
           is_module = here;

@@ -70,16 +70,16 @@ local_of_list : (o : Option (List ℕ)) (n i : ℕ) → unwrap_or o [] ≡ first
 local_of_list None n i e h = absurd (let len = ap length e ∙ first_numbers_length n in omega arith)
 local_of_list (Some l) n i e h = ap (λ (o : Option ℕ). some_or o (LocalOutOfRange 0 i)) (number_in l n i e h)
 
-pub stands_for_itself : (m : IndicesToIds) (n i : ℕ) → locals_in m 0 ≡ first_numbers n → i < n → local_of m 0 i ≡ Ok i
-stands_for_itself m n i e h = local_of_list (get m.locals 0) n i e h
+pub local_is_itself : (m : IndicesToIds) (n i : ℕ) → locals_in m 0 ≡ first_numbers n → i < n → local_of m 0 i ≡ Ok i
+local_is_itself m n i e h = local_of_list (get m.locals 0) n i e h
 
 -- ---- if no more locals are added
 
 -- with fewer locals than there are indices, the only error is that memory ran out
-pub wants_memory :
+pub out_of_memory :
     (m : IndicesToIds) (list n count : ℕ) (e : IndexError) → list ≡ 0 → locals_in m 0 ≡ first_numbers n → n < count → count ≤ 2 ^ 32 →
     e ≡ (if nat_lt (length (locals_in m list)) (2 ^ 32) then Memory else TooMany) → e ≡ Memory
-wants_memory m list n count e is_first h less few g =
+out_of_memory m list n count e is_first h less few g =
     let len = ap (λ (k : ℕ). length (locals_in m k)) is_first ∙ ap length h ∙ first_numbers_length n in
     let fits : nat_lt (length (locals_in m list)) (2 ^ 32) ≡ true = grind arith in
     g ∙ ap (λ (b : Bool). if b then Memory else TooMany) fits

@@ -31,8 +31,8 @@ pub record BodyAt : Type 0 where
 abbrev pub AreBodies : (end : ℕ) → (text : List ℕ) → List BodyAt → Type 0
 AreBodies end text [] = text ≡ []
 AreBodies end text (b ∷ bs) =
-    (behind : List ℕ) × (u32 text ≡ Ok (length b.bytes, b.bytes ++ behind)) × (b.start ≡ end - length (b.bytes ++ behind))
-    × AreBodies end behind bs
+    (following : List ℕ) × (u32 text ≡ Ok (length b.bytes, b.bytes ++ following)) × (b.start ≡ end - length (b.bytes ++ following))
+    × AreBodies end following bs
 
 -- The contents of a section, which end at this place of the file, are the number of these bodies, and the bodies.
 abbrev pub IsCode : (end : ℕ) → (contents : List ℕ) → List BodyAt → Type 0

@@ -53,12 +53,12 @@ pub record HaveLocals (indices : IndicesToIds) (parameters : List (ValType ℕ))
   pub locals_are : locals ≡ parameters ++ expanded named
 
 -- how many locals a function has at most, parameters included: the limit that engines have
-abbrev pub most_locals : ℕ
-most_locals = 50000
+abbrev pub max_locals : ℕ
+max_locals = 50000
 
 -- The bytes don't begin with declarations; or with them the function has too many locals.
 abbrev pub HasNoLocals : IndicesToIds → (parameters : List (ValType ℕ)) → (bytes : List ℕ) → Type 0
-HasNoLocals indices parameters bytes = (operators : List ℕ) (locals : List (ValType ℕ)) → HaveLocals indices parameters bytes operators locals → most_locals < length locals
+HasNoLocals indices parameters bytes = (operators : List ℕ) (locals : List (ValType ℕ)) → HaveLocals indices parameters bytes operators locals → max_locals < length locals
 
 -- the first numbers, from 0 on
 abbrev pub first_numbers : ℕ → List ℕ
@@ -68,9 +68,9 @@ first_numbers (suc n) = first_numbers n ++ n ∷ []
 -- ---- group by group
 
 -- The bytes begin with a group: its number of locals of its type is added.
-pub record DeclaresGroup (indices : IndicesToIds) (bytes behind : List ℕ) (old new : List (ValType ℕ)) : Type 0 where
+pub record DeclaresGroup (indices : IndicesToIds) (bytes following : List ℕ) (old new : List (ValType ℕ)) : Type 0 where
   pub declared : ℕ × ValType ℕ
-  pub is_read : group bytes ≡ Ok (declared, behind)
+  pub is_read : group bytes ≡ Ok (declared, following)
   pub named : ℕ × ValType ℕ
   pub is_named : named_group indices declared ≡ Ok named
   pub new_are : new ≡ old ++ replicate named.0 named.1
@@ -78,4 +78,4 @@ pub record DeclaresGroup (indices : IndicesToIds) (bytes behind : List ℕ) (old
 -- The bytes don't begin with a group; or with it, after this number of locals, there are too many.
 abbrev pub HasNoGroup : IndicesToIds → (bytes : List ℕ) → (count : ℕ) → Type 0
 HasNoGroup indices bytes count =
-    (behind : List ℕ) (declared named : ℕ × ValType ℕ) → group bytes ≡ Ok (declared, behind) → named_group indices declared ≡ Ok named → most_locals < count + named.0
+    (following : List ℕ) (declared named : ℕ × ValType ℕ) → group bytes ≡ Ok (declared, following) → named_group indices declared ≡ Ok named → max_locals < count + named.0

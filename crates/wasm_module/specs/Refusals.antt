@@ -19,7 +19,7 @@ use Rattle.wasm_module.specs.declared.fault.ModuleError.{ModuleError}
 use Rattle.wasm_module.specs.declared.fault.ModuleFault.TheVariants.{Memory}
 use Rattle.wasm_module.specs.declared.parsed.ParsedModule.{ParsedModule}
 use Rattle.wasm_module.specs.CodeSections.{BodyAt}
-use Rattle.wasm_module.specs.Declarations.{parameters_of, HaveLocals, most_locals}
+use Rattle.wasm_module.specs.Declarations.{parameters_of, HaveLocals, max_locals}
 use Rattle.wasm_module.specs.LocalsBelow.{locals_below}
 use Rattle.wasm_module.specs.RewrittenCode.{Enters}
 
@@ -33,7 +33,7 @@ place_in_file start (Emit e) = start
 abbrev pub HasNoFront : ParsedModule → (function : ℕ) → (bytes : List ℕ) → Type 0
 HasNoFront now function bytes =
     (type : ℕ) (operators : List ℕ) (locals : List (ValType ℕ)) → slice_get now.func_types.items function ≡ Some type →
-    HaveLocals now.spaces.indices (parameters_of now.module.types type) bytes operators locals → most_locals < length locals
+    HaveLocals now.spaces.indices (parameters_of now.module.types type) bytes operators locals → max_locals < length locals
 
 -- The operators of this function's body, parsed with these declarations, have a first fault, at this place of the file.
 pub record HasFaultAt (source : ParsedModule) (function : ℕ) (b : BodyAt) (now : ParsedModule) (at : ℕ) : Type 0 where

@@ -15,7 +15,7 @@ use Rattle.walrus_maps.specs.IndexMaps.{local_of}
 use Rattle.walrus_body.specs.FunctionParts.{FunctionParts}
 use Rattle.walrus_parser.specs.Bodies.{IsFunction, body_setting, body_operators}
 use Rattle.walrus_numbering.specs.NumberMaps.{numbers_by}
-use Rattle.walrus_rewrite.specs.RawBodies.{given, IsRawBody, IsRawBodyOf}
+use Rattle.walrus_rewrite.specs.RawBodies.{emit_input, IsRawBody, IsRawBodyOf}
 use Rattle.walrus_rewrite.specs.RewrittenBodies.{KeepsSource}
 use Rattle.wasm_module.specs.declared.parsed.ParsedModule.{ParsedModule}
 use Rattle.wasm_module.specs.declared.spaces.Spaces.{Spaces}
@@ -105,4 +105,4 @@ pub record IsChanged (changes : ℕ → (old new : FunctionParts) → Type 0) (s
   pub changed : FunctionParts
   pub is_changed : changes function parsed changed
   pub pairs : List Pair
-  pub is_raw_body : IsRawBodyOf (given now.spaces.numbers now.module changed) changed.builder raw pairs
+  pub is_raw_body : IsRawBodyOf (emit_input now.spaces.numbers now.module changed) changed.builder raw pairs

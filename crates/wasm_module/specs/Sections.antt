@@ -28,17 +28,17 @@ pub record SectionAt : Type 0 where
   pub whole : List ℕ
 
 -- A text that ends at this place of the file begins with this section, and these bytes follow it.
-pub record Begins (end : ℕ) (text : List ℕ) (s : SectionAt) (behind : List ℕ) : Type 0 where
+pub record Begins (end : ℕ) (text : List ℕ) (s : SectionAt) (following : List ℕ) : Type 0 where
   pub sized : List ℕ
   pub id_is : text ≡ s.id ∷ sized
-  pub size_is : u32 sized ≡ Ok (length s.contents, s.contents ++ behind)
-  pub end_is : s.end ≡ end - length behind
-  pub whole_is : text ≡ s.whole ++ behind
+  pub size_is : u32 sized ≡ Ok (length s.contents, s.contents ++ following)
+  pub end_is : s.end ≡ end - length following
+  pub whole_is : text ≡ s.whole ++ following
 
 -- The text, which ends at this place of the file, is these sections.
 abbrev pub AreSections : (end : ℕ) → (text : List ℕ) → List SectionAt → Type 0
 AreSections end text [] = text ≡ []
-AreSections end text (s ∷ ss) = (behind : List ℕ) × Begins end text s behind × AreSections end behind ss
+AreSections end text (s ∷ ss) = (following : List ℕ) × Begins end text s following × AreSections end following ss
 
 -- the file is a module with these sections
 abbrev pub IsModule : List ℕ → List SectionAt → Type 0

@@ -5,7 +5,7 @@ use Rattle.std.specs.Prelude.{◌≡◌, ◌≢◌, ◌⊎◌, ◌+◌, ◌-◌,
 use Rattle.std.specs.Io.KnownBytes.{Appends}
 use Rattle.wasm_numbers.specs.Numbers.{u32}
 use Rattle.wasm_module.specs.declared.changes.Changes.{Changes}
-use Rattle.wasm_module.specs.declared.changes.Given.{Given}
+use Rattle.wasm_module.specs.declared.changes.NewContents.{NewContents}
 use Rattle.wasm_module.specs.declared.parsed.ParsedModule.{ParsedModule}
 use Rattle.wasm_module.specs.declared.rewriting.RewrittenModule.{RewrittenModule}
 use Rattle.wasm_module.specs.CodeSections.{BodyAt, IsCode, code_section, entry}
@@ -19,33 +19,33 @@ pub record Puts (old new : Option (List ℕ)) (at end : ℕ) (bytes : List ℕ) 
 -- ---- sections that are given contents
 
 -- the new contents that are given for a module
-abbrev pub given_in : {B : Type 0} → RewrittenModule B → List Given
-given_in m = m.changes.given.items
+abbrev pub new_contents_in : {B : Type 0} → RewrittenModule B → List NewContents
+new_contents_in m = m.changes.given.items
 
 -- the contents that are given for the section with this id, if any
-abbrev pub contents_in : List Given → (id : ℕ) → Option (List ℕ)
+abbrev pub contents_in : List NewContents → (id : ℕ) → Option (List ℕ)
 contents_in [] id = None
 contents_in (g ∷ gs) id = if id_of g.kind == id then Some g.contents.items else contents_in gs id
 
 -- whether the rank of a given section is between these two
-abbrev pub stands_between : ℕ → ℕ → Given → Bool
-stands_between first second g = nat_lt first (rank (id_of g.kind)) && nat_lt (rank (id_of g.kind)) second
+abbrev pub is_between : ℕ → ℕ → NewContents → Bool
+is_between first second g = nat_lt first (rank (id_of g.kind)) && nat_lt (rank (id_of g.kind)) second
 
 -- the given sections with such a rank, as they are written
-abbrev pub between : (first second : ℕ) → List Given → List ℕ
+abbrev pub between : (first second : ℕ) → List NewContents → List ℕ
 between first second [] = []
 between first second (g ∷ gs) =
-    if stands_between first second g then section (id_of g.kind) g.contents.items ++ between first second gs else between first second gs
+    if is_between first second g then section (id_of g.kind) g.contents.items ++ between first second gs else between first second gs
 
 -- the new sections after a section of this rank, in a module of these sections: the given ones with a rank between this one and
 -- that of the next section
-abbrev pub new_behind : List Given → (all : List SectionAt) → (rank : ℕ) → List ℕ
-new_behind given all r = between r (next_rank r all) given
+abbrev pub new_after : List NewContents → (all : List SectionAt) → (rank : ℕ) → List ℕ
+new_after given all r = between r (next_rank r all) given
 
 -- A custom section contains names, or metadata of code, by its name. Such sections are changed along with the code.
 abbrev pub HasFollowedName : (contents : List ℕ) → Type 0
 HasFollowedName contents =
-    (name behind : List ℕ) × (u32 contents ≡ Ok (length name, name ++ behind))
+    (name following : List ℕ) × (u32 contents ≡ Ok (length name, name ++ following))
     × ((name ≡ codes "name") ⊎ ((kind : List ℕ) × (name ≡ codes "metadata.code." ++ kind)))
 
 -- a name of a section with debug information, or with its place (WebAssembly tool conventions, and DWARF for WebAssembly)
@@ -54,11 +54,11 @@ IsDebugName name = (name ≡ codes "sourceMappingURL") ⊎ ((name ≡ codes "ext
 
 -- A custom section contains debug information, or its place, by its name.
 abbrev pub HasDebugName : (contents : List ℕ) → Type 0
-HasDebugName contents = (name behind : List ℕ) × (u32 contents ≡ Ok (length name, name ++ behind)) × IsDebugName name
+HasDebugName contents = (name following : List ℕ) × (u32 contents ≡ Ok (length name, name ++ following)) × IsDebugName name
 
 -- A custom section contains the URL of the source map, by its name.
 abbrev pub HasSourceMapName : (contents : List ℕ) → Type 0
-HasSourceMapName contents = (name behind : List ℕ) × (u32 contents ≡ Ok (length name, name ++ behind)) × (name ≡ codes "sourceMappingURL")
+HasSourceMapName contents = (name following : List ℕ) × (u32 contents ≡ Ok (length name, name ++ following)) × (name ≡ codes "sourceMappingURL")
 
 -- the contents of such a section, as they are written: its name, and the URL
 abbrev pub url_contents : (url : List ℕ) → List ℕ
@@ -75,10 +75,10 @@ abbrev pub IsCarriedOver : Changes → SectionAt → Type 0
 IsCarriedOver changes s = s.id ≢ 0 → contents_in changes.given.items s.id ≡ None
 
 -- Or it is left out on request: debug information, or the URL of the source map.
-pub record IsLeftOut (changes : Changes) (s : SectionAt) : Type 0 where
+pub record IsOmitted (changes : Changes) (s : SectionAt) : Type 0 where
   pub is_custom : s.id ≡ 0
-  pub is_asked :
-      ((changes.leaves_out_debug ≡ true) × HasDebugName s.contents) ⊎ ((changes.leaves_out_source_map ≡ true) × HasSourceMapName s.contents)
+  pub is_chosen :
+      ((changes.omits_debug ≡ true) × HasDebugName s.contents) ⊎ ((changes.omits_source_map ≡ true) × HasSourceMapName s.contents)
 
 -- ---- bodies
 
@@ -115,19 +115,19 @@ module _ (writes : Writes) (source : ParsedModule) where
       code : (contents : List ℕ) → s.id ≡ 10 → IsWrittenCode s contents → text ≡ section 10 contents → IsWrittenFor s text
       replaced : (contents : List ℕ) → s.id ≢ 10 → IsReplacedBy changes s contents → text ≡ section s.id contents → IsWrittenFor s text
       carried_over : s.id ≢ 10 → IsCarriedOver changes s → text ≡ s.whole → IsWrittenFor s text
-      left_out : IsLeftOut changes s → text ≡ [] → IsWrittenFor s text
+      omitted : IsOmitted changes s → text ≡ [] → IsWrittenFor s text
 
     module _ (all : List SectionAt) where
       -- the new sections after a section; none after a custom one
-      abbrev pub new_behind_section : (rank : ℕ) → List ℕ
-      new_behind_section zero = []
-      new_behind_section (suc r) = new_behind changes.given.items all (suc r)
+      abbrev pub new_after_section : (rank : ℕ) → List ℕ
+      new_after_section zero = []
+      new_after_section (suc r) = new_after changes.given.items all (suc r)
 
       -- These bytes are written for a section, and for the new sections after it.
       pub record IsWrittenAt (s : SectionAt) (text : List ℕ) : Type 0 where
         pub own : List ℕ
         pub is_written : IsWrittenFor s own
-        pub text_is : text ≡ own ++ new_behind_section (rank s.id)
+        pub text_is : text ≡ own ++ new_after_section (rank s.id)
 
       abbrev pub AreWrittenAt : List SectionAt → (text : List ℕ) → Type 0
       AreWrittenAt [] text = text ≡ []
@@ -139,4 +139,4 @@ module _ (writes : Writes) (source : ParsedModule) where
       pub is_module : IsModule source.bytes.now sections
       pub text : List ℕ
       pub are_written : AreWrittenAt sections sections text
-      pub new_is : new ≡ preamble ++ (new_behind changes.given.items sections 0 ++ text)
+      pub new_is : new ≡ preamble ++ (new_after changes.given.items sections 0 ++ text)

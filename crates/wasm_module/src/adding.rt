@@ -48,7 +48,7 @@ impl<'a> ParsedModule<'a> {
             (None, Some(section)) => with_item(self.alloc, section.contents(), item)?,
             (None, None) => with_item(self.alloc, &[0], item)?,
         };
-        changes.give(kind, contents)
+        changes.set_contents(kind, contents)
     }
 
     /// Adds a global after all others. Its bytes are its type and a constant expression.

@@ -1,13 +1,13 @@
 //! Bodies of a module: how they are parsed, rewritten and written.
 
 ghost use Rattle.std.specs.Prelude.{OnOk, IfOk, IfErr};
-ghost use Rattle.walrus_rewrite.specs.RawBodies.{given, IsRawBodyOf};
+ghost use Rattle.walrus_rewrite.specs.RawBodies.{emit_input, IsRawBodyOf};
 ghost use Rattle.wasm_module.specs.CodeSections.{body_at};
 ghost use Rattle.wasm_module.specs.RewrittenCode.{Extends, IsRewritten, IsParsed};
 ghost use Rattle.wasm_module.specs.Refusals.{IsRefused, IsNotRewritten};
 
+use crate::body_context::BodyContext;
 use crate::code::Body;
-use crate::entering::Entered;
 use crate::fault::{ModuleError, ModuleFault};
 use crate::locals::LocalsBelow;
 use crate::parsed::ParsedModule;
@@ -40,7 +40,7 @@ impl Scratch {
 }
 
 /// Whether a body needs a type that the module doesn't have.
-fn wants_type(error: &ModuleError) -> bool {
+fn needs_type(error: &ModuleError) -> bool {
     let ModuleFault::Parse(fault) = error.fault else {
         return false;
     };
@@ -50,7 +50,7 @@ fn wants_type(error: &ModuleError) -> bool {
 /// Rewrites a body unchanged, with a list of location pairs or none.
 macro_rules! rewrite_once {
     ($parsed:ident, $body:ident, $instrs:expr, $raw:expr, $map:expr) => {{
-        let Entered {
+        let BodyContext {
             ty,
             args,
             body: source,
@@ -135,7 +135,7 @@ impl<'a> ParsedModule<'a> {
         match self.rewrite_once(body, scratch) {
             Ok(function) => Ok(function),
             Err(error) => {
-                if !wants_type(&error) {
+                if !needs_type(&error) {
                     return Err(error);
                 }
                 self.add_missing_types(body)?;
@@ -163,7 +163,7 @@ impl<'a> ParsedModule<'a> {
         match self.rewrite_once_with_pairs(body, scratch) {
             Ok(function) => Ok(function),
             Err(error) => {
-                if !wants_type(&error) {
+                if !needs_type(&error) {
                     return Err(error);
                 }
                 self.add_missing_types(body)?;
@@ -183,7 +183,7 @@ impl<'a> ParsedModule<'a> {
         ensures refused { IfErr result
             (IsRefused self.old body.entry.func (body_at body.entry) self.new) }
     {
-        let Entered {
+        let BodyContext {
             ty,
             args,
             body: source,
@@ -229,7 +229,7 @@ impl<'a> ParsedModule<'a> {
         match self.parse_once(body, scratch) {
             Ok(function) => Ok(function),
             Err(error) => {
-                if !wants_type(&error) {
+                if !needs_type(&error) {
                     return Err(error);
                 }
                 self.add_missing_types(body)?;
@@ -251,7 +251,7 @@ impl<'a> ParsedModule<'a> {
         start: usize,
         scratch: &mut Scratch,
     ) -> Result<(), ModuleError>
-        ensures { OnOk result (IsRawBodyOf (given self.now.spaces.numbers self.now.«module»
+        ensures { OnOk result (IsRawBodyOf (emit_input self.now.spaces.numbers self.now.«module»
             function.now) function.now.builder scratch.new.raw.items scratch.new.pairs.items) }
     {
         let Scratch { raw, pairs, .. } = scratch;

@@ -10,7 +10,7 @@ use std::alloc::Global;
 
 /// New contents for the section of a kind. If the module has no such section, a new one is written.
 #[derive(Drop)]
-pub(crate) struct Given {
+pub(crate) struct NewContents {
     /// The kind of the section, neither `Custom` nor `Code`.
     pub kind: SectionKind,
     /// The new contents, without the section's id and size.
@@ -21,11 +21,11 @@ pub(crate) struct Given {
 /// There are none for the code section and for custom sections.
 #[derive(Drop)]
 pub struct Changes {
-    pub(crate) given: Vec<Given>,
+    pub(crate) given: Vec<NewContents>,
     /// Whether custom sections with debug information are left out.
-    pub(crate) leaves_out_debug: bool,
+    pub(crate) omits_debug: bool,
     /// Whether the custom section `sourceMappingURL` is left out.
-    pub(crate) leaves_out_source_map: bool,
+    pub(crate) omits_source_map: bool,
 }
 
 impl Changes {
@@ -35,8 +35,8 @@ impl Changes {
     {
         Changes {
             given: Vec::new(alloc),
-            leaves_out_debug: false,
-            leaves_out_source_map: false,
+            omits_debug: false,
+            omits_source_map: false,
         }
     }
 
@@ -48,7 +48,11 @@ impl Changes {
     ///
     /// `SectionOutOfOrder` if the kind is `Custom` or `Code`; `TooGreat` if the number of bytes
     /// doesn't fit 32 bits; or `Memory`.
-    pub fn give(&mut self, kind: SectionKind, contents: Vec<u8>) -> Result<(), ModuleError> {
+    pub fn set_contents(
+        &mut self,
+        kind: SectionKind,
+        contents: Vec<u8>,
+    ) -> Result<(), ModuleError> {
         let fault = match kind {
             SectionKind::Custom | SectionKind::Code => Some(ModuleFault::SectionOutOfOrder),
             _ if contents.len() > u32::MAX as usize => Some(ModuleFault::TooGreat),
@@ -60,7 +64,7 @@ impl Changes {
         let found = self
             .given
             .binary_search_by_key(&kind.rank(), |given| given.kind.rank());
-        let given = Given { kind, contents };
+        let given = NewContents { kind, contents };
         match found {
             Ok(at) => self.given[at] = given,
             Err(at) => self.given.insert(at, given)?,
@@ -69,7 +73,7 @@ impl Changes {
     }
 
     /// The new contents of the section of this kind, without its id and size; `None` if no call of
-    /// `give` has set them.
+    /// `set_contents` has set them.
     pub fn contents_of(&self, kind: SectionKind) -> Option<&[u8]>
         ensures some { IfSome result (λ contents. contents_in self.now.given.items (id_of kind)
             ≡ Some contents.now) }

@@ -52,7 +52,7 @@ impl<'a> Bodies<'a> {
         contents: Input<'a>,
         first: usize,
     ) -> Result<(u32, Bodies<'a>), ModuleError>
-        ensures told { IfOk result
+        ensures count_is_read { IfOk result
             (λ x. u32 contents.entry.rest.now ≡ Ok (x.0, x.1.left.rest.now)) }
         ensures end { IfOk result (λ x. x.1.left.end ≡ contents.entry.end) }
         ensures first { IfOk result (λ x. x.1.next ≡ first) }

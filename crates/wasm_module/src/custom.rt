@@ -19,7 +19,7 @@ use walrus_rewrite::RewriteError;
 
 /// The greatest number of custom sections that are changed along with the code. Further ones are
 /// copied unchanged.
-const MOST_FOLLOWED: usize = 16;
+const MAX_FOLLOWED: usize = 16;
 
 /// The kind of the items in a part of a section.
 #[derive(Clone, Copy, PartialEq, Eq)]
@@ -49,7 +49,7 @@ struct Follower<'a> {
     at: usize,
     parts: Vec<Part<'a>>,
     /// The bytes after the last part.
-    behind: &'a [u8],
+    following: &'a [u8],
 }
 
 /// The parts of a name section that are changed along with the code.
@@ -85,7 +85,7 @@ fn read_names<'a>(alloc: Global, section: &Section<'a>) -> Result<Follower<'a>, 
     Ok(Follower {
         at: section.at,
         parts,
-        behind: from.rest(),
+        following: from.rest(),
     })
 }
 
@@ -102,7 +102,7 @@ fn read_metadata<'a>(alloc: Global, section: &Section<'a>) -> Result<Follower<'a
     Ok(Follower {
         at: section.at,
         parts,
-        behind: &[],
+        following: &[],
     })
 }
 
@@ -141,12 +141,12 @@ fn follow_offsets<'a>(
             continue;
         }
         let place = start.saturating_add(*offset as usize);
-        'left: while let Some(((location, new), behind)) = left.split_first() {
+        'left: while let Some(((location, new), following)) = left.split_first() {
             let old = location.data() as usize;
             if old > place && !location.is_default() {
                 break 'left;
             }
-            left = behind;
+            left = following;
             if old == place {
                 if let Ok(new) = u32::try_from(*new) {
                     kept.push((new, *bytes))?;
@@ -352,7 +352,7 @@ impl<'a> Followers<'a> {
             return Ok(());
         };
         match read {
-            Ok(followed) if self.sections.len() < MOST_FOLLOWED => {
+            Ok(followed) if self.sections.len() < MAX_FOLLOWED => {
                 self.sections.push(followed)?;
                 Ok(())
             }
@@ -419,7 +419,7 @@ impl<'a> Followers<'a> {
             for part in section.parts.iter_mut() {
                 part.finish(&mut contents)?;
             }
-            contents.extend_from_slice(section.behind)?;
+            contents.extend_from_slice(section.following)?;
             followed.push(Followed {
                 at: section.at,
                 contents,

@@ -5,7 +5,7 @@ ghost use Rattle.wasm_body.specs.declared.error.EmitError.TheVariants as emit;
 ghost use Rattle.wasm_body.specs.declared.error.IndexError.TheVariants as index;
 ghost use Rattle.wasm_body.specs.declared.error.ParseError.TheVariants as parse;
 ghost use Rattle.wasm_module.specs.declared.fault.ModuleFault.TheVariants.{Memory};
-ghost use Rattle.walrus_rewrite.specs.Errors.{WantsMemory};
+ghost use Rattle.walrus_rewrite.specs.Errors.{IsOutOfMemory};
 ghost use Rattle.wasm_module.specs.Refusals.{place_in_file};
 
 use std::alloc::{AllocError, AllocFailed};
@@ -104,7 +104,7 @@ pub enum ModuleFault {
     /// The code has another size when it is written than before, so a function was changed
     /// differently the second time.
     #[error("a function is changed otherwise than before")]
-    UnsteadyChange,
+    InconsistentChange,
     /// A count or a size doesn't fit 32 bits, or there are 2^32 items.
     #[error("a count is too great")]
     TooGreat,
@@ -288,7 +288,7 @@ impl ModuleError {
 
     /// The error of a body that isn't rewritten; the body begins at this place.
     pub(crate) fn of_body(error: RewriteError, start: usize) -> ModuleError
-        ensures memory { WantsMemory error → result.fault ≡ Memory }
+        ensures memory { IsOutOfMemory error → result.fault ≡ Memory }
         ensures place { result.at ≡ place_in_file start error }
     {
         let fault = match error {

@@ -52,7 +52,7 @@ fn label_numbers(
     for (location, place) in pairs {
         let new_index = new.len().saturating_sub(left.len());
         match left.split_first() {
-            Some((opener, behind)) if opener == place => left = behind,
+            Some((opener, following)) if opener == place => left = following,
             _ => continue,
         }
         if let Ok(old_index) = old.binary_search(&(location.data() as usize)) {

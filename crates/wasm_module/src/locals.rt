@@ -3,7 +3,7 @@
 
 ghost use Rattle.std.specs.Prelude.{◌≡◌, ◌⊎◌, ◌≤◌, ◌+◌, ◌++◌, length, replicate, OnOk, IfOk, IfErr};
 ghost use Rattle.wasm_module.specs.declared.fault.ModuleFault.TheVariants.{Memory};
-ghost use Rattle.wasm_module.specs.Declarations.{HaveLocals, DeclaresGroup, first_numbers, HasNoGroup, HasNoLocals, most_locals};
+ghost use Rattle.wasm_module.specs.Declarations.{HaveLocals, DeclaresGroup, first_numbers, HasNoGroup, HasNoLocals, max_locals};
 
 use crate::fault::{ModuleError, ModuleFault};
 use crate::input::Input;
@@ -13,7 +13,7 @@ use walrus_ir::{LocalId, ModuleLocals, ValType};
 use wasm_ops::{Immediates, Operator};
 
 /// The greatest number of locals of a function, parameters included. Engines allow no more.
-pub(crate) const MOST_LOCALS: usize = 50_000;
+pub(crate) const MAX_LOCALS: usize = 50_000;
 
 /// The locals of one function. The id of a local is its index.
 #[derive(Drop)]
@@ -55,8 +55,8 @@ impl Locals {
         ensures types { IfOk result (λ locals. HaveLocals indices.now params.now
             input.old.rest.now input.new.rest.now locals.types) }
         ensures count { IfOk result (λ locals. locals.count ≡ length locals.types) }
-        ensures few { length params.now ≤ most_locals
-            → IfOk result (λ locals. locals.count ≤ most_locals) }
+        ensures few { length params.now ≤ max_locals
+            → IfOk result (λ locals. locals.count ≤ max_locals) }
         ensures refused { IfErr result (λ e. (e.fault ≡ Memory)
             ⊎ HasNoLocals indices.now params.now input.old.rest.now) }
     {
@@ -69,7 +69,7 @@ impl Locals {
 
     /// Adds `count` locals of a type, as one run, in constant time.
     fn add(&mut self, count: u32, ty: &ValType) -> Result<(), ModuleError>
-        requires { self.old.count + count ≤ most_locals }
+        requires { self.old.count + count ≤ max_locals }
         ensures types { OnOk result (self.new.types ≡ self.old.types ++ replicate count ty.now) }
         ensures count { OnOk result (self.new.count ≡ self.old.count + count) }
         ensures refused { IfErr result (λ e. e.fault ≡ Memory) }
@@ -85,13 +85,13 @@ impl Locals {
             input.new.rest.now self.old.types self.new.types) }
         ensures count { OnOk result
             (self.old.count ≡ length self.old.types → self.new.count ≡ length self.new.types) }
-        ensures few { OnOk result (self.new.count ≤ most_locals) }
+        ensures few { OnOk result (self.new.count ≤ max_locals) }
         ensures refused { IfErr result (λ e. (e.fault ≡ Memory)
             ⊎ HasNoGroup indices.now input.old.rest.now self.old.count) }
     {
         let begin = *input;
         let count = input.number()?;
-        if self.count.saturating_add(count as usize) > MOST_LOCALS {
+        if self.count.saturating_add(count as usize) > MAX_LOCALS {
             return Err(begin.fault(ModuleFault::TooManyLocals));
         }
         let begin = *input;

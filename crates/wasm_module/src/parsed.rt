@@ -45,8 +45,8 @@ pub struct ParsedModule<'a> {
 }
 
 /// Success, or the error of an index map at this place.
-fn added_at(answer: Result<(), IndexError>, place: usize) -> Result<(), ModuleError> {
-    match answer {
+fn added_at(returned: Result<(), IndexError>, place: usize) -> Result<(), ModuleError> {
+    match returned {
         Ok(()) => Ok(()),
         Err(error) => Err(ModuleError::of_index(error, place)),
     }

@@ -4,7 +4,7 @@
 ghost use Rattle.std.specs.Prelude.{◌≡◌, [], true, IsTrue, OnOk, IfOk, IfSome, IfNone};
 ghost use Rattle.wasm_module.specs.RewrittenCode.{Extends};
 ghost use Rattle.wasm_module.specs.Sections.{section_at};
-ghost use Rattle.wasm_module.specs.WrittenModules.{given_in, IsReplacedBy, IsCarriedOver, IsLeftOut};
+ghost use Rattle.wasm_module.specs.WrittenModules.{new_contents_in, IsReplacedBy, IsCarriedOver, IsOmitted};
 
 use crate::bodies::Scratch;
 use crate::body_writer::{BodyWriter, ChangeFunction, Changing, Rewriting};
@@ -49,35 +49,35 @@ impl<B> RewrittenModule<'_, B> {
 impl<B> RewrittenModule<'_, B> {
     /// Leaves out the custom sections with debug information when the module is written:
     /// `sourceMappingURL`, `external_debug_info`, and those whose names begin with `.debug_`.
-    pub fn leave_out_debug(&mut self)
+    pub fn omit_debug(&mut self)
         ensures changes { self.new.changes
-            ≡ record self.old.changes { leaves_out_debug = true } }
+            ≡ record self.old.changes { omits_debug = true } }
         ensures bodies { self.new.bodies ≡ self.old.bodies }
     {
-        self.changes.leaves_out_debug = true;
+        self.changes.omits_debug = true;
     }
 
     /// Leaves out the custom section `sourceMappingURL`, which says where the source map is, when
     /// the module is written.
-    pub fn leave_out_source_map_url(&mut self)
+    pub fn omit_source_map_url(&mut self)
         ensures changes { self.new.changes
-            ≡ record self.old.changes { leaves_out_source_map = true } }
+            ≡ record self.old.changes { omits_source_map = true } }
         ensures bodies { self.new.bodies ≡ self.old.bodies }
     {
-        self.changes.leaves_out_source_map = true;
+        self.changes.omits_source_map = true;
     }
 
     /// Whether a section is left out.
-    pub(crate) fn leaves_out(&self, section: &Section<'_>) -> bool
-        ensures { IsTrue result → IsLeftOut self.now.changes (section_at section.now) }
+    pub(crate) fn omits(&self, section: &Section<'_>) -> bool
+        ensures { IsTrue result → IsOmitted self.now.changes (section_at section.now) }
     {
         if section.kind != SectionKind::Custom {
             return false;
         }
-        if self.changes.leaves_out_debug && holds_debug(section) {
+        if self.changes.omits_debug && holds_debug(section) {
             return true;
         }
-        self.changes.leaves_out_source_map && names_source_map(section)
+        self.changes.omits_source_map && names_source_map(section)
     }
 }
 
@@ -129,7 +129,7 @@ impl<'a> ParsedModule<'a> {
     ) -> Result<RewrittenModule<'a, B>, ModuleError>
         ensures extends { OnOk result (Extends self.old self.new) }
         ensures bodies { IfOk result (λ made. made.bodies ≡ bodies) }
-        ensures given { IfOk result (λ made. given_in made ≡ changes.given.items) }
+        ensures given { IfOk result (λ made. new_contents_in made ≡ changes.given.items) }
     {
         let mut followers = Followers::read(self)?;
         let code_len = self.measure_code(&bodies, &mut followers)?;
@@ -152,7 +152,7 @@ impl<'a> ParsedModule<'a> {
     /// The first fault of a body, with its place, or `Memory`.
     pub fn rewrite_all(&mut self) -> Result<RewrittenModule<'a, Rewriting>, ModuleError>
         ensures extends { OnOk result (Extends self.old self.new) }
-        ensures none_given { IfOk result (λ made. given_in made ≡ []) }
+        ensures none_given { IfOk result (λ made. new_contents_in made ≡ []) }
     {
         let changes = Changes::new(self.alloc);
         self.rewrite_with(Rewriting, changes)
@@ -171,7 +171,7 @@ impl<'a> ParsedModule<'a> {
     ) -> Result<RewrittenModule<'a, Changing<C>>, ModuleError>
         ensures extends { OnOk result (Extends self.old self.new) }
         ensures change { IfOk result (λ made. made.bodies.0 ≡ change) }
-        ensures given { IfOk result (λ made. given_in made ≡ changes.given.items) }
+        ensures given { IfOk result (λ made. new_contents_in made ≡ changes.given.items) }
     {
         self.rewrite_with(Changing(change), changes)
     }

@@ -132,7 +132,7 @@ impl Spaces {
     }
 
     /// Gives each of the first `count` indices of locals an id, which equals the index.
-    pub fn reach_locals(&mut self, count: usize) -> Result<(), IndexError>
+    pub fn ensure_locals(&mut self, count: usize) -> Result<(), IndexError>
         ensures others { HasOtherLocals self.old self.new }
         ensures ids { OnOk result ((local : ℕ) → local < count
             → local_of self.new.indices 0 local ≡ Ok local) }

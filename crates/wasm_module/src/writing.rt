@@ -8,18 +8,18 @@ ghost use Rattle.wasm_module.specs.declared.parsed.ParsedModule.{ParsedModule as
 ghost use Rattle.wasm_module.specs.CodeSections.{body_at, entry};
 ghost use Rattle.wasm_module.specs.RewrittenCode.{Extends};
 ghost use Rattle.wasm_module.specs.Sections.{id_of, section as whole_section, section_at, SectionAt, IsModule};
-ghost use Rattle.wasm_module.specs.WrittenModules.{Puts, given_in, between, new_behind, IsWrittenCode, IsWrittenFor, IsWrittenAt, IsWrittenModule};
+ghost use Rattle.wasm_module.specs.WrittenModules.{Puts, new_contents_in, between, new_after, IsWrittenCode, IsWrittenFor, IsWrittenAt, IsWrittenModule};
 
 use crate::bodies::Scratch;
 use crate::body_writer::BodyWriter;
 use crate::changes::Changes;
 use crate::code::{Bodies, Body};
 use crate::fault::{ModuleError, ModuleFault};
+use crate::map_sink::{MapLines, MapSink, NoMap, WrittenBody};
 use crate::output::write_number;
 use crate::parsed::ParsedModule;
 use crate::rewriting::RewrittenModule;
 use crate::sections::{PREAMBLE, Section, SectionKind, Sections};
-use crate::telling::{MapLines, Nobody, Tell, WrittenBody};
 use std::alloc::Global;
 use std::io;
 use std::io::Write;
@@ -46,7 +46,7 @@ impl From<io::Error> for WriteError {
 }
 
 /// The place `len` bytes after `at`.
-fn behind(at: usize, len: usize) -> Result<usize, WriteError>
+fn place_after(at: usize, len: usize) -> Result<usize, WriteError>
     ensures { IfOk result (λ place. place ≡ at + len) }
 {
     match at.checked_add(len) {
@@ -64,7 +64,7 @@ fn put<W: Write>(bytes: &[u8], at: usize, out: &mut W) -> Result<usize, WriteErr
         (λ end. Puts (W.contents out.old) (W.contents out.new) at end bytes.now) }
 {
     out.write_all(bytes)?;
-    behind(at, bytes.len())
+    place_after(at, bytes.len())
 }
 
 /// Writes a number in LEB128, with as few bytes as possible. Returns the place after it.
@@ -135,12 +135,12 @@ fn put_between<W: Write>(
 
 impl<'a> ParsedModule<'a> {
     /// Writes the size of a body, and the body.
-    fn put_body<B: BodyWriter, T: Tell, W: Write>(
+    fn put_body<B: BodyWriter, T: MapSink, W: Write>(
         &mut self,
         bodies: &B,
         body: Body<'a>,
         scratch: &mut Scratch,
-        tell: &mut T,
+        sink: &mut T,
         at: usize,
         out: &mut W,
     ) -> Result<usize, WriteError>
@@ -150,12 +150,12 @@ impl<'a> ParsedModule<'a> {
             × B.writes bodies.now source body.entry.func (body_at body.entry) raw
             × Puts (W.contents out.old) (W.contents out.new) at end (entry raw)) }
     {
-        bodies.write_body(self, body, tell.wants_pairs(), scratch)?;
+        bodies.write_body(self, body, sink.needs_pairs(), scratch)?;
         let raw = scratch.raw.as_slice();
         let start = put_number(self.alloc, raw.len(), at, out)?;
         let old_start = body.start();
         let pairs = scratch.pairs.as_slice();
-        tell.tell(WrittenBody {
+        sink.record_body(WrittenBody {
             old_start,
             start,
             pairs,
@@ -164,11 +164,11 @@ impl<'a> ParsedModule<'a> {
     }
 
     /// Writes the contents of the code section: the number of bodies, then each after its size.
-    fn put_code<B: BodyWriter, T: Tell, W: Write>(
+    fn put_code<B: BodyWriter, T: MapSink, W: Write>(
         &mut self,
         bodies: &B,
         section: &Section<'a>,
-        tell: &mut T,
+        sink: &mut T,
         at: usize,
         out: &mut W,
     ) -> Result<usize, WriteError>
@@ -188,18 +188,18 @@ impl<'a> ParsedModule<'a> {
             let Some(body) = source.next() else {
                 return Err(WriteError::from(section.contents.fault(ModuleFault::BodyCount)));
             };
-            end = self.put_body(bodies, body, &mut scratch, tell, end, out)?;
+            end = self.put_body(bodies, body, &mut scratch, sink, end, out)?;
         }
         source.finish()?;
         Ok(end)
     }
 
     /// Writes the code section.
-    fn put_code_section<B: BodyWriter, T: Tell, W: Write>(
+    fn put_code_section<B: BodyWriter, T: MapSink, W: Write>(
         &mut self,
         rewritten: &RewrittenModule<'_, B>,
         section: &Section<'a>,
-        tell: &mut T,
+        sink: &mut T,
         at: usize,
         out: &mut W,
     ) -> Result<usize, WriteError>
@@ -210,19 +210,19 @@ impl<'a> ParsedModule<'a> {
             × Puts (W.contents out.old) (W.contents out.new) at end (whole_section 10 code)) }
     {
         let at = put_header(self.alloc, SectionKind::Code, rewritten.code_len, at, out)?;
-        let end = self.put_code(&rewritten.bodies, section, tell, at, out)?;
-        match end == behind(at, rewritten.code_len)? {
+        let end = self.put_code(&rewritten.bodies, section, sink, at, out)?;
+        match end == place_after(at, rewritten.code_len)? {
             true => Ok(end),
-            false => Err(WriteError::from(section.contents.fault(ModuleFault::UnsteadyChange))),
+            false => Err(WriteError::from(section.contents.fault(ModuleFault::InconsistentChange))),
         }
     }
 
     /// Writes a section unchanged, or with new contents, or nothing if it is left out.
-    fn put_in_place<B: BodyWriter, T: Tell, W: Write>(
+    fn put_in_place<B: BodyWriter, T: MapSink, W: Write>(
         &mut self,
         rewritten: &RewrittenModule<'_, B>,
         section: &Section<'a>,
-        tell: &mut T,
+        sink: &mut T,
         at: usize,
         out: &mut W,
     ) -> Result<usize, WriteError>
@@ -234,9 +234,9 @@ impl<'a> ParsedModule<'a> {
             × Puts (W.contents out.old) (W.contents out.new) at end text) }
     {
         if section.kind == SectionKind::Code {
-            return self.put_code_section(rewritten, section, tell, at, out);
+            return self.put_code_section(rewritten, section, sink, at, out);
         }
-        if rewritten.leaves_out(section) {
+        if rewritten.omits(section) {
             return Ok(at);
         }
         match rewritten.contents_for(section) {
@@ -247,7 +247,7 @@ impl<'a> ParsedModule<'a> {
 
     /// Writes the new sections that follow the section of this rank, or, for rank 0, the preamble:
     /// those that the source doesn't have, with a lower rank than its next section.
-    fn put_behind<B: BodyWriter, W: Write>(
+    fn put_new_after<B: BodyWriter, W: Write>(
         &self,
         rewritten: &RewrittenModule<'_, B>,
         rank: u8,
@@ -256,18 +256,18 @@ impl<'a> ParsedModule<'a> {
     ) -> Result<usize, WriteError>
         ensures { (all : List SectionAt) → IsModule self.now.bytes.now all
             → IfOk result (λ end. Puts (W.contents out.old) (W.contents out.new) at end
-            (new_behind (given_in rewritten.now) all rank)) }
+            (new_after (new_contents_in rewritten.now) all rank)) }
     {
         let next = self.next_rank(rank)?;
         put_between(self.alloc, &rewritten.changes, (rank, next), at, out)
     }
 
     /// Writes a section, as `put_in_place` does, and the new sections after it.
-    fn put_with_new<B: BodyWriter, T: Tell, W: Write>(
+    fn put_with_new<B: BodyWriter, T: MapSink, W: Write>(
         &mut self,
         rewritten: &RewrittenModule<'_, B>,
         section: &Section<'a>,
-        tell: &mut T,
+        sink: &mut T,
         at: usize,
         out: &mut W,
     ) -> Result<usize, WriteError>
@@ -278,20 +278,20 @@ impl<'a> ParsedModule<'a> {
             (section_at section.now) text
             × Puts (W.contents out.old) (W.contents out.new) at end text) }
     {
-        let end = self.put_in_place(rewritten, section, tell, at, out)?;
+        let end = self.put_in_place(rewritten, section, sink, at, out)?;
         let rank = section.kind.rank();
         if rank == 0 {
             // A custom section.
             return Ok(end);
         }
-        self.put_behind(rewritten, rank, end, out)
+        self.put_new_after(rewritten, rank, end, out)
     }
 
     /// Writes the module, and tells the listener of each body.
-    fn write_telling<B: BodyWriter, T: Tell, W: Write>(
+    fn write_with_sink<B: BodyWriter, T: MapSink, W: Write>(
         &mut self,
         rewritten: &RewrittenModule<'_, B>,
-        tell: &mut T,
+        sink: &mut T,
         out: &mut W,
     ) -> Result<(), WriteError>
         ensures extends { OnOk result (Extends self.old self.new) }
@@ -300,21 +300,21 @@ impl<'a> ParsedModule<'a> {
             × Appends (W.contents out.old) (W.contents out.new) new) }
     {
         let begin = put(&PREAMBLE, 0, out)?;
-        let mut end = self.put_behind(rewritten, 0, begin, out)?;
+        let mut end = self.put_new_after(rewritten, 0, begin, out)?;
         'sections: for section in Sections::new(self.bytes())? {
             let section = section?;
-            end = self.put_with_new(rewritten, &section, tell, end, out)?;
+            end = self.put_with_new(rewritten, &section, sink, end, out)?;
         }
         Ok(())
     }
 
     /// Writes the module: its sections in order, unchanged ones byte for byte, new ones in their
     /// places; and each body after its size, as it is rewritten or changed. Debug information is
-    /// left out if `leave_out_debug` was called.
+    /// left out if `omit_debug` was called.
     ///
     /// # Errors
     ///
-    /// Those of the writer; `UnsteadyChange` if a change of functions gives another result than the
+    /// Those of the writer; `InconsistentChange` if a change of functions gives another result than the
     /// first time, so that the code has another size; or `Memory`. A part of the module may have
     /// been written.
     pub fn write_module<B: BodyWriter, W: Write>(
@@ -327,7 +327,7 @@ impl<'a> ParsedModule<'a> {
             × IsWrittenModule (B.writes rewritten.now.bodies) self.old rewritten.now.changes new
             × Appends (W.contents out.old) (W.contents out.new) new) }
     {
-        self.write_telling(rewritten, &mut Nobody, out)
+        self.write_with_sink(rewritten, &mut NoMap, out)
     }
 
     /// The same, with the location map: a line for each written operator that comes from the
@@ -348,7 +348,7 @@ impl<'a> ParsedModule<'a> {
             × IsWrittenModule (B.writes rewritten.now.bodies) self.old rewritten.now.changes new
             × Appends (W.contents out.old) (W.contents out.new) new) }
     {
-        self.write_telling(rewritten, &mut MapLines(map), out)
+        self.write_with_sink(rewritten, &mut MapLines(map), out)
     }
 
     /// The same, with a listener, which is told of each body before it is written.
@@ -356,10 +356,10 @@ impl<'a> ParsedModule<'a> {
     /// # Errors
     ///
     /// Those of `write_module`, and those of the listener.
-    pub fn write_module_telling<B: BodyWriter, T: Tell, W: Write>(
+    pub fn write_module_with_sink<B: BodyWriter, T: MapSink, W: Write>(
         &mut self,
         rewritten: &RewrittenModule<'_, B>,
-        tell: &mut T,
+        sink: &mut T,
         out: &mut W,
     ) -> Result<(), WriteError>
         ensures extends { OnOk result (Extends self.old self.new) }
@@ -367,6 +367,6 @@ impl<'a> ParsedModule<'a> {
             × IsWrittenModule (B.writes rewritten.now.bodies) self.old rewritten.now.changes new
             × Appends (W.contents out.old) (W.contents out.new) new) }
     {
-        self.write_telling(rewritten, tell, out)
+        self.write_with_sink(rewritten, sink, out)
     }
 }

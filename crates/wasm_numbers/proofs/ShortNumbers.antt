@@ -16,10 +16,10 @@ last_high bits byte wide high =
     rw (le-ltb byte 64 high, le-leb 128 (byte + 2 ^ (bits - 1)) fits) refl
 
 -- the bytes after the first, read as a slice
-abbrev pub behind : List ℕ → List ℕ
-behind bytes = take (length bytes - 1) (drop 1 bytes)
+abbrev pub without_first : List ℕ → List ℕ
+without_first bytes = take (length bytes - 1) (drop 1 bytes)
 
-front : (bytes : List ℕ) → 1 ≤ length bytes → bytes ≡ slice_index_or bytes 0 0 ∷ behind bytes
+front : (bytes : List ℕ) → 1 ≤ length bytes → bytes ≡ slice_index_or bytes 0 0 ∷ without_first bytes
 front [] some = absurd (omega arith)
 front (byte ∷ bytes) some =
     let whole : take (length (byte ∷ bytes) - 1) bytes ≡ bytes = take_all (length (byte ∷ bytes) - 1) bytes (omega arith) in
@@ -36,11 +36,11 @@ more_of e bits byte bytes high rest low wide read = rw (le-ltb byte 128 low, lt-
 
 -- a last byte at the front
 pub one : {V : Type 0} (e : Encoding V) (bits : ℕ) (bytes : List ℕ) (v : V) → 1 ≤ length bytes → slice_index_or bytes 0 0 < 128
-    → e.last bits (slice_index_or bytes 0 0) ≡ Some v → integer e bits bytes ≡ Ok (v, behind bytes)
-one e bits bytes v some low last = ap (integer e bits) (front bytes some) ∙ one_of e bits (slice_index_or bytes 0 0) (behind bytes) v low last
+    → e.last bits (slice_index_or bytes 0 0) ≡ Some v → integer e bits bytes ≡ Ok (v, without_first bytes)
+one e bits bytes v some low last = ap (integer e bits) (front bytes some) ∙ one_of e bits (slice_index_or bytes 0 0) (without_first bytes) v low last
 
 -- a byte at the front, with more of the number after it
 pub more : {V : Type 0} (e : Encoding V) (bits : ℕ) (bytes : List ℕ) (high : V) (rest : List ℕ) → 1 ≤ length bytes → 128 ≤ slice_index_or bytes 0 0 → 7 < bits
-    → integer e (bits - 7) (behind bytes) ≡ Ok (high, rest) → integer e bits bytes ≡ Ok (e.more (slice_index_or bytes 0 0 - 128) high, rest)
+    → integer e (bits - 7) (without_first bytes) ≡ Ok (high, rest) → integer e bits bytes ≡ Ok (e.more (slice_index_or bytes 0 0 - 128) high, rest)
 more e bits bytes high rest some low wide read =
-    ap (integer e bits) (front bytes some) ∙ more_of e bits (slice_index_or bytes 0 0) (behind bytes) high rest low wide read
+    ap (integer e bits) (front bytes some) ∙ more_of e bits (slice_index_or bytes 0 0) (without_first bytes) high rest low wide read

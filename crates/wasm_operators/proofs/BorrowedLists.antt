@@ -63,32 +63,32 @@ module _ {A : Type 0} (one : List ℕ → Result (A × List ℕ) ReadFault) wher
   regroup front n (Err f) = refl
 
   -- the items read so far and the remaining ones are the whole list
-  pub record GoesOn (left total : Result (List A × List ℕ) ReadFault) : Type 0 where
+  pub record Continues (left total : Result (List A × List ℕ) ReadFault) : Type 0 where
     pub front : List A
     pub same : with_front front left ≡ total
 
-  pub starts : (count : ℕ) (bytes : List ℕ) → GoesOn (many one (count - 0) bytes) (many one count bytes)
+  pub starts : (count : ℕ) (bytes : List ℕ) → Continues (many one (count - 0) bytes) (many one count bytes)
   starts count bytes =
       let k : count - 0 ≡ count = omega arith in
       record { front = []; same = rw k (same_nil (many one count bytes)) }
 
-  pub goes_on : (count i : ℕ) (bytes : List ℕ) (n : A) (after : List ℕ) (total : Result (List A × List ℕ) ReadFault) → i < count → one bytes ≡ Ok (n, after)
-      → GoesOn (many one (count - i) bytes) total → GoesOn (many one (count - (i + 1)) after) total
+  pub continues : (count i : ℕ) (bytes : List ℕ) (n : A) (after : List ℕ) (total : Result (List A × List ℕ) ReadFault) → i < count → one bytes ≡ Ok (n, after)
+      → Continues (many one (count - i) bytes) total → Continues (many one (count - (i + 1)) after) total
   unfolding many
-  goes_on count i bytes n after total lt h so_far =
+  continues count i bytes n after total lt h so_far =
       let k : count - i ≡ suc (count - (i + 1)) = omega arith in
       let step : with_front so_far.front (many one (count - i) bytes) ≡ with_front (so_far.front ++ n ∷ []) (many one (count - (i + 1)) after) = rw (k, h) (regroup so_far.front n (many one (count - (i + 1)) after)) in
       record { front = so_far.front ++ n ∷ []; same = sym step ∙ so_far.same }
 
   pub ends : (e : ReadFault) (count i : ℕ) (bytes : List ℕ) (total : Result (List A × List ℕ) ReadFault) → i < count → one bytes ≡ Err e
-      → GoesOn (many one (count - i) bytes) total → total ≡ Err e
+      → Continues (many one (count - i) bytes) total → total ≡ Err e
   unfolding many
   ends e count i bytes total lt h so_far =
       let k : count - i ≡ suc (count - (i + 1)) = omega arith in
       let step : with_front so_far.front (many one (count - i) bytes) ≡ Err e = rw (k, h) refl in
       sym so_far.same ∙ step
 
-  pub is_done : (count i : ℕ) (bytes : List ℕ) (total : Result (List A × List ℕ) ReadFault) → count ≤ i → GoesOn (many one (count - i) bytes) total → total ≡ Ok (values total, bytes)
+  pub is_done : (count i : ℕ) (bytes : List ℕ) (total : Result (List A × List ℕ) ReadFault) → count ≤ i → Continues (many one (count - i) bytes) total → total ≡ Ok (values total, bytes)
   unfolding many
   is_done count i bytes total le so_far =
       let k : count - i ≡ 0 = omega arith in

@@ -64,10 +64,10 @@ opcodes_agree = record { takes = opcode_takes; again = opcode_again }
 
 -- the immediates that were read after an opcode
 record Read (o : Opcode) (kinds : Option (List Kind)) (bytes : List ℕ) (v : RawOperation) (rest : List ℕ) : Type 0 where
-  asked : List Kind
-  known : kinds ≡ Some asked
+  opcode_kinds : List Kind
+  known : kinds ≡ Some opcode_kinds
   is : List RawImmediate
-  read : immediates asked bytes ≡ Ok (is, rest)
+  read : immediates opcode_kinds bytes ≡ Ok (is, rest)
   whole : operation o is ≡ v
 
 operands_ok : (o : Opcode) (kinds : Option (List Kind)) (bytes : List ℕ) (v : RawOperation) (rest : List ℕ) → operands_of o kinds bytes ≡ Ok (v, rest) → Read o kinds bytes v rest
@@ -76,7 +76,7 @@ operands_ok o (Some kinds) bytes v rest e =
     let x = bind_ok (immediates kinds bytes) (λ is. Ok (operation o is.0, is.1)) (v, rest) e in
     let both = ok_is (operation o x.0.0, x.0.1) (v, rest) x.2 in
     record {
-      asked = kinds;
+      opcode_kinds = kinds;
       known = refl;
       is = x.0.0;
       read = x.1 ∙ ap (λ (p : RawOperation × List ℕ). Ok (x.0.0, p.1)) both;
@@ -89,7 +89,7 @@ operation_takes bytes v rest fits e =
     let x = bind_ok (opcode bytes) (λ o. operands o.0 o.1) (v, rest) e in
     let y = operands_ok x.0.0 (kinds_of x.0.0) x.0.1 v rest x.2 in
     let p = opcodes_agree.takes bytes x.0.0 x.0.1 fits x.1 in
-    let q = (immediates_agree y.asked).takes x.0.1 y.is rest p.rest_fits y.read in
+    let q = (immediates_agree y.opcode_kinds).takes x.0.1 y.is rest p.rest_fits y.read in
     let one : Spells (operation x.0.0 y.is) (p.text ++ q.text) = record {
       first = p.text;
       others = q.text;

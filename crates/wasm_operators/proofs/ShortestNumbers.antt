@@ -9,9 +9,9 @@ use Rattle.wasm_numbers.proofs.Powers.{pow_split, pow_half}
 use Rattle.wasm_numbers.proofs.NumberLaws.{longer}
 
 -- the same byte before both
-least_behind : (x y : ℕ) (short text : List ℕ) → x ≡ y → IsLeast short text → IsLeast (x ∷ short) (y ∷ text)
-least_behind x y short text e (inl q) = inl (ap (λ (z : ℕ). z ∷ short) e ∙ ap (λ (z : List ℕ). y ∷ z) q)
-least_behind x y short text e (inr q) = inr (omega arith)
+least_after : (x y : ℕ) (short text : List ℕ) → x ≡ y → IsLeast short text → IsLeast (x ∷ short) (y ∷ text)
+least_after x y short text e (inl q) = inl (ap (λ (z : ℕ). z ∷ short) e ∙ ap (λ (z : List ℕ). y ∷ z) q)
+least_after x y short text e (inr q) = inr (omega arith)
 
 some_is : {A : Type 0} (x y : A) → Some x ≡ Some y → x ≡ y
 some_is x y q = cc
@@ -80,7 +80,7 @@ unsigned_least (suc more) w n (b ∷ c ∷ bs) h lt s =
           let low : n % 128 + 128 ≡ b = omega (arith, s.0, s.1) in
           let high : n / 128 ≡ s.3 = omega (arith, s.0, s.1) in
           let tail : IsInteger unsigned (w - 7) (n / 128) (c ∷ bs) = rw high s.5 in
-          rw (le-ltb n 128 p) (least_behind (n % 128 + 128) b (short_unsigned more (n / 128)) (c ∷ bs) low (unsigned_least more (w - 7) (n / 128) (c ∷ bs) (omega arith) (high_fits w n wide lt) tail))
+          rw (le-ltb n 128 p) (least_after (n % 128 + 128) b (short_unsigned more (n / 128)) (c ∷ bs) low (unsigned_least more (w - 7) (n / 128) (c ∷ bs) (omega arith) (high_fits w n wide lt) tail))
     ]
 
 pub unsigned_shortest : (more w : ℕ) → w ≤ 7 + 7 * more → (n : ℕ) (text : List ℕ) → IsInteger unsigned w n text → IsInteger unsigned w n (short_unsigned more n) × IsLeast (short_unsigned more n) text
@@ -223,7 +223,7 @@ signed_least (suc more) w z (b ∷ c ∷ bs) h lt s =
           let is = above_is (b - 128) s.3 z below s.4 in
           let low : low_bits z + 128 ≡ b = omega (arith, s.0, is.0) in
           let tail : IsInteger signed (w - 7) (high_bits z) (c ∷ bs) = rw is.1 s.5 in
-          rw (is_great z p) (least_behind (low_bits z + 128) b (short_signed more (high_bits z)) (c ∷ bs) low (signed_least more (w - 7) (high_bits z) (c ∷ bs) (omega arith) (high_half w z wide lt) tail))
+          rw (is_great z p) (least_after (low_bits z + 128) b (short_signed more (high_bits z)) (c ∷ bs) low (signed_least more (w - 7) (high_bits z) (c ∷ bs) (omega arith) (high_half w z wide lt) tail))
     ]
 
 pub signed_shortest : (more w : ℕ) → w ≤ 7 + 7 * more → (z : ℤ) (text : List ℕ) → IsInteger signed w z text → IsInteger signed w z (short_signed more z) × IsLeast (short_signed more z) text

@@ -48,7 +48,7 @@ use Rattle.wasm_numbers.specs.Numbers.{IsU32, IsU64, IsS32, IsS33, IsS64, IsByte
 use Rattle.wasm_operators.specs.Types.{row_at, is_listed, listed, heap_at, IsHeapType, value_at, nullable_at, IsValueType, IsBlockType}
 use Rattle.wasm_operators.specs.Operations.{Access, CatchClause, Cast, RawImmediate, index, local, label, handler, outer, number, access, branch_table, clauses, block, heap, value, cast, i32, i64, f32, f64, v128, lane, lanes, zero_byte, RawOperation}
 use Rattle.wasm_operators.specs.Immediates.{Kind, an_access, kind_of, IsAccess, IsTable, IsClause, AreClauses, cast_flags, IsCast, IsSelected, SpellsImmediate, SpellsImmediates}
-use Rattle.wasm_operators.specs.Opcodes.{reference_ranges, bulk_rows, range_at, aggregate_ranges, vector_ranges, atomic_ranges, is_prefix, kinds_of_byte, kinds_behind, kinds_of, IsOpcode}
+use Rattle.wasm_operators.specs.Opcodes.{reference_ranges, bulk_rows, range_at, aggregate_ranges, vector_ranges, atomic_ranges, is_prefix, kinds_of_byte, kinds_after, kinds_of, IsOpcode}
 use Rattle.wasm_operators.specs.Spelling.{Spells}
 use Rattle.wasm_operators.specs.Shortest.{short_number, short_integer, short_bits, short_vector, heap_byte, short_heap, short_reference, short_value, short_block, short_access, short_table, short_tag, short_clause, short_clauses, short_flags, short_cast, short_immediate, short_immediates, short_opcode, short}
 use Rattle.wasm_operators.specs.Fitting.{IsWithin, FitsHeap, FitsValue, FitsBlock, FitsTag, FitsLabel, FitsClause, FitsLane, Fits, AllFit}
@@ -311,29 +311,29 @@ byte_below b ks e =
       | inr le ↦ omega arith
     ]
 
-behind_fc : (n : ℕ) (ks : List Kind) → kinds_behind 0xfc n ≡ Some ks → n < 2 ^ 32
-unfolding kinds_behind
-behind_fc n ks e =
+after_fc : (n : ℕ) (ks : List Kind) → kinds_after 0xfc n ≡ Some ks → n < 2 ^ 32
+unfolding kinds_after
+after_fc n ks e =
     elim (cases_lt n 8) [
       | inl lt ↦ omega arith
       | inr le ↦ bulk_below n ks (let q = e in rw (lt-leb n 7 (omega arith)) at q)
     ]
 
-behind_fd : (n : ℕ) (ks : List Kind) → kinds_behind 0xfd n ≡ Some ks → n < 2 ^ 32
-unfolding kinds_behind
-behind_fd n ks e = range_within (2 ^ 32) vector_ranges (search rules) n ks e
+after_fd : (n : ℕ) (ks : List Kind) → kinds_after 0xfd n ≡ Some ks → n < 2 ^ 32
+unfolding kinds_after
+after_fd n ks e = range_within (2 ^ 32) vector_ranges (search rules) n ks e
 
-behind_fe : (n : ℕ) (ks : List Kind) → kinds_behind 0xfe n ≡ Some ks → n < 2 ^ 32
-unfolding kinds_behind
-behind_fe n ks e = range_within (2 ^ 32) atomic_ranges (search rules) n ks e
+after_fe : (n : ℕ) (ks : List Kind) → kinds_after 0xfe n ≡ Some ks → n < 2 ^ 32
+unfolding kinds_after
+after_fe n ks e = range_within (2 ^ 32) atomic_ranges (search rules) n ks e
 
-behind_fb : (n : ℕ) (ks : List Kind) → kinds_behind 0xfb n ≡ Some ks → n < 2 ^ 32
-unfolding kinds_behind
-behind_fb n ks e = range_within (2 ^ 32) aggregate_ranges (search rules) n ks e
+after_fb : (n : ℕ) (ks : List Kind) → kinds_after 0xfb n ≡ Some ks → n < 2 ^ 32
+unfolding kinds_after
+after_fb n ks e = range_within (2 ^ 32) aggregate_ranges (search rules) n ks e
 
 -- a prefix that an operator can follow
-prefixes : (prefix n : ℕ) (ks : List Kind) → kinds_behind prefix n ≡ Some ks → (prefix ≡ 0xfc) ⊎ ((prefix ≡ 0xfd) ⊎ ((prefix ≡ 0xfe) ⊎ (prefix ≡ 0xfb)))
-unfolding kinds_behind
+prefixes : (prefix n : ℕ) (ks : List Kind) → kinds_after prefix n ≡ Some ks → (prefix ≡ 0xfc) ⊎ ((prefix ≡ 0xfd) ⊎ ((prefix ≡ 0xfe) ⊎ (prefix ≡ 0xfb)))
+unfolding kinds_after
 prefixes prefix n ks e =
     elim (chosen (eqb prefix 0xfc) _ _ (Some ks) e) [
       | inl p ↦ inl (eqb-true prefix 0xfc p.0)
@@ -352,24 +352,24 @@ prefixes prefix n ks e =
           ]
     ]
 
-behind : (prefix n : ℕ) (ks : List Kind) → kinds_behind prefix n ≡ Some ks → (is_prefix prefix ≡ true) × (prefix < 256) × (n < 2 ^ 32)
-behind prefix n ks e =
+prefixed_fits : (prefix n : ℕ) (ks : List Kind) → kinds_after prefix n ≡ Some ks → (is_prefix prefix ≡ true) × (prefix < 256) × (n < 2 ^ 32)
+prefixed_fits prefix n ks e =
     elim (prefixes prefix n ks e) [
-      | inl is ↦ let q = e in rw is (refl, omega arith, behind_fc n ks (rw is at q))
+      | inl is ↦ let q = e in rw is (refl, omega arith, after_fc n ks (rw is at q))
       | inr others ↦
           elim others [
-            | inl is ↦ let q = e in rw is (refl, omega arith, behind_fd n ks (rw is at q))
+            | inl is ↦ let q = e in rw is (refl, omega arith, after_fd n ks (rw is at q))
             | inr more ↦
                 elim more [
-                  | inl is ↦ let q = e in rw is (refl, omega arith, behind_fe n ks (rw is at q))
-                  | inr is ↦ let q = e in rw is (refl, omega arith, behind_fb n ks (rw is at q))
+                  | inl is ↦ let q = e in rw is (refl, omega arith, after_fe n ks (rw is at q))
+                  | inr is ↦ let q = e in rw is (refl, omega arith, after_fb n ks (rw is at q))
                 ]
           ]
     ]
 
 opcode_spelt : (o : Opcode) (ks : List Kind) → kinds_of o ≡ Some ks → IsOpcode o (short_opcode o)
 opcode_spelt (Byte b) ks e = let le = byte_below b ks e in (no_prefix b le, omega arith, refl)
-opcode_spelt (Prefixed prefix n) ks e = let h = behind prefix n ks e in (h.0, h.1, short_number n, refl, u32_spelt n h.2)
+opcode_spelt (Prefixed prefix n) ks e = let h = prefixed_fits prefix n ks e in (h.0, h.1, short_number n, refl, u32_spelt n h.2)
 
 -- ---- operators
 
@@ -386,22 +386,22 @@ spelt o kinds fits = record {
 -- ---- operators of the code
 
 pub kinds_of_unary : (op : UnaryOp) → kinds_of (unary_opcode op) ≡ Some (map kind_of (extract_lane op))
-unfolding kinds_of_byte kinds_behind
+unfolding kinds_of_byte kinds_after
 kinds_of_unary unary.I32Eqz = refl
 kinds_of_unary _ = refl
 
 pub kinds_of_binary : (op : BinaryOp) → kinds_of (binary_opcode op) ≡ Some (map kind_of (replace_lane op))
-unfolding kinds_of_byte kinds_behind
+unfolding kinds_of_byte kinds_after
 kinds_of_binary binary.I32Add = refl
 kinds_of_binary _ = refl
 
 pub kinds_of_ternary : (op : TernaryOp) → kinds_of (ternary_opcode op) ≡ Some []
-unfolding kinds_of_byte kinds_behind
+unfolding kinds_of_byte kinds_after
 kinds_of_ternary ternary.F32x4RelaxedMadd = refl
 kinds_of_ternary _ = refl
 
 pub kinds_of_load : (kind : LoadKind) → kinds_of (load_opcode kind) ≡ Some (an_access ∷ [])
-unfolding kinds_of_byte kinds_behind
+unfolding kinds_of_byte kinds_after
 kinds_of_load (load.I32 true) = refl
 kinds_of_load (load.I32 false) = refl
 kinds_of_load (load.I64 true) = refl
@@ -421,7 +421,7 @@ kinds_of_load (load.I64_32 SignExtend) = refl
 kinds_of_load (load.I64_32 _) = refl
 
 pub kinds_of_store : (kind : StoreKind) → kinds_of (store_opcode kind) ≡ Some (an_access ∷ [])
-unfolding kinds_of_byte kinds_behind
+unfolding kinds_of_byte kinds_after
 kinds_of_store store.F32 = refl
 kinds_of_store store.F64 = refl
 kinds_of_store store.V128 = refl
@@ -441,12 +441,12 @@ kinds_of_store (store.I64_32 true) = refl
 kinds_of_store (store.I64_32 false) = refl
 
 pub kinds_of_vector_access : (kind : LoadSimdKind) (a : Access) → kinds_of (vector_access_opcode kind) ≡ Some (map kind_of (access a ∷ access_lane kind))
-unfolding kinds_behind
+unfolding kinds_after
 kinds_of_vector_access vector_access.Splat8 a = refl
 kinds_of_vector_access _ a = refl
 
 pub kinds_of_rmw : (op : AtomicOp) (width : AtomicWidth) → kinds_of (rmw_opcode op width) ≡ Some (an_access ∷ [])
-unfolding kinds_behind
+unfolding kinds_after
 kinds_of_rmw atomic_op.Add width.I32 = refl
 kinds_of_rmw atomic_op.Sub width.I32 = refl
 kinds_of_rmw atomic_op.And width.I32 = refl
@@ -456,18 +456,18 @@ kinds_of_rmw atomic_op.Xchg width.I32 = refl
 kinds_of_rmw _ _ = refl
 
 pub kinds_of_cmpxchg : (width : AtomicWidth) → kinds_of (cmpxchg_opcode width) ≡ Some (an_access ∷ [])
-unfolding kinds_behind
+unfolding kinds_after
 kinds_of_cmpxchg width.I32 = refl
 kinds_of_cmpxchg _ = refl
 
 pub kinds_of_atomic : (kind : AtomicKind) → kinds_of (atomic_opcode kind) ≡ Some (an_access ∷ [])
-unfolding kinds_behind
+unfolding kinds_after
 kinds_of_atomic (atomic.Rmw op width) = kinds_of_rmw op width
 kinds_of_atomic (atomic.Cmpxchg width) = kinds_of_cmpxchg width
 kinds_of_atomic _ = refl
 
 kinds_of_reference : (op : ReferenceOp) → kinds_of (reference_opcode op) ≡ Some (map kind_of (reference_immediates op))
-unfolding kinds_of_byte kinds_behind
+unfolding kinds_of_byte kinds_after
 kinds_of_reference (reference.RefTest true type) = refl
 kinds_of_reference (reference.RefTest false type) = refl
 kinds_of_reference (reference.RefCast true type) = refl
@@ -476,7 +476,7 @@ kinds_of_reference _ = refl
 
 -- the immediates after an opcode are those of its row
 kinds_right : (op : Listed) → kinds_of (meaning op).opcode ≡ Some (map kind_of (meaning op).immediates)
-unfolding kinds_of_byte kinds_behind
+unfolding kinds_of_byte kinds_after
 kinds_right (operator.Unop op) = kinds_of_unary op
 kinds_right (operator.Binop op) = kinds_of_binary op
 kinds_right (operator.TernOp op) = kinds_of_ternary op

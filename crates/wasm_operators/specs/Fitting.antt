@@ -10,15 +10,15 @@ use Rattle.wasm_operators.specs.declared.types.BlockType.TheVariants.{Empty, Val
 use Rattle.wasm_operators.specs.Operations.{CatchClause, RawImmediate, index, local, label, handler, outer, number, branch_table, clauses, access, block, heap, value, cast, i32, i64, f32, f64, v128, lane, lanes, zero_byte}
 
 -- What an immediate requires besides numbers that fit their types.
-abbrev pub IsSpeakable : RawImmediate → Type 0
-IsSpeakable (access a) = a.alignment < 32
-IsSpeakable (branch_table targets default) = length targets < 2 ^ 32
-IsSpeakable (clauses cs) = length cs < 2 ^ 32
-IsSpeakable _ = Unit {0}
+abbrev pub IsEncodable : RawImmediate → Type 0
+IsEncodable (access a) = a.alignment < 32
+IsEncodable (branch_table targets default) = length targets < 2 ^ 32
+IsEncodable (clauses cs) = length cs < 2 ^ 32
+IsEncodable _ = Unit {0}
 
-abbrev pub AreSpeakable : List RawImmediate → Type 0
-AreSpeakable [] = Unit {0}
-AreSpeakable (i ∷ is) = IsSpeakable i × AreSpeakable is
+abbrev pub AreEncodable : List RawImmediate → Type 0
+AreEncodable [] = Unit {0}
+AreEncodable (i ∷ is) = IsEncodable i × AreEncodable is
 
 -- ---- numbers that fit
 

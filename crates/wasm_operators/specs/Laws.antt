@@ -20,7 +20,7 @@ pub record ReadingAgrees : Type 0 where
 -- No encoding is a prefix of another, and none encodes two values.
 abbrev pub OneSpelling : {V : Type 0} → Spelling V → Type 0
 OneSpelling {V} Spells =
-    (v w : V) (text other behind follows : List ℕ) → Spells v text → Spells w other → text ++ behind ≡ other ++ follows
+    (v w : V) (text other following follows : List ℕ) → Spells v text → Spells w other → text ++ following ≡ other ++ follows
     → (v ≡ w) × (text ≡ other)
 
 -- If a value has an encoding, this is one of its encodings, and every other is longer.
@@ -28,18 +28,18 @@ abbrev pub IsShortest : {V : Type 0} → (V → List ℕ) → Spelling V → Typ
 IsShortest {V} short Spells = (v : V) (text : List ℕ) → Spells v text → Spells v (short v) × IsLeast (short v) text
 
 -- The second list of operators continues where the first ends: with operators that are encoded after the bytes of the first.
-pub record GoesOn (first second : List Placed) (place : ℕ) (bytes rest others : List ℕ) : Type 0 where
+pub record Continues (first second : List Placed) (place : ℕ) (bytes rest others : List ℕ) : Type 0 where
   pub more : List Placed
   pub longer : second ≡ first ++ more
   pub front : List ℕ
   pub parts : bytes ≡ front ++ rest
-  pub behind : Lists more (place + length front) rest others
+  pub following : Lists more (place + length front) rest others
 
 -- Two lists of operators that the same bytes encode agree up to the end of the shorter one: the other continues where it ends.
 abbrev pub ListsAgree : Type 0
 ListsAgree =
     (xs ys : List Placed) (place : ℕ) (bytes rest others : List ℕ) → Lists xs place bytes rest → Lists ys place bytes others
-    → GoesOn xs ys place bytes rest others ⊎ GoesOn ys xs place bytes others rest
+    → Continues xs ys place bytes rest others ⊎ Continues ys xs place bytes others rest
 
 -- So the bytes before a given rest encode at most one list of operators.
 abbrev pub OneList : Type 0

@@ -186,8 +186,8 @@ atomic_ranges =
     (0x4e, Some (an_access ∷ [])) ∷  -- loads, stores, and read-modify-write operators
     []
 
-unfoldable pub kinds_behind : ℕ → ℕ → Option (List Kind)
-kinds_behind prefix n =
+unfoldable pub kinds_after : ℕ → ℕ → Option (List Kind)
+kinds_after prefix n =
     if prefix == 0xfc then
     (if nat_le n 7 then Some []  -- saturating conversions
     else row_at bulk_rows n)
@@ -200,7 +200,7 @@ kinds_behind prefix n =
 
 abbrev pub kinds_of : Opcode → Option (List Kind)
 kinds_of (Byte b) = kinds_of_byte b
-kinds_of (Prefixed prefix n) = kinds_behind prefix n
+kinds_of (Prefixed prefix n) = kinds_after prefix n
 
 -- a byte that is not a prefix, or a prefix and any encoding of the number
 abbrev pub IsOpcode : Spelling Opcode

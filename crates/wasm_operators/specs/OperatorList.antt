@@ -13,4 +13,4 @@ pub record Placed : Type 0 where
 abbrev pub Lists : List Placed → (place : ℕ) → (bytes rest : List ℕ) → Type 0
 Lists [] place bytes rest = bytes ≡ rest
 Lists (x ∷ xs) place bytes rest =
-    (x.place ≡ place) × (text behind : List ℕ) × (bytes ≡ text ++ behind) × Spells x.spelt text × Lists xs (place + length text) behind rest
+    (x.place ≡ place) × (text following : List ℕ) × (bytes ≡ text ++ following) × Spells x.spelt text × Lists xs (place + length text) following rest

@@ -6,7 +6,7 @@ use Rattle.wasm_operators.specs.declared.immediates.Immediates.TheVariants as im
 use Rattle.wasm_operators.specs.Operations.{CatchClause, RawImmediate, index, local, label, handler, outer, number, branch_table, clauses, access, block, heap, value, cast, i32, i64, f32, f64, v128, lane, lanes, zero_byte, RawOperation}
 use Rattle.wasm_operators.specs.Immediates.{Table}
 use Rattle.wasm_operators.specs.declared.immediates.ReferenceImmediates.{ReferenceImmediates}
-use Rattle.wasm_operators.specs.declared.immediates.ReferenceImmediates.TheVariants as behind
+use Rattle.wasm_operators.specs.declared.immediates.ReferenceImmediates.TheVariants as form
 use Rattle.wasm_operators.specs.AccessOperations.{access_of, memarg_of}
 use Rattle.wasm_operators.specs.ReferenceOperations.{cast_of, raw_cast_of}
 
@@ -77,11 +77,11 @@ lane_immediates (Some n) = lane n ∷ []
 lane_immediates None = []
 
 -- the immediates of an operator on references, structs and arrays
-abbrev pub behind_reference : ReferenceImmediates → List RawImmediate
-behind_reference behind.Nothing = []
-behind_reference (behind.Index space n) = index space n ∷ []
-behind_reference (behind.Pair first m second n) = index first m ∷ index second n ∷ []
-behind_reference (behind.IndexNumber space m n) = index space m ∷ number n ∷ []
-behind_reference (behind.Label depth) = label depth ∷ []
-behind_reference (behind.Heap type) = heap type ∷ []
-behind_reference (behind.Cast c) = cast (cast_of c) ∷ []
+abbrev pub reference_parts : ReferenceImmediates → List RawImmediate
+reference_parts form.Nothing = []
+reference_parts (form.Index space n) = index space n ∷ []
+reference_parts (form.Pair first m second n) = index first m ∷ index second n ∷ []
+reference_parts (form.IndexNumber space m n) = index space m ∷ number n ∷ []
+reference_parts (form.Label depth) = label depth ∷ []
+reference_parts (form.Heap type) = heap type ∷ []
+reference_parts (form.Cast c) = cast (cast_of c) ∷ []

@@ -126,7 +126,7 @@ macro_rules! access_of {
 
 /// The immediates of an operator on references, structs or arrays.
 #[macro_export]
-macro_rules! behind_reference {
+macro_rules! reference_parts {
     ($immediates:expr) => {
         match $immediates {
             $crate::ReferenceImmediates::Nothing => $crate::Immediates::Nothing,
@@ -200,7 +200,7 @@ macro_rules! parts_of {
             $crate::Op::I8x16Shuffle { indices } => $each!($with $crate::Opcode::Prefixed(0xfd, 13), $crate::Immediates::Lanes(*indices)),
             $crate::Op::I8x16Swizzle => $each!($with $crate::Opcode::Prefixed(0xfd, 14), $crate::Immediates::Nothing),
             $crate::Op::V128Bitselect => $each!($with $crate::Opcode::Prefixed(0xfd, 82), $crate::Immediates::Nothing),
-            $crate::Op::Reference(op) => $each!($with $crate::reference_opcode(*op), $crate::behind_reference!($crate::reference_immediates(*op))),
+            $crate::Op::Reference(op) => $each!($with $crate::reference_opcode(*op), $crate::reference_parts!($crate::reference_immediates(*op))),
             $($lists)*
             $($($crate::Op::$name { $($field),* } => $each!(
                 $with $crate::opcode_at!($form $row), $crate::indices_of!($($space $field)*)

@@ -2,7 +2,7 @@
 //! operator.
 
 ghost use Rattle.std.specs.Prelude.{◌≡◌};
-ghost use Rattle.wasm_operators.specs.Parts.{behind_reference};
+ghost use Rattle.wasm_operators.specs.Parts.{reference_parts};
 ghost use Rattle.wasm_operators.specs.ReferenceOperations.{by_null as the_opcode_by_null};
 ghost use Rattle.wasm_operators.specs.ReferenceOperations.{reference_opcode as the_reference_opcode};
 ghost use Rattle.wasm_operators.specs.ReferenceOperations.{reference_immediates as the_immediates};
@@ -98,7 +98,7 @@ pub fn reference_opcode(op: ReferenceOp) -> Opcode
 
 /// The immediates of an operator on references, structs or arrays.
 pub fn reference_immediates(op: ReferenceOp) -> ReferenceImmediates
-    ensures { behind_reference result ≡ the_immediates op }
+    ensures { reference_parts result ≡ the_immediates op }
 {
     aggregate_rows!(
         immediates_row, op,

@@ -7,7 +7,7 @@ use Rattle.wasm_operators.specs.declared.types.Opcode.TheVariants.{Prefixed}
 use Rattle.wasm_numbers.specs.declared.fault.ReadFault.{ReadFault}
 use Rattle.wasm_operators.specs.Immediates.{Kind, a_lane}
 use Rattle.wasm_numbers.specs.Numbers.{byte}
-use Rattle.wasm_operators.specs.Opcodes.{range_at, vector_ranges, kinds_behind}
+use Rattle.wasm_operators.specs.Opcodes.{range_at, vector_ranges, kinds_after}
 use Rattle.wasm_operators.specs.Operations.{RawOperation, operation, lane}
 use Rattle.wasm_operators.specs.Spelling.{operands}
 use Rattle.wasm_operators.proofs.SameLists.{both}
@@ -18,22 +18,22 @@ all_below low [] = true
 all_below low (row ∷ rows) = nat_lt row.0 low && all_below low rows
 
 -- A number that is after the ranges `before`, and not after the next range, has the value of that range.
-range_in : {V : Type 0} (before behind : List (ℕ × Option V)) (v : Option V) (low high n : ℕ) → all_below low before ≡ true → low ≤ n → n ≤ high
-    → range_at (before ++ ((high, v) ∷ behind)) n ≡ v
-range_in [] behind v low high n below from to =
+range_in : {V : Type 0} (before following : List (ℕ × Option V)) (v : Option V) (low high n : ℕ) → all_below low before ≡ true → low ≤ n → n ≤ high
+    → range_at (before ++ ((high, v) ∷ following)) n ≡ v
+range_in [] following v low high n below from to =
     let e : nat_le n high ≡ true = le-leb n high to in
     rw e refl
-range_in (row ∷ rows) behind v low high n below from to =
+range_in (row ∷ rows) following v low high n below from to =
     let p = both (nat_lt row.0 low) (all_below low rows) below in
     let above : row.0 < low = ltb-true row.0 low p.0 in
     let e : nat_le n row.0 ≡ false = lt-leb n row.0 (omega arith) in
-    rw e (range_in rows behind v low high n p.1 from to)
+    rw e (range_in rows following v low high n p.1 from to)
 
 -- The range at this position in the table has these kinds of immediates.
 vector_kinds : (place : ℕ) (kinds : List Kind) (low high n : ℕ)
     → take place vector_ranges ++ ((high, Some kinds) ∷ drop (place + 1) vector_ranges) ≡ vector_ranges
-    → all_below low (take place vector_ranges) ≡ true → low ≤ n → n ≤ high → kinds_behind 0xfd n ≡ Some kinds
-unfolding kinds_behind
+    → all_below low (take place vector_ranges) ≡ true → low ≤ n → n ≤ high → kinds_after 0xfd n ≡ Some kinds
+unfolding kinds_after
 vector_kinds place kinds low high n whole below from to =
     ap (λ (rows : List (ℕ × Option (List Kind))). range_at rows n) (sym whole)
     ∙ range_in (take place vector_ranges) (drop (place + 1) vector_ranges) (Some kinds) low high n below from to

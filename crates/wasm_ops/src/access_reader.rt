@@ -2,7 +2,7 @@
 
 ghost use Rattle.std.specs.Prelude.{◌≡◌, ◌≤◌, IfSome, Ok};
 ghost use Rattle.walrus_ir.specs.Results.{Gives};
-ghost use Rattle.wasm_operators.specs.Immediates.{memory_flags, memory as memory_behind, memory_access};
+ghost use Rattle.wasm_operators.specs.Immediates.{memory_flags, memory as memory_after, memory_access};
 ghost use Rattle.wasm_operators.specs.AccessOperations.{load_opcode, store_opcode, access_of};
 
 use walrus_ir::ExtendedLoad::{SignExtend, ZeroExtend};
@@ -28,7 +28,7 @@ fn exponent(flags: u32) -> Result<(u32, bool), ReadFault>
 /// Reads the index of the memory if one follows; otherwise it is 0. Returns it and the bytes that
 /// follow.
 fn read_memory(flags: (u32, bool), bytes: &[u8]) -> Result<(u32, &[u8]), ReadFault>
-    ensures { Gives (λ x. (x.0, x.1.now)) result (memory_behind flags bytes.now) }
+    ensures { Gives (λ x. (x.0, x.1.now)) result (memory_after flags bytes.now) }
 {
     if flags.1 {
         read_u32(bytes)
@@ -42,7 +42,7 @@ fn read_memory(flags: (u32, bool), bytes: &[u8]) -> Result<(u32, &[u8]), ReadFau
 #[inline(always)]
 #[tactic(auto, using(wasm_numbers::proofs::Powers::powers), unfolding(wasm_operators::specs::Immediates::memory_access, wasm_numbers::specs::Numbers::integer))]
 pub(crate) fn read_short_memarg(bytes: &[u8]) -> Option<(RawMemArg, &[u8])>
-    ensures stands { IfSome result (λ x. memory_access bytes.now ≡ Ok (access_of x.0, x.1.now)) }
+    ensures reads { IfSome result (λ x. memory_access bytes.now ≡ Ok (access_of x.0, x.1.now)) }
 {
     let [flags, rest @ ..] = bytes else {
         return None;

@@ -93,7 +93,7 @@ fn atomic_store_kind(number: u32) -> StoreKind
 }
 
 /// Reads the rest of an operator with 0xfe and a number from 0x10 to 0x16.
-#[tactic(auto, unfolding(wasm_operators::specs::Opcodes::kinds_behind))]
+#[tactic(auto, unfolding(wasm_operators::specs::Opcodes::kinds_after))]
 fn read_atomic_load(number: u32, bytes: &[u8]) -> Result<(Operator<'_>, &[u8]), ReadFault>
     requires low { 0x10 ≤ number }
     requires high { number ≤ 0x16 }
@@ -106,7 +106,7 @@ fn read_atomic_load(number: u32, bytes: &[u8]) -> Result<(Operator<'_>, &[u8]), 
 }
 
 /// Reads the rest of an operator with 0xfe and a number from 0x17 to 0x1d.
-#[tactic(auto, unfolding(wasm_operators::specs::Opcodes::kinds_behind))]
+#[tactic(auto, unfolding(wasm_operators::specs::Opcodes::kinds_after))]
 fn read_atomic_store(number: u32, bytes: &[u8]) -> Result<(Operator<'_>, &[u8]), ReadFault>
     requires low { 0x17 ≤ number }
     requires high { number ≤ 0x1d }
@@ -119,7 +119,7 @@ fn read_atomic_store(number: u32, bytes: &[u8]) -> Result<(Operator<'_>, &[u8]),
 }
 
 /// Reads the rest of an operator with 0xfe and a number from 0x1e to 0x4e.
-#[tactic(auto, unfolding(wasm_operators::specs::Opcodes::kinds_behind))]
+#[tactic(auto, unfolding(wasm_operators::specs::Opcodes::kinds_after))]
 fn read_rmw(number: u32, bytes: &[u8]) -> Result<(Operator<'_>, &[u8]), ReadFault>
     requires low { 0x1e ≤ number }
     requires high { number ≤ 0x4e }
@@ -132,7 +132,7 @@ fn read_rmw(number: u32, bytes: &[u8]) -> Result<(Operator<'_>, &[u8]), ReadFaul
 }
 
 /// Reads the rest of an `atomic.fence`: a zero byte.
-#[tactic(auto, unfolding(wasm_operators::specs::Opcodes::kinds_behind))]
+#[tactic(auto, unfolding(wasm_operators::specs::Opcodes::kinds_after))]
 fn read_fence(bytes: &[u8]) -> Result<(Operator<'_>, &[u8]), ReadFault>
     ensures { Gives (λ x. (meaning x.0, x.1.now)) result
         (operands (Opcode.Prefixed 0xfe 3) bytes.now) }
@@ -150,8 +150,8 @@ fn read_fence(bytes: &[u8]) -> Result<(Operator<'_>, &[u8]), ReadFault>
 }
 
 /// Reads the rest of an operator with 0xfe and a number.
-#[tactic(auto, unfolding(wasm_operators::specs::Opcodes::kinds_behind))]
-pub(crate) fn read_behind_fe(number: u32, bytes: &[u8]) -> Result<(Operator<'_>, &[u8]), ReadFault>
+#[tactic(auto, unfolding(wasm_operators::specs::Opcodes::kinds_after))]
+pub(crate) fn read_after_fe(number: u32, bytes: &[u8]) -> Result<(Operator<'_>, &[u8]), ReadFault>
     ensures { Gives (λ x. (meaning x.0, x.1.now)) result
         (operands (Opcode.Prefixed 0xfe number) bytes.now) }
 {

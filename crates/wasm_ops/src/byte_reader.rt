@@ -152,7 +152,7 @@ fn read_constant(byte: u8, bytes: &[u8]) -> Result<(Operator<'_>, &[u8]), ReadFa
 
 /// Reads the rest of an operator with an opcode of one byte.
 #[tactic(auto, unfolding(wasm_operators::specs::Opcodes::kinds_of_byte))]
-pub(crate) fn read_behind_byte(byte: u8, bytes: &[u8]) -> Result<(Operator<'_>, &[u8]), ReadFault>
+pub(crate) fn read_after_byte(byte: u8, bytes: &[u8]) -> Result<(Operator<'_>, &[u8]), ReadFault>
     ensures { Gives (λ x. (meaning x.0, x.1.now)) result (operands (Opcode.Byte byte) bytes.now) }
 {
     match byte {

@@ -40,8 +40,8 @@ macro_rules! read_number {
 }
 
 /// Reads the rest of an operator with 0xfc and a number.
-#[tactic(auto, unfolding(wasm_operators::specs::Opcodes::kinds_behind))]
-pub(crate) fn read_behind_fc(number: u32, bytes: &[u8]) -> Result<(Operator<'_>, &[u8]), ReadFault>
+#[tactic(auto, unfolding(wasm_operators::specs::Opcodes::kinds_after))]
+pub(crate) fn read_after_fc(number: u32, bytes: &[u8]) -> Result<(Operator<'_>, &[u8]), ReadFault>
     ensures { Gives (λ x. (meaning x.0, x.1.now)) result
         (operands (Opcode.Prefixed 0xfc number) bytes.now) }
 {
@@ -49,8 +49,8 @@ pub(crate) fn read_behind_fc(number: u32, bytes: &[u8]) -> Result<(Operator<'_>,
 }
 
 /// Reads the rest of an operator with 0xfd and a number.
-#[tactic(auto, unfolding(wasm_operators::specs::Opcodes::kinds_behind))]
-pub(crate) fn read_behind_fd(number: u32, bytes: &[u8]) -> Result<(Operator<'_>, &[u8]), ReadFault>
+#[tactic(auto, unfolding(wasm_operators::specs::Opcodes::kinds_after))]
+pub(crate) fn read_after_fd(number: u32, bytes: &[u8]) -> Result<(Operator<'_>, &[u8]), ReadFault>
     ensures { Gives (λ x. (meaning x.0, x.1.now)) result
         (operands (Opcode.Prefixed 0xfd number) bytes.now) }
 {

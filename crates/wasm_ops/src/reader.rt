@@ -7,11 +7,11 @@ ghost use Rattle.wasm_operators.specs.Spelling.{Spells, read_operation};
 ghost use Rattle.wasm_operators.specs.Meaning.{meaning};
 
 use crate::access_reader::{load_kind, read_short_memarg, store_kind};
-use crate::atomic_reader::read_behind_fe;
-use crate::byte_reader::read_behind_byte;
+use crate::atomic_reader::read_after_fe;
+use crate::byte_reader::read_after_byte;
 use crate::numeric_reader::numeric;
-use crate::prefix_reader::{read_behind_fc, read_behind_fd};
-use crate::reference_reader::read_behind_fb;
+use crate::prefix_reader::{read_after_fc, read_after_fd};
+use crate::reference_reader::read_after_fb;
 use crate::type_reader::read_empty_block_type;
 use std::marker::Model;
 use wasm_numbers::{
@@ -28,21 +28,21 @@ fn read_operator(bytes: &[u8]) -> Result<(Operator<'_>, &[u8]), ReadFault>
         [] => Err(ReadFault::Truncated),
         [0xfb, rest @ ..] => {
             let (number, rest) = read_u32(rest)?;
-            read_behind_fb(number, rest)
+            read_after_fb(number, rest)
         }
         [0xfc, rest @ ..] => {
             let (number, rest) = read_u32(rest)?;
-            read_behind_fc(number, rest)
+            read_after_fc(number, rest)
         }
         [0xfd, rest @ ..] => {
             let (number, rest) = read_u32(rest)?;
-            read_behind_fd(number, rest)
+            read_after_fd(number, rest)
         }
         [0xfe, rest @ ..] => {
             let (number, rest) = read_u32(rest)?;
-            read_behind_fe(number, rest)
+            read_after_fe(number, rest)
         }
-        [byte, rest @ ..] => read_behind_byte(*byte, rest),
+        [byte, rest @ ..] => read_after_byte(*byte, rest),
     }
 }
 
@@ -54,7 +54,7 @@ fn read_front(bytes: &[u8]) -> Result<(Operator<'_>, &[u8]), ReadFault>
     ensures only { (o : RawOperation) (text rest : List ℕ) → Spells o text → bytes.now ≡ text ++ rest
         → IsOkAnd result (λ x. (meaning x.0 ≡ o) × (x.1.now ≡ rest)) }
     // The result, as a function of the bytes.
-    ensures answer { IfOk result (λ x. read_operation bytes.now ≡ Ok (meaning x.0, x.1.now)) }
+    ensures is_read { IfOk result (λ x. read_operation bytes.now ≡ Ok (meaning x.0, x.1.now)) }
     // The fault.
     ensures fault { IfErr result (λ e. read_operation bytes.now ≡ Err e) }
 {
@@ -69,7 +69,7 @@ fn law_front(bytes: &[u8])
 {}
 
 /// Returns the operator that is spelt at the front, and moves past it.
-macro_rules! answer {
+macro_rules! return_operator {
     ($reader:expr, $operator:expr, $rest:expr) => {{
         let operator = $operator;
         $reader.pass(&operator, $rest);
@@ -79,17 +79,17 @@ macro_rules! answer {
 
 /// Returns the operator that is made from the immediates that were read, if any were, and moves
 /// past it.
-macro_rules! answer_made {
+macro_rules! return_made {
     ($reader:expr, $read:expr, $part:pat => $operator:expr) => {
         if let Some(($part, rest)) = $read {
-            answer!($reader, $operator, rest)
+            return_operator!($reader, $operator, rest)
         }
     };
 }
 
 /// Returns the operator with this opcode of one byte and this number after it: one on locals,
 /// globals or tables, or another.
-macro_rules! answer_index {
+macro_rules! return_indexed {
     (
         ($reader:expr, $byte:ident $number:ident $rest:ident)
         $calls:tt $call_rows:tt
@@ -102,14 +102,14 @@ macro_rules! answer_index {
         $($others:tt)*
     ) => {
         match $byte {
-            0x0c => answer!($reader, Operator::Br { label: $number }, $rest),
-            0x0d => answer!($reader, Operator::BrIf { label: $number }, $rest),
-            0x10 => answer!($reader, Operator::Call { func: $number }, $rest),
-            0x20 => answer!($reader, Operator::LocalGet { local: $number }, $rest),
-            0x21 => answer!($reader, Operator::LocalSet { local: $number }, $rest),
-            0x22 => answer!($reader, Operator::LocalTee { local: $number }, $rest),
-            $($row => answer!($reader, Operator::$name { $field: $number }, $rest),)*
-            $($more_row => answer!($reader, Operator::$more { $more_field: $number }, $rest),)*
+            0x0c => return_operator!($reader, Operator::Br { label: $number }, $rest),
+            0x0d => return_operator!($reader, Operator::BrIf { label: $number }, $rest),
+            0x10 => return_operator!($reader, Operator::Call { func: $number }, $rest),
+            0x20 => return_operator!($reader, Operator::LocalGet { local: $number }, $rest),
+            0x21 => return_operator!($reader, Operator::LocalSet { local: $number }, $rest),
+            0x22 => return_operator!($reader, Operator::LocalTee { local: $number }, $rest),
+            $($row => return_operator!($reader, Operator::$name { $field: $number }, $rest),)*
+            $($more_row => return_operator!($reader, Operator::$more { $more_field: $number }, $rest),)*
             _ => {}
         }
     };
@@ -177,7 +177,7 @@ impl<'a> Reader<'a> {
         ensures only { (o : RawOperation) (text rest : List ℕ) → Spells o text → self.old.rest ≡ text ++ rest
             → (meaning operator.now ≡ o) × Moves self.old text self.new }
         // It is read, as a function of the bytes.
-        ensures answer { read_operation self.old.rest ≡ Ok (meaning operator.now, self.new.rest) }
+        ensures is_read { read_operation self.old.rest ≡ Ok (meaning operator.now, self.new.rest) }
     {
         law_front(self.rest);
         self.position += self.rest.len() - rest.len();
@@ -193,7 +193,7 @@ impl<'a> Reader<'a> {
         ensures only { (o : RawOperation) (text rest : List ℕ) → Spells o text → self.old.rest ≡ text ++ rest
             → IsOkAnd result (λ x. (meaning x ≡ o) × Moves self.old text self.new) }
         // The result, as a function of the bytes.
-        ensures answer { IfOk result (λ x. read_operation self.old.rest ≡ Ok (meaning x, self.new.rest)) }
+        ensures is_read { IfOk result (λ x. read_operation self.old.rest ≡ Ok (meaning x, self.new.rest)) }
         // The fault, and the place of the operator.
         ensures fault { IfErr result (λ e. (read_operation self.old.rest ≡ Err e.fault) × (e.at ≡ self.old.place)) }
         ensures err { OnErr result (self.new ≡ self.old) }
@@ -226,7 +226,7 @@ impl<'a> Reader<'a> {
         ensures only { (o : RawOperation) (text rest : List ℕ) → Spells o text → self.old.rest ≡ text ++ rest
             → IsOkAnd result (λ x. (meaning x ≡ o) × Moves self.old text self.new) }
         // The result, as a function of the bytes.
-        ensures answer { IfOk result (λ x. read_operation self.old.rest ≡ Ok (meaning x, self.new.rest)) }
+        ensures is_read { IfOk result (λ x. read_operation self.old.rest ≡ Ok (meaning x, self.new.rest)) }
         // The fault, and the place of the operator.
         ensures fault { IfErr result (λ e. (read_operation self.old.rest ≡ Err e.fault) × (e.at ≡ self.old.place)) }
         ensures err { OnErr result (self.new ≡ self.old) }
@@ -234,34 +234,34 @@ impl<'a> Reader<'a> {
         if let [byte, rest @ ..] = self.rest {
             let byte = *byte;
             match byte {
-                0x00 => answer!(self, Operator::Unreachable, rest),
-                0x01 => answer!(self, Operator::Nop, rest),
+                0x00 => return_operator!(self, Operator::Unreachable, rest),
+                0x01 => return_operator!(self, Operator::Nop, rest),
                 0x02 =>
-                    answer_made!(self, read_empty_block_type(rest), ty => Operator::Block { ty }),
+                    return_made!(self, read_empty_block_type(rest), ty => Operator::Block { ty }),
                 0x03 =>
-                    answer_made!(self, read_empty_block_type(rest), ty => Operator::Loop { ty }),
-                0x04 => answer_made!(self, read_empty_block_type(rest), ty => Operator::If { ty }),
-                0x05 => answer!(self, Operator::Else, rest),
-                0x0b => answer!(self, Operator::End, rest),
-                0x0f => answer!(self, Operator::Return, rest),
-                0x1a => answer!(self, Operator::Drop, rest),
-                0x1b => answer!(self, Operator::Select, rest),
-                0x28..=0x35 => answer_made!(
+                    return_made!(self, read_empty_block_type(rest), ty => Operator::Loop { ty }),
+                0x04 => return_made!(self, read_empty_block_type(rest), ty => Operator::If { ty }),
+                0x05 => return_operator!(self, Operator::Else, rest),
+                0x0b => return_operator!(self, Operator::End, rest),
+                0x0f => return_operator!(self, Operator::Return, rest),
+                0x1a => return_operator!(self, Operator::Drop, rest),
+                0x1b => return_operator!(self, Operator::Select, rest),
+                0x28..=0x35 => return_made!(
                     self, read_short_memarg(rest),
                     memarg => Operator::Load { kind: load_kind(byte), memarg }
                 ),
-                0x36..=0x3e => answer_made!(
+                0x36..=0x3e => return_made!(
                     self, read_short_memarg(rest),
                     memarg => Operator::Store { kind: store_kind(byte), memarg }
                 ),
                 0x41 =>
-                    answer_made!(self, read_short_s32(rest), value => Operator::I32Const { value }),
+                    return_made!(self, read_short_s32(rest), value => Operator::I32Const { value }),
                 0x42 =>
-                    answer_made!(self, read_short_s64(rest), value => Operator::I64Const { value }),
-                0x45..=0xc4 => answer!(self, numeric(byte), rest),
+                    return_made!(self, read_short_s64(rest), value => Operator::I64Const { value }),
+                0x45..=0xc4 => return_operator!(self, numeric(byte), rest),
                 _ => {
                     if let Some((number, rest)) = read_short_unsigned(rest) {
-                        index_rows!(answer_index, self, byte number rest)
+                        index_rows!(return_indexed, self, byte number rest)
                     }
                 }
             }

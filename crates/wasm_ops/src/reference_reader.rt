@@ -72,7 +72,7 @@ pub(crate) fn read_reference(byte: u8, bytes: &[u8]) -> Result<(Operator<'_>, &[
 
 /// Reads the rest of an operator with 0xfb and a number from 20 to 30: tests, casts and
 /// conversions.
-#[tactic(auto, unfolding(wasm_operators::specs::Opcodes::kinds_behind))]
+#[tactic(auto, unfolding(wasm_operators::specs::Opcodes::kinds_after))]
 fn read_conversion(number: u32, bytes: &[u8]) -> Result<(Operator<'_>, &[u8]), ReadFault>
     requires low { 20 ≤ number }
     requires high { number ≤ 30 }
@@ -140,8 +140,8 @@ macro_rules! read_number {
 }
 
 /// Reads the rest of an operator with 0xfb and a number.
-#[tactic(auto, unfolding(wasm_operators::specs::Opcodes::kinds_behind))]
-pub(crate) fn read_behind_fb(number: u32, bytes: &[u8]) -> Result<(Operator<'_>, &[u8]), ReadFault>
+#[tactic(auto, unfolding(wasm_operators::specs::Opcodes::kinds_after))]
+pub(crate) fn read_after_fb(number: u32, bytes: &[u8]) -> Result<(Operator<'_>, &[u8]), ReadFault>
     ensures { Gives (λ x. (meaning x.0, x.1.now)) result
         (operands (Opcode.Prefixed 0xfb number) bytes.now) }
 {

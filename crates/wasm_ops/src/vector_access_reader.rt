@@ -53,7 +53,7 @@ fn lane_kind(number: u32, lane: u8) -> LoadSimdKind
 }
 
 /// Reads the rest of an operator with 0xfd and a number from 1 to 10.
-#[tactic(auto, unfolding(wasm_operators::specs::Opcodes::kinds_behind))]
+#[tactic(auto, unfolding(wasm_operators::specs::Opcodes::kinds_after))]
 pub(crate) fn read_wide_load(number: u32, bytes: &[u8]) -> Result<(Operator<'_>, &[u8]), ReadFault>
     requires low { 1 ≤ number }
     requires high { number ≤ 10 }
@@ -66,7 +66,7 @@ pub(crate) fn read_wide_load(number: u32, bytes: &[u8]) -> Result<(Operator<'_>,
 }
 
 /// Reads the rest of an operator with 0xfd and a number from 84 to 91.
-#[tactic(auto, unfolding(wasm_operators::specs::Opcodes::kinds_behind))]
+#[tactic(auto, unfolding(wasm_operators::specs::Opcodes::kinds_after))]
 pub(crate) fn read_lane_access(
     number: u32,
     bytes: &[u8],

@@ -12,7 +12,7 @@ use wasm_numbers::{ReadFault, read_byte};
 use wasm_operators::{Opcode, Operator};
 
 /// Reads the rest of an operator with 0xfd and a number from 14 to 20: `i8x16.swizzle` and splats.
-#[tactic(auto, unfolding(wasm_operators::specs::Opcodes::kinds_behind))]
+#[tactic(auto, unfolding(wasm_operators::specs::Opcodes::kinds_after))]
 pub(crate) fn read_splat(number: u32, bytes: &[u8]) -> Result<(Operator<'_>, &[u8]), ReadFault>
     requires low { 14 ≤ number }
     requires high { number ≤ 20 }
@@ -56,7 +56,7 @@ fn lane(number: u32, idx: u8) -> Operator<'static>
 
 /// Reads the rest of an operator with 0xfd and a number from 21 to 34: operators that extract or
 /// replace a lane.
-#[tactic(auto, unfolding(wasm_operators::specs::Opcodes::kinds_behind))]
+#[tactic(auto, unfolding(wasm_operators::specs::Opcodes::kinds_after))]
 pub(crate) fn read_lane(number: u32, bytes: &[u8]) -> Result<(Operator<'_>, &[u8]), ReadFault>
     requires low { 21 ≤ number }
     requires high { number ≤ 34 }
@@ -163,7 +163,7 @@ fn vector_comparison(number: u32) -> Operator<'static>
 }
 
 /// Reads the rest of an operator with 0xfd and a number from 35 to 76: comparisons.
-#[tactic(auto, unfolding(wasm_operators::specs::Opcodes::kinds_behind))]
+#[tactic(auto, unfolding(wasm_operators::specs::Opcodes::kinds_after))]
 pub(crate) fn read_vector_comparison(
     number: u32,
     bytes: &[u8],
@@ -177,7 +177,7 @@ pub(crate) fn read_vector_comparison(
 }
 
 /// Reads the rest of an operator with 0xfd and a number from 77 to 83: operators on all bits.
-#[tactic(auto, unfolding(wasm_operators::specs::Opcodes::kinds_behind))]
+#[tactic(auto, unfolding(wasm_operators::specs::Opcodes::kinds_after))]
 pub(crate) fn read_bitwise(number: u32, bytes: &[u8]) -> Result<(Operator<'_>, &[u8]), ReadFault>
     requires low { 77 ≤ number }
     requires high { number ≤ 83 }
@@ -328,7 +328,7 @@ fn narrow_vector(number: u32) -> Operator<'static>
 
 /// Reads the rest of an operator with 0xfd and a number from 94 to 153: floating-point conversions,
 /// operators on lanes of one or two bytes, and others.
-#[tactic(auto, unfolding(wasm_operators::specs::Opcodes::kinds_behind))]
+#[tactic(auto, unfolding(wasm_operators::specs::Opcodes::kinds_after))]
 pub(crate) fn read_narrow_vector(
     number: u32,
     bytes: &[u8],
@@ -343,7 +343,7 @@ pub(crate) fn read_narrow_vector(
 
 /// Reads the rest of an operator with 0xfd and a number from 155 to 159: averages and extended
 /// products of lanes of two bytes.
-#[tactic(auto, unfolding(wasm_operators::specs::Opcodes::kinds_behind))]
+#[tactic(auto, unfolding(wasm_operators::specs::Opcodes::kinds_after))]
 pub(crate) fn read_i16x8_product(
     number: u32,
     bytes: &[u8],
@@ -364,7 +364,7 @@ pub(crate) fn read_i16x8_product(
 
 /// Reads the rest of an operator with 0xfd and a number from 160 to 191: operators on lanes of four
 /// bytes.
-#[tactic(auto, unfolding(wasm_operators::specs::Opcodes::kinds_behind))]
+#[tactic(auto, unfolding(wasm_operators::specs::Opcodes::kinds_after))]
 pub(crate) fn read_i32x4(number: u32, bytes: &[u8]) -> Result<(Operator<'_>, &[u8]), ReadFault>
     requires low { 160 ≤ number }
     requires high { number ≤ 191 }
@@ -401,7 +401,7 @@ pub(crate) fn read_i32x4(number: u32, bytes: &[u8]) -> Result<(Operator<'_>, &[u
 
 /// Reads the rest of an operator with 0xfd and a number from 192 to 223: operators on lanes of
 /// eight bytes.
-#[tactic(auto, unfolding(wasm_operators::specs::Opcodes::kinds_behind))]
+#[tactic(auto, unfolding(wasm_operators::specs::Opcodes::kinds_after))]
 pub(crate) fn read_i64x2(number: u32, bytes: &[u8]) -> Result<(Operator<'_>, &[u8]), ReadFault>
     requires low { 192 ≤ number }
     requires high { number ≤ 223 }
@@ -439,7 +439,7 @@ pub(crate) fn read_i64x2(number: u32, bytes: &[u8]) -> Result<(Operator<'_>, &[u
 
 /// Reads the rest of an operator with 0xfd and a number from 224 to 237: operators on
 /// floating-point lanes of four bytes, `f64x2.abs` and `f64x2.neg`.
-#[tactic(auto, unfolding(wasm_operators::specs::Opcodes::kinds_behind))]
+#[tactic(auto, unfolding(wasm_operators::specs::Opcodes::kinds_after))]
 pub(crate) fn read_f32x4(number: u32, bytes: &[u8]) -> Result<(Operator<'_>, &[u8]), ReadFault>
     requires low { 224 ≤ number }
     requires high { number ≤ 237 }
@@ -561,7 +561,7 @@ fn f64x2_or_relaxed(number: u32) -> Operator<'static>
 
 /// Reads the rest of an operator with 0xfd and a number from 239 to 275: operators on
 /// floating-point lanes of eight bytes, conversions, and relaxed operators.
-#[tactic(auto, unfolding(wasm_operators::specs::Opcodes::kinds_behind))]
+#[tactic(auto, unfolding(wasm_operators::specs::Opcodes::kinds_after))]
 pub(crate) fn read_f64x2_or_relaxed(
     number: u32,
     bytes: &[u8],

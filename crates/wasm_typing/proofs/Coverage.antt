@@ -9,7 +9,7 @@ use Rattle.std.proofs.lemmas.Bool.Decides.{leb_tells, eqb_tells, nat_tests}
 use Rattle.walrus_ir.specs.Types.{same_bool}
 use Rattle.wasm_operators.specs.declared.types.Opcode.{Opcode}
 use Rattle.wasm_operators.specs.declared.types.Opcode.TheVariants.{Byte, Prefixed}
-use Rattle.wasm_operators.specs.Opcodes.{range_at, kinds_of, kinds_of_byte, kinds_behind, reference_ranges, bulk_rows, vector_ranges, atomic_ranges, aggregate_ranges}
+use Rattle.wasm_operators.specs.Opcodes.{range_at, kinds_of, kinds_of_byte, kinds_after, reference_ranges, bulk_rows, vector_ranges, atomic_ranges, aggregate_ranges}
 use Rattle.wasm_operators.specs.Types.{row_at}
 use Rattle.wasm_operators.proofs.SameLists.{both}
 use Rattle.wasm_body.specs.Control.{a_plain, role_of, byte_roles, aggregate_roles}
@@ -88,38 +88,38 @@ bytes =
     agree 0xd6 (λ b. is_some (rule_of (Byte b))) (λ b. is_some (kinds_of (Byte b)) && is_plain (role_of (Byte b))) refl
     (λ b l. without (Byte b) (past_range byte_rules 0xd6 b refl l) (no_byte b l))
 
-no_bulk : (n : ℕ) → 22 < n → kinds_behind 0xfc n ≡ None
-unfolding kinds_behind
+no_bulk : (n : ℕ) → 22 < n → kinds_after 0xfc n ≡ None
+unfolding kinds_after
 no_bulk n l =
     let h : nat_le n 7 ≡ false = lt-leb n 7 (omega (arith, l)) in
     rw h (past_rows bulk_rows 22 n refl l)
 
 bulk : (n : ℕ) → Agrees (Prefixed 0xfc n)
-unfolding kinds_behind
+unfolding kinds_after
 bulk =
     agree 22 (λ n. is_some (rule_of (Prefixed 0xfc n))) (λ n. is_some (kinds_of (Prefixed 0xfc n)) && is_plain (role_of (Prefixed 0xfc n))) refl
     (λ n l. without (Prefixed 0xfc n) (past_range bulk_rules 22 n refl l) (no_bulk n l))
 
 vectors : (n : ℕ) → Agrees (Prefixed 0xfd n)
-unfolding kinds_behind
+unfolding kinds_after
 vectors =
     agree 275 (λ n. is_some (rule_of (Prefixed 0xfd n))) (λ n. is_some (kinds_of (Prefixed 0xfd n)) && is_plain (role_of (Prefixed 0xfd n))) refl
     (λ n l. without (Prefixed 0xfd n) (past_range vector_rules 275 n refl l) (past_range vector_ranges 275 n refl l))
 
 atomics : (n : ℕ) → Agrees (Prefixed 0xfe n)
-unfolding kinds_behind
+unfolding kinds_after
 atomics =
     agree 0x4e (λ n. is_some (rule_of (Prefixed 0xfe n))) (λ n. is_some (kinds_of (Prefixed 0xfe n)) && is_plain (role_of (Prefixed 0xfe n))) refl
     (λ n l. without (Prefixed 0xfe n) (past_range (atomic_rules (width_at n)) 0x4e n refl l) (past_range atomic_ranges 0x4e n refl l))
 
 aggregates : (n : ℕ) → Agrees (Prefixed 0xfb n)
-unfolding kinds_behind
+unfolding kinds_after
 aggregates =
     agree 30 (λ n. is_some (rule_of (Prefixed 0xfb n))) (λ n. is_some (kinds_of (Prefixed 0xfb n)) && is_plain (role_of (Prefixed 0xfb n))) refl
     (λ n l. without (Prefixed 0xfb n) (past_range aggregate_rules 30 n refl l) (past_range aggregate_ranges 30 n refl l))
 
 no_prefix : (p n : ℕ) → (p == 0xfc) ≡ false → (p == 0xfd) ≡ false → (p == 0xfe) ≡ false → (p == 0xfb) ≡ false → Agrees (Prefixed p n)
-unfolding kinds_behind
+unfolding kinds_after
 no_prefix p n h1 h2 h3 h4 = rw (h1, h2, h3, h4) refl
 
 of_prefix : (p n q : ℕ) → p ≡ q → Agrees (Prefixed q n) → Agrees (Prefixed p n)

@@ -3,7 +3,7 @@
 
 use std::process::ExitCode;
 use std::{env, io};
-use walrus_run::run_words;
+use walrus_run::run_arguments;
 
 /// The program's words, without its own name; none if one isn't UTF-8, which is an error
 /// in the arguments.
@@ -21,7 +21,7 @@ fn words(rt: &HostRuntime) -> io::Result<Vec<String>> {
     Ok(words)
 }
 
-// Reports that memory ran out before the words were read, in the way of `run_words`.
+// Reports that memory ran out before the words were read, in the way of `run_arguments`.
 fn refuse(rt: &HostRuntime) -> io::Result<ExitCode> {
     eprintln!(rt; "refused: Memory")?;
     Ok(ExitCode::FAILURE)
@@ -30,7 +30,7 @@ fn refuse(rt: &HostRuntime) -> io::Result<ExitCode> {
 fn main(rt: HostRuntime) -> io::Result<ExitCode> {
     match words(&rt) {
         Ok(words) => {
-            let status = run_words(rt.alloc(), &words, &mut rt.stdout(), &mut rt.stderr());
+            let status = run_arguments(rt.alloc(), &words, &mut rt.stdout(), &mut rt.stderr());
             Ok(ExitCode::from(status))
         }
         Err(error) if error.kind() == io::ErrorKind::OutOfMemory => refuse(&rt),

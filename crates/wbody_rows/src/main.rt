@@ -17,11 +17,11 @@ use crate::traces::compare_runs;
 use std::alloc::{AllocError, Global};
 use std::io;
 use std::io::{BufRead, BufReader};
-use walrus_run::{NamedBody, run_words};
+use walrus_run::{NamedBody, run_arguments};
 
 /// The result of a run: its status, and what it prints to standard output and to standard error.
 #[derive(Drop)]
-struct Answer {
+struct ProgramOutput {
     status: u8,
     out: Vec<u8>,
     err: Vec<u8>,
@@ -60,12 +60,12 @@ impl<'a> Row<'a> {
     }
 
     /// Whether this result is the expected one.
-    fn wants(&self, alloc: Global, answer: &Answer) -> Result<bool, AllocError> {
-        let status = format!(in alloc; "{}", answer.status)?;
+    fn matches_row(&self, alloc: Global, output: &ProgramOutput) -> Result<bool, AllocError> {
+        let status = format!(in alloc; "{}", output.status)?;
         Ok(
             status.as_str() == self.status
-                && is_spelt(alloc, self.out, &answer.out)?
-                && is_spelt(alloc, self.err, &answer.err)?,
+                && is_spelt(alloc, self.out, &output.out)?
+                && is_spelt(alloc, self.err, &output.err)?,
         )
     }
 }
@@ -89,12 +89,12 @@ fn list(alloc: Global, words: &str) -> Result<Vec<String>, AllocError> {
 }
 
 /// The result of the program for these arguments, which have one space between them.
-fn answer_to(alloc: Global, words: &str) -> Result<Answer, AllocError> {
+fn output_for(alloc: Global, words: &str) -> Result<ProgramOutput, AllocError> {
     let words = list(alloc, words)?;
     let mut out: Vec<u8> = Vec::new(alloc);
     let mut err: Vec<u8> = Vec::new(alloc);
-    let status = run_words(alloc, &words, &mut out, &mut err);
-    Ok(Answer { status, out, err })
+    let status = run_arguments(alloc, &words, &mut out, &mut err);
+    Ok(ProgramOutput { status, out, err })
 }
 
 /// Runs a body and the bytes written for it.
@@ -149,28 +149,33 @@ fn body_fault(alloc: Global, demo: &Demo, words: &str) -> Result<Option<Fault>, 
 }
 
 /// Prints the result for these arguments.
-fn print(rt: &HostRuntime, words: &str, answer: &Answer) -> io::Result<()> {
-    let out = String::from_utf8_lossy(rt.alloc(), &answer.out)?;
-    let err = String::from_utf8_lossy(rt.alloc(), &answer.err)?;
-    println!(rt; "{words}: {} {out:?} {err:?}", answer.status)
+fn print(rt: &HostRuntime, words: &str, output: &ProgramOutput) -> io::Result<()> {
+    let out = String::from_utf8_lossy(rt.alloc(), &output.out)?;
+    let err = String::from_utf8_lossy(rt.alloc(), &output.err)?;
+    println!(rt; "{words}: {} {out:?} {err:?}", output.status)
 }
 
 impl Counts {
     /// Counts a case, and prints the result if it isn't the expected one.
-    fn compare(&mut self, rt: &HostRuntime, row: Row<'_>, answer: &Answer) -> io::Result<()> {
+    fn compare(
+        &mut self,
+        rt: &HostRuntime,
+        row: Row<'_>,
+        output: &ProgramOutput,
+    ) -> io::Result<()> {
         self.rows = self.rows.saturating_add(1);
-        if !row.wants(rt.alloc(), answer)? {
+        if !row.matches_row(rt.alloc(), output)? {
             self.rows_differ = self.rows_differ.saturating_add(1);
-            print(rt, row.words, answer)?;
+            print(rt, row.words, output)?;
         }
         Ok(())
     }
 
     /// Counts a case. Returns the status of the run.
     fn take_row(&mut self, rt: &HostRuntime, row: Row<'_>) -> io::Result<u8> {
-        let answer = answer_to(rt.alloc(), row.words)?;
-        self.compare(rt, row, &answer)?;
-        Ok(answer.status)
+        let output = output_for(rt.alloc(), row.words)?;
+        self.compare(rt, row, &output)?;
+        Ok(output.status)
     }
 
     /// Counts an accepted body, and prints its arguments and what is wrong with it, if anything.

@@ -72,13 +72,13 @@ fn outcomes(
 ) -> Result<Vec<Outcome>, AllocError> {
     let mut outcomes = Vec::new(alloc);
     let run = execute(source, &outcomes, turns)?;
-    let mut asks = matches!(run.ending, Ending::OutcomesOut);
+    let mut continues = matches!(run.ending, Ending::OutcomesOut);
     for step in 0..STEPS {
-        if !asks {
+        if !continues {
             break;
         }
         let first = seed.wrapping_mul(3).wrapping_add(step);
-        asks = add_outcome(alloc, source, &mut outcomes, turns, first)?;
+        continues = add_outcome(alloc, source, &mut outcomes, turns, first)?;
     }
     Ok(outcomes)
 }

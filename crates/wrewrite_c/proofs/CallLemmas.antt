@@ -17,7 +17,7 @@ use Rattle.wrewrite_c.specs.Outcomes.{IsMissingIn, LacksFunction}
 -- after nothing that was written before
 pub made_new :
     {B : Type 0} (writes : B → Writes) (a b : B) (parsed : ParsedModule) (changes : Changes) (strips_debug : Bool) (old made : List ℕ) → b ≡ a → changes.given.items ≡ [] →
-    (strips_debug ≡ true → changes.leaves_out_debug ≡ true) → old ≡ [] → (new : List ℕ) × IsWrittenModule (writes b) parsed changes new × (made ≡ old ++ new) →
+    (strips_debug ≡ true → changes.omits_debug ≡ true) → old ≡ [] → (new : List ℕ) × IsWrittenModule (writes b) parsed changes new × (made ≡ old ++ new) →
     IsMadeOf (writes a) parsed.bytes.now strips_debug made
 made_new writes a b parsed changes strips_debug old made same none leaves empty w =
     let here = subst (λ (x : _). IsWrittenModule (writes x) parsed changes w.0) same w.1 in
@@ -27,7 +27,7 @@ made_new writes a b parsed changes strips_debug old made same none leaves empty 
       bytes_are = refl;
       changes = changes;
       none_given = none;
-      leaves_out = leaves;
+      omits = leaves;
       is_written = subst (λ (l : List ℕ). IsWrittenModule (writes a) parsed changes l) is_new here;
     }
 

@@ -16,7 +16,7 @@ pub record IsMadeOf (writes : Writes) (source : List ℕ) (strips_debug : Bool) 
   pub bytes_are : parsed.bytes.now ≡ source
   pub changes : Changes
   pub none_given : changes.given.items ≡ []
-  pub leaves_out : strips_debug ≡ true → changes.leaves_out_debug ≡ true
+  pub omits : strips_debug ≡ true → changes.omits_debug ≡ true
   pub is_written : IsWrittenModule writes parsed changes new
 
 -- ---- functions that are named by their indices

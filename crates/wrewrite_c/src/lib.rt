@@ -12,7 +12,7 @@ mod made;
 mod making;
 mod outcome;
 
-use made::{Made, Wanted};
+use made::{Made, Sought};
 pub use outcome::{Outcome, TEXT_SIZE};
 use std::alloc::Global;
 
@@ -31,7 +31,7 @@ pub extern "C" fn wrewrite_rewrite(
     ensures { Ends (IsMadeOf IsRewritten source.now strips_debug) has_map IsOfModule
         out.old out.new map.old map.new result }
 {
-    let wanted = Wanted {
+    let wanted = Sought {
         has_map,
         strips_debug,
     };
@@ -57,7 +57,7 @@ pub extern "C" fn wrewrite_snip(
     ensures { Ends (IsSnippedOf functions.now source.now strips_debug) has_map
         (LacksFunction functions.now source.now) out.old out.new map.old map.new result }
 {
-    let wanted = Wanted {
+    let wanted = Sought {
         has_map,
         strips_debug,
     };

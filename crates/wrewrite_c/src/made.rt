@@ -8,7 +8,7 @@ use std::alloc::Global;
 
 /// What is wanted.
 #[derive(Clone, Copy)]
-pub(crate) struct Wanted {
+pub(crate) struct Sought {
     /// Whether the location map is wanted.
     pub has_map: bool,
     /// Whether debug information is left out of the module.

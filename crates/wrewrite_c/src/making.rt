@@ -4,11 +4,11 @@ ghost use Rattle.std.specs.Prelude.{◌≡◌, ◌++◌, ℕ, List, [], true, fa
 ghost use Rattle.std.specs.HashSet.{IsEmpty};
 ghost use Rattle.module_tools.specs.FunctionChanges.{Snips};
 ghost use Rattle.wasm_module.specs.RewrittenCode.{IsRewritten, IsChanged};
-ghost use Rattle.wasm_module.specs.WrittenModules.{given_in, IsWrittenModule};
+ghost use Rattle.wasm_module.specs.WrittenModules.{new_contents_in, IsWrittenModule};
 ghost use Rattle.wrewrite_c.specs.Made.{IsMadeOf, IsSnippedOf, HasFunctions, Adds};
 ghost use Rattle.wrewrite_c.specs.Outcomes.{IsOfModule, IsMissing, IsMissingIn, LacksFunction};
 
-use crate::made::{Made, Wanted};
+use crate::made::{Made, Sought};
 use crate::outcome::{Refusal, Stop};
 use module_tools::{Snipping, function_at};
 use std::alloc::Global;
@@ -42,11 +42,11 @@ fn stop_of(parsed: &ParsedModule<'_>, error: ModuleError) -> Stop
 /// Leaves out debug information, where that is wanted.
 fn strip<B>(rewritten: &mut RewrittenModule<'_, B>, strips_debug: bool)
     ensures bodies { rewritten.new.bodies ≡ rewritten.old.bodies }
-    ensures given { given_in rewritten.new ≡ given_in rewritten.old }
-    ensures strips { strips_debug ≡ true → rewritten.new.changes.leaves_out_debug ≡ true }
+    ensures given { new_contents_in rewritten.new ≡ new_contents_in rewritten.old }
+    ensures strips { strips_debug ≡ true → rewritten.new.changes.omits_debug ≡ true }
 {
     if strips_debug {
-        rewritten.leave_out_debug();
+        rewritten.omit_debug();
     }
 }
 
@@ -72,10 +72,10 @@ fn write_made<B: BodyWriter>(
 fn finish<B: BodyWriter>(
     parsed: &mut ParsedModule<'_>,
     rewritten: &mut RewrittenModule<'_, B>,
-    wanted: Wanted,
+    wanted: Sought,
     made: &mut Made,
 ) -> Result<(), ModuleError>
-    requires none_given { given_in rewritten.old ≡ [] }
+    requires none_given { new_contents_in rewritten.old ≡ [] }
     requires empty { made.old.bytes.items ≡ [] }
     ensures written { OnOk result (IsMadeOf (B.writes rewritten.old.bodies) parsed.old.bytes.now
         wanted.strips_debug made.new.bytes.items) }
@@ -91,7 +91,7 @@ fn finish<B: BodyWriter>(
 /// Rewrites a module that was read.
 fn rewrite_parsed(
     parsed: &mut ParsedModule<'_>,
-    wanted: Wanted,
+    wanted: Sought,
     made: &mut Made,
 ) -> Result<(), ModuleError>
     requires { made.old.bytes.items ≡ [] }
@@ -109,7 +109,7 @@ fn rewrite_parsed(
 pub(crate) fn rewrite(
     alloc: Global,
     source: &[u8],
-    wanted: Wanted,
+    wanted: Sought,
     made: &mut Made,
 ) -> Result<(), Stop>
     requires { made.old.bytes.items ≡ [] }
@@ -191,7 +191,7 @@ fn snip_functions(
     alloc: Global,
     parsed: &mut ParsedModule<'_>,
     functions: IdHashSet<FunctionId>,
-    wanted: Wanted,
+    wanted: Sought,
     made: &mut Made,
 ) -> Result<(), ModuleError>
     requires { made.old.bytes.items ≡ [] }
@@ -210,7 +210,7 @@ fn snip_parsed(
     alloc: Global,
     parsed: &mut ParsedModule<'_>,
     indices: &[usize],
-    wanted: Wanted,
+    wanted: Sought,
     made: &mut Made,
 ) -> Result<(), Stop>
     requires { made.old.bytes.items ≡ [] }
@@ -234,7 +234,7 @@ pub(crate) fn snip(
     alloc: Global,
     source: &[u8],
     indices: &[usize],
-    wanted: Wanted,
+    wanted: Sought,
     made: &mut Made,
 ) -> Result<(), Stop>
     requires { made.old.bytes.items ≡ [] }

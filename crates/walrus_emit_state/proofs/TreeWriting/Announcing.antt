@@ -19,7 +19,7 @@ use Rattle.walrus_emit_state.specs.declared.closing.SequenceScope.{SequenceScope
 use Rattle.walrus_emit_state.specs.Emission.{Scope, scope_at, scopes_at}
 use Rattle.walrus_emit_state.specs.TreeWriting.Closers.{closing, opening_clause, scope_of, scopes_of}
 use Rattle.walrus_emit_state.specs.TreeWriting.ScopeLists.{ScopeLists, ending, with_more}
-use Rattle.walrus_emit_state.specs.TreeWriting.Announcing.{Announces, IsUnannounced}
+use Rattle.walrus_emit_state.specs.TreeWriting.Announcing.{Announces, IsNotAnnounced}
 
 -- ---- one sequence before others
 
@@ -53,9 +53,9 @@ announces_before b p c ps cs s t u later first = record {
 
 pub one_announced : (b : List InstrSeq) (p : ℕ) (c : Closer) (seq : InstrSeq) (s t : ScopeLists) → slice_get b p ≡ Some seq
     → t ≡ with_more s (ending p c seq.end ∷ []) → Announces b (p ∷ []) (closing c ∷ []) s t
-one_announced b p c seq s t stands h = record {
+one_announced b p c seq s t in_arena h = record {
   more = ending p c seq.end ∷ [];
-  are_these = ap (λ o. looked_up p (closing c) o (Ok [])) stands;
+  are_these = ap (λ o. looked_up p (closing c) o (Ok [])) in_arena;
   are_first = h;
 }
 
@@ -119,17 +119,17 @@ pub record Remaining (b : List InstrSeq) (all left : List LegacyCatch) (old new 
   pub announced : Announces b (handlers done) (later_closers (map legacy_clause done)) old new
   pub next : closing closer ≡ first_closer (map legacy_clause done)
 
-none_behind : (before after : List LegacyCatch) (n : ℕ) → are_handlers (map legacy_clause (before ++ Delegate n ∷ after)) ≡ true → ⊥
-none_behind [] after n h = absurd (cc)
-none_behind (Catch t p ∷ before) after n h = none_behind before after n h
-none_behind (CatchAll p ∷ []) after n h = absurd (cc)
-none_behind (CatchAll p ∷ x ∷ before) after n h = absurd (cc)
-none_behind (Delegate m ∷ before) after n h = absurd (cc)
+none_after : (before after : List LegacyCatch) (n : ℕ) → are_handlers (map legacy_clause (before ++ Delegate n ∷ after)) ≡ true → ⊥
+none_after [] after n h = absurd (cc)
+none_after (Catch t p ∷ before) after n h = none_after before after n h
+none_after (CatchAll p ∷ []) after n h = absurd (cc)
+none_after (CatchAll p ∷ x ∷ before) after n h = absurd (cc)
+none_after (Delegate m ∷ before) after n h = absurd (cc)
 
 delegate_alone : (before after : List LegacyCatch) (n : ℕ) → are_lawful (map legacy_clause (before ++ Delegate n ∷ after)) ≡ true → after ≡ []
 delegate_alone [] [] n h = refl
 delegate_alone [] (x ∷ after) n h = absurd (cc)
-delegate_alone (Catch t p ∷ before) after n h = absurd (none_behind before after n h)
+delegate_alone (Catch t p ∷ before) after n h = absurd (none_after before after n h)
 delegate_alone (CatchAll p ∷ []) after n h = absurd (cc)
 delegate_alone (CatchAll p ∷ x ∷ before) after n h = absurd (cc)
 delegate_alone (Delegate m ∷ []) after n h = absurd (cc)
@@ -225,7 +225,7 @@ handler_missing b (Delegate n) done c e h k = absurd (cc)
 -- why the sequences of the `try` aren't announced, if one of its handlers isn't
 pub try_missing : (b : List InstrSeq) (seq : ℕ) (all left before : List LegacyCatch) (x : LegacyCatch) (s t : ScopeLists) (closer : Closer)
     (e : EmitError) → are_lawful (map legacy_clause all) ≡ true → left ≡ before ++ x ∷ [] → Remaining b all left s t closer
-    → IsUnannounced b (handler_of x) (closing closer ∷ []) e → IsUnannounced b (seq ∷ handlers all) (try_closers (map legacy_clause all)) e
+    → IsNotAnnounced b (handler_of x) (closing closer ∷ []) e → IsNotAnnounced b (seq ∷ handlers all) (try_closers (map legacy_clause all)) e
 try_missing b seq all left before x s t closer e lawful split r (inl h) = inl h
 try_missing b seq all left before x s t closer e lawful split r (inr h) =
     let q = subst (λ (xs : List LegacyCatch). Remaining b all xs s t closer) split r in

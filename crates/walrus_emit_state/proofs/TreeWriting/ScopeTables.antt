@@ -11,7 +11,7 @@ use Rattle.wasm_body.specs.FunctionTree.{Target, Depth, Outside}
 use Rattle.wasm_body.specs.FlatText.{depth_of}
 use Rattle.wasm_body.specs.TreeOfFunction.{deeper, target_in}
 use Rattle.walrus_emit_state.specs.declared.closing.SequenceScope.{SequenceScope}
-use Rattle.walrus_emit_state.specs.declared.open_scopes.Entered.{Entered}
+use Rattle.walrus_emit_state.specs.declared.open_scopes.EnteredScope.{EnteredScope}
 use Rattle.walrus_emit_state.specs.TreeWriting.Closers.{places_of}
 use Rattle.walrus_emit_state.specs.TreeWriting.ScopeLists.{ScopeLists, Begins}
 use Rattle.walrus_emit_state.specs.TreeWriting.ScopeTables.{level_in, opened_in, AreKnown, IsTable, depth_in}
@@ -59,10 +59,10 @@ pub places_length : (ss : List SequenceScope) → length (places_of ss) ≡ leng
 places_length [] = refl
 places_length (s ∷ ss) = ap suc (places_length ss)
 
-pub opened_length : (es : List Entered) → length (places_of (opened_in es)) ≡ length es
+pub opened_length : (es : List EnteredScope) → length (places_of (opened_in es)) ≡ length es
 opened_length es =
-    places_length (opened_in es) ∙ length-reverse (map (λ (e : Entered). e.scope) es)
-    ∙ length-map es (λ (e : Entered). e.scope)
+    places_length (opened_in es) ∙ length-reverse (map (λ (e : EnteredScope). e.scope) es)
+    ∙ length-map es (λ (e : EnteredScope). e.scope)
 
 -- ---- the depth of a slot
 
@@ -70,7 +70,7 @@ pub flattened : (o : Option (Option ℕ)) → option_flatten o ≡ unwrap_or o N
 flattened None = refl
 flattened (Some level) = refl
 
-pub depth_found : (levels : List (Option ℕ)) (coming : List SequenceScope) (es : List Entered) (place level : ℕ)
+pub depth_found : (levels : List (Option ℕ)) (coming : List SequenceScope) (es : List EnteredScope) (place level : ℕ)
     → IsTable levels coming es → slice_index_or levels place None ≡ Some level
     → depth_in (places_of (opened_in es)) place ≡ in_32_bits (length es - level - 1)
 depth_found levels coming es place level h e =
@@ -81,7 +81,7 @@ depth_found levels coming es place level h e =
     ∙ ap (λ n. target_at n (Some level)) (opened_length es) in
     ap (λ t. depth_of t >>= in_32_bits) is
 
-pub depth_missing : (levels : List (Option ℕ)) (coming : List SequenceScope) (es : List Entered) (place : ℕ)
+pub depth_missing : (levels : List (Option ℕ)) (coming : List SequenceScope) (es : List EnteredScope) (place : ℕ)
     → IsTable levels coming es → slice_index_or levels place None ≡ None
     → depth_in (places_of (opened_in es)) place ≡ Err BranchOutside
 depth_missing levels coming es place h e =
@@ -92,14 +92,14 @@ depth_missing levels coming es place h e =
 
 -- ---- the lists that contracts see
 
-pub opened_more : (es : List Entered) (e : Entered) → opened_in (es ++ e ∷ []) ≡ e.scope ∷ opened_in es
+pub opened_more : (es : List EnteredScope) (e : EnteredScope) → opened_in (es ++ e ∷ []) ≡ e.scope ∷ opened_in es
 opened_more es e =
-    let scope : Entered → SequenceScope = λ (x : Entered). x.scope in
+    let scope : EnteredScope → SequenceScope = λ (x : EnteredScope). x.scope in
     ap (λ (ss : List SequenceScope). reverse ss) (map-append scope es (e ∷ []))
     ∙ reverse-append (map scope es) (e.scope ∷ [])
 
 pub begins : (levels new_levels : List (Option ℕ)) (coming new_coming : List SequenceScope)
-    (entered new_entered : List Entered) (e : Entered) (old : ScopeLists)
+    (entered new_entered : List EnteredScope) (e : EnteredScope) (old : ScopeLists)
     → record { count = length levels; coming = reverse coming; open_scopes = opened_in entered } ≡ old
     → length new_levels ≡ length levels → coming ≡ new_coming ++ e.scope ∷ [] → new_entered ≡ entered ++ e ∷ []
     → Begins old (record { count = length new_levels; coming = reverse new_coming; open_scopes = opened_in new_entered })
@@ -117,8 +117,8 @@ begins levels new_levels coming new_coming entered new_entered e old view many p
       };
     }
 
-last_split : (es : List Entered) (e : Entered) → slice_get es (length es - 1) ≡ Some e
-    → (front : List Entered) × (es ≡ front ++ e ∷ [])
+last_split : (es : List EnteredScope) (e : EnteredScope) → slice_get es (length es - 1) ≡ Some e
+    → (front : List EnteredScope) × (es ≡ front ++ e ∷ [])
 last_split [] e h = absurd (cc)
 last_split (x ∷ []) e h = ([], cc)
 last_split (x ∷ y ∷ ys) e h =
@@ -126,23 +126,23 @@ last_split (x ∷ y ∷ ys) e h =
     let inner : slice_get (y ∷ ys) (length (y ∷ ys) - 1) ≡ Some e =
     ap (λ n. slice_get (x ∷ y ∷ ys) n) (sym index) ∙ h in
     let rest = last_split (y ∷ ys) e inner in
-    (x ∷ rest.0, ap (λ (zs : List Entered). x ∷ zs) rest.1)
+    (x ∷ rest.0, ap (λ (zs : List EnteredScope). x ∷ zs) rest.1)
 
-pub innermost_is : (es : List Entered) (e : Entered) → slice_get es (length es - 1) ≡ Some e
+pub innermost_is : (es : List EnteredScope) (e : EnteredScope) → slice_get es (length es - 1) ≡ Some e
     → (rest : List SequenceScope) × (opened_in es ≡ e.scope ∷ rest)
 innermost_is es e h =
     let split = last_split es e h in
     (opened_in split.0, ap opened_in split.1 ∙ opened_more split.0 e)
 
-known_behind : (n : ℕ) (xs ys : List SequenceScope) → AreKnown n (xs ++ ys) → AreKnown n ys
-known_behind n [] ys h = h
-known_behind n (x ∷ xs) ys h = known_behind n xs ys h.1
+known_after : (n : ℕ) (xs ys : List SequenceScope) → AreKnown n (xs ++ ys) → AreKnown n ys
+known_after n [] ys h = h
+known_after n (x ∷ xs) ys h = known_after n xs ys h.1
 
 pub known_first : (n count : ℕ) (xs : List SequenceScope) → AreKnown n (reverse xs) → AreKnown n (reverse (take count xs))
 known_first n count xs h =
     let halves = ap (λ (ss : List SequenceScope). reverse ss) (sym (take-append-drop count xs))
     ∙ reverse-append (take count xs) (drop count xs) in
-    known_behind n (reverse (drop count xs)) (reverse (take count xs)) (subst (AreKnown n) halves h)
+    known_after n (reverse (drop count xs)) (reverse (take count xs)) (subst (AreKnown n) halves h)
 
 pub kept_last : (count : ℕ) (xs more rest : List SequenceScope) → reverse xs ≡ more ++ rest → length rest ≡ count
     → reverse (take count xs) ≡ rest

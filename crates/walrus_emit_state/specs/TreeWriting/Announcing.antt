@@ -16,15 +16,15 @@ pub record AreAnnounced (scopes : Result (List Scope) EmitError) (old new : Scop
   pub are_first : new ≡ with_more old more
 
 -- memory ran out, or one of them doesn't exist
-abbrev pub AreUnannounced : Result (List Scope) EmitError → EmitError → Type 0
-AreUnannounced scopes e = (e ≡ Memory) ⊎ (scopes ≡ Err e)
+abbrev pub AreNotAnnounced : Result (List Scope) EmitError → EmitError → Type 0
+AreNotAnnounced scopes e = (e ≡ Memory) ⊎ (scopes ≡ Err e)
 
 -- the sequences in these slots, which have these closers
 abbrev pub Announces : List InstrSeq → List ℕ → List TextOperation → (old new : ScopeLists) → Type 0
 Announces b slots closers old new = AreAnnounced (scopes_at b slots closers) old new
 
-abbrev pub IsUnannounced : List InstrSeq → List ℕ → List TextOperation → EmitError → Type 0
-IsUnannounced b slots closers e = AreUnannounced (scopes_at b slots closers) e
+abbrev pub IsNotAnnounced : List InstrSeq → List ℕ → List TextOperation → EmitError → Type 0
+IsNotAnnounced b slots closers e = AreNotAnnounced (scopes_at b slots closers) e
 
 -- some of them may be announced
 pub record HasMore (old new : ScopeLists) : Type 0 where

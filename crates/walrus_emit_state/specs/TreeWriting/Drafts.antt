@@ -2,7 +2,7 @@
 use Rattle.std.specs.Prelude.{ℕ, Bool, List, ◌++◌}
 use Rattle.wasm_operators.specs.Operations.{RawOperation}
 use Rattle.wasm_body.specs.Translation.{Located}
-use Rattle.walrus_emit_state.specs.Emission.{Output, output_behind, pairs_behind}
+use Rattle.walrus_emit_state.specs.Emission.{Output, output_after, pairs_after}
 
 -- The output, the number of bytes before it, and whether pairs are kept.
 pub record Drafted : Type 0 where
@@ -11,11 +11,11 @@ pub record Drafted : Type 0 where
   pub output : Output
 
 -- with an operator after it
-abbrev pub behind : Drafted → Located RawOperation → Drafted
-behind d x = record d { output = output_behind d.has_map d.base d.output x }
+abbrev pub with_written : Drafted → Located RawOperation → Drafted
+with_written d x = record d { output = output_after d.has_map d.base d.output x }
 
 -- with the bytes of an operator after it, at a location
 abbrev pub with_bytes : Drafted → List ℕ → ℕ → Drafted
 with_bytes d bytes location = record d {
-  output = record { bytes = d.output.bytes ++ bytes; pairs = pairs_behind d.has_map d.base d.output location };
+  output = record { bytes = d.output.bytes ++ bytes; pairs = pairs_after d.has_map d.base d.output location };
 }

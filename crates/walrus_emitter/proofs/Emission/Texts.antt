@@ -26,7 +26,7 @@ use Rattle.wasm_body.specs.TreeOfFunction.{tree_of, head_of, instruction_in, ite
 use Rattle.wasm_body.specs.FlatText.{TextOperation, TextTranslation, then_by, closers, if_closers, try_closers, are_handlers, are_lawful, has_none, one_or_both, written_in_if, written_inside, written_items, written_sequences, first_type, opened, written, text, texts}
 use Rattle.wasm_body.specs.Bytes.{Numbers, numbering, bytes_of, numbered_text}
 use Rattle.wasm_body.specs.Pairs.{pairs_from}
-use Rattle.walrus_emit_state.specs.Emission.{Scope, scopes_at, if_scopes, is_short, scopes_inside, first_type_at, Output, Emitter, slots_of, first_emitter, output_of, output_behind, with_operator, emitter_behind_all}
+use Rattle.walrus_emit_state.specs.Emission.{Scope, scopes_at, if_scopes, is_short, scopes_inside, first_type_at, Output, Emitter, slots_of, first_emitter, output_of, output_after, with_operator, emitter_after_all}
 
 abbrev Written : Type 0
 Written = Result (Located RawOperation) EmitError
@@ -39,11 +39,11 @@ with_output s o = record s { output = o }
 -- the output with these operators written after it, if they can be written; then it goes on
 abbrev outputs : Emitter → List Written → (Output → Result Emitter EmitError) → Output → Result Emitter EmitError
 outputs s [] go o = go o
-outputs s (r ∷ rs) go o = r >>= λ x. outputs s rs go (output_behind s.has_map s.base o x)
+outputs s (r ∷ rs) go o = r >>= λ x. outputs s rs go (output_after s.has_map s.base o x)
 
 -- whatever the output is, these events turn the emitter into what `go` turns the output into
-abbrev Tells : Emitter → List WalkEvent → (Output → Result Emitter EmitError) → Type 0
-Tells s es go = (o : Output) → emitter_behind_all (with_output s o) es ≡ go o
+abbrev EventsWrite : Emitter → List WalkEvent → (Output → Result Emitter EmitError) → Type 0
+EventsWrite s es go = (o : Output) → emitter_after_all (with_output s o) es ≡ go o
 
 -- ---- the sequences in an instruction
 
@@ -93,14 +93,14 @@ none_inside are_no_sequences = refl
 
 -- ---- the text of sequences that are closed so
 
-abbrev behind_closing : TextTranslation ℕ BlockType → Closing → List Written → List Written
-behind_closing w None k = k
-behind_closing w (Some c) k = written w c.op c.location ∷ k
+abbrev after_closing : TextTranslation ℕ BlockType → Closing → List Written → List Written
+after_closing w None k = k
+after_closing w (Some c) k = written w c.op c.location ∷ k
 
 abbrev closed_texts : TextTranslation ℕ BlockType → List Closing → Sequences Head Instruction → List Written → List Written
 closed_texts w cs no_sequences k = k
 closed_texts w [] (sequence h is r) k = k
-closed_texts w (c ∷ cs) (sequence h is r) k = text w is (behind_closing w c (closed_texts w cs r k))
+closed_texts w (c ∷ cs) (sequence h is r) k = text w is (after_closing w c (closed_texts w cs r k))
 
 some_counted : (x : LocatedInstr) (xs : List LocatedInstr) → false ≡ (length (x ∷ xs) == 0)
 some_counted x xs = let e : (length (x ∷ xs) == 0) ≡ false = grind arith in sym e
@@ -178,7 +178,7 @@ second_holds false u h = absurd (cc h)
 
 -- ---- the names in an instruction write nothing
 
-names_passed : (s : Emitter) (i : Instr) (es : List WalkEvent) → emitter_behind_all s (names i ++ es) ≡ emitter_behind_all s es
+names_passed : (s : Emitter) (i : Instr) (es : List WalkEvent) → emitter_after_all s (names i ++ es) ≡ emitter_after_all s es
 names_passed s (instr.RefFunc x) es = refl
 names_passed s (instr.LocalGet x) es = refl
 names_passed s (instr.LocalSet x) es = refl
@@ -288,11 +288,11 @@ module _ (balanced : InstrSeqType → Bool) {b : List InstrSeq} where
 -- ---- one operator, and what comes after it
 
 -- an instruction's own operator, if it has one
-told : (r : Written) (sc : Result (List Scope) EmitError) (u : Located RawOperation → List Scope → Emitter) (rest : Emitter → Result Emitter EmitError) (go : Located RawOperation → Result Emitter EmitError)
+event_written : (r : Written) (sc : Result (List Scope) EmitError) (u : Located RawOperation → List Scope → Emitter) (rest : Emitter → Result Emitter EmitError) (go : Located RawOperation → Result Emitter EmitError)
     → ((x : Located RawOperation) → r ≡ Ok x → (scopes : List Scope) × (sc ≡ Ok scopes) × (rest (u x scopes) ≡ go x))
     → ((r >>= λ op. sc >>= λ scopes. Ok (u op scopes)) >>= rest) ≡ (r >>= go)
-told (Ok x) sc u rest go h = let a = h x refl in ap (λ c. (c >>= λ scopes. Ok (u x scopes)) >>= rest) a.1 ∙ a.2
-told (Err e) sc u rest go h = refl
+event_written (Ok x) sc u rest go h = let a = h x refl in ap (λ c. (c >>= λ scopes. Ok (u x scopes)) >>= rest) a.1 ∙ a.2
+event_written (Err e) sc u rest go h = refl
 
 -- a closer, if it can be written
 ended : (r : Written) (u : Emitter) (open_scopes : List Scope) (rest : Emitter → Result Emitter EmitError) (go : Located RawOperation → Result Emitter EmitError)
@@ -317,47 +317,47 @@ abbrev sequences_of : Emitter → Sequences SequenceAt LocatedInstr → Sequence
 sequences_of s ss = written_sequences s.numbers.balanced (sequences_in (slots_of s.open_scopes) ss)
 
 mutual
-  pub items_told : {b : List InstrSeq} {xs : List LocatedInstr} {is : Items SequenceAt LocatedInstr} (s : Emitter) (es : List WalkEvent) (k : List Written) (go : Output → Result Emitter EmitError) →
-      s.sequences ≡ b → AreItems b xs is → Tells s es (outputs s k go) → Tells s (item_events is es) (outputs s (text (writing s) (items_of s is) k) go)
-  items_told s es k go q are_no_items h o = h o
-  items_told {b = b} s es k go q (are_items {x = x} {inside = ss} {rest = is} inside rest) h o =
+  pub items_written_out : {b : List InstrSeq} {xs : List LocatedInstr} {is : Items SequenceAt LocatedInstr} (s : Emitter) (es : List WalkEvent) (k : List Written) (go : Output → Result Emitter EmitError) →
+      s.sequences ≡ b → AreItems b xs is → EventsWrite s es (outputs s k go) → EventsWrite s (item_events is es) (outputs s (text (writing s) (items_of s is) k) go)
+  items_written_out s es k go q are_no_items h o = h o
+  items_written_out {b = b} s es k go q (are_items {x = x} {inside = ss} {rest = is} inside rest) h o =
       let around = slots_of s.open_scopes in
       let role = role_of (operation_of x.0).opcode in
       let ts = written_inside s.numbers.balanced role (sequences_of s ss) in
       let found : first_type_at s.sequences (slots_in x.0) ≡ Ok (first_type ts) =
       ap (λ c. first_type_at c (slots_in x.0)) q ∙ (type_found around inside ∙ ap Ok (sym (type_written s.numbers.balanced role (sequences_in around ss)))) in
       let own = opened (writing s) (instruction_in around x) (first_type ts) in
-      let behind = λ (op : Located RawOperation) (scopes : List Scope). with_operator (record s { coming = scopes ++ s.coming; output = o }) op in
+      let following = λ (op : Located RawOperation) (scopes : List Scope). with_operator (record s { coming = scopes ++ s.coming; output = o }) op in
       let scopes = scopes_inside s.numbers.balanced s.sequences x.0 in
       let later = names x.0 ++ sequence_events ss (item_events is es) in
       let after = text (writing s) (items_of s is) k in
-      ap (λ r. (r >>= λ type. opened (writing s) (instruction_in around x) type >>= λ op. scopes >>= λ cs. Ok (behind op cs)) >>= λ t. emitter_behind_all t later) found
-      ∙ told own scopes behind (λ t. emitter_behind_all t later) (λ op. outputs s (texts (writing s) (closers role (clauses_of_try x.0) ts) ts after) go (output_behind s.has_map s.base o op))
+      ap (λ r. (r >>= λ type. opened (writing s) (instruction_in around x) type >>= λ op. scopes >>= λ cs. Ok (following op cs)) >>= λ t. emitter_after_all t later) found
+      ∙ event_written own scopes following (λ t. emitter_after_all t later) (λ op. outputs s (texts (writing s) (closers role (clauses_of_try x.0) ts) ts after) go (output_after s.has_map s.base o op))
       (λ op e.
       let c = is_closed s.numbers.balanced around x.0 inside (lawful_of (are_lawful (clauses_of_try x.0)) _ op e) in (
         scopes_in ss c.closings,
         ap (λ d. scopes_inside s.numbers.balanced d x.0) q ∙ c.scopes,
-        names_passed (behind op (scopes_in ss c.closings)) x.0 (sequence_events ss (item_events is es))
-            ∙ sequences_told s c.closings (item_events is es) after go q inside c.closed (items_told s es k go q rest h) (output_behind s.has_map s.base o op)
-            ∙ ap (λ ts. outputs s ts go (output_behind s.has_map s.base o op)) (sym (c.same (writing s) after)),
+        names_passed (following op (scopes_in ss c.closings)) x.0 (sequence_events ss (item_events is es))
+            ∙ sequences_written_out s c.closings (item_events is es) after go q inside c.closed (items_written_out s es k go q rest h) (output_after s.has_map s.base o op)
+            ∙ ap (λ ts. outputs s ts go (output_after s.has_map s.base o op)) (sym (c.same (writing s) after)),
       ))
 
-  pub sequences_told : {b : List InstrSeq} {ps : List ℕ} {ss : Sequences SequenceAt LocatedInstr} (s : Emitter) (cs : List Closing) (es : List WalkEvent) (k : List Written) (go : Output → Result Emitter EmitError) →
-      s.sequences ≡ b → AreSequences b ps ss → AreClosed ss cs → Tells s es (outputs s k go) →
-      Tells (with_coming s (scopes_in ss cs)) (sequence_events ss es) (outputs s (closed_texts (writing s) cs (sequences_of s ss) k) go)
-  sequences_told s cs es k go q are_no_sequences closed h o = h o
-  sequences_told s [] es k go q (are_sequences e i t) closed h o = absurd closed
-  sequences_told s (None ∷ cs) es k go q (are_sequences {p = p} {seq = seq} {items = is} {rest = ss} e i t) closed h o =
-      items_told (within s (record { slot = p; closer = None }) (scopes_in ss cs)) (EndSequence seq ∷ sequence_events ss es)
-      (closed_texts (writing s) cs (sequences_of s ss) k) go q i (λ n. sequences_told s cs es k go q t closed h n) o
-  sequences_told s (Some c ∷ cs) es k go q (are_sequences {p = p} {seq = seq} {items = is} {rest = ss} e i t) closed h o =
+  pub sequences_written_out : {b : List InstrSeq} {ps : List ℕ} {ss : Sequences SequenceAt LocatedInstr} (s : Emitter) (cs : List Closing) (es : List WalkEvent) (k : List Written) (go : Output → Result Emitter EmitError) →
+      s.sequences ≡ b → AreSequences b ps ss → AreClosed ss cs → EventsWrite s es (outputs s k go) →
+      EventsWrite (with_coming s (scopes_in ss cs)) (sequence_events ss es) (outputs s (closed_texts (writing s) cs (sequences_of s ss) k) go)
+  sequences_written_out s cs es k go q are_no_sequences closed h o = h o
+  sequences_written_out s [] es k go q (are_sequences e i t) closed h o = absurd closed
+  sequences_written_out s (None ∷ cs) es k go q (are_sequences {p = p} {seq = seq} {items = is} {rest = ss} e i t) closed h o =
+      items_written_out (within s (record { slot = p; closer = None }) (scopes_in ss cs)) (EndSequence seq ∷ sequence_events ss es)
+      (closed_texts (writing s) cs (sequences_of s ss) k) go q i (λ n. sequences_written_out s cs es k go q t closed h n) o
+  sequences_written_out s (Some c ∷ cs) es k go q (are_sequences {p = p} {seq = seq} {items = is} {rest = ss} e i t) closed h o =
       let opened_scope : Scope = record { slot = p; closer = Some c } in
-      items_told (within s opened_scope (scopes_in ss cs)) (EndSequence seq ∷ sequence_events ss es)
+      items_written_out (within s opened_scope (scopes_in ss cs)) (EndSequence seq ∷ sequence_events ss es)
       (written (writing s) c.op c.location ∷ closed_texts (writing s) cs (sequences_of s ss) k) go q i
       (λ n. ended (written (writing s) c.op c.location) (with_output (within s opened_scope (scopes_in ss cs)) n) s.open_scopes
-      (λ u. emitter_behind_all u (sequence_events ss es))
-      (λ x. outputs s (closed_texts (writing s) cs (sequences_of s ss) k) go (output_behind s.has_map s.base n x))
-      (λ x. sequences_told s cs es k go q t closed h (output_behind s.has_map s.base n x)))
+      (λ u. emitter_after_all u (sequence_events ss es))
+      (λ x. outputs s (closed_texts (writing s) cs (sequences_of s ss) k) go (output_after s.has_map s.base n x))
+      (λ x. sequences_written_out s cs es k go q t closed h (output_after s.has_map s.base n x)))
       o
 
 -- ---- the output of a tree
@@ -367,64 +367,64 @@ abbrev pub last_emitter : List InstrSeq → Numbers → ℕ → Bool → Output 
 last_emitter b to base m o = record { sequences = b; numbers = to; coming = []; open_scopes = []; base = base; has_map = m; output = o }
 
 -- an output with operators after it
-abbrev output_behind_all : Bool → ℕ → Output → List (Located RawOperation) → Output
-output_behind_all has_map base o [] = o
-output_behind_all has_map base o (x ∷ xs) = output_behind_all has_map base (output_behind has_map base o x) xs
+abbrev output_after_all : Bool → ℕ → Output → List (Located RawOperation) → Output
+output_after_all has_map base o [] = o
+output_after_all has_map base o (x ∷ xs) = output_after_all has_map base (output_after has_map base o x) xs
 
-outputs_gathered : (s : Emitter) (rs : List Written) (o : Output) → outputs s rs (λ n. Ok (with_output s n)) o ≡ (gather rs >>= λ xs. Ok (with_output s (output_behind_all s.has_map s.base o xs)))
+outputs_gathered : (s : Emitter) (rs : List Written) (o : Output) → outputs s rs (λ n. Ok (with_output s n)) o ≡ (gather rs >>= λ xs. Ok (with_output s (output_after_all s.has_map s.base o xs)))
 outputs_gathered s [] o = refl
-outputs_gathered s (Ok x ∷ rs) o = outputs_gathered s rs (output_behind s.has_map s.base o x) ∙ one_more (gather rs)
+outputs_gathered s (Ok x ∷ rs) o = outputs_gathered s rs (output_after s.has_map s.base o x) ∙ one_more (gather rs)
   where
-    one_more : (g : Result (List (Located RawOperation)) EmitError) → (g >>= λ xs. Ok (with_output s (output_behind_all s.has_map s.base (output_behind s.has_map s.base o x) xs)))
-        ≡ ((g >>= λ xs. Ok (x ∷ xs)) >>= λ xs. Ok (with_output s (output_behind_all s.has_map s.base o xs)))
+    one_more : (g : Result (List (Located RawOperation)) EmitError) → (g >>= λ xs. Ok (with_output s (output_after_all s.has_map s.base (output_after s.has_map s.base o x) xs)))
+        ≡ ((g >>= λ xs. Ok (x ∷ xs)) >>= λ xs. Ok (with_output s (output_after_all s.has_map s.base o xs)))
     one_more (Ok xs) = refl
     one_more (Err e) = refl
 outputs_gathered s (Err e ∷ rs) o = refl
 
-bytes_behind : (m : Bool) (base : ℕ) (o : Output) (xs : List (Located RawOperation)) → (output_behind_all m base o xs).bytes ≡ o.bytes ++ bytes_of xs
-bytes_behind m base o [] = sym (append-nil o.bytes)
-bytes_behind m base o (x ∷ xs) = bytes_behind m base (output_behind m base o x) xs ∙ append_assoc o.bytes (short x.op) (bytes_of xs)
+bytes_after : (m : Bool) (base : ℕ) (o : Output) (xs : List (Located RawOperation)) → (output_after_all m base o xs).bytes ≡ o.bytes ++ bytes_of xs
+bytes_after m base o [] = sym (append-nil o.bytes)
+bytes_after m base o (x ∷ xs) = bytes_after m base (output_after m base o x) xs ∙ append_assoc o.bytes (short x.op) (bytes_of xs)
 
-pairs_with_map : (base : ℕ) (o : Output) (xs : List (Located RawOperation)) → (output_behind_all true base o xs).pairs ≡ o.pairs ++ pairs_from (base + length o.bytes) xs
+pairs_with_map : (base : ℕ) (o : Output) (xs : List (Located RawOperation)) → (output_after_all true base o xs).pairs ≡ o.pairs ++ pairs_from (base + length o.bytes) xs
 pairs_with_map base o [] = sym (append-nil o.pairs)
 pairs_with_map base o (x ∷ xs) =
     let next : base + length (o.bytes ++ short x.op) ≡ base + length o.bytes + length (short x.op) = omega (arith, length-append o.bytes (short x.op)) in
-    pairs_with_map base (output_behind true base o x) xs
+    pairs_with_map base (output_after true base o x) xs
     ∙ append_assoc o.pairs ((x.location, base + length o.bytes) ∷ []) (pairs_from (base + length (o.bytes ++ short x.op)) xs)
     ∙ ap (λ n. o.pairs ++ (x.location, base + length o.bytes) ∷ pairs_from n xs) next
 
-pairs_without : (base : ℕ) (o : Output) (xs : List (Located RawOperation)) → (output_behind_all false base o xs).pairs ≡ o.pairs
+pairs_without : (base : ℕ) (o : Output) (xs : List (Located RawOperation)) → (output_after_all false base o xs).pairs ≡ o.pairs
 pairs_without base o [] = refl
-pairs_without base o (x ∷ xs) = pairs_without base (output_behind false base o x) xs
+pairs_without base o (x ∷ xs) = pairs_without base (output_after false base o x) xs
 
 abbrev nothing : Output
 nothing = record { bytes = []; pairs = [] }
 
-written_as : (m : Bool) (base : ℕ) (xs : List (Located RawOperation)) → output_behind_all m base nothing xs ≡ output_of m base xs
-written_as true base xs = λ i. record { bytes = bytes_behind true base nothing xs i; pairs = (pairs_with_map base nothing xs ∙ ap (λ n. pairs_from n xs) (add-zero base)) i }
-written_as false base xs = λ i. record { bytes = bytes_behind false base nothing xs i; pairs = pairs_without base nothing xs i }
+written_as : (m : Bool) (base : ℕ) (xs : List (Located RawOperation)) → output_after_all m base nothing xs ≡ output_of m base xs
+written_as true base xs = λ i. record { bytes = bytes_after true base nothing xs i; pairs = (pairs_with_map base nothing xs ∙ ap (λ n. pairs_from n xs) (add-zero base)) i }
+written_as false base xs = λ i. record { bytes = bytes_after false base nothing xs i; pairs = pairs_without base nothing xs i }
 
 -- the head of the tree in a slot is that slot's sequence
 record IsHead (b : List InstrSeq) (start : ℕ) (h : SequenceAt) : Type 0 where
   pub place : h.slot ≡ start
-  pub stands : slice_get b start ≡ Some h.seq
+  pub in_arena : slice_get b start ≡ Some h.seq
 
 head_found : {b : List InstrSeq} {start : ℕ} (h : SequenceAt) (is : Items SequenceAt LocatedInstr) → AreSequences b (start ∷ []) (sequence h is no_sequences) → IsHead b start h
-head_found h is (are_sequences e i t) = record { place = refl; stands = e }
+head_found h is (are_sequences e i t) = record { place = refl; in_arena = e }
 
 -- After the events of the tree in a slot, the emitter has written its text or stopped at the text's first fault.
-pub tree_told : {b : List InstrSeq} {start : ℕ} (to : Numbers) (base : ℕ) (m : Bool) (seq : InstrSeq) (t : Tree SequenceAt LocatedInstr) →
+pub tree_written_out : {b : List InstrSeq} {start : ℕ} (to : Numbers) (base : ℕ) (m : Bool) (seq : InstrSeq) (t : Tree SequenceAt LocatedInstr) →
     slice_get b start ≡ Some seq → AreSequences b (start ∷ []) (alone t) →
-    emitter_behind_all (first_emitter b to base m (scope start end_operation seq.end)) (events t)
+    emitter_after_all (first_emitter b to base m (scope start end_operation seq.end)) (events t)
     ≡ (numbered_text to (tree_of t) >>= λ xs. Ok (last_emitter b to base m (output_of m base xs)))
-tree_told {b = b} {start = start} to base m seq t e h =
+tree_written_out {b = b} {start = start} to base m seq t e h =
     let top = head_found t.head t.items h in
-    let seq_is : Some t.head.seq ≡ Some seq = sym top.stands ∙ e in
+    let seq_is : Some t.head.seq ≡ Some seq = sym top.in_arena ∙ e in
     let same : t.head.seq ≡ seq = cc seq_is in
     let s = last_emitter b to base m nothing in
     let rs = texts (writing s) (end_operation ∷ []) (sequences_of s (alone t)) [] in
-    ap (λ q. emitter_behind_all (first_emitter b to base m (scope start end_operation q.end)) (events t)) (sym same)
-    ∙ ap (λ p. emitter_behind_all (first_emitter b to base m (scope p end_operation t.head.seq.end)) (events t)) (sym top.place)
-    ∙ sequences_told s (Some (at_location end_operation t.head.seq.end) ∷ []) [] [] (λ o. Ok (with_output s o)) refl h tt (λ o. refl) nothing
+    ap (λ q. emitter_after_all (first_emitter b to base m (scope start end_operation q.end)) (events t)) (sym same)
+    ∙ ap (λ p. emitter_after_all (first_emitter b to base m (scope p end_operation t.head.seq.end)) (events t)) (sym top.place)
+    ∙ sequences_written_out s (Some (at_location end_operation t.head.seq.end) ∷ []) [] [] (λ o. Ok (with_output s o)) refl h tt (λ o. refl) nothing
     ∙ outputs_gathered s rs nothing
     ∙ ap (λ (f : List (Located RawOperation) → Output). gather rs >>= λ xs. Ok (last_emitter b to base m (f xs))) (λ i xs. written_as m base xs i)

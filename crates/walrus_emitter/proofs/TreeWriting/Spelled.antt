@@ -23,11 +23,11 @@ use Rattle.wasm_body.specs.Bytes.{Numbers, numbering, in_32_bits}
 use Rattle.wasm_body.specs.FlatText.{exponent_of, then_by, typed}
 use Rattle.wasm_body.specs.InstructionTable.{PlacedOperation, access_at, operation_of}
 use Rattle.wasm_body.specs.Translation.{translate}
-use Rattle.wasm_body.specs.TreeOfFunction.{aimed}
+use Rattle.wasm_body.specs.TreeOfFunction.{with_targets}
 use Rattle.walrus_maps.specs.declared.ids_to_indices.IdsToIndices.{IdsToIndices}
 use Rattle.walrus_maps.specs.IndexMaps.{number_of}
 use Rattle.walrus_numbering.specs.NumberMaps.{fitting, numbers_by}
-use Rattle.walrus_emit_state.specs.Emission.{emitter_behind}
+use Rattle.walrus_emit_state.specs.Emission.{emitter_after}
 use Rattle.walrus_emit_state.specs.TreeWriting.Closers.{places_of}
 use Rattle.walrus_emit_state.specs.TreeWriting.Drafts.{Drafted, with_bytes}
 use Rattle.walrus_emit_state.specs.TreeWriting.ScopeLists.{ScopeLists}
@@ -58,7 +58,7 @@ pub record IsSpelled (to : Numbers) (around : List ℕ) (i : Instr) (bytes : Lis
 
 -- the operator of a row of the table
 abbrev numbered_row : Numbers → List ℕ → PlacedOperation → Result RawOperation EmitError
-numbered_row to around o = translate (typed (then_by (numbering to)) (Simple None)) (aimed around o)
+numbered_row to around o = translate (typed (then_by (numbering to)) (Simple None)) (with_targets around o)
 
 -- an opcode with one immediate
 abbrev with_one : ℕ → Result RawImmediate EmitError → Result RawOperation EmitError
@@ -110,7 +110,7 @@ module _ (to : Numbers) (around : List ℕ) (i : Instr) (byte : ℕ) where
 
 pub bytes_visited : (b : List InstrSeq) (to : Numbers) (scopes : ScopeLists) (draft drafted : Drafted) (i : Instr) (l : ℕ) (bytes : List ℕ)
     → slots_in i ≡ [] → IsSpelled to (places_of scopes.open_scopes) i bytes → drafted ≡ with_bytes draft bytes l
-    → emitter_behind (emitter_at b to scopes draft) (VisitInstruction i l) ≡ Ok (emitter_at b to scopes drafted)
+    → emitter_after (emitter_at b to scopes draft) (VisitInstruction i l) ≡ Ok (emitter_at b to scopes drafted)
 bytes_visited b to scopes draft drafted i l bytes plain h is =
     operation_visited b to scopes draft drafted i l h.operator plain h.is (is ∙ ap (λ bs. with_bytes draft bs l) (sym h.bytes_are))
 

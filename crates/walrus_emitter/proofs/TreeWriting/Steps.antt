@@ -20,9 +20,9 @@ use Rattle.wasm_body.specs.TreeOfFunction.{instruction_in}
 use Rattle.wasm_body.specs.FlatText.{are_lawful, then_by, opened}
 use Rattle.wasm_body.specs.Bytes.{Numbers, numbering}
 use Rattle.walrus_emit_state.specs.declared.closing.SequenceScope.{SequenceScope}
-use Rattle.walrus_emit_state.specs.Emission.{Scope, Emitter, slots_of, closers_in, scopes_at, scopes_inside, first_type_at, with_operator, emitter_behind}
+use Rattle.walrus_emit_state.specs.Emission.{Scope, Emitter, slots_of, closers_in, scopes_at, scopes_inside, first_type_at, with_operator, emitter_after}
 use Rattle.walrus_emit_state.specs.TreeWriting.Closers.{scope_of, scopes_of, places_of}
-use Rattle.walrus_emit_state.specs.TreeWriting.Drafts.{Drafted, behind}
+use Rattle.walrus_emit_state.specs.TreeWriting.Drafts.{Drafted, with_written}
 use Rattle.walrus_emit_state.specs.TreeWriting.ScopeLists.{ScopeLists, with_more}
 use Rattle.walrus_operators.specs.TreeWriting.Operators.{numbered_operator, IsOperatorOf}
 use Rattle.walrus_emitter.specs.TreeWriting.Emitters.{emitter_at}
@@ -44,7 +44,7 @@ with_type s i l r = r >>= λ type. with_own s i (opened (then_by (numbering s.nu
 
 -- an instruction whose first sequence has this type
 abbrev Begins : Emitter → Instr → ℕ → Result Emitter EmitError → Type 0
-Begins s i l r = emitter_behind s (VisitInstruction i l) ≡ r
+Begins s i l r = emitter_after s (VisitInstruction i l) ≡ r
 
 module _ (s : Emitter) (i : Instr) (l : ℕ) where
   lawful_begins : (type : InstrSeqType) → first_type_at s.sequences (slots_in i) ≡ Ok type → are_lawful (clauses_of_try i) ≡ true
@@ -66,7 +66,7 @@ module _ (s : Emitter) (i : Instr) (l : ℕ) where
 
 -- the state of the code after that
 pub kept_begins : (b : List InstrSeq) (to : Numbers) (old new : ScopeLists) (draft drafted : Drafted) (more : List SequenceScope)
-    (o : RawOperation) (l : ℕ) → new ≡ with_more old more → drafted ≡ behind draft (at_location o l)
+    (o : RawOperation) (l : ℕ) → new ≡ with_more old more → drafted ≡ with_written draft (at_location o l)
     → with_operator (record (emitter_at b to old draft) { coming = scopes_of more ++ scopes_of old.coming }) (at_location o l)
     ≡ emitter_at b to new drafted
 kept_begins b to old new draft drafted more o l h k =
@@ -94,16 +94,16 @@ plain_scopes balanced b i e = ap (λ ps. scopes_at b ps (closers_in i)) e
 
 pub operation_visited : (b : List InstrSeq) (to : Numbers) (scopes : ScopeLists) (draft drafted : Drafted) (i : Instr) (l : ℕ) (o : RawOperation)
     → slots_in i ≡ [] → numbered_operator to (places_of scopes.open_scopes) (Simple None) i ≡ Ok o
-    → drafted ≡ behind draft (at_location o l)
-    → emitter_behind (emitter_at b to scopes draft) (VisitInstruction i l) ≡ Ok (emitter_at b to scopes drafted)
+    → drafted ≡ with_written draft (at_location o l)
+    → emitter_after (emitter_at b to scopes draft) (VisitInstruction i l) ≡ Ok (emitter_at b to scopes drafted)
 operation_visited b to scopes draft drafted i l o e h k =
     sequences_begin (emitter_at b to scopes draft) i l (Simple None) o [] (plain_type b i e) (plain_lawful i e) h (plain_scopes to.balanced b i e)
     ∙ ap (λ (s : Emitter). Ok s) (kept_begins b to scopes scopes draft drafted [] o l refl k)
 
 pub plain_visited : (b : List InstrSeq) (to : Numbers) (scopes : ScopeLists) (draft drafted : Drafted) (i : Instr) (l : ℕ) (op : Listed)
     → slots_in i ≡ [] → IsOperatorOf to (places_of scopes.open_scopes) (Simple None) i (Ok op)
-    → drafted ≡ behind draft (at_location (meaning op) l)
-    → emitter_behind (emitter_at b to scopes draft) (VisitInstruction i l) ≡ Ok (emitter_at b to scopes drafted)
+    → drafted ≡ with_written draft (at_location (meaning op) l)
+    → emitter_after (emitter_at b to scopes draft) (VisitInstruction i l) ≡ Ok (emitter_at b to scopes drafted)
 plain_visited b to scopes draft drafted i l op e h k = operation_visited b to scopes draft drafted i l (meaning op) e h.0 k
 
 -- if it is written

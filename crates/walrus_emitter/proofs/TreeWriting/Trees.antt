@@ -8,7 +8,7 @@ use Rattle.walrus_ir.specs.Tree.{Tree}
 use Rattle.walrus_ir.specs.Unfolding.{SequenceAt, LocatedInstr, IsTree}
 use Rattle.walrus_ir.specs.Faults.{begun, unknown}
 use Rattle.walrus_ir.specs.Events.{WalkEvent, events, Folds, through, after, Stops, refused, later}
-use Rattle.walrus_ir.specs.Walk.{HasNoWalk, Finishes, IsRefused, IsUnwalked}
+use Rattle.walrus_ir.specs.Walk.{HasNoWalk, Finishes, IsRefused, IsNotWalked}
 use Rattle.wasm_operators.specs.Operations.{RawOperation}
 use Rattle.wasm_body.specs.declared.error.EmitError.{EmitError}
 use Rattle.wasm_body.specs.declared.error.EmitError.TheVariants.{Memory, UnknownSequence}
@@ -20,32 +20,32 @@ use Rattle.wasm_body.specs.Bytes.{Numbers, numbered_text, bytes_of}
 use Rattle.wasm_body.specs.Pairs.{Pair, pairs_from}
 use Rattle.walrus_emit_state.specs.declared.closing.Closer.TheVariants.{End}
 use Rattle.walrus_emitter.specs.declared.emit.EmitVisitor.{EmitVisitor}
-use Rattle.walrus_emit_state.specs.Emission.{Emitter, emitter_behind, emitter_behind_all, first_emitter, Output, output_of}
+use Rattle.walrus_emit_state.specs.Emission.{Emitter, emitter_after, emitter_after_all, first_emitter, Output, output_of}
 use Rattle.walrus_emit_state.specs.TreeWriting.Drafts.{Drafted}
 use Rattle.walrus_emitter.specs.TreeWriting.Emitters.{emitter_at, IsFaultAt}
 use Rattle.walrus_emit_state.specs.TreeWriting.ScopeLists.{ScopeLists, ending, with_more}
-use Rattle.walrus_emitter.specs.TreeWriting.Trees.{IsDraftOf, IsFirstScope, Appends, AppendsBytes, IsUnwritten}
+use Rattle.walrus_emitter.specs.TreeWriting.Trees.{IsDraftOf, IsFirstScope, Appends, AppendsBytes, IsNotWritten}
 use Rattle.walrus_emitter.specs.TreeWriting.Visiting.{emitter_of, Steps, Refuses, Same}
-use Rattle.walrus_emitter.proofs.Emission.Texts.{last_emitter, tree_told}
+use Rattle.walrus_emitter.proofs.Emission.Texts.{last_emitter, tree_written_out}
 
 -- ---- the visitor after some events is the emitter after them
 
-folded : {v w : EmitVisitor} {es : List WalkEvent} → Folds Steps v es w → emitter_behind_all (emitter_of v) es ≡ Ok (emitter_of w)
+folded : {v w : EmitVisitor} {es : List WalkEvent} → Folds Steps v es w → emitter_after_all (emitter_of v) es ≡ Ok (emitter_of w)
 folded through = refl
-folded (after {es = es} step rest) = ap (λ r. r >>= λ t. emitter_behind_all t es) step ∙ folded rest
+folded (after {es = es} step rest) = ap (λ r. r >>= λ t. emitter_after_all t es) step ∙ folded rest
 
 -- why it stops at one of the events
 abbrev IsStopped : Emitter → List WalkEvent → EmitError → Type 0
-IsStopped s es f = (f ≡ Memory) ⊎ (emitter_behind_all s es ≡ Err f)
+IsStopped s es f = (f ≡ Memory) ⊎ (emitter_after_all s es ≡ Err f)
 
 stops_here : (s : Emitter) (e : WalkEvent) (es : List WalkEvent) (f : EmitError) → IsFaultAt s e f → IsStopped s (e ∷ es) f
 stops_here s e es f (inl h) = inl h
-stops_here s e es f (inr h) = inr (ap (λ r. r >>= λ t. emitter_behind_all t es) h)
+stops_here s e es f (inr h) = inr (ap (λ r. r >>= λ t. emitter_after_all t es) h)
 
-stops_later : (s t : Emitter) (e : WalkEvent) (es : List WalkEvent) (f : EmitError) → emitter_behind s e ≡ Ok t → IsStopped t es f
+stops_later : (s t : Emitter) (e : WalkEvent) (es : List WalkEvent) (f : EmitError) → emitter_after s e ≡ Ok t → IsStopped t es f
     → IsStopped s (e ∷ es) f
 stops_later s t e es f step (inl h) = inl h
-stops_later s t e es f step (inr h) = inr (ap (λ r. r >>= λ u. emitter_behind_all u es) step ∙ h)
+stops_later s t e es f step (inr h) = inr (ap (λ r. r >>= λ u. emitter_after_all u es) step ∙ h)
 
 stopped : {v w : EmitVisitor} {es : List WalkEvent} {f : EmitError} → Stops Steps Refuses Same v es w f → IsStopped (emitter_of v) es f
 stopped (refused {v = v} {e = e} {es = es} {f = f} why same) = stops_here (emitter_of v) e es f why
@@ -57,7 +57,7 @@ stopped (later {v = v} {w = w} {e = e} {es = es} {f = f} step rest) =
 -- nothing is written yet under these numbers, and only the sequence at the entry is to come
 pub record IsFirst (b : List InstrSeq) (entry : ℕ) (to : Numbers) (base : ℕ) (m : Bool) (v : EmitVisitor) : Type 0 where
   pub seq : InstrSeq
-  pub stands : slice_get b entry ≡ Some seq
+  pub in_arena : slice_get b entry ≡ Some seq
   pub is : emitter_of v ≡ first_emitter b to base m (record { slot = entry; closer = Some (at_location end_operation seq.end) })
 
 pub is_first : (b : List InstrSeq) (to : Numbers) (entry : ℕ) (scopes : ScopeLists) (draft : Drafted) (base : ℕ) (m : Bool) (v : EmitVisitor)
@@ -65,16 +65,16 @@ pub is_first : (b : List InstrSeq) (to : Numbers) (entry : ℕ) (scopes : ScopeL
     → emitter_of v ≡ emitter_at b to scopes draft → IsFirst b entry to base m v
 is_first b to entry scopes draft base m v first d is = record {
   seq = first.seq;
-  stands = first.stands;
+  in_arena = first.in_arena;
   is = is ∙ λ i. emitter_at b to (first.is i) (d i);
 }
 
 pub first_scope : (b : List InstrSeq) (entry count : ℕ) (seq : InstrSeq) (scopes first : ScopeLists) → slice_get b entry ≡ Some seq
     → count ≡ length b → scopes ≡ record { count = count; coming = []; open_scopes = [] }
     → first ≡ with_more scopes (ending entry End seq.end ∷ []) → IsFirstScope b entry first
-first_scope b entry count seq scopes first stands many none h = record {
+first_scope b entry count seq scopes first in_arena many none h = record {
   seq = seq;
-  stands = stands;
+  in_arena = in_arena;
   is = h ∙ ap (λ s. with_more s (ending entry End seq.end ∷ [])) none
       ∙ (λ i. record { count = many i; coming = ending entry End seq.end ∷ []; open_scopes = [] });
 }
@@ -96,9 +96,9 @@ pub draft_is : (b : List InstrSeq) (entry : ℕ) (to : Numbers) (base : ℕ) (m 
     → IsFirst b entry to base m v → Finishes b entry Steps v w → IsDraftOf b entry to base m w.draft
 draft_is b entry to base m v w first h =
     let t = h.tree in
-    let told = tree_told to base m first.seq t first.stands h.is_tree.unfolds in
-    let behind = ap (λ s. emitter_behind_all s (events t)) (sym first.is) ∙ folded h.folds in
-    let text = text_is b to base m (numbered_text to (tree_of t)) (emitter_of w) (sym told ∙ behind) in record {
+    let event_written = tree_written_out to base m first.seq t first.in_arena h.is_tree.unfolds in
+    let following = ap (λ s. emitter_after_all s (events t)) (sym first.is) ∙ folded h.folds in
+    let text = text_is b to base m (numbered_text to (tree_of t)) (emitter_of w) (sym event_written ∙ following) in record {
       tree = tree_of t;
       has_tree = record { unfolded = t; is_tree = h.is_tree; is = refl };
       operators = text.0;
@@ -111,29 +111,29 @@ draft_is b entry to base m v w first h =
     }
 
 refusal_is : (b : List InstrSeq) (entry : ℕ) (to : Numbers) (base : ℕ) (m : Bool) (t : Tree SequenceAt LocatedInstr) (v : EmitVisitor)
-    (f : EmitError) → IsFirst b entry to base m v → IsTree b entry t → IsStopped (emitter_of v) (events t) f → IsUnwritten b entry to f
+    (f : EmitError) → IsFirst b entry to base m v → IsTree b entry t → IsStopped (emitter_of v) (events t) f → IsNotWritten b entry to f
 refusal_is b entry to base m t v f first is_tree (inl h) = inl h
 refusal_is b entry to base m t v f first is_tree (inr h) =
-    let told = tree_told to base m first.seq t first.stands is_tree.unfolds in
-    let behind = ap (λ s. emitter_behind_all s (events t)) (sym first.is) ∙ h in
-    let fails = text_fails b to base m (numbered_text to (tree_of t)) f (sym told ∙ behind) in
+    let event_written = tree_written_out to base m first.seq t first.in_arena is_tree.unfolds in
+    let following = ap (λ s. emitter_after_all s (events t)) (sym first.is) ∙ h in
+    let fails = text_fails b to base m (numbered_text to (tree_of t)) f (sym event_written ∙ following) in
     inr (inr (
       tree_of t,
       record { unfolded = t; is_tree = is_tree; is = refl },
       ap (λ r. r >>= λ xs. Ok (bytes_of xs)) fails,
     ))
 
-no_walk : (b : List InstrSeq) (entry : ℕ) (to : Numbers) (error : WalkError) → HasNoWalk b entry error → IsUnwritten b entry to (fault_of_walk error)
+no_walk : (b : List InstrSeq) (entry : ℕ) (to : Numbers) (error : WalkError) → HasNoWalk b entry error → IsNotWritten b entry to (fault_of_walk error)
 no_walk b entry to error (inl h) = inl (ap fault_of_walk h)
 no_walk b entry to error (inr h) = inr (inl (error, h, refl))
 
 pub unwritten_is : (b : List InstrSeq) (entry : ℕ) (to : Numbers) (base : ℕ) (m : Bool) (v w : EmitVisitor) (f : EmitError)
     → IsFirst b entry to base m v
-    → IsRefused b entry Steps Refuses Same v w f ⊎ IsUnwalked b entry (λ error g. g ≡ fault_of_walk error) v w f
-    → IsUnwritten b entry to f
+    → IsRefused b entry Steps Refuses Same v w f ⊎ IsNotWalked b entry (λ error g. g ≡ fault_of_walk error) v w f
+    → IsNotWritten b entry to f
 unwritten_is b entry to base m v w f first (inl h) = refusal_is b entry to base m h.tree v f first h.is_tree (stopped h.stops)
 unwritten_is b entry to base m v w f first (inr h) =
-    subst (λ g. IsUnwritten b entry to g) (sym h.is_fault) (no_walk b entry to h.error h.why)
+    subst (λ g. IsNotWritten b entry to g) (sym h.is_fault) (no_walk b entry to h.error h.why)
 
 none_past : (b : List InstrSeq) (n : ℕ) → length b ≤ n → slice_get b n ≡ None
 none_past [] n h = refl
@@ -146,7 +146,7 @@ none_there b n has known lacks =
     none_past b n (omega (arith, past))
 
 -- the sequence at the entry doesn't exist
-pub entry_missing : (b : List InstrSeq) (entry : ℕ) (to : Numbers) → slice_get b entry ≡ None → IsUnwritten b entry to UnknownSequence
+pub entry_missing : (b : List InstrSeq) (entry : ℕ) (to : Numbers) → slice_get b entry ≡ None → IsNotWritten b entry to UnknownSequence
 entry_missing b entry to h = inr (inl (walk.UnknownSequence, unknown begun h, refl))
 
 -- ---- what is passed on

@@ -6,7 +6,7 @@ use Rattle.wasm_body.specs.declared.error.EmitError.{EmitError}
 use Rattle.wasm_body.specs.declared.error.EmitError.TheVariants.{Memory}
 use Rattle.wasm_body.specs.Bytes.{Numbers}
 use Rattle.walrus_emit_state.specs.declared.closing.Closer.{Closer}
-use Rattle.walrus_emit_state.specs.Emission.{Emitter, with_closer, emitter_behind}
+use Rattle.walrus_emit_state.specs.Emission.{Emitter, with_closer, emitter_after}
 use Rattle.walrus_emit_state.specs.TreeWriting.Closers.{closer_at, scopes_of}
 use Rattle.walrus_emit_state.specs.TreeWriting.Drafts.{Drafted}
 use Rattle.walrus_emit_state.specs.TreeWriting.ScopeLists.{ScopeLists}
@@ -27,7 +27,7 @@ emitter_at b to scopes draft = record {
 
 -- memory ran out, or the emitter has this fault
 abbrev pub IsFaultAt : Emitter → WalkEvent → EmitError → Type 0
-IsFaultAt s e f = (f ≡ Memory) ⊎ (emitter_behind s e ≡ Err f)
+IsFaultAt s e f = (f ≡ Memory) ⊎ (emitter_after s e ≡ Err f)
 
 -- ---- closing a sequence, whichever it is
 

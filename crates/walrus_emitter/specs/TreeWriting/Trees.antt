@@ -50,14 +50,14 @@ pub record AppendsBytes (b : List InstrSeq) (entry : ℕ) (to : Numbers) (old ne
 -- no sequence is open, and only the one at the entry is to come, which an `end` closes
 pub record IsFirstScope (b : List InstrSeq) (entry : ℕ) (scopes : ScopeLists) : Type 0 where
   pub seq : InstrSeq
-  pub stands : slice_get b entry ≡ Some seq
+  pub in_arena : slice_get b entry ≡ Some seq
   pub is : scopes
       ≡ record { count = length b; coming = ending entry End seq.end ∷ []; open_scopes = [] }
 
 -- ---- why it isn't written
 
 -- Memory ran out, there is no tree, or this is the first fault of the tree in the order of writing.
-abbrev pub IsUnwritten : List InstrSeq → (entry : ℕ) → Numbers → EmitError → Type 0
-IsUnwritten b entry to e =
+abbrev pub IsNotWritten : List InstrSeq → (entry : ℕ) → Numbers → EmitError → Type 0
+IsNotWritten b entry to e =
     (e ≡ Memory) ⊎ (((walk : WalkError) × FirstWalkFault b entry walk × (e ≡ fault_of_walk walk))
     ⊎ ((t : FunctionTree) × HasTree b entry t × (tree_bytes to t ≡ Err e)))

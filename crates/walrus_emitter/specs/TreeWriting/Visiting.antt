@@ -5,7 +5,7 @@ use Rattle.walrus_ir.specs.Events.{WalkEvent, AreStepsAlike, AreRefusalsAlike}
 use Rattle.wasm_body.specs.declared.error.EmitError.{EmitError}
 use Rattle.walrus_emit_state.specs.declared.closing.SequenceScope.{SequenceScope}
 use Rattle.walrus_emitter.specs.declared.emit.EmitVisitor.{EmitVisitor}
-use Rattle.walrus_emit_state.specs.Emission.{Emitter, emitter_behind}
+use Rattle.walrus_emit_state.specs.Emission.{Emitter, emitter_after}
 use Rattle.walrus_emitter.specs.TreeWriting.Emitters.{emitter_at, IsFaultAt}
 use Rattle.walrus_emit_state.specs.TreeWriting.ScopeLists.{with_more}
 use Rattle.walrus_numbering.specs.NumberMaps.{numbers_of}
@@ -16,7 +16,7 @@ emitter_of v = emitter_at v.builder.now.sequences (numbers_of v.numbers) v.scope
 -- ---- the visitor's meaning
 
 abbrev pub Steps : EmitVisitor → WalkEvent → EmitVisitor → Type 0
-Steps v e w = emitter_behind (emitter_of v) e ≡ Ok (emitter_of w)
+Steps v e w = emitter_after (emitter_of v) e ≡ Ok (emitter_of w)
 
 abbrev pub Refuses : EmitVisitor → WalkEvent → EmitError → Type 0
 Refuses v e f = IsFaultAt (emitter_of v) e f
@@ -34,7 +34,7 @@ pub record HasOnlyMore (v w : EmitVisitor) : Type 0 where
 
 -- visitors that are the same emitter accept and refuse the same events
 pub same_steps : AreStepsAlike Same Steps
-same_steps v v' w w' e from to step = ap (λ s. emitter_behind s e) (sym from) ∙ (step ∙ ap Ok to)
+same_steps v v' w w' e from to step = ap (λ s. emitter_after s e) (sym from) ∙ (step ∙ ap Ok to)
 
 pub same_refusals : AreRefusalsAlike Same Refuses
 same_refusals v v' e f from refusal = subst (λ s. IsFaultAt s e f) from refusal

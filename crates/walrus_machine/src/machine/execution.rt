@@ -6,7 +6,7 @@ ghost use Rattle.wasm_body.specs.Control.{control_of};
 ghost use Rattle.walrus_machine.specs.NamedOperators.{named_operation};
 ghost use Rattle.walrus_machine.specs.Runs.{outcome_of, ending_of, run_of};
 ghost use Rattle.walrus_machine.specs.Tables.{place_at};
-ghost use Rattle.walrus_machine.specs.Tracing.{run_on, Stops};
+ghost use Rattle.walrus_machine.specs.Tracing.{continued_run, EndsTurnAs};
 
 use crate::machine::operator::controls;
 use crate::machine::run::{Ending, Outcome, Run};
@@ -17,48 +17,48 @@ use std::alloc::{AllocError, Global};
 
 /// The result of the steps of a turn.
 #[derive(Drop)]
-pub enum Stop {
+pub enum TurnEnd {
     /// A branch to a loop: the run goes on at the place with this position, and a turn is used up.
     Turn(usize),
     /// The run ends.
-    Over(Ending),
+    Finished(Ending),
 }
 
 impl<'a> State<'a> {
     /// The steps from a place on, until a branch to a loop or the end of the run. There are at most
     /// as many as operators from the place on, since only a branch to a loop goes back.
-    fn turn(&mut self, table: &Table<'a>, from: usize) -> Result<Stop, AllocError>
-        ensures { IfOk result (λ stop.
-            Stops table.now (place_at table.now from) self.old stop self.new) }
+    fn turn(&mut self, table: &Table<'a>, from: usize) -> Result<TurnEnd, AllocError>
+        ensures { IfOk result (λ turn_end.
+            EndsTurnAs table.now (place_at table.now from) self.old turn_end self.new) }
     {
         let mut place = from;
         let mut left = table.len().saturating_sub(from);
         'steps: while left > 0 {
             let Some(control) = table.control(place) else {
-                return Ok(Stop::Over(Ending::Returned));
+                return Ok(TurnEnd::Finished(Ending::Returned));
             };
             match self.step(table, control, place)? {
-                Next::On(next) => place = next,
-                Next::Turn(next) => return Ok(Stop::Turn(next)),
-                Next::Over(ending) => return Ok(Stop::Over(ending)),
+                Next::Continue(next) => place = next,
+                Next::Turn(next) => return Ok(TurnEnd::Turn(next)),
+                Next::Finished(ending) => return Ok(TurnEnd::Finished(ending)),
             }
             left -= 1;
         }
-        Ok(Stop::Over(Ending::Returned))
+        Ok(TurnEnd::Finished(Ending::Returned))
     }
 
     /// The run from the first operator on, with this many turns.
     fn run(&mut self, table: &Table<'a>, turns: u64) -> Result<Ending, AllocError>
         ensures { IfOk result (λ ending.
-            run_on table.now self.old (M.bounded_run length turns (place_at table.now 0))
-            ≡ run_on table.now self.new (λ _ _. M.ends (ending_of ending))) }
+            continued_run table.now self.old (M.bounded_run length turns (place_at table.now 0))
+            ≡ continued_run table.now self.new (λ _ _. M.ends (ending_of ending))) }
     {
         let mut place: usize = 0;
         let mut left = turns;
         'turns: loop {
             match self.turn(table, place)? {
-                Stop::Over(ending) => return Ok(ending),
-                Stop::Turn(next) => {
+                TurnEnd::Finished(ending) => return Ok(ending),
+                TurnEnd::Turn(next) => {
                     if left == 0 {
                         return Ok(Ending::TurnsOut);
                     }

@@ -8,7 +8,7 @@ ghost use Rattle.walrus_machine.specs.Tracing.{label_of, response_of};
 
 use crate::machine::control::{Construct, Control};
 use crate::machine::label::{Label, Response};
-use crate::machine::table::{Table, Wanted, has_tag};
+use crate::machine::table::{Sought, Table, has_tag};
 use crate::named_op::NamedCatch;
 use std::collections::BTreeSet;
 use walrus_ir::TagId;
@@ -41,7 +41,7 @@ fn catch(table: &Table<'_>, opener: usize, tags: &BTreeSet<TagId>) -> Response
     ensures { response_of table.now result ≡ M.try_responds tags.now.keys
         (M.seek (M.catches tags.now.keys) 0 0 (place_at table.now (opener + 1))) }
 {
-    let found = table.seek(Wanted::Clause(tags), opener);
+    let found = table.seek(Sought::Clause(tags), opener);
     let Some(control) = table.control(found.position) else {
         return Response::Passes;
     };

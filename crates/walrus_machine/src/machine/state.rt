@@ -4,7 +4,7 @@ ghost use Rattle.std.specs.Prelude.{IfOk, IfNone, IfSome, OnSome};
 ghost use Rattle.wasm_body.specs.Control.{Control as Meaning};
 ghost use Rattle.wasm_body.specs.Machine as M;
 ghost use Rattle.walrus_machine.specs.Runs.{outcome_of};
-ghost use Rattle.walrus_machine.specs.Tracing.{label_of, opens, caught_in, Does, Finds, Leads};
+ghost use Rattle.walrus_machine.specs.Tracing.{label_of, opens, caught_in, Does, Finds, ContinuesAs};
 
 use crate::machine::control::Construct;
 use crate::machine::label::{Label, Response};
@@ -29,11 +29,11 @@ pub struct State<'a> {
 #[derive(Drop)]
 pub enum Next {
     /// The run goes on at the place with this position.
-    On(usize),
+    Continue(usize),
     /// A branch to a loop: the run goes on at this place, and a turn is used up.
     Turn(usize),
     /// The run ends.
-    Over(Ending),
+    Finished(Ending),
 }
 
 impl<'a> State<'a> {
@@ -56,7 +56,7 @@ impl<'a> State<'a> {
     }
 
     /// Takes the next outcome; none if none remains.
-    pub fn ask(&mut self) -> Option<&'a Outcome>
+    pub fn next_outcome(&mut self) -> Option<&'a Outcome>
         ensures none { IfNone result (Finds self.old self.new (λ _ k ls o. k ls [])) }
         ensures some { IfSome result (λ x. Finds self.old self.new (λ _ k ls o.
             k ls (outcome_of x.now ∷ o))) }
@@ -103,28 +103,28 @@ impl<'a> State<'a> {
     /// or out of the function.
     pub fn branch(&mut self, table: &Table<'_>, n: u32) -> Result<Next, AllocError>
         ensures { IfOk result (λ next.
-            Leads table.now (λ again go. M.branch again go n) self.old next self.new) }
+            ContinuesAs table.now (λ again go. M.branch again go n) self.old next self.new) }
     {
         self.close(n);
         let Some(label) = self.leave_label() else {
-            return Ok(Next::Over(Ending::Returned));
+            return Ok(Next::Finished(Ending::Returned));
         };
         match label.construct {
             Construct::Loop => {
                 self.open(label)?;
                 Ok(Next::Turn(label.opener + 1))
             }
-            _ => Ok(Next::On(table.behind_closer(label.opener))),
+            _ => Ok(Next::Continue(table.after_closer(label.opener))),
         }
     }
 
     /// The end of a sequence: leads past the closer of its construct, or out of the function.
     pub fn leave(&mut self, table: &Table<'_>) -> Next
-        ensures { Leads table.now (λ again go. M.leave go) self.old result self.new }
+        ensures { ContinuesAs table.now (λ again go. M.leave go) self.old result self.new }
     {
         match self.leave_label() {
-            None => Next::Over(Ending::Returned),
-            Some(label) => Next::On(table.behind_closer(label.opener)),
+            None => Next::Finished(Ending::Returned),
+            Some(label) => Next::Continue(table.after_closer(label.opener)),
         }
     }
 
@@ -134,7 +134,7 @@ impl<'a> State<'a> {
         table: &Table<'_>,
         tags: &'a BTreeSet<TagId>,
     ) -> Result<Next, AllocError>
-        ensures { IfOk result (λ next. Leads table.now (λ again go ls o.
+        ensures { IfOk result (λ next. ContinuesAs table.now (λ again go ls o.
             M.raise again go tags.now.keys ls o 0) self.old next self.new) }
     {
         'labels: while let Some(label) = self.leave_label() {
@@ -153,12 +153,12 @@ impl<'a> State<'a> {
                 Response::Enters { clause, tag, place } => {
                     self.taken(label.opener, clause, tag)?;
                     self.open(label.handler(tags))?;
-                    return Ok(Next::On(place));
+                    return Ok(Next::Continue(place));
                 }
             }
         }
         let tags = tags.clone()?;
-        Ok(Next::Over(Ending::Escaped(tags)))
+        Ok(Next::Finished(Ending::Escaped(tags)))
     }
 
     /// The tags that the handler of a label caught; none if the label isn't that of a handler.

@@ -4,13 +4,13 @@ ghost use Rattle.wasm_body.specs.Control as C;
 ghost use Rattle.wasm_body.specs.Machine as M;
 ghost use Rattle.walrus_machine.specs.Controls.{action_meaning, construct_meaning, control_meaning};
 ghost use Rattle.walrus_machine.specs.Tables.{place_at};
-ghost use Rattle.walrus_machine.specs.Tracing.{opened, Does, Leads, Steps};
+ghost use Rattle.walrus_machine.specs.Tracing.{opened, Does, ContinuesAs, Steps};
 
 use crate::machine::control::{Action, Construct, Control};
 use crate::machine::label::Label;
 use crate::machine::run::{Ending, Outcome};
 use crate::machine::state::{Next, State};
-use crate::machine::table::{Table, Wanted, has_tag};
+use crate::machine::table::{Sought, Table, has_tag};
 use std::alloc::AllocError;
 use walrus_ir::TagId;
 
@@ -21,24 +21,24 @@ impl<'a> State<'a> {
         ensures { IfOk result (λ next.
             Steps table.now (C.Does C.Plain) position self.old next self.new) }
     {
-        let Some(outcome) = self.ask() else {
-            return Ok(Next::Over(Ending::OutcomesOut));
+        let Some(outcome) = self.next_outcome() else {
+            return Ok(Next::Finished(Ending::OutcomesOut));
         };
         match outcome {
             Outcome::Go => {
                 self.executed(position)?;
-                Ok(Next::On(position + 1))
+                Ok(Next::Continue(position + 1))
             }
             Outcome::Trap => {
                 self.executed(position)?;
-                Ok(Next::Over(Ending::Trapped))
+                Ok(Next::Finished(Ending::Trapped))
             }
             Outcome::Raise(tags) => {
                 self.executed(position)?;
                 let next = self.raise(table, tags)?;
                 Ok(next)
             }
-            Outcome::Way(_) | Outcome::Entry(_) => Ok(Next::Over(Ending::Mismatch)),
+            Outcome::Way(_) | Outcome::Entry(_) => Ok(Next::Finished(Ending::Mismatch)),
         }
     }
 
@@ -47,19 +47,19 @@ impl<'a> State<'a> {
         ensures { IfOk result (λ next.
             Steps table.now (C.Does (C.Throw tag)) position self.old next self.new) }
     {
-        let Some(outcome) = self.ask() else {
-            return Ok(Next::Over(Ending::OutcomesOut));
+        let Some(outcome) = self.next_outcome() else {
+            return Ok(Next::Finished(Ending::OutcomesOut));
         };
         match outcome {
             Outcome::Raise(tags) => {
                 if !has_tag(tags, tag) {
-                    return Ok(Next::Over(Ending::Mismatch));
+                    return Ok(Next::Finished(Ending::Mismatch));
                 }
                 self.executed(position)?;
                 let next = self.raise(table, tags)?;
                 Ok(next)
             }
-            Outcome::Go | Outcome::Trap | Outcome::Way(_) | Outcome::Entry(_) => Ok(Next::Over(
+            Outcome::Go | Outcome::Trap | Outcome::Way(_) | Outcome::Entry(_) => Ok(Next::Finished(
                 Ending::Mismatch,
             )),
         }
@@ -70,20 +70,22 @@ impl<'a> State<'a> {
         ensures { IfOk result (λ next.
             Steps table.now (C.Does C.ThrowRef) position self.old next self.new) }
     {
-        let Some(outcome) = self.ask() else {
-            return Ok(Next::Over(Ending::OutcomesOut));
+        let Some(outcome) = self.next_outcome() else {
+            return Ok(Next::Finished(Ending::OutcomesOut));
         };
         match outcome {
             Outcome::Trap => {
                 self.executed(position)?;
-                Ok(Next::Over(Ending::Trapped))
+                Ok(Next::Finished(Ending::Trapped))
             }
             Outcome::Raise(tags) => {
                 self.executed(position)?;
                 let next = self.raise(table, tags)?;
                 Ok(next)
             }
-            Outcome::Go | Outcome::Way(_) | Outcome::Entry(_) => Ok(Next::Over(Ending::Mismatch)),
+            Outcome::Go | Outcome::Way(_) | Outcome::Entry(_) => Ok(Next::Finished(
+                Ending::Mismatch,
+            )),
         }
     }
 
@@ -92,19 +94,19 @@ impl<'a> State<'a> {
         ensures { IfOk result (λ next.
             Steps table.now (C.Does C.TailCall) position self.old next self.new) }
     {
-        let Some(outcome) = self.ask() else {
-            return Ok(Next::Over(Ending::OutcomesOut));
+        let Some(outcome) = self.next_outcome() else {
+            return Ok(Next::Finished(Ending::OutcomesOut));
         };
         match outcome {
             Outcome::Go => {
                 self.executed(position)?;
-                Ok(Next::Over(Ending::TailCalled))
+                Ok(Next::Finished(Ending::TailCalled))
             }
             Outcome::Trap => {
                 self.executed(position)?;
-                Ok(Next::Over(Ending::Trapped))
+                Ok(Next::Finished(Ending::Trapped))
             }
-            Outcome::Raise(_) | Outcome::Way(_) | Outcome::Entry(_) => Ok(Next::Over(
+            Outcome::Raise(_) | Outcome::Way(_) | Outcome::Entry(_) => Ok(Next::Finished(
                 Ending::Mismatch,
             )),
         }
@@ -121,8 +123,8 @@ impl<'a> State<'a> {
         ensures { IfOk result (λ next.
             Steps table.now (C.Does (C.ConditionalBranch n)) position self.old next self.new) }
     {
-        let Some(outcome) = self.ask() else {
-            return Ok(Next::Over(Ending::OutcomesOut));
+        let Some(outcome) = self.next_outcome() else {
+            return Ok(Next::Finished(Ending::OutcomesOut));
         };
         match outcome {
             Outcome::Way(taken) => {
@@ -131,12 +133,12 @@ impl<'a> State<'a> {
                     let next = self.branch(table, n)?;
                     Ok(next)
                 } else {
-                    Ok(Next::On(position + 1))
+                    Ok(Next::Continue(position + 1))
                 }
             }
-            Outcome::Go | Outcome::Trap | Outcome::Raise(_) | Outcome::Entry(_) => Ok(Next::Over(
-                Ending::Mismatch,
-            )),
+            Outcome::Go | Outcome::Trap | Outcome::Raise(_) | Outcome::Entry(_) => Ok(
+                Next::Finished(Ending::Mismatch),
+            ),
         }
     }
 
@@ -152,8 +154,8 @@ impl<'a> State<'a> {
             Steps table.now (C.Does (C.TableBranch targets.now default)) position
             self.old next self.new) }
     {
-        let Some(outcome) = self.ask() else {
-            return Ok(Next::Over(Ending::OutcomesOut));
+        let Some(outcome) = self.next_outcome() else {
+            return Ok(Next::Finished(Ending::OutcomesOut));
         };
         match outcome {
             Outcome::Entry(k) => {
@@ -161,7 +163,7 @@ impl<'a> State<'a> {
                 let next = self.branch(table, target(targets, default, *k))?;
                 Ok(next)
             }
-            Outcome::Go | Outcome::Trap | Outcome::Raise(_) | Outcome::Way(_) => Ok(Next::Over(
+            Outcome::Go | Outcome::Trap | Outcome::Raise(_) | Outcome::Way(_) => Ok(Next::Finished(
                 Ending::Mismatch,
             )),
         }
@@ -174,7 +176,7 @@ impl<'a> State<'a> {
     {
         self.executed(position)?;
         match self.caught_at(n) {
-            None => Ok(Next::Over(Ending::Mismatch)),
+            None => Ok(Next::Finished(Ending::Mismatch)),
             Some(tags) => {
                 let next = self.raise(table, tags)?;
                 Ok(next)
@@ -205,21 +207,21 @@ impl<'a> State<'a> {
     /// there is no `else`.
     fn other_way(&mut self, table: &Table<'_>, position: usize) -> Result<Next, AllocError>
         requires { position + 1 < 2 ^ 64 }
-        ensures { IfOk result (λ next. Leads table.now (λ _ go ls o.
+        ensures { IfOk result (λ next. ContinuesAs table.now (λ _ go ls o.
             M.other_way go (opened table.now C.If position) ls o
             (M.seek M.is_else 0 0 (place_at table.now (position + 1)))) self.old next self.new) }
     {
-        let found = table.seek(Wanted::Else, position);
+        let found = table.seek(Sought::Else, position);
         let Some(control) = table.control(found.position) else {
-            return Ok(Next::Over(Ending::Returned));
+            return Ok(Next::Finished(Ending::Returned));
         };
-        let behind = found.position + 1;
+        let following = found.position + 1;
         match control {
             Control::Else => {
                 self.open_construct(&Construct::If, position)?;
-                Ok(Next::On(behind))
+                Ok(Next::Continue(following))
             }
-            _ => Ok(Next::On(behind)),
+            _ => Ok(Next::Continue(following)),
         }
     }
 
@@ -229,22 +231,22 @@ impl<'a> State<'a> {
         ensures { IfOk result (λ next.
             Steps table.now (C.Opens C.If) position self.old next self.new) }
     {
-        let Some(outcome) = self.ask() else {
-            return Ok(Next::Over(Ending::OutcomesOut));
+        let Some(outcome) = self.next_outcome() else {
+            return Ok(Next::Finished(Ending::OutcomesOut));
         };
         match outcome {
             Outcome::Way(taken) => {
                 self.executed(position)?;
                 if *taken {
                     self.open_construct(&Construct::If, position)?;
-                    Ok(Next::On(position + 1))
+                    Ok(Next::Continue(position + 1))
                 } else {
                     let next = self.other_way(table, position)?;
                     Ok(next)
                 }
             }
             Outcome::Go | Outcome::Trap | Outcome::Raise(_) | Outcome::Entry(_) => {
-                Ok(Next::Over(Ending::Mismatch))
+                Ok(Next::Finished(Ending::Mismatch))
             }
         }
     }
@@ -268,7 +270,7 @@ impl<'a> State<'a> {
             _ => {
                 self.executed(position)?;
                 self.open_construct(construct, position)?;
-                Ok(Next::On(position + 1))
+                Ok(Next::Continue(position + 1))
             }
         }
     }
@@ -285,7 +287,7 @@ impl<'a> State<'a> {
             Steps table.now (C.Does (action_meaning action.now)) position self.old next self.new) }
     {
         match action {
-            Action::Nop => Ok(Next::On(position + 1)),
+            Action::Nop => Ok(Next::Continue(position + 1)),
             Action::Plain => {
                 let next = self.plain(table, position)?;
                 Ok(next)
@@ -305,11 +307,11 @@ impl<'a> State<'a> {
             }
             Action::Return => {
                 self.executed(position)?;
-                Ok(Next::Over(Ending::Returned))
+                Ok(Next::Finished(Ending::Returned))
             }
             Action::Unreachable => {
                 self.executed(position)?;
-                Ok(Next::Over(Ending::Trapped))
+                Ok(Next::Finished(Ending::Trapped))
             }
             Action::Throw(tag) => {
                 let next = self.throw(table, position, *tag)?;

@@ -3,10 +3,10 @@
 ghost use Rattle.std.specs.Prelude.{◌≡◌, ◌+◌, ◌<◌, ◌≤◌, ℕ, List, length, map, slice_get};
 ghost use Rattle.std.specs.Prelude.{Some, true, IfOk};
 ghost use Rattle.wasm_body.specs.Control.{Control as Meaning};
-ghost use Rattle.wasm_body.specs.Machine.{found, has, behind_closer};
+ghost use Rattle.wasm_body.specs.Machine.{found, has, after_closer};
 ghost use Rattle.wasm_body.specs.Machine as M;
 ghost use Rattle.walrus_machine.specs.Controls.{control_meaning};
-ghost use Rattle.walrus_machine.specs.Tables.{place_at, IsAhead, StandAhead, AreAhead};
+ghost use Rattle.walrus_machine.specs.Tables.{place_at, IsAhead, LevelsAhead, AreAhead};
 ghost use Rattle.walrus_machine.specs.Tables.{control_at, test_of, passes};
 
 use crate::machine::control::Control;
@@ -21,7 +21,7 @@ pub struct Ahead {
     /// The next part of the construct, or its closer.
     pub part: usize,
     /// The place after the construct's closer.
-    pub behind: usize,
+    pub following: usize,
 }
 
 /// The same for each construct around a place, the innermost last.
@@ -36,14 +36,14 @@ pub struct Levels {
 impl Levels {
     /// The next part and the end of the innermost construct.
     fn innermost(&self) -> Ahead
-        ensures { (cs : List Meaning) → (place : ℕ) → StandAhead cs place self.now
+        ensures { (cs : List Meaning) → (place : ℕ) → LevelsAhead cs place self.now
             → IsAhead cs 0 place result }
     {
         match self.levels.last() {
             Some(ahead) => *ahead,
             None => Ahead {
                 part: self.end,
-                behind: self.end,
+                following: self.end,
             },
         }
     }
@@ -54,8 +54,8 @@ impl Levels {
         ensures end { self.new.end ≡ self.old.end }
         ensures levels { IfOk result (λ _. (cs : List Meaning)
             → slice_get cs position ≡ Some (control_meaning control.now)
-            → StandAhead cs (position + 1) self.old
-            → StandAhead cs position self.new) }
+            → LevelsAhead cs (position + 1) self.old
+            → LevelsAhead cs position self.new) }
     {
         match control {
             Control::Does(_) => {}
@@ -63,17 +63,17 @@ impl Levels {
                 self.levels.pop();
             }
             Control::Else | Control::Catch(_) | Control::CatchAll => {
-                let behind = self.innermost().behind;
+                let following = self.innermost().following;
                 self.levels.pop();
                 self.levels.push(Ahead {
                     part: position,
-                    behind,
+                    following,
                 })?;
             }
             Control::End | Control::Delegate(_) => {
                 self.levels.push(Ahead {
                     part: position,
-                    behind: position + 1,
+                    following: position + 1,
                 })?;
             }
         }
@@ -83,7 +83,7 @@ impl Levels {
 
 /// Which part of a construct is searched for.
 #[derive(Clone, Copy)]
-pub enum Wanted<'a> {
+pub enum Sought<'a> {
     /// An `else`.
     Else,
     /// A clause that catches an exception with these tags.
@@ -98,15 +98,15 @@ pub fn has_tag(tags: &BTreeSet<TagId>, tag: TagId) -> bool
     tags.contains(&tag)
 }
 
-impl Wanted<'_> {
+impl Sought<'_> {
     /// Whether this operator is the wanted part.
     fn is(self, control: &Control<'_>) -> bool
         ensures { result ≡ test_of self.entry (control_meaning control.now) }
     {
         match (self, control) {
-            (Wanted::Else, Control::Else) => true,
-            (Wanted::Clause(tags), Control::Catch(tag)) => has_tag(tags, *tag),
-            (Wanted::Clause(_), Control::CatchAll) => true,
+            (Sought::Else, Control::Else) => true,
+            (Sought::Clause(tags), Control::Catch(tag)) => has_tag(tags, *tag),
+            (Sought::Clause(_), Control::CatchAll) => true,
             _ => false,
         }
     }
@@ -202,24 +202,24 @@ impl<'a> Table<'a> {
     }
 
     /// The place after the closer of the construct that is opened at a position.
-    pub fn behind_closer(&self, opener: usize) -> usize
-        ensures { place_at self.now result ≡ behind_closer (place_at self.now (opener + 1)) }
+    pub fn after_closer(&self, opener: usize) -> usize
+        ensures { place_at self.now result ≡ after_closer (place_at self.now (opener + 1)) }
     {
         match self.ahead.get(opener) {
-            Some(ahead) => ahead.behind,
+            Some(ahead) => ahead.following,
             None => opener,
         }
     }
 
     /// The first wanted part, or else the closer, of the construct that is opened at a position.
-    pub fn seek(&self, wanted: Wanted<'_>, opener: usize) -> Found
-        ensures { M.seek (test_of wanted.entry) 0 0 (place_at self.now (opener + 1))
+    pub fn seek(&self, sought: Sought<'_>, opener: usize) -> Found
+        ensures { M.seek (test_of sought.entry) 0 0 (place_at self.now (opener + 1))
             ≡ found result.passed (place_at self.now result.position) }
     {
         let mut passed: usize = 0;
         let mut position = self.part(opener);
         'parts: while let Some(control) = self.control(position) {
-            if !wanted.passes(control) {
+            if !sought.passes(control) {
                 return Found { passed, position };
             }
             passed += 1;

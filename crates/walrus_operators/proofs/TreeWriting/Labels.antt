@@ -3,7 +3,7 @@ use Rattle.std.specs.Prelude.{◌≡◌, ℕ, List, [], ◌∷◌, length, map, 
 use Rattle.std.proofs.Common.{refl, sym, ap, ◌∙◌}
 use Rattle.std.proofs.lemmas.List.{length-map}
 use Rattle.walrus_ir.specs.Clauses.{Targets, Guarded}
-use Rattle.walrus_ir.specs.Results.{◌>>=◌, each, sure}
+use Rattle.walrus_ir.specs.Results.{◌>>=◌, each, infallible}
 use Rattle.walrus_ir.specs.declared.control.TryTableCatch.{TryTableCatch}
 use Rattle.walrus_ir.specs.declared.val_type.InstrSeqType.{InstrSeqType}
 use Rattle.walrus_ir.specs.declared.instr.Instr.{Instr}
@@ -17,10 +17,10 @@ use Rattle.wasm_body.specs.Bytes.{Numbers, numbers_in_32_bits, numbered_block, n
 use Rattle.wasm_body.specs.FlatText.{exponent_of, then_by, typed}
 use Rattle.wasm_body.specs.Naming.{block_types}
 use Rattle.wasm_body.specs.Translation.{Translation, translate, translate_clause, translate_immediates}
-use Rattle.wasm_body.specs.TreeOfFunction.{target_in, aiming}
+use Rattle.wasm_body.specs.TreeOfFunction.{target_in, to_targets}
 use Rattle.wasm_body.specs.FunctionTree.{Target}
 use Rattle.wasm_body.specs.InstructionTable.{PlacedImmediate, table_clause, operation_of}
-use Rattle.wasm_body.proofs.Translation.Steps.{Leads, all_of, ok-sure}
+use Rattle.wasm_body.proofs.Translation.Steps.{Leads, all_of, ok-infallible}
 use Rattle.wasm_body.proofs.Translation.Translations.{LeadAll, lead_all, translate_leads}
 use Rattle.walrus_emit_state.specs.TreeWriting.Labels.{numbered_table, numbered_clause, numbered_clauses}
 use Rattle.walrus_operators.specs.TreeWriting.Operators.{numbered_operator}
@@ -55,7 +55,7 @@ module _ (to : Numbers) (around : List ℕ) (type : InstrSeqType) where
   abbrev by_place : Translation ℕ (Unit {0}) ℕ BlockType EmitError
   by_place = from_places to around type
 
-  all_lead : LeadAll (aiming around) by_target by_place
+  all_lead : LeadAll (to_targets around) by_target by_place
   all_lead = record {
     indices = λ space n q e. same_number (by_place.index space) n q e;
     locals = λ n q e. same_number by_place.local n q e;
@@ -73,10 +73,10 @@ module _ (to : Numbers) (around : List ℕ) (type : InstrSeqType) where
   by_places : (i : Instr) → numbered_operator to around type i ≡ translate by_place (operation_of i)
   by_places i =
       let is : List PlacedImmediate = (operation_of i).immediates in
-      let blocks = all_of (Leads (aiming around).block by_target.block by_place.block) (λ b c e. refl) (block_types is) in
-      let leads = lead_all (aiming around) by_target by_place all_lead is blocks in
-      let aimed = translate_immediates (aiming around) is in
-      ap (with_opcode i) (translate_leads (aiming around) by_target by_place is leads (sure aimed) (ok-sure aimed))
+      let blocks = all_of (Leads (to_targets around).block by_target.block by_place.block) (λ b c e. refl) (block_types is) in
+      let leads = lead_all (to_targets around) by_target by_place all_lead is blocks in
+      let with_targets = translate_immediates (to_targets around) is in
+      ap (with_opcode i) (translate_leads (to_targets around) by_target by_place is leads (infallible with_targets) (ok-infallible with_targets))
 
 -- ---- the labels of a `br_table`
 
@@ -108,9 +108,9 @@ table_written to around type i x r is labels =
 
 -- ---- the clauses of a `try_table`
 
-each_behind : {A B C E : Type 0} → (f : A → B) (g : B → Result C E) (xs : List A) → each g (map f xs) ≡ each (λ x. g (f x)) xs
-each_behind f g [] = refl
-each_behind f g (x ∷ xs) = ap (λ r. g (f x) >>= λ y. r >>= λ ys. Ok (y ∷ ys)) (each_behind f g xs)
+each_after : {A B C E : Type 0} → (f : A → B) (g : B → Result C E) (xs : List A) → each g (map f xs) ≡ each (λ x. g (f x)) xs
+each_after f g [] = refl
+each_after f g (x ∷ xs) = ap (λ r. g (f x) >>= λ y. r >>= λ ys. Ok (y ∷ ys)) (each_after f g xs)
 
 -- the operator with this block type and these clauses, if they were found
 abbrev pub try_operator : Result BlockType EmitError → Result (List (CatchClause ℕ)) EmitError → Result RawOperation EmitError
@@ -134,6 +134,6 @@ try_written to around type i x r is cs =
     let each_clause = translate_clause (from_places to around type) in
     ap (numbered_operator to around type) is ∙ by_places to around type (TryTable x)
     ∙ ap (λ n. try_by_parts (numbered_block to type) (in_32_bits n) (each each_clause (map table_clause x.catches))) (length-map x.catches table_clause)
-    ∙ ap (λ ds. try_by_parts (numbered_block to type) (in_32_bits (length x.catches)) ds) (each_behind table_clause each_clause x.catches)
+    ∙ ap (λ ds. try_by_parts (numbered_block to type) (in_32_bits (length x.catches)) ds) (each_after table_clause each_clause x.catches)
     ∙ try_is (numbered_block to type) (in_32_bits (length x.catches)) (each (numbered_clause to around) x.catches)
     ∙ ap (try_operator (numbered_block to type)) cs

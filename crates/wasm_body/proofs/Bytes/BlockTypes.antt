@@ -88,21 +88,21 @@ module _ {L B M C E : Type 0} (t : Translation L B M C E) where
   abbrev pub FromBlock : C → Type 0
   FromBlock c = (b : B) × (t.block b ≡ Ok c)
 
-  behind_others : (j : Immediate M C) (js : List (Immediate M C)) → is_block j ≡ false → AllByRecursion FromBlock (block_types js) → AllByRecursion FromBlock (block_types (j ∷ js))
-  behind_others (block c) js e h = absurd cc
-  behind_others _ js e h = h
+  after_others : (j : Immediate M C) (js : List (Immediate M C)) → is_block j ≡ false → AllByRecursion FromBlock (block_types js) → AllByRecursion FromBlock (block_types (j ∷ js))
+  after_others (block c) js e h = absurd cc
+  after_others _ js e h = h
 
-  behind_block : (b : B) (j : Immediate M C) (js : List (Immediate M C)) → translate_immediate t (block b) ≡ Ok j → AllByRecursion FromBlock (block_types js) → AllByRecursion FromBlock (block_types (j ∷ js))
-  behind_block b j js e h =
+  after_block : (b : B) (j : Immediate M C) (js : List (Immediate M C)) → translate_immediate t (block b) ≡ Ok j → AllByRecursion FromBlock (block_types js) → AllByRecursion FromBlock (block_types (j ∷ js))
+  after_block b j js e h =
       let c = bound (t.block b) (λ c. Ok (block c)) j e in
       let made : block c.0 ≡ j = cc c.2 in
       subst (λ i. AllByRecursion FromBlock (block_types (i ∷ js))) made ((b, c.1), h)
 
-  behind_first : (i : Immediate L B) (j : Immediate M C) (js : List (Immediate M C)) → translate_immediate t i ≡ Ok j → AllByRecursion FromBlock (block_types js) → AllByRecursion FromBlock (block_types (j ∷ js))
-  behind_first (block b) j js e h = behind_block b j js e h
-  behind_first (branch_table ts d) j js e h = behind_others j js (block_kept (branch_table ts d) j e) h
-  behind_first (clauses cs) j js e h = behind_others j js (block_kept (clauses cs) j e) h
-  behind_first i j js e h = behind_others j js (block_kept i j e) h
+  after_first : (i : Immediate L B) (j : Immediate M C) (js : List (Immediate M C)) → translate_immediate t i ≡ Ok j → AllByRecursion FromBlock (block_types js) → AllByRecursion FromBlock (block_types (j ∷ js))
+  after_first (block b) j js e h = after_block b j js e h
+  after_first (branch_table ts d) j js e h = after_others j js (block_kept (branch_table ts d) j e) h
+  after_first (clauses cs) j js e h = after_others j js (block_kept (clauses cs) j e) h
+  after_first i j js e h = after_others j js (block_kept i j e) h
 
   pub blocks_from : (is : List (Immediate L B)) (js : List (Immediate M C)) → translate_immediates t is ≡ Ok js → AllByRecursion FromBlock (block_types js)
   blocks_from [] js e = let made : [] ≡ js = cc e in subst (λ ks. AllByRecursion FromBlock (block_types ks)) made tt
@@ -110,4 +110,4 @@ module _ {L B M C E : Type 0} (t : Translation L B M C E) where
       let first = bound (translate_immediate t i) (λ k. each (translate_immediate t) is >>= λ ks. Ok (k ∷ ks)) js e in
       let others = bound (each (translate_immediate t) is) (λ ks. Ok (first.0 ∷ ks)) js first.2 in
       let made : first.0 ∷ others.0 ≡ js = cc others.2 in
-      subst (λ ks. AllByRecursion FromBlock (block_types ks)) made (behind_first i first.0 others.0 first.1 (blocks_from is others.0 others.1))
+      subst (λ ks. AllByRecursion FromBlock (block_types ks)) made (after_first i first.0 others.0 first.1 (blocks_from is others.0 others.1))

@@ -34,24 +34,24 @@ is_delegate _ = false
 
 -- ---- their immediates
 
-abbrev pub Asks : Role → List Kind → Type 0
-Asks a_catch ks = ks ≡ an_index Tags ∷ []
-Asks a_delegate ks = ks ≡ an_outer ∷ []
-Asks _ ks = Unit {0}
+abbrev pub Needs : Role → List Kind → Type 0
+Needs a_catch ks = ks ≡ an_index Tags ∷ []
+Needs a_delegate ks = ks ≡ an_outer ∷ []
+Needs _ ks = Unit {0}
 
-catch_asks : (o : Opcode) (ks : List Kind) → kinds_of o ≡ Some ks → role_of o ≡ a_catch → ks ≡ an_index Tags ∷ []
+catch_needs : (o : Opcode) (ks : List Kind) → kinds_of o ≡ Some ks → role_of o ≡ a_catch → ks ≡ an_index Tags ∷ []
 unfolding kinds_of_byte
-catch_asks o ks e h =
+catch_needs o ks e h =
     let found : Some (an_index Tags ∷ []) ≡ Some ks = ap kinds_of (sym (the_opcode is_catch refl 0x07 refl refl o (ap is_catch h))) ∙ e in
     let same : an_index Tags ∷ [] ≡ ks = cc found in sym same
 
-pub delegate_asks : (o : Opcode) (ks : List Kind) → kinds_of o ≡ Some ks → role_of o ≡ a_delegate → ks ≡ an_outer ∷ []
+pub delegate_needs : (o : Opcode) (ks : List Kind) → kinds_of o ≡ Some ks → role_of o ≡ a_delegate → ks ≡ an_outer ∷ []
 unfolding kinds_of_byte
-delegate_asks o ks e h =
+delegate_needs o ks e h =
     let found : Some (an_outer ∷ []) ≡ Some ks = ap kinds_of (sym (the_opcode is_delegate refl 0x18 refl refl o (ap is_delegate h))) ∙ e in
     let same : an_outer ∷ [] ≡ ks = cc found in sym same
 
-pub asks : (o : Opcode) (ks : List Kind) → kinds_of o ≡ Some ks → (r : Role) → role_of o ≡ r → Asks r ks
-asks o ks e a_catch h = catch_asks o ks e h
-asks o ks e a_delegate h = delegate_asks o ks e h
-asks o ks e _ h = tt
+pub needs : (o : Opcode) (ks : List Kind) → kinds_of o ≡ Some ks → (r : Role) → role_of o ≡ r → Needs r ks
+needs o ks e a_catch h = catch_needs o ks e h
+needs o ks e a_delegate h = delegate_needs o ks e h
+needs o ks e _ h = tt

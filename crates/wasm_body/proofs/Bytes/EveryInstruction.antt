@@ -9,7 +9,7 @@ use Rattle.walrus_ir.specs.declared.val_type.ValType.{ValType}
 use Rattle.wasm_operators.specs.declared.types.AtomicKind.TheVariants.{Notify, Rmw, Cmpxchg}
 use Rattle.wasm_operators.specs.declared.types.Opcode.{Opcode}
 use Rattle.wasm_operators.specs.Immediates.{Kind}
-use Rattle.wasm_operators.specs.Opcodes.{kinds_of_byte, kinds_behind, kinds_of}
+use Rattle.wasm_operators.specs.Opcodes.{kinds_of_byte, kinds_after, kinds_of}
 use Rattle.wasm_operators.specs.ReferenceOperations.{by_null}
 use Rattle.wasm_operators.proofs.Written.{kinds_of_unary, kinds_of_binary, kinds_of_ternary, kinds_of_load, kinds_of_store, kinds_of_vector_access, kinds_of_atomic}
 use Rattle.wasm_body.specs.InstructionTable.{access_at, const_operation, select_operation, wait_kind, operation_of}
@@ -18,7 +18,7 @@ abbrev pub IsCarriedOpcode : Opcode → Type 0
 IsCarriedOpcode o = (kinds : List Kind) × (kinds_of o ≡ Some kinds)
 
 constant_carried : (v : Value) → IsCarriedOpcode (const_operation v).opcode
-unfolding kinds_of_byte kinds_behind
+unfolding kinds_of_byte kinds_after
 constant_carried (I32 z) = (_, refl)
 constant_carried _ = (_, refl)
 
@@ -28,17 +28,17 @@ select_carried None = (_, refl)
 select_carried (Some t) = (_, refl)
 
 test_carried : (nullable : Bool) → IsCarriedOpcode (by_null nullable 20 21)
-unfolding kinds_behind
+unfolding kinds_after
 test_carried false = (_, refl)
 test_carried true = (_, refl)
 
 cast_carried : (nullable : Bool) → IsCarriedOpcode (by_null nullable 22 23)
-unfolding kinds_behind
+unfolding kinds_after
 cast_carried false = (_, refl)
 cast_carried true = (_, refl)
 
 pub instruction_carried : (i : Instr) → IsCarriedOpcode (operation_of i).opcode
-unfolding kinds_of_byte kinds_behind
+unfolding kinds_of_byte kinds_after
 instruction_carried (instr.Const x) = constant_carried x.value
 instruction_carried (instr.Select x) = select_carried x.ty
 instruction_carried (instr.RefTest x) = test_carried x.nullable

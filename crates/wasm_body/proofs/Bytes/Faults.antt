@@ -18,14 +18,14 @@ use Rattle.wasm_body.specs.declared.error.EmitError.TheVariants.{TooLarge}
 use Rattle.wasm_body.specs.Translation.{translate_heap, translate_value}
 use Rattle.wasm_body.specs.Bytes.{Numbers, in_32_bits, numbers_in_32_bits, numbered_block}
 use Rattle.wasm_body.specs.LocalNumbers.{types_of, runs, declaration, declarations, declared}
-use Rattle.wasm_body.specs.EmissionFaults.{IsUnnumbered, IsNumber, AreIdNumbers, EmissionFaults, DeclarationFaults}
-use Rattle.wasm_body.proofs.Translation.Answering.{ok_no_fault, steps_within, last_within, each_within}
+use Rattle.wasm_body.specs.EmissionFaults.{HasNoNumber, IsNumber, AreIdNumbers, EmissionFaults, DeclarationFaults}
+use Rattle.wasm_body.proofs.Translation.Faults.{ok_no_fault, steps_within, last_within, each_within}
 use Rattle.wasm_body.proofs.Bytes.Fitting.{fits}
 use Rattle.wasm_body.proofs.Bytes.NumberedBodies.{AreNumbered, bytes_within}
 
 -- a number fits
-number_within : (r : Result ℕ EmitError) → IsNumber r → IfErr (r >>= in_32_bits) IsUnnumbered
-number_within (Ok n) h = ok_no_fault IsUnnumbered (in_32_bits n) (fits n h)
+number_within : (r : Result ℕ EmitError) → IsNumber r → IfErr (r >>= in_32_bits) HasNoNumber
+number_within (Ok n) h = ok_no_fault HasNoNumber (in_32_bits n) (fits n h)
 number_within (Err e) h = h
 
 -- ---- types
@@ -34,11 +34,11 @@ module _ (to : Numbers) (are : AreIdNumbers to) where
   abbrev numbered : Space → ℕ → Result ℕ EmitError
   numbered = (numbers_in_32_bits to).number_of
 
-  heap_within : (h : HeapType ℕ) → IfErr (translate_heap numbered h) IsUnnumbered
+  heap_within : (h : HeapType ℕ) → IfErr (translate_heap numbered h) HasNoNumber
   heap_within (Abstract a) = tt
-  heap_within (Concrete n) = last_within IsUnnumbered (numbered Types n) Concrete (number_within (to.number_of Types n) (are Types n))
+  heap_within (Concrete n) = last_within HasNoNumber (numbered Types n) Concrete (number_within (to.number_of Types n) (are Types n))
 
-  value_within : (v : ValType ℕ) → IfErr (translate_value numbered v) IsUnnumbered
+  value_within : (v : ValType ℕ) → IfErr (translate_value numbered v) HasNoNumber
   value_within I32 = tt
   value_within I64 = tt
   value_within F32 = tt
@@ -46,28 +46,28 @@ module _ (to : Numbers) (are : AreIdNumbers to) where
   value_within V128 = tt
   value_within (Ref r) =
       let made : HeapType ℕ → ValType ℕ = λ h. Ref (record { nullable = r.nullable; heap_type = h }) in
-      last_within IsUnnumbered (translate_heap numbered r.heap_type) made (heap_within r.heap_type)
+      last_within HasNoNumber (translate_heap numbered r.heap_type) made (heap_within r.heap_type)
 
-  block_within : (t : InstrSeqType) → IfErr (numbered_block to t) IsUnnumbered
+  block_within : (t : InstrSeqType) → IfErr (numbered_block to t) HasNoNumber
   block_within (Simple None) = tt
-  block_within (Simple (Some v)) = last_within IsUnnumbered (translate_value numbered v) Value (value_within v)
-  block_within (MultiValue id) = last_within IsUnnumbered (numbered Types id) FuncType (number_within (to.number_of Types id) (are Types id))
+  block_within (Simple (Some v)) = last_within HasNoNumber (translate_value numbered v) Value (value_within v)
+  block_within (MultiValue id) = last_within HasNoNumber (numbered Types id) FuncType (number_within (to.number_of Types id) (are Types id))
 
 -- ---- operators
 
 pub emission_faults : EmissionFaults
 emission_faults env xs b spelt lawful to are e h =
-    let numbered : AreNumbered IsUnnumbered env to = record {
+    let numbered : AreNumbered HasNoNumber env to = record {
       indices = λ space n id m. number_within (to.number_of space id) (are.ids space id);
       locals = λ n id m. number_within (to.local_number id) (are.locals id);
       blocks = λ b s t m p. block_within to are.ids t;
     } in
-    subst (λ r. IfErr r IsUnnumbered) h (bytes_within IsUnnumbered env to numbered xs b spelt lawful)
+    subst (λ r. IfErr r HasNoNumber) h (bytes_within HasNoNumber env to numbered xs b spelt lawful)
 
 -- ---- declarations
 
 abbrev OfDeclarations : EmitError → Type 0
-OfDeclarations e = (e ≡ TooLarge) ⊎ IsUnnumbered e
+OfDeclarations e = (e ≡ TooLarge) ⊎ HasNoNumber e
 
 counts_within : (t : Bool) → IfErr (unless t TooLarge) OfDeclarations
 counts_within true = tt
@@ -76,8 +76,8 @@ counts_within false = inl refl
 runs_within : (to : Numbers) → AreIdNumbers to → (rs : List (ℕ × ValType ℕ)) → AllByRecursion (λ r. IfErr (declaration to r) OfDeclarations) rs
 runs_within to are [] = tt
 runs_within to are (r ∷ rs) = (
-  IfErr-weaker (declaration to r) IsUnnumbered OfDeclarations (λ e h. inr h)
-      (last_within IsUnnumbered (translate_value (numbers_in_32_bits to).number_of r.1) (λ t. (r.0, t)) (value_within to are r.1)),
+  IfErr-weaker (declaration to r) HasNoNumber OfDeclarations (λ e h. inr h)
+      (last_within HasNoNumber (translate_value (numbers_in_32_bits to).number_of r.1) (λ t. (r.0, t)) (value_within to are r.1)),
   runs_within to are rs,
 )
 

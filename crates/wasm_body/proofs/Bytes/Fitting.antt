@@ -24,12 +24,12 @@ fitting_is n q e =
     record { same = sym same; below = subst (λ k. k < 2 ^ 32) same (ltb-true n (2 ^ 32) (unless_ok (nat_lt n (2 ^ 32)) TooLarge u.0 u.1)) }
 
 -- a result that fits
-pub record IsFitAnswer (r : Result ℕ EmitError) (q : ℕ) : Type 0 where
-  pub answer : r ≡ Ok q
+pub record IsFittingResult (r : Result ℕ EmitError) (q : ℕ) : Type 0 where
+  pub is_result : r ≡ Ok q
   pub below : q < 2 ^ 32
 
-pub fitting_answer : (r : Result ℕ EmitError) (q : ℕ) → (r >>= in_32_bits) ≡ Ok q → IsFitAnswer r q
-fitting_answer r q e =
+pub fitting_result : (r : Result ℕ EmitError) (q : ℕ) → (r >>= in_32_bits) ≡ Ok q → IsFittingResult r q
+fitting_result r q e =
     let n = bound r in_32_bits q e in
     let fit = fitting_is n.0 q n.2 in
-    record { answer = subst (λ k. r ≡ Ok k) (sym fit.same) n.1; below = fit.below }
+    record { is_result = subst (λ k. r ≡ Ok k) (sym fit.same) n.1; below = fit.below }

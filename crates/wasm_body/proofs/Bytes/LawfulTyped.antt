@@ -15,25 +15,25 @@ use Rattle.wasm_body.specs.Control.{Role, a_block, a_loop, an_if, a_try, a_try_t
 use Rattle.wasm_body.specs.SourceTree.{Sequence, Empty, Single, Wrapped, IfThen, IfElse, TryCatch, TryDelegate, Clauses, Ended, Catches, CatchesAll, construct_of, Body}
 use Rattle.wasm_body.specs.Frames.{Frame, OfWrapper, Consequent, Alternative, TryBody, Handler, HandlerOfAll, Rule, Follows, FollowsIn, function_frames}
 use Rattle.wasm_body.specs.Translation.{translate, translate_immediates}
-use Rattle.wasm_body.specs.Naming.{NamedOperation, Occurrence, Environment, naming, stands, block_types, first_signature, block_signature, has_pick, has_types, named_in}
+use Rattle.wasm_body.specs.Naming.{NamedOperation, Occurrence, Environment, naming, allowed, block_types, first_signature, block_signature, has_pick, has_types, named_in}
 use Rattle.wasm_body.specs.Parsing.Accepted.{HasSpelling, mark, IsNamed, Lawful}
 use Rattle.wasm_body.specs.NormalForm.{Typing, typing_of, name_at}
 use Rattle.wasm_body.specs.TextLaws.{LawfulAreTyped}
-use Rattle.wasm_body.specs.Typed.{StandsFor, IsTypedAs, AreTyped}
+use Rattle.wasm_body.specs.Typed.{HasSignatures, IsTypedAs, AreTyped}
 use Rattle.wasm_body.proofs.Translation.Steps.{bound}
 use Rattle.wasm_body.proofs.Bytes.Openers.{opens, counted}
 use Rattle.wasm_body.proofs.Bytes.BlockTypes.{length-block_types, block_types-translate}
-use Rattle.wasm_body.proofs.Bytes.Picks.{pick_stands}
-use Rattle.wasm_body.proofs.Structure.Reshown.{is_named_body}
+use Rattle.wasm_body.proofs.Bytes.Picks.{pick_has_signature}
+use Rattle.wasm_body.proofs.Structure.Mapped.{is_named_body}
 use Rattle.wasm_body.proofs.Structure.Along.{Each, EachIn, AllMarked, all_of_each}
 
 -- ---- one operator
 
-stands_for_one : (m : Typing) (ss : List Signature) → length ss ≡ 1
-    → m.signature_of (m.picked (first_signature ss)) ≡ Some (first_signature ss) → StandsFor m (m.picked (first_signature ss)) ss
-stands_for_one m [] e h = tt
-stands_for_one m (s ∷ []) e h = (h, tt)
-stands_for_one m (s ∷ t ∷ ss) e h = absurd cc
+one_signature : (m : Typing) (ss : List Signature) → length ss ≡ 1
+    → m.signature_of (m.picked (first_signature ss)) ≡ Some (first_signature ss) → HasSignatures m (m.picked (first_signature ss)) ss
+one_signature m [] e h = tt
+one_signature m (s ∷ []) e h = (h, tt)
+one_signature m (s ∷ t ∷ ss) e h = absurd cc
 
 none_left : {A : Type 0} → (xs : List A) → length xs ≡ 0 → xs ≡ []
 none_left [] e = refl
@@ -41,11 +41,11 @@ none_left (x ∷ xs) e = absurd cc
 
 typed_as : (m : Typing) (r : Role) (o : NamedOperation) → length (block_types o.immediates) ≡ cond (opens r) 1 0
     → (opens r ≡ true → m.signature_of (m.picked (block_signature o)) ≡ Some (block_signature o)) → IsTypedAs m r o
-typed_as m a_block o n h = stands_for_one m (block_types o.immediates) n (h refl)
-typed_as m a_loop o n h = stands_for_one m (block_types o.immediates) n (h refl)
-typed_as m an_if o n h = stands_for_one m (block_types o.immediates) n (h refl)
-typed_as m a_try o n h = stands_for_one m (block_types o.immediates) n (h refl)
-typed_as m a_try_table o n h = stands_for_one m (block_types o.immediates) n (h refl)
+typed_as m a_block o n h = one_signature m (block_types o.immediates) n (h refl)
+typed_as m a_loop o n h = one_signature m (block_types o.immediates) n (h refl)
+typed_as m an_if o n h = one_signature m (block_types o.immediates) n (h refl)
+typed_as m a_try o n h = one_signature m (block_types o.immediates) n (h refl)
+typed_as m a_try_table o n h = one_signature m (block_types o.immediates) n (h refl)
 typed_as m _ o n h = none_left (block_types o.immediates) n
 
 -- the module has a type of a sequence for an opener
@@ -73,8 +73,8 @@ pub named_typed : (env : Environment) (frames : List (Frame Occurrence)) (o : Ra
 named_typed env fs o named kinds e =
     let m = typing_of env in
     let types : NamedOperation → Result (Unit {0}) ParseError = λ n. has_types env fs (control_of n) n in
-    let stood = bound (stands fs (control_of o)) (λ u. translate (naming env fs) o >>= λ n. types n >>= λ v. Ok n) named e in
-    let translated = bound (translate (naming env fs) o) (λ n. types n >>= λ v. Ok n) named stood.2 in
+    let was_allowed = bound (allowed fs (control_of o)) (λ u. translate (naming env fs) o >>= λ n. types n >>= λ v. Ok n) named e in
+    let translated = bound (translate (naming env fs) o) (λ n. types n >>= λ v. Ok n) named was_allowed.2 in
     let n = translated.0 in
     let typed = bound (types n) (λ v. Ok n) named translated.2 in
     let is = bound (translate_immediates (naming env fs) o.immediates) (λ js. Ok (operation o.opcode js)) n translated.1 in
@@ -88,7 +88,7 @@ named_typed env fs o named kinds e =
     let held : has_types env fs (control_by r is.0) k ≡ Ok typed.0 = ap types made ∙ typed.1 in
     let s = block_signature k in
     let picks : opens r ≡ true → m.signature_of (m.picked s) ≡ Some s =
-    λ h. pick_stands env.types s (Simple None)
+    λ h. pick_has_signature env.types s (Simple None)
     (test_passed (is_some (pick env.types s)) TypeMissing typed.0 (opener_has_pick env fs r is.0 k typed.0 held h)) in
     subst (λ j. IsTypedAs m (role_of j.opcode) j) same (typed_as m r k count picks)
 

@@ -17,7 +17,7 @@ use Rattle.wasm_operators.proofs.Shortness.{many_length}
 use Rattle.wasm_body.proofs.Bytes.BlockTypes.{FromBlock, blocks_from}
 use Rattle.wasm_body.proofs.Bytes.Fitting.{fits}
 use Rattle.wasm_body.proofs.Bytes.WritableTexts.{Writes, CanWrite, normal_text}
-use Rattle.wasm_body.proofs.Bytes.ClauseKinds.{Asks, asks}
+use Rattle.wasm_body.proofs.Bytes.ClauseKinds.{Needs, needs}
 use Rattle.wasm_body.specs.declared.error.EmitError.{EmitError}
 use Rattle.walrus_ir.specs.declared.val_type.InstrSeqType.{InstrSeqType}
 use Rattle.walrus_ir.specs.declared.val_type.InstrSeqType.TheVariants.{Simple}
@@ -25,24 +25,24 @@ use Rattle.walrus_ir.specs.Types.{Signature, pick}
 use Rattle.wasm_body.specs.declared.error.IndexError.{IndexError}
 use Rattle.wasm_body.specs.declared.error.ParseError.TheVariants.{Index}
 use Rattle.wasm_body.specs.declared.error.ParseError.{ParseError}
-use Rattle.walrus_ir.specs.Results.{◌>>=◌, sure, with_fault}
+use Rattle.walrus_ir.specs.Results.{◌>>=◌, infallible, with_fault}
 use Rattle.wasm_body.specs.Control.{Role, a_block, a_loop, an_if, a_try, a_try_table, a_catch, a_catch_all, a_delegate, an_else, an_end, role_of, Control, End, first_index, first_depth, control_by, control_of, with_control}
 use Rattle.wasm_body.specs.Frames.{Frame}
 use Rattle.wasm_body.specs.Translation.{Translation, translate, translate_immediate, translate_immediates, Located}
-use Rattle.wasm_body.specs.Naming.{Environment, NamedOperation, Occurrence, naming, id_at, name_block, block_types, first_signature, stands, has_types, named_in}
+use Rattle.wasm_body.specs.Naming.{Environment, NamedOperation, Occurrence, naming, id_at, name_block, block_types, first_signature, allowed, has_types, named_in}
 use Rattle.wasm_body.specs.FunctionTree.{Target, Depth}
 use Rattle.wasm_body.specs.NormalForm.{typing_of, construct_type, kept, kept_operation, name_at, named_body, body_tree}
 use Rattle.wasm_body.specs.FlatText.{TextTranslation, then_by, typed}
 use Rattle.wasm_body.specs.Bytes.{Numbers, in_32_bits, numbers_in_32_bits, numbered_block, numbering, with_numbers, numbered_text, bytes_of, tree_bytes}
 use Rattle.wasm_body.specs.SourceTree.{Body}
 use Rattle.wasm_body.specs.Parsing.Accepted.{mark, Lawful}
-use Rattle.wasm_body.proofs.Structure.Along.{AllMarked, each_of, each_reshown}
+use Rattle.wasm_body.proofs.Structure.Along.{AllMarked, each_of, each_mapped}
 use Rattle.wasm_body.proofs.Bytes.LawfulTyped.{named_somewhere}
 use Rattle.wasm_body.proofs.Translation.Steps.{Leads, bound, all_of}
 use Rattle.wasm_body.proofs.Translation.Translations.{LeadAll, lead_all, translate_leads}
 use Rattle.wasm_body.proofs.NormalForm.Kept.{exponent_of-pow}
 use Rattle.wasm_body.proofs.NormalForm.KeptNames.{sure_number, kept_raw, kept_of}
-use Rattle.wasm_body.proofs.Translation.Answering.{no_fault_ok, ok_no_fault, first_within, last_within, AnswersWhere, OthersWithin, immediates_answer}
+use Rattle.wasm_body.proofs.Translation.Faults.{no_fault_ok, ok_no_fault, first_within, last_within, FaultsAre, OthersWithin, immediates_faults}
 use Rattle.wasm_body.proofs.Translation.Kinds.{kind_in, raw_kinds, kinds_kept, only_tag, only_outer}
 
 -- ---- encoded immediates fit 32 bits
@@ -60,11 +60,11 @@ abbrev counted : ℕ → Result (Unit {0}) EmitError
 counted n = in_32_bits n >>= λ _. Ok tt
 
 count_fits : (n : ℕ) (text : List ℕ) → IsU32 n text → IsOk (counted n)
-count_fits n text s = by_answer (in_32_bits n) (u32_fits n text s)
+count_fits n text s = by_result (in_32_bits n) (u32_fits n text s)
   where
-    by_answer : (r : Result ℕ EmitError) → IsOk r → IsOk (let t : Result (Unit {0}) EmitError = r >>= (λ _. Ok tt) in t)
-    by_answer (Ok m) h = refl
-    by_answer (Err e) h = absurd cc
+    by_result : (r : Result ℕ EmitError) → IsOk r → IsOk (let t : Result (Unit {0}) EmitError = r >>= (λ _. Ok tt) in t)
+    by_result (Ok m) h = refl
+    by_result (Err e) h = absurd cc
 
 -- the labels, depths, numbers and counts of an immediate
 abbrev Fits : RawImmediate → Type 0
@@ -145,8 +145,8 @@ pub record AreNumbered (Q : EmitError → Type 0) (env : Environment) (to : Numb
 pub translated : (env : Environment) (fs : List (Frame Occurrence)) (o : RawOperation) (named : NamedOperation) → named_in env fs o ≡ Ok named → translate (naming env fs) o ≡ Ok named
 translated env fs o named e =
     let types : NamedOperation → Result (Unit {0}) ParseError = λ n. has_types env fs (control_of n) n in
-    let stood = bound (stands fs (control_of o)) (λ u. translate (naming env fs) o >>= λ n. types n >>= λ v. Ok n) named e in
-    let found = bound (translate (naming env fs) o) (λ n. types n >>= λ v. Ok n) named stood.2 in
+    let was_allowed = bound (allowed fs (control_of o)) (λ u. translate (naming env fs) o >>= λ n. types n >>= λ v. Ok n) named e in
+    let found = bound (translate (naming env fs) o) (λ n. types n >>= λ v. Ok n) named was_allowed.2 in
     let typed = bound (types found.0) (λ v. Ok found.0) named found.2 in
     let same : found.0 ≡ named = cc typed.2 in
     found.1 ∙ ap Ok same
@@ -187,8 +187,8 @@ module _ (Q : EmitError → Type 0) (env : Environment) (to : Numbers) (has : Ar
     counts = λ n u e. refl;
   }
 
-  answers : {A : Type 0} (fs : List (Frame A)) (t : InstrSeqType) → IfErr (numbered_block to t) Q → AnswersWhere Q (naming env fs) (renumbered t)
-  answers fs t typed = record {
+  its_faults : {A : Type 0} (fs : List (Frame A)) (t : InstrSeqType) → IfErr (numbered_block to t) Q → FaultsAre Q (naming env fs) (renumbered t)
+  its_faults fs t typed = record {
     indices = λ space n h. numbered space n (env.id_of space n) refl h;
     locals = λ n h. numbered_local n (env.local_of n) refl h;
     blocks = λ b h. typed;
@@ -233,7 +233,7 @@ module _ (Q : EmitError → Type 0) (env : Environment) (to : Numbers) (has : Ar
       (lead_all (kept_raw env) (typed writing t) (renumbered t) (written_lead t) o.immediates (all_of (Leads (kept_raw env).block (typed writing t).block (renumbered t).block) (λ b d h. refl) (block_types o.immediates)))
       (kept_operation named).immediates kept.kept in
       let first = bound (translate_immediates (naming env fs) o.immediates) (λ js. Ok (record { opcode = o.opcode; immediates = js })) named is in
-      let h = immediates_answer Q (naming env fs) (renumbered t) (answers fs t type) o.immediates
+      let h = immediates_faults Q (naming env fs) (renumbered t) (its_faults fs t type) o.immediates
       (all_others fs t o.immediates (all_spelt o.immediates spelt.others spelt.immediates)) (ok_of (translate_immediates (naming env fs) o.immediates) first.0 first.1) in
       last_within Q (translate_immediates (typed writing t) (kept_operation named).immediates) (λ js. record { opcode = named.opcode; immediates = js }) (subst (λ r. IfErr r Q) (sym lead) h)
 
@@ -255,12 +255,12 @@ module _ (Q : EmitError → Type 0) (env : Environment) (to : Numbers) (has : Ar
       by_blocks (s ∷ ss) h = by_pick s h.0.0 h.0.1 (pick env.types s) refl
 
   -- the text of an operator's one immediate
-  alone_within : (o : NamedOperation) (i : Immediate ℕ Signature) (k : Immediate Target (Unit {0})) → o.immediates ≡ i ∷ [] → sure (translate_immediates kept (i ∷ [])) ≡ k ∷ [] →
+  alone_within : (o : NamedOperation) (i : Immediate ℕ Signature) (k : Immediate Target (Unit {0})) → o.immediates ≡ i ∷ [] → infallible (translate_immediates kept (i ∷ [])) ≡ k ∷ [] →
       IfErr (translate (typed writing (Simple None)) (kept_operation o)) Q → IfErr (translate_immediate (typed writing (Simple None)) k) Q
   alone_within o i k e kept_so h =
       let t = typed writing (Simple None) in
       let all = first_within Q (translate_immediates t (kept_operation o).immediates) (λ is. Ok (operation o.opcode is)) h in
-      let alone : (kept_operation o).immediates ≡ k ∷ [] = ap (λ is. sure (translate_immediates kept is)) e ∙ kept_so in
+      let alone : (kept_operation o).immediates ≡ k ∷ [] = ap (λ is. infallible (translate_immediates kept is)) e ∙ kept_so in
       first_within Q (translate_immediate t k) (λ j. Ok (j ∷ [])) (subst (λ is. IfErr (translate_immediates t is) Q) alone all)
 
   tag_within : (o : NamedOperation) → map kind_in o.immediates ≡ an_index Tags ∷ [] → IfErr (translate (typed writing (Simple None)) (kept_operation o)) Q → IfErr (writing.index Tags (first_index o.immediates)) Q
@@ -277,7 +277,7 @@ module _ (Q : EmitError → Type 0) (env : Environment) (to : Numbers) (has : Ar
       subst (λ is. IfErr (writing.outer (first_depth is)) Q) (sym d.1)
       (first_within Q (writing.outer d.0) (λ m. Ok (made m)) (alone_within o (outer d.0) (outer d.0) d.1 refl h))
 
-  by_role : (r : Role) (a : Located NamedOperation) → Asks r (map kind_in a.op.immediates) →
+  by_role : (r : Role) (a : Located NamedOperation) → Needs r (map kind_in a.op.immediates) →
       IfErr (translate (typed writing (Simple None)) (kept_operation a.op)) Q → IfErr (translate (typed writing (construct_type (typing_of env) a.op)) (kept_operation a.op)) Q →
       Writes Q (with_numbers to) (typing_of env) a (control_by r a.op.immediates)
   by_role a_block a p single opener = opener
@@ -299,9 +299,9 @@ module _ (Q : EmitError → Type 0) (env : Environment) (to : Numbers) (has : Ar
   writes_occurrence x fs is has_text =
       let spelt = has_text.1 in
       let named = translated env fs x.spelt x.named is in
-      let asked = asks x.named.opcode (map kind_in x.named.immediates) (named_kinds env fs x.spelt x.named named spelt.kinds) (role_of x.named.opcode) refl in (
+      let is_needed = needs x.named.opcode (map kind_in x.named.immediates) (named_kinds env fs x.spelt x.named named spelt.kinds) (role_of x.named.opcode) refl in (
         refl,
-        by_role (role_of x.named.opcode) (name_at x) asked (written_operation fs (Simple None) x.spelt has_text.0 x.named spelt named tt)
+        by_role (role_of x.named.opcode) (name_at x) is_needed (written_operation fs (Simple None) x.spelt has_text.0 x.named spelt named tt)
             (written_operation fs (construct_type (typing_of env) x.named) x.spelt has_text.0 x.named spelt named (type_within fs x.spelt x.named named)),
       )
 
@@ -319,7 +319,7 @@ module _ (Q : EmitError → Type 0) (env : Environment) (to : Numbers) (has : Ar
       let named = named_somewhere env xs b lawful in
       let marks = subst (AllMarked Written) lawful.is_body (all_written xs texts named) in
       let each = (each_of Written b.sequence (with_control b.close End ∷ []) marks).0 in
-      normal_text Q (with_numbers to) (typing_of env) (named_body b) (each_reshown (CanWrite Q (with_numbers to) (typing_of env)) name_at b.sequence each)
+      normal_text Q (with_numbers to) (typing_of env) (named_body b) (each_mapped (CanWrite Q (with_numbers to) (typing_of env)) name_at b.sequence each)
 
   -- The normal form of an accepted body has bytes, or a fault of Q.
   pub bytes_within : (xs : List Occurrence) (b : Body Occurrence) → AllByRecursion HasText xs → Lawful env xs b → IfErr (tree_bytes to (body_tree env b)) Q

@@ -18,11 +18,11 @@ use Rattle.wasm_body.specs.Frames.{Frame}
 use Rattle.wasm_body.specs.Translation.{Translation, translate, translate_immediate, translate_immediates, Located, at_location}
 use Rattle.wasm_body.specs.Naming.{Environment, NamedOperation, naming}
 use Rattle.wasm_body.specs.FunctionTree.{Head, LegacyClause, handles, handles_all, delegates, Instruction, FunctionTree}
-use Rattle.wasm_body.specs.NormalForm.{Typing, kept, kept_operation, Fate, Drops, Stays, Cuts, fate, with_fate, instruction, legacy_clauses, normal, handlers}
+use Rattle.wasm_body.specs.NormalForm.{Typing, kept, kept_operation, Fate, Drops, Stays, Diverges, fate, with_fate, instruction, legacy_clauses, normal, handlers}
 use Rattle.wasm_body.specs.FlatText.{TextOperation, TextTranslation, has_none, one_or_both, written_in_if, written_inside, written_items, written_sequences, then_by, typed, are_lawful, try_closers, if_closers, closers, written, opened, first_type, text, texts}
 use Rattle.wasm_body.specs.LocalNumbers.{locals_among, locals_in, locals_inside, locals_of}
 use Rattle.wasm_body.specs.Bytes.{Numbers, in_32_bits, numbered_block, numbering, numbered_text, bytes_of, tree_bytes}
-use Rattle.wasm_body.proofs.Translation.Steps.{bound, after_two, ok-sure}
+use Rattle.wasm_body.proofs.Translation.Steps.{bound, after_two, ok-infallible}
 use Rattle.wasm_body.proofs.Translation.Kinds.{kind_kept, through, at_once}
 use Rattle.wasm_body.proofs.Translation.LocalsKept.{before, first_local, IsNoLocal, no_local, locals_kept}
 use Rattle.wasm_body.proofs.Structure.Along.{Each, EachIn}
@@ -72,13 +72,13 @@ names_none an_if cs ss = if_names_none ss
 names_none a_try cs ss = try_names_none cs
 names_none _ cs ss = tt
 
-parted : (P : ℕ → Type 0) (xs ys : List ℕ) → AllByRecursion P (xs ++ ys) → AllByRecursion P xs × AllByRecursion P ys
-parted P [] ys h = (tt, h)
-parted P (x ∷ xs) ys h = let rest = parted P xs ys h.1 in ((h.0, rest.0), rest.1)
+split : (P : ℕ → Type 0) (xs ys : List ℕ) → AllByRecursion P (xs ++ ys) → AllByRecursion P xs × AllByRecursion P ys
+split P [] ys h = (tt, h)
+split P (x ∷ xs) ys h = let rest = split P xs ys h.1 in ((h.0, rest.0), rest.1)
 
 module _ {M C : Type 0} (w : TextTranslation M C) (g : ℕ → Result ℕ EmitError) where
-  abbrev Answers : Type 0
-  Answers = List (Result (Located (Operation M C)) EmitError)
+  abbrev ResultList : Type 0
+  ResultList = List (Result (Located (Operation M C)) EmitError)
 
   same_opened : (i : Instruction) (t : InstrSeqType) → Agree w g (locals_among i.op.immediates) → opened w i t ≡ opened (renumbered w g) i t
   same_opened i t h =
@@ -88,24 +88,24 @@ module _ {M C : Type 0} (w : TextTranslation M C) (g : ℕ → Result ℕ EmitEr
   same_written c l h = ap (λ r. r >>= λ x. Ok (at_location x l)) (same_operator w g c (subst (Agree w g) (sym h) tt))
 
   mutual
-    same_text : (is : Items Head Instruction) (k : Answers) → Agree w g (locals_in is) → text w is k ≡ text (renumbered w g) is k
+    same_text : (is : Items Head Instruction) (k : ResultList) → Agree w g (locals_in is) → text w is k ≡ text (renumbered w g) is k
     same_text no_items k h = refl
     same_text (item i ss r) k h =
         let P : ℕ → Type 0 = λ n. w.local n ≡ g n in
-        let own = parted P (locals_among i.op.immediates) (locals_inside ss ++ locals_in r) h in
-        let inside = parted P (locals_inside ss) (locals_in r) own.1 in
+        let own = split P (locals_among i.op.immediates) (locals_inside ss ++ locals_in r) h in
+        let inside = split P (locals_inside ss) (locals_in r) own.1 in
         let cs = closers (role_of i.op.opcode) i.clauses ss in
         ap (λ x. x ∷ texts w cs ss (text w r k)) (same_opened i (first_type ss) own.0)
         ∙ ap (λ l. opened (renumbered w g) i (first_type ss) ∷ l)
         (ap (texts w cs ss) (same_text r k inside.1) ∙ same_texts cs ss (text (renumbered w g) r k) (names_none (role_of i.op.opcode) i.clauses ss) inside.0)
 
-    same_texts : (cs : List TextOperation) (ss : Sequences Head Instruction) (k : Answers) → AllByRecursion NamesNone cs → Agree w g (locals_inside ss)
+    same_texts : (cs : List TextOperation) (ss : Sequences Head Instruction) (k : ResultList) → AllByRecursion NamesNone cs → Agree w g (locals_inside ss)
         → texts w cs ss k ≡ texts (renumbered w g) cs ss k
     same_texts [] no_sequences k n h = refl
     same_texts [] (sequence d is r) k n h = refl
     same_texts (c ∷ cs) no_sequences k n h = refl
     same_texts (c ∷ cs) (sequence d is r) k n h =
-        let each = parted (λ n. w.local n ≡ g n) (locals_in is) (locals_inside r) h in
+        let each = split (λ n. w.local n ≡ g n) (locals_in is) (locals_inside r) h in
         ap (text w is)
         (ap (λ x. x ∷ texts w cs r k) (same_written c d.end_location n.0) ∙ ap (λ l. written (renumbered w g) c d.end_location ∷ l) (same_texts cs r k n.1 each.1))
         ∙ same_text is (written (renumbered w g) c d.end_location ∷ texts (renumbered w g) cs r k) each.0
@@ -187,7 +187,7 @@ module _ (P : ℕ → Type 0) where
 
   kept_has : (a : Located NamedOperation) (cs : List LegacyClause) → AllByRecursion P (locals_among a.op.immediates) → AllByRecursion P (locals_among (instruction a cs).op.immediates)
   kept_has a cs h =
-      subst (AllByRecursion P) (sym (locals_kept kept (λ n. refl) a.op.immediates (kept_operation a.op).immediates (ok-sure (translate_immediates kept a.op.immediates)))) h
+      subst (AllByRecursion P) (sym (locals_kept kept (λ n. refl) a.op.immediates (kept_operation a.op).immediates (ok-infallible (translate_immediates kept a.op.immediates)))) h
 
   joined : (xs ys : List ℕ) → AllByRecursion P xs → AllByRecursion P ys → AllByRecursion P (xs ++ ys)
   joined [] ys h g = g
@@ -204,7 +204,7 @@ module _ (P : ℕ → Type 0) where
         → AllByRecursion P (locals_in (with_fate f (instruction a []) r))
     single_has Drops a r h k = k
     single_has Stays a r h k = joined (locals_among (instruction a []).op.immediates) (locals_in r) (kept_has a [] h) k
-    single_has Cuts a r h k = joined (locals_among (instruction a []).op.immediates) [] (kept_has a [] h) tt
+    single_has Diverges a r h k = joined (locals_among (instruction a []).op.immediates) [] (kept_has a [] h) tt
 
     mutual
       pub normal_has : (s : Sequence (Located NamedOperation)) → Each Has s → AllByRecursion P (locals_in (normal m s))

@@ -86,23 +86,23 @@ found_signature types ps rs id e =
     ap (option_and_then signature_in) (slice_get-get_or types id Other found.0) ∙ function_signature ps rs (get_or types id Other) found.1
 
 -- a type that was found, as the type of a sequence
-found_stands : (types : List ModuleType) (ps rs : List (ValType ℕ)) (t : InstrSeqType) (found : Option ℕ) → find types ps rs ≡ found
+found_has_signature : (types : List ModuleType) (ps rs : List (ValType ℕ)) (t : InstrSeqType) (found : Option ℕ) → find types ps rs ≡ found
     → option_map MultiValue found ≡ Some t → signature_of_type types t ≡ Some (signature ps rs)
-found_stands types ps rs t None f e = absurd cc
-found_stands types ps rs t (Some id) f e = let k : MultiValue id ≡ t = cc in ap (signature_of_type types) (sym k) ∙ found_signature types ps rs id f
+found_has_signature types ps rs t None f e = absurd cc
+found_has_signature types ps rs t (Some id) f e = let k : MultiValue id ≡ t = cc in ap (signature_of_type types) (sym k) ∙ found_signature types ps rs id f
 
-existing_stands : (types : List ModuleType) (ps rs : List (ValType ℕ)) (t : InstrSeqType) → existing types ps rs ≡ Some t
+existing_has_signature : (types : List ModuleType) (ps rs : List (ValType ℕ)) (t : InstrSeqType) → existing types ps rs ≡ Some t
     → signature_of_type types t ≡ Some (signature ps rs)
-existing_stands types [] [] t e = let k : Simple None ≡ t = cc in ap (signature_of_type types) (sym k)
-existing_stands types [] (r ∷ []) t e = let k : Simple (Some r) ≡ t = cc in ap (signature_of_type types) (sym k)
-existing_stands types [] (r ∷ s ∷ rs) t e = found_stands types [] (r ∷ s ∷ rs) t (find types [] (r ∷ s ∷ rs)) refl e
-existing_stands types (p ∷ ps) rs t e = found_stands types (p ∷ ps) rs t (find types (p ∷ ps) rs) refl e
+existing_has_signature types [] [] t e = let k : Simple None ≡ t = cc in ap (signature_of_type types) (sym k)
+existing_has_signature types [] (r ∷ []) t e = let k : Simple (Some r) ≡ t = cc in ap (signature_of_type types) (sym k)
+existing_has_signature types [] (r ∷ s ∷ rs) t e = found_has_signature types [] (r ∷ s ∷ rs) t (find types [] (r ∷ s ∷ rs)) refl e
+existing_has_signature types (p ∷ ps) rs t e = found_has_signature types (p ∷ ps) rs t (find types (p ∷ ps) rs) refl e
 
 -- if a type is picked, it has the signature, whatever the default is
-pub pick_stands : (types : List ModuleType) (s : Signature) (other : InstrSeqType) → is_some (pick types s) ≡ true
+pub pick_has_signature : (types : List ModuleType) (s : Signature) (other : InstrSeqType) → is_some (pick types s) ≡ true
     → signature_of_type types (unwrap_or (pick types s) other) ≡ Some s
-pick_stands types s other e = by_pick (pick types s) refl e
+pick_has_signature types s other e = by_pick (pick types s) refl e
   where
     by_pick : (p : Option InstrSeqType) → pick types s ≡ p → is_some p ≡ true → signature_of_type types (unwrap_or p other) ≡ Some s
     by_pick None h k = absurd cc
-    by_pick (Some t) h k = existing_stands types s.parameters s.results t h
+    by_pick (Some t) h k = existing_has_signature types s.parameters s.results t h

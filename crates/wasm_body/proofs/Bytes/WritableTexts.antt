@@ -17,11 +17,11 @@ use Rattle.wasm_body.specs.Translation.{translate, at_location}
 use Rattle.wasm_body.specs.Naming.{NamedOperation}
 use Rattle.wasm_body.specs.NormalForm.{Typing, construct_type, kept_operation, normal_form}
 use Rattle.wasm_body.specs.FlatText.{Writing, typed, tree_text}
-use Rattle.wasm_body.proofs.Translation.Answering.{steps_within, last_within}
-use Rattle.wasm_body.proofs.Structure.Along.{Each, AllMarked, Tells, weaker, all_of_each}
+use Rattle.wasm_body.proofs.Translation.Faults.{steps_within, last_within}
+use Rattle.wasm_body.proofs.Structure.Along.{Each, AllMarked, HasControl, weaker, all_of_each}
 use Rattle.wasm_body.specs.RewrittenTree.{end_at, catch_at, delegate_at, rewritten}
 use Rattle.wasm_body.proofs.NormalForm.Rewritten.{Named, each_rewritten}
-use Rattle.wasm_body.proofs.NormalForm.WrittenTexts.{named_by, named_written, answer, anew_by, tree_text_by}
+use Rattle.wasm_body.proofs.NormalForm.WrittenTexts.{named_by, named_written, written_result, anew_by, tree_text_by}
 
 abbrev pub AllWithin : {A E : Type 0} → (E → Type 0) → List (Result A E) → Type 0
 AllWithin Q rs = AllByRecursion (λ r. IfErr r Q) rs
@@ -41,44 +41,44 @@ module _ {M C : Type 0} (Q : EmitError → Type 0) (w : Writing M C) (m : Typing
   Writes a _ = Unit {0}
 
   abbrev pub CanWrite : Named → Control → Type 0
-  CanWrite a c = Tells a c × Writes a c
+  CanWrite a c = HasControl a c × Writes a c
 
   -- it is written
-  abbrev IsAnswered : Named → Control → Type 0
-  IsAnswered a c = IfErr (answer w.translation m (with_control a c)) Q
+  abbrev IsWrittenWithin : Named → Control → Type 0
+  IsWrittenWithin a c = IfErr (written_result w.translation m (with_control a c)) Q
 
   written_at : (a : Named) (t : InstrSeqType) → IfErr (translate (typed w.translation t) (kept_operation a.op)) Q → IfErr (translate (named_by w.translation t) a.op >>= λ x. Ok (at_location x a.location)) Q
   written_at a t h = last_within Q (translate (named_by w.translation t) a.op) (λ x. at_location x a.location) (subst (λ r. IfErr r Q) (named_written w.translation t a.op) h)
 
-  written_index : (t l : ℕ) → IfErr (w.translation.index Tags t) Q → IsAnswered (catch_at t l) (Catch t)
-  written_index t l h = by_answer (w.translation.index Tags t) h
+  written_index : (t l : ℕ) → IfErr (w.translation.index Tags t) Q → IsWrittenWithin (catch_at t l) (Catch t)
+  written_index t l h = by_result (w.translation.index Tags t) h
     where
-      by_answer : (r : Result ℕ EmitError) → IfErr r Q → IfErr (((((r >>= λ n. Ok (index Tags n)) >>= λ i. Ok (i ∷ [])) >>= λ is. Ok (operation {L = M} {B = C} catch_opcode is))) >>= λ x. Ok (at_location x l)) Q
-      by_answer (Ok n) h = tt
-      by_answer (Err e) h = h
+      by_result : (r : Result ℕ EmitError) → IfErr r Q → IfErr (((((r >>= λ n. Ok (index Tags n)) >>= λ i. Ok (i ∷ [])) >>= λ is. Ok (operation {L = M} {B = C} catch_opcode is))) >>= λ x. Ok (at_location x l)) Q
+      by_result (Ok n) h = tt
+      by_result (Err e) h = h
 
-  written_outer : (n l : ℕ) → IfErr (w.translation.outer n) Q → IsAnswered (delegate_at n l) (Delegate n)
-  written_outer n l h = by_answer (w.translation.outer n) h
+  written_outer : (n l : ℕ) → IfErr (w.translation.outer n) Q → IsWrittenWithin (delegate_at n l) (Delegate n)
+  written_outer n l h = by_result (w.translation.outer n) h
     where
-      by_answer : (r : Result ℕ EmitError) → IfErr r Q → IfErr (((((r >>= λ n. Ok (outer n)) >>= λ i. Ok (i ∷ [])) >>= λ is. Ok (operation {L = M} {B = C} (Byte 0x18) is))) >>= λ x. Ok (at_location x l)) Q
-      by_answer (Ok n) h = tt
-      by_answer (Err e) h = h
+      by_result : (r : Result ℕ EmitError) → IfErr r Q → IfErr (((((r >>= λ n. Ok (outer n)) >>= λ i. Ok (i ∷ [])) >>= λ is. Ok (operation {L = M} {B = C} (Byte 0x18) is))) >>= λ x. Ok (at_location x l)) Q
+      by_result (Ok n) h = tt
+      by_result (Err e) h = h
 
   abbrev balances_for : NamedOperation → Bool
   balances_for o = w.balanced (construct_type m o)
 
-  all_written : (s : Sequence Named) → Each CanWrite s → Each IsAnswered (rewritten balances_for s)
+  all_written : (s : Sequence Named) → Each CanWrite s → Each IsWrittenWithin (rewritten balances_for s)
   all_written =
-      each_rewritten balances_for CanWrite IsAnswered (λ a action h. written_at a (Simple None) h.1) (λ a construct h. written_at a (construct_type m a.op) h.1)
+      each_rewritten balances_for CanWrite IsWrittenWithin (λ a action h. written_at a (Simple None) h.1) (λ a construct h. written_at a (construct_type m a.op) h.1)
       (λ l. tt) (λ l. tt) (λ a t l h. written_index t l h.1) (λ l. tt) (λ e n l h. written_outer n l h.1)
 
-  answers : (xs : List (Marked Named)) → AllMarked IsAnswered xs → AllWithin Q (map (answer w.translation m) xs)
-  answers [] h = tt
-  answers (x ∷ xs) h = (h.0, answers xs h.1)
+  all_within : (xs : List (Marked Named)) → AllMarked IsWrittenWithin xs → AllWithin Q (map (written_result w.translation m) xs)
+  all_within [] h = tt
+  all_within (x ∷ xs) h = (h.0, all_within xs h.1)
 
   pub normal_text : (b : Body Named) → Each CanWrite b.sequence → IfErr (tree_text w (normal_form m b)) Q
   normal_text b h =
       let last = with_control (end_at b.close.location) End in
-      let all = all_of_each IsAnswered (rewritten balances_for b.sequence) (last ∷ []) (all_written b.sequence h) (tt, tt) in
-      subst (λ r. IfErr r Q) (sym (tree_text_by w m b (weaker CanWrite Tells (λ a c g. g.0) b.sequence h)))
-      (all_gathered Q (map (answer w.translation m) (body_text (anew_by w.balanced m b))) (answers (body_text (anew_by w.balanced m b)) all))
+      let all = all_of_each IsWrittenWithin (rewritten balances_for b.sequence) (last ∷ []) (all_written b.sequence h) (tt, tt) in
+      subst (λ r. IfErr r Q) (sym (tree_text_by w m b (weaker CanWrite HasControl (λ a c g. g.0) b.sequence h)))
+      (all_gathered Q (map (written_result w.translation m) (body_text (anew_by w.balanced m b))) (all_within (body_text (anew_by w.balanced m b)) all))

@@ -41,8 +41,8 @@ nullable_last = refl
 last_of_two : last_place (5 ∷ 5 ∷ []) 5 ≡ Some 1
 last_of_two = refl
 
-behind_another : last_place (5 ∷ 6 ∷ 5 ∷ 7 ∷ []) 5 ≡ Some 2
-behind_another = refl
+after_another : last_place (5 ∷ 6 ∷ 5 ∷ 7 ∷ []) 5 ≡ Some 2
+after_another = refl
 
 no_place : last_place (5 ∷ 6 ∷ []) 7 ≡ None
 no_place = refl

@@ -12,10 +12,10 @@ use Rattle.wasm_body.specs.declared.error.ParseError.TheVariants.{Index, NoSuchL
 use Rattle.wasm_body.specs.Naming.{NamedOperation, Environment, entry_type_id}
 use Rattle.wasm_body.proofs.Examples.Operators.{unreachable, block, if, else, try, catch, throw, rethrow, end, br, br_table, return, call, call_indirect, delegate, catch_all, drop, try_table, local_get, const, br_on_cast, br_on_null_cast, catches, catches_all}
 use Rattle.wasm_body.proofs.Examples.Modules.{nothing, number_to_number, demo, odd}
-use Rattle.wasm_body.proofs.Examples.Rows.{Answer, Is, Refused, names}
+use Rattle.wasm_body.proofs.Examples.Rows.{Computed, Is, Refused, names}
 
 -- over the module of the worked rows
-abbrev the_names : List RawOperation → Answer (List NamedOperation)
+abbrev the_names : List RawOperation → Computed (List NamedOperation)
 the_names os = names demo os
 
 -- ---- names
@@ -42,9 +42,9 @@ entry_as_block_type : names odd (block (FuncType 4) ∷ end ∷ end ∷ []) ≡ 
 entry_as_block_type = refl
 
 -- a tag that the module doesn't have, if only its old index is needed
-unheld_tag : names odd (try_table Empty (catches 3 0 ∷ []) ∷ throw 3 ∷ end ∷ end ∷ [])
+missing_tag : names odd (try_table Empty (catches 3 0 ∷ []) ∷ throw 3 ∷ end ∷ end ∷ [])
     ≡ Is (try_table nothing (catches 8 0 ∷ []) ∷ throw 8 ∷ end ∷ end ∷ [])
-unheld_tag = refl
+missing_tag = refl
 
 -- ---- where an operator is allowed
 
@@ -65,8 +65,8 @@ catch_all_alone : the_names (catch_all ∷ end ∷ []) ≡ Refused CatchOutsideT
 catch_all_alone = refl
 
 -- 06 40 19 07 00 0b 0b
-catch_behind_all : the_names (try Empty ∷ catch_all ∷ catch 0 ∷ end ∷ end ∷ []) ≡ Refused CatchOutsideTry 2
-catch_behind_all = refl
+catch_after_all : the_names (try Empty ∷ catch_all ∷ catch 0 ∷ end ∷ end ∷ []) ≡ Refused CatchOutsideTry 2
+catch_after_all = refl
 
 -- 06 40 19 19 0b 0b
 second_catch_all : the_names (try Empty ∷ catch_all ∷ catch_all ∷ end ∷ end ∷ []) ≡ Refused CatchOutsideTry 2
@@ -97,8 +97,8 @@ delegate_in_handler : the_names (try Empty ∷ catch 0 ∷ delegate 0 ∷ end �
 delegate_in_handler = refl
 
 -- 06 40 19 18 00 0b
-delegate_behind_all : the_names (try Empty ∷ catch_all ∷ delegate 0 ∷ end ∷ []) ≡ Refused DelegateOutsideTry 2
-delegate_behind_all = refl
+delegate_after_all : the_names (try Empty ∷ catch_all ∷ delegate 0 ∷ end ∷ []) ≡ Refused DelegateOutsideTry 2
+delegate_after_all = refl
 
 -- 06 40 02 40 18 00 0b 0b
 delegate_in_block : the_names (try Empty ∷ block Empty ∷ delegate 0 ∷ end ∷ end ∷ []) ≡ Refused DelegateOutsideTry 2
@@ -109,8 +109,8 @@ else_in_try : the_names (try Empty ∷ else ∷ end ∷ end ∷ []) ≡ Refused 
 else_in_try = refl
 
 -- 0b 0b
-behind_the_end : the_names (end ∷ end ∷ []) ≡ Refused Trailing 1
-behind_the_end = refl
+after_the_end : the_names (end ∷ end ∷ []) ≡ Refused Trailing 1
+after_the_end = refl
 
 -- ---- labels
 
@@ -189,8 +189,8 @@ type_in_type_out_of_range = refl
 other_block_type : names odd (block (FuncType 5) ∷ end ∷ end ∷ []) ≡ Refused NotAFunctionType 0
 other_block_type = refl
 
-unheld_block_type : names odd (block (FuncType 6) ∷ end ∷ end ∷ []) ≡ Refused NotAFunctionType 0
-unheld_block_type = refl
+missing_block_type : names odd (block (FuncType 6) ∷ end ∷ end ∷ []) ≡ Refused NotAFunctionType 0
+missing_block_type = refl
 
 -- an entry type with results that no function type has
 no_pick : names odd (block (FuncType 7) ∷ end ∷ end ∷ []) ≡ Refused TypeMissing 0
@@ -236,8 +236,8 @@ tag_type_before_pick = refl
 type_before_table : the_names (call_indirect 9 9 ∷ end ∷ []) ≡ Refused (Index (OutOfRange Types 9)) 0
 type_before_table = refl
 
-table_behind_type : the_names (call_indirect 0 9 ∷ end ∷ []) ≡ Refused (Index (OutOfRange Tables 9)) 0
-table_behind_type = refl
+table_after_type : the_names (call_indirect 0 9 ∷ end ∷ []) ≡ Refused (Index (OutOfRange Tables 9)) 0
+table_after_type = refl
 
 -- fb 18 00 05 09 09 0b: the label of a cast before its types
 label_before_types : the_names (br_on_cast 5 (Concrete 9) (Concrete 9) ∷ end ∷ []) ≡ Refused NoSuchLabel 0
@@ -246,8 +246,8 @@ label_before_types = refl
 source_before_target : the_names (br_on_cast 0 (Concrete 8) (Concrete 9) ∷ end ∷ []) ≡ Refused (Index (OutOfRange Types 8)) 0
 source_before_target = refl
 
-target_behind_source : the_names (br_on_cast 0 (Concrete 0) (Concrete 9) ∷ end ∷ []) ≡ Refused (Index (OutOfRange Types 9)) 0
-target_behind_source = refl
+target_after_source : the_names (br_on_cast 0 (Concrete 0) (Concrete 9) ∷ end ∷ []) ≡ Refused (Index (OutOfRange Types 9)) 0
+target_after_source = refl
 
 -- `try_table`: its block type, then of each clause the tag and the label, and last the pick
 type_before_clauses : names odd (try_table (FuncType 5) (catches 9 9 ∷ []) ∷ end ∷ end ∷ []) ≡ Refused NotAFunctionType 0
@@ -279,8 +279,8 @@ no_entry_type = refl
 type_of_no_function : entry_type_id (of_type 5 odd) ≡ Err NotAFunctionType
 type_of_no_function = refl
 
-unheld_type : entry_type_id (of_type 9 demo) ≡ Err NotAFunctionType
-unheld_type = refl
+missing_type : entry_type_id (of_type 9 demo) ≡ Err NotAFunctionType
+missing_type = refl
 
 -- an entry type counts as a function type
 entry_type_of_entry_type : entry_type_id (of_type 4 demo) ≡ Ok 4

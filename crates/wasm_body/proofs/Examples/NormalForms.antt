@@ -3,15 +3,16 @@ use Rattle.std.specs.Prelude.{◌≡◌, ℕ, List, [], ◌∷◌, Some, None, r
 use Rattle.walrus_ir.specs.declared.val_type.InstrSeqType.TheVariants.{Simple, MultiValue}
 use Rattle.walrus_ir.specs.declared.val_type.ValType.TheVariants.{I32}
 use Rattle.walrus_ir.specs.Tree.{Items, no_items, item, Sequences, no_sequences, sequence, alone as all_of}
+use Rattle.walrus_ir.specs.Locations.{default_location}
 use Rattle.wasm_operators.specs.declared.types.BlockType.TheVariants.{Empty, Value, FuncType}
 use Rattle.wasm_operators.specs.declared.types.Opcode.TheVariants.{Byte}
 use Rattle.wasm_operators.specs.Operations.{access, Operation, operation, RawOperation}
 use Rattle.wasm_body.specs.Translation.{at_location}
-use Rattle.wasm_body.specs.FunctionTree.{Depth, TreeOperation, Head, LegacyClause, handles, handles_all, delegates, Instruction, FunctionTree, bare_sequences, IsSameTree, default_location}
+use Rattle.wasm_body.specs.FunctionTree.{Depth, TreeOperation, Head, LegacyClause, handles, handles_all, delegates, Instruction, FunctionTree, bare_sequences, IsSameTree}
 use Rattle.wasm_body.specs.NormalForm.{head}
 use Rattle.wasm_body.proofs.Examples.Operators.{unreachable, nop, block, loop, if, else, try, catch, throw, rethrow, throw_ref, end, br, br_if, br_table, return, call, call_indirect, call_ref, return_call, return_call_indirect, return_call_ref, delegate, catch_all, drop, try_table, local_get, const, catches, catches_ref, catches_all, catches_all_ref}
 use Rattle.wasm_body.proofs.Examples.Modules.{nothing, number, demo, demo_numbers, numbers_of_locals, odd, odd_numbers}
-use Rattle.wasm_body.proofs.Examples.Rows.{Answer, Is, tree, tree_or_empty, text, written_operators}
+use Rattle.wasm_body.proofs.Examples.Rows.{Computed, Is, tree, tree_or_empty, text, written_operators}
 
 -- ---- trees
 
@@ -23,7 +24,7 @@ abbrev alone : TreeOperation → (location : ℕ) → Items Head Instruction →
 alone o l rest = an_item o [] l no_sequences rest
 
 -- over the module of the worked rows, where the entry has type 4
-abbrev of_demo : (end : ℕ) → Items Head Instruction → Answer FunctionTree
+abbrev of_demo : (end : ℕ) → Items Head Instruction → Computed FunctionTree
 of_demo l is = Is (record { head = head (MultiValue 4) l; items = is })
 
 -- 41 01 04 40 00 05 01 0b 0b: the consequent ends at the `else`, the alternative at the `end`
@@ -165,50 +166,50 @@ abbrev IsKept : List RawOperation → Type 0
 IsKept os = IsWrittenAs os os
 
 -- the rest of the sequence after this operator is dropped
-abbrev CutsBehind : RawOperation → Type 0
-CutsBehind o = IsWrittenAs (block Empty ∷ o ∷ const 7 ∷ drop ∷ end ∷ const 5 ∷ drop ∷ end ∷ []) (block Empty ∷ o ∷ end ∷ const 5 ∷ drop ∷ end ∷ [])
+abbrev DropsAfter : RawOperation → Type 0
+DropsAfter o = IsWrittenAs (block Empty ∷ o ∷ const 7 ∷ drop ∷ end ∷ const 5 ∷ drop ∷ end ∷ []) (block Empty ∷ o ∷ end ∷ const 5 ∷ drop ∷ end ∷ [])
 
 -- 01 0b
 dropped_nop : IsWrittenAs (nop ∷ end ∷ []) (end ∷ [])
 dropped_nop = refl
 
 -- the operators that cut: 0f, 00, 0c, 0e, 08, 0a, and 09 in a handler
-behind_return : CutsBehind return
-behind_return = refl
+after_return : DropsAfter return
+after_return = refl
 
-behind_unreachable : CutsBehind unreachable
-behind_unreachable = refl
+after_unreachable : DropsAfter unreachable
+after_unreachable = refl
 
-behind_br : CutsBehind (br 0)
-behind_br = refl
+after_br : DropsAfter (br 0)
+after_br = refl
 
-behind_br_table : CutsBehind (br_table (0 ∷ []) 1)
-behind_br_table = refl
+after_br_table : DropsAfter (br_table (0 ∷ []) 1)
+after_br_table = refl
 
-behind_throw : CutsBehind (throw 0)
-behind_throw = refl
+after_throw : DropsAfter (throw 0)
+after_throw = refl
 
-behind_throw_ref : CutsBehind throw_ref
-behind_throw_ref = refl
+after_throw_ref : DropsAfter throw_ref
+after_throw_ref = refl
 
-behind_rethrow : IsWrittenAs (try Empty ∷ catch_all ∷ rethrow 0 ∷ const 7 ∷ end ∷ const 5 ∷ end ∷ []) (try Empty ∷ catch_all ∷ rethrow 0 ∷ end ∷ const 5 ∷ end ∷ [])
-behind_rethrow = refl
+after_rethrow : IsWrittenAs (try Empty ∷ catch_all ∷ rethrow 0 ∷ const 7 ∷ end ∷ const 5 ∷ end ∷ []) (try Empty ∷ catch_all ∷ rethrow 0 ∷ end ∷ const 5 ∷ end ∷ [])
+after_rethrow = refl
 
 -- 12 00 41 07 1a 0b, and the other tail calls and branches that go on
-behind_return_call : IsKept (return_call 0 ∷ const 7 ∷ drop ∷ end ∷ [])
-behind_return_call = refl
+after_return_call : IsKept (return_call 0 ∷ const 7 ∷ drop ∷ end ∷ [])
+after_return_call = refl
 
-behind_return_call_indirect : IsKept (return_call_indirect 0 0 ∷ const 7 ∷ drop ∷ end ∷ [])
-behind_return_call_indirect = refl
+after_return_call_indirect : IsKept (return_call_indirect 0 0 ∷ const 7 ∷ drop ∷ end ∷ [])
+after_return_call_indirect = refl
 
-behind_return_call_ref : IsKept (return_call_ref 0 ∷ const 7 ∷ drop ∷ end ∷ [])
-behind_return_call_ref = refl
+after_return_call_ref : IsKept (return_call_ref 0 ∷ const 7 ∷ drop ∷ end ∷ [])
+after_return_call_ref = refl
 
-behind_calls : IsKept (call 0 ∷ call_indirect 0 0 ∷ call_ref 0 ∷ const 7 ∷ drop ∷ end ∷ [])
-behind_calls = refl
+after_calls : IsKept (call 0 ∷ call_indirect 0 0 ∷ call_ref 0 ∷ const 7 ∷ drop ∷ end ∷ [])
+after_calls = refl
 
-behind_br_if : IsKept (br_if 0 ∷ const 7 ∷ drop ∷ end ∷ [])
-behind_br_if = refl
+after_br_if : IsKept (br_if 0 ∷ const 7 ∷ drop ∷ end ∷ [])
+after_br_if = refl
 
 -- 0c 00 02 40 01 0b 0b: a block that is dropped
 dropped_block : IsWrittenAs (br 0 ∷ block Empty ∷ nop ∷ end ∷ end ∷ []) (br 0 ∷ end ∷ [])
@@ -222,25 +223,25 @@ dropped_try : IsWrittenAs (return ∷ try Empty ∷ delegate 0 ∷ end ∷ []) (
 dropped_try = refl
 
 -- 02 40 02 40 0c 01 0b 41 05 1a 0b 0b: the operators after a block whose inside is dead
-behind_dead_block : IsKept (block Empty ∷ block Empty ∷ br 1 ∷ end ∷ const 5 ∷ drop ∷ end ∷ end ∷ [])
-behind_dead_block = refl
+after_dead_block : IsKept (block Empty ∷ block Empty ∷ br 1 ∷ end ∷ const 5 ∷ drop ∷ end ∷ end ∷ [])
+after_dead_block = refl
 
 -- each sequence by itself: a dead consequent, alternative, body and handler
-behind_dead_sequences :
+after_dead_sequences :
     IsKept
     (if Empty ∷ return ∷ else ∷ return ∷ end ∷ try Empty ∷ return ∷ catch 0 ∷ return ∷ catch_all ∷ return ∷ end ∷ loop Empty ∷ return ∷ end
     ∷ const 5 ∷ drop ∷ end ∷ [])
-behind_dead_sequences = refl
+after_dead_sequences = refl
 
 -- 41 01 04 40 0b 0b, 41 01 04 40 05 0b 0b, 41 01 04 40 05 01 0b 0b and 41 01 04 40 05 00 0b 0b
 kept_if : IsKept (const 1 ∷ if Empty ∷ end ∷ end ∷ [])
 kept_if = refl
 
-left_out_else : IsWrittenAs (const 1 ∷ if Empty ∷ else ∷ end ∷ end ∷ []) (const 1 ∷ if Empty ∷ end ∷ end ∷ [])
-left_out_else = refl
+omitted_else : IsWrittenAs (const 1 ∷ if Empty ∷ else ∷ end ∷ end ∷ []) (const 1 ∷ if Empty ∷ end ∷ end ∷ [])
+omitted_else = refl
 
-left_out_nop : IsWrittenAs (const 1 ∷ if Empty ∷ else ∷ nop ∷ end ∷ end ∷ []) (const 1 ∷ if Empty ∷ end ∷ end ∷ [])
-left_out_nop = refl
+omitted_nop : IsWrittenAs (const 1 ∷ if Empty ∷ else ∷ nop ∷ end ∷ end ∷ []) (const 1 ∷ if Empty ∷ end ∷ end ∷ [])
+omitted_nop = refl
 
 kept_else : IsKept (const 1 ∷ if Empty ∷ else ∷ unreachable ∷ end ∷ end ∷ [])
 kept_else = refl
@@ -250,15 +251,15 @@ written_else : IsWrittenAs (const 1 ∷ if (Value I32) ∷ const 2 ∷ end ∷ d
 written_else = refl
 
 -- an `if` inside, whose `else` is left out in turn
-left_out_inside : IsWrittenAs (if Empty ∷ else ∷ if Empty ∷ else ∷ end ∷ end ∷ end ∷ []) (if Empty ∷ else ∷ if Empty ∷ end ∷ end ∷ end ∷ [])
-left_out_inside = refl
+omitted_inside : IsWrittenAs (if Empty ∷ else ∷ if Empty ∷ else ∷ end ∷ end ∷ end ∷ []) (if Empty ∷ else ∷ if Empty ∷ end ∷ end ∷ end ∷ [])
+omitted_inside = refl
 
 -- 04 00 0b and 04 00 05 0b, with a type that has a number as parameter and as result; and 04 01 1a 0b, with only a parameter
 kept_if_with_number : written_operators odd odd_numbers (if (FuncType 0) ∷ end ∷ end ∷ []) ≡ Is (if (FuncType 2) ∷ end ∷ end ∷ [])
 kept_if_with_number = refl
 
-left_out_with_number : written_operators odd odd_numbers (if (FuncType 0) ∷ drop ∷ const 3 ∷ else ∷ end ∷ end ∷ []) ≡ Is (if (FuncType 2) ∷ drop ∷ const 3 ∷ end ∷ end ∷ [])
-left_out_with_number = refl
+omitted_with_number : written_operators odd odd_numbers (if (FuncType 0) ∷ drop ∷ const 3 ∷ else ∷ end ∷ end ∷ []) ≡ Is (if (FuncType 2) ∷ drop ∷ const 3 ∷ end ∷ end ∷ [])
+omitted_with_number = refl
 
 written_else_for_parameter : written_operators odd odd_numbers (if (FuncType 1) ∷ drop ∷ end ∷ end ∷ []) ≡ Is (if (FuncType 1) ∷ drop ∷ else ∷ end ∷ end ∷ [])
 written_else_for_parameter = refl
@@ -286,8 +287,8 @@ kept_delegate : IsKept (try Empty ∷ delegate 0 ∷ end ∷ [])
 kept_delegate = refl
 
 -- 06 40 08 00 01 41 07 07 00 19 0b 0b
-cut_try : IsWrittenAs (try Empty ∷ throw 0 ∷ nop ∷ const 7 ∷ catch 0 ∷ catch_all ∷ end ∷ end ∷ []) (try Empty ∷ throw 0 ∷ catch 0 ∷ catch_all ∷ end ∷ end ∷ [])
-cut_try = refl
+diverging_try : IsWrittenAs (try Empty ∷ throw 0 ∷ nop ∷ const 7 ∷ catch 0 ∷ catch_all ∷ end ∷ end ∷ []) (try Empty ∷ throw 0 ∷ catch 0 ∷ catch_all ∷ end ∷ end ∷ [])
+diverging_try = refl
 
 -- 02 40 1f 40 01 02 00 0b 0b 0b and 1f 40 01 02 00 0b 0b
 kept_table : IsKept (block Empty ∷ try_table Empty (catches_all 0 ∷ []) ∷ end ∷ end ∷ end ∷ [])

@@ -2,6 +2,7 @@
 use Rattle.std.specs.Prelude.{◌≡◌, ℕ, ◌+◌, ◌==◌, cond, List, [], ◌∷◌, Option, Some, None, Result, Ok, Err, refl}
 use Rattle.wasm_operators.specs.declared.types.BlockType.TheVariants.{Empty, Value}
 use Rattle.walrus_ir.specs.declared.val_type.ValType.TheVariants.{I32}
+use Rattle.walrus_ir.specs.Locations.{default_location}
 use Rattle.wasm_numbers.specs.Numbers.{integer}
 use Rattle.wasm_operators.specs.Opcodes.{kinds_of_byte, opcode}
 use Rattle.wasm_operators.specs.Operations.{RawOperation}
@@ -12,7 +13,6 @@ use Rattle.wasm_body.specs.declared.error.ParseFailure.{ParseFailure}
 use Rattle.wasm_body.specs.SourceTree.{Body}
 use Rattle.wasm_body.specs.Naming.{Occurrence}
 use Rattle.wasm_body.specs.Parsing.Lists.{parsed}
-use Rattle.wasm_body.specs.FunctionTree.{default_location}
 use Rattle.wasm_body.specs.NormalForm.{typing_of, normal_form, named_body}
 use Rattle.wasm_body.specs.Pairs.{Pair, tree_pairs, location_in}
 use Rattle.wasm_body.proofs.Examples.Operators.{nop, if, else, try, call, end, delegate, drop, const}
@@ -30,9 +30,9 @@ of_if : pairs (const 1 ∷ if Empty ∷ end ∷ end ∷ []) ≡ Ok ((0, 1) ∷ (
 unfolding short_signed
 of_if = refl
 
-of_left_out_else : pairs (const 1 ∷ if Empty ∷ else ∷ end ∷ end ∷ []) ≡ Ok ((0, 1) ∷ (1, 3) ∷ (3, 5) ∷ (4, 6) ∷ [])
+of_omitted_else : pairs (const 1 ∷ if Empty ∷ else ∷ end ∷ end ∷ []) ≡ Ok ((0, 1) ∷ (1, 3) ∷ (3, 5) ∷ (4, 6) ∷ [])
 unfolding short_signed
-of_left_out_else = refl
+of_omitted_else = refl
 
 -- 41 01 04 7f 41 02 0b 1a 0b: the added `else` has the location of the old `end`, and the new `end` the default
 of_added_else : pairs (const 1 ∷ if (Value I32) ∷ const 2 ∷ end ∷ drop ∷ end ∷ [])
@@ -82,9 +82,9 @@ without_else = refl
 abbrev with_empty_else : List ℕ
 with_empty_else = 0x41 ∷ 0x01 ∷ 0x04 ∷ 0x40 ∷ 0x05 ∷ 0x0b ∷ 0x0b ∷ []
 
-left_out_else : pairs_of_body (parsed (setting_from 1 None) with_empty_else) ≡ Some (Ok ((1, 1) ∷ (3, 3) ∷ (6, 5) ∷ (7, 6) ∷ []))
+omitted_else : pairs_of_body (parsed (setting_from 1 None) with_empty_else) ≡ Some (Ok ((1, 1) ∷ (3, 3) ∷ (6, 5) ∷ (7, 6) ∷ []))
 unfolding read_operation opcode kinds_of_byte integer short_signed
-left_out_else = refl
+omitted_else = refl
 
 -- with a location function whose result for the source's `end` is the default location: the location of the `else`
 abbrev none_for_end : ℕ → ℕ

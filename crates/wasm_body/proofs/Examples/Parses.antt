@@ -38,9 +38,9 @@ unfolding read_operation opcode kinds_of_byte
 places = refl
 
 -- but for a location function
-answered : locations (setting_from 101 (Some (λ p. p + 7))) (0x01 ∷ 0x0b ∷ []) ≡ Ok (108 ∷ 109 ∷ [])
+with_locations : locations (setting_from 101 (Some (λ p. p + 7))) (0x01 ∷ 0x0b ∷ []) ≡ Ok (108 ∷ 109 ∷ [])
 unfolding read_operation opcode kinds_of_byte
-answered = refl
+with_locations = refl
 
 -- from 4294967295 on a place is no location
 last_place : locations (setting_from 4294967294 None) (0x0b ∷ []) ≡ Ok (4294967294 ∷ [])

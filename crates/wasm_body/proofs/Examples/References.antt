@@ -12,7 +12,7 @@ use Rattle.wasm_numbers.specs.Numbers.{integer}
 use Rattle.wasm_numbers.specs.Reading.{many}
 use Rattle.wasm_operators.specs.Types.{value_at, nullable_at, heap_at}
 use Rattle.wasm_operators.specs.Immediates.{cast_parts}
-use Rattle.wasm_operators.specs.Opcodes.{kinds_of_byte, kinds_behind, opcode}
+use Rattle.wasm_operators.specs.Opcodes.{kinds_of_byte, kinds_after, opcode}
 use Rattle.wasm_operators.specs.Operations.{RawImmediate, index, local, label, number, block, heap, cast, lanes, RawOperation, operation}
 use Rattle.wasm_operators.specs.Shortest.{short_unsigned, short_signed, short_cast, short}
 use Rattle.wasm_operators.specs.Spelling.{read_operation}
@@ -134,69 +134,69 @@ before_references = refl
 
 -- fb 00 to fb 05: a type, and a field
 of_struct_new : read_operation (0xfb ∷ 0x00 ∷ 0x07 ∷ []) ≡ Ok (aggregate 0 (index Types 7 ∷ []), [])
-unfolding read_operation opcode kinds_behind integer
+unfolding read_operation opcode kinds_after integer
 of_struct_new = refl
 
 of_struct_new_default : read_operation (0xfb ∷ 0x01 ∷ 0x07 ∷ []) ≡ Ok (aggregate 1 (index Types 7 ∷ []), [])
-unfolding read_operation opcode kinds_behind integer
+unfolding read_operation opcode kinds_after integer
 of_struct_new_default = refl
 
 of_struct_get : read_operation (0xfb ∷ 0x02 ∷ 0x07 ∷ 0x01 ∷ []) ≡ Ok (aggregate 2 (index Types 7 ∷ number 1 ∷ []), [])
-unfolding read_operation opcode kinds_behind integer
+unfolding read_operation opcode kinds_after integer
 of_struct_get = refl
 
 of_struct_set : read_operation (0xfb ∷ 0x05 ∷ 0x07 ∷ 0x01 ∷ []) ≡ Ok (aggregate 5 (index Types 7 ∷ number 1 ∷ []), [])
-unfolding read_operation opcode kinds_behind integer
+unfolding read_operation opcode kinds_after integer
 of_struct_set = refl
 
 -- fb 06 to fb 0a: a type; and a length, a data segment or an element segment
 of_array_new : read_operation (0xfb ∷ 0x06 ∷ 0x03 ∷ []) ≡ Ok (aggregate 6 (index Types 3 ∷ []), [])
-unfolding read_operation opcode kinds_behind integer
+unfolding read_operation opcode kinds_after integer
 of_array_new = refl
 
 of_array_new_default : read_operation (0xfb ∷ 0x07 ∷ 0x03 ∷ []) ≡ Ok (aggregate 7 (index Types 3 ∷ []), [])
-unfolding read_operation opcode kinds_behind integer
+unfolding read_operation opcode kinds_after integer
 of_array_new_default = refl
 
 of_array_new_fixed : read_operation (0xfb ∷ 0x08 ∷ 0x03 ∷ 0x02 ∷ []) ≡ Ok (aggregate 8 (index Types 3 ∷ number 2 ∷ []), [])
-unfolding read_operation opcode kinds_behind integer
+unfolding read_operation opcode kinds_after integer
 of_array_new_fixed = refl
 
 of_array_new_data : read_operation (0xfb ∷ 0x09 ∷ 0x03 ∷ 0x02 ∷ []) ≡ Ok (aggregate 9 (index Types 3 ∷ index Data 2 ∷ []), [])
-unfolding read_operation opcode kinds_behind integer
+unfolding read_operation opcode kinds_after integer
 of_array_new_data = refl
 
 of_array_new_elem : read_operation (0xfb ∷ 0x0a ∷ 0x03 ∷ 0x02 ∷ []) ≡ Ok (aggregate 10 (index Types 3 ∷ index Elements 2 ∷ []), [])
-unfolding read_operation opcode kinds_behind integer
+unfolding read_operation opcode kinds_after integer
 of_array_new_elem = refl
 
 -- fb 0b to fb 13
 of_array_get : read_operation (0xfb ∷ 0x0b ∷ 0x03 ∷ []) ≡ Ok (aggregate 11 (index Types 3 ∷ []), [])
-unfolding read_operation opcode kinds_behind integer
+unfolding read_operation opcode kinds_after integer
 of_array_get = refl
 
 of_array_set : read_operation (0xfb ∷ 0x0e ∷ 0x03 ∷ []) ≡ Ok (aggregate 14 (index Types 3 ∷ []), [])
-unfolding read_operation opcode kinds_behind integer
+unfolding read_operation opcode kinds_after integer
 of_array_set = refl
 
 of_array_len : read_operation (0xfb ∷ 0x0f ∷ []) ≡ Ok (aggregate 15 [], [])
-unfolding read_operation opcode kinds_behind integer
+unfolding read_operation opcode kinds_after integer
 of_array_len = refl
 
 of_array_fill : read_operation (0xfb ∷ 0x10 ∷ 0x03 ∷ []) ≡ Ok (aggregate 16 (index Types 3 ∷ []), [])
-unfolding read_operation opcode kinds_behind integer
+unfolding read_operation opcode kinds_after integer
 of_array_fill = refl
 
 of_array_copy : read_operation (0xfb ∷ 0x11 ∷ 0x03 ∷ 0x04 ∷ []) ≡ Ok (aggregate 17 (index Types 3 ∷ index Types 4 ∷ []), [])
-unfolding read_operation opcode kinds_behind integer
+unfolding read_operation opcode kinds_after integer
 of_array_copy = refl
 
 of_array_init_data : read_operation (0xfb ∷ 0x12 ∷ 0x03 ∷ 0x04 ∷ []) ≡ Ok (aggregate 18 (index Types 3 ∷ index Data 4 ∷ []), [])
-unfolding read_operation opcode kinds_behind integer
+unfolding read_operation opcode kinds_after integer
 of_array_init_data = refl
 
 of_array_init_elem : read_operation (0xfb ∷ 0x13 ∷ 0x03 ∷ 0x04 ∷ []) ≡ Ok (aggregate 19 (index Types 3 ∷ index Elements 4 ∷ []), [])
-unfolding read_operation opcode kinds_behind integer
+unfolding read_operation opcode kinds_after integer
 of_array_init_elem = refl
 
 array_copy_written : short (aggregate 17 (index Types 3 ∷ index Types 4 ∷ [])) ≡ 0xfb ∷ 0x11 ∷ 0x03 ∷ 0x04 ∷ []
@@ -207,24 +207,24 @@ array_copy_written = refl
 
 -- fb 14 6b; fb 15 01, where it may be null; fb 16 6b; fb 17 01
 of_test : read_operation (0xfb ∷ 0x14 ∷ 0x6b ∷ []) ≡ Ok (aggregate 20 (heap (Abstract abstract.Struct) ∷ []), [])
-unfolding read_operation opcode kinds_behind integer heap_at
+unfolding read_operation opcode kinds_after integer heap_at
 of_test = refl
 
 of_test_null : read_operation (0xfb ∷ 0x15 ∷ 0x01 ∷ []) ≡ Ok (aggregate 21 (heap (Concrete 1) ∷ []), [])
-unfolding read_operation opcode kinds_behind integer heap_at
+unfolding read_operation opcode kinds_after integer heap_at
 of_test_null = refl
 
 of_cast : read_operation (0xfb ∷ 0x16 ∷ 0x6b ∷ []) ≡ Ok (aggregate 22 (heap (Abstract abstract.Struct) ∷ []), [])
-unfolding read_operation opcode kinds_behind integer heap_at
+unfolding read_operation opcode kinds_after integer heap_at
 of_cast = refl
 
 of_cast_null : read_operation (0xfb ∷ 0x17 ∷ 0x01 ∷ []) ≡ Ok (aggregate 23 (heap (Concrete 1) ∷ []), [])
-unfolding read_operation opcode kinds_behind integer heap_at
+unfolding read_operation opcode kinds_after integer heap_at
 of_cast_null = refl
 
 -- fb 18 01 02 6e 05: the source may be null; flags, label, source, target
 of_branch_on_cast : read_operation (0xfb ∷ 0x18 ∷ 0x01 ∷ 0x02 ∷ 0x6e ∷ 0x05 ∷ []) ≡ Ok (aggregate 24 (cast (record { from_nullable = true; to_nullable = false; label = 2; source = Abstract abstract.Any; target = Concrete 5 }) ∷ []), [])
-unfolding read_operation opcode kinds_behind integer heap_at cast_parts
+unfolding read_operation opcode kinds_after integer heap_at cast_parts
 of_branch_on_cast = refl
 
 branch_on_cast_written : short (aggregate 24 (cast (record { from_nullable = true; to_nullable = false; label = 2; source = Abstract abstract.Any; target = Concrete 5 }) ∷ [])) ≡ 0xfb ∷ 0x18 ∷ 0x01 ∷ 0x02 ∷ 0x6e ∷ 0x05 ∷ []
@@ -233,37 +233,37 @@ branch_on_cast_written = refl
 
 -- fb 19 02 00 6d 6c: the target may be null
 of_branch_on_failed_cast : read_operation (0xfb ∷ 0x19 ∷ 0x02 ∷ 0x00 ∷ 0x6d ∷ 0x6c ∷ []) ≡ Ok (aggregate 25 (cast (record { from_nullable = false; to_nullable = true; label = 0; source = Abstract abstract.Eq; target = Abstract abstract.I31 }) ∷ []), [])
-unfolding read_operation opcode kinds_behind integer heap_at cast_parts
+unfolding read_operation opcode kinds_after integer heap_at cast_parts
 of_branch_on_failed_cast = refl
 
 -- fb 18 04 00 70 70 0b: the flags decide, whatever follows; fb 18
 bad_cast_flags : read_operation (0xfb ∷ 0x18 ∷ 0x04 ∷ 0x00 ∷ 0x70 ∷ 0x70 ∷ 0x0b ∷ []) ≡ Err BadCastFlags
-unfolding read_operation opcode kinds_behind integer heap_at cast_parts
+unfolding read_operation opcode kinds_after integer heap_at cast_parts
 bad_cast_flags = refl
 
 cast_ends : read_operation (0xfb ∷ 0x18 ∷ []) ≡ Err Truncated
-unfolding read_operation opcode kinds_behind integer heap_at cast_parts
+unfolding read_operation opcode kinds_after integer heap_at cast_parts
 cast_ends = refl
 
 -- fb 1a to fb 1e; no operator has the number 31
 of_any : read_operation (0xfb ∷ 0x1a ∷ []) ≡ Ok (aggregate 26 [], [])
-unfolding read_operation opcode kinds_behind integer
+unfolding read_operation opcode kinds_after integer
 of_any = refl
 
 of_extern : read_operation (0xfb ∷ 0x1b ∷ []) ≡ Ok (aggregate 27 [], [])
-unfolding read_operation opcode kinds_behind integer
+unfolding read_operation opcode kinds_after integer
 of_extern = refl
 
 of_i31 : read_operation (0xfb ∷ 0x1c ∷ []) ≡ Ok (aggregate 28 [], [])
-unfolding read_operation opcode kinds_behind integer
+unfolding read_operation opcode kinds_after integer
 of_i31 = refl
 
 of_i31_get_u : read_operation (0xfb ∷ 0x1e ∷ []) ≡ Ok (aggregate 30 [], [])
-unfolding read_operation opcode kinds_behind integer
+unfolding read_operation opcode kinds_after integer
 of_i31_get_u = refl
 
 past_aggregates : read_operation (0xfb ∷ 0x1f ∷ []) ≡ Err UnknownOperator
-unfolding read_operation opcode kinds_behind integer
+unfolding read_operation opcode kinds_after integer
 past_aggregates = refl
 
 aggregate_number_missing : read_operation (0xfb ∷ []) ≡ Err Truncated
@@ -277,7 +277,7 @@ abbrev sixteen : List ℕ
 sixteen = 0 ∷ 16 ∷ 1 ∷ 17 ∷ 2 ∷ 18 ∷ 3 ∷ 19 ∷ 4 ∷ 20 ∷ 5 ∷ 21 ∷ 6 ∷ 22 ∷ 7 ∷ 255 ∷ []
 
 of_shuffle : read_operation (0xfd ∷ 0x0d ∷ sixteen) ≡ Ok (operation (Prefixed 0xfd 13) (lanes sixteen ∷ []), [])
-unfolding read_operation opcode kinds_behind integer many
+unfolding read_operation opcode kinds_after integer many
 of_shuffle = refl
 
 shuffle_written : short (operation (Prefixed 0xfd 13) (lanes sixteen ∷ [])) ≡ 0xfd ∷ 0x0d ∷ sixteen
@@ -285,5 +285,5 @@ unfolding short_unsigned
 shuffle_written = refl
 
 lane_missing : read_operation (0xfd ∷ 0x0d ∷ 0 ∷ 16 ∷ 1 ∷ 17 ∷ 2 ∷ 18 ∷ 3 ∷ 19 ∷ 4 ∷ 20 ∷ 5 ∷ 21 ∷ 6 ∷ 22 ∷ 7 ∷ []) ≡ Err Truncated
-unfolding read_operation opcode kinds_behind integer many
+unfolding read_operation opcode kinds_after integer many
 lane_missing = refl

@@ -7,10 +7,10 @@ use Rattle.wasm_operators.specs.Operations.{RawOperation}
 use Rattle.wasm_body.specs.Machine.{Outcome, Go, Trap, Raise, Way, Entry, Event, Executed, Taken, Returned, TailCalled, Trapped, Escaped, OutcomesOut, TurnsOut, Mismatch, Run}
 use Rattle.wasm_body.proofs.Examples.Operators.{unreachable, nop, block, loop, if, else, try, catch, throw, rethrow, throw_ref, end, br, br_if, br_table, return, call, call_indirect, call_ref, return_call, return_call_indirect, return_call_ref, delegate, catch_all, drop, try_table, const, br_on_null, br_on_non_null, br_on_cast, br_on_cast_fail, catches, catches_ref, catches_all}
 use Rattle.wasm_body.proofs.Examples.Modules.{demo}
-use Rattle.wasm_body.proofs.Examples.Rows.{Answer, trace, a_run}
+use Rattle.wasm_body.proofs.Examples.Rows.{Computed, trace, a_run}
 
 -- over the module of the worked rows
-abbrev runs : List RawOperation → List Outcome → (turns : ℕ) → Answer (Run ℕ)
+abbrev runs : List RawOperation → List Outcome → (turns : ℕ) → Computed (Run ℕ)
 runs os outcomes turns = trace demo os outcomes turns
 
 -- these operators are executed, and no exception is caught
@@ -48,11 +48,11 @@ out_of_consequent : runs (const 0 ∷ if Empty ∷ br 0 ∷ else ∷ const 7 ∷
 out_of_consequent = refl
 
 -- a branch by a condition, which is true, in two blocks
-abbrev conditional_run : RawOperation → Answer (Run ℕ)
+abbrev conditional_run : RawOperation → Computed (Run ℕ)
 conditional_run o = runs (block Empty ∷ block Empty ∷ o ∷ end ∷ const 7 ∷ end ∷ end ∷ []) (Way true ∷ []) 0
 
 -- it goes to the place after the outer block
-abbrev branched_run : Answer (Run ℕ)
+abbrev branched_run : Computed (Run ℕ)
 branched_run = a_run (executions (0 ∷ 1 ∷ 2 ∷ [])) Returned
 
 -- 0d, d5, d6, fb 18 and fb 19
@@ -88,8 +88,8 @@ default_entry : runs with_table (Go ∷ Entry 9 ∷ []) 0 ≡ a_run (executions 
 default_entry = refl
 
 -- the entry just after the last
-entry_behind : runs with_table (Go ∷ Entry 1 ∷ []) 0 ≡ a_run (executions (0 ∷ 1 ∷ 2 ∷ 3 ∷ [])) Returned
-entry_behind = refl
+entry_after : runs with_table (Go ∷ Entry 1 ∷ []) 0 ≡ a_run (executions (0 ∷ 1 ∷ 2 ∷ 3 ∷ [])) Returned
+entry_after = refl
 
 -- 02 40 41 00 0e 00 00 0b 41 07 1a 0b: a table without entries
 only_default : runs (block Empty ∷ const 0 ∷ br_table [] 0 ∷ end ∷ const 7 ∷ drop ∷ end ∷ []) (Go ∷ Entry 9 ∷ Go ∷ Go ∷ []) 0
@@ -116,8 +116,8 @@ empty_alternative : runs (const 0 ∷ if Empty ∷ const 5 ∷ drop ∷ else ∷
 empty_alternative = refl
 
 -- after the `end` of such an `if` its label is gone
-behind_if_alone : runs (block Empty ∷ if Empty ∷ const 5 ∷ end ∷ br 0 ∷ const 7 ∷ end ∷ end ∷ []) (Way false ∷ []) 0 ≡ a_run (executions (0 ∷ 1 ∷ 4 ∷ [])) Returned
-behind_if_alone = refl
+after_if_alone : runs (block Empty ∷ if Empty ∷ const 5 ∷ end ∷ br 0 ∷ const 7 ∷ end ∷ end ∷ []) (Way false ∷ []) 0 ≡ a_run (executions (0 ∷ 1 ∷ 4 ∷ [])) Returned
+after_if_alone = refl
 
 -- an `else` of an `if` inside is passed over
 outer_alternative : runs (if Empty ∷ if Empty ∷ else ∷ end ∷ else ∷ const 7 ∷ end ∷ end ∷ []) (Way false ∷ Go ∷ []) 0
@@ -298,8 +298,8 @@ throw_ref_traps = refl
 throw_ref_raises : runs (throw_ref ∷ end ∷ []) (Raise [] ∷ []) 0 ≡ a_run (executions (0 ∷ [])) (Escaped [])
 throw_ref_raises = refl
 
-throw_ref_goes_on : runs (throw_ref ∷ end ∷ []) (Go ∷ []) 0 ≡ a_run [] Mismatch
-throw_ref_goes_on = refl
+throw_ref_continues : runs (throw_ref ∷ end ∷ []) (Go ∷ []) 0 ≡ a_run [] Mismatch
+throw_ref_continues = refl
 
 -- 00 0b
 unreached : runs (unreachable ∷ end ∷ []) [] 0 ≡ a_run (executions (0 ∷ [])) Trapped
@@ -319,39 +319,39 @@ no_outcome = refl
 abbrev Mismatches : RawOperation → Outcome → Type 0
 Mismatches o outcome = runs (block Empty ∷ o ∷ end ∷ end ∷ []) (outcome ∷ []) 0 ≡ a_run (executions (0 ∷ [])) Mismatch
 
-plain_asks : Mismatches (call 0) (Way true) × Mismatches (call 0) (Way false) × Mismatches (call 0) (Entry 0)
-plain_asks = (refl, refl, refl)
+plain_mismatch : Mismatches (call 0) (Way true) × Mismatches (call 0) (Way false) × Mismatches (call 0) (Entry 0)
+plain_mismatch = (refl, refl, refl)
 
-conditional_branch_asks : Mismatches (br_if 0) Go × Mismatches (br_if 0) Trap × Mismatches (br_if 0) raise_0 × Mismatches (br_if 0) (Entry 0)
-conditional_branch_asks = (refl, refl, refl, refl)
+conditional_branch_mismatch : Mismatches (br_if 0) Go × Mismatches (br_if 0) Trap × Mismatches (br_if 0) raise_0 × Mismatches (br_if 0) (Entry 0)
+conditional_branch_mismatch = (refl, refl, refl, refl)
 
-table_branch_asks : Mismatches (br_table [] 0) Go × Mismatches (br_table [] 0) Trap × Mismatches (br_table [] 0) raise_0 × Mismatches (br_table [] 0) (Way true)
-table_branch_asks = (refl, refl, refl, refl)
+table_branch_mismatch : Mismatches (br_table [] 0) Go × Mismatches (br_table [] 0) Trap × Mismatches (br_table [] 0) raise_0 × Mismatches (br_table [] 0) (Way true)
+table_branch_mismatch = (refl, refl, refl, refl)
 
-throw_asks : Mismatches (throw 0) Go × Mismatches (throw 0) (Way true) × Mismatches (throw 0) (Entry 0)
-throw_asks = (refl, refl, refl)
+throw_mismatch : Mismatches (throw 0) Go × Mismatches (throw 0) (Way true) × Mismatches (throw 0) (Entry 0)
+throw_mismatch = (refl, refl, refl)
 
-throw_ref_asks : Mismatches throw_ref (Way true) × Mismatches throw_ref (Entry 0)
-throw_ref_asks = (refl, refl)
+throw_ref_mismatch : Mismatches throw_ref (Way true) × Mismatches throw_ref (Entry 0)
+throw_ref_mismatch = (refl, refl)
 
-tail_call_asks : Mismatches (return_call 0) (Way true) × Mismatches (return_call 0) (Entry 0)
-tail_call_asks = (refl, refl)
+tail_call_mismatch : Mismatches (return_call 0) (Way true) × Mismatches (return_call 0) (Entry 0)
+tail_call_mismatch = (refl, refl)
 
-if_asks : runs (if Empty ∷ end ∷ end ∷ []) (Go ∷ []) 0 ≡ a_run [] Mismatch
-if_asks = refl
+if_mismatch : runs (if Empty ∷ end ∷ end ∷ []) (Go ∷ []) 0 ≡ a_run [] Mismatch
+if_mismatch = refl
 
 -- nor does one that gets none
-unanswered : runs (block Empty ∷ br_if 0 ∷ end ∷ end ∷ []) [] 0 ≡ a_run (executions (0 ∷ [])) OutcomesOut
-unanswered = refl
+branch_without_outcome : runs (block Empty ∷ br_if 0 ∷ end ∷ end ∷ []) [] 0 ≡ a_run (executions (0 ∷ [])) OutcomesOut
+branch_without_outcome = refl
 
-table_unanswered : runs (br_table [] 0 ∷ end ∷ []) [] 0 ≡ a_run [] OutcomesOut
-table_unanswered = refl
+table_without_outcome : runs (br_table [] 0 ∷ end ∷ []) [] 0 ≡ a_run [] OutcomesOut
+table_without_outcome = refl
 
-if_unanswered : runs (if Empty ∷ end ∷ end ∷ []) [] 0 ≡ a_run [] OutcomesOut
-if_unanswered = refl
+if_without_outcome : runs (if Empty ∷ end ∷ end ∷ []) [] 0 ≡ a_run [] OutcomesOut
+if_without_outcome = refl
 
-throw_unanswered : runs (throw 0 ∷ end ∷ []) [] 0 ≡ a_run [] OutcomesOut
-throw_unanswered = refl
+throw_without_outcome : runs (throw 0 ∷ end ∷ []) [] 0 ≡ a_run [] OutcomesOut
+throw_without_outcome = refl
 
 -- a trap is not an exception
 trap_not_caught : runs (try Empty ∷ call 0 ∷ catch_all ∷ end ∷ end ∷ []) (Trap ∷ []) 0 ≡ a_run (executions (0 ∷ 1 ∷ [])) Trapped

@@ -4,6 +4,7 @@ use Rattle.walrus_ir.specs.declared.val_type.ValType.TheVariants.{I32}
 use Rattle.walrus_ir.specs.declared.val_type.InstrSeqType.{InstrSeqType}
 use Rattle.walrus_ir.specs.declared.val_type.InstrSeqType.TheVariants.{Simple, MultiValue}
 use Rattle.walrus_ir.specs.Tree.{no_items, item, Sequences, no_sequences, sequence}
+use Rattle.walrus_ir.specs.Locations.{default_location}
 use Rattle.wasm_operators.specs.declared.types.BlockType.TheVariants.{Empty, Value, FuncType}
 use Rattle.wasm_operators.specs.declared.types.Space.TheVariants.{Types, Funcs, Tags}
 use Rattle.wasm_operators.specs.Operations.{RawOperation}
@@ -11,7 +12,7 @@ use Rattle.wasm_body.specs.declared.error.EmitError.{EmitError}
 use Rattle.wasm_body.specs.declared.error.EmitError.TheVariants.{Index, UnnumberedLocal, BranchOutside, BadClauses, TooLarge}
 use Rattle.wasm_body.specs.declared.error.IndexError.TheVariants.{Unnumbered}
 use Rattle.wasm_body.specs.Translation.{Located, at_location}
-use Rattle.wasm_body.specs.FunctionTree.{Depth, Outside, TreeOperation, Head, LegacyClause, handles, handles_all, delegates, Instruction, FunctionTree, default_location}
+use Rattle.wasm_body.specs.FunctionTree.{Depth, Outside, TreeOperation, Head, LegacyClause, handles, handles_all, delegates, Instruction, FunctionTree}
 use Rattle.wasm_body.specs.NormalForm.{head}
 use Rattle.wasm_body.specs.FlatText.{are_lawful, exponent_of}
 use Rattle.wasm_body.specs.Bytes.{Numbers, numbered_text}
@@ -38,26 +39,26 @@ lawful_all = refl
 lawful_delegate : are_lawful (delegates 0 ∷ []) ≡ true
 lawful_delegate = refl
 
-handler_behind_all : are_lawful (handles_all ∷ first ∷ []) ≡ false
-handler_behind_all = refl
+handler_after_all : are_lawful (handles_all ∷ first ∷ []) ≡ false
+handler_after_all = refl
 
 two_of_all : are_lawful (handles_all ∷ handles_all ∷ []) ≡ false
 two_of_all = refl
 
-two_of_all_behind : are_lawful (first ∷ handles_all ∷ handles_all ∷ []) ≡ false
-two_of_all_behind = refl
+two_of_all_after : are_lawful (first ∷ handles_all ∷ handles_all ∷ []) ≡ false
+two_of_all_after = refl
 
-delegate_behind_handler : are_lawful (first ∷ delegates 0 ∷ []) ≡ false
-delegate_behind_handler = refl
+delegate_after_handler : are_lawful (first ∷ delegates 0 ∷ []) ≡ false
+delegate_after_handler = refl
 
-delegate_behind_all : are_lawful (handles_all ∷ delegates 0 ∷ []) ≡ false
-delegate_behind_all = refl
+delegate_after_all : are_lawful (handles_all ∷ delegates 0 ∷ []) ≡ false
+delegate_after_all = refl
 
-handler_behind_delegate : are_lawful (delegates 0 ∷ first ∷ []) ≡ false
-handler_behind_delegate = refl
+handler_after_delegate : are_lawful (delegates 0 ∷ first ∷ []) ≡ false
+handler_after_delegate = refl
 
-all_behind_delegate : are_lawful (delegates 0 ∷ handles_all ∷ []) ≡ false
-all_behind_delegate = refl
+all_after_delegate : are_lawful (delegates 0 ∷ handles_all ∷ []) ≡ false
+all_after_delegate = refl
 
 two_delegates : are_lawful (delegates 0 ∷ delegates 0 ∷ []) ≡ false
 two_delegates = refl

@@ -2,24 +2,24 @@
 use Rattle.std.proofs.Common.{◌≡◌, ℕ, zero, suc, ◌≤◌, List, [], ◌∷◌, length, Bool, true, false, cond, Option, None, refl, sym, ap, ◌∙◌, arith}
 use Rattle.wasm_body.specs.Control.{Clause, Construct, Block, Loop, TryTable, If, Try, Opens, Marked, with_control}
 use Rattle.wasm_body.specs.SourceTree.{Wrapper, OfBlock, OfLoop, OfTryTable, construct_of}
-use Rattle.wasm_body.specs.Machine.{Outcome, Executed, Taken, then, Tags, seek, behind_closer, Label, label, From, Response, Passes, Jumps, arrive, branch, takes, jump, responds_as, enter, other_way, is_else}
+use Rattle.wasm_body.specs.Machine.{Outcome, Executed, Taken, then, Tags, seek, after_closer, Label, label, From, Response, Passes, Jumps, arrive, branch, takes, jump, responds_as, enter, other_way, is_else}
 use Rattle.wasm_body.proofs.Executions.Same.{Bound, the_count, again, go, bounded_run-go, Same, SameOutside, Agree}
 use Rattle.wasm_body.proofs.Executions.Steps.{weaken, step_same, way_same, cond_same, reacts, push}
 
 -- A construct whose inside begins at x, and whose first part or closer is at c: r is the place after its closer.
 pub record Closes {A : Type 0} (x c r : List (Marked A)) : Type 0 where
-  pub behind : behind_closer x ≡ r
+  pub following : after_closer x ≡ r
   pub shorter : length r ≤ length c
 
 -- ---- labels of constructs that a branch leaves
 
 abbrev label_of : {A : Type 0} → A → Construct → Option Tags → List (Marked A) → Label A
-label_of a k caught x = record { opener = a; construct = k; behind = x; caught = caught }
+label_of a k caught x = record { opener = a; construct = k; following = x; caught = caught }
 
 -- A branch to a label of the construct goes to the place after the closer.
 abbrev Exits : Type 0 → Construct → Type 0
 Exits A k = (next on : From A) (l : Label A) (labels : List (Label A)) (outcomes : List Outcome)
-    → arrive next on k l labels outcomes ≡ on (behind_closer l.behind) labels outcomes
+    → arrive next on k l labels outcomes ≡ on (after_closer l.following) labels outcomes
 
 -- if an exception that reaches the label does the same
 pub exit_outside : {A : Type 0}
@@ -35,9 +35,9 @@ exit_outside a k caught t x x' c c' r r' ls ls' exits cl cl' agree own_raise =
     (weaken t t (length r) (length r') (length c) (length c') ls ls' (omega arith) cl.shorter cl'.shorter agree.outside)
     (λ β u n m o hu hn hm.
     exits (again β u) (go β u n) (label_of a k caught x) ls o
-    ∙ (ap (λ p. go β u n p ls o) cl.behind
+    ∙ (ap (λ p. go β u n p ls o) cl.following
     ∙ (agree.same β u n m o hu (omega (arith, cl.shorter)) (omega (arith, cl'.shorter))
-    ∙ (ap (λ p. go the_count u m p ls' o) (sym cl'.behind) ∙ sym (exits (again the_count u) (go the_count u m) (label_of a k caught x') ls' o)))))
+    ∙ (ap (λ p. go the_count u m p ls' o) (sym cl'.following) ∙ sym (exits (again the_count u) (go the_count u m) (label_of a k caught x') ls' o)))))
     own_raise refl
 
 -- if the construct passes exceptions on
@@ -71,11 +71,11 @@ jump_same {A = A} (c ∷ cs) i s l l' β t u n m b b' o ls ls' a e hu hn hm =
 
 -- ---- openers that ask for no outcome
 
-abbrev AsksNothing : Construct → Type 0
-AsksNothing If = ⊥
-AsksNothing _ = Unit {0}
+abbrev TakesNoOutcome : Construct → Type 0
+TakesNoOutcome If = ⊥
+TakesNoOutcome _ = Unit {0}
 
-enters : {A : Type 0} → (k : Construct) → AsksNothing k
+enters : {A : Type 0} → (k : Construct) → TakesNoOutcome k
     → (β : Bound A) (u n : ℕ) (a : A) (x : List (Marked A)) (labels : List (Label A)) (outcomes : List Outcome)
     → enter (go β u n) k a x labels outcomes ≡ then (Executed a) (go β u n x (label a k x ∷ labels) outcomes)
 enters If h β u n a x ls o = absurd h
@@ -85,7 +85,7 @@ enters _ h β u n a x ls o = refl
 abbrev SameInside : {A : Type 0} → A → Construct → ℕ → List (Marked A) → List (Label A) → List (Marked A) → List (Label A) → Type 0
 SameInside a k t x ls x' ls' = Same t x (label a k x ∷ ls) x' (label a k x' ∷ ls')
 
-opened_same : {A : Type 0} → (k : Construct) → AsksNothing k
+opened_same : {A : Type 0} → (k : Construct) → TakesNoOutcome k
     → (a : A) (t : ℕ) (x x' : List (Marked A)) (labels labels' : List (Label A)) → SameInside a k t x labels x' labels'
     → Same t (with_control a (Opens k) ∷ x) labels (with_control a (Opens k) ∷ x') labels'
 opened_same k h a t x x' ls ls' s =
@@ -139,10 +139,10 @@ wrapper_outside (OfTryTable cs) a t x x' c c' r r' ls ls' cl cl' agree inside =
     jump_same cs 0 s (label a (TryTable cs) x) (label a (TryTable cs) x') β t u n m (length r) (length r') o ls ls' refl agree.outside hu
     (omega (arith, cl.shorter)) (omega (arith, cl'.shorter))
 
-wrapper_asks : (w : Wrapper) → AsksNothing (construct_of w)
-wrapper_asks OfBlock = tt
-wrapper_asks OfLoop = tt
-wrapper_asks (OfTryTable cs) = tt
+wrapper_takes_none : (w : Wrapper) → TakesNoOutcome (construct_of w)
+wrapper_takes_none OfBlock = tt
+wrapper_takes_none OfLoop = tt
+wrapper_takes_none (OfTryTable cs) = tt
 
 pub wrapped_same : {A : Type 0}
     → (w : Wrapper) (a : A) (t : ℕ) (x x' c c' r r' : List (Marked A)) (labels labels' : List (Label A)) → Closes x c r
@@ -151,7 +151,7 @@ pub wrapped_same : {A : Type 0}
     → SameInside a (construct_of w) v x labels x' labels')
     → Same t (with_control a (Opens (construct_of w)) ∷ x) labels (with_control a (Opens (construct_of w)) ∷ x') labels'
 wrapped_same w a t x x' c c' r r' ls ls' cl cl' agree inside =
-    opened_same (construct_of w) (wrapper_asks w) a t x x' ls ls'
+    opened_same (construct_of w) (wrapper_takes_none w) a t x x' ls ls'
     (inside t (omega arith) (wrapper_outside w a t x x' c c' r r' ls ls' cl cl' agree inside))
 
 -- ---- `if`

@@ -20,12 +20,12 @@ use Rattle.wasm_body.specs.Machine.{Event, Executed, Taken, Run}
 use Rattle.wasm_body.specs.Places.{show_event, show_run, run_by_place, shown_by}
 use Rattle.wasm_body.specs.Pairs.{Pair, pairs_from, tree_pairs, location_in}
 use Rattle.wasm_body.specs.ExecutionLaws.{controls, locations_of}
-use Rattle.wasm_body.specs.LocationLaws.{BalanceAlike, PlacesIncrease, written_run, locations_along, SayLocations, LocationsAreHonest}
+use Rattle.wasm_body.specs.LocationLaws.{BalanceAlike, PlacesIncrease, written_run, locations_along, LocationsAgree, LocationsAreHonest}
 use Rattle.wasm_body.proofs.Translation.Steps.{bound}
-use Rattle.wasm_body.proofs.Structure.Along.{Each, Tells}
+use Rattle.wasm_body.proofs.Structure.Along.{Each, HasControl}
 use Rattle.wasm_body.proofs.NormalForm.Rewritten.{Named}
-use Rattle.wasm_body.proofs.NormalForm.WrittenTexts.{named_by, type_at, answer, anew_by, tree_text_by}
-use Rattle.wasm_body.proofs.NormalForm.NamedTexts.{source_tells}
+use Rattle.wasm_body.proofs.NormalForm.WrittenTexts.{named_by, type_at, written_result, anew_by, tree_text_by}
+use Rattle.wasm_body.proofs.NormalForm.NamedTexts.{source_controls}
 use Rattle.wasm_body.proofs.Bytes.LawfulTyped.{lawful_named}
 use Rattle.wasm_body.proofs.Executions.NormalForms.{named_executions_kept}
 
@@ -72,8 +72,8 @@ places_from : (xs : List (Located RawOperation)) (q j : ℕ) → IsFrom q (slice
 places_from [] q j = tt
 places_from (x ∷ xs) q zero = omega arith
 places_from (x ∷ xs) q (suc j) =
-    let behind = q + length (short x.op) in
-    from_on behind q (slice_get (places (pairs_from behind xs)) j) (omega arith) (places_from xs behind j)
+    let following = q + length (short x.op) in
+    from_on following q (slice_get (places (pairs_from following xs)) j) (omega arith) (places_from xs following j)
 
 -- the first pair is passed over
 passed : (p : Pair) (ps : List Pair) (o : Option ℕ) → IsFrom (suc p.1) o → option_and_then (location_in (p ∷ ps)) o ≡ option_and_then (location_in ps) o
@@ -89,10 +89,10 @@ found (x ∷ xs) q zero =
     let here : (q == q) ≡ true = grind arith in
     ap (λ b. if b then Some x.location else location_in (pairs_from (q + length (short x.op)) xs) q) here
 found (x ∷ xs) q (suc j) =
-    let behind = q + length (short x.op) in
-    let rest = pairs_from behind xs in
+    let following = q + length (short x.op) in
+    let rest = pairs_from following xs in
     let place = slice_get (places rest) j in
-    passed ((x.location, q)) rest place (from_on behind (suc q) place (omega (arith, some_byte x.op)) (places_from xs behind j)) ∙ found xs behind j
+    passed ((x.location, q)) rest place (from_on following (suc q) place (omega (arith, some_byte x.op)) (places_from xs following j)) ∙ found xs following j
 
 -- ---- runs that are shown twice
 
@@ -108,22 +108,22 @@ run_twice f g h e r = ap (λ es. record { events = es; ending = r.ending }) (sho
 -- ---- locations are the same in every way of writing
 
 module _ {M C : Type 0} (w : TextTranslation M C) (m : Typing) where
-  answered_at : (xs : List (Marked Named)) (ys : List (Located (Operation M C))) → gather (map (answer w m) xs) ≡ Ok ys
+  results_at : (xs : List (Marked Named)) (ys : List (Located (Operation M C))) → gather (map (written_result w m) xs) ≡ Ok ys
       → map (λ y. y.location) ys ≡ map (λ x. x.shown.location) xs
-  answered_at [] ys e = let same : [] ≡ ys = cc e in ap (λ (l : List (Located (Operation M C))). map (λ y. y.location) l) (sym same)
-  answered_at (x ∷ xs) ys e =
-      let first = bound (answer w m x) (λ y. gather (map (answer w m) xs) >>= λ zs. Ok (y ∷ zs)) ys e in
-      let rest = bound (gather (map (answer w m) xs)) (λ zs. Ok (first.0 ∷ zs)) ys first.2 in
+  results_at [] ys e = let same : [] ≡ ys = cc e in ap (λ (l : List (Located (Operation M C))). map (λ y. y.location) l) (sym same)
+  results_at (x ∷ xs) ys e =
+      let first = bound (written_result w m x) (λ y. gather (map (written_result w m) xs) >>= λ zs. Ok (y ∷ zs)) ys e in
+      let rest = bound (gather (map (written_result w m) xs)) (λ zs. Ok (first.0 ∷ zs)) ys first.2 in
       let made = bound (translate (named_by w (type_at m x.control x.shown.op)) x.shown.op) (λ o. Ok (at_location o x.shown.location)) first.0 first.1 in
       let is : at_location made.0 x.shown.location ≡ first.0 = cc made.2 in
       let whole : first.0 ∷ rest.0 ≡ ys = cc rest.2 in
       ap (λ (l : List (Located (Operation M C))). map (λ y. y.location) l) (sym whole)
       ∙ (ap (λ (y : Located (Operation M C)). y.location ∷ map (λ z. z.location) rest.0) (sym is)
-      ∙ ap (λ l. x.shown.location ∷ l) (answered_at xs rest.0 rest.1))
+      ∙ ap (λ l. x.shown.location ∷ l) (results_at xs rest.0 rest.1))
 
-text_at : {M C : Type 0} → (w : Writing M C) (m : Typing) (b : Body Named) → Each Tells b.sequence → (ys : List (Located (Operation M C)))
+text_at : {M C : Type 0} → (w : Writing M C) (m : Typing) (b : Body Named) → Each HasControl b.sequence → (ys : List (Located (Operation M C)))
     → tree_text w (normal_form m b) ≡ Ok ys → map (λ y. y.location) ys ≡ map (λ x. x.shown.location) (body_text (anew_by w.balanced m b))
-text_at w m b h ys e = answered_at w.translation m (body_text (anew_by w.balanced m b)) ys (sym (tree_text_by w m b h) ∙ e)
+text_at w m b h ys e = results_at w.translation m (body_text (anew_by w.balanced m b)) ys (sym (tree_text_by w m b h) ∙ e)
 
 -- ---- the laws
 
@@ -140,16 +140,16 @@ module _ (m : Typing) (xs : List Named) (b : Body Named) (hx : IsNamedBody xs b)
 
   located_alike : map (λ z. z.location) numbered.0 ≡ map (λ y. y.location) ys
   located_alike =
-      let tells = source_tells m xs b hx h in
-      text_at (with_numbers to) m b tells numbered.0 numbered.1
+      let has_control = source_controls m xs b hx h in
+      text_at (with_numbers to) m b has_control numbered.0 numbered.1
       ∙ (ap (λ balanced. map (λ x. x.shown.location) (body_text (anew_by balanced m b))) (λ i t. alike t i)
-      ∙ sym (text_at (with_names m) m b tells ys text))
+      ∙ sym (text_at (with_names m) m b has_control ys text))
 
   pub pairs_located : map (λ (p : Pair). p.0) ps ≡ map (λ y. y.location) ys
   pairs_located = ap (λ qs. map (λ (p : Pair). p.0) qs) (sym numbered.2) ∙ (locations_of_pairs numbered.0 before ∙ located_alike)
 
-  pub say_locations : SayLocations ps ys xs
-  say_locations outcomes turns =
+  pub locations_agree : LocationsAgree ps ys xs
+  locations_agree outcomes turns =
       let kept = named_executions_kept m xs b hx h in
       let one : kept.text ≡ ys = let both : Ok kept.text ≡ Ok ys = sym kept.is_text ∙ text in cc in
       let r = run_by_place (controls ys) outcomes turns in
@@ -161,4 +161,4 @@ module _ (m : Typing) (xs : List Named) (b : Body Named) (hx : IsNamedBody xs b)
 
 pub locations_honest : LocationsAreHonest
 locations_honest env xs b spelt lawful =
-    let named = lawful_named env xs b spelt lawful in say_locations (typing_of env) (map name_at xs) (named_body b) named.0 named.1
+    let named = lawful_named env xs b spelt lawful in locations_agree (typing_of env) (map name_at xs) (named_body b) named.0 named.1

@@ -3,17 +3,17 @@
 use Rattle.std.proofs.Common.{◌≡◌, ℕ, zero, suc, ◌+◌, List, [], ◌∷◌, length, map, Bool, true, false, cond, Option, Some, None, refl, sym, ap, ◌∙◌, arith}
 use Rattle.std.specs.Prelude.{slice_get}
 use Rattle.wasm_body.specs.Control.{Action, Nop, Plain, Branch, ConditionalBranch, TableBranch, Return, Unreachable, Throw, ThrowRef, Rethrow, TailCall, Clause, Construct, Block, Loop, TryTable, If, Try, Control, Does, Opens, Catch, Marked, with_control}
-use Rattle.wasm_body.proofs.Structure.Reshown.{remarked}
-use Rattle.wasm_body.specs.Machine.{Shape, Opener, Part, Closer, Other, shape_of, Found, found, seek_at, seek, tail, behind_closer, Tags, has, Outcome, Go, Trap, Raise, Way, Entry, Executed, Taken, TailCalled, TurnsOut, Mismatch, Run, ends, then, Label, label, handler, From, Response, Passes, Hands, Jumps, Enters, takes, jump, catches, clause_at, clause_found, try_responds, responds_as, responds, arrive, branch, react, raise, caught_at, rethrow, target, ask, ask_way, ask_entry, act, is_else, other_at, other_way, enter, leave, step, straight, bounded_run, run}
+use Rattle.wasm_body.proofs.Structure.Mapped.{map_mark}
+use Rattle.wasm_body.specs.Machine.{Shape, Opener, Part, Closer, Other, shape_of, Found, found, seek_at, seek, tail, after_closer, Tags, has, Outcome, Go, Trap, Raise, Way, Entry, Executed, Taken, TailCalled, TurnsOut, Mismatch, Run, ends, then, Label, label, handler, From, Response, Passes, Hands, Jumps, Enters, takes, jump, catches, clause_at, clause_found, try_responds, responds_as, responds, arrive, branch, react, raise, caught_at, rethrow, target, take_outcome, take_way, take_entry, act, is_else, other_at, other_way, enter, leave, step, straight, bounded_run, run}
 use Rattle.wasm_body.specs.Places.{show_run, placed_from, run_by_place, shown_by}
 
 -- ---- operators, labels and the rest with other values shown
 
 abbrev moved : {A B : Type 0} → (A → B) → List (Marked A) → List (Marked B)
-moved f xs = map (remarked f) xs
+moved f xs = map (map_mark f) xs
 
 abbrev relabel : {A B : Type 0} → (A → B) → Label A → Label B
-relabel f l = record { opener = f l.opener; construct = l.construct; behind = moved f l.behind; caught = l.caught }
+relabel f l = record { opener = f l.opener; construct = l.construct; following = moved f l.following; caught = l.caught }
 
 abbrev relabels : {A B : Type 0} → (A → B) → List (Label A) → List (Label B)
 relabels f ls = map (relabel f) ls
@@ -53,7 +53,7 @@ module _ (A B : Type 0) (f : A → B) where
   tail_moved [] = refl
   tail_moved (x ∷ xs) = refl
 
-  closer_moved : (xs : List (Marked A)) → behind_closer (moved f xs) ≡ moved f (behind_closer xs)
+  closer_moved : (xs : List (Marked A)) → after_closer (moved f xs) ≡ moved f (after_closer xs)
   closer_moved xs = ap (λ g. tail g.rest) (seek_moved (λ c. false) 0 0 xs) ∙ tail_moved (seek (λ c. false) 0 0 xs).rest
 
   cond_moved : {X Y : Type 0} → (move : X → Y) (y : Bool) (p q : X) (p' q' : Y) → p' ≡ move p → q' ≡ move q
@@ -84,14 +84,14 @@ module _ (A B : Type 0) (f : A → B) where
       ap (try_responds g) (seek_moved (catches g) 0 0 b) ∙ found_moved (seek (catches g) 0 0 b).passed (seek (catches g) 0 0 b).rest
 
   module _ (again go : From A) (again' go' : From B) (ha : Natural f again again') (hg : Natural f go go') where
-    behind_moved : (b : List (Marked A)) (labels : List (Label A)) (outcomes : List Outcome)
-        → go' (behind_closer (moved f b)) (relabels f labels) outcomes ≡ show_run f (go (behind_closer b) labels outcomes)
-    behind_moved b ls o = ap (λ r. go' r (relabels f ls) o) (closer_moved b) ∙ hg (behind_closer b) ls o
+    after_moved : (b : List (Marked A)) (labels : List (Label A)) (outcomes : List Outcome)
+        → go' (after_closer (moved f b)) (relabels f labels) outcomes ≡ show_run f (go (after_closer b) labels outcomes)
+    after_moved b ls o = ap (λ r. go' r (relabels f ls) o) (closer_moved b) ∙ hg (after_closer b) ls o
 
     arrive_moved : (k : Construct) (l : Label A) (labels : List (Label A)) (outcomes : List Outcome)
         → arrive again' go' k (relabel f l) (relabels f labels) outcomes ≡ show_run f (arrive again go k l labels outcomes)
-    arrive_moved Loop l ls o = ha l.behind (l ∷ ls) o
-    arrive_moved _ l ls o = behind_moved l.behind ls o
+    arrive_moved Loop l ls o = ha l.following (l ∷ ls) o
+    arrive_moved _ l ls o = after_moved l.following ls o
 
     branch_moved : (n : ℕ) (labels : List (Label A)) (outcomes : List Outcome)
         → branch again' go' n (relabels f labels) outcomes ≡ show_run f (branch again go n labels outcomes)
@@ -113,7 +113,7 @@ module _ (A B : Type 0) (f : A → B) where
     raise_moved g [] o n = refl
     raise_moved g (l ∷ ls) o zero =
         ap (react again' go' (raise again' go' g (relabels f ls) o) g (relabel f l) (relabels f ls) o)
-        (responds_moved g l.construct l.caught l.behind)
+        (responds_moved g l.construct l.caught l.following)
         ∙ react_moved (raise again go g ls o) (raise again' go' g (relabels f ls) o) g l ls o (λ n. raise_moved g ls o n) (responds g l)
     raise_moved g (l ∷ ls) o (suc n) = raise_moved g ls o n
 
@@ -122,22 +122,22 @@ module _ (A B : Type 0) (f : A → B) where
     caught_moved (l ∷ ls) zero = refl
     caught_moved (l ∷ ls) (suc n) = caught_moved ls n
 
-    ask_moved : (may_raise : Tags → Bool) (may_trap : Bool) (a : A) (on : List Outcome → Run A) (on' : List Outcome → Run B)
+    take_outcome_moved : (may_raise : Tags → Bool) (may_trap : Bool) (a : A) (on : List Outcome → Run A) (on' : List Outcome → Run B)
         → (raised : Tags → List Outcome → Run A) (raised' : Tags → List Outcome → Run B)
         → ((outcomes : List Outcome) → on' outcomes ≡ show_run f (on outcomes))
         → ((tags : Tags) (outcomes : List Outcome) → raised' tags outcomes ≡ show_run f (raised tags outcomes))
-        → (outcomes : List Outcome) → ask may_raise may_trap (f a) on' raised' outcomes ≡ show_run f (ask may_raise may_trap a on raised outcomes)
-    ask_moved may_raise may_trap a on on' out out' h k [] = refl
-    ask_moved may_raise may_trap a on on' out out' h k (Go ∷ o) = h o
-    ask_moved may_raise may_trap a on on' out out' h k (Trap ∷ o) = cond_moved (show_run f) may_trap _ _ _ _ refl refl
-    ask_moved may_raise may_trap a on on' out out' h k (Raise g ∷ o) =
+        → (outcomes : List Outcome) → take_outcome may_raise may_trap (f a) on' raised' outcomes ≡ show_run f (take_outcome may_raise may_trap a on raised outcomes)
+    take_outcome_moved may_raise may_trap a on on' out out' h k [] = refl
+    take_outcome_moved may_raise may_trap a on on' out out' h k (Go ∷ o) = h o
+    take_outcome_moved may_raise may_trap a on on' out out' h k (Trap ∷ o) = cond_moved (show_run f) may_trap _ _ _ _ refl refl
+    take_outcome_moved may_raise may_trap a on on' out out' h k (Raise g ∷ o) =
         cond_moved (show_run f) (may_raise g) _ _ _ _ (ap (then (Executed (f a))) (k g o)) refl
-    ask_moved may_raise may_trap a on on' out out' h k (Way w ∷ o) = refl
-    ask_moved may_raise may_trap a on on' out out' h k (Entry n ∷ o) = refl
+    take_outcome_moved may_raise may_trap a on on' out out' h k (Way w ∷ o) = refl
+    take_outcome_moved may_raise may_trap a on on' out out' h k (Entry n ∷ o) = refl
 
     way_moved : (a : A) (on : Bool → List Outcome → Run A) (on' : Bool → List Outcome → Run B)
         → ((w : Bool) (outcomes : List Outcome) → on' w outcomes ≡ show_run f (on w outcomes))
-        → (outcomes : List Outcome) → ask_way (f a) on' outcomes ≡ show_run f (ask_way a on outcomes)
+        → (outcomes : List Outcome) → take_way (f a) on' outcomes ≡ show_run f (take_way a on outcomes)
     way_moved a on on' h [] = refl
     way_moved a on on' h (Way w ∷ o) = ap (then (Executed (f a))) (h w o)
     way_moved a on on' h (Go ∷ o) = refl
@@ -147,7 +147,7 @@ module _ (A B : Type 0) (f : A → B) where
 
     entry_moved : (a : A) (on : ℕ → List Outcome → Run A) (on' : ℕ → List Outcome → Run B)
         → ((k : ℕ) (outcomes : List Outcome) → on' k outcomes ≡ show_run f (on k outcomes))
-        → (outcomes : List Outcome) → ask_entry (f a) on' outcomes ≡ show_run f (ask_entry a on outcomes)
+        → (outcomes : List Outcome) → take_entry (f a) on' outcomes ≡ show_run f (take_entry a on outcomes)
     entry_moved a on on' h [] = refl
     entry_moved a on on' h (Entry k ∷ o) = ap (then (Executed (f a))) (h k o)
     entry_moved a on on' h (Go ∷ o) = refl
@@ -163,22 +163,22 @@ module _ (A B : Type 0) (f : A → B) where
     act_moved : (action : Action) (a : A) (r : List (Marked A)) (labels : List (Label A)) (outcomes : List Outcome)
         → act again' go' action (f a) (moved f r) (relabels f labels) outcomes ≡ show_run f (act again go action a r labels outcomes)
     act_moved Nop a r ls o = hg r ls o
-    act_moved Plain a r ls o = ask_moved (λ s. true) true a _ _ _ _ (λ o. ap (then (Executed (f a))) (hg r ls o)) (λ g o. raise_moved g ls o 0) o
+    act_moved Plain a r ls o = take_outcome_moved (λ s. true) true a _ _ _ _ (λ o. ap (then (Executed (f a))) (hg r ls o)) (λ g o. raise_moved g ls o 0) o
     act_moved (Branch n) a r ls o = ap (then (Executed (f a))) (branch_moved n ls o)
     act_moved (ConditionalBranch n) a r ls o = way_moved a _ _ (λ w o. cond_moved (show_run f) w _ _ _ _ (branch_moved n ls o) (hg r ls o)) o
     act_moved (TableBranch ts d) a r ls o = entry_moved a _ _ (λ k o. branch_moved (target ts d k) ls o) o
     act_moved Return a r ls o = refl
     act_moved Unreachable a r ls o = refl
     act_moved (Throw t) a r ls o =
-        ask_moved (λ s. has s t) false a (λ o. ends Mismatch) (λ o. ends Mismatch) _ _ (λ o. refl) (λ g o. raise_moved g ls o 0) o
+        take_outcome_moved (λ s. has s t) false a (λ o. ends Mismatch) (λ o. ends Mismatch) _ _ (λ o. refl) (λ g o. raise_moved g ls o 0) o
     act_moved ThrowRef a r ls o =
-        ask_moved (λ s. true) true a (λ o. ends Mismatch) (λ o. ends Mismatch) _ _ (λ o. refl) (λ g o. raise_moved g ls o 0) o
+        take_outcome_moved (λ s. true) true a (λ o. ends Mismatch) (λ o. ends Mismatch) _ _ (λ o. refl) (λ g o. raise_moved g ls o 0) o
     act_moved (Rethrow n) a r ls o =
         ap (then (Executed (f a)))
         (ap (rethrow (λ s. raise again' go' s (relabels f ls) o 0)) (caught_moved ls n)
         ∙ rethrow_moved (λ s. raise again go s ls o 0) (λ s. raise again' go' s (relabels f ls) o 0) (λ g. raise_moved g ls o 0) (caught_at ls n))
     act_moved TailCall a r ls o =
-        ask_moved (λ s. false) true a (λ o. then (Executed a) (ends TailCalled)) (λ o. then (Executed (f a)) (ends TailCalled))
+        take_outcome_moved (λ s. false) true a (λ o. then (Executed a) (ends TailCalled)) (λ o. then (Executed (f a)) (ends TailCalled))
         (λ s o. ends Mismatch) (λ s o. ends Mismatch) (λ o. refl) (λ g o. refl) o
 
     other_moved : (l : Label A) (labels : List (Label A)) (outcomes : List Outcome) (r : List (Marked A))
@@ -200,7 +200,7 @@ module _ (A B : Type 0) (f : A → B) where
     leave_moved : (labels : List (Label A)) (outcomes : List Outcome)
         → leave go' (relabels f labels) outcomes ≡ show_run f (leave go labels outcomes)
     leave_moved [] o = refl
-    leave_moved (l ∷ ls) o = behind_moved l.behind ls o
+    leave_moved (l ∷ ls) o = after_moved l.following ls o
 
     step_moved : (c : Control) (a : A) (r : List (Marked A)) (labels : List (Label A)) (outcomes : List Outcome)
         → step again' go' c (f a) (moved f r) (relabels f labels) outcomes ≡ show_run f (step again go c a r labels outcomes)
@@ -228,23 +228,23 @@ module _ (A B : Type 0) (f : A → B) where
 
 -- the run of operators with other values shown
 run_moved : {A B : Type 0} → (f : A → B) (xs : List (Marked A)) (outcomes : List Outcome) (turns : ℕ)
-    → run (map (remarked f) xs) outcomes turns ≡ show_run f (run xs outcomes turns)
+    → run (map (map_mark f) xs) outcomes turns ≡ show_run f (run xs outcomes turns)
 run_moved f xs o t = from_moved _ _ f t xs [] o
 
 -- ---- places
 
 placed_shown : {X B : Type 0} → (c : X → Control) (v : X → B) (xs : List X) (i : ℕ) (g : ℕ → Option B)
     → ((j : ℕ) → g (i + j) ≡ slice_get (map v xs) j)
-    → map (remarked g) (placed_from i (map c xs)) ≡ map (λ x. with_control (Some (v x)) (c x)) xs
+    → map (map_mark g) (placed_from i (map c xs)) ≡ map (λ x. with_control (Some (v x)) (c x)) xs
 placed_shown c v [] i g h = refl
 placed_shown c v (x ∷ xs) i g h =
     let e : i ≡ i + 0 = omega arith in
     let here : g i ≡ Some (v x) = ap g e ∙ h 0 in
     let rest = placed_shown c v xs (suc i) g (λ j. let s : suc i + j ≡ i + suc j = omega arith in ap g s ∙ h (suc j)) in
-    ap (λ y. with_control y (c x) ∷ map (remarked g) (placed_from (suc i) (map c xs))) here ∙ ap (λ l. with_control (Some (v x)) (c x) ∷ l) rest
+    ap (λ y. with_control y (c x) ∷ map (map_mark g) (placed_from (suc i) (map c xs))) here ∙ ap (λ l. with_control (Some (v x)) (c x) ∷ l) rest
 
 shown_some : {X B : Type 0} → (c : X → Control) (v : X → B) (xs : List X)
-    → map (remarked (λ a. Some (v a))) (map (λ x. with_control x (c x)) xs) ≡ map (λ x. with_control (Some (v x)) (c x)) xs
+    → map (map_mark (λ a. Some (v a))) (map (λ x. with_control x (c x)) xs) ≡ map (λ x. with_control (Some (v x)) (c x)) xs
 shown_some c v [] = refl
 shown_some c v (x ∷ xs) = ap (λ l. with_control (Some (v x)) (c x) ∷ l) (shown_some c v xs)
 

@@ -1,9 +1,9 @@
 -- The law of executions: the text of a normal form is the text of a right rewriting of the body.
 use Rattle.std.proofs.Common.{◌≡◌, ℕ, suc, ◌+◌, List, [], ◌∷◌, length, map, Bool, true, false, Some, refl, sym, ap, ◌∙◌, subst, arith}
 use Rattle.std.specs.Prelude.{◌&&◌}
+use Rattle.walrus_ir.specs.Locations.{default_location}
 use Rattle.wasm_body.specs.Control.{Action, Nop, Plain, Branch, ConditionalBranch, TableBranch, Return, Unreachable, Throw, ThrowRef, Rethrow, TailCall, Control, Does, control_of, with_control}
 use Rattle.wasm_body.specs.SourceTree.{Sequence, Empty, Single, Wrapped, IfThen, IfElse, TryCatch, TryDelegate, Clauses, Ended, Catches, CatchesAll, text, Body}
-use Rattle.wasm_body.specs.FunctionTree.{default_location}
 use Rattle.wasm_body.specs.NormalForm.{Typing, balances, construct_type, normal, fate, typing_of, name_at, named_body}
 use Rattle.wasm_body.specs.Naming.{NamedOperation}
 use Rattle.wasm_body.specs.TextLaws.{IsNamedBody}
@@ -13,8 +13,8 @@ use Rattle.wasm_body.proofs.NormalForm.NamedTexts.{has_text, text_body}
 use Rattle.wasm_body.proofs.Bytes.LawfulTyped.{lawful_named}
 use Rattle.wasm_body.specs.Machine.{Outcome, straight, run}
 use Rattle.wasm_body.specs.Places.{show_run, run_by_place, shown_by}
-use Rattle.wasm_body.specs.ExecutionLaws.{controls, NamedExecutionsKept, ExecutionsKept, RunsShowOperators, EmptyGoesOn}
-use Rattle.wasm_body.proofs.Executions.RewritesTo.{RewritesTo, empty, drop_nop, keep, cut, wrapped, if_then, if_else, add_else, drop_else, try_catch, try_delegate, ClausesRewriteTo, ended, catches_one, catches_all, runs_alike}
+use Rattle.wasm_body.specs.ExecutionLaws.{controls, NamedExecutionsKept, ExecutionsKept, RunsShowOperators, EmptyContinues}
+use Rattle.wasm_body.proofs.Executions.RewritesTo.{RewritesTo, empty, drop_nop, keep, diverging, wrapped, if_then, if_else, add_else, drop_else, try_catch, try_delegate, ClausesRewriteTo, ended, catches_one, catches_all, runs_alike}
 use Rattle.wasm_body.proofs.Executions.Same.{the_count}
 use Rattle.wasm_body.proofs.Executions.Natural.{shown_by-run}
 
@@ -24,14 +24,14 @@ single_rewrites : (a : Named) (action : Action) (r r' : Sequence Named) → Rewr
     → RewritesTo (Single a action r) (single_with_fate (fate action) a action r')
 single_rewrites a Nop r r' f = drop_nop f
 single_rewrites a Plain r r' f = keep f
-single_rewrites a (Branch n) r r' f = cut refl
+single_rewrites a (Branch n) r r' f = diverging refl
 single_rewrites a (ConditionalBranch n) r r' f = keep f
-single_rewrites a (TableBranch ts d) r r' f = cut refl
-single_rewrites a Return r r' f = cut refl
-single_rewrites a Unreachable r r' f = cut refl
-single_rewrites a (Throw t) r r' f = cut refl
-single_rewrites a ThrowRef r r' f = cut refl
-single_rewrites a (Rethrow n) r r' f = cut refl
+single_rewrites a (TableBranch ts d) r r' f = diverging refl
+single_rewrites a Return r r' f = diverging refl
+single_rewrites a Unreachable r r' f = diverging refl
+single_rewrites a (Throw t) r r' f = diverging refl
+single_rewrites a ThrowRef r r' f = diverging refl
+single_rewrites a (Rethrow n) r r' f = diverging refl
 single_rewrites a TailCall r r' f = keep f
 
 added_rewrites : (t : Bool) (a e : Named) (b b' : Sequence Named) (l n : ℕ) (r r' : Sequence Named) → RewritesTo b b' → RewritesTo r r'
@@ -108,14 +108,14 @@ runs_by_place xs o t = record {
 
 -- ---- a sequence whose normal form is empty
 
-pub empty_goes_on : EmptyGoesOn
-empty_goes_on m Empty h again count k ls o = let e : 0 + count ≡ count = omega arith in ap (λ n. straight again n k ls o) e
-empty_goes_on m (Single a Nop r) h again count k ls o =
+pub empty_continues : EmptyContinues
+empty_continues m Empty h again count k ls o = let e : 0 + count ≡ count = omega arith in ap (λ n. straight again n k ls o) e
+empty_continues m (Single a Nop r) h again count k ls o =
     let e : suc (length (text r [])) + count ≡ suc (length (text r []) + count) = omega arith in
-    ap (λ n. straight again n (with_control a (Does Nop) ∷ text r k) ls o) e ∙ empty_goes_on m r h again count k ls o
-empty_goes_on m (Single a _ r) h again count k ls o = absurd (cc h)
-empty_goes_on m (Wrapped a w b e r) h again count k ls o = absurd (cc h)
-empty_goes_on m (IfThen a b e r) h again count k ls o = absurd (cc h)
-empty_goes_on m (IfElse a b l c e r) h again count k ls o = absurd (cc h)
-empty_goes_on m (TryCatch a b cs r) h again count k ls o = absurd (cc h)
-empty_goes_on m (TryDelegate a b e n r) h again count k ls o = absurd (cc h)
+    ap (λ n. straight again n (with_control a (Does Nop) ∷ text r k) ls o) e ∙ empty_continues m r h again count k ls o
+empty_continues m (Single a _ r) h again count k ls o = absurd (cc h)
+empty_continues m (Wrapped a w b e r) h again count k ls o = absurd (cc h)
+empty_continues m (IfThen a b e r) h again count k ls o = absurd (cc h)
+empty_continues m (IfElse a b l c e r) h again count k ls o = absurd (cc h)
+empty_continues m (TryCatch a b cs r) h again count k ls o = absurd (cc h)
+empty_continues m (TryDelegate a b e n r) h again count k ls o = absurd (cc h)

@@ -2,9 +2,9 @@
 use Rattle.std.proofs.Common.{◌≡◌, ℕ, zero, suc, ◌≤◌, List, [], ◌∷◌, length, false, refl, sym, ap, ◌∙◌, arith}
 use Rattle.wasm_body.specs.Control.{Action, Nop, Control, Construct, If, Try, Opens, Else, Catch, CatchAll, End, Delegate, Marked, with_control}
 use Rattle.wasm_body.specs.SourceTree.{Sequence, Empty, Single, Wrapped, IfThen, IfElse, TryCatch, TryDelegate, Clauses, Ended, Catches, CatchesAll, Wrapper, construct_of, text, clauses_text, Body, body_text}
-use Rattle.wasm_body.specs.NormalForm.{fate, Cuts}
+use Rattle.wasm_body.specs.NormalForm.{fate, Diverges}
 use Rattle.wasm_body.specs.TextLaws.{EndsSequence}
-use Rattle.wasm_body.specs.Machine.{Outcome, bounded_run, run, Closer, shape_of, seek, seek_at, behind_closer, tail, Label, label, handler, catches, is_else, other_at}
+use Rattle.wasm_body.specs.Machine.{Outcome, bounded_run, run, Closer, shape_of, seek, seek_at, after_closer, tail, Label, label, handler, catches, is_else, other_at}
 use Rattle.wasm_body.proofs.Executions.Same.{Bound, the_count, go, bounded_run-go, Same, Agree, seek_text, text_longer, clauses_longer}
 use Rattle.wasm_body.proofs.Executions.Steps.{weaken, nop_same, kept_same, last_same, stop_same, last_end, no_labels}
 use Rattle.wasm_body.proofs.Executions.Constructs.{Closes, wrapped_same, if_outside, if_same, try_same}
@@ -17,7 +17,7 @@ mutual
     empty : RewritesTo Empty Empty
     drop_nop : {a : A} {r r' : Sequence A} → RewritesTo r r' → RewritesTo (Single a Nop r) r'
     keep : {a : A} {action : Action} {r r' : Sequence A} → RewritesTo r r' → RewritesTo (Single a action r) (Single a action r')
-    cut : {a : A} {action : Action} {r : Sequence A} → fate action ≡ Cuts → RewritesTo (Single a action r) (Single a action Empty)
+    diverging : {a : A} {action : Action} {r : Sequence A} → fate action ≡ Diverges → RewritesTo (Single a action r) (Single a action Empty)
     wrapped : {a e e' : A} {w : Wrapper} {b b' r r' : Sequence A} → RewritesTo b b' → RewritesTo r r'
         → RewritesTo (Wrapped a w b e r) (Wrapped a w b' e' r')
     if_then : {a e e' : A} {b b' r r' : Sequence A} → RewritesTo b b' → RewritesTo r r' → RewritesTo (IfThen a b e r) (IfThen a b' e' r')
@@ -44,7 +44,7 @@ mutual
 closes : {A : Type 0} → (s : Sequence A) (e : A) (c : Control) (r : List (Marked A)) → shape_of c ≡ Closer
     → Closes (text s (with_control e c ∷ r)) (with_control e c ∷ r) r
 closes s e c r h = record {
-  behind =
+  following =
       ap (λ f. tail f.rest) (seek_text s (λ c. false) 0 0 (with_control e c ∷ r))
       ∙ ap (λ y. tail (seek_at y 0 false 0 (with_control e c ∷ r) (λ d j. seek (λ c. false) d j r)).rest) h;
   shorter = omega arith;
@@ -54,7 +54,7 @@ closes s e c r h = record {
 closes_else : {A : Type 0} → (s t : Sequence A) (l e : A) (r : List (Marked A))
     → Closes (text s (with_control l Else ∷ text t (with_control e End ∷ r))) (with_control l Else ∷ text t (with_control e End ∷ r)) r
 closes_else s t l e r = record {
-  behind =
+  following =
       ap (λ f. tail f.rest)
       (seek_text s (λ c. false) 0 0 (with_control l Else ∷ text t (with_control e End ∷ r)) ∙ seek_text t (λ c. false) 0 1 (with_control e End ∷ r));
   shorter = omega (arith, text_longer t (with_control e End ∷ r));
@@ -69,7 +69,7 @@ clauses_close (CatchesAll a b e) i r = ap (λ f. tail f.rest) (seek_text b (λ c
 closes_clauses : {A : Type 0} → (s : Sequence A) (cs : Clauses A) (r : List (Marked A))
     → Closes (text s (clauses_text cs r)) (clauses_text cs r) r
 closes_clauses s cs r = record {
-  behind = ap (λ f. tail f.rest) (seek_text s (λ c. false) 0 0 (clauses_text cs r)) ∙ clauses_close cs 0 r;
+  following = ap (λ f. tail f.rest) (seek_text s (λ c. false) 0 0 (clauses_text cs r)) ∙ clauses_close cs 0 r;
   shorter = clauses_longer cs r;
 }
 
@@ -102,7 +102,7 @@ module _ {A : Type 0} (t : ℕ) (r r' : List (Marked A)) (labels labels' : List 
 
   -- the same from the end of a sequence on
   stopped : (p p' : Control) (e e' : A) (z z' : List (Marked A)) (l l' : Label A) → EndsSequence p → EndsSequence p'
-      → behind_closer l.behind ≡ r → behind_closer l'.behind ≡ r'
+      → after_closer l.following ≡ r → after_closer l'.following ≡ r'
       → length r ≤ length z → length r' ≤ length z' → Same t (with_control e p ∷ z) (l ∷ labels) (with_control e' p' ∷ z') (l' ∷ labels')
   stopped p p' e e' z z' l l' s s' h h' lz lz' = stop_same p p' e e' t z z' r r' l l' labels labels' s s' h h' lz lz' agree.same
 
@@ -119,7 +119,7 @@ module _ {A : Type 0} (t : ℕ) (r r' : List (Marked A)) (labels labels' : List 
       body v c c' (l ∷ labels) (l' ∷ labels') (record {
         outside = outside;
         same =
-            stop_same End End e e' v r r' r r' l l' labels labels' tt tt cl.behind cl'.behind (omega arith) (omega arith)
+            stop_same End End e e' v r r' r r' l l' labels labels' tt tt cl.following cl'.following (omega arith) (omega arith)
             (λ β u n m o hu hn hm. agree.same β u n m o (omega arith) hn hm);
       })
 
@@ -142,7 +142,7 @@ module _ {A : Type 0} (t : ℕ) (r r' : List (Marked A)) (labels labels' : List 
       if_same a t x x' labels labels'
       (body t c c' (l ∷ labels) (l' ∷ labels') (record {
         outside = if_outside a t x x' c c' r r' labels labels' cl cl' agree;
-        same = stopped p p' e e' z z' l l' stops stops' cl.behind cl'.behind lz lz';
+        same = stopped p p' e e' z z' l l' stops stops' cl.following cl'.following lz lz';
       }))
       (λ β u n m o hu hn hm.
       ap (other_at (go β u n) l labels o) (ap (λ f. f.rest) (seek_text b is_else 0 0 c) ∙ here)
@@ -155,7 +155,7 @@ module _ {A : Type 0} (t : ℕ) (r r' : List (Marked A)) (labels labels' : List 
       (λ β u n m o hu hn hm. agree.same β u n m o hu hn hm)
 
   -- an `end` on one side only
-  end_alone : (e : A) (l : Label A) → behind_closer l.behind ≡ r' → Same t r labels (with_control e End ∷ r') (l ∷ labels')
+  end_alone : (e : A) (l : Label A) → after_closer l.following ≡ r' → Same t r labels (with_control e End ∷ r') (l ∷ labels')
   end_alone e l h β u n zero o hu hn hm = absurd (omega arith)
   end_alone e l h β u n (suc m) o hu hn hm = agree.same β u n m o hu hn (omega arith) ∙ ap (λ k. go the_count u m k labels' o) (sym h)
 
@@ -164,10 +164,10 @@ module _ {A : Type 0} (t : ℕ) (r r' : List (Marked A)) (labels labels' : List 
   add_else_alike a e l' e' b b' body =
       let cl' = closes_else b' Empty l' e' r' in
       if_alike a e l' End Else tt tt b b' body r (with_control e' End ∷ r') (closes b e End r refl) cl' (omega arith) (omega arith) refl refl
-      (λ β u n m o hu hn hm. end_alone e' (label a If (text b' (with_control l' Else ∷ with_control e' End ∷ r'))) cl'.behind β u n m o hu hn hm)
+      (λ β u n m o hu hn hm. end_alone e' (label a If (text b' (with_control l' Else ∷ with_control e' End ∷ r'))) cl'.following β u n m o hu hn hm)
 
   -- an `end` on the other side only
-  end_first : (e : A) (l : Label A) → behind_closer l.behind ≡ r → Same t (with_control e End ∷ r) (l ∷ labels) r' labels'
+  end_first : (e : A) (l : Label A) → after_closer l.following ≡ r → Same t (with_control e End ∷ r) (l ∷ labels) r' labels'
   end_first e l h β u zero m o hu hn hm = absurd (omega arith)
   end_first e l h β u (suc n) m o hu hn hm = ap (λ k. go β u n k labels o) h ∙ agree.same β u n m o hu (omega arith) hm
 
@@ -178,7 +178,7 @@ module _ {A : Type 0} (t : ℕ) (r r' : List (Marked A)) (labels labels' : List 
       let l = label a If (text b (with_control i Else ∷ text d c)) in
       let cl = closes_else b d i e r in
       if_alike a i e' Else End tt tt b b' body (text d c) r' cl (closes b' e' End r' refl) (omega (arith, text_longer d c)) (omega arith) refl refl
-      (does_nothing none t c r' (l ∷ labels) labels' (end_first e l cl.behind))
+      (does_nothing none t c r' (l ∷ labels) labels' (end_first e l cl.following))
 
   if_else_alike : (a i i' e e' : A) (b b' d d' : Sequence A) → Alike b b' → Alike d d'
       → SameOpened If a (text b (with_control i Else ∷ text d (with_control e End ∷ r))) (text b' (with_control i' Else ∷ text d' (with_control e' End ∷ r')))
@@ -191,13 +191,13 @@ module _ {A : Type 0} (t : ℕ) (r r' : List (Marked A)) (labels labels' : List 
       let l' = label a If x' in
       let cl = closes_else b d i e r in
       let cl' = closes_else b' d' i' e' r' in
-      let end : Closes x c r = record { behind = cl.behind; shorter = omega arith } in
-      let end' : Closes x' c' r' = record { behind = cl'.behind; shorter = omega arith } in
+      let end : Closes x c r = record { following = cl.following; shorter = omega arith } in
+      let end' : Closes x' c' r' = record { following = cl'.following; shorter = omega arith } in
       if_alike a i i' Else Else tt tt b b' body (text d c) (text d' c') cl cl'
       (omega (arith, text_longer d c)) (omega (arith, text_longer d' c')) refl refl
       (alternative t c c' (l ∷ labels) (l' ∷ labels') (record {
         outside = if_outside a t x x' c c' r r' labels labels' end end' agree;
-        same = stopped End End e e' r r' l l' tt tt cl.behind cl'.behind (omega arith) (omega arith);
+        same = stopped End End e e' r r' l l' tt tt cl.following cl'.following (omega arith) (omega arith);
       }))
 
   delegate_alike : (a e e' : A) (n : ℕ) (b b' : Sequence A) → Alike b b'
@@ -216,12 +216,12 @@ module _ {A : Type 0} (t : ℕ) (r r' : List (Marked A)) (labels labels' : List 
         outside =
             try_outside a t x x' c c' r r' labels labels' cl cl' (λ g. seek_text b (catches g) 0 0 c) (λ g. seek_text b' (catches g) 0 0 c') agree
             (delegate_handled a e e' n t 0 x x' r r' labels labels' agree.outside);
-        same = stopped (Delegate n) (Delegate n) e e' r r' l l' tt tt cl.behind cl'.behind (omega arith) (omega arith);
+        same = stopped (Delegate n) (Delegate n) e e' r r' l l' tt tt cl.following cl'.following (omega arith) (omega arith);
       }))
 
   -- the end of a body or a handler, before these clauses
-  clauses_leave : {cs cs' : Clauses A} → ClausesRewriteTo cs cs' → (l l' : Label A) → behind_closer l.behind ≡ r
-      → behind_closer l'.behind ≡ r'
+  clauses_leave : {cs cs' : Clauses A} → ClausesRewriteTo cs cs' → (l l' : Label A) → after_closer l.following ≡ r
+      → after_closer l'.following ≡ r'
       → Same t (clauses_text cs r) (l ∷ labels) (clauses_text cs' r') (l' ∷ labels')
   clauses_leave (ended {e = e} {e' = e'}) l l' h h' = stopped End End e e' r r' l l' tt tt h h' (omega arith) (omega arith)
   clauses_leave (catches_one {a = a} {a' = a'} {t = g} {b = b} {b' = b'} {cs = cs} {cs' = cs'} f fs) l l' h h' =
@@ -237,7 +237,7 @@ module _ {A : Type 0} (t : ℕ) (r r' : List (Marked A)) (labels labels' : List 
   -- clauses that do the same with an exception
   abbrev Catching : Clauses A → Clauses A → Type 0
   Catching cs cs' =
-      (a : A) (i : ℕ) (x x' : List (Marked A)) → behind_closer x ≡ r → behind_closer x' ≡ r'
+      (a : A) (i : ℕ) (x x' : List (Marked A)) → after_closer x ≡ r → after_closer x' ≡ r'
       → Handled a t i x (clauses_text cs r) labels x' (clauses_text cs' r') labels'
 
   try_alike : (a : A) (b b' : Sequence A) (cs cs' : Clauses A) → Alike b b' → ClausesRewriteTo cs cs' → Catching cs cs'
@@ -255,8 +255,8 @@ module _ {A : Type 0} (t : ℕ) (r r' : List (Marked A)) (labels labels' : List 
       (body t c c' (l ∷ labels) (l' ∷ labels') (record {
         outside =
             try_outside a t x x' c c' r r' labels labels' cl cl' (λ g. seek_text b (catches g) 0 0 c) (λ g. seek_text b' (catches g) 0 0 c') agree
-            (catching a 0 x x' cl.behind cl'.behind);
-        same = clauses_leave fs l l' cl.behind cl'.behind;
+            (catching a 0 x x' cl.following cl'.following);
+        same = clauses_leave fs l l' cl.following cl'.following;
       }))
 
   catch_alike : (h h' : A) (tag : ℕ) (b b' : Sequence A) (cs cs' : Clauses A) → Alike b b' → ClausesRewriteTo cs cs' → Catching cs cs'
@@ -264,8 +264,8 @@ module _ {A : Type 0} (t : ℕ) (r r' : List (Marked A)) (labels labels' : List 
   catch_alike h h' tag b b' cs cs' body fs catching a i x x' hx hx' =
       let d = clauses_text cs r in
       let d' = clauses_text cs' r' in
-      let cl : Closes x d r = record { behind = hx; shorter = clauses_longer cs r } in
-      let cl' : Closes x' d' r' = record { behind = hx'; shorter = clauses_longer cs' r' } in
+      let cl : Closes x d r = record { following = hx; shorter = clauses_longer cs r } in
+      let cl' : Closes x' d' r' = record { following = hx'; shorter = clauses_longer cs' r' } in
       catch_handled a h h' tag t i x x' (text b d) (text b' d') d d' labels labels' (text_longer b d) (text_longer b' d')
       (λ g j. seek_text b (catches g) 0 j d) (λ g j. seek_text b' (catches g) 0 j d')
       (λ g. body t d d' (handler (label a Try x) g ∷ labels) (handler (label a Try x') g ∷ labels') (record {
@@ -278,8 +278,8 @@ module _ {A : Type 0} (t : ℕ) (r r' : List (Marked A)) (labels labels' : List 
   catch_all_alike h h' e e' b b' body a i x x' hx hx' =
       let d = with_control e End ∷ r in
       let d' = with_control e' End ∷ r' in
-      let cl : Closes x d r = record { behind = hx; shorter = omega arith } in
-      let cl' : Closes x' d' r' = record { behind = hx'; shorter = omega arith } in
+      let cl : Closes x d r = record { following = hx; shorter = omega arith } in
+      let cl' : Closes x' d' r' = record { following = hx'; shorter = omega arith } in
       catch_all_handled a h h' t i x x' (text b d) (text b' d') labels labels' λ g.
       body t d d' (handler (label a Try x) g ∷ labels) (handler (label a Try x') g ∷ labels') (record {
         outside = handler_outside a g t x x' d d' r r' labels labels' cl cl' agree;
@@ -292,7 +292,7 @@ mutual
   alike (drop_nop {a = a} {r = r} {r' = r'} f) t k k' ls ls' agree = nop_same a t (text r k) (text r' k') ls ls' (alike f t k k' ls ls' agree)
   alike (keep {a = a} {action = action} {r = r} {r' = r'} f) t k k' ls ls' agree =
       let rest = rest_agrees r r' (alike f) t k k' ls ls' agree in kept_same action a t (text r k) (text r' k') ls ls' rest.outside rest.same
-  alike (cut {a = a} {action = action} {r = r} h) t k k' ls ls' agree =
+  alike (diverging {a = a} {action = action} {r = r} h) t k k' ls ls' agree =
       last_same action a t (text r k) k' ls ls' h
       (weaken t t _ _ _ _ ls ls' (omega arith) (text_longer r k) (omega arith) agree.outside)
   alike (wrapped {a = a} {e = e} {e' = e'} {w = w} {b = b} {b' = b'} {r = r} {r' = r'} f g) t k k' ls ls' agree =

@@ -1,9 +1,9 @@
 -- One step from two places at which the machine does the same.
 use Rattle.std.proofs.Common.{◌≡◌, ℕ, zero, suc, ◌≤◌, List, [], ◌∷◌, length, Bool, true, false, cond, Option, Some, None, refl, sym, ap, ◌∙◌, arith}
 use Rattle.wasm_body.specs.Control.{Action, Nop, Plain, Branch, ConditionalBranch, TableBranch, Return, Unreachable, Throw, ThrowRef, Rethrow, TailCall, Control, Does, Opens, End, Marked, with_control}
-use Rattle.wasm_body.specs.NormalForm.{fate, Cuts}
+use Rattle.wasm_body.specs.NormalForm.{fate, Diverges}
 use Rattle.wasm_body.specs.TextLaws.{EndsSequence}
-use Rattle.wasm_body.specs.Machine.{Outcome, Go, Trap, Raise, Way, Entry, Executed, Mismatch, Run, ends, then, Tags, behind_closer, Label, Response, branch, raise, caught_at, rethrow, ask, ask_way, ask_entry, act, step, leave, has, target, arrive, react, responds}
+use Rattle.wasm_body.specs.Machine.{Outcome, Go, Trap, Raise, Way, Entry, Executed, Mismatch, Run, ends, then, Tags, after_closer, Label, Response, branch, raise, caught_at, rethrow, take_outcome, take_way, take_entry, act, step, leave, has, target, arrive, react, responds}
 use Rattle.wasm_body.proofs.Executions.Same.{Bound, the_count, again, go, Same, SameOutside}
 
 pub weaken : {A : Type 0} → (t v b b' c c' : ℕ) (labels labels' : List (Label A)) → v ≤ t → b ≤ c → b' ≤ c'
@@ -25,21 +25,21 @@ step_same x x' t r r' ls ls' h β u (suc n) (suc m) o hu hn hm = h β u n m o hu
 
 -- ---- the ways to ask
 
-ask_same : {A : Type 0}
+take_outcome_same : {A : Type 0}
     → (may_raise : Tags → Bool) (may_trap : Bool) (a : A) (on on' : List Outcome → Run A) (raised raised' : Tags → List Outcome → Run A)
     → ((outcomes : List Outcome) → on outcomes ≡ on' outcomes)
     → ((tags : Tags) (outcomes : List Outcome) → raised tags outcomes ≡ raised' tags outcomes)
-    → (outcomes : List Outcome) → ask may_raise may_trap a on raised outcomes ≡ ask may_raise may_trap a on' raised' outcomes
-ask_same p q a on on' out out' h k [] = refl
-ask_same p q a on on' out out' h k (Go ∷ o) = h o
-ask_same p q a on on' out out' h k (Trap ∷ o) = refl
-ask_same p q a on on' out out' h k (Raise s ∷ o) = ap (λ r. cond (p s) (then (Executed a) r) (ends Mismatch)) (k s o)
-ask_same p q a on on' out out' h k (Way w ∷ o) = refl
-ask_same p q a on on' out out' h k (Entry n ∷ o) = refl
+    → (outcomes : List Outcome) → take_outcome may_raise may_trap a on raised outcomes ≡ take_outcome may_raise may_trap a on' raised' outcomes
+take_outcome_same p q a on on' out out' h k [] = refl
+take_outcome_same p q a on on' out out' h k (Go ∷ o) = h o
+take_outcome_same p q a on on' out out' h k (Trap ∷ o) = refl
+take_outcome_same p q a on on' out out' h k (Raise s ∷ o) = ap (λ r. cond (p s) (then (Executed a) r) (ends Mismatch)) (k s o)
+take_outcome_same p q a on on' out out' h k (Way w ∷ o) = refl
+take_outcome_same p q a on on' out out' h k (Entry n ∷ o) = refl
 
 pub way_same : {A : Type 0} → (a : A) (on on' : Bool → List Outcome → Run A)
     → ((w : Bool) (outcomes : List Outcome) → on w outcomes ≡ on' w outcomes)
-    → (outcomes : List Outcome) → ask_way a on outcomes ≡ ask_way a on' outcomes
+    → (outcomes : List Outcome) → take_way a on outcomes ≡ take_way a on' outcomes
 way_same a on on' h [] = refl
 way_same a on on' h (Way w ∷ o) = ap (then (Executed a)) (h w o)
 way_same a on on' h (Go ∷ o) = refl
@@ -49,7 +49,7 @@ way_same a on on' h (Entry n ∷ o) = refl
 
 entry_same : {A : Type 0} → (a : A) (on on' : ℕ → List Outcome → Run A)
     → ((k : ℕ) (outcomes : List Outcome) → on k outcomes ≡ on' k outcomes)
-    → (outcomes : List Outcome) → ask_entry a on outcomes ≡ ask_entry a on' outcomes
+    → (outcomes : List Outcome) → take_entry a on outcomes ≡ take_entry a on' outcomes
 entry_same a on on' h [] = refl
 entry_same a on on' h (Entry k ∷ o) = ap (then (Executed a)) (h k o)
 entry_same a on on' h (Go ∷ o) = refl
@@ -68,23 +68,23 @@ rethrow_same f f' (Some s) h = h s
 -- ---- operators by themselves
 
 -- an operator that cuts, whatever comes after it
-cut_same : {A : Type 0} → (action : Action) (a : A) (t : ℕ) (r r' : List (Marked A)) (labels labels' : List (Label A))
-    → SameOutside t (length r) (length r') labels labels' → fate action ≡ Cuts
+diverging_same : {A : Type 0} → (action : Action) (a : A) (t : ℕ) (r r' : List (Marked A)) (labels labels' : List (Label A))
+    → SameOutside t (length r) (length r') labels labels' → fate action ≡ Diverges
     → (β : Bound A) (u n m : ℕ) (outcomes : List Outcome) → u ≤ t → length r ≤ n → length r' ≤ m
     → act (again β u) (go β u n) action a r labels outcomes ≡ act (again the_count u) (go the_count u m) action a r' labels' outcomes
-cut_same (Branch j) a t r r' ls ls' e c β u n m o hu hn hm = ap (then (Executed a)) (e.branches β u n m j o hu hn hm)
-cut_same (TableBranch ts d) a t r r' ls ls' e c β u n m o hu hn hm = entry_same a _ _ (λ k o. e.branches β u n m (target ts d k) o hu hn hm) o
-cut_same Return a t r r' ls ls' e c β u n m o hu hn hm = refl
-cut_same Unreachable a t r r' ls ls' e c β u n m o hu hn hm = refl
-cut_same (Throw g) a t r r' ls ls' e c β u n m o hu hn hm =
-    ask_same (λ s. has s g) false a _ _ _ _ (λ o. refl) (λ s o. e.raises β u n m s o 0 hu hn hm) o
-cut_same ThrowRef a t r r' ls ls' e c β u n m o hu hn hm = ask_same (λ s. true) true a _ _ _ _ (λ o. refl) (λ s o. e.raises β u n m s o 0 hu hn hm) o
-cut_same (Rethrow j) a t r r' ls ls' e c β u n m o hu hn hm =
+diverging_same (Branch j) a t r r' ls ls' e c β u n m o hu hn hm = ap (then (Executed a)) (e.branches β u n m j o hu hn hm)
+diverging_same (TableBranch ts d) a t r r' ls ls' e c β u n m o hu hn hm = entry_same a _ _ (λ k o. e.branches β u n m (target ts d k) o hu hn hm) o
+diverging_same Return a t r r' ls ls' e c β u n m o hu hn hm = refl
+diverging_same Unreachable a t r r' ls ls' e c β u n m o hu hn hm = refl
+diverging_same (Throw g) a t r r' ls ls' e c β u n m o hu hn hm =
+    take_outcome_same (λ s. has s g) false a _ _ _ _ (λ o. refl) (λ s o. e.raises β u n m s o 0 hu hn hm) o
+diverging_same ThrowRef a t r r' ls ls' e c β u n m o hu hn hm = take_outcome_same (λ s. true) true a _ _ _ _ (λ o. refl) (λ s o. e.raises β u n m s o 0 hu hn hm) o
+diverging_same (Rethrow j) a t r r' ls ls' e c β u n m o hu hn hm =
     ap (then (Executed a))
     (ap (rethrow (λ s. raise (again β u) (go β u n) s ls o 0)) (e.handlers j)
     ∙ rethrow_same (λ s. raise (again β u) (go β u n) s ls o 0) (λ s. raise (again the_count u) (go the_count u m) s ls' o 0) (caught_at ls' j)
     (λ s. e.raises β u n m s o 0 hu hn hm))
-cut_same _ a t r r' ls ls' e c β u n m o hu hn hm = absurd (cc c)
+diverging_same _ a t r r' ls ls' e c β u n m o hu hn hm = absurd (cc c)
 
 -- an operator after which the same follows
 act_same : {A : Type 0} → (action : Action) (a : A) (t : ℕ) (r r' : List (Marked A)) (labels labels' : List (Label A))
@@ -93,11 +93,11 @@ act_same : {A : Type 0} → (action : Action) (a : A) (t : ℕ) (r r' : List (Ma
     → act (again β u) (go β u n) action a r labels outcomes ≡ act (again the_count u) (go the_count u m) action a r' labels' outcomes
 act_same Nop a t r r' ls ls' e s β u n m o hu hn hm = s β u n m o hu hn hm
 act_same Plain a t r r' ls ls' e s β u n m o hu hn hm =
-    ask_same (λ s. true) true a _ _ _ _ (λ o. ap (then (Executed a)) (s β u n m o hu hn hm)) (λ g o. e.raises β u n m g o 0 hu hn hm) o
+    take_outcome_same (λ s. true) true a _ _ _ _ (λ o. ap (then (Executed a)) (s β u n m o hu hn hm)) (λ g o. e.raises β u n m g o 0 hu hn hm) o
 act_same (ConditionalBranch j) a t r r' ls ls' e s β u n m o hu hn hm =
     way_same a _ _ (λ w o. cond_same w _ _ _ _ (e.branches β u n m j o hu hn hm) (s β u n m o hu hn hm)) o
 act_same TailCall a t r r' ls ls' e s β u n m o hu hn hm = refl
-act_same action a t r r' ls ls' e s β u n m o hu hn hm = cut_same action a t r r' ls ls' e refl β u n m o hu hn hm
+act_same action a t r r' ls ls' e s β u n m o hu hn hm = diverging_same action a t r r' ls ls' e refl β u n m o hu hn hm
 
 pub nop_same : {A : Type 0} → (a : A) (t : ℕ) (r r' : List (Marked A)) (labels labels' : List (Label A))
     → Same t r labels r' labels' → Same t (with_control a (Does Nop) ∷ r) labels r' labels'
@@ -111,10 +111,10 @@ kept_same action a t r r' ls ls' e s =
     step_same (with_control a (Does action)) (with_control a (Does action)) t r r' ls ls' (act_same action a t r r' ls ls' e s)
 
 pub last_same : {A : Type 0} → (action : Action) (a : A) (t : ℕ) (r r' : List (Marked A)) (labels labels' : List (Label A))
-    → fate action ≡ Cuts → SameOutside t (length r) (length r') labels labels'
+    → fate action ≡ Diverges → SameOutside t (length r) (length r') labels labels'
     → Same t (with_control a (Does action) ∷ r) labels (with_control a (Does action) ∷ r') labels'
 last_same action a t r r' ls ls' c e =
-    step_same (with_control a (Does action)) (with_control a (Does action)) t r r' ls ls' (cut_same action a t r r' ls ls' e c)
+    step_same (with_control a (Does action)) (with_control a (Does action)) t r r' ls ls' (diverging_same action a t r r' ls ls' e c)
 
 -- ---- a label more
 
@@ -157,7 +157,7 @@ step_stops _ h β u n a r ls o = refl
 pub stop_same : {A : Type 0}
     → (c c' : Control) (a a' : A) (t : ℕ) (x x' r r' : List (Marked A)) (l l' : Label A) (labels labels' : List (Label A))
     → EndsSequence c → EndsSequence c'
-    → behind_closer l.behind ≡ r → behind_closer l'.behind ≡ r' → length r ≤ length x → length r' ≤ length x' → Same t r labels r' labels'
+    → after_closer l.following ≡ r → after_closer l'.following ≡ r' → length r ≤ length x → length r' ≤ length x' → Same t r labels r' labels'
     → Same t (with_control a c ∷ x) (l ∷ labels) (with_control a' c' ∷ x') (l' ∷ labels')
 stop_same c c' a a' t x x' r r' l l' ls ls' h h' e e' lx lx' s =
     step_same (with_control a c) (with_control a' c') t x x' (l ∷ ls) (l' ∷ ls') λ β u n m o hu hn hm.

@@ -65,7 +65,7 @@ mutual
   sequences-same c low high same r are_no_sequences = are_no_sequences
   sequences-same c low high same r (are_sequences {p = p} {items = is} {rest = ss} e s t) =
       let inside = rise-range (suc p) is r.0 r.2 in
-      let behind = all_rise-range r.0 ss high r.3 in
+      let following = all_rise-range r.0 ss high r.3 in
       are_sequences
       (same p r.1 (omega arith) ∙ e)
       (items-same c (suc p) r.0 (λ q l h. same q (let a = r.1 in omega arith) (omega arith)) r.2 s)

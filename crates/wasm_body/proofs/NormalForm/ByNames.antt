@@ -6,9 +6,9 @@ use Rattle.wasm_body.specs.SourceTree.{Sequence, Empty, Single, Wrapped, IfThen,
 use Rattle.wasm_body.specs.Translation.{at_location}
 use Rattle.wasm_body.specs.Naming.{NamedOperation}
 use Rattle.wasm_body.specs.FunctionTree.{Head, Instruction, handles, delegates, bare, bare_items, bare_sequences, IsSameTree}
-use Rattle.wasm_body.specs.NormalForm.{Typing, Fate, Drops, Stays, Cuts, fate, instruction, kept_operation, with_fate, construct_type, handler_type, legacy_clauses, normal, handlers, normal_form}
+use Rattle.wasm_body.specs.NormalForm.{Typing, Fate, Drops, Stays, Diverges, fate, instruction, kept_operation, with_fate, construct_type, handler_type, legacy_clauses, normal, handlers, normal_form}
 use Rattle.wasm_body.proofs.Structure.ReadingTrees.{one_body}
-use Rattle.wasm_body.proofs.Structure.Reshown.{remarked, text_reshown}
+use Rattle.wasm_body.proofs.Structure.Mapped.{map_mark, text_mapped}
 use Rattle.wasm_body.proofs.NormalForm.Rewritten.{Named}
 use Rattle.wasm_body.proofs.NormalForm.NormalAgain.{item_again}
 
@@ -23,7 +23,7 @@ single_nowhere : (f : Fate) (a : Named) (r r' : Items Head Instruction) → bare
     → bare_items (with_fate f (instruction (nowhere a) []) r) ≡ bare_items (with_fate f (instruction a []) r')
 single_nowhere Drops a r r' e = e
 single_nowhere Stays a r r' e = ap (λ x. item (kept_operation a.op, []) no_sequences x) e
-single_nowhere Cuts a r r' e = refl
+single_nowhere Diverges a r r' e = refl
 
 clauses_nowhere : (cs : Clauses Named) → legacy_clauses (map_clauses nowhere cs) ≡ legacy_clauses cs
 clauses_nowhere (Ended e) = refl
@@ -55,22 +55,22 @@ mutual
       ∙ ap (λ x. sequence type (bare_items (normal m b)) x) (handlers_nowhere m o cs)
   handlers_nowhere m o (CatchesAll a b e) = ap (λ x. sequence (handler_type m o []) x no_sequences) (bare_nowhere m b)
 
-without : (xs ys : List (Marked Named)) → map (remarked op_of) xs ≡ map (remarked op_of) ys → map (remarked nowhere) xs ≡ map (remarked nowhere) ys
+without : (xs ys : List (Marked Named)) → map (map_mark op_of) xs ≡ map (map_mark op_of) ys → map (map_mark nowhere) xs ≡ map (map_mark nowhere) ys
 without [] [] e = refl
 without [] (y ∷ ys) e = absurd cc
 without (x ∷ xs) [] e = absurd cc
 without (x ∷ xs) (y ∷ ys) e =
-    let first : remarked op_of x ≡ remarked op_of y = cc in
-    let rest : map (remarked op_of) xs ≡ map (remarked op_of) ys = cc in
-    ap (λ (z : Marked NamedOperation). with_control (at_location z.shown 0) z.control ∷ map (remarked nowhere) xs) first
-    ∙ ap (λ l. remarked nowhere y ∷ l) (without xs ys rest)
+    let first : map_mark op_of x ≡ map_mark op_of y = cc in
+    let rest : map (map_mark op_of) xs ≡ map (map_mark op_of) ys = cc in
+    ap (λ (z : Marked NamedOperation). with_control (at_location z.shown 0) z.control ∷ map (map_mark nowhere) xs) first
+    ∙ ap (λ l. map_mark nowhere y ∷ l) (without xs ys rest)
 
 -- bodies whose operators have the same names and do the same have normal forms that are the same tree
-pub same_by_names : (m : Typing) (b c : Body Named) → map (remarked op_of) (body_text b) ≡ map (remarked op_of) (body_text c)
+pub same_by_names : (m : Typing) (b c : Body Named) → map (map_mark op_of) (body_text b) ≡ map (map_mark op_of) (body_text c)
     → IsSameTree (normal_form m b) (normal_form m c)
 same_by_names m b c e =
-    let text : (d : Body Named) → body_text (map_body nowhere d) ≡ map (remarked nowhere) (body_text d) =
-    λ d. text_reshown nowhere d.sequence (with_control d.close End ∷ []) in
+    let text : (d : Body Named) → body_text (map_body nowhere d) ≡ map (map_mark nowhere) (body_text d) =
+    λ d. text_mapped nowhere d.sequence (with_control d.close End ∷ []) in
     let one = one_body (map_body nowhere b) (map_body nowhere c)
     (text b ∙ (without (body_text b) (body_text c) e ∙ sym (text c))) in
     ap (λ x. sequence m.entry x no_sequences)

@@ -17,8 +17,8 @@ use Rattle.wasm_body.specs.Naming.{NamedOperation, block_types}
 use Rattle.wasm_body.specs.FunctionTree.{Target, Depth, Outside}
 use Rattle.wasm_body.specs.NormalForm.{Typing, kept, kept_operation}
 use Rattle.wasm_body.specs.FlatText.{halvings, exponent_of, typed, with_names}
-use Rattle.wasm_body.specs.Typed.{StandsFor}
-use Rattle.wasm_body.proofs.Translation.Steps.{Leads, after_one, ok-sure}
+use Rattle.wasm_body.specs.Typed.{HasSignatures}
+use Rattle.wasm_body.proofs.Translation.Steps.{Leads, after_one, ok-infallible}
 use Rattle.wasm_body.proofs.Translation.Translations.{LeadAll, lead_all, translate_leads, same, translate_same}
 
 -- ---- the exponent of a power of two
@@ -42,7 +42,7 @@ exponent_of-pow e = halvings-pow (2 ^ e) e (below_pow e)
 
 -- ---- kept and written
 
-block_types_lead : (m : Typing) (t : InstrSeqType) (ss : List Signature) → StandsFor m t ss
+block_types_lead : (m : Typing) (t : InstrSeqType) (ss : List Signature) → HasSignatures m t ss
     → AllByRecursion (Leads kept.block (λ b. some_or (m.signature_of t) (Index (Unnumbered Types))) Ok) ss
 block_types_lead m t [] h = tt
 block_types_lead m t (s ∷ ss) h = ((λ c e. ap (λ o. some_or o (Index (Unnumbered Types))) h.0), block_types_lead m t ss h.1)
@@ -67,12 +67,12 @@ all_lead m t = record {
 }
 
 -- at a sequence whose type has the operator's block type as signature
-pub kept_written : (m : Typing) (t : InstrSeqType) (o : NamedOperation) → StandsFor m t (block_types o.immediates)
+pub kept_written : (m : Typing) (t : InstrSeqType) (o : NamedOperation) → HasSignatures m t (block_types o.immediates)
     → translate (typed (with_names m).translation t) (kept_operation o) ≡ Ok o
 kept_written m t o h =
     after_one (translate_immediates (typed (with_names m).translation t) (kept_operation o).immediates) (Ok o.immediates)
     (λ is. Ok (record { opcode = o.opcode; immediates = is }))
     (translate_leads kept (typed (with_names m).translation t) same o.immediates
     (lead_all kept (typed (with_names m).translation t) same (all_lead m t) o.immediates (block_types_lead m t (block_types o.immediates) h))
-    (kept_operation o).immediates (ok-sure (translate_immediates kept o.immediates))
+    (kept_operation o).immediates (ok-infallible (translate_immediates kept o.immediates))
     ∙ translate_same o.immediates)

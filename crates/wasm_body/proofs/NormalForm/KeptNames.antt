@@ -11,7 +11,7 @@ use Rattle.wasm_body.specs.Translation.{Translation, translate, translate_immedi
 use Rattle.wasm_body.specs.Naming.{Environment, NamedOperation, naming, id_at, open_label, handler_label, block_types}
 use Rattle.wasm_body.specs.FunctionTree.{Target, Depth}
 use Rattle.wasm_body.specs.NormalForm.{kept, kept_operation}
-use Rattle.wasm_body.proofs.Translation.Steps.{Leads, bound, all_of, ok-sure}
+use Rattle.wasm_body.proofs.Translation.Steps.{Leads, bound, all_of, ok-infallible}
 use Rattle.wasm_body.proofs.Translation.Translations.{LeadAll, lead_all, translate_leads}
 
 -- the value, or any number if there is a fault
@@ -75,5 +75,5 @@ module _ {A : Type 0} (env : Environment) (fs : List (Frame A)) where
       first.0 first.1 in
       record {
         opcode = ap (λ (n : NamedOperation). n.opcode) is;
-        kept = sym leads ∙ ok-sure (translate_immediates kept first.0) ∙ ap (λ (n : NamedOperation). Ok (kept_operation n).immediates) (sym is);
+        kept = sym leads ∙ ok-infallible (translate_immediates kept first.0) ∙ ap (λ (n : NamedOperation). Ok (kept_operation n).immediates) (sym is);
       }

@@ -3,11 +3,12 @@ use Rattle.std.proofs.Common.{◌≡◌, ℕ, [], ◌∷◌, Bool, true, false, 
 use Rattle.std.specs.Prelude.{◌&&◌}
 use Rattle.walrus_ir.specs.declared.val_type.InstrSeqType.{InstrSeqType}
 use Rattle.walrus_ir.specs.Tree.{Items, no_items, item, Sequences, no_sequences, sequence}
+use Rattle.walrus_ir.specs.Locations.{default_location}
 use Rattle.wasm_body.specs.Control.{Action}
 use Rattle.wasm_body.specs.SourceTree.{Sequence, Empty, Single, Wrapped, IfThen, IfElse, TryCatch, TryDelegate, Clauses, Ended, Catches, CatchesAll}
 use Rattle.wasm_body.specs.Naming.{NamedOperation}
-use Rattle.wasm_body.specs.FunctionTree.{handles, delegates, Bare, bare, bare_items, bare_sequences, default_location}
-use Rattle.wasm_body.specs.NormalForm.{Typing, balances, Fate, Drops, Stays, Cuts, fate, instruction, kept_operation, with_fate, construct_type, handler_type, legacy_clauses, normal, handlers}
+use Rattle.wasm_body.specs.FunctionTree.{handles, delegates, Bare, bare, bare_items, bare_sequences}
+use Rattle.wasm_body.specs.NormalForm.{Typing, balances, Fate, Drops, Stays, Diverges, fate, instruction, kept_operation, with_fate, construct_type, handler_type, legacy_clauses, normal, handlers}
 use Rattle.wasm_body.specs.TextLaws.{NormalAgain}
 use Rattle.wasm_body.specs.RewrittenTree.{single_with_fate, is_empty, written_if, rewritten, rewritten_clauses, rewritten_body}
 use Rattle.wasm_body.proofs.NormalForm.Rewritten.{Named, emptied, second_holds}
@@ -20,7 +21,7 @@ single_again : (m : Typing) (a : Named) (action : Action) (f : Fate) → fate ac
 single_again m a action Drops h r r' e = e
 single_again m a action Stays h r r' e =
     ap (λ f. bare_items (with_fate f (instruction a []) (normal m r'))) h ∙ ap (λ x. item (bare (instruction a [])) no_sequences x) e
-single_again m a action Cuts h r r' e = ap (λ f. bare_items (with_fate f (instruction a []) (normal m Empty))) h
+single_again m a action Diverges h r r' e = ap (λ f. bare_items (with_fate f (instruction a []) (normal m Empty))) h
 
 clauses_again : (balanced : NamedOperation → Bool) (cs : Clauses Named) → legacy_clauses (rewritten_clauses balanced cs) ≡ legacy_clauses cs
 clauses_again balanced (Ended e) = refl

@@ -3,24 +3,25 @@ use Rattle.std.proofs.Common.{◌≡◌, ℕ, List, [], ◌∷◌, Bool, true, f
 use Rattle.std.specs.Prelude.{◌&&◌}
 use Rattle.walrus_ir.specs.declared.val_type.InstrSeqType.{InstrSeqType}
 use Rattle.walrus_ir.specs.Tree.{Items, Sequences, no_sequences, sequence}
+use Rattle.walrus_ir.specs.Locations.{default_location}
 use Rattle.wasm_operators.specs.Operations.{Immediate}
 use Rattle.wasm_body.specs.Control.{Role, a_block, role_of, Action, Construct, Block, Loop, If, Try, TryTable, Control, Does, Opens, Else, Catch, CatchAll, End, Delegate, control_by, end_operation}
 use Rattle.wasm_body.specs.SourceTree.{Sequence, Empty, Single, Wrapped, IfThen, IfElse, TryCatch, TryDelegate, Clauses, Ended, Catches, CatchesAll, Wrapper, OfBlock, OfLoop, OfTryTable, construct_of}
 use Rattle.wasm_body.specs.Translation.{Located}
 use Rattle.wasm_body.specs.Naming.{NamedOperation, block_types}
-use Rattle.wasm_body.specs.FunctionTree.{Head, LegacyClause, Instruction, default_location, last_location}
-use Rattle.wasm_body.specs.NormalForm.{Typing, Fate, Drops, Stays, Cuts, fate, legacy_clauses}
+use Rattle.wasm_body.specs.FunctionTree.{Head, LegacyClause, Instruction, last_location}
+use Rattle.wasm_body.specs.NormalForm.{Typing, Fate, Drops, Stays, Diverges, fate, legacy_clauses}
 use Rattle.wasm_body.specs.RewrittenTree.{end_at, else_at, catch_at, catch_all_at, delegate_at, single_with_fate, is_empty, written_if, rewritten, rewritten_clauses}
 use Rattle.wasm_body.specs.FlatText.{TextOperation, are_lawful, are_handlers, if_closers, try_closers, closers, written_in_if, written_inside}
 use Rattle.wasm_body.specs.Typed.{IsOpener, IsTypedAs}
-use Rattle.wasm_body.proofs.Structure.Along.{Each, EachIn, Tells}
+use Rattle.wasm_body.proofs.Structure.Along.{Each, EachIn, HasControl}
 
 abbrev pub Named : Type 0
 Named = Located NamedOperation
 
 -- an operator of the source: its control is the one that the tree gives, and it is typed
 abbrev pub Sourced : Typing → Named → Control → Type 0
-Sourced m a c = Tells a c × IsTypedAs m (role_of a.op.opcode) a.op
+Sourced m a c = HasControl a c × IsTypedAs m (role_of a.op.opcode) a.op
 
 -- ---- nothing is written
 
@@ -44,7 +45,7 @@ module _ (balanced : NamedOperation → Bool) (P Q : Named → Control → Type 
   each_fate : (f : Fate) (a : Named) (action : Action) (r : Sequence Named) → P a (Does action) → Each Q r → Each Q (single_with_fate f a action r)
   each_fate Drops a action r h g = g
   each_fate Stays a action r h g = (kept a action h, g)
-  each_fate Cuts a action r h g = (kept a action h, tt)
+  each_fate Diverges a action r h g = (kept a action h, tt)
 
   each_if : (t : Bool) (a : Named) (b : Sequence Named) (l : ℕ) (c : Sequence Named) (m : ℕ) (r : Sequence Named)
       → Q a (Opens If) → Each Q b → Each Q c → Each Q r → Each Q (written_if t a b l c m r)
@@ -77,7 +78,7 @@ module _ (balanced : NamedOperation → Bool) (P : Named → Control → Type 0)
       → Each P (single_with_fate f a action r) → Each P (single_with_fate f a action s)
   fewer_single Drops a action r s g h = g h
   fewer_single Stays a action r s g h = (h.0, g h.1)
-  fewer_single Cuts a action r s g h = (h.0, tt)
+  fewer_single Diverges a action r s g h = (h.0, tt)
 
   fewer_in_if : (t : Bool) (a : Named) (b : Sequence Named) (l : ℕ) (c : Sequence Named) (m : ℕ) (r : Sequence Named)
       → Each P (IfElse a b (else_at l) c (end_at m) r) → Each P (written_if t a b l c m r)
@@ -114,9 +115,9 @@ inside_of_role : {B : Type 0} → (balanced : InstrSeqType → Bool) (r : Role) 
 inside_of_role balanced a_block is ss = refl
 inside_of_role balanced _ is ss = refl
 
-pub inside_told : (balanced : InstrSeqType → Bool) (a : Named) (c : Control) → Tells a c → (ss : Sequences Head Instruction)
+pub inside_controls : (balanced : InstrSeqType → Bool) (a : Named) (c : Control) → HasControl a c → (ss : Sequences Head Instruction)
     → written_inside balanced (role_of a.op.opcode) ss ≡ inside_by balanced c ss
-inside_told balanced a c h ss =
+inside_controls balanced a c h ss =
     inside_of_role balanced (role_of a.op.opcode) a.op.immediates ss ∙ ap (λ d. inside_by balanced d ss) h
 
 abbrev pub closers_by : {S I : Type 0} → Control → List LegacyClause → Sequences S I → List TextOperation
@@ -132,9 +133,9 @@ closers_of_role : {B S I : Type 0} → (r : Role) (is : List (Immediate ℕ B)) 
 closers_of_role a_block is cs ss = refl
 closers_of_role _ is cs ss = refl
 
-pub closers_told : {S I : Type 0} → (a : Named) (c : Control) → Tells a c → (cs : List LegacyClause) (ss : Sequences S I)
+pub closers_control : {S I : Type 0} → (a : Named) (c : Control) → HasControl a c → (cs : List LegacyClause) (ss : Sequences S I)
     → closers (role_of a.op.opcode) cs ss ≡ closers_by c cs ss
-closers_told a c h cs ss = closers_of_role (role_of a.op.opcode) a.op.immediates cs ss ∙ ap (λ d. closers_by d cs ss) h
+closers_control a c h cs ss = closers_of_role (role_of a.op.opcode) a.op.immediates cs ss ∙ ap (λ d. closers_by d cs ss) h
 
 pub wrapper_closers : (w : Wrapper) (t : Head) (is : Items Head Instruction)
     → closers_by (Opens (construct_of w)) [] (sequence t is no_sequences) ≡ end_operation ∷ []
@@ -157,8 +158,8 @@ typed_of_role : {B : Type 0} → (m : Typing) (r : Role) (is : List (Immediate �
 typed_of_role m a_block is o h = h
 typed_of_role m _ is o h = h
 
-pub typed_told : (m : Typing) (a : Named) (c : Control) → Sourced m a c → IsTypedBy m c a.op
-typed_told m a c h = subst (λ d. IsTypedBy m d a.op) h.0 (typed_of_role m (role_of a.op.opcode) a.op.immediates a.op h.1)
+pub typed_control : (m : Typing) (a : Named) (c : Control) → Sourced m a c → IsTypedBy m c a.op
+typed_control m a c h = subst (λ d. IsTypedBy m d a.op) h.0 (typed_of_role m (role_of a.op.opcode) a.op.immediates a.op h.1)
 
 -- ---- the clauses of a `try` are lawful
 

@@ -11,8 +11,8 @@ use Rattle.wasm_body.specs.SourceTree.{Sequence}
 use Rattle.wasm_body.specs.Frames.{Frame}
 use Rattle.wasm_body.specs.Naming.{Occurrence, named_in}
 use Rattle.wasm_body.specs.Parsing.Accepted.{placed, mark, IsNamed, validated, location_at, has_location, Setting, Handled, handled}
-use Rattle.wasm_body.specs.Parsing.Progress.{Layer, Progress, Within, Whole, NoBody, frames_of, further, progress_behind}
-use Rattle.wasm_body.specs.Parsing.Lists.{behind, parsed_from}
+use Rattle.wasm_body.specs.Parsing.Progress.{Layer, Progress, Within, Whole, NoBody, frames_of, further, progress_after}
+use Rattle.wasm_body.specs.Parsing.Lists.{continue_from, parsed_from}
 use Rattle.wasm_body.proofs.Structure.ReadFrames.{progress_frames, further_frames, Goes}
 use Rattle.walrus_ir.proofs.ResultLemmas.{bind_ok}
 
@@ -23,7 +23,7 @@ pub record Over {V : Type 0} (given : Setting V) (p : Progress Occurrence) (v : 
   pub located : AllByRecursion (λ x. x.location ≡ location_at given.locations x.place) xs
   pub passes : validated given.check v (map placed xs) ≡ Ok w
   pub goes : Goes (IsNamed given.environment) (progress_frames p) (map mark xs)
-  pub ends : progress_behind p (map mark xs) ≡ q
+  pub ends : progress_after p (map mark xs) ≡ q
   pub place_is : at + length rest ≡ place + length bytes
 
 -- an encoding begins with a byte
@@ -57,13 +57,13 @@ handles {V} given v w fs place bytes rest x at r l m c n =
 
 module _ {V : Type 0} (given : Setting V) (agrees : ReadingAgrees) where
   -- parsing goes on after the front as it would from there
-  pub record GoesOn (turns : ℕ) (p : Progress Occurrence) (v : V) (place : ℕ) (bytes : List ℕ) (q : Progress Occurrence) (w : V) (at : ℕ) (rest : List ℕ) : Type 0 where
+  pub record Continues (turns : ℕ) (p : Progress Occurrence) (v : V) (place : ℕ) (bytes : List ℕ) (q : Progress Occurrence) (w : V) (at : ℕ) (rest : List ℕ) : Type 0 where
     pub left : ℕ
     pub enough : length rest ≤ left
     pub same : parsed_from given turns p v place bytes ≡ parsed_from given left q w at rest
 
   over_none : (turns : ℕ) (p : Progress Occurrence) (v : V) (place : ℕ) (bytes : List ℕ) (q : Progress Occurrence) (w : V) (at : ℕ) (rest : List ℕ)
-      → length bytes ≤ turns → Over given p v place bytes [] q w at rest → GoesOn turns p v place bytes q w at rest
+      → length bytes ≤ turns → Over given p v place bytes [] q w at rest → Continues turns p v place bytes q w at rest
   over_none turns p v place bytes q w at rest enough o =
       let b : bytes ≡ rest = o.spelt in
       let e : p ≡ q = o.ends in
@@ -81,11 +81,11 @@ module _ {V : Type 0} (given : Setting V) (agrees : ReadingAgrees) where
   -- one operator was gone over
   pub record OneOver (turns : ℕ) (ls : List (Layer Occurrence)) (s : Sequence Occurrence) (v : V) (place : ℕ) (bytes : List ℕ) (x : Occurrence) (xs : List Occurrence) (q : Progress Occurrence) (w : V) (at : ℕ) (rest : List ℕ) : Type 0 where
     pub state : V
-    pub behind : List ℕ
-    pub shorter : length behind < length bytes
-    pub handles : handled given v (frames_of ls) place bytes ≡ Ok (record { operator = x; rest = behind; state = state })
-    pub over : Over given (further (Within ls s) (mark x)) state (place + (length bytes - length behind)) behind xs q w at rest
-    pub parses : parsed_from given (suc turns) (Within ls s) v place bytes ≡ parsed_from given turns (further (Within ls s) (mark x)) state (place + (length bytes - length behind)) behind
+    pub following : List ℕ
+    pub shorter : length following < length bytes
+    pub handles : handled given v (frames_of ls) place bytes ≡ Ok (record { operator = x; rest = following; state = state })
+    pub over : Over given (further (Within ls s) (mark x)) state (place + (length bytes - length following)) following xs q w at rest
+    pub parses : parsed_from given (suc turns) (Within ls s) v place bytes ≡ parsed_from given turns (further (Within ls s) (mark x)) state (place + (length bytes - length following)) following
 
   pub one_over : (turns : ℕ) (ls : List (Layer Occurrence)) (s : Sequence Occurrence) (v : V) (place : ℕ) (bytes : List ℕ) (x : Occurrence) (xs : List Occurrence) (q : Progress Occurrence) (w : V) (at : ℕ) (rest : List ℕ)
       → Over given (Within ls s) v place bytes (x ∷ xs) q w at rest → OneOver turns ls s v place bytes x xs q w at rest
@@ -105,7 +105,7 @@ module _ {V : Type 0} (given : Setting V) (agrees : ReadingAgrees) where
       let go = λ (k : Handled V). parsed_from given turns (further (Within ls s) (mark k.operator)) k.state (place + (length bytes - length k.rest)) k.rest in
       record {
         state = c.0;
-        behind = after;
+        following = after;
         shorter = omega arith;
         handles = h;
         over = record {
@@ -117,24 +117,24 @@ module _ {V : Type 0} (given : Setting V) (agrees : ReadingAgrees) where
           ends = o.ends;
           place_is = (let i = o.place_is in omega arith);
         };
-        parses = turn turns ls s v place bytes b.first (b.others ++ after) cons ∙ ap (λ r. behind place r go) h;
+        parses = turn turns ls s v place bytes b.first (b.others ++ after) cons ∙ ap (λ r. continue_from place r go) h;
       }
     where
       turn : (turns : ℕ) (ls : List (Layer Occurrence)) (s : Sequence Occurrence) (v : V) (place : ℕ) (bytes : List ℕ) (first : ℕ) (others : List ℕ) → bytes ≡ first ∷ others
           → parsed_from given (suc turns) (Within ls s) v place bytes
-          ≡ behind place (handled given v (frames_of ls) place bytes) (λ k. parsed_from given turns (further (Within ls s) (mark k.operator)) k.state (place + (length bytes - length k.rest)) k.rest)
+          ≡ continue_from place (handled given v (frames_of ls) place bytes) (λ k. parsed_from given turns (further (Within ls s) (mark k.operator)) k.state (place + (length bytes - length k.rest)) k.rest)
       turn turns ls s v place bytes first others e =
           subst (λ (z : List ℕ). parsed_from given (suc turns) (Within ls s) v place z
-          ≡ behind place (handled given v (frames_of ls) place z) (λ k. parsed_from given turns (further (Within ls s) (mark k.operator)) k.state (place + (length z - length k.rest)) k.rest)) (sym e) refl
+          ≡ continue_from place (handled given v (frames_of ls) place z) (λ k. parsed_from given turns (further (Within ls s) (mark k.operator)) k.state (place + (length z - length k.rest)) k.rest)) (sym e) refl
 
   -- parsing goes over a front
   pub over : (xs : List Occurrence) (turns : ℕ) (p : Progress Occurrence) (v : V) (place : ℕ) (bytes : List ℕ) (q : Progress Occurrence) (w : V) (at : ℕ) (rest : List ℕ)
-      → length bytes ≤ turns → Over given p v place bytes xs q w at rest → GoesOn turns p v place bytes q w at rest
+      → length bytes ≤ turns → Over given p v place bytes xs q w at rest → Continues turns p v place bytes q w at rest
   over [] turns p v place bytes q w at rest enough o = over_none turns p v place bytes q w at rest enough o
   over (x ∷ xs) turns NoBody v place bytes q w at rest enough o = absurd o.goes
   over (x ∷ xs) turns (Whole b) v place bytes q w at rest enough o = absurd o.goes.1
   over (x ∷ xs) zero (Within ls s) v place bytes q w at rest enough o = let i = one_over 0 ls s v place bytes x xs q w at rest o in absurd (let j = i.shorter in omega arith)
   over (x ∷ xs) (suc turns) (Within ls s) v place bytes q w at rest enough o =
       let i = one_over turns ls s v place bytes x xs q w at rest o in
-      let j = over xs turns (further (Within ls s) (mark x)) i.state (place + (length bytes - length i.behind)) i.behind q w at rest (let k = i.shorter in omega arith) i.over in
+      let j = over xs turns (further (Within ls s) (mark x)) i.state (place + (length bytes - length i.following)) i.following q w at rest (let k = i.shorter in omega arith) i.over in
       record { left = j.left; enough = j.enough; same = i.parses ∙ j.same }

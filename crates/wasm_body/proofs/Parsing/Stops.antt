@@ -12,7 +12,7 @@ use Rattle.wasm_body.specs.Frames.{Frame}
 use Rattle.wasm_body.specs.Naming.{NamedOperation, Occurrence, named_in}
 use Rattle.wasm_body.specs.Parsing.Accepted.{placed, mark, IsNamed, location_at, has_location, Setting, Handled, handled}
 use Rattle.wasm_body.specs.Parsing.Progress.{Layer, Progress, Within, Whole, NoBody, frames_of, further}
-use Rattle.wasm_body.specs.Parsing.Lists.{failure, behind, parsed_from}
+use Rattle.wasm_body.specs.Parsing.Lists.{failure, continue_from, parsed_from}
 use Rattle.wasm_body.proofs.Structure.ReadTexts.{IsRead}
 use Rattle.wasm_body.proofs.Structure.ReadFrames.{progress_frames, further_frames, Goes}
 use Rattle.walrus_ir.proofs.ResultLemmas.{bind_ok, with_fault_ok, unless_ok, ok_same}
@@ -93,10 +93,10 @@ module _ {V : Type 0} (given : Setting V) (agrees : ReadingAgrees) where
       }
 
   -- an operator more in front
-  stops_behind : (ls : List (Layer Occurrence)) (s : Sequence Occurrence) (v : V) (place : ℕ) (bytes : List ℕ) (h : Handled V) (text : List ℕ) (r : Result (Body Occurrence) ParseFailure)
+  stops_after : (ls : List (Layer Occurrence)) (s : Sequence Occurrence) (v : V) (place : ℕ) (bytes : List ℕ) (h : Handled V) (text : List ℕ) (r : Result (Body Occurrence) ParseFailure)
       → Passed given v (frames_of ls) place bytes h → bytes ≡ text ++ h.rest → Spells h.operator.spelt text
       → Stopped given (further (Within ls s) (mark h.operator)) h.state (place + length text) h.rest r → Stopped given (Within ls s) v place bytes r
-  stops_behind ls s v place bytes h text r p parts spells t =
+  stops_after ls s v place bytes h text r p parts spells t =
       record {
         operators = h.operator ∷ t.operators;
         reached = t.reached;
@@ -126,7 +126,7 @@ module _ {V : Type 0} (given : Setting V) (agrees : ReadingAgrees) where
 
   handled_case : (turns : ℕ) → Stopping turns → (ls : List (Layer Occurrence)) (s : Sequence Occurrence) (v : V) (place : ℕ) (bytes : List ℕ) → IsFilled bytes → AreBytes bytes → length bytes ≤ suc turns
       → (o : Result (Handled V) ParseError) → handled given v (frames_of ls) place bytes ≡ o
-      → Stopped given (Within ls s) v place bytes (behind place o (λ h. parsed_from given turns (further (Within ls s) (mark h.operator)) h.state (place + (length bytes - length h.rest)) h.rest))
+      → Stopped given (Within ls s) v place bytes (continue_from place o (λ h. parsed_from given turns (further (Within ls s) (mark h.operator)) h.state (place + (length bytes - length h.rest)) h.rest))
   handled_case turns go ls s v place [] f fits enough o q = absurd f
   handled_case turns go ls s v place (x ∷ bytes) f fits enough (Err e) q = stops_here (Within ls s) v place (x ∷ bytes) (Err (failure e place)) tt (e, q, refl)
   handled_case turns go ls s v place (x ∷ bytes) f fits enough (Ok k) q =
@@ -138,7 +138,7 @@ module _ {V : Type 0} (given : Setting V) (agrees : ReadingAgrees) where
       let at : place + (length (x ∷ bytes) - length k.rest) ≡ place + length t.0 = omega arith in
       let next = further (Within ls s) (mark k.operator) in
       let n = go next k.state (place + length t.0) k.rest (further_read ls s k.operator p.named) t.3 (omega arith) in
-      stops_behind ls s v place (x ∷ bytes) k t.0 (parsed_from given turns next k.state (place + (length (x ∷ bytes) - length k.rest)) k.rest) p t.1 t.2
+      stops_after ls s v place (x ∷ bytes) k t.0 (parsed_from given turns next k.state (place + (length (x ∷ bytes) - length k.rest)) k.rest) p t.1 t.2
       (subst (λ (z : ℕ). Stopped given next k.state (place + length t.0) k.rest (parsed_from given turns next k.state z k.rest)) (sym at) n)
 
   pub stopped : (turns : ℕ) → Stopping turns

@@ -8,13 +8,13 @@ use Rattle.wasm_body.specs.declared.error.ParseError.{ParseError}
 use Rattle.wasm_body.specs.declared.error.ParseError.TheVariants.{NoSuchLabel, RethrowOutsideHandler}
 use Rattle.walrus_ir.specs.Results.{◌>>=◌, unless}
 use Rattle.wasm_body.specs.Control.{Construct, Block, Loop, If, Try, TryTable, Control, Does, Opens, Else, Catch, CatchAll, End, Delegate, control_of, control_by, role_of}
-use Rattle.wasm_body.specs.Frames.{Frame, OfFunction, OfWrapper, Consequent, Alternative, TryBody, Handler, HandlerOfAll, may_stand, frame_opened, moves, else_moves, catch_moves, catch_all_moves, delegate_moves, is_handler, handler_at, outside, opener_of}
+use Rattle.wasm_body.specs.Frames.{Frame, OfFunction, OfWrapper, Consequent, Alternative, TryBody, Handler, HandlerOfAll, is_allowed, frame_opened, moves, else_moves, catch_moves, catch_all_moves, delegate_moves, is_handler, handler_at, outside, opener_of}
 use Rattle.wasm_body.specs.Translation.{Translation, translate, translate_immediates}
 use Rattle.wasm_body.specs.Naming.{Environment, NamedOperation, Occurrence, naming, open_label, handler_label, block_types, block_signature, construct_results, results_of, has_pick, tag_type, has_types, position_fault, named_in}
 use Rattle.wasm_body.proofs.Translation.Steps.{Leads, bound, all_of}
 use Rattle.wasm_body.proofs.Translation.Translations.{LeadAll, lead_all, translate_leads}
 use Rattle.wasm_body.proofs.NormalForm.KeptNames.{open_same, handler_same}
-use Rattle.wasm_body.proofs.Parsing.NamingLemmas.{same_stand, same_opcode, named_parts, named_stands}
+use Rattle.wasm_body.proofs.Parsing.NamingLemmas.{same_allowed, same_opcode, named_parts, named_is_allowed}
 
 -- ---- frames with other values shown
 
@@ -68,15 +68,15 @@ module _ {A B : Type 0} (g : A → B) where
   delegate_frame fs (TryBody a) = refl
   delegate_frame fs _ = refl
 
-  pub stand_frames : (fs : List (Frame A)) (c : Control) → may_stand (map_frames g fs) c ≡ may_stand fs c
-  stand_frames [] c = refl
-  stand_frames (f ∷ fs) (Does action) = refl
-  stand_frames (f ∷ fs) (Opens construct) = refl
-  stand_frames (f ∷ fs) Else = else_frame f
-  stand_frames (f ∷ fs) (Catch t) = catch_frame f
-  stand_frames (f ∷ fs) CatchAll = catch_all_frame f
-  stand_frames (f ∷ fs) End = refl
-  stand_frames (f ∷ fs) (Delegate n) = delegate_frame fs f
+  pub allowed_frames : (fs : List (Frame A)) (c : Control) → is_allowed (map_frames g fs) c ≡ is_allowed fs c
+  allowed_frames [] c = refl
+  allowed_frames (f ∷ fs) (Does action) = refl
+  allowed_frames (f ∷ fs) (Opens construct) = refl
+  allowed_frames (f ∷ fs) Else = else_frame f
+  allowed_frames (f ∷ fs) (Catch t) = catch_frame f
+  allowed_frames (f ∷ fs) CatchAll = catch_all_frame f
+  allowed_frames (f ∷ fs) End = refl
+  allowed_frames (f ∷ fs) (Delegate n) = delegate_frame fs f
 
   pub open_frames : (fs : List (Frame A)) (n : ℕ) → open_label (map_frames g fs) n ≡ open_label fs n
   open_frames fs n = ap (λ k. unless (nat_lt n k) NoSuchLabel >>= λ u. Ok n) (length_frames fs)
@@ -98,11 +98,11 @@ module _ {A B : Type 0} (g : A → B) where
   opened_frame a If = refl
   opened_frame a Try = refl
 
-  abbrev pub behind_frames : Option (List (Frame A)) → Option (List (Frame B))
-  behind_frames (Some fs) = Some (map_frames g fs)
-  behind_frames None = None
+  abbrev pub after_frames : Option (List (Frame A)) → Option (List (Frame B))
+  after_frames (Some fs) = Some (map_frames g fs)
+  after_frames None = None
 
-  pub moves_frames : (c : Control) (a : A) (fs : List (Frame A)) → behind_frames (moves c a fs) ≡ moves c (g a) (map_frames g fs)
+  pub moves_frames : (c : Control) (a : A) (fs : List (Frame A)) → after_frames (moves c a fs) ≡ moves c (g a) (map_frames g fs)
   moves_frames c a [] = refl
   moves_frames (Does action) a (f ∷ fs) = refl
   moves_frames (Opens k) a (f ∷ fs) = ap (λ x. Some (x ∷ map_frame g f ∷ map_frames g fs)) (opened_frame a k)
@@ -153,8 +153,8 @@ ruling fs = record {
 }
 
 -- The operator keeps the rules inside these frames.
-pub record IsRuled (env : Environment) (fs : List (Frame NamedOperation)) (o : NamedOperation) : Type 0 where
-  pub stands : may_stand fs (control_of o) ≡ true
+pub record KeepsRules (env : Environment) (fs : List (Frame NamedOperation)) (o : NamedOperation) : Type 0 where
+  pub allowed : is_allowed fs (control_of o) ≡ true
   pub keeps : translate_immediates (ruling fs) o.immediates ≡ Ok o.immediates
   pub typed : types_in env (results_at fs) (control_of o) o ≡ Ok tt
 
@@ -200,12 +200,12 @@ module _ (env : Environment) (fs : List (Frame Occurrence)) where
       let is : record { opcode = o.opcode; immediates = first.0 } ≡ named = cc first.2 in
       first.1 ∙ ap (λ (n : NamedOperation). Ok n.immediates) is
 
-  pub is_ruled : (o : RawOperation) (named : NamedOperation) → named_in env fs o ≡ Ok named → IsRuled env here named
+  pub is_ruled : (o : RawOperation) (named : NamedOperation) → named_in env fs o ≡ Ok named → KeepsRules env here named
   is_ruled o named e =
       let parts = named_parts env fs o named e in
       let immediates = named_immediates o named parts.translated in
       record {
-        stands = stand_frames named_of fs (control_of named) ∙ named_stands env fs o named e;
+        allowed = allowed_frames named_of fs (control_of named) ∙ named_is_allowed env fs o named e;
         keeps =
             translate_leads (naming env fs) (ruling here) (naming env fs) o.immediates
             (lead_all (naming env fs) (ruling here) (naming env fs) ruled_lead o.immediates (all_of (Leads (naming env fs).block (ruling here).block (naming env fs).block) (λ b c h. sym h) (block_types o.immediates)))
@@ -215,13 +215,13 @@ module _ (env : Environment) (fs : List (Frame Occurrence)) where
       }
 
   -- an operator whose indices have ids, and whose name keeps the rules, has the name
-  pub has_name : (o : RawOperation) (named : NamedOperation) → translate (naming env fs) o ≡ Ok named → IsRuled env here named → named_in env fs o ≡ Ok named
+  pub has_name : (o : RawOperation) (named : NamedOperation) → translate (naming env fs) o ≡ Ok named → KeepsRules env here named → named_in env fs o ≡ Ok named
   has_name o named e r =
       let opcode : named.opcode ≡ o.opcode = same_opcode (naming env fs) o named e in
-      let may : may_stand fs (control_of o) ≡ true =
-      same_stand fs (role_of o.opcode) o.immediates named.immediates
-      ∙ (ap (λ c. may_stand fs (control_by (role_of c) named.immediates)) (sym opcode)
-      ∙ (sym (stand_frames named_of fs (control_of named)) ∙ r.stands)) in
+      let may : is_allowed fs (control_of o) ≡ true =
+      same_allowed fs (role_of o.opcode) o.immediates named.immediates
+      ∙ (ap (λ c. is_allowed fs (control_by (role_of c) named.immediates)) (sym opcode)
+      ∙ (sym (allowed_frames named_of fs (control_of named)) ∙ r.allowed)) in
       let next : Result NamedOperation ParseError → Result NamedOperation ParseError = λ t. t >>= λ n. has_types env fs (control_of n) n >>= λ _. Ok n in
       ap (λ b. unless b (position_fault (control_of o)) >>= λ _. next (translate (naming env fs) o)) may
       ∙ (ap next e
@@ -235,7 +235,7 @@ shapes = map_frames named_of
 module _ (env : Environment) where
   abbrev named_by : List (Frame NamedOperation) → RawOperation → Result NamedOperation ParseError
   named_by gs o =
-      unless (may_stand gs (control_of o)) (position_fault (control_of o)) >>= λ _.
+      unless (is_allowed gs (control_of o)) (position_fault (control_of o)) >>= λ _.
       translate (naming env gs) o >>= λ named.
       types_in env (results_at gs) (control_of named) named >>= λ _.
       Ok named
@@ -249,7 +249,7 @@ module _ (env : Environment) where
 
   named_is : (fs : List (Frame Occurrence)) (o : RawOperation) → named_in env fs o ≡ named_by (shapes fs) o
   named_is fs o =
-      (λ i. unless ((sym (stand_frames named_of fs (control_of o))) i) (position_fault (control_of o)) >>= λ _. translate (naming_is fs i) o >>= λ named. types_named env fs (control_of named) named i >>= λ _. Ok named)
+      (λ i. unless ((sym (allowed_frames named_of fs (control_of o))) i) (position_fault (control_of o)) >>= λ _. translate (naming_is fs i) o >>= λ named. types_named env fs (control_of named) named i >>= λ _. Ok named)
 
   -- they give an operator the same name, or the same fault
   pub named_same : (fs gs : List (Frame Occurrence)) (o : RawOperation) → shapes fs ≡ shapes gs → named_in env fs o ≡ named_in env gs o

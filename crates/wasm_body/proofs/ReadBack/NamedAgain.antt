@@ -25,7 +25,7 @@ use Rattle.wasm_body.specs.Bytes.{Numbers, numbers_in_32_bits, numbered_block, n
 use Rattle.wasm_body.specs.ReadBack.{EachInHeap, EachInValue, EachInTag, EachIn, IsUndone, IsUndoneLocal, IsUndoneType}
 use Rattle.wasm_body.proofs.Translation.Steps.{Leads, bound, all_of, after_one}
 use Rattle.wasm_body.proofs.Translation.Translations.{LeadsAt, LeadsHeap, LeadsValue, LeadsTag, LeadsClause, translate_leads}
-use Rattle.wasm_body.proofs.Bytes.Fitting.{fitting_is, fitting_answer}
+use Rattle.wasm_body.proofs.Bytes.Fitting.{fitting_is, fitting_result}
 use Rattle.wasm_body.proofs.NormalForm.Kept.{exponent_of-pow}
 use Rattle.wasm_body.proofs.NormalForm.WrittenTexts.{named_by}
 use Rattle.wasm_body.proofs.ReadBack.FrameNames.{map_frames, ruling, open_frames, handler_label_frames, outer_frames}
@@ -41,10 +41,10 @@ module _ {A B : Type 0} (env : Environment) (to : Numbers) (t : InstrSeqType) (g
   ruled = ruling (map_frames g fs)
 
   index_back : (space : Space) (id : ℕ) → IsUndone to env space id → Leads (there.index space) (back.index space) (ruled.index space) id
-  index_back space id u n e = ap (with_fault Index) (u n (fitting_answer (to.number_of space id) n e).answer)
+  index_back space id u n e = ap (with_fault Index) (u n (fitting_result (to.number_of space id) n e).is_result)
 
   local_back : (id : ℕ) → IsUndoneLocal to env id → Leads there.local back.local ruled.local id
-  local_back id u n e = ap (with_fault Index) (u n (fitting_answer (to.local_number id) n e).answer)
+  local_back id u n e = ap (with_fault Index) (u n (fitting_result (to.local_number id) n e).is_result)
 
   heap_back : (h : HeapType ℕ) → EachInHeap (IsUndone to env) h → LeadsHeap there.index back.index ruled.index h
   heap_back (Abstract a) u = tt

@@ -28,7 +28,7 @@ use Rattle.wasm_body.proofs.NormalForm.Kept.{exponent_of-pow}
 use Rattle.wasm_body.specs.Bytes.{Numbers, in_32_bits, numbers_in_32_bits, numbered_block, numbering}
 use Rattle.wasm_body.specs.ReadBack.{EachInHeap, EachInValue, EachInTag, EachIn, IsUndone, IsUndoneLocal, IsUndoneType}
 use Rattle.wasm_operators.specs.Fitting.{FitsHeap, FitsValue, FitsTag}
-use Rattle.wasm_body.proofs.Bytes.Fitting.{fitting_is, fitting_answer}
+use Rattle.wasm_body.proofs.Bytes.Fitting.{fitting_is, fitting_result}
 use Rattle.wasm_body.proofs.Translation.Steps.{bound, length-each}
 use Rattle.wasm_body.proofs.Translation.Kinds.{through, at_once}
 use Rattle.wasm_body.proofs.NormalForm.WrittenTexts.{named_by}
@@ -124,7 +124,7 @@ module _ (to : Numbers) (env : Environment) (t : InstrSeqType) where
 
   heap_fits : (h : HeapType ℕ) → EachInHeap (IsUndone to env) h → (g : HeapType ℕ) → translate_heap (numbers_in_32_bits to).number_of h ≡ Ok g → FitsHeap g
   heap_fits (Abstract a) u g e = at_once (Abstract a) FitsHeap tt g e
-  heap_fits (Concrete n) u g e = through ((numbers_in_32_bits to).number_of Types n) Concrete FitsHeap (λ m h. (fitting_answer (to.number_of Types n) m h).below) g e
+  heap_fits (Concrete n) u g e = through ((numbers_in_32_bits to).number_of Types n) Concrete FitsHeap (λ m h. (fitting_result (to.number_of Types n) m h).below) g e
 
   value_fits : (v : ValType ℕ) → EachInValue (IsUndone to env) v → (w : ValType ℕ) → translate_value (numbers_in_32_bits to).number_of v ≡ Ok w → FitsValue w
   value_fits I32 u w e = at_once I32 FitsValue tt w e
@@ -138,7 +138,7 @@ module _ (to : Numbers) (env : Environment) (t : InstrSeqType) where
 
   tag_fits : (g : Option ℕ) → EachInTag (IsUndone to env) g → (q : Option ℕ) → translate_tag (numbers_in_32_bits to).number_of g ≡ Ok q → FitsTag q
   tag_fits None u q e = at_once None FitsTag tt q e
-  tag_fits (Some n) u q e = through ((numbers_in_32_bits to).number_of Tags n) (λ m. Some m) FitsTag (λ m h. (fitting_answer (to.number_of Tags n) m h).below) q e
+  tag_fits (Some n) u q e = through ((numbers_in_32_bits to).number_of Tags n) (λ m. Some m) FitsTag (λ m h. (fitting_result (to.number_of Tags n) m h).below) q e
 
   clause_again : (c d : CatchClause ℕ) → EachInTag (IsUndone to env) c.tag → translate_clause onward c ≡ Ok d → IsSpellable IsClause d
   clause_again c d u e =
@@ -154,7 +154,7 @@ module _ (to : Numbers) (env : Environment) (t : InstrSeqType) where
   block_again (Simple (Some v)) c u e =
       through (translate_value (numbers_in_32_bits to).number_of v) Value (IsSpellable IsBlockType)
       (λ w h. value_block_spelt w (value_fits v u w h)) c e
-  block_again (MultiValue id) c u e = through ((numbers_in_32_bits to).number_of Types id) FuncType (IsSpellable IsBlockType) (λ n h. index_block_spelt n (fitting_answer (to.number_of Types id) n h).below) c e
+  block_again (MultiValue id) c u e = through ((numbers_in_32_bits to).number_of Types id) FuncType (IsSpellable IsBlockType) (λ n h. index_block_spelt n (fitting_result (to.number_of Types id) n h).below) c e
 
   cast_again : (c : Cast ℕ) → Undone (cast c) → (k : RawImmediate) → translate_immediate onward (cast c) ≡ Ok k → IsSpelt k
   cast_again c u k e =
@@ -168,11 +168,11 @@ module _ (to : Numbers) (env : Environment) (t : InstrSeqType) where
   access_again : (a : Access) → (a.alignment < 32) × IsSpellable IsU64 a.offset → IsUndone to env Memories a.memory → (b : Access) → translate_access onward a ≡ Ok b → IsSpellable IsAccess b
   access_again a r u b e =
       through ((numbers_in_32_bits to).number_of Memories a.memory) (λ m. record { alignment = exponent_of (2 ^ a.alignment); memory = m; offset = a.offset }) (IsSpellable IsAccess)
-      (λ m h. access_spelt (record { alignment = exponent_of (2 ^ a.alignment); memory = m; offset = a.offset }) (subst (λ n. n < 32) (sym (exponent_of-pow a.alignment)) r.0) (fitting_answer (to.number_of Memories a.memory) m h).below r.1) b e
+      (λ m h. access_spelt (record { alignment = exponent_of (2 ^ a.alignment); memory = m; offset = a.offset }) (subst (λ n. n < 32) (sym (exponent_of-pow a.alignment)) r.0) (fitting_result (to.number_of Memories a.memory) m h).below r.1) b e
 
   again : (j : Immediate ℕ Signature) → IsRanged j → Undone j → (k : RawImmediate) → translate_immediate onward j ≡ Ok k → IsSpelt k
-  again (index space n) r u k e = through ((numbers_in_32_bits to).number_of space n) (index space) IsSpelt (λ m h. u32_spelt m (fitting_answer (to.number_of space n) m h).below) k e
-  again (local n) r u k e = through ((numbers_in_32_bits to).local_number n) local IsSpelt (λ m h. u32_spelt m (fitting_answer (to.local_number n) m h).below) k e
+  again (index space n) r u k e = through ((numbers_in_32_bits to).number_of space n) (index space) IsSpelt (λ m h. u32_spelt m (fitting_result (to.number_of space n) m h).below) k e
+  again (local n) r u k e = through ((numbers_in_32_bits to).local_number n) local IsSpelt (λ m h. u32_spelt m (fitting_result (to.local_number n) m h).below) k e
   again (label l) r u k e = through (in_32_bits l) label IsSpelt (λ m h. u32_spelt m (fitting_is l m h).below) k e
   again (handler n) r u k e = through (in_32_bits n) handler IsSpelt (λ m h. u32_spelt m (fitting_is n m h).below) k e
   again (outer n) r u k e = through (in_32_bits n) outer IsSpelt (λ m h. u32_spelt m (fitting_is n m h).below) k e

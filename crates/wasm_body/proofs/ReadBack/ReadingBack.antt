@@ -22,13 +22,13 @@ use Rattle.wasm_body.specs.FlatText.{with_ids}
 use Rattle.wasm_body.specs.Bytes.{Numbers, tree_bytes}
 use Rattle.wasm_body.specs.TextLaws.{mark_named}
 use Rattle.wasm_body.specs.ReadBack.{EachIn, IsUndone, IsUndoneLocal, IsUndoneType, AreUndone, Undoes, IsReadBack, ReadBack, NormalFormAgain, AreReadable, AcceptedAgain}
-use Rattle.wasm_body.proofs.Structure.Along.{Each, AllMarked, Tells, each_of, all_of_each}
+use Rattle.wasm_body.proofs.Structure.Along.{Each, AllMarked, HasControl, each_of, all_of_each}
 use Rattle.wasm_body.proofs.Translation.Steps.{bound}
 use Rattle.wasm_body.proofs.Bytes.LawfulTyped.{each_of_follows, lawful_named}
 use Rattle.wasm_operators.proofs.ReadingBytes.{reading_agrees}
-use Rattle.wasm_body.proofs.Parsing.Answers.{one_body_accepted}
+use Rattle.wasm_body.proofs.Parsing.ParseResults.{one_body_accepted}
 use Rattle.wasm_body.proofs.Structure.ReadFrames.{Goes, body_goes, goes_body}
-use Rattle.wasm_body.proofs.Structure.Reshown.{remarked, text_reshown, is_named_body}
+use Rattle.wasm_body.proofs.Structure.Mapped.{map_mark, text_mapped, is_named_body}
 use Rattle.wasm_body.proofs.Structure.Lifted.{lifted_body}
 use Rattle.wasm_body.proofs.NormalForm.ByNames.{op_of, same_by_names}
 use Rattle.wasm_body.specs.RewrittenTree.{end_at, rewritten, rewritten_body_by}
@@ -37,13 +37,13 @@ use Rattle.wasm_body.proofs.NormalForm.NamedTexts.{have_texts}
 use Rattle.wasm_body.proofs.NormalForm.NormalAgain.{again as rewritten_again, normal_again}
 use Rattle.wasm_body.proofs.NormalForm.SameTexts.{same_bytes}
 use Rattle.wasm_body.proofs.NormalForm.WrittenTexts.{type_at, with_type, ids_at, anew_by, ids_text, numbering_at, spelt_as, IsNumbered, bytes_as, numbered_bytes}
-use Rattle.wasm_body.proofs.ReadBack.FrameNames.{map_frames, named_of, IsRuled, has_name}
+use Rattle.wasm_body.proofs.ReadBack.FrameNames.{map_frames, named_of, KeepsRules, has_name}
 use Rattle.wasm_body.proofs.Translation.Kinds.{raw_kinds, kinds_kept}
 use Rattle.wasm_body.proofs.ReadBack.Ranged.{all_again}
 use Rattle.wasm_body.proofs.ReadBack.Sound.{CanSpell, IsSound, IsSpeltThere, occurrence_sound, rewritten_sound, close_sound}
 use Rattle.wasm_body.proofs.ReadBack.NamedAgain.{named_again}
 use Rattle.wasm_body.proofs.ReadBack.Related.{AllRelated, goes_related}
-use Rattle.wasm_body.proofs.ReadBack.PlacedBodies.{make, behind, at_places, marks_at, are_marks, controls_at, names_at, IsMadeOf, made_at}
+use Rattle.wasm_body.proofs.ReadBack.PlacedBodies.{make, place_after, at_places, marks_at, are_marks, controls_at, names_at, IsMadeOf, made_at}
 
 -- ---- lists
 
@@ -97,11 +97,11 @@ module _ (env : Environment) (to : Numbers) (m : Typing) where
 
   lists_of : (locate : ℕ → ℕ) (xs : List (Marked Named)) (p : ℕ) → AllByRecursion (λ x. Spells (spelt_as to m x) (short (spelt_as to m x))) xs → Lists (map placed (at_places (spelt_as to m) locate p xs)) p (bytes_as to m xs) []
   lists_of locate [] p h = refl
-  lists_of locate (x ∷ xs) p h = (refl, short (spelt_as to m x), bytes_as to m xs, refl, h.0, lists_of locate xs (behind (spelt_as to m) locate p x) h.1)
+  lists_of locate (x ∷ xs) p h = (refl, short (spelt_as to m x), bytes_as to m xs, refl, h.0, lists_of locate xs (place_after (spelt_as to m) locate p x) h.1)
 
   located_of : (locate : ℕ → ℕ) (xs : List (Marked Named)) (p : ℕ) → AllByRecursion (λ x. x.location ≡ locate x.place) (at_places (spelt_as to m) locate p xs)
   located_of locate [] p = tt
-  located_of locate (x ∷ xs) p = (refl, located_of locate xs (behind (spelt_as to m) locate p x))
+  located_of locate (x ∷ xs) p = (refl, located_of locate xs (place_after (spelt_as to m) locate p x))
 
 -- ---- operators of an accepted body
 
@@ -134,11 +134,11 @@ module _ (env : Environment) (xs : List Occurrence) (body : Body Occurrence) (te
   b = named_body body
 
   -- whether an `else` that says nothing is left out of the construct that an operator opens
-  abbrev leaves_out : NamedOperation → Bool
-  leaves_out o = to.balanced (construct_type m o)
+  abbrev omits : NamedOperation → Bool
+  omits o = to.balanced (construct_type m o)
 
   abbrev r : Sequence Named
-  r = rewritten leaves_out b.sequence
+  r = rewritten omits b.sequence
 
   abbrev last : Marked Named
   last = with_control (end_at b.close.location) End
@@ -154,20 +154,20 @@ module _ (env : Environment) (xs : List Occurrence) (body : Body Occurrence) (te
       (Some function_frames) (Some function_frames) refl (map mark xs) (map mark_named (map name_at xs)) (named_there_all xs texts) named in
       (goes_body (IsSound env) b (subst (Goes (IsSound env) (Some function_frames)) (is_named_body xs body lawful.is_body) sound)).0
 
-  source_tells : Each Tells b.sequence
-  source_tells = each_of_follows (IsSound env) Tells (λ fs a c h. h.tells) function_frames b.sequence source_sound
+  source_controls : Each HasControl b.sequence
+  source_controls = each_of_follows (IsSound env) HasControl (λ fs a c h. h.has_control) function_frames b.sequence source_sound
 
   sound : Follows (IsSound env) function_frames r
-  sound = rewritten_sound env leaves_out function_frames b.sequence source_sound
+  sound = rewritten_sound env omits function_frames b.sequence source_sound
 
   last_sound : IsSound env function_frames last
   last_sound = close_sound env [] OfFunction b.close.location
 
-  tells : Each Tells r
-  tells = each_of_follows (IsSound env) Tells (λ fs a c h. h.tells) function_frames r sound
+  has_control : Each HasControl r
+  has_control = each_of_follows (IsSound env) HasControl (λ fs a c h. h.has_control) function_frames r sound
 
   numbered : AllByRecursion (IsNumbered to m) ms × (bytes ≡ bytes_as to m ms)
-  numbered = numbered_bytes to m b bytes source_tells written
+  numbered = numbered_bytes to m b bytes source_controls written
 
   -- the operators, if no `else` is left out
   abbrev whole_text : List (Marked Named)
@@ -175,7 +175,7 @@ module _ (env : Environment) (xs : List Occurrence) (body : Body Occurrence) (te
 
   whole_undone : AllByRecursion (AreUndoneAt back to m) whole_text
   whole_undone =
-      let ids = undoes.ids (map (ids_at m) whole_text) (ids_text m b source_tells) in
+      let ids = undoes.ids (map (ids_at m) whole_text) (ids_text m b source_controls) in
       all_so (λ x. AreUndone to again (ids_at m x).op.immediates) (AreUndoneAt back to m)
       (λ x h. all_typed_ids (IsUndone to back) (IsUndoneLocal to back) (IsUndoneType to back) (type_at m x.control x.shown.op) x.shown.op.immediates h) whole_text
       (all_of_map (ids_at m) (λ x. AreUndone to again x.op.immediates) whole_text ids)
@@ -186,7 +186,7 @@ module _ (env : Environment) (xs : List Occurrence) (body : Body Occurrence) (te
   undone : AllByRecursion (AreUndoneAt back to m) ms
   undone =
       let each = each_of IsUndoneThere (rewritten (λ o. false) b.sequence) (last ∷ []) whole_undone in
-      all_of_each IsUndoneThere r (last ∷ []) (each_fewer leaves_out IsUndoneThere (λ l. tt) b.sequence each.0) each.1
+      all_of_each IsUndoneThere r (last ∷ []) (each_fewer omits IsUndoneThere (λ l. tt) b.sequence each.0) each.1
 
   abbrev IsReady : Named → Control → Type 0
   IsReady a c = IsNumbered to m (with_control a c) × AreUndoneAt back to m (with_control a c)
@@ -208,31 +208,31 @@ module _ (env : Environment) (xs : List Occurrence) (body : Body Occurrence) (te
   abbrev marks : List (Marked Occurrence)
   marks = marks_at (spelt_as to m) locate start ms
 
-  all_tell : AllMarked Tells ms
-  all_tell = all_of_each Tells r (last ∷ []) tells (refl, tt)
+  all_controls : AllMarked HasControl ms
+  all_controls = all_of_each HasControl r (last ∷ []) has_control (refl, tt)
 
   whole : (c : Body Occurrence) × (body_text c ≡ marks)
-  whole = lifted_body (rewritten_body_by leaves_out b) marks (controls_at (spelt_as to m) locate start ms)
+  whole = lifted_body (rewritten_body_by omits b) marks (controls_at (spelt_as to m) locate start ms)
 
   abbrev read : Body Occurrence
   read = whole.0
 
   is_read : IsBody operators read
-  is_read = are_marks (spelt_as to m) locate start ms all_tell ∙ sym whole.1
+  is_read = are_marks (spelt_as to m) locate start ms all_controls ∙ sym whole.1
 
   named_there : (fs : List (Frame Named)) (gs : List (Frame Occurrence)) (p : ℕ) (a : Named) (c : Control) → map_frames op_of fs ≡ map_frames named_of gs → IsSound env fs (with_control a c) → IsReady a c →
       IsNamed back gs (with_control (make (spelt_as to m) locate p (with_control a c)) c)
   named_there fs gs p a c e h q =
-      let there : IsRuled env (map_frames named_of gs) a.op = subst (λ l. IsRuled env l a.op) e h.ruled in
-      let ruled : IsRuled back (map_frames named_of gs) a.op = record { stands = there.stands; keeps = there.keeps; typed = there.typed } in
-      has_name back gs (spelt_as to m (with_control a c)) a.op (named_again back to (type_at m c a.op) named_of gs a.op (spelt_as to m (with_control a c)) q.0 q.1 h.stands_for there.keeps) ruled
+      let there : KeepsRules env (map_frames named_of gs) a.op = subst (λ l. KeepsRules env l a.op) e h.ruled in
+      let ruled : KeepsRules back (map_frames named_of gs) a.op = record { allowed = there.allowed; keeps = there.keeps; typed = there.typed } in
+      has_name back gs (spelt_as to m (with_control a c)) a.op (named_again back to (type_at m c a.op) named_of gs a.op (spelt_as to m (with_control a c)) q.0 q.1 h.has_signatures there.keeps) ruled
 
   read_named : BodyFollows (IsNamed back) read
   read_named =
       let goes = goes_related op_of named_of (IsMadeOf (spelt_as to m) locate IsReady) (IsSound env) (IsNamed back)
       (λ fs gs x y same e p. subst (IsNamed back gs) p.1 (named_there fs gs p.0 x.shown x.control same e p.2))
       (Some function_frames) (Some function_frames) refl ms marks (made_at (spelt_as to m) locate IsReady start ms ready)
-      (body_goes (IsSound env) (rewritten_body_by leaves_out b) (sound, last_sound)) in
+      (body_goes (IsSound env) (rewritten_body_by omits b) (sound, last_sound)) in
       goes_body (IsNamed back) read (subst (Goes (IsNamed back) (Some function_frames)) (sym whole.1) goes)
 
   lists : Lists (map placed operators) start bytes []
@@ -240,9 +240,9 @@ module _ (env : Environment) (xs : List Occurrence) (body : Body Occurrence) (te
 
   same_again : IsSameTree (normal_form m (named_body read)) (normal_form m b)
   same_again =
-      let names = ap (map (remarked op_of)) (text_reshown name_at read.sequence (with_control read.close End ∷ []) ∙ ap (map (remarked name_at)) whole.1)
+      let names = ap (map (map_mark op_of)) (text_mapped name_at read.sequence (with_control read.close End ∷ []) ∙ ap (map (map_mark name_at)) whole.1)
       ∙ names_at (spelt_as to m) locate start ms in
-      same_by_names m (named_body read) (rewritten_body_by leaves_out b) names ∙ ap (λ x. sequence m.entry x no_sequences) (rewritten_again leaves_out m b.sequence)
+      same_by_names m (named_body read) (rewritten_body_by omits b) names ∙ ap (λ x. sequence m.entry x no_sequences) (rewritten_again omits m b.sequence)
 
   by_back : IsReadBack back start locate to (normal_form m b) bytes
   by_back = record {

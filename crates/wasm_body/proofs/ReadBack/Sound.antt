@@ -4,30 +4,31 @@ use Rattle.std.proofs.Common.{◌≡◌, ℕ, List, [], ◌∷◌, map, Bool, tr
 use Rattle.std.specs.Prelude.{◌&&◌}
 use Rattle.std.specs.List.{AllByRecursion}
 use Rattle.walrus_ir.specs.Types.{Signature}
+use Rattle.walrus_ir.specs.Locations.{default_location}
 use Rattle.wasm_operators.specs.declared.types.Opcode.TheVariants.{Byte}
 use Rattle.wasm_operators.specs.Operations.{Immediate, outer, RawOperation}
 use Rattle.wasm_operators.specs.Opcodes.{IsOpcode, kinds_of, kinds_of_byte}
 use Rattle.wasm_operators.specs.Spelling.{Spells}
 use Rattle.wasm_body.specs.Control.{Role, a_delegate, role_of, Control, Does, Opens, If, Else, Catch, CatchAll, End, Delegate, control_of, control_by, Action, Marked, with_control}
 use Rattle.wasm_body.specs.SourceTree.{Sequence, Empty, Single, Wrapped, IfThen, IfElse, TryCatch, TryDelegate, Clauses, Ended, Catches, CatchesAll}
-use Rattle.wasm_body.specs.Frames.{Frame, OfWrapper, Consequent, Alternative, TryBody, Handler, HandlerOfAll, Follows, FollowsIn, may_stand}
+use Rattle.wasm_body.specs.Frames.{Frame, OfWrapper, Consequent, Alternative, TryBody, Handler, HandlerOfAll, Follows, FollowsIn, is_allowed}
 use Rattle.wasm_body.specs.Translation.{translate, translate_immediates}
 use Rattle.wasm_body.specs.Naming.{Environment, NamedOperation, Occurrence, naming, block_types}
 use Rattle.wasm_body.specs.Parsing.Accepted.{IsNamed}
-use Rattle.wasm_body.specs.NormalForm.{typing_of, name_at, Fate, Drops, Stays, Cuts, fate}
-use Rattle.wasm_body.specs.FunctionTree.{default_location, last_location}
-use Rattle.wasm_body.specs.Typed.{StandsFor}
-use Rattle.wasm_body.proofs.Structure.Along.{Tells}
+use Rattle.wasm_body.specs.NormalForm.{typing_of, name_at, Fate, Drops, Stays, Diverges, fate}
+use Rattle.wasm_body.specs.FunctionTree.{last_location}
+use Rattle.wasm_body.specs.Typed.{HasSignatures}
+use Rattle.wasm_body.proofs.Structure.Along.{HasControl}
 use Rattle.wasm_body.proofs.Parsing.NamingLemmas.{same_opcode, named_parts}
 use Rattle.wasm_body.proofs.Bytes.NumberedBodies.{HasText, named_kinds}
 use Rattle.wasm_body.proofs.Bytes.LawfulTyped.{named_typed}
 use Rattle.wasm_body.specs.RewrittenTree.{end_at, else_at, catch_at, catch_all_at, delegate_at, single_with_fate, is_empty, written_if, rewritten, rewritten_clauses}
-use Rattle.wasm_body.proofs.NormalForm.Rewritten.{Named, typed_told}
+use Rattle.wasm_body.proofs.NormalForm.Rewritten.{Named, typed_control}
 use Rattle.wasm_body.proofs.NormalForm.WrittenTexts.{type_at}
 use Rattle.wasm_body.proofs.NormalForm.ByNames.{op_of}
-use Rattle.wasm_body.proofs.NormalForm.NamedTexts.{stands_at}
-use Rattle.wasm_body.proofs.ReadBack.FrameNames.{map_frames, named_of, results_at, types_in, ruling, IsRuled, is_ruled, named_immediates}
-use Rattle.wasm_body.proofs.Bytes.ClauseKinds.{delegate_asks}
+use Rattle.wasm_body.proofs.NormalForm.NamedTexts.{signatures_at}
+use Rattle.wasm_body.proofs.ReadBack.FrameNames.{map_frames, named_of, results_at, types_in, ruling, KeepsRules, is_ruled, named_immediates}
+use Rattle.wasm_body.proofs.Bytes.ClauseKinds.{delegate_needs}
 use Rattle.wasm_body.proofs.Translation.Kinds.{kind_in, only_outer}
 use Rattle.wasm_body.proofs.ReadBack.Spellings.{IsSpellable}
 use Rattle.wasm_body.proofs.ReadBack.Ranged.{IsRanged, all_ranged}
@@ -40,9 +41,9 @@ pub record CanSpell (o : NamedOperation) : Type 0 where
 
 -- The conditions on each operator in its place.
 pub record IsSound (env : Environment) (fs : List (Frame Named)) (x : Marked Named) : Type 0 where
-  pub ruled : IsRuled env (map_frames op_of fs) x.shown.op
-  pub tells : Tells x.shown x.control
-  pub stands_for : StandsFor (typing_of env) (type_at (typing_of env) x.control x.shown.op) (block_types x.shown.op.immediates)
+  pub ruled : KeepsRules env (map_frames op_of fs) x.shown.op
+  pub has_control : HasControl x.shown x.control
+  pub has_signatures : HasSignatures (typing_of env) (type_at (typing_of env) x.control x.shown.op) (block_types x.shown.op.immediates)
   pub spellable : CanSpell x.shown.op
 
 -- ---- an operator of a lawful body
@@ -67,9 +68,9 @@ occurrence_sound env fs gs x c same e p =
     let m = typing_of env in
     let translated = (named_parts env fs x.spelt x.named e).translated in
     record {
-      ruled = subst (λ l. IsRuled env l x.named) same (is_ruled env fs x.spelt x.named e);
-      tells = p.0;
-      stands_for = stands_at m c x.named (typed_told m (name_at x) c (p.0, named_typed env fs x.spelt x.named p.1.1.kinds e));
+      ruled = subst (λ l. KeepsRules env l x.named) same (is_ruled env fs x.spelt x.named e);
+      has_control = p.0;
+      has_signatures = signatures_at m c x.named (typed_control m (name_at x) c (p.0, named_typed env fs x.spelt x.named p.1.1.kinds e));
       spellable = can_spell env fs x.spelt x.named p.1.0 p.1.1 translated;
     }
 
@@ -86,18 +87,18 @@ module _ (env : Environment) where
   end_sound : (f : Frame Named) (fs : List (Frame Named)) (l : ℕ) → IsSound env (f ∷ fs) (with_control (end_at l) End)
   unfolding kinds_of_byte
   end_sound f fs l = record {
-    ruled = record { stands = refl; keeps = refl; typed = refl };
-    tells = refl;
-    stands_for = tt;
+    ruled = record { allowed = refl; keeps = refl; typed = refl };
+    has_control = refl;
+    has_signatures = tt;
     spellable = record { opcode = one_byte 0x0b (refl, omega arith, refl); kinds = refl; ranged = tt };
   }
 
   else_sound : (a : Named) (fs : List (Frame Named)) (l : ℕ) → IsSound env (Consequent a ∷ fs) (with_control (else_at l) Else)
   unfolding kinds_of_byte
   else_sound a fs l = record {
-    ruled = record { stands = refl; keeps = refl; typed = refl };
-    tells = refl;
-    stands_for = tt;
+    ruled = record { allowed = refl; keeps = refl; typed = refl };
+    has_control = refl;
+    has_signatures = tt;
     spellable = record { opcode = one_byte 0x05 (refl, omega arith, refl); kinds = refl; ranged = tt };
   }
 
@@ -105,12 +106,12 @@ module _ (env : Environment) where
   unfolding kinds_of_byte
   catch_sound fs h t l s = record {
     ruled = record {
-      stands = subst (λ c. may_stand (map_frames op_of fs) c ≡ true) s.tells s.ruled.stands;
+      allowed = subst (λ c. is_allowed (map_frames op_of fs) c ≡ true) s.has_control s.ruled.allowed;
       keeps = refl;
-      typed = subst (λ c. types_in env (results_at (map_frames op_of fs)) c h.op ≡ Ok tt) s.tells s.ruled.typed;
+      typed = subst (λ c. types_in env (results_at (map_frames op_of fs)) c h.op ≡ Ok tt) s.has_control s.ruled.typed;
     };
-    tells = refl;
-    stands_for = tt;
+    has_control = refl;
+    has_signatures = tt;
     spellable = record { opcode = one_byte 0x07 (refl, omega arith, refl); kinds = refl; ranged = (tt, tt) };
   }
 
@@ -118,24 +119,24 @@ module _ (env : Environment) where
   unfolding kinds_of_byte
   catch_all_sound fs h l s = record {
     ruled = record {
-      stands = subst (λ c. may_stand (map_frames op_of fs) c ≡ true) s.tells s.ruled.stands;
+      allowed = subst (λ c. is_allowed (map_frames op_of fs) c ≡ true) s.has_control s.ruled.allowed;
       keeps = refl;
-      typed = subst (λ c. types_in env (results_at (map_frames op_of fs)) c h.op ≡ Ok tt) s.tells s.ruled.typed;
+      typed = subst (λ c. types_in env (results_at (map_frames op_of fs)) c h.op ≡ Ok tt) s.has_control s.ruled.typed;
     };
-    tells = refl;
-    stands_for = tt;
+    has_control = refl;
+    has_signatures = tt;
     spellable = record { opcode = one_byte 0x19 (refl, omega arith, refl); kinds = refl; ranged = tt };
   }
 
   -- the depth of a `delegate` is its only immediate
   delegate_depth : (fs : List (Frame Named)) (e : Named) (n : ℕ) → IsSound env fs (with_control e (Delegate n)) → e.op.immediates ≡ outer n ∷ []
   delegate_depth fs e n s =
-      let role = delegate_role (role_of e.op.opcode) e.op.immediates n s.tells in
-      let kinds = delegate_asks e.op.opcode (map kind_in e.op.immediates) s.spellable.kinds role in
+      let role = delegate_role (role_of e.op.opcode) e.op.immediates n s.has_control in
+      let kinds = delegate_needs e.op.opcode (map kind_in e.op.immediates) s.spellable.kinds role in
       let depth = only_outer e.op.immediates kinds in
       let alone : List (Immediate ℕ Signature) = outer depth.0 ∷ [] in
       let control : control_by a_delegate alone ≡ Delegate n =
-      ap (control_by a_delegate) (sym depth.1) ∙ (ap (λ r. control_by r e.op.immediates) (sym role) ∙ s.tells) in
+      ap (control_by a_delegate) (sym depth.1) ∙ (ap (λ r. control_by r e.op.immediates) (sym role) ∙ s.has_control) in
       let same : depth.0 ≡ n = cc control in
       depth.1 ∙ ap (λ k. outer k ∷ []) same
 
@@ -145,12 +146,12 @@ module _ (env : Environment) where
       let depth = delegate_depth fs e n s in
       record {
         ruled = record {
-          stands = subst (λ c. may_stand (map_frames op_of fs) c ≡ true) s.tells s.ruled.stands;
+          allowed = subst (λ c. is_allowed (map_frames op_of fs) c ≡ true) s.has_control s.ruled.allowed;
           keeps = subst (λ is. translate_immediates (ruling (map_frames op_of fs)) is ≡ Ok is) depth s.ruled.keeps;
           typed = refl;
         };
-        tells = refl;
-        stands_for = tt;
+        has_control = refl;
+        has_signatures = tt;
         spellable = record {
           opcode = one_byte 0x18 (refl, omega arith, refl);
           kinds = refl;
@@ -163,7 +164,7 @@ module _ (env : Environment) where
   fate_sound : (f : Fate) (fs : List (Frame Named)) (a : Named) (action : Action) (r : Sequence Named) → IsSound env fs (with_control a (Does action)) → Follows (IsSound env) fs r → Follows (IsSound env) fs (single_with_fate f a action r)
   fate_sound Drops fs a action r h g = g
   fate_sound Stays fs a action r h g = (h, g)
-  fate_sound Cuts fs a action r h g = (h, tt)
+  fate_sound Diverges fs a action r h g = (h, tt)
 
   if_sound : (t : Bool) (fs : List (Frame Named)) (a : Named) (b : Sequence Named) (l : ℕ) (c : Sequence Named) (n : ℕ) (r : Sequence Named)
       → IsSound env fs (with_control a (Opens If)) → Follows (IsSound env) (Consequent a ∷ fs) b → Follows (IsSound env) (Alternative a ∷ fs) c

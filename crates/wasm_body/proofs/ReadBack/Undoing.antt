@@ -19,7 +19,7 @@ use Rattle.wasm_body.specs.NormalForm.{Typing, typing_of, construct_type, normal
 use Rattle.wasm_body.specs.FlatText.{tree_text, with_ids}
 use Rattle.wasm_body.specs.Bytes.{Numbers}
 use Rattle.wasm_body.specs.ReadBack.{EachInHeap, EachInValue, EachInTag, EachIn, IsUndone, IsUndoneLocal, IsUndoneType, AreUndone, IsInverse, InverseUndoes}
-use Rattle.wasm_body.proofs.Structure.Along.{Each, AllMarked, Tells, each_of, all_of_each, each_reshown, weaker}
+use Rattle.wasm_body.proofs.Structure.Along.{Each, AllMarked, HasControl, each_of, all_of_each, each_mapped, weaker}
 use Rattle.wasm_body.specs.RewrittenTree.{end_at, rewritten}
 use Rattle.wasm_body.proofs.NormalForm.Rewritten.{Named, each_rewritten}
 use Rattle.wasm_body.proofs.NormalForm.WrittenTexts.{type_at, with_type, ids_at, anew_by, ids_text}
@@ -84,7 +84,7 @@ module _ (env : Environment) (xs : List Occurrence) (body : Body Occurrence) (la
   by_control x (Delegate n) = tt
 
   abbrev Kept : Occurrence → Control → Type 0
-  Kept x c = Tells (name_at x) c × HasUndoneType (name_at x) c
+  Kept x c = HasControl (name_at x) c × HasUndoneType (name_at x) c
 
   all_kept : (ys : List Occurrence) → AllMarked Kept (map mark ys)
   all_kept [] = tt
@@ -93,26 +93,26 @@ module _ (env : Environment) (xs : List Occurrence) (body : Body Occurrence) (la
   kept : Each Kept body.sequence
   kept = (each_of Kept body.sequence (with_control body.close End ∷ []) (subst (AllMarked Kept) lawful.is_body (all_kept xs))).0
 
-  source_kept : Each (λ a c. Tells a c × HasUndoneType a c) (named_body body).sequence
-  source_kept = each_reshown (λ a c. Tells a c × HasUndoneType a c) name_at body.sequence kept
+  source_kept : Each (λ a c. HasControl a c × HasUndoneType a c) (named_body body).sequence
+  source_kept = each_mapped (λ a c. HasControl a c × HasUndoneType a c) name_at body.sequence kept
 
-  both_kept : Each (λ a c. Tells a c × HasUndoneType a c) (rewritten (λ o. false) (named_body body).sequence)
+  both_kept : Each (λ a c. HasControl a c × HasUndoneType a c) (rewritten (λ o. false) (named_body body).sequence)
   both_kept =
-      each_rewritten (λ o. false) (λ a c. Tells a c × HasUndoneType a c) (λ a c. Tells a c × HasUndoneType a c) (λ a action h. h) (λ a construct h. h)
+      each_rewritten (λ o. false) (λ a c. HasControl a c × HasUndoneType a c) (λ a c. HasControl a c × HasUndoneType a c) (λ a action h. h) (λ a construct h. h)
       (λ l. (refl, tt)) (λ l. (refl, tt)) (λ a t l h. (refl, tt)) (λ l. (refl, tt)) (λ e n l h. (refl, tt)) (named_body body).sequence source_kept
 
   abbrev ms : List (Marked Named)
   ms = body_text (anew_by with_ids.balanced m (named_body body))
 
-  ids_undone : (ys : List (Marked Named)) → AllMarked (λ a c. Tells a c × HasUndoneType a c) ys → AllByRecursion (λ x. AreUndone to again x.op.immediates) (map (ids_at m) ys)
+  ids_undone : (ys : List (Marked Named)) → AllMarked (λ a c. HasControl a c × HasUndoneType a c) ys → AllByRecursion (λ x. AreUndone to again x.op.immediates) (map (ids_at m) ys)
   ids_undone [] h = tt
   ids_undone (x ∷ ys) h = (all_undone to again inverse (type_at m x.control x.shown.op) h.0.1 x.shown.op.immediates, ids_undone ys h.1)
 
   ids : (ys : List (Located (Operation ℕ InstrSeqType))) → tree_text with_ids (normal_form m (named_body body)) ≡ Ok ys → AllByRecursion (λ x. AreUndone to again x.op.immediates) ys
   ids ys e =
-      let text = ids_text m (named_body body) (weaker (λ a c. Tells a c × HasUndoneType a c) Tells (λ a c h. h.0) (named_body body).sequence source_kept) in
+      let text = ids_text m (named_body body) (weaker (λ a c. HasControl a c × HasUndoneType a c) HasControl (λ a c h. h.0) (named_body body).sequence source_kept) in
       let whole : AllByRecursion (λ x. AreUndone to again x.op.immediates) (map (ids_at m) ms) =
-      ids_undone ms (all_of_each (λ a c. Tells a c × HasUndoneType a c) (rewritten (λ o. false) (named_body body).sequence) (with_control (end_at body.close.location) End ∷ []) both_kept ((refl, tt), tt)) in
+      ids_undone ms (all_of_each (λ a c. HasControl a c × HasUndoneType a c) (rewritten (λ o. false) (named_body body).sequence) (with_control (end_at body.close.location) End ∷ []) both_kept ((refl, tt), tt)) in
       at_once (map (ids_at m) ms) (AllByRecursion (λ x. AreUndone to again x.op.immediates)) whole ys (sym text ∙ e)
 
 pub inverse_undoes : InverseUndoes

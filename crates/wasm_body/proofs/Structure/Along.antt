@@ -93,42 +93,42 @@ mutual
 -- ---- the same of a tree with other values shown
 
 mutual
-  pub each_reshown : {A B : Type 0} → (P : B → Control → Type 0) (g : A → B) (s : Sequence A) → Each (λ a c. P (g a) c) s → Each P (map_sequence g s)
-  each_reshown P g Empty h = tt
-  each_reshown P g (Single a action r) h = (h.0, each_reshown P g r h.1)
-  each_reshown P g (Wrapped a w b e r) h = (h.0, each_reshown P g b h.1, h.2, each_reshown P g r h.3)
-  each_reshown P g (IfThen a b e r) h = (h.0, each_reshown P g b h.1, h.2, each_reshown P g r h.3)
-  each_reshown P g (IfElse a b l c e r) h = (h.0, each_reshown P g b h.1, h.2, each_reshown P g c h.3, h.4, each_reshown P g r h.5)
-  each_reshown P g (TryCatch a b cs r) h = (h.0, each_reshown P g b h.1, each_in_reshown P g cs h.2, each_reshown P g r h.3)
-  each_reshown P g (TryDelegate a b e n r) h = (h.0, each_reshown P g b h.1, h.2, each_reshown P g r h.3)
+  pub each_mapped : {A B : Type 0} → (P : B → Control → Type 0) (g : A → B) (s : Sequence A) → Each (λ a c. P (g a) c) s → Each P (map_sequence g s)
+  each_mapped P g Empty h = tt
+  each_mapped P g (Single a action r) h = (h.0, each_mapped P g r h.1)
+  each_mapped P g (Wrapped a w b e r) h = (h.0, each_mapped P g b h.1, h.2, each_mapped P g r h.3)
+  each_mapped P g (IfThen a b e r) h = (h.0, each_mapped P g b h.1, h.2, each_mapped P g r h.3)
+  each_mapped P g (IfElse a b l c e r) h = (h.0, each_mapped P g b h.1, h.2, each_mapped P g c h.3, h.4, each_mapped P g r h.5)
+  each_mapped P g (TryCatch a b cs r) h = (h.0, each_mapped P g b h.1, each_in_mapped P g cs h.2, each_mapped P g r h.3)
+  each_mapped P g (TryDelegate a b e n r) h = (h.0, each_mapped P g b h.1, h.2, each_mapped P g r h.3)
 
-  each_in_reshown : {A B : Type 0} → (P : B → Control → Type 0) (g : A → B) (cs : Clauses A) → EachIn (λ a c. P (g a) c) cs → EachIn P (map_clauses g cs)
-  each_in_reshown P g (Ended e) h = h
-  each_in_reshown P g (Catches a t b cs) h = (h.0, each_reshown P g b h.1, each_in_reshown P g cs h.2)
-  each_in_reshown P g (CatchesAll a b e) h = (h.0, each_reshown P g b h.1, h.2)
+  each_in_mapped : {A B : Type 0} → (P : B → Control → Type 0) (g : A → B) (cs : Clauses A) → EachIn (λ a c. P (g a) c) cs → EachIn P (map_clauses g cs)
+  each_in_mapped P g (Ended e) h = h
+  each_in_mapped P g (Catches a t b cs) h = (h.0, each_mapped P g b h.1, each_in_mapped P g cs h.2)
+  each_in_mapped P g (CatchesAll a b e) h = (h.0, each_mapped P g b h.1, h.2)
 
 -- ---- operators whose control is the one that the tree gives
 
-abbrev pub Tells : Located NamedOperation → Control → Type 0
-Tells a c = control_of a.op ≡ c
+abbrev pub HasControl : Located NamedOperation → Control → Type 0
+HasControl a c = control_of a.op ≡ c
 
-told : (xs : List (Marked (Located NamedOperation))) → AllMarked Tells xs → map mark_named (map (λ x. x.shown) xs) ≡ xs
-told [] h = refl
-told (x ∷ xs) h = ap (λ c. with_control x.shown c ∷ map mark_named (map (λ y. y.shown) xs)) h.0 ∙ ap (λ l. x ∷ l) (told xs h.1)
+marks_named : (xs : List (Marked (Located NamedOperation))) → AllMarked HasControl xs → map mark_named (map (λ x. x.shown) xs) ≡ xs
+marks_named [] h = refl
+marks_named (x ∷ xs) h = ap (λ c. with_control x.shown c ∷ map mark_named (map (λ y. y.shown) xs)) h.0 ∙ ap (λ l. x ∷ l) (marks_named xs h.1)
 
 -- a body of such operators is the body of its text
-pub is_body : (b : Body (Located NamedOperation)) → Each Tells b.sequence → Tells b.close End
+pub is_body : (b : Body (Located NamedOperation)) → Each HasControl b.sequence → HasControl b.close End
     → IsNamedBody (map (λ x. x.shown) (body_text b)) b
-is_body b h e = told (body_text b) (all_of_each Tells b.sequence (with_control b.close End ∷ []) h (e, tt))
+is_body b h e = marks_named (body_text b) (all_of_each HasControl b.sequence (with_control b.close End ∷ []) h (e, tt))
 
-tells : (P : Located NamedOperation → Type 0) (xs : List (Located NamedOperation)) → AllByRecursion P xs
-    → AllMarked (λ a c. Tells a c × P a) (map mark_named xs)
-tells P [] h = tt
-tells P (x ∷ xs) h = ((refl, h.0), tells P xs h.1)
+has_control : (P : Located NamedOperation → Type 0) (xs : List (Located NamedOperation)) → AllByRecursion P xs
+    → AllMarked (λ a c. HasControl a c × P a) (map mark_named xs)
+has_control P [] h = tt
+has_control P (x ∷ xs) h = ((refl, h.0), has_control P xs h.1)
 
 -- along the tree of a body each operator is such an operator, and fulfils the condition that each operator of the list does
 pub along : (P : Located NamedOperation → Type 0) (xs : List (Located NamedOperation)) (b : Body (Located NamedOperation))
     → IsNamedBody xs b → AllByRecursion P xs
-    → Each (λ a c. Tells a c × P a) b.sequence
+    → Each (λ a c. HasControl a c × P a) b.sequence
 along P xs b e h =
-    (each_of (λ a c. Tells a c × P a) b.sequence (with_control b.close End ∷ []) (subst (AllMarked (λ a c. Tells a c × P a)) e (tells P xs h))).0
+    (each_of (λ a c. HasControl a c × P a) b.sequence (with_control b.close End ∷ []) (subst (AllMarked (λ a c. HasControl a c × P a)) e (has_control P xs h))).0

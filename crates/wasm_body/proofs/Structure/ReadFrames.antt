@@ -3,8 +3,8 @@
 use Rattle.std.proofs.Common.{◌≡◌, ℕ, suc, List, [], ◌∷◌, ◌++◌, length, Option, Some, None, true, refl, sym, ap, subst, ◌∙◌}
 use Rattle.wasm_body.specs.Control.{Construct, Block, Loop, TryTable, If, Try, Control, Does, Opens, Else, Catch, CatchAll, End, Delegate, Marked, with_control}
 use Rattle.wasm_body.specs.SourceTree.{Wrapper, OfBlock, OfLoop, OfTryTable, construct_of, Sequence, Empty, Single, Wrapped, IfThen, IfElse, TryCatch, TryDelegate, Clauses, Ended, Catches, CatchesAll, text, clauses_text, Body, body_text}
-use Rattle.wasm_body.specs.Frames.{Frame, OfFunction, OfWrapper, Consequent, Alternative, TryBody, Handler, HandlerOfAll, Rule, Follows, FollowsIn, function_frames, BodyFollows, frame_opened, else_moves, catch_moves, catch_all_moves, onto, delegate_moves, moves, moved, frames_behind, may_stand}
-use Rattle.wasm_body.specs.Parsing.Progress.{OpenConstruct, InThen, InTry, Layer, Progress, Within, Whole, NoBody, frame_of, frames_of, opened, parted_by_else, parted_by_catch, parted_by_catch_all, delegated, go_on_in, go_on_behind, further_within, further, progress_behind}
+use Rattle.wasm_body.specs.Frames.{Frame, OfFunction, OfWrapper, Consequent, Alternative, TryBody, Handler, HandlerOfAll, Rule, Follows, FollowsIn, function_frames, BodyFollows, frame_opened, else_moves, catch_moves, catch_all_moves, onto, delegate_moves, moves, moved, frames_after, is_allowed}
+use Rattle.wasm_body.specs.Parsing.Progress.{OpenConstruct, InThen, InTry, Layer, Progress, Within, Whole, NoBody, frame_of, frames_of, opened, with_else_open, with_catch_open, with_catch_all_open, delegated, continue_in, continue_after, further_within, further, progress_after}
 
 -- ---- frames of the operators that were read
 
@@ -20,19 +20,19 @@ opened_frame a (TryTable cs) = refl
 opened_frame a If = refl
 opened_frame a Try = refl
 
-else_frames : {A : Type 0} → (p : OpenConstruct A) (ls : List (Layer A)) (d s : Sequence A) (l : A) → progress_frames (go_on_in ls d (parted_by_else p s l)) ≡ onto (frames_of ls) (else_moves (frame_of p))
+else_frames : {A : Type 0} → (p : OpenConstruct A) (ls : List (Layer A)) (d s : Sequence A) (l : A) → progress_frames (continue_in ls d (with_else_open p s l)) ≡ onto (frames_of ls) (else_moves (frame_of p))
 else_frames (InThen a) ls d s l = refl
 else_frames _ ls d s l = refl
 
-catch_frames : {A : Type 0} → (p : OpenConstruct A) (ls : List (Layer A)) (d s : Sequence A) (l : A) (t : ℕ) → progress_frames (go_on_in ls d (parted_by_catch p s l t)) ≡ onto (frames_of ls) (catch_moves (frame_of p))
+catch_frames : {A : Type 0} → (p : OpenConstruct A) (ls : List (Layer A)) (d s : Sequence A) (l : A) (t : ℕ) → progress_frames (continue_in ls d (with_catch_open p s l t)) ≡ onto (frames_of ls) (catch_moves (frame_of p))
 catch_frames (InTry a) ls d s l t = refl
 catch_frames _ ls d s l t = refl
 
-catch_all_frames : {A : Type 0} → (p : OpenConstruct A) (ls : List (Layer A)) (d s : Sequence A) (l : A) → progress_frames (go_on_in ls d (parted_by_catch_all p s l)) ≡ onto (frames_of ls) (catch_all_moves (frame_of p))
+catch_all_frames : {A : Type 0} → (p : OpenConstruct A) (ls : List (Layer A)) (d s : Sequence A) (l : A) → progress_frames (continue_in ls d (with_catch_all_open p s l)) ≡ onto (frames_of ls) (catch_all_moves (frame_of p))
 catch_all_frames (InTry a) ls d s l = refl
 catch_all_frames _ ls d s l = refl
 
-delegate_frames : {A : Type 0} → (p : OpenConstruct A) (ls : List (Layer A)) (d s : Sequence A) (l : A) (n : ℕ) → progress_frames (go_on_behind ls d (delegated p s l n)) ≡ delegate_moves (frames_of ls) (frame_of p)
+delegate_frames : {A : Type 0} → (p : OpenConstruct A) (ls : List (Layer A)) (d s : Sequence A) (l : A) (n : ℕ) → progress_frames (continue_after ls d (delegated p s l n)) ≡ delegate_moves (frames_of ls) (frame_of p)
 delegate_frames (InTry a) ls d s l n = refl
 delegate_frames _ ls d s l n = refl
 
@@ -57,16 +57,16 @@ further_frames (Within ls s) x = within_frames x.control x.shown ls s
 further_frames (Whole b) x = refl
 further_frames NoBody x = refl
 
-pub behind_frames : {A : Type 0} → (xs : List (Marked A)) (p : Progress A) → progress_frames (progress_behind p xs) ≡ frames_behind (progress_frames p) xs
-behind_frames [] p = refl
-behind_frames (x ∷ xs) p = behind_frames xs (further p x) ∙ ap (λ o. frames_behind o xs) (further_frames p x)
+pub after_frames : {A : Type 0} → (xs : List (Marked A)) (p : Progress A) → progress_frames (progress_after p xs) ≡ frames_after (progress_frames p) xs
+after_frames [] p = refl
+after_frames (x ∷ xs) p = after_frames xs (further p x) ∙ ap (λ o. frames_after o xs) (further_frames p x)
 
 pub frames_length : {A : Type 0} → (ls : List (Layer A)) → length (frames_of ls) ≡ suc (length ls)
 frames_length [] = refl
 frames_length (l ∷ ls) = ap suc (frames_length ls)
 
 -- an operator that is allowed somewhere has frames after it
-pub may_move : {A : Type 0} → (c : Control) (a : A) (fs : List (Frame A)) → may_stand fs c ≡ true → (gs : List (Frame A)) × (moves c a fs ≡ Some gs)
+pub may_move : {A : Type 0} → (c : Control) (a : A) (fs : List (Frame A)) → is_allowed fs c ≡ true → (gs : List (Frame A)) × (moves c a fs ≡ Some gs)
 may_move c a [] h = absurd (cc)
 may_move (Does action) a (f ∷ fs) h = (f ∷ fs, refl)
 may_move (Opens k) a (f ∷ fs) h = (frame_opened a k ∷ f ∷ fs, refl)
@@ -162,20 +162,20 @@ goes_body R b h = let i = goes_in R b.sequence OfFunction [] (with_control b.clo
 
 -- ---- one list after another
 
-pub frames_append : {A : Type 0} → (xs ys : List (Marked A)) (o : Option (List (Frame A))) → frames_behind o (xs ++ ys) ≡ frames_behind (frames_behind o xs) ys
+pub frames_append : {A : Type 0} → (xs ys : List (Marked A)) (o : Option (List (Frame A))) → frames_after o (xs ++ ys) ≡ frames_after (frames_after o xs) ys
 frames_append [] ys o = refl
 frames_append (x ∷ xs) ys o = frames_append xs ys (moved o x)
 
-pub none_stays : {A : Type 0} → (xs : List (Marked A)) → frames_behind {A = A} None xs ≡ None
+pub none_stays : {A : Type 0} → (xs : List (Marked A)) → frames_after {A = A} None xs ≡ None
 none_stays [] = refl
 none_stays (x ∷ xs) = none_stays xs
 
-pub goes_front : {A : Type 0} → (R : Rule A) (xs ys : List (Marked A)) (o : Option (List (Frame A))) → Goes R o (xs ++ ys) → Goes R o xs × Goes R (frames_behind o xs) ys
+pub goes_front : {A : Type 0} → (R : Rule A) (xs ys : List (Marked A)) (o : Option (List (Frame A))) → Goes R o (xs ++ ys) → Goes R o xs × Goes R (frames_after o xs) ys
 goes_front R xs ys None h = absurd h
 goes_front R [] ys (Some fs) h = (tt, h)
 goes_front R (x ∷ xs) ys (Some fs) h = let i = goes_front R xs ys (moves x.control x.shown fs) h.1 in ((h.0, i.0), i.1)
 
-pub goes_on : {A : Type 0} → (R : Rule A) (xs ys : List (Marked A)) (o : Option (List (Frame A))) → Goes R o xs → Goes R (frames_behind o xs) ys → Goes R o (xs ++ ys)
-goes_on R xs ys None h g = absurd h
-goes_on R [] ys (Some fs) h g = g
-goes_on R (x ∷ xs) ys (Some fs) h g = (h.0, goes_on R xs ys (moves x.control x.shown fs) h.1 g)
+pub continues : {A : Type 0} → (R : Rule A) (xs ys : List (Marked A)) (o : Option (List (Frame A))) → Goes R o xs → Goes R (frames_after o xs) ys → Goes R o (xs ++ ys)
+continues R xs ys None h g = absurd h
+continues R [] ys (Some fs) h g = g
+continues R (x ∷ xs) ys (Some fs) h g = (h.0, continues R xs ys (moves x.control x.shown fs) h.1 g)

@@ -3,12 +3,12 @@ use Rattle.std.proofs.Common.{◌≡◌, List, [], ◌∷◌, ◌++◌, refl, sy
 use Rattle.wasm_body.specs.Control.{If, Try, Control, Does, Opens, Else, Catch, CatchAll, End, Delegate, Marked, with_control}
 use Rattle.wasm_body.specs.SourceTree.{construct_of, Sequence, Empty, Single, Wrapped, IfThen, IfElse, TryCatch, TryDelegate, Clauses, Ended, Catches, CatchesAll, text, clauses_text}
 use Rattle.wasm_body.specs.TextLaws.{EndsSequence, OneSequence}
-use Rattle.wasm_body.specs.Parsing.Progress.{Progress, Within, Whole, NoBody, nothing_read, further, progress_behind}
+use Rattle.wasm_body.specs.Parsing.Progress.{Progress, Within, Whole, NoBody, nothing_read, further, progress_after}
 use Rattle.wasm_body.proofs.Structure.ReadingTrees.{reads}
 
-behind_append : {A : Type 0} → (xs ys : List (Marked A)) (st : Progress A) → progress_behind st (xs ++ ys) ≡ progress_behind (progress_behind st xs) ys
-behind_append [] ys st = refl
-behind_append (x ∷ xs) ys st = behind_append xs ys (further st x)
+after_append : {A : Type 0} → (xs ys : List (Marked A)) (st : Progress A) → progress_after st (xs ++ ys) ≡ progress_after (progress_after st xs) ys
+after_append [] ys st = refl
+after_append (x ∷ xs) ys st = after_append xs ys (further st x)
 
 mutual
   text_append : {A : Type 0} → (s : Sequence A) (k m : List (Marked A)) → text s k ++ m ≡ text s (k ++ m)
@@ -68,25 +68,25 @@ stops_out CatchAll a s h = tt
 stops_out End a s h = tt
 stops_out (Delegate n) a s h = tt
 
-stays_out : {A : Type 0} → (m : List (Marked A)) (st : Progress A) → IsOut st → IsOut (progress_behind st m)
+stays_out : {A : Type 0} → (m : List (Marked A)) (st : Progress A) → IsOut st → IsOut (progress_after st m)
 stays_out [] st h = h
 stays_out (x ∷ m) (Within ls s) h = absurd h
 stays_out (x ∷ m) (Whole b) h = stays_out m NoBody tt
 stays_out (x ∷ m) NoBody h = stays_out m NoBody tt
 
-sequence_read : {A : Type 0} → (s : Sequence A) → progress_behind nothing_read (text s []) ≡ Within [] s
+sequence_read : {A : Type 0} → (s : Sequence A) → progress_after nothing_read (text s []) ≡ Within [] s
 sequence_read s = reads s [] Empty []
 
 no_longer : {A : Type 0} → (s t : Sequence A) (x : Marked A) (m : List (Marked A)) → EndsSequence x.control → text t [] ≡ text s [] ++ x ∷ m → ⊥
 no_longer s t x m h e =
-    let far : progress_behind nothing_read (text t []) ≡ progress_behind (further (Within [] s) x) m =
-    ap (progress_behind nothing_read) e ∙ (behind_append (text s []) (x ∷ m) nothing_read ∙ ap (λ st. progress_behind st (x ∷ m)) (sequence_read s)) in
+    let far : progress_after nothing_read (text t []) ≡ progress_after (further (Within [] s) x) m =
+    ap (progress_after nothing_read) e ∙ (after_append (text s []) (x ∷ m) nothing_read ∙ ap (λ st. progress_after st (x ∷ m)) (sequence_read s)) in
     subst IsOut (sym far ∙ sequence_read t) (stays_out m (further (Within [] s) x) (stops_out x.control x.shown s h))
 
 one_of_forked : {A : Type 0} → (s t : Sequence A) (x y : Marked A) (k l : List (Marked A)) → EndsSequence x.control → EndsSequence y.control
     → Forked (text s []) x k (text t []) y l → (s ≡ t) × (x ≡ y) × (k ≡ l)
 one_of_forked s t x y k l h g (same p q r) =
-    let d : Within [] s ≡ Within [] t = sym (sequence_read s) ∙ (ap (progress_behind nothing_read) p ∙ sequence_read t) in
+    let d : Within [] s ≡ Within [] t = sym (sequence_read s) ∙ (ap (progress_after nothing_read) p ∙ sequence_read t) in
     let f : s ≡ t = cc in (f, q, r)
 one_of_forked s t x y k l h g (shorter m p) = absurd (no_longer s t x m h p)
 one_of_forked s t x y k l h g (longer m p) = absurd (no_longer t s y m g p)

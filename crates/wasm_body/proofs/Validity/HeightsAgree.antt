@@ -12,7 +12,7 @@ use Rattle.wasm_body.specs.Naming.{NamedOperation, block_signature}
 use Rattle.wasm_body.specs.NormalForm.{Typing}
 use Rattle.wasm_body.specs.Validity.{Operand, Unknown, Known, Point, Change, Opened, OfLoop, OfIf, OfElse, OfCatch, OfCatchAll, OperandRules, Checked, demand, required, i32, exnref, opened_by, is_if, is_try, may_catch, is_handler, transfers, clauses_of, handed, push_each, ControlFrame, Stacks, State, state, above, up_to}
 use Rattle.wasm_body.specs.Validity as heights
-use Rattle.wasm_body.proofs.Validity.NestedFrames.{NestedFrame, NestedFrames, none, at, initialised_in, label, label_types, results, changed, unreachable, after_action, pop, pop_each, pop_all, opened_in, closes, given, targets, taken, condition, hand, catching, taken_by, frame_by, opens, alternative, handler, handler_of_all, ends, parted, step, validate, function_frame, IsValid}
+use Rattle.wasm_body.proofs.Validity.NestedFrames.{NestedFrame, NestedFrames, none, at, initialised_in, label, label_types, results, changed, unreachable, after_action, pop, pop_each, pop_all, opened_in, closes, given, targets, taken, condition, hand, catching, taken_by, frame_by, opens, alternative, handler, handler_of_all, ends, next_sequence, step, validate, function_frame, IsValid}
 
 -- ---- results that are alike
 
@@ -225,12 +225,12 @@ module _ {T : Type 0} (m : Typing) (r : OperandRules T) where
       nested = ap (λ l. k.initialises ++ l) h.0.1 ∙ sym (append_assoc k.initialises h.0.0 (initialised_in fs));
     }
 
-    asked_like : (ask : Point T → Option (Change T))
-        → Like (Holds fs f) (required (ask (heights.point m r c here)) >>= λ k. Ok (heights.changed m r c k here)) (required (ask f.point) >>= λ k. Ok (changed k f.point))
-    asked_like ask =
+    required_like : (change_of : Point T → Option (Change T))
+        → Like (Holds fs f) (required (change_of (heights.point m r c here)) >>= λ k. Ok (heights.changed m r c k here)) (required (change_of f.point) >>= λ k. Ok (changed k f.point))
+    required_like change_of =
         let to : Change T → Checked (Stacks T) = λ k. Ok (heights.changed m r c k here) in
         let on : Change T → Checked (Point T) = λ k. Ok (changed k f.point) in
-        subst (λ p. Like (Holds fs f) (required (ask p) >>= to) (required (ask f.point) >>= on)) (sym point_like) (like_same (Holds fs f) (required (ask f.point)) to on changed_like)
+        subst (λ p. Like (Holds fs f) (required (change_of p) >>= to) (required (change_of f.point) >>= on)) (sym point_like) (like_same (Holds fs f) (required (change_of f.point)) to on changed_like)
 
     popping_like : (ts : List (ValType ℕ)) (xs : List (Operand T)) (p : Point T) → Above fs f xs p
         → Like (Holds fs f) (heights.popping m r c ts (record { operands = xs; initialised = f.point.initialised })) (pop_all m r ts p)
@@ -260,7 +260,7 @@ module _ {T : Type 0} (m : Typing) (r : OperandRules T) where
 
     taken_like : (action : Action) (o : NamedOperation) → Like (Holds fs f) (heights.taken m r action o c (controls_of (f ∷ fs)) here) (taken m r action o (f ∷ fs) f.point)
     taken_like Nop o = holds_same
-    taken_like Plain o = asked_like (r.plain o)
+    taken_like Plain o = required_like (r.plain o)
     taken_like (Branch n) o =
         like_bind Names (Holds fs f) (heights.label (controls_of (f ∷ fs)) n) (label (f ∷ fs) n) (λ d. heights.popping m r c (heights.label_types d) here) (λ g. pop_all m r (label_types g) f.point)
         (label_like (f ∷ fs) n) λ d g w.
@@ -271,7 +271,7 @@ module _ {T : Type 0} (m : Typing) (r : OperandRules T) where
         like_bind Names (Holds fs f) (heights.label (controls_of (f ∷ fs)) n) (label (f ∷ fs) n)
         (λ d. required (r.conditional o (heights.label_types d) (heights.point m r c here)) >>= to) (λ g. required (r.conditional o (label_types g) f.point) >>= on) (label_like (f ∷ fs) n) λ d g w.
         subst (λ ts. Like (Holds fs f) (required (r.conditional o ts (heights.point m r c here)) >>= to) (required (r.conditional o (label_types g) f.point) >>= on)) (sym (types_like d g w))
-        (asked_like (r.conditional o (label_types g)))
+        (required_like (r.conditional o (label_types g)))
     taken_like (TableBranch ns n) o =
         let to : List (Operand T) → List (ValType ℕ) → Checked (Stacks T) = λ xs ts. heights.popping m r c ts (record { operands = xs; initialised = f.point.initialised }) in
         let on : Point T → List (ValType ℕ) → Checked (Point T) = λ p ts. pop_all m r ts p in
@@ -383,36 +383,36 @@ module _ {T : Type 0} (m : Typing) (r : OperandRules T) where
         (sym (push_above f.start_types [] (operands_of fs))) (pops_control (alternative m r f fs) fs (([], refl), h))
     ends_like _ f = refl
 
-    parted_like : (k : Control) (f : NestedFrame T) → Like IsStateOf (heights.parted m r k (control_in fs f) (stacks_of fs) (controls_of fs)) (parted m r k f fs)
-    parted_like Else f =
+    next_sequence_like : (k : Control) (f : NestedFrame T) → Like IsStateOf (heights.next_sequence m r k (control_in fs f) (stacks_of fs) (controls_of fs)) (next_sequence m r k f fs)
+    next_sequence_like Else f =
         like_same IsStateOf (demand (is_if f.opened)) (λ u. Ok (heights.push_control m r OfElse f.start_types f.end_types (stacks_of fs) (controls_of fs))) (λ u. Ok (alternative m r f fs ∷ fs))
         (λ u. pushes_control fs h OfElse f.start_types f.end_types)
-    parted_like (Catch tag) f =
+    next_sequence_like (Catch tag) f =
         like_same IsStateOf (demand (may_catch f.opened)) (λ u. Ok (heights.push_control m r OfCatch (m.tag_parameters tag) f.end_types (stacks_of fs) (controls_of fs))) (λ u. Ok (handler m r tag f fs ∷ fs))
         (λ u. pushes_control fs h OfCatch (m.tag_parameters tag) f.end_types)
-    parted_like CatchAll f =
+    next_sequence_like CatchAll f =
         like_same IsStateOf (demand (may_catch f.opened)) (λ u. Ok (heights.push_control m r OfCatchAll [] f.end_types (stacks_of fs) (controls_of fs))) (λ u. Ok (handler_of_all m r f fs ∷ fs))
         (λ u. pushes_control fs h OfCatchAll [] f.end_types)
-    parted_like End f =
+    next_sequence_like End f =
         like_bind Same IsStateOf (heights.ends m r f.opened (control_in fs f) (stacks_of fs)) (ends m r f.opened f fs)
         (λ t. Ok (heights.given m r f.end_types t (controls_of fs))) (λ u. Ok (given m r f.end_types fs)) (ends_like f.opened f)
         (λ t u e. subst (λ x. IsStateOf (heights.given m r f.end_types x (controls_of fs)) (given m r f.end_types fs)) (sym e) (given_like f.end_types))
-    parted_like (Delegate n) f =
+    next_sequence_like (Delegate n) f =
         like_same IsStateOf (demand (is_try f.opened)) (λ u. heights.label (controls_of fs) n >>= λ d. Ok (heights.given m r f.end_types (stacks_of fs) (controls_of fs)))
         (λ u. label fs n >>= λ g. Ok (given m r f.end_types fs)) λ u.
         like_bind Names IsStateOf (heights.label (controls_of fs) n) (label fs n) (λ d. Ok (heights.given m r f.end_types (stacks_of fs) (controls_of fs))) (λ g. Ok (given m r f.end_types fs))
         (label_like fs n) (λ d g w. given_like f.end_types)
-    parted_like (Does action) f = tt
-    parted_like (Opens construct) f = tt
+    next_sequence_like (Does action) f = tt
+    next_sequence_like (Opens construct) f = tt
 
   -- ---- operators
 
   closing_like : (k : Control) (f : NestedFrame T) (fs : NestedFrames T) → Nested (f ∷ fs)
-      → Like IsStateOf (heights.pop_control m r (control_in fs f) (stacks_of (f ∷ fs)) >>= λ t. heights.parted m r k (control_in fs f) t (controls_of fs)) (closes m r f >>= λ u. parted m r k f fs)
+      → Like IsStateOf (heights.pop_control m r (control_in fs f) (stacks_of (f ∷ fs)) >>= λ t. heights.next_sequence m r k (control_in fs f) t (controls_of fs)) (closes m r f >>= λ u. next_sequence m r k f fs)
   closing_like k f fs h =
       like_bind (λ s (u : Unit {0}). s ≡ stacks_of fs) IsStateOf (heights.pop_control m r (control_in fs f) (stacks_of (f ∷ fs))) (closes m r f)
-      (λ t. heights.parted m r k (control_in fs f) t (controls_of fs)) (λ u. parted m r k f fs) (pops_control f fs h)
-      (λ t u e. subst (λ x. Like IsStateOf (heights.parted m r k (control_in fs f) x (controls_of fs)) (parted m r k f fs)) (sym e) (parted_like fs h.1 k f))
+      (λ t. heights.next_sequence m r k (control_in fs f) t (controls_of fs)) (λ u. next_sequence m r k f fs) (pops_control f fs h)
+      (λ t u e. subst (λ x. Like IsStateOf (heights.next_sequence m r k (control_in fs f) x (controls_of fs)) (next_sequence m r k f fs)) (sym e) (next_sequence_like fs h.1 k f))
 
   step_like : (k : Control) (o : NamedOperation) (fs : NestedFrames T) → Nested fs → Like IsStateOf (heights.step_in m r k o (stacks_of fs) (controls_of fs)) (step m r k o fs)
   step_like k o [] h = tt

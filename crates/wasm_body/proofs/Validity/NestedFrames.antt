@@ -175,13 +175,13 @@ module _ {T : Type 0} (m : Typing) (r : OperandRules T) where
   ends _ f fs = Ok tt
 
   -- the frames after an operator that closes the frame f in the frames fs, where f is as it is to be
-  abbrev pub parted : Control → NestedFrame T → NestedFrames T → Checked (NestedFrames T)
-  parted Else f fs = demand (is_if f.opened) >>= λ u. Ok (alternative f fs ∷ fs)
-  parted (Catch tag) f fs = demand (may_catch f.opened) >>= λ u. Ok (handler tag f fs ∷ fs)
-  parted CatchAll f fs = demand (may_catch f.opened) >>= λ u. Ok (handler_of_all f fs ∷ fs)
-  parted End f fs = ends f.opened f fs >>= λ u. Ok (given f.end_types fs)
-  parted (Delegate n) f fs = demand (is_try f.opened) >>= λ u. label fs n >>= λ g. Ok (given f.end_types fs)
-  parted _ f fs = Err refused
+  abbrev pub next_sequence : Control → NestedFrame T → NestedFrames T → Checked (NestedFrames T)
+  next_sequence Else f fs = demand (is_if f.opened) >>= λ u. Ok (alternative f fs ∷ fs)
+  next_sequence (Catch tag) f fs = demand (may_catch f.opened) >>= λ u. Ok (handler tag f fs ∷ fs)
+  next_sequence CatchAll f fs = demand (may_catch f.opened) >>= λ u. Ok (handler_of_all f fs ∷ fs)
+  next_sequence End f fs = ends f.opened f fs >>= λ u. Ok (given f.end_types fs)
+  next_sequence (Delegate n) f fs = demand (is_try f.opened) >>= λ u. label fs n >>= λ g. Ok (given f.end_types fs)
+  next_sequence _ f fs = Err refused
 
   -- ---- validation
 
@@ -189,7 +189,7 @@ module _ {T : Type 0} (m : Typing) (r : OperandRules T) where
   step c o [] = Err refused
   step (Does action) o (f ∷ fs) = taken action o (f ∷ fs) f.point >>= λ p. Ok (at f (after_action action p) ∷ fs)
   step (Opens construct) o (f ∷ fs) = taken_by construct o f.point >>= λ p. opens construct o (at f p ∷ fs)
-  step c o (f ∷ fs) = closes f >>= λ u. parted c f fs
+  step c o (f ∷ fs) = closes f >>= λ u. next_sequence c f fs
 
   -- the frames after these operators
   abbrev pub validate : List (Located NamedOperation) → NestedFrames T → Checked (NestedFrames T)

@@ -7,11 +7,11 @@ use Rattle.wasm_body.specs.Control.{Action, Nop, Plain, Branch, ConditionalBranc
 use Rattle.wasm_body.specs.SourceTree.{Sequence, Empty, Single, Wrapped, IfThen, IfElse, TryCatch, TryDelegate, Clauses, Ended, Catches, CatchesAll, construct_of, text, clauses_text, Body, body_text}
 use Rattle.wasm_body.specs.Translation.{Located}
 use Rattle.wasm_body.specs.Naming.{NamedOperation}
-use Rattle.wasm_body.specs.NormalForm.{Typing, fate, Cuts}
+use Rattle.wasm_body.specs.NormalForm.{Typing, fate, Diverges}
 use Rattle.wasm_body.specs.TextLaws.{mark_named, IsNamedBody}
 use Rattle.wasm_body.specs.Validity.{Point, Opened, OfIf, OperandRules, Checked, demand, opened_by, transfers, push_each, is_if, is_try, may_catch}
-use Rattle.wasm_body.proofs.Validity.NestedFrames.{NestedFrame, NestedFrames, none, at, unreachable, after_action, pop_each, pop_all, label, opened_in, frame_by, handler, handler_of_all, closes, given, taken, taken_by, catching, opens, alternative, ends, parted, step, validate, function_frame, IsValid}
-use Rattle.wasm_body.proofs.Executions.RewritesTo.{RewritesTo, empty, drop_nop, keep, cut, wrapped, if_then, if_else, add_else, drop_else, try_catch, try_delegate, ClausesRewriteTo, ended, catches_one, catches_all}
+use Rattle.wasm_body.proofs.Validity.NestedFrames.{NestedFrame, NestedFrames, none, at, unreachable, after_action, pop_each, pop_all, label, opened_in, frame_by, handler, handler_of_all, closes, given, taken, taken_by, catching, opens, alternative, ends, next_sequence, step, validate, function_frame, IsValid}
+use Rattle.wasm_body.proofs.Executions.RewritesTo.{RewritesTo, empty, drop_nop, keep, diverging, wrapped, if_then, if_else, add_else, drop_else, try_catch, try_delegate, ClausesRewriteTo, ended, catches_one, catches_all}
 
 -- ---- what is checked in turn
 
@@ -42,21 +42,21 @@ same_bind (Err e) k k' f = refl
 
 -- ---- what can't be reached
 
-cuts_transfer : (action : Action) → fate action ≡ Cuts → transfers action ≡ true
-cuts_transfer Nop h = absurd (cc)
-cuts_transfer Plain h = absurd (cc)
-cuts_transfer (Branch n) h = refl
-cuts_transfer (ConditionalBranch n) h = absurd (cc)
-cuts_transfer (TableBranch ts d) h = refl
-cuts_transfer Return h = refl
-cuts_transfer Unreachable h = refl
-cuts_transfer (Throw t) h = refl
-cuts_transfer ThrowRef h = refl
-cuts_transfer (Rethrow n) h = refl
-cuts_transfer TailCall h = refl
+diverging_transfers : (action : Action) → fate action ≡ Diverges → transfers action ≡ true
+diverging_transfers Nop h = absurd (cc)
+diverging_transfers Plain h = absurd (cc)
+diverging_transfers (Branch n) h = refl
+diverging_transfers (ConditionalBranch n) h = absurd (cc)
+diverging_transfers (TableBranch ts d) h = refl
+diverging_transfers Return h = refl
+diverging_transfers Unreachable h = refl
+diverging_transfers (Throw t) h = refl
+diverging_transfers ThrowRef h = refl
+diverging_transfers (Rethrow n) h = refl
+diverging_transfers TailCall h = refl
 
-after_cut : {T : Type 0} → (action : Action) (p : Point T) → fate action ≡ Cuts → after_action action p ≡ unreachable p
-after_cut action p h = ap (λ b. if b then unreachable p else p) (cuts_transfer action h)
+after_diverging : {T : Type 0} → (action : Action) (p : Point T) → fate action ≡ Diverges → after_action action p ≡ unreachable p
+after_diverging action p h = ap (λ b. if b then unreachable p else p) (diverging_transfers action h)
 
 -- an operator that parts or closes a construct
 abbrev Parts : Control → Type 0
@@ -89,7 +89,7 @@ module _ {T : Type 0} (m : Typing) (r : OperandRules T) where
 
   -- ---- operators that part and close
 
-  step_parts : (c : Control) → Parts c → (o : NamedOperation) (f : NestedFrame T) (fs : NestedFrames T) → step m r c o (f ∷ fs) ≡ (closes m r f >>= λ u. parted m r c f fs)
+  step_parts : (c : Control) → Parts c → (o : NamedOperation) (f : NestedFrame T) (fs : NestedFrames T) → step m r c o (f ∷ fs) ≡ (closes m r f >>= λ u. next_sequence m r c f fs)
   step_parts Else h o f fs = refl
   step_parts (Catch t) h o f fs = refl
   step_parts CatchAll h o f fs = refl
@@ -105,27 +105,27 @@ module _ {T : Type 0} (m : Typing) (r : OperandRules T) where
     dead : (p q : Point T) → Valid k (at f p ∷ fs) → Valid k' (at f (unreachable q) ∷ fs)
 
   -- what comes after operators that part and close: it knows no point
-  abbrev Onwards : Control → Control → NestedFrame T → NestedFrames T → (z z' : List (Marked (Located NamedOperation))) → Type 0
-  Onwards c c' f fs z z' = (p q : Point T) → (parted m r c (at f p) fs >>= over z) ≡ Ok [] → (parted m r c' (at f q) fs >>= over z') ≡ Ok []
+  abbrev Continuation : Control → Control → NestedFrame T → NestedFrames T → (z z' : List (Marked (Located NamedOperation))) → Type 0
+  Continuation c c' f fs z z' = (p q : Point T) → (next_sequence m r c (at f p) fs >>= over z) ≡ Ok [] → (next_sequence m r c' (at f q) fs >>= over z') ≡ Ok []
 
   continues_part : (c c' : Control) → Parts c → Parts c' → (a a' : Located NamedOperation) (f : NestedFrame T) (fs : NestedFrames T) (z z' : List (Marked (Located NamedOperation)))
-      → Onwards c c' f fs z z' → Continues f fs (with_control a c ∷ z) (with_control a' c' ∷ z')
+      → Continuation c c' f fs z z' → Continues f fs (with_control a c ∷ z) (with_control a' c' ∷ z')
   continues_part c c' g g' a a' f fs z z' h = record {
     same = λ p v.
         ap (λ x. x >>= over z') (step_parts c' g' a'.op (at f p) fs)
-        ∙ onwards (closes m r (at f p)) (λ u. parted m r c (at f p) fs) (λ u. parted m r c' (at f p) fs) (over z) (over z') [] (λ u. h p p)
+        ∙ onwards (closes m r (at f p)) (λ u. next_sequence m r c (at f p) fs) (λ u. next_sequence m r c' (at f p) fs) (over z) (over z') [] (λ u. h p p)
         (sym (ap (λ x. x >>= over z) (step_parts c g a.op (at f p) fs)) ∙ v);
     dead = λ p q v.
-        let w = from_two (closes m r (at f p)) (λ u. parted m r c (at f p) fs) (over z) [] (sym (ap (λ x. x >>= over z) (step_parts c g a.op (at f p) fs)) ∙ v) in
+        let w = from_two (closes m r (at f p)) (λ u. next_sequence m r c (at f p) fs) (over z) [] (sym (ap (λ x. x >>= over z) (step_parts c g a.op (at f p) fs)) ∙ v) in
         ap (λ x. x >>= over z') (step_parts c' g' a'.op (at f (unreachable q)) fs)
-        ∙ after (closes m r (at f (unreachable q))) (λ u. parted m r c' (at f (unreachable q)) fs) (over z') [] (dead_closes f q) (h p (unreachable q) w.1);
+        ∙ after (closes m r (at f (unreachable q))) (λ u. next_sequence m r c' (at f (unreachable q)) fs) (over z') [] (dead_closes f q) (h p (unreachable q) w.1);
   }
 
   -- what comes after one that is valid
   left : (c : Control) → Parts c → (a : Located NamedOperation) (f : NestedFrame T) (fs : NestedFrames T) (z : List (Marked (Located NamedOperation))) (p : Point T) → Valid (with_control a c ∷ z) (at f p ∷ fs)
-      → (parted m r c (at f p) fs >>= over z) ≡ Ok []
+      → (next_sequence m r c (at f p) fs >>= over z) ≡ Ok []
   left c h a f fs z p v =
-      (from_two (closes m r (at f p)) (λ u. parted m r c (at f p) fs) (over z) [] (sym (ap (λ x. x >>= over z) (step_parts c h a.op (at f p) fs)) ∙ v)).1
+      (from_two (closes m r (at f p)) (λ u. next_sequence m r c (at f p) fs) (over z) [] (sym (ap (λ x. x >>= over z) (step_parts c h a.op (at f p) fs)) ∙ v)).1
 
   left_end : (a : Located NamedOperation) (f : NestedFrame T) (fs : NestedFrames T) (z : List (Marked (Located NamedOperation))) (p : Point T) → Valid (with_control a End ∷ z) (at f p ∷ fs)
       → Valid z (given m r f.end_types fs)
@@ -297,10 +297,10 @@ module _ {T : Type 0} (m : Typing) (r : OperandRules T) where
     kept (keep {a = a} {action = action} {r = s} {r' = s'} x) f fs k k' h = λ p.
         let to : Point T → Checked (NestedFrames T) = λ q. Ok (at f (after_action action q) ∷ fs) in
         onwards (taken m r action a.op (at f p ∷ fs) p) to to (over (text s k)) (over (text s' k')) [] (λ q. kept x f fs k k' h (after_action action q))
-    kept (cut {a = a} {action = action} {r = s} c) f fs k k' h = λ p.
+    kept (diverging {a = a} {action = action} {r = s} c) f fs k k' h = λ p.
         let to : Point T → Checked (NestedFrames T) = λ q. Ok (at f (after_action action q) ∷ fs) in
         onwards (taken m r action a.op (at f p ∷ fs) p) to to (over (text s k)) (over k') []
-        (λ q w. let x = walk s k f fs (after_action action q) w in subst (λ x. Valid k' (at f x ∷ fs)) (sym (after_cut action q c)) (h.dead x.0 q x.1))
+        (λ q w. let x = walk s k f fs (after_action action q) w in subst (λ x. Valid k' (at f x ∷ fs)) (sym (after_diverging action q c)) (h.dead x.0 q x.1))
     kept (wrapped {a = a} {e = e} {e' = e'} {w = w} {b = b} {b' = b'} {r = s} {r' = s'} x y) f fs k k' h =
         kept_open (construct_of w) a f fs (text b (with_control e End ∷ text s k)) (text b' (with_control e' End ∷ text s' k')) λ q.
         let gs = at f q ∷ fs in

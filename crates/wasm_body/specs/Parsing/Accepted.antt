@@ -8,9 +8,10 @@ use Rattle.wasm_body.specs.declared.error.ParseError.{ParseError}
 use Rattle.wasm_body.specs.declared.error.ParseError.TheVariants.{Read, PlaceTooGreat, Checked, Trailing, MissingEnd}
 use Rattle.wasm_body.specs.declared.error.ParseFailure.{ParseFailure}
 use Rattle.walrus_ir.specs.Results.{◌>>=◌, unless, with_fault}
+use Rattle.walrus_ir.specs.Locations.{default_location}
 use Rattle.wasm_body.specs.Control.{Marked, with_control, control_of, end_operation}
 use Rattle.wasm_body.specs.SourceTree.{Body, body_text}
-use Rattle.wasm_body.specs.Frames.{Frame, Rule, BodyFollows, function_frames, frames_behind}
+use Rattle.wasm_body.specs.Frames.{Frame, Rule, BodyFollows, function_frames, frames_after}
 use Rattle.wasm_body.specs.Naming.{Environment, Occurrence, named_in, entry_type_id}
 
 -- ---- operators as they occur
@@ -53,11 +54,8 @@ abbrev pub location_at : Option (ℕ → ℕ) → ℕ → ℕ
 location_at None place = place
 location_at (Some locate) place = locate place
 
-abbrev pub location_limit : ℕ
-location_limit = 4294967295
-
 abbrev pub has_location : Option (ℕ → ℕ) → ℕ → Bool
-has_location None place = nat_lt place location_limit
+has_location None place = nat_lt place default_location
 has_location (Some locate) place = true
 
 -- The arguments of a parse besides the bytes: the environment by which bodies are named, the place of the first operator, the
@@ -115,16 +113,16 @@ abbrev pub added_end : Occurrence
 added_end = record { spelt = end_operation; place = 0; location = 0; named = end_operation }
 
 -- The operators, with this many more `end`s, form a lawful body.
-pub record Stands (env : Environment) (xs : List Occurrence) (count : ℕ) : Type 0 where
+pub record IsCompletedBy (env : Environment) (xs : List Occurrence) (count : ℕ) : Type 0 where
   pub body : Body Occurrence
   pub lawful : Lawful env (xs ++ replicate count added_end) body
 
 -- the error is the fault of the rest of the bytes, if these sequences are open
-abbrev pub FaultBehind : {V : Type 0} → Setting V → V → List (Frame Occurrence) → ℕ → List ℕ → ParseError → Type 0
-FaultBehind given v [] place [] error = ⊥
-FaultBehind given v [] place (b ∷ rest) error = error ≡ Trailing
-FaultBehind given v (f ∷ fs) place [] error = error ≡ MissingEnd
-FaultBehind given v (f ∷ fs) place (b ∷ rest) error = handled given v (f ∷ fs) place (b ∷ rest) ≡ Err error
+abbrev pub FaultAfter : {V : Type 0} → Setting V → V → List (Frame Occurrence) → ℕ → List ℕ → ParseError → Type 0
+FaultAfter given v [] place [] error = ⊥
+FaultAfter given v [] place (b ∷ rest) error = error ≡ Trailing
+FaultAfter given v (f ∷ fs) place [] error = error ≡ MissingEnd
+FaultAfter given v (f ∷ fs) place (b ∷ rest) error = handled given v (f ∷ fs) place (b ∷ rest) ≡ Err error
 
 -- The bytes begin with operators that some more `end`s complete to a lawful body, and the fault comes after them.
 pub record FaultAfterFront {V : Type 0} (given : Setting V) (bytes : List ℕ) (failure : ParseFailure) : Type 0 where
@@ -133,11 +131,11 @@ pub record FaultAfterFront {V : Type 0} (given : Setting V) (bytes : List ℕ) (
   pub frames : List (Frame Occurrence)
   pub state : V
   pub is_front : IsFront given front bytes rest
-  pub stands : Stands given.environment front (length frames)
-  pub frames_are : frames_behind (Some function_frames) (map mark front) ≡ Some frames
+  pub completes : IsCompletedBy given.environment front (length frames)
+  pub frames_are : frames_after (Some function_frames) (map mark front) ≡ Some frames
   pub state_is : validated given.check given.first (map placed front) ≡ Ok state
   pub place : failure.at + length rest ≡ given.start + length bytes
-  pub fault : FaultBehind given state frames failure.at rest failure.error
+  pub fault : FaultAfter given state frames failure.at rest failure.error
 
 -- The first fault of the bytes, and its place: the fault of the function's own type, or one after a front as above.
 pub data FirstFault {V : Type 0} (given : Setting V) (bytes : List ℕ) (failure : ParseFailure) : Type 0 where

@@ -7,7 +7,7 @@ use Rattle.wasm_body.specs.SourceTree.{Body}
 use Rattle.wasm_body.specs.Naming.{Occurrence}
 use Rattle.wasm_body.specs.FunctionTree.{IsSameTree}
 use Rattle.wasm_body.specs.NormalForm.{body_tree}
-use Rattle.wasm_body.specs.Parsing.Accepted.{Setting, IsFront, Accepted, Stands, FaultAfterFront, FirstFault}
+use Rattle.wasm_body.specs.Parsing.Accepted.{Setting, IsFront, Accepted, IsCompletedBy, FaultAfterFront, FirstFault}
 
 abbrev pub OneBodyAccepted : Type 0 → Type 0
 OneBodyAccepted V = (given : Setting V) (bytes : List ℕ) (b c : Body Occurrence) → Accepted given bytes b → Accepted given bytes c → b ≡ c
@@ -28,7 +28,7 @@ AcceptedOrFault V =
 abbrev pub LongestFront : Type 0 → Type 0
 LongestFront V =
     (given : Setting V) (bytes : List ℕ) (f : ParseFailure) (fault : FaultAfterFront given bytes f) →
-    (xs : List Occurrence) (rest : List ℕ) (count : ℕ) → IsFront given xs bytes rest → Stands given.environment xs count →
+    (xs : List Occurrence) (rest : List ℕ) (count : ℕ) → IsFront given xs bytes rest → IsCompletedBy given.environment xs count →
     (more : List Occurrence) × (fault.front ≡ xs ++ more)
 
 -- A body that is accepted is accepted with every location function, as a body of the same tree, locations aside.

@@ -13,9 +13,9 @@ use Rattle.wasm_body.specs.Parsing.Progress.{Progress, Within, Whole, NoBody, no
 abbrev pub failure : ParseError → ℕ → ParseFailure
 failure error at = record { error = error; at = at }
 
-abbrev pub behind : {V : Type 0} → ℕ → Result (Handled V) ParseError → (Handled V → Result (Body Occurrence) ParseFailure) → Result (Body Occurrence) ParseFailure
-behind place (Err error) go = Err (failure error place)
-behind place (Ok h) go = go h
+abbrev pub continue_from : {V : Type 0} → ℕ → Result (Handled V) ParseError → (Handled V → Result (Body Occurrence) ParseFailure) → Result (Body Occurrence) ParseFailure
+continue_from place (Err error) go = Err (failure error place)
+continue_from place (Ok h) go = go h
 
 -- The result from this progress on. An operator has at least one byte, so as many turns as bytes are enough.
 abbrev pub parsed_from : {V : Type 0} → Setting V → (turns : ℕ) → Progress Occurrence → V → ℕ → List ℕ → Result (Body Occurrence) ParseFailure
@@ -24,13 +24,13 @@ parsed_from given turns (Whole b) v place (x ∷ bytes) = Err (failure Trailing 
 parsed_from given turns (Within ls s) v place [] = Err (failure MissingEnd place)
 parsed_from given zero (Within ls s) v place (x ∷ bytes) = Err (failure Memory place)
 parsed_from given (suc turns) (Within ls s) v place (x ∷ bytes) =
-    behind place (handled given v (frames_of ls) place (x ∷ bytes)) (λ h.
+    continue_from place (handled given v (frames_of ls) place (x ∷ bytes)) (λ h.
     parsed_from given turns (further (Within ls s) (mark h.operator)) h.state (place + (length (x ∷ bytes) - length h.rest)) h.rest)
 parsed_from given turns NoBody v place bytes = Err (failure Memory place)
 
-abbrev pub parsed_behind_entry : {V : Type 0} → Setting V → Result ℕ ParseError → List ℕ → Result (Body Occurrence) ParseFailure
-parsed_behind_entry given (Err error) bytes = Err (failure error given.start)
-parsed_behind_entry given (Ok id) bytes = parsed_from given (length bytes) nothing_read given.first given.start bytes
+abbrev pub parsed_after_entry : {V : Type 0} → Setting V → Result ℕ ParseError → List ℕ → Result (Body Occurrence) ParseFailure
+parsed_after_entry given (Err error) bytes = Err (failure error given.start)
+parsed_after_entry given (Ok id) bytes = parsed_from given (length bytes) nothing_read given.first given.start bytes
 
 abbrev pub parsed : {V : Type 0} → Setting V → List ℕ → Result (Body Occurrence) ParseFailure
-parsed given bytes = parsed_behind_entry given (entry_type_id given.environment) bytes
+parsed given bytes = parsed_after_entry given (entry_type_id given.environment) bytes

@@ -25,9 +25,9 @@ abbrev pub closed_clause : {A : Type 0} → A → ℕ → Sequence A → ClosedC
 closed_clause h t b = record { mark = h; tag = t; body = b }
 
 -- clauses after closed ones, of which the last comes first
-abbrev pub behind_closed : {A : Type 0} → List (ClosedClause A) → Clauses A → Clauses A
-behind_closed [] cs = cs
-behind_closed (g ∷ gs) cs = behind_closed gs (Catches g.mark g.tag g.body cs)
+abbrev pub after_closed : {A : Type 0} → List (ClosedClause A) → Clauses A → Clauses A
+after_closed [] cs = cs
+after_closed (g ∷ gs) cs = after_closed gs (Catches g.mark g.tag g.body cs)
 
 -- an open construct up to its open sequence
 pub data OpenConstruct (A : Type 0) : Type 0 where
@@ -84,49 +84,49 @@ closed (InWrapper a w) s e = Wrapped a w s e Empty
 closed (InThen a) s e = IfThen a s e Empty
 closed (InElse a b l) s e = IfElse a b l s e Empty
 closed (InTry a) s e = TryCatch a s (Ended e) Empty
-closed (InCatch a b gs h t) s e = TryCatch a b (behind_closed gs (Catches h t s (Ended e))) Empty
-closed (InCatchAll a b gs h) s e = TryCatch a b (behind_closed gs (CatchesAll h s e)) Empty
+closed (InCatch a b gs h t) s e = TryCatch a b (after_closed gs (Catches h t s (Ended e))) Empty
+closed (InCatchAll a b gs h) s e = TryCatch a b (after_closed gs (CatchesAll h s e)) Empty
 
 -- the same construct with its next sequence open, after `else`, `catch` or `catch_all`
-abbrev pub parted_by_else : {A : Type 0} → OpenConstruct A → Sequence A → A → Option (OpenConstruct A)
-parted_by_else (InThen a) s l = Some (InElse a s l)
-parted_by_else _ s l = None
+abbrev pub with_else_open : {A : Type 0} → OpenConstruct A → Sequence A → A → Option (OpenConstruct A)
+with_else_open (InThen a) s l = Some (InElse a s l)
+with_else_open _ s l = None
 
-abbrev pub parted_by_catch : {A : Type 0} → OpenConstruct A → Sequence A → A → ℕ → Option (OpenConstruct A)
-parted_by_catch (InTry a) s h t = Some (InCatch a s [] h t)
-parted_by_catch (InCatch a b gs i u) s h t = Some (InCatch a b (closed_clause i u s ∷ gs) h t)
-parted_by_catch _ s h t = None
+abbrev pub with_catch_open : {A : Type 0} → OpenConstruct A → Sequence A → A → ℕ → Option (OpenConstruct A)
+with_catch_open (InTry a) s h t = Some (InCatch a s [] h t)
+with_catch_open (InCatch a b gs i u) s h t = Some (InCatch a b (closed_clause i u s ∷ gs) h t)
+with_catch_open _ s h t = None
 
-abbrev pub parted_by_catch_all : {A : Type 0} → OpenConstruct A → Sequence A → A → Option (OpenConstruct A)
-parted_by_catch_all (InTry a) s h = Some (InCatchAll a s [] h)
-parted_by_catch_all (InCatch a b gs i u) s h = Some (InCatchAll a b (closed_clause i u s ∷ gs) h)
-parted_by_catch_all _ s h = None
+abbrev pub with_catch_all_open : {A : Type 0} → OpenConstruct A → Sequence A → A → Option (OpenConstruct A)
+with_catch_all_open (InTry a) s h = Some (InCatchAll a s [] h)
+with_catch_all_open (InCatch a b gs i u) s h = Some (InCatchAll a b (closed_clause i u s ∷ gs) h)
+with_catch_all_open _ s h = None
 
 abbrev pub delegated : {A : Type 0} → OpenConstruct A → Sequence A → A → ℕ → Option (Sequence A)
 delegated (InTry a) s e n = Some (TryDelegate a s e n Empty)
 delegated _ s e n = None
 
-abbrev pub go_on_in : {A : Type 0} → List (Layer A) → Sequence A → Option (OpenConstruct A) → Progress A
-go_on_in ls before (Some p) = Within (layer before p ∷ ls) Empty
-go_on_in ls before None = NoBody
+abbrev pub continue_in : {A : Type 0} → List (Layer A) → Sequence A → Option (OpenConstruct A) → Progress A
+continue_in ls before (Some p) = Within (layer before p ∷ ls) Empty
+continue_in ls before None = NoBody
 
-abbrev pub go_on_behind : {A : Type 0} → List (Layer A) → Sequence A → Option (Sequence A) → Progress A
-go_on_behind ls before (Some item) = Within ls (append before item)
-go_on_behind ls before None = NoBody
+abbrev pub continue_after : {A : Type 0} → List (Layer A) → Sequence A → Option (Sequence A) → Progress A
+continue_after ls before (Some item) = Within ls (append before item)
+continue_after ls before None = NoBody
 
 abbrev pub further_within : {A : Type 0} → Control → A → List (Layer A) → Sequence A → Progress A
 further_within (Does action) a ls s = Within ls (append s (Single a action Empty))
 further_within (Opens construct) a ls s = Within (layer s (opened a construct) ∷ ls) Empty
 further_within Else a [] s = NoBody
-further_within Else a (l ∷ ls) s = go_on_in ls l.before (parted_by_else l.construct s a)
+further_within Else a (l ∷ ls) s = continue_in ls l.before (with_else_open l.construct s a)
 further_within (Catch t) a [] s = NoBody
-further_within (Catch t) a (l ∷ ls) s = go_on_in ls l.before (parted_by_catch l.construct s a t)
+further_within (Catch t) a (l ∷ ls) s = continue_in ls l.before (with_catch_open l.construct s a t)
 further_within CatchAll a [] s = NoBody
-further_within CatchAll a (l ∷ ls) s = go_on_in ls l.before (parted_by_catch_all l.construct s a)
+further_within CatchAll a (l ∷ ls) s = continue_in ls l.before (with_catch_all_open l.construct s a)
 further_within End a [] s = Whole (record { sequence = s; close = a })
 further_within End a (l ∷ ls) s = Within ls (append l.before (closed l.construct s a))
 further_within (Delegate n) a [] s = NoBody
-further_within (Delegate n) a (l ∷ ls) s = go_on_behind ls l.before (delegated l.construct s a n)
+further_within (Delegate n) a (l ∷ ls) s = continue_after ls l.before (delegated l.construct s a n)
 
 abbrev pub further : {A : Type 0} → Progress A → Marked A → Progress A
 further (Within ls s) x = further_within x.control x.shown ls s
@@ -134,6 +134,6 @@ further (Whole b) x = NoBody
 further NoBody x = NoBody
 
 -- after these operators more
-abbrev pub progress_behind : {A : Type 0} → Progress A → List (Marked A) → Progress A
-progress_behind p [] = p
-progress_behind p (x ∷ xs) = progress_behind (further p x) xs
+abbrev pub progress_after : {A : Type 0} → Progress A → List (Marked A) → Progress A
+progress_after p [] = p
+progress_after p (x ∷ xs) = progress_after (further p x) xs

@@ -1,6 +1,6 @@
 use Rattle.std.proofs.lemmas.Result.{err_from_is_err_and}
 use Rattle.source_map.specs.Reading.{mappings_at}
-use Rattle.source_map.proofs.Loops.{goes_on, ends, is_done}
+use Rattle.source_map.proofs.Loops.{continues, ends, is_done}
 use Rattle.source_map.proofs.reading.read_all.Goals as goal
 
 pub returns-in_err-mapping : goal.returns-in_err-mapping
@@ -13,7 +13,7 @@ pub loop-left-preserved : goal.loop-left-preserved
 loop-left-preserved c =
     let so_far = rw (c.in-Some.is, c.first_segment.ensures.parts) at c.loop-left.invariant in
     rw (c.in_ok-push.ensures.items, c.after-fields.ensures)
-    (goes_on c.loop-left.mappings.items c.loop-left.fields _ _ c.in_ok-mapping.mapping (mappings_at c.args.text.now) c.in_ok-mapping.ensures so_far)
+    (continues c.loop-left.mappings.items c.loop-left.fields _ _ c.in_ok-mapping.mapping (mappings_at c.args.text.now) c.in_ok-mapping.ensures so_far)
 
 pub returns : goal.returns
 returns c =

@@ -11,8 +11,8 @@ returns-in-Ok-rewritten-clause-unchanged c =
     let to = numbers_by a.module.now.types a.out.now a.locals.now.entries in
     let first = c.in-Ok.bytes.items in
     let itself = has_itself a.module.now a.indices.now a.again.now a.id a.ty to c.requires.undone c.law_inverse_undoes.ensures c.law_accepted_again.ensures a.ops.now first c.in-Ok.ensures.written in
-    let answer = c.in-Ok-rewritten.ensures.each_body first (subst (λ l. HasBytes (environment_of a.module.now a.again.now a.id a.ty) to l first) (sym c.deref.ensures.value) itself) in
-    answer.1
+    let known = c.in-Ok-rewritten.ensures.each_body first (subst (λ l. HasBytes (environment_of a.module.now a.again.now a.id a.ty) to l first) (sym c.deref.ensures.value) itself) in
+    known.1
 
 pub returns-in-Ok-rewritten-clause-each_fault : goal.returns-in-Ok-rewritten-clause-each_fault
 returns-in-Ok-rewritten-clause-each_fault c e has =
@@ -25,8 +25,8 @@ returns-in-Err-rewritten-clause-refused c =
     let to = numbers_by a.module.now.types a.out.now a.locals.now.entries in
     let first = c.in-Ok.bytes.items in
     let itself = has_itself a.module.now a.indices.now a.again.now a.id a.ty to c.requires.undone c.law_inverse_undoes.ensures c.law_accepted_again.ensures a.ops.now first c.in-Ok.ensures.written in
-    let answer = c.in-Err-rewritten.ensures.each_body first (subst (λ l. HasBytes (environment_of a.module.now a.again.now a.id a.ty) to l first) (sym c.deref.ensures.value) itself) in
-    inl answer.0
+    let known = c.in-Err-rewritten.ensures.each_body first (subst (λ l. HasBytes (environment_of a.module.now a.again.now a.id a.ty) to l first) (sym c.deref.ensures.value) itself) in
+    inl known.0
 
 pub returns-in-Err-rewritten-clause-each_body : goal.returns-in-Err-rewritten-clause-each_body
 returns-in-Err-rewritten-clause-each_body c bytes has =
@@ -34,8 +34,8 @@ returns-in-Err-rewritten-clause-each_body c bytes has =
     let to = numbers_by a.module.now.types a.out.now a.locals.now.entries in
     let first = c.in-Ok.bytes.items in
     let itself = has_itself a.module.now a.indices.now a.again.now a.id a.ty to c.requires.undone c.law_inverse_undoes.ensures c.law_accepted_again.ensures a.ops.now first c.in-Ok.ensures.written in
-    let answer = c.in-Err-rewritten.ensures.each_body first (subst (λ l. HasBytes (environment_of a.module.now a.again.now a.id a.ty) to l first) (sym c.deref.ensures.value) itself) in
-    answer.0
+    let known = c.in-Err-rewritten.ensures.each_body first (subst (λ l. HasBytes (environment_of a.module.now a.again.now a.id a.ty) to l first) (sym c.deref.ensures.value) itself) in
+    known.0
 
 pub returns-in-Err-rewritten-clause-each_fault : goal.returns-in-Err-rewritten-clause-each_fault
 returns-in-Err-rewritten-clause-each_fault c e has =

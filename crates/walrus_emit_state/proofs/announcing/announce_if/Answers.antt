@@ -3,8 +3,8 @@ use Rattle.wasm_body.specs.NormalForm.{is_balanced_type}
 use Rattle.walrus_emit_state.proofs.TreeWriting.IfScopes.{if_announced, first_kept}
 use Rattle.walrus_emit_state.proofs.announcing.announce_if.Goals as goal
 
-pub returns-in_err-announce_closed-2-clause-kept : goal.returns-in_err-announce_closed-2-clause-kept
-returns-in_err-announce_closed-2-clause-kept c =
+pub returns-in_err-announce_closed-2-clause-unchanged : goal.returns-in_err-announce_closed-2-clause-unchanged
+returns-in_err-announce_closed-2-clause-unchanged c =
     first_kept c.from_residual-in_err-announce_closed-2.result c.args.scopes.now c.announce_closed.new.self c.announce_closed-2.new.self
     c.scopes_of_if-first.result.1 c.in_ok-announce_closed.ensures.ok c.in_err-announce_closed-2.ensures.err
 

@@ -2,9 +2,9 @@
 use Rattle.std.proofs.Common.{◌≡◌}
 use Rattle.walrus_ir.specs.Results.{each}
 use Rattle.walrus_context.specs.Placing.{place_at}
-use Rattle.walrus_maps.proofs.Listed.{behind_these}
+use Rattle.walrus_maps.proofs.Listed.{after_these}
 use Rattle.walrus_instructions.proofs.instructions.blocks.Given as goal
 
 abbrev pub invariant-targets : goal.invariant-targets
 invariant-targets l =
-    (goal.iterator-targets).can_next l.targets × (goal.iterator-targets).is_finite l.targets × (behind_these l.blocks.items (each (place_at l.context.frames) l.targets) ≡ each (place_at l.context.frames) l.table.0)
+    (goal.iterator-targets).can_next l.targets × (goal.iterator-targets).is_finite l.targets × (after_these l.blocks.items (each (place_at l.context.frames) l.targets) ≡ each (place_at l.context.frames) l.table.0)

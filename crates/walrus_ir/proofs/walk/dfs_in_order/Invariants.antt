@@ -1,7 +1,7 @@
 -- The events so far, followed by those of the open sequences and the slots to come, are the tree's events; the stack has
 -- room for the sequences to come.
 use Rattle.std.proofs.Common.{◌+◌, ◌≤◌, length, vec_len, vec_capacity}
-use Rattle.walrus_ir.specs.Telling.{frames}
+use Rattle.walrus_ir.specs.Visiting.{frames}
 use Rattle.walrus_ir.proofs.Pending.{work_to_come, work_open}
 use Rattle.walrus_ir.proofs.Stage.{Stage}
 use Rattle.walrus_ir.proofs.walk.dfs_in_order.Given as goal

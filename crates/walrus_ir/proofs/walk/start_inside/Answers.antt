@@ -3,8 +3,8 @@ use Rattle.std.proofs.lemmas.Result.{err_from_is_err_and}
 use Rattle.walrus_ir.proofs.Next.{frames_push, next_starts}
 use Rattle.walrus_ir.proofs.walk.start_inside.Goals as goal
 
-pub returns-in_err-start_seq-clause-told : goal.returns-in_err-start_seq-clause-told
-returns-in_err-start_seq-clause-told g c =
+pub returns-in_err-start_seq-clause-visited : goal.returns-in_err-start_seq-clause-visited
+returns-in_err-start_seq-clause-visited g c =
     let first = rw c.unwrap.ensures at c.split_first.ensures.cases in
     let passed = err_from_is_err_and c.from_residual.result c.from_residual.ensures.1 in
     rw (passed.1, passed.2) (record {
@@ -12,16 +12,16 @@ returns-in_err-start_seq-clause-told g c =
       opened = _;
       coming' = _;
       next = next_starts _ _ _ _ _ _ _ _ c.requires.inside first.0 c.seq.ensures;
-      stopped = refused c.in_err-start_seq.ensures.told.0 c.in_err-start_seq.ensures.told.1;
+      stopped = refused c.in_err-start_seq.ensures.visited.0 c.in_err-start_seq.ensures.visited.1;
     })
 
-pub returns-clause-told : goal.returns-clause-told
-returns-clause-told g c =
+pub returns-clause-visited : goal.returns-clause-visited
+returns-clause-visited g c =
     let first = rw c.unwrap.ensures at c.split_first.ensures.cases in
     record {
       events = _;
       opened = _;
       next = next_starts _ _ _ _ _ _ _ _ c.requires.inside first.0 c.seq.ensures;
-      told = after c.in_ok-start_seq.ensures.told through;
+      visited = after c.in_ok-start_seq.ensures.visited through;
       stack = rw (c.in_ok-start_seq.ensures.opened, rw c.unwrap-2.ensures at c.push.ensures.items, frames_push);
     }

@@ -1,14 +1,14 @@
 use Rattle.std.proofs.Common.{inl, inr, [], ap, ◌∙◌, length, arith}
 use Rattle.wasm_body.specs.LocalNumbers.{types_of, runs}
 use Rattle.walrus_numbering.specs.NumberMaps.{numbers_by}
-use Rattle.walrus_numbering.proofs.LocalNumbering.{arguments_told, nothing_cut, few_declared}
+use Rattle.walrus_numbering.proofs.LocalNumbering.{arguments_are_numbered, nothing_saturated, few_declared}
 use Rattle.walrus_numbering.proofs.local_numbers.emit_locals.Goals as goal
 
 pub declared_locals-requires : goal.declared_locals-requires
-declared_locals-requires c = arguments_told c.args.args.now c.in_ok-numbers.numbers.entries c.in_ok-numbers.ensures
+declared_locals-requires c = arguments_are_numbered c.args.args.now c.in_ok-numbers.numbers.entries c.in_ok-numbers.ensures
 
 pub number_others-requires-clause-arguments : goal.number_others-requires-clause-arguments
-number_others-requires-clause-arguments c = nothing_cut c.args.args.now c.in_ok-numbers.numbers.entries (omega arith) c.in_ok-numbers.ensures
+number_others-requires-clause-arguments c = nothing_saturated c.args.args.now c.in_ok-numbers.numbers.entries (omega arith) c.in_ok-numbers.ensures
 
 pub returns-in-Err-declarations-clause-err : goal.returns-in-Err-declarations-clause-err
 returns-in-Err-declarations-clause-err c =

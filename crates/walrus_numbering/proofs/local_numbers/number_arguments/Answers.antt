@@ -6,5 +6,5 @@ loop-place-init c = none_numbered _ c.new-numbers.ensures.empty
 
 pub loop-place-preserved : goal.loop-place-preserved
 loop-place-preserved c =
-    argument_numbered c.args.args.now c.loop-place.place c.index-args-place.result c.cut_number.result c.loop-place.numbers.entries c.insert.new.self.entries
-    c.loop-place-test.true c.index-args-place.is c.cut_number.ensures c.in_ok-insert.ensures.updates.0 c.loop-place.invariant
+    argument_numbered c.args.args.now c.loop-place.place c.index-args-place.result c.saturated_number.result c.loop-place.numbers.entries c.insert.new.self.entries
+    c.loop-place-test.true c.index-args-place.is c.saturated_number.ensures c.in_ok-insert.ensures.updates.0 c.loop-place.invariant

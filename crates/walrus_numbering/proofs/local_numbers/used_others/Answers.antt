@@ -2,7 +2,7 @@ use Rattle.std.proofs.Common.{[], ◌∷◌, ◌++◌, Ok, append-nil, cond, not
 use Rattle.std.proofs.lemmas.Map.Iter.{rest_more}
 use Rattle.std.specs.Map.Iter.{deref}
 use Rattle.walrus_numbering.specs.EmittedLocals.{unnumbered}
-use Rattle.walrus_maps.proofs.Listed.{behind_these}
+use Rattle.walrus_maps.proofs.Listed.{after_these}
 use Rattle.walrus_numbering.proofs.LocalNumbering.{found_apart, other_skipped, other_found, other_unknown}
 use Rattle.walrus_numbering.proofs.local_numbers.used_others.Goals as goal
 
@@ -35,5 +35,5 @@ pub returns-clause-apart : goal.returns-clause-apart
 returns-clause-apart c =
     let found = c.loop-id.others.items in
     let whole = sym c.loop-id.invariant.2
-    ∙ (ap (λ ids. behind_these found (unnumbered c.args.locals.now c.args.numbers.now.entries ids)) c.in-None.ensures.steps.0 ∙ ap Ok (append-nil found)) in
+    ∙ (ap (λ ids. after_these found (unnumbered c.args.locals.now c.args.numbers.now.entries ids)) c.in-None.ensures.steps.0 ∙ ap Ok (append-nil found)) in
     found_apart c.args.locals.now c.args.numbers.now.entries c.args.used.now.keys found c.into_iter-id-iterator.ensures.into_iter_gives.3 whole

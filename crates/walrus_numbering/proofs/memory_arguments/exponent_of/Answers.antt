@@ -5,6 +5,6 @@ use Rattle.walrus_numbering.proofs.memory_arguments.exponent_of.Goals as goal
 
 pub returns : goal.returns
 returns c =
-    let told = c.checked_ilog2.ensures in
-    let from = exponent_from c.checked_ilog2.result c.args.align told.none told.power_le told.next_power_gt told.bound in
+    let known = c.checked_ilog2.ensures in
+    let from = exponent_from c.checked_ilog2.result c.args.align known.none known.power_le known.next_power_gt known.bound in
     subst (λ e. (e ≡ exponent_of c.args.align) × (e < 32)) (sym c.unwrap_or.ensures) from

@@ -8,11 +8,11 @@ use Rattle.wasm_operators.proofs.ListLaws.{spelt_length}
 use Rattle.walrus_parser.proofs.next.read_next.Goals as goal
 
 -- The reader has moved past an operator: its place has moved by the number of bytes that were taken.
-abbrev IsBehind : Position → Position → Type 0
-IsBehind old new = (new.place + length new.rest ≡ old.place + length old.rest) × (length new.rest < length old.rest)
+abbrev IsAfter : Position → Position → Type 0
+IsAfter old new = (new.place + length new.rest ≡ old.place + length old.rest) × (length new.rest < length old.rest)
 
 moved : {A E : Type 0} (view : A → RawOperation) (old new : Position) (r : Result A E) → IfOk r (λ x. (text : List ℕ) × Moves old text new × Spells (view x) text)
-    → IfOk r (λ x. IsBehind old new)
+    → IfOk r (λ x. IsAfter old new)
 moved view old new (Ok x) (text, moves, spells) =
     let parts = ap length moves.parts in
     let some = spelt_length (view x) text spells in

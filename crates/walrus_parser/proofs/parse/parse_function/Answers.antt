@@ -7,7 +7,7 @@ use Rattle.wasm_operators.proofs.ReadingBytes.{each_byte}
 use Rattle.walrus_parser.specs.Bodies.{input_of, operators_input, ParsesOperators}
 use Rattle.walrus_context.specs.OpenTrees.{env_of}
 use Rattle.walrus_parser.proofs.Beginnings.{entry_found}
-use Rattle.walrus_parser.proofs.BodyAnswers.{accepts_ok, refuses_err, refuses_entry}
+use Rattle.walrus_parser.proofs.BodyResults.{accepts_ok, refuses_err, refuses_entry}
 use Rattle.walrus_parser.proofs.parse.parse_function.Goals as goal
 
 pub returns-in_default-clause-err : goal.returns-in_default-clause-err

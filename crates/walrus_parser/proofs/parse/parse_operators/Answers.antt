@@ -19,12 +19,12 @@ use Rattle.walrus_parser.specs.Bodies.{operators_input}
 use Rattle.walrus_context.specs.OpenTrees.{env_of}
 use Rattle.walrus_parser.specs.Settings.{has_place, taken}
 use Rattle.walrus_parser.specs.Checking.{fault_of_refusal}
-use Rattle.walrus_parser.specs.Locating.{MayAsk, Locates}
+use Rattle.walrus_parser.specs.Locating.{MayCall, Locates}
 use Rattle.walrus_parser.proofs.Taking.{is_not_read}
 use Rattle.wasm_body.specs.Naming.{Environment}
-use Rattle.walrus_parser.proofs.Alone.{no_layers}
-use Rattle.walrus_parser.proofs.Bodies.{begins_parse, goes_on, unread, breaks, ends_early, over_next, over_end, body_at, goes_past, is_whole, whole_mapping, asks_next}
-use Rattle.walrus_parser.proofs.Partings.{some_open}
+use Rattle.walrus_parser.proofs.SingleInstructions.{no_layers}
+use Rattle.walrus_parser.proofs.Bodies.{begins_parse, continues, unread, breaks, ends_early, over_next, over_end, body_at, goes_past, is_whole, whole_mapping, may_call_here}
+use Rattle.walrus_parser.proofs.NextSequences.{some_open}
 use Rattle.walrus_parser.proofs.parse.parse_operators.Goals as goal
 
 pub loop-reader-init : goal.loop-reader-init
@@ -39,8 +39,8 @@ accepted_at-requires g c =
     let i = operators_input (env_of a.parser.context) a.reader.now a.code_offset a.on_instr_pos g.V.OpCheck.check (g.V.OpCheck.state a.validator) in
     let now = c.loop-reader.reader in
     let some : 0 < length now.rest = search rules in
-    subst (λ p. MayAsk (λ f x. g.F.Fn.pre f (x, tt)) a.on_instr_pos p (p + 1)) (sym c.original_position-at.ensures)
-    (asks_next g.F.Fn i (λ f x. g.F.Fn.pre f (x, tt)) c.loop-reader.parser (g.V.OpCheck.state c.loop-reader.validator) now.place now.rest c.loop-reader.instruction_mapping.items c.loop-reader.invariant some c.requires.may_ask)
+    subst (λ p. MayCall (λ f x. g.F.Fn.pre f (x, tt)) a.on_instr_pos p (p + 1)) (sym c.original_position-at.ensures)
+    (may_call_here g.F.Fn i (λ f x. g.F.Fn.pre f (x, tt)) c.loop-reader.parser (g.V.OpCheck.state c.loop-reader.validator) now.place now.rest c.loop-reader.instruction_mapping.items c.loop-reader.invariant some c.requires.may_call)
 
 pub returns-in-Err : goal.returns-in-Err
 returns-in-Err g c =
@@ -50,9 +50,9 @@ returns-in-Err g c =
     let some : 0 < length now.rest = search rules in
     let state = g.V.OpCheck.state c.loop-reader.validator in
     let e = c.in-Err.error in
-    let told : (read_operation now.rest ≡ Err e.fault) × (e.at ≡ now.place) = IfErr-at_err (λ (e : ReadError). (read_operation now.rest ≡ Err e.fault) × (e.at ≡ now.place)) c.in-Err.is c.read_next-read.ensures.err in
+    let known : (read_operation now.rest ≡ Err e.fault) × (e.at ≡ now.place) = IfErr-at_err (λ (e : ReadError). (read_operation now.rest ≡ Err e.fault) × (e.at ≡ now.place)) c.in-Err.is c.read_next-read.ensures.err in
     inr (unread g.F.Fn i c.requires.offset c.loop-reader.parser state now.place now.rest c.loop-reader.instruction_mapping.items (Read e) c.failure.result c.loop-reader.invariant some
-    (is_not_read (has_place a.on_instr_pos) g.V.OpCheck.check state now.place now.rest e.fault told.0 ∙ ap (λ p. Err (Read (record { fault = e.fault; at = p }))) (sym told.1))
+    (is_not_read (has_place a.on_instr_pos) g.V.OpCheck.check state now.place now.rest e.fault known.0 ∙ ap (λ p. Err (Read (record { fault = e.fault; at = p }))) (sym known.1))
     (c.failure.ensures ∙ ap (failure (Read e)) c.original_position-at.ensures))
 
 pub returns-in-Err-accepted_at : goal.returns-in-Err-accepted_at
@@ -67,11 +67,11 @@ returns-in-Err-accepted_at g c =
     let is_refused = c.refused.ensures in
     let op = c.in-Ok.operator in
     let at_is = c.original_position-at.ensures in
-    let answer : read_operation now.rest ≡ Ok (meaning op, next.rest) = IfOk-at_ok (λ x. read_operation now.rest ≡ Ok (meaning x, next.rest)) c.in-Ok.is c.read_next-read.ensures.answer in
+    let is_read : read_operation now.rest ≡ Ok (meaning op, next.rest) = IfOk-at_ok (λ x. read_operation now.rest ≡ Ok (meaning x, next.rest)) c.in-Ok.is c.read_next-read.ensures.is_read in
     elim c.in-Err-accepted_at.ensures.err [
       | inl is ↦ inl (ap (λ (h : ParseFailure). h.error) is_refused ∙ is)
       | inr is ↦ inr (unread g.F.Fn i c.requires.offset c.loop-reader.parser state now.place now.rest c.loop-reader.instruction_mapping.items e c.refused.result c.loop-reader.invariant some
-          (subst (λ p. taken (has_place a.on_instr_pos) g.V.OpCheck.check state p now.rest ≡ Err e) at_is (is now.rest next.rest answer))
+          (subst (λ p. taken (has_place a.on_instr_pos) g.V.OpCheck.check state p now.rest ≡ Err e) at_is (is now.rest next.rest is_read))
           (is_refused ∙ ap (failure e) at_is))
     ]
 
@@ -97,11 +97,11 @@ returns-then-not-eof g c =
     let m = c.loop-reader.instruction_mapping.items in
     let op = c.in-Ok.operator in
     let at_is = c.original_position-at.ensures in
-    let answer : read_operation now.rest ≡ Ok (meaning op, next.rest) = IfOk-at_ok (λ x. read_operation now.rest ≡ Ok (meaning x, next.rest)) c.in-Ok.is c.read_next-read.ensures.answer in
+    let is_read : read_operation now.rest ≡ Ok (meaning op, next.rest) = IfOk-at_ok (λ x. read_operation now.rest ≡ Ok (meaning x, next.rest)) c.in-Ok.is c.read_next-read.ensures.is_read in
     let Moves : Type 0 = (next.place + length next.rest ≡ now.place + length now.rest) × (length next.rest < length now.rest) in
     let moves : Moves = IfOk-at_ok (λ _. Moves) c.in-Ok.is c.read_next-read.ensures.moves in
     let reads : taken (has_place a.on_instr_pos) g.V.OpCheck.check state now.place now.rest ≡ Ok (record { spelt = meaning op; rest = next.rest; state = then }) =
-    subst (λ p. taken (has_place a.on_instr_pos) g.V.OpCheck.check state p now.rest ≡ Ok (record { spelt = meaning op; rest = next.rest; state = then })) at_is (c.in-Ok-accepted_at.ensures.ok now.rest next.rest answer) in
+    subst (λ p. taken (has_place a.on_instr_pos) g.V.OpCheck.check state p now.rest ≡ Ok (record { spelt = meaning op; rest = next.rest; state = then })) at_is (c.in-Ok-accepted_at.ensures.ok now.rest next.rest is_read) in
     let located : Locates g.F.Fn a.on_instr_pos now.place c.in-Ok-accepted_at.location = subst (λ p. Locates g.F.Fn a.on_instr_pos p c.in-Ok-accepted_at.location) at_is c.in-Ok-accepted_at.ensures.located in
     let is : c.in-Ok.operator ≡ End = search rules in
     let alone : length p.context.frames ≤ 1 = search rules in
@@ -139,11 +139,11 @@ loop-reader-preserved g c =
     let m = c.loop-reader.instruction_mapping.items in
     let op = c.in-Ok.operator in
     let at_is = c.original_position-at.ensures in
-    let answer : read_operation now.rest ≡ Ok (meaning op, next.rest) = IfOk-at_ok (λ x. read_operation now.rest ≡ Ok (meaning x, next.rest)) c.in-Ok.is c.read_next-read.ensures.answer in
+    let is_read : read_operation now.rest ≡ Ok (meaning op, next.rest) = IfOk-at_ok (λ x. read_operation now.rest ≡ Ok (meaning x, next.rest)) c.in-Ok.is c.read_next-read.ensures.is_read in
     let Moves : Type 0 = (next.place + length next.rest ≡ now.place + length now.rest) × (length next.rest < length now.rest) in
     let moves : Moves = IfOk-at_ok (λ _. Moves) c.in-Ok.is c.read_next-read.ensures.moves in
     let taking : taken (has_place a.on_instr_pos) g.V.OpCheck.check state now.place now.rest ≡ Ok (record { spelt = meaning op; rest = next.rest; state = then }) =
-    subst (λ p. taken (has_place a.on_instr_pos) g.V.OpCheck.check state p now.rest ≡ Ok (record { spelt = meaning op; rest = next.rest; state = then })) at_is (c.in-Ok-accepted_at.ensures.ok now.rest next.rest answer) in
+    subst (λ p. taken (has_place a.on_instr_pos) g.V.OpCheck.check state p now.rest ≡ Ok (record { spelt = meaning op; rest = next.rest; state = then })) at_is (c.in-Ok-accepted_at.ensures.ok now.rest next.rest is_read) in
     let located : Locates g.F.Fn a.on_instr_pos now.place c.in-Ok-accepted_at.location = subst (λ p. Locates g.F.Fn a.on_instr_pos p c.in-Ok-accepted_at.location) at_is c.in-Ok-accepted_at.ensures.located in
     let o = meaning op in
     let pushed : c.try_push.new.list.items ≡ m ++ (now.place - a.code_offset, c.in-Ok-accepted_at.location) ∷ [] =
@@ -153,7 +153,7 @@ loop-reader-preserved g c =
     let reads = over_next g.F.Fn i c.requires.offset p state then now.place next.place now.rest next.rest m c.try_push.new.list.items o c.in-Ok-accepted_at.location advances.named f taking located advances.is_named
     moves.0 moves.1 pushed in
     let more = further (Within f.layers f.sequence) (mark (occurrence o now.place c.in-Ok-accepted_at.location advances.named)) in
-    goes_on g.F.Fn i q more then next.place next.rest c.try_push.new.list.items (same.env ∙ f.env_is) (same.entry ∙ f.entry) (subst (λ e. KeepsProgress e (state_of q) more) (sym same.env) advances.keeps) reads
+    continues g.F.Fn i q more then next.place next.rest c.try_push.new.list.items (same.env ∙ f.env_is) (same.entry ∙ f.entry) (subst (λ e. KeepsProgress e (state_of q) more) (sym same.env) advances.keeps) reads
 
 pub returns-in-Err-step : goal.returns-in-Err-step
 returns-in-Err-step g c =
@@ -166,16 +166,16 @@ returns-in-Err-step g c =
     let then = g.V.OpCheck.state c.accepted_at.new.validator in
     let op = c.in-Ok.operator in
     let at_is = c.original_position-at.ensures in
-    let answer : read_operation now.rest ≡ Ok (meaning op, next.rest) = IfOk-at_ok (λ x. read_operation now.rest ≡ Ok (meaning x, next.rest)) c.in-Ok.is c.read_next-read.ensures.answer in
+    let is_read : read_operation now.rest ≡ Ok (meaning op, next.rest) = IfOk-at_ok (λ x. read_operation now.rest ≡ Ok (meaning x, next.rest)) c.in-Ok.is c.read_next-read.ensures.is_read in
     let reads : taken (has_place a.on_instr_pos) g.V.OpCheck.check state now.place now.rest ≡ Ok (record { spelt = meaning op; rest = next.rest; state = then }) =
-    subst (λ p. taken (has_place a.on_instr_pos) g.V.OpCheck.check state p now.rest ≡ Ok (record { spelt = meaning op; rest = next.rest; state = then })) at_is (c.in-Ok-accepted_at.ensures.ok now.rest next.rest answer) in
+    subst (λ p. taken (has_place a.on_instr_pos) g.V.OpCheck.check state p now.rest ≡ Ok (record { spelt = meaning op; rest = next.rest; state = then })) at_is (c.in-Ok-accepted_at.ensures.ok now.rest next.rest is_read) in
     let f = c.loop-reader.invariant in
     let some : 0 < length now.rest = search rules in
     let o = meaning op in
     let e = c.in-Err-step.error in
     let is = c.failure-in-Err-step.ensures in
     elim (c.in-Err-step.ensures.step f.layers f.sequence now.place f.keeps) [
-      | inl wants ↦ inl (ap (λ (h : ParseFailure). h.error) is ∙ wants)
+      | inl out_of_memory ↦ inl (ap (λ (h : ParseFailure). h.error) is ∙ out_of_memory)
       | inr refused ↦ inr (breaks g.F.Fn i c.requires.offset p (g.V.OpCheck.state c.loop-reader.validator) (g.V.OpCheck.state c.accepted_at.new.validator) now.place now.rest next.rest c.loop-reader.instruction_mapping.items o e
           c.failure-in-Err-step.result f some reads refused (is ∙ ap (failure e) c.original_position-at.ensures))
     ]
@@ -193,11 +193,11 @@ returns-in-Ok-finish g c =
     let m = c.loop-reader.instruction_mapping.items in
     let op = c.in-Ok.operator in
     let at_is = c.original_position-at.ensures in
-    let answer : read_operation now.rest ≡ Ok (meaning op, next.rest) = IfOk-at_ok (λ x. read_operation now.rest ≡ Ok (meaning x, next.rest)) c.in-Ok.is c.read_next-read.ensures.answer in
+    let is_read : read_operation now.rest ≡ Ok (meaning op, next.rest) = IfOk-at_ok (λ x. read_operation now.rest ≡ Ok (meaning x, next.rest)) c.in-Ok.is c.read_next-read.ensures.is_read in
     let Moves : Type 0 = (next.place + length next.rest ≡ now.place + length now.rest) × (length next.rest < length now.rest) in
     let moves : Moves = IfOk-at_ok (λ _. Moves) c.in-Ok.is c.read_next-read.ensures.moves in
     let reads : taken (has_place a.on_instr_pos) g.V.OpCheck.check state now.place now.rest ≡ Ok (record { spelt = meaning op; rest = next.rest; state = then }) =
-    subst (λ p. taken (has_place a.on_instr_pos) g.V.OpCheck.check state p now.rest ≡ Ok (record { spelt = meaning op; rest = next.rest; state = then })) at_is (c.in-Ok-accepted_at.ensures.ok now.rest next.rest answer) in
+    subst (λ p. taken (has_place a.on_instr_pos) g.V.OpCheck.check state p now.rest ≡ Ok (record { spelt = meaning op; rest = next.rest; state = then })) at_is (c.in-Ok-accepted_at.ensures.ok now.rest next.rest is_read) in
     let located : Locates g.F.Fn a.on_instr_pos now.place c.in-Ok-accepted_at.location = subst (λ p. Locates g.F.Fn a.on_instr_pos p c.in-Ok-accepted_at.location) at_is c.in-Ok-accepted_at.ensures.located in
     let is : c.in-Ok.operator ≡ End = search rules in
     let alone : length p.context.frames ≤ 1 = search rules in

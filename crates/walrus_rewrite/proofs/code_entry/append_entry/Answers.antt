@@ -2,7 +2,7 @@ use Rattle.std.proofs.Common.{rules, arith, ◌==◌, ◌≡◌, ◌++◌, ◌+�
 use Rattle.std.specs.HashSet.{contains}
 use Rattle.std.specs.List.{AllByRecursion}
 use Rattle.wasm_body.specs.Pairs.{Pair}
-use Rattle.walrus_rewrite.specs.RawBodies.{given, moved, WritesBoth}
+use Rattle.walrus_rewrite.specs.RawBodies.{emit_input, moved, WritesBoth}
 use Rattle.walrus_rewrite.proofs.RawBodyLemmas.{of_both, why_not, raw_pairs_within, moved_within}
 use Rattle.walrus_rewrite.proofs.code_entry.append_entry.Goals as goal
 
@@ -11,13 +11,13 @@ returns-in-Err-raw_body_with_map-clause-err c =
     let a = c.args in
     let found = c.in-Ok.ensures.ok in
     let why = why_not a.function.now.builder found.tree found.is_tree (contains (λ x y. x == y) c.in-Ok.facts.used_locals) found.holds.used_locals
-    (given a.indices.now a.module.now a.function.now) c.in-Err-raw_body_with_map.fault c.in-Err-raw_body_with_map.ensures.err in
+    (emit_input a.indices.now a.module.now a.function.now) c.in-Err-raw_body_with_map.fault c.in-Err-raw_body_with_map.ensures.err in
     elim why [ inl memory ↦ inl memory | inr h ↦ inr (inr h) ]
 
 pub moved_pairs-requires : goal.moved_pairs-requires
 moved_pairs-requires c =
     let a = c.args in
-    let by = given a.indices.now a.module.now a.function.now in
+    let by = emit_input a.indices.now a.module.now a.function.now in
     let found = c.in-Ok.ensures.ok in
     let used = contains (λ x y. x == y) c.in-Ok.facts.used_locals in
     let bytes = c.in-Ok-raw_body_with_map.raw.items in
@@ -31,7 +31,7 @@ moved_pairs-requires c =
 pub returns-clause-ok : goal.returns-clause-ok
 returns-clause-ok c =
     let a = c.args in
-    let by = given a.indices.now a.module.now a.function.now in
+    let by = emit_input a.indices.now a.module.now a.function.now in
     let found = c.in-Ok.ensures.ok in
     let used = contains (λ x y. x == y) c.in-Ok.facts.used_locals in
     let bytes = c.in-Ok-raw_body_with_map.raw.items in
@@ -39,8 +39,8 @@ returns-clause-ok c =
     let written = subst (λ l. WritesBoth by used a.function.now.builder bytes l pairs) c.new-pairs.ensures.items c.in-Ok-raw_body_with_map.ensures.ok in
     let raw = of_both a.function.now.builder found.tree found.is_tree used found.holds.used_locals by bytes pairs written in
     let base : c.len-2.result ≡ length a.bytes.now.items = search rules in
-    let bytes_behind : c.append_both.new.dst.items ≡ a.bytes.now.items ++ bytes = search rules in
-    let pairs_behind : c.append_both.new.map.items ≡ a.map.now.items ++ c.in_ok-pairs.pairs.items = search rules in
+    let bytes_after : c.append_both.new.dst.items ≡ a.bytes.now.items ++ bytes = search rules in
+    let pairs_after : c.append_both.new.map.items ≡ a.map.now.items ++ c.in_ok-pairs.pairs.items = search rules in
     record {
       written = record { bytes = bytes; code_transform = c.in_ok-pairs.pairs.items };
       writes = record {
@@ -49,6 +49,6 @@ returns-clause-ok c =
         is_raw_body = raw;
         are_moved = c.in_ok-pairs.ensures ∙ (ap (map (moved c.len-2.result)) c.deref.ensures.value ∙ ap (λ n. map (moved n) pairs) base);
       };
-      appends = bytes_behind;
-      appends_pairs = pairs_behind;
+      appends = bytes_after;
+      appends_pairs = pairs_after;
     }

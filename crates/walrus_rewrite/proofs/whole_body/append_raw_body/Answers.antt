@@ -1,6 +1,6 @@
 use Rattle.std.proofs.Common.{rules, ◌==◌, ◌≡◌, ◌++◌}
 use Rattle.std.specs.HashSet.{contains}
-use Rattle.walrus_rewrite.specs.RawBodies.{given}
+use Rattle.walrus_rewrite.specs.RawBodies.{emit_input}
 use Rattle.walrus_rewrite.proofs.RawBodyLemmas.{of_bytes, why_not}
 use Rattle.walrus_rewrite.proofs.whole_body.append_raw_body.Goals as goal
 
@@ -10,7 +10,7 @@ returns-in-Ok-raw_body-clause-ok c =
     let found = c.in-Ok.ensures.ok in
     let bytes = c.in-Ok-raw_body.bytes.items in
     let made = of_bytes a.function.now.builder found.tree found.is_tree (contains (λ x y. x == y) c.in-Ok.facts.used_locals) found.holds.used_locals
-    (given a.indices.now a.module.now a.function.now) bytes c.in-Ok-raw_body.ensures.ok in
+    (emit_input a.indices.now a.module.now a.function.now) bytes c.in-Ok-raw_body.ensures.ok in
     let appends : c.extend_from_slice.new.self.items ≡ a.dst.now.items ++ bytes = search rules in
     record { raw = bytes; pairs = made.0; is_raw_body = made.1; appends = appends }
 
@@ -19,4 +19,4 @@ returns-clause-err c =
     let a = c.args in
     let found = c.in-Ok.ensures.ok in
     why_not a.function.now.builder found.tree found.is_tree (contains (λ x y. x == y) c.in-Ok.facts.used_locals) found.holds.used_locals
-    (given a.indices.now a.module.now a.function.now) c.in-Err-raw_body.fault c.in-Err-raw_body.ensures.err
+    (emit_input a.indices.now a.module.now a.function.now) c.in-Err-raw_body.fault c.in-Err-raw_body.ensures.err

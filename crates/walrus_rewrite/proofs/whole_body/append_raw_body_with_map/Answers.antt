@@ -1,26 +1,26 @@
 use Rattle.std.proofs.Common.{rules, ◌==◌, ◌≡◌, ◌++◌, subst}
 use Rattle.std.specs.HashSet.{contains}
-use Rattle.walrus_rewrite.specs.RawBodies.{given, WritesBoth}
+use Rattle.walrus_rewrite.specs.RawBodies.{emit_input, WritesBoth}
 use Rattle.walrus_rewrite.proofs.RawBodyLemmas.{of_both, why_not}
 use Rattle.walrus_rewrite.proofs.whole_body.append_raw_body_with_map.Goals as goal
 
 pub returns-in-Ok-raw_body_with_map-clause-ok : goal.returns-in-Ok-raw_body_with_map-clause-ok
 returns-in-Ok-raw_body_with_map-clause-ok c =
     let a = c.args in
-    let by = given a.indices.now a.module.now a.function.now in
+    let by = emit_input a.indices.now a.module.now a.function.now in
     let found = c.in-Ok.ensures.ok in
     let used = contains (λ x y. x == y) c.in-Ok.facts.used_locals in
     let bytes = c.in-Ok-raw_body_with_map.bytes.items in
     let pairs = c.raw_body_with_map.new.map.items in
     let written = subst (λ l. WritesBoth by used a.function.now.builder bytes l pairs) c.new-pairs.ensures.items c.in-Ok-raw_body_with_map.ensures.ok in
-    let bytes_behind : c.append_both.new.dst.items ≡ a.dst.now.items ++ bytes = search rules in
-    let pairs_behind : c.append_both.new.map.items ≡ a.map.now.items ++ pairs = search rules in
+    let bytes_after : c.append_both.new.dst.items ≡ a.dst.now.items ++ bytes = search rules in
+    let pairs_after : c.append_both.new.map.items ≡ a.map.now.items ++ pairs = search rules in
     record {
       raw = bytes;
       pairs = pairs;
       is_raw_body = of_both a.function.now.builder found.tree found.is_tree used found.holds.used_locals by bytes pairs written;
-      appends = bytes_behind;
-      appends_pairs = pairs_behind;
+      appends = bytes_after;
+      appends_pairs = pairs_after;
     }
 
 pub returns-clause-err : goal.returns-clause-err
@@ -28,4 +28,4 @@ returns-clause-err c =
     let a = c.args in
     let found = c.in-Ok.ensures.ok in
     why_not a.function.now.builder found.tree found.is_tree (contains (λ x y. x == y) c.in-Ok.facts.used_locals) found.holds.used_locals
-    (given a.indices.now a.module.now a.function.now) c.in-Err-raw_body_with_map.fault c.in-Err-raw_body_with_map.ensures.err
+    (emit_input a.indices.now a.module.now a.function.now) c.in-Err-raw_body_with_map.fault c.in-Err-raw_body_with_map.ensures.err

@@ -1,8 +1,8 @@
 use Rattle.std.proofs.Common.{rules, inl, ◌⊎◌, ◌<◌, ◌^◌, length}
 use Rattle.walrus_run.specs.Rewriting.{IsNormalBytes, IsRewritten, IsFaulty}
-use Rattle.walrus_rewrite.specs.Errors.{WantsMemory}
+use Rattle.walrus_rewrite.specs.Errors.{IsOutOfMemory}
 use Rattle.walrus_run.proofs.RewritingLemmas.{demo_tree, demo_accepts, demo_refuses}
-use Rattle.walrus_rewrite.proofs.SameAnswers.{if_ok, if_err}
+use Rattle.walrus_rewrite.proofs.SameResults.{if_ok, if_err}
 use Rattle.wasm_body.specs.SourceTree.{Body}
 use Rattle.wasm_body.specs.Naming.{Occurrence}
 use Rattle.walrus_parser.specs.Bodies.{IsFunction}
@@ -25,7 +25,7 @@ returns-in-Ok-clause-ok c =
     c.written_operators.result c.written_operators.ensures.ok
 
 pub returns-in-Ok-clause-err : goal.returns-in-Ok-clause-err
-returns-in-Ok-clause-err c = if_err WantsMemory (λ e. WantsMemory e ⊎ IsFaulty c.args.ops.now e) (λ e h. inl h) c.written_operators.result c.written_operators.ensures.err
+returns-in-Ok-clause-err c = if_err IsOutOfMemory (λ e. IsOutOfMemory e ⊎ IsFaulty c.args.ops.now e) (λ e h. inl h) c.written_operators.result c.written_operators.ensures.err
 
 pub returns-clause-err : goal.returns-clause-err
 returns-clause-err c =

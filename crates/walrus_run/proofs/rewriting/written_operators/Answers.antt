@@ -5,9 +5,9 @@ use Rattle.wasm_body.specs.FunctionTree.{FunctionTree}
 use Rattle.wasm_body.specs.TreeOfFunction.{HasTree}
 use Rattle.walrus_body.specs.LocalFunctions.{first_slot}
 use Rattle.walrus_emitter.specs.TreeWriting.Trees.{AppendsBytes}
-use Rattle.walrus_rewrite.specs.RawBodies.{Given, given, HasNoRawBody, not_begun}
+use Rattle.walrus_rewrite.specs.RawBodies.{EmitInput, emit_input, HasNoRawBody, not_begun}
 use Rattle.walrus_rewrite.proofs.RawBodyLemmas.{writes, declines, of_bytes, why_not}
-use Rattle.walrus_run.proofs.RewritingLemmas.{parsed_begins, no_walk, no_fault, same_given, normal_bytes}
+use Rattle.walrus_run.proofs.RewritingLemmas.{parsed_begins, no_walk, no_fault, same_emit_input, normal_bytes}
 use Rattle.walrus_run.proofs.rewriting.written_operators.Goals as goal
 
 pub emit_facts-requires : goal.emit_facts-requires
@@ -27,9 +27,9 @@ returns-in-Err-begin_body-clause-err c =
     let found = c.in-Ok.ensures.ok in
     let e = c.in-Err-begin_body.fault in
     let why = why_not f found.tree found.is_tree (contains (λ x y. x == y) c.in-Ok.facts.used_locals) found.holds.used_locals
-    (given a.numbers.now a.module.now a.function.now) e (not_begun c.in-Err-begin_body.ensures.err) in
+    (emit_input a.numbers.now a.module.now a.function.now) e (not_begun c.in-Err-begin_body.ensures.err) in
     no_fault f r.is_parsed e
-    (subst (λ (g : Given). (e ≡ Memory) ⊎ ((t : FunctionTree) × HasTree f.sequences (first_slot f) t × HasNoRawBody g t e)) (same_given a.numbers.now a.module.now a.function.now r.numbers_are r.module_is r.args_are) why)
+    (subst (λ (g : EmitInput). (e ≡ Memory) ⊎ ((t : FunctionTree) × HasTree f.sequences (first_slot f) t × HasNoRawBody g t e)) (same_emit_input a.numbers.now a.module.now a.function.now r.numbers_are r.module_is r.args_are) why)
 
 pub returns-clause-err : goal.returns-clause-err
 returns-clause-err c =
@@ -41,9 +41,9 @@ returns-clause-err c =
     let made = c.in-Ok-begin_body.made in
     let e = c.in-Err-emit_instructions.fault in
     let declined = declines a.module.now.types a.numbers.now a.module.now.locals a.function.now.args used f made.0 made.1.entries c.in-Ok-begin_body.ensures.ok e c.in-Err-emit_instructions.ensures.err in
-    let why = why_not f found.tree found.is_tree used found.holds.used_locals (given a.numbers.now a.module.now a.function.now) e declined in
+    let why = why_not f found.tree found.is_tree used found.holds.used_locals (emit_input a.numbers.now a.module.now a.function.now) e declined in
     no_fault f r.is_parsed e
-    (subst (λ (g : Given). (e ≡ Memory) ⊎ ((t : FunctionTree) × HasTree f.sequences (first_slot f) t × HasNoRawBody g t e)) (same_given a.numbers.now a.module.now a.function.now r.numbers_are r.module_is r.args_are) why)
+    (subst (λ (g : EmitInput). (e ≡ Memory) ⊎ ((t : FunctionTree) × HasTree f.sequences (first_slot f) t × HasNoRawBody g t e)) (same_emit_input a.numbers.now a.module.now a.function.now r.numbers_are r.module_is r.args_are) why)
 
 pub returns-in-Ok-emit_instructions-clause-ok : goal.returns-in-Ok-emit_instructions-clause-ok
 returns-in-Ok-emit_instructions-clause-ok c b has =
@@ -57,7 +57,7 @@ returns-in-Ok-emit_instructions-clause-ok c b has =
     let bytes = c.emit_instructions.new.dst in
     let written = writes a.module.now.types a.numbers.now a.module.now.locals a.function.now.args used f made.0 made.1.entries begins
     (λ to old. AppendsBytes f.sequences (first_slot f) to old bytes) c.in-Ok-emit_instructions.ensures.ok in
-    let raw = of_bytes f found.tree found.is_tree used found.holds.used_locals (given a.numbers.now a.module.now a.function.now) bytes written in
-    normal_bytes f r.is_parsed (given a.numbers.now a.module.now a.function.now) (same_given a.numbers.now a.module.now a.function.now r.numbers_are r.module_is r.args_are)
-    bytes raw.0 raw.1 c.in_ok-behind-in-Ok-emit_instructions.field-0.items
-    (c.in_ok-behind-in-Ok-emit_instructions.ensures ∙ ap (λ n. drop n bytes) (c.byte_len-declared.ensures.len ∙ ap length begins.encoder_is)) b has
+    let raw = of_bytes f found.tree found.is_tree used found.holds.used_locals (emit_input a.numbers.now a.module.now a.function.now) bytes written in
+    normal_bytes f r.is_parsed (emit_input a.numbers.now a.module.now a.function.now) (same_emit_input a.numbers.now a.module.now a.function.now r.numbers_are r.module_is r.args_are)
+    bytes raw.0 raw.1 c.in_ok-bytes_after-in-Ok-emit_instructions.field-0.items
+    (c.in_ok-bytes_after-in-Ok-emit_instructions.ensures ∙ ap (λ n. drop n bytes) (c.byte_len-declared.ensures.len ∙ ap length begins.encoder_is)) b has

@@ -1,8 +1,8 @@
 use Rattle.std.proofs.Common.{◌≡◌, ◌≤◌, ◌<◌, ℕ, false, List, length, get_or, ap, subst, ◌∙◌, arith}
-use Rattle.wasm_module.specs.declared.changes.Given.{Given}
+use Rattle.wasm_module.specs.declared.changes.NewContents.{NewContents}
 use Rattle.wasm_module.specs.Sections.{rank, id_of, section}
-use Rattle.wasm_module.specs.WrittenModules.{Puts, stands_between}
-use Rattle.wasm_module.proofs.NewSectionLemmas.{NewSoFar, stands, stands_before, stands_behind, one_new, one_elsewhere}
+use Rattle.wasm_module.specs.WrittenModules.{Puts, is_between}
+use Rattle.wasm_module.proofs.NewSectionLemmas.{NewSoFar, is_within_ranks, is_before_ranks, is_after_ranks, one_new, one_elsewhere}
 use Rattle.wasm_module.proofs.writing.put_between.Goals as goal
 use Rattle.wasm_module.proofs.writing.put_between.Goals.{then-ranks-rank+then-rank-ranks+in_ok-end, else-ranks-rank, else-ranks-rank-via-then-ranks-rank+else-rank-ranks, else-ranks-rank-via-else-ranks-rank}
 
@@ -16,23 +16,23 @@ given-preserved g c =
     let item = c.given-item.result in
     let r = rank (id_of item.kind) in
     let within : at.given-index < length gs = omega arith in
-    let is = c.given-item.is ∙ ap (λ (l : List Given). get_or l at.given-index item) c.deref-given-items.ensures.value in
+    let is = c.given-item.is ∙ ap (λ (l : List NewContents). get_or l at.given-index item) c.deref-given-items.ensures.value in
     elim c.if-ranks-rank.branch [
       | then-ranks-rank+then-rank-ranks+in_ok-end w ↦
           let p : first < r = omega (arith, c.rank-rank.ensures) in
           let q : r < second = omega (arith, c.rank-rank.ensures) in
           let puts = subst (λ (l : List ℕ). Puts (contents at.out) (contents w.put_section.new.out) at.end w.in_ok-end.end (section (id_of item.kind) l)) w.deref.ensures.value w.in_ok-end.ensures in
           one_new first second gs at.given-index item within is (contents c.args.out.now) (contents at.out) (contents w.put_section.new.out) (contents c.if-ranks-rank.out)
-          c.args.at at.end w.in_ok-end.end c.if-ranks-rank.end at.invariant (stands first r second p q) puts (cc w.out-is) (cc w.end-is)
+          c.args.at at.end w.in_ok-end.end c.if-ranks-rank.end at.invariant (is_within_ranks first r second p q) puts (cc w.out-is) (cc w.end-is)
       | else-ranks-rank w ↦
-          let is_elsewhere : stands_between first second item ≡ false = elim w.else-ranks-rank.branch [
+          let is_elsewhere : is_between first second item ≡ false = elim w.else-ranks-rank.branch [
             | else-ranks-rank-via-then-ranks-rank+else-rank-ranks x ↦
                 let p : first < r = omega (arith, c.rank-rank.ensures) in
                 let q : second ≤ r = omega (arith, c.rank-rank.ensures) in
-                stands_behind first r second p q
+                is_after_ranks first r second p q
             | else-ranks-rank-via-else-ranks-rank x ↦
                 let p : r ≤ first = omega (arith, c.rank-rank.ensures) in
-                stands_before first r second p
+                is_before_ranks first r second p
           ] in
           one_elsewhere first second gs at.given-index item within is (contents c.args.out.now) (contents at.out) (contents c.if-ranks-rank.out) c.args.at at.end
           c.if-ranks-rank.end at.invariant is_elsewhere (cc w.out-is) (cc w.end-is)

@@ -1,7 +1,7 @@
 use Rattle.std.proofs.lemmas.Result.{err_from_is_err_and}
 use Rattle.wasm_numbers.specs.Reading.{many}
 use Rattle.wasm_operators.specs.Immediates.{clause}
-use Rattle.wasm_operators.proofs.BorrowedLists.{starts, goes_on, ends, is_done}
+use Rattle.wasm_operators.proofs.BorrowedLists.{starts, continues, ends, is_done}
 use Rattle.wasm_operators.proofs.catch_list.skip_clauses.Goals as goal
 
 pub loop-init : goal.loop-init
@@ -14,7 +14,7 @@ returns-in_err-after c =
 
 pub loop-preserved : goal.loop-preserved
 loop-preserved c =
-    goes_on clause c.args.count c.loop.counter c.loop.rest.now _ c.in_ok-after.after.now (many clause c.args.count c.args.bytes.now) c.loop-test.true c.in_ok-after.ensures c.loop.invariant
+    continues clause c.args.count c.loop.counter c.loop.rest.now _ c.in_ok-after.after.now (many clause c.args.count c.args.bytes.now) c.loop-test.true c.in_ok-after.ensures c.loop.invariant
 
 pub returns : goal.returns
 returns c = is_done clause c.args.count c.loop.counter c.loop.rest.now (many clause c.args.count c.args.bytes.now) c.loop-test.false c.loop.invariant

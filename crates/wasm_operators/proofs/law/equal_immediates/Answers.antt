@@ -15,7 +15,7 @@ returns-in-Clauses-b c = λ compared.
     let p = both type list joined in
     let types = c.same_block_type-ty.ensures.same p.0 in
     let lists = c.same_clauses-catches.ensures.same p.1 in
-    let behind : ListedImmediates = Clauses c.in-Clauses.ty c.in-Clauses.catches in
+    let following : ListedImmediates = Clauses c.in-Clauses.ty c.in-Clauses.catches in
     let other : ListedImmediates = Clauses c.in-Clauses-b.other c.in-Clauses-b.other_catches in
-    let same : behind ≡ other = λ i. Clauses (types i) (lists i) in
+    let same : following ≡ other = λ i. Clauses (types i) (lists i) in
     c.in-Clauses.is ∙ (same ∙ sym c.in-Clauses-b.is)

@@ -25,41 +25,41 @@ returns-then-index-clause-ok c =
     let stack = c.self.inside in
     let cs = stack.controls.items in
     let i = c.in-Some.index in
-    let told = c.in-Some.ensures in
+    let known = c.in-Some.ensures in
     let f = c.index.result.now in
     let at = slice_get-get_or cs i f (omega arith) ∙ ap Some (sym c.index.ensures) in
-    ap (with_clause_around c.args.catch) (sym c.self.view_is) ∙ passes c.args.catch stack.instrs.items cs i f told at c.if-index.true ∙ ap Ok c.self.view_is
+    ap (with_clause_around c.args.catch) (sym c.self.view_is) ∙ passes c.args.catch stack.instrs.items cs i f known at c.if-index.true ∙ ap Ok c.self.view_is
 
 pub returns-then-start-end-clause-err : goal.returns-then-start-end-clause-err
 returns-then-start-end-clause-err c =
     let stack = c.self.inside in
     let cs = stack.controls.items in
     let i = c.in-Some.index in
-    let told = c.in-Some.ensures in
+    let known = c.in-Some.ensures in
     let f = c.index.result.now in
     let g = c.index-2.result.now in
     let h = c.index-3.result.now in
     let is : i + 2 ≡ length cs = omega arith in
     let at = slice_get-get_or cs i f (omega arith) ∙ ap Some (sym c.index.ensures) in
     let again = slice_get-get_or cs i g (omega arith) ∙ ap Some (sym c.index-2.ensures) in
-    let behind = slice_get-get_or cs (i + 1) h (omega arith) ∙ ap Some (sym c.index-3.ensures) in
+    let following = slice_get-get_or cs (i + 1) h (omega arith) ∙ ap Some (sym c.index-3.ensures) in
     let same = ap (λ (k : ControlFrame). k.start) (some_same f g (sym at ∙ again)) in
     let none = c.if-start-end.true in
-    inr (ap (with_clause_around c.args.catch) (sym c.self.view_is) ∙ lacks c.args.catch stack.instrs.items cs i f h c.self.invariant is at behind c.if-index.false (omega arith))
+    inr (ap (with_clause_around c.args.catch) (sym c.self.view_is) ∙ lacks c.args.catch stack.instrs.items cs i f h c.self.invariant is at following c.if-index.false (omega arith))
 
 pub index_mut-requires : goal.index_mut-requires
 index_mut-requires c =
     let stack = c.self.inside in
     let cs = stack.controls.items in
     let i = c.in-Some.index in
-    let told = c.in-Some.ensures in
+    let known = c.in-Some.ensures in
     let long = stack.instrs.ok.0 in
     let f = c.index.result.now in
     let h = c.index-3.result.now in
     let is : i + 2 ≡ length cs = omega arith in
     let at = slice_get-get_or cs i f (omega arith) ∙ ap Some (sym c.index.ensures) in
-    let behind = slice_get-get_or cs (i + 1) h (omega arith) ∙ ap Some (sym c.index-3.ensures) in
-    let within = (inside c.args.catch stack.instrs.items cs i f h c.self.invariant is at behind).1 in
+    let following = slice_get-get_or cs (i + 1) h (omega arith) ∙ ap Some (sym c.index-3.ensures) in
+    let within = (inside c.args.catch stack.instrs.items cs i f h c.self.invariant is at following).1 in
     let some = c.if-start-end.false in
     omega arith
 
@@ -74,7 +74,7 @@ returns c =
     let cs = stack.controls.items in
     let all = stack.instrs.items in
     let i = c.in-Some.index in
-    let told = c.in-Some.ensures in
+    let known = c.in-Some.ensures in
     let f = c.index.result.now in
     let g = c.index-2.result.now in
     let h = c.index-3.result.now in
@@ -83,10 +83,10 @@ returns c =
     let is : i + 2 ≡ length cs = omega arith in
     let at = slice_get-get_or cs i f (omega arith) ∙ ap Some (sym c.index.ensures) in
     let again = slice_get-get_or cs i g (omega arith) ∙ ap Some (sym c.index-2.ensures) in
-    let behind = slice_get-get_or cs (i + 1) h (omega arith) ∙ ap Some (sym c.index-3.ensures) in
+    let following = slice_get-get_or cs (i + 1) h (omega arith) ∙ ap Some (sym c.index-3.ensures) in
     let same = ap (λ (k : ControlFrame). k.start) (some_same f g (sym at ∙ again)) in
     let rise = c.self.invariant in
-    let within = (inside c.args.catch all cs i f h rise is at behind).1 in
+    let within = (inside c.args.catch all cs i f h rise is at following).1 in
     let some = c.if-start-end.false in
     let e = h.start - 1 in
     let ends : e + 1 ≡ h.start = omega arith in
@@ -94,10 +94,10 @@ returns c =
     let last = slice_get-get_or all e x (omega arith) ∙ ap Some (sym c.index_mut.ensures.value) in
     let here = ap (with_clause_around c.args.catch) (sym c.self.view_is) in
     record {
-      ok = on_ok_weaker c.add_clause_in.result (λ added. here ∙ adds c.args.catch all cs i f h rise is at behind e x ends less last y c.if-index.false added) c.add_clause_in.ensures.ok;
-      err = if_err_weaker c.add_clause_in.result (λ error told. elim told [
+      ok = on_ok_weaker c.add_clause_in.result (λ added. here ∙ adds c.args.catch all cs i f h rise is at following e x ends less last y c.if-index.false added) c.add_clause_in.ensures.ok;
+      err = if_err_weaker c.add_clause_in.result (λ error known. elim known [
         | inl is_memory ↦ inl is_memory
-        | inr none ↦ inr (here ∙ has_none c.args.catch all cs i f h rise is at behind e x ends less last c.if-index.false none.1 ∙ ap Err (sym none.0))
+        | inr none ↦ inr (here ∙ has_none c.args.catch all cs i f h rise is at following e x ends less last c.if-index.false none.1 ∙ ap Err (sym none.0))
       ]) c.add_clause_in.ensures.err;
-      same = on_err_weaker c.add_clause_in.result (λ as_before. stays c.args.catch all cs i f h rise is at behind e x ends less last y as_before ∙ c.self.view_is) c.add_clause_in.ensures.same;
+      same = on_err_weaker c.add_clause_in.result (λ as_before. stays c.args.catch all cs i f h rise is at following e x ends less last y as_before ∙ c.self.view_is) c.add_clause_in.ensures.same;
     }

@@ -3,9 +3,9 @@ use Rattle.std.proofs.Common.{◌≡◌, map}
 use Rattle.walrus_ir.specs.Results.{each}
 use Rattle.wasm_body.specs.InstructionTable.{table_clause}
 use Rattle.walrus_parser.specs.BodyParsers.{clause_in}
-use Rattle.walrus_maps.proofs.Listed.{behind_these}
+use Rattle.walrus_maps.proofs.Listed.{after_these}
 use Rattle.walrus_parser.proofs.body_parser.BodyParser.clauses.Given as goal
 
 abbrev pub invariant-clauses : goal.invariant-clauses
 invariant-clauses l =
-    (goal.iterator-clauses).can_next l.raw × (goal.iterator-clauses).is_finite l.raw × (behind_these (map table_clause l.made.items) (each (clause_in l.self) l.raw) ≡ each (clause_in l.self) l.catches)
+    (goal.iterator-clauses).can_next l.raw × (goal.iterator-clauses).is_finite l.raw × (after_these (map table_clause l.made.items) (each (clause_in l.self) l.raw) ≡ each (clause_in l.self) l.catches)

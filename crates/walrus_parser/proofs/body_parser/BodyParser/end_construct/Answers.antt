@@ -3,7 +3,7 @@ use Rattle.wasm_body.specs.Control.{end_operation}
 use Rattle.walrus_context.specs.OpenTrees.{OpenTrees, env_of}
 use Rattle.walrus_parser.specs.Advancing.{Advances, IsStep}
 use Rattle.walrus_parser.specs.BodyParsers.{state_of, state_with}
-use Rattle.walrus_parser.proofs.Partings.{pick_kept, missing}
+use Rattle.walrus_parser.proofs.NextSequences.{pick_kept, missing}
 use Rattle.walrus_parser.proofs.Endings.{of_layers, ends_plain, steps_else, steps_if_alone}
 use Rattle.walrus_parser.proofs.body_parser.BodyParser.end_construct.Goals as goal
 

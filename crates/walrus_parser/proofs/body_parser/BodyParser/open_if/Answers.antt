@@ -10,7 +10,7 @@ pub returns-in-Ok-clause-step : goal.returns-in-Ok-clause-step
 returns-in-Ok-clause-step c = λ ls s place keeps.
     let old = c.args.self.now in
     let m = c.push_block.new.self in
-    pushed_steps (env_of old.context) m old.if_else.items c.pushed.new.list.items ls s place c.args.start (operation (Byte 0x04) (block c.args.ty ∷ [])) (record { start = c.args.start; consequent = c.in-Ok.consequent; alternative = None }) c.pushed.result c.pushed.ensures.ok c.pushed.ensures.err
+    pushed_steps (env_of old.context) m old.if_else.items c.push_or_fail.new.list.items ls s place c.args.start (operation (Byte 0x04) (block c.args.ty ∷ [])) (record { start = c.args.start; consequent = c.in-Ok.consequent; alternative = None }) c.push_or_fail.result c.push_or_fail.ensures.ok c.push_or_fail.ensures.err
     (opens_if old.context m m (reverse old.if_else.items) ls s place c.args.start c.args.ty c.in-Ok.consequent keeps c.in-Ok.ensures.ok)
 
 pub returns-in-Err-clause-step : goal.returns-in-Err-clause-step

@@ -3,7 +3,7 @@ use Rattle.wasm_operators.specs.Meaning.{meaning}
 use Rattle.walrus_context.specs.OpenTrees.{env_of}
 use Rattle.walrus_parser.specs.Advancing.{Advances}
 use Rattle.walrus_parser.specs.BodyParsers.{state_of, Steps}
-use Rattle.walrus_parser.proofs.Alone.{passes_nop}
+use Rattle.walrus_parser.proofs.SingleInstructions.{passes_nop}
 use Rattle.walrus_parser.proofs.Roles.{makes_instruction}
 use Rattle.walrus_parser.proofs.body_parser.BodyParser.step_at_length.Goals as goal
 
@@ -22,7 +22,7 @@ pub returns-in-If-clause-step : goal.returns-in-If-clause-step
 returns-in-If-clause-step c = subst (λ o. Steps c.args.self.now c.open_if.new.self (meaning o) c.args.location c.open_if.result) (sym c.in-If.is) c.open_if.ensures.step
 
 pub returns-in-Else-clause-step : goal.returns-in-Else-clause-step
-returns-in-Else-clause-step c = subst (λ o. Steps c.args.self.now c.part_else.new.self (meaning o) c.args.location c.part_else.result) (sym c.in-Else.is) c.part_else.ensures.step
+returns-in-Else-clause-step c = subst (λ o. Steps c.args.self.now c.begin_else.new.self (meaning o) c.args.location c.begin_else.result) (sym c.in-Else.is) c.begin_else.ensures.step
 
 pub returns-in-End-clause-step : goal.returns-in-End-clause-step
 returns-in-End-clause-step c = subst (λ o. Steps c.args.self.now c.end_construct.new.self (meaning o) c.args.location c.end_construct.result) (sym c.in-End.is) c.end_construct.ensures.step
@@ -31,10 +31,10 @@ pub returns-in-Try-clause-step : goal.returns-in-Try-clause-step
 returns-in-Try-clause-step c = subst (λ o. Steps c.args.self.now c.open_try.new.self (meaning o) c.args.location c.open_try.result) (sym c.in-Try.is) c.open_try.ensures.step
 
 pub returns-in-Catch-clause-step : goal.returns-in-Catch-clause-step
-returns-in-Catch-clause-step c = subst (λ o. Steps c.args.self.now c.part_try.new.self (meaning o) c.args.location c.part_try.result) (sym c.in-Catch.is) c.part_try.ensures.step
+returns-in-Catch-clause-step c = subst (λ o. Steps c.args.self.now c.begin_clause.new.self (meaning o) c.args.location c.begin_clause.result) (sym c.in-Catch.is) c.begin_clause.ensures.step
 
 pub returns-in-CatchAll-clause-step : goal.returns-in-CatchAll-clause-step
-returns-in-CatchAll-clause-step c = subst (λ o. Steps c.args.self.now c.part_try-in-CatchAll.new.self (meaning o) c.args.location c.part_try-in-CatchAll.result) (sym c.in-CatchAll.is) c.part_try-in-CatchAll.ensures.step
+returns-in-CatchAll-clause-step c = subst (λ o. Steps c.args.self.now c.begin_clause-in-CatchAll.new.self (meaning o) c.args.location c.begin_clause-in-CatchAll.result) (sym c.in-CatchAll.is) c.begin_clause-in-CatchAll.ensures.step
 
 pub returns-in-Delegate-clause-step : goal.returns-in-Delegate-clause-step
 returns-in-Delegate-clause-step c = subst (λ o. Steps c.args.self.now c.close_delegate.new.self (meaning o) c.args.location c.close_delegate.result) (sym c.in-Delegate.is) (c.close_delegate.ensures.step c.args.location)
@@ -42,7 +42,7 @@ returns-in-Delegate-clause-step c = subst (λ o. Steps c.args.self.now c.close_d
 pub returns-in-TryTable-clause-step : goal.returns-in-TryTable-clause-step
 returns-in-TryTable-clause-step c = subst (λ o. Steps c.args.self.now c.open_try_table.new.self (meaning o) c.args.location c.open_try_table.result) (sym c.in-TryTable.is) c.open_try_table.ensures.step
 
-pub take_alone-requires-clause-kind : goal.take_alone-requires-clause-kind
-take_alone-requires-clause-kind c =
+pub push_any-requires-clause-kind : goal.push_any-requires-clause-kind
+push_any-requires-clause-kind c =
     let other = c.in_default in
     makes_instruction c.args.operator.now other.not-Nop other.not-Block other.not-Loop other.not-If other.not-Else other.not-Try other.not-Catch other.not-CatchAll other.not-Delegate other.not-TryTable other.not-End

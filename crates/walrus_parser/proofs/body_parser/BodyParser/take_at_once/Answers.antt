@@ -2,18 +2,18 @@ use Rattle.std.proofs.Common.{length, Ok, ap, sym, subst, ◌<◌}
 use Rattle.walrus_context.specs.OpenFrames.{with_instr}
 use Rattle.walrus_context.specs.OpenTrees.{OpenTrees}
 use Rattle.walrus_parser.proofs.AtOnce.{some_changed, taken_at_once, stays_alive}
-use Rattle.walrus_parser.proofs.Endings.{takes_ok}
+use Rattle.walrus_parser.proofs.Endings.{appends_ok}
 use Rattle.walrus_parser.proofs.body_parser.BodyParser.take_at_once.Goals as goal
 
 pub returns-then-not-append_innermost : goal.returns-then-not-append_innermost
 returns-then-not-append_innermost c = ap (λ t. record c.args.self.now { context = t }) (c.append_innermost.ensures.same c.if-not-append_innermost.true)
 
-pub returns-then-not-cuts : goal.returns-then-not-cuts
-returns-then-not-cuts c =
+pub returns-then-not-diverges : goal.returns-then-not-diverges
+returns-then-not-diverges c =
     let old = c.args.self.now in
     let r = c.requires in
-    taken_at_once old c.args.operator.now c.args.instr c.args.location c.args.cuts r.kind r.cuts r.placed r.plain c.append_innermost.new.self
-    (stays_alive old.context c.append_innermost.new.self c.args.instr c.args.location c.args.cuts c.if-not-cuts.true (c.append_innermost.ensures.done c.if-not-append_innermost.false))
+    taken_at_once old c.args.operator.now c.args.instr c.args.location c.args.diverges r.kind r.diverges r.placed r.plain c.append_innermost.new.self
+    (stays_alive old.context c.append_innermost.new.self c.args.instr c.args.location c.args.diverges c.if-not-diverges.true (c.append_innermost.ensures.done c.if-not-append_innermost.false))
 
 pub kill_innermost-requires : goal.kill_innermost-requires
 kill_innermost-requires c =
@@ -25,5 +25,5 @@ returns c =
     let old = c.args.self.now in
     let r = c.requires in
     let changes = c.append_innermost.ensures.done c.if-not-append_innermost.false in
-    taken_at_once old c.args.operator.now c.args.instr c.args.location c.args.cuts r.kind r.cuts r.placed r.plain c.kill_innermost.new.self
-    (takes_ok old.context c.append_innermost.new.self c.kill_innermost.new.self (c.args.instr, c.args.location) c.args.cuts (Ok tt) c.if-not-cuts.false changes.0 changes.1 c.kill_innermost.ensures)
+    taken_at_once old c.args.operator.now c.args.instr c.args.location c.args.diverges r.kind r.diverges r.placed r.plain c.kill_innermost.new.self
+    (appends_ok old.context c.append_innermost.new.self c.kill_innermost.new.self (c.args.instr, c.args.location) c.args.diverges (Ok tt) c.if-not-diverges.false changes.0 changes.1 c.kill_innermost.ensures)

@@ -1,6 +1,6 @@
 use Rattle.std.proofs.Common.{length, sym, ap, ◌∙◌, inl, inr, arith}
 use Rattle.std.proofs.lemmas.Result.{err_from_is_err_and}
-use Rattle.wasm_module.proofs.LocalLemmas.{none_declared, one_more_declared, all_declared, none_behind}
+use Rattle.wasm_module.proofs.LocalLemmas.{none_declared, one_more_declared, all_declared, none_after}
 use Rattle.wasm_module.proofs.locals.Locals.declared.Goals as goal
 
 pub groups-init : goal.groups-init
@@ -29,6 +29,6 @@ returns-in_err-declare-clause-refused c =
     (elim c.in_err-declare.ensures.refused [
       | inl memory ↦ inl memory
       | inr none ↦ inr
-          (none_behind c.args.indices.now at.counter c.in_ok-end.end c.args.input.now.rest.now c.number.new.self.rest.now at.input.rest.now c.args.params.now at.locals.types
+          (none_after c.args.indices.now at.counter c.in_ok-end.end c.args.input.now.rest.now c.number.new.self.rest.now at.input.rest.now c.args.params.now at.locals.types
           at.locals.count c.in_ok-end.ensures.value (omega (arith, c.groups-test.true)) at.invariant.declare at.invariant.count none)
     ])

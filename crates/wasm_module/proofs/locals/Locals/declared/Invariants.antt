@@ -1,5 +1,5 @@
 use Rattle.std.proofs.Common.{◌≡◌, ◌≤◌, length}
-use Rattle.wasm_module.specs.Declarations.{most_locals}
+use Rattle.wasm_module.specs.Declarations.{max_locals}
 use Rattle.wasm_module.proofs.LocalLemmas.{DeclareSoFar}
 use Rattle.wasm_module.proofs.locals.Locals.declared.Given as goal
 
@@ -7,5 +7,5 @@ abbrev pub invariant-groups : goal.invariant-groups
 invariant-groups l = record {
   declare : DeclareSoFar l.indices l.counter l.initial.input.rest.now l.input.rest.now l.params l.locals.types;
   count : l.locals.count ≡ length l.locals.types;
-  few : length l.params ≤ most_locals → l.locals.count ≤ most_locals;
+  few : length l.params ≤ max_locals → l.locals.count ≤ max_locals;
 }

@@ -39,6 +39,6 @@ returns-clause-written g c = λ source e.
     let section = section_at c.args.section.now in
     let text = c.in_ok-count.source.left.rest.now in
     let all : at.counter ≡ count = omega arith in
-    let told : count ≡ count_bodies c.args.self.now = omega (arith, c.body_count.ensures) in
+    let known : count ≡ count_bodies c.args.self.now = omega (arith, c.body_count.ensures) in
     let so_far = subst (λ (n : ℕ). CodeSoFar writes source section.end text at.source n count old new c.args.at at.end) all (at.invariant.so_far source e) in
-    all_bodies writes source c.args.self.now section text at.source count old new c.args.at at.end e c.in_ok-count.ensures.told told so_far c.in_ok-finish.ensures
+    all_bodies writes source c.args.self.now section text at.source count old new c.args.at at.end e c.in_ok-count.ensures.count_is_read known so_far c.in_ok-finish.ensures

@@ -23,5 +23,5 @@ returns-in-Some-clause-written g c = λ source e.
     let not_code : id_of kind ≢ 10 = search rules in
     if_so c.put_section.result c.put_section.ensures (λ end p. (section (id_of kind) contents, replaced contents not_code c.in-Some.ensures.some refl, p))
 
-pub returns-then-leaves_out-clause-extends : goal.returns-then-leaves_out-clause-extends
-returns-then-leaves_out-clause-extends g c = extends_same c.args.self.now
+pub returns-then-omits-clause-extends : goal.returns-then-omits-clause-extends
+returns-then-omits-clause-extends g c = extends_same c.args.self.now

@@ -1,9 +1,9 @@
 use Rattle.std.proofs.Common.{◌≡◌, ◌≢◌, ℕ, List, ◌++◌, sym, ap, subst, ◌∙◌, arith}
 use Rattle.std.proofs.lemmas.List.{append-nil}
 use Rattle.wasm_module.specs.Sections.{rank, id_of, IsModule}
-use Rattle.wasm_module.specs.WrittenModules.{new_behind, new_behind_section}
+use Rattle.wasm_module.specs.WrittenModules.{new_after, new_after_section}
 use Rattle.wasm_module.proofs.WritingLemmas.{if_so, puts_then}
-use Rattle.wasm_module.proofs.NewSectionLemmas.{behind_other}
+use Rattle.wasm_module.proofs.NewSectionLemmas.{after_other}
 use Rattle.wasm_module.proofs.parsed.ParsedModule.put_with_new.Goals as goal
 
 pub returns-then-rank-eq0-clause-written : goal.returns-then-rank-eq0-clause-written
@@ -16,7 +16,7 @@ returns-then-rank-eq0-clause-written g c = λ source all e m.
       record {
         own = w.0;
         is_written = w.1;
-        text_is = sym (append-nil w.0) ∙ ap (λ (n : ℕ). w.0 ++ new_behind_section writes source changes all n) is_custom;
+        text_is = sym (append-nil w.0) ∙ ap (λ (n : ℕ). w.0 ++ new_after_section writes source changes all n) is_custom;
       },
       w.2,
     )
@@ -29,15 +29,15 @@ returns-clause-written g c = λ source all e m.
     let not_custom : r ≢ 0 = omega (arith, c.rank-rank.ensures) in
     let w = c.in_ok-end.ensures.written source e in
     let here = subst (λ (l : List ℕ). IsModule l all) (sym c.in_ok-end.ensures.extends.bytes) m in
-    if_so c.put_behind.result (c.put_behind.ensures all here) (λ end puts. (
-      w.0 ++ new_behind changes.given.items all c.rank-rank.result,
+    if_so c.put_new_after.result (c.put_new_after.ensures all here) (λ end puts. (
+      w.0 ++ new_after changes.given.items all c.rank-rank.result,
       record {
         own = w.0;
         is_written = w.1;
         text_is =
             ap (λ (l : List ℕ). w.0 ++ l)
-            (ap (λ (n : ℕ). new_behind changes.given.items all n) c.rank-rank.ensures ∙ behind_other (g.B.BodyWriter.writes c.args.rewritten.now.bodies) source changes all r not_custom);
+            (ap (λ (n : ℕ). new_after changes.given.items all n) c.rank-rank.ensures ∙ after_other (g.B.BodyWriter.writes c.args.rewritten.now.bodies) source changes all r not_custom);
       },
-      puts_then (contents c.args.out.now) (contents c.put_in_place.new.out) (contents c.put_behind.new.out) c.args.at c.in_ok-end.end end w.0
-          (new_behind changes.given.items all c.rank-rank.result) w.2 puts,
+      puts_then (contents c.args.out.now) (contents c.put_in_place.new.out) (contents c.put_new_after.new.out) c.args.at c.in_ok-end.end end w.0
+          (new_after changes.given.items all c.rank-rank.result) w.2 puts,
     ))

@@ -12,5 +12,5 @@ returns-in-Ok-clause-only c = λ o text rest spelt parts.
 pub returns-in-Err-clause-only : goal.returns-in-Err-clause-only
 returns-in-Err-clause-only c = λ o text rest spelt parts. c.in-Err.ensures.only o text rest spelt (ap (λ (p : Position). p.rest) c.self.view_is ∙ parts)
 
-pub returns-in-Ok-clause-answer : goal.returns-in-Ok-clause-answer
-returns-in-Ok-clause-answer c = ap (λ (p : Position). read_operation p.rest) (sym c.self.view_is) ∙ c.in-Ok.ensures.answer
+pub returns-in-Ok-clause-is_read : goal.returns-in-Ok-clause-is_read
+returns-in-Ok-clause-is_read c = ap (λ (p : Position). read_operation p.rest) (sym c.self.view_is) ∙ c.in-Ok.ensures.is_read

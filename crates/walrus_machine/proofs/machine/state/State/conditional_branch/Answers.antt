@@ -2,14 +2,14 @@ use Rattle.std.proofs.Common.{◌+◌, ℕ, List, Bool, cond, inl, inr, ap, ◌�
 use Rattle.wasm_body.specs.Control as C
 use Rattle.wasm_body.specs.Machine as M
 use Rattle.walrus_machine.specs.Tables.{place_at}
-use Rattle.walrus_machine.specs.Tracing.{Onwards, run_on}
-use Rattle.walrus_machine.proofs.Tracing.{asked}
+use Rattle.walrus_machine.specs.Tracing.{Continuation, continued_run}
+use Rattle.walrus_machine.proofs.Tracing.{outcome_taken}
 use Rattle.walrus_machine.proofs.machine.state.State.conditional_branch.Goals as goal
 
-abbrev step : (again go : M.From ℕ) → List C.Control → (n : ℕ) → (position : ℕ) → Onwards
+abbrev step : (again go : M.From ℕ) → List C.Control → (n : ℕ) → (position : ℕ) → Continuation
 step again go cs n i = M.act again go (C.ConditionalBranch n) i (place_at cs (i + 1))
 
-abbrev chosen : (again go : M.From ℕ) → List C.Control → (n position : ℕ) → Bool → Onwards
+abbrev chosen : (again go : M.From ℕ) → List C.Control → (n position : ℕ) → Bool → Continuation
 chosen again go cs n i way ls o = cond way (M.branch again go n ls o) (go (place_at cs (i + 1)) ls o)
 
 pub returns-in_default : goal.returns-in_default
@@ -19,25 +19,25 @@ pub returns-in_ok-next-in-Way : goal.returns-in_ok-next-in-Way
 returns-in_ok-next-in-Way c = λ again go.
     let cs = c.args.table.now in
     let i = c.args.position in
-    asked cs c.args.self.now c.ask.new.self (step again go cs c.args.n i) _ _ c.in-Some.ensures.some c.in-Way.is
+    outcome_taken cs c.args.self.now c.next_outcome.new.self (step again go cs c.args.n i) _ _ c.in-Some.ensures.some c.in-Way.is
     ∙ ((c.in_ok-executed-in-Way.ensures cs (chosen again go cs c.args.n i c.in-Way.taken)
-    ∙ ap (λ way. run_on cs c.executed.new.self (chosen again go cs c.args.n i way)) c.if-taken.true ∙ c.in_ok-next-in-Way.ensures again go))
+    ∙ ap (λ way. continued_run cs c.executed.new.self (chosen again go cs c.args.n i way)) c.if-taken.true ∙ c.in_ok-next-in-Way.ensures again go))
 
 pub returns-else-taken : goal.returns-else-taken
 returns-else-taken c = λ again go.
     let cs = c.args.table.now in
     let i = c.args.position in
-    asked cs c.args.self.now c.ask.new.self (step again go cs c.args.n i) _ _ c.in-Some.ensures.some c.in-Way.is
+    outcome_taken cs c.args.self.now c.next_outcome.new.self (step again go cs c.args.n i) _ _ c.in-Some.ensures.some c.in-Way.is
     ∙ (c.in_ok-executed-in-Way.ensures cs (chosen again go cs c.args.n i c.in-Way.taken)
-    ∙ ap (λ way. run_on cs c.executed.new.self (chosen again go cs c.args.n i way)) c.if-taken.false)
+    ∙ ap (λ way. continued_run cs c.executed.new.self (chosen again go cs c.args.n i way)) c.if-taken.false)
 
 pub returns-in-Go : goal.returns-in-Go
 returns-in-Go c = λ again go.
     let cs = c.args.table.now in
     let i = c.args.position in
     elim c.in-Go.is [
-      | inl e ↦ asked cs c.args.self.now c.ask.new.self (step again go cs c.args.n i) _ _ c.in-Some.ensures.some e
-      | inr (inl e) ↦ asked cs c.args.self.now c.ask.new.self (step again go cs c.args.n i) _ _ c.in-Some.ensures.some e
-      | inr (inr (inl e)) ↦ asked cs c.args.self.now c.ask.new.self (step again go cs c.args.n i) _ _ c.in-Some.ensures.some e.1
-      | inr (inr (inr e)) ↦ asked cs c.args.self.now c.ask.new.self (step again go cs c.args.n i) _ _ c.in-Some.ensures.some e.1
+      | inl e ↦ outcome_taken cs c.args.self.now c.next_outcome.new.self (step again go cs c.args.n i) _ _ c.in-Some.ensures.some e
+      | inr (inl e) ↦ outcome_taken cs c.args.self.now c.next_outcome.new.self (step again go cs c.args.n i) _ _ c.in-Some.ensures.some e
+      | inr (inr (inl e)) ↦ outcome_taken cs c.args.self.now c.next_outcome.new.self (step again go cs c.args.n i) _ _ c.in-Some.ensures.some e.1
+      | inr (inr (inr e)) ↦ outcome_taken cs c.args.self.now c.next_outcome.new.self (step again go cs c.args.n i) _ _ c.in-Some.ensures.some e.1
     ]

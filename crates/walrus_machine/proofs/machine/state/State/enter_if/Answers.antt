@@ -2,18 +2,18 @@ use Rattle.std.proofs.Common.{◌+◌, ◌∷◌, ℕ, List, Bool, cond, inl, in
 use Rattle.wasm_body.specs.Control as C
 use Rattle.wasm_body.specs.Machine as M
 use Rattle.walrus_machine.specs.Tables.{place_at}
-use Rattle.walrus_machine.specs.Tracing.{Onwards, run_on}
-use Rattle.walrus_machine.proofs.Tracing.{asked}
+use Rattle.walrus_machine.specs.Tracing.{Continuation, continued_run}
+use Rattle.walrus_machine.proofs.Tracing.{outcome_taken}
 use Rattle.walrus_machine.proofs.machine.state.State.enter_if.Goals as goal
 
-abbrev step : (again go : M.From ℕ) → List C.Control → (position : ℕ) → Onwards
+abbrev step : (again go : M.From ℕ) → List C.Control → (position : ℕ) → Continuation
 step again go cs i = M.enter go C.If i (place_at cs (i + 1))
 
 -- the label that is opened, and both ways
 abbrev opened : List C.Control → (position : ℕ) → M.Label ℕ
 opened cs i = M.label i C.If (place_at cs (i + 1))
 
-abbrev chosen : (go : M.From ℕ) → List C.Control → (position : ℕ) → Bool → Onwards
+abbrev chosen : (go : M.From ℕ) → List C.Control → (position : ℕ) → Bool → Continuation
 chosen go cs i way ls o =
     cond way (go (place_at cs (i + 1)) (opened cs i ∷ ls) o) (M.other_way go (opened cs i) ls o (M.seek M.is_else 0 0 (place_at cs (i + 1))))
 
@@ -24,25 +24,25 @@ pub returns-in_ok-open_construct-in-Way : goal.returns-in_ok-open_construct-in-W
 returns-in_ok-open_construct-in-Way c = λ again go.
     let cs = c.args.table.now in
     let i = c.args.position in
-    asked cs c.args.self.now c.ask.new.self (step again go cs i) _ _ c.in-Some.ensures.some c.in-Way.is
+    outcome_taken cs c.args.self.now c.next_outcome.new.self (step again go cs i) _ _ c.in-Some.ensures.some c.in-Way.is
     ∙ (c.in_ok-executed-in-Way.ensures cs (chosen go cs i c.in-Way.taken)
-    ∙ (ap (λ way. run_on cs c.executed.new.self (chosen go cs i way)) c.if-taken.true ∙ c.in_ok-open_construct-in-Way.ensures cs (go (place_at cs (i + 1)))))
+    ∙ (ap (λ way. continued_run cs c.executed.new.self (chosen go cs i way)) c.if-taken.true ∙ c.in_ok-open_construct-in-Way.ensures cs (go (place_at cs (i + 1)))))
 
 pub returns-in_ok-next-in-Way : goal.returns-in_ok-next-in-Way
 returns-in_ok-next-in-Way c = λ again go.
     let cs = c.args.table.now in
     let i = c.args.position in
-    asked cs c.args.self.now c.ask.new.self (step again go cs i) _ _ c.in-Some.ensures.some c.in-Way.is
+    outcome_taken cs c.args.self.now c.next_outcome.new.self (step again go cs i) _ _ c.in-Some.ensures.some c.in-Way.is
     ∙ (c.in_ok-executed-in-Way.ensures cs (chosen go cs i c.in-Way.taken)
-    ∙ (ap (λ way. run_on cs c.executed.new.self (chosen go cs i way)) c.if-taken.false ∙ c.in_ok-next-in-Way.ensures again go))
+    ∙ (ap (λ way. continued_run cs c.executed.new.self (chosen go cs i way)) c.if-taken.false ∙ c.in_ok-next-in-Way.ensures again go))
 
 pub returns-in-Go : goal.returns-in-Go
 returns-in-Go c = λ again go.
     let cs = c.args.table.now in
     let i = c.args.position in
     elim c.in-Go.is [
-      | inl e ↦ asked cs c.args.self.now c.ask.new.self (step again go cs i) _ _ c.in-Some.ensures.some e
-      | inr (inl e) ↦ asked cs c.args.self.now c.ask.new.self (step again go cs i) _ _ c.in-Some.ensures.some e
-      | inr (inr (inl e)) ↦ asked cs c.args.self.now c.ask.new.self (step again go cs i) _ _ c.in-Some.ensures.some e.1
-      | inr (inr (inr e)) ↦ asked cs c.args.self.now c.ask.new.self (step again go cs i) _ _ c.in-Some.ensures.some e.1
+      | inl e ↦ outcome_taken cs c.args.self.now c.next_outcome.new.self (step again go cs i) _ _ c.in-Some.ensures.some e
+      | inr (inl e) ↦ outcome_taken cs c.args.self.now c.next_outcome.new.self (step again go cs i) _ _ c.in-Some.ensures.some e
+      | inr (inr (inl e)) ↦ outcome_taken cs c.args.self.now c.next_outcome.new.self (step again go cs i) _ _ c.in-Some.ensures.some e.1
+      | inr (inr (inr e)) ↦ outcome_taken cs c.args.self.now c.next_outcome.new.self (step again go cs i) _ _ c.in-Some.ensures.some e.1
     ]

@@ -16,8 +16,8 @@ returns-in_default c = λ again go.
     let f = c.seek-found.result in
     same_on cs c.args.self.now _ _ (λ ls o. nothing_other go cs l _ f.passed f.position c.seek-found.ensures ls o (sym c.in_default.ensures.control))
 
-pub overflow_add-behind : goal.overflow_add-behind
-overflow_add-behind c = omega (arith, within c.args.table.now c.seek-found.result.position (control_meaning c.in-Some.control.now) (sym c.in-Some.ensures.control), c.in-Some.ensures.fits)
+pub overflow_add-following : goal.overflow_add-following
+overflow_add-following c = omega (arith, within c.args.table.now c.seek-found.result.position (control_meaning c.in-Some.control.now) (sym c.in-Some.ensures.control), c.in-Some.ensures.fits)
 
 pub returns-in_ok-open_construct-in-Else : goal.returns-in_ok-open_construct-in-Else
 returns-in_ok-open_construct-in-Else c = λ again go.

@@ -2,12 +2,12 @@
 use Rattle.std.proofs.Common.{◌≡◌, length}
 use Rattle.wasm_body.specs.Machine as M
 use Rattle.walrus_machine.specs.Tables.{place_at}
-use Rattle.walrus_machine.specs.Tracing.{run_on}
+use Rattle.walrus_machine.specs.Tracing.{continued_run}
 use Rattle.walrus_machine.proofs.machine.state.State.run.Given as goal
 
 abbrev pub invariant-turns : goal.invariant-turns
 invariant-turns l =
-    run_on l.fn.table l.fn.self (M.bounded_run length l.fn.turns (place_at l.fn.table 0)) ≡ run_on l.table l.self (M.bounded_run length l.left (place_at l.table l.place))
+    continued_run l.fn.table l.fn.self (M.bounded_run length l.fn.turns (place_at l.fn.table 0)) ≡ continued_run l.table l.self (M.bounded_run length l.left (place_at l.table l.place))
 
 abbrev pub decreases-turns : goal.decreases-turns
 decreases-turns l = l.left

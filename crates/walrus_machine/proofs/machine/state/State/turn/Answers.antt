@@ -2,7 +2,7 @@ use Rattle.std.proofs.Common.{◌≡◌, ◌-◌, length, sym, ap, ◌∙◌, ar
 use Rattle.wasm_body.specs.Machine as M
 use Rattle.walrus_machine.specs.Controls.{control_meaning}
 use Rattle.walrus_machine.specs.Tables.{place_at}
-use Rattle.walrus_machine.specs.Tracing.{leading, run_on}
+use Rattle.walrus_machine.specs.Tracing.{continued_by, continued_run}
 use Rattle.walrus_machine.proofs.Tables.{within, length_left}
 use Rattle.walrus_machine.proofs.Tracing.{same_on, one_step, no_step}
 use Rattle.walrus_machine.proofs.machine.state.State.turn.Goals as goal
@@ -12,7 +12,7 @@ steps-init c = λ again.
     let cs = c.args.table.now in
     let from = c.args.from in
     let count : length (place_at cs from) ≡ c.saturating_sub-left.result = omega (arith, length_left cs from, c.saturating_sub-left.ensures, c.len.ensures) in
-    ap (λ n. run_on cs c.args.self.now (M.straight again n (place_at cs from))) count
+    ap (λ n. continued_run cs c.args.self.now (M.straight again n (place_at cs from))) count
 
 pub returns-in_default : goal.returns-in_default
 returns-in_default c = λ again.
@@ -28,15 +28,15 @@ returns-in-Turn c = λ again.
     let go = M.straight again (c.steps.left - 1) in
     c.steps.invariant again
     ∙ (same_on cs c.steps.self _ _ (λ ls o. one_step again cs c.steps.place ls o c.steps.left (control_meaning c.in-Some.control.now) c.steps-test.true (sym c.in-Some.ensures.control))
-    ∙ (c.in_ok-next.ensures again go ∙ ap (λ next. run_on cs c.step.new.self (leading again go cs next)) c.in-Turn.is))
+    ∙ (c.in_ok-next.ensures again go ∙ ap (λ next. continued_run cs c.step.new.self (continued_by again go cs next)) c.in-Turn.is))
 
-pub returns-in-Over : goal.returns-in-Over
-returns-in-Over c = λ again.
+pub returns-in-Finished : goal.returns-in-Finished
+returns-in-Finished c = λ again.
     let cs = c.args.table.now in
     let go = M.straight again (c.steps.left - 1) in
     c.steps.invariant again
     ∙ (same_on cs c.steps.self _ _ (λ ls o. one_step again cs c.steps.place ls o c.steps.left (control_meaning c.in-Some.control.now) c.steps-test.true (sym c.in-Some.ensures.control))
-    ∙ (c.in_ok-next.ensures again go ∙ ap (λ next. run_on cs c.step.new.self (leading again go cs next)) c.in-Over.is))
+    ∙ (c.in_ok-next.ensures again go ∙ ap (λ next. continued_run cs c.step.new.self (continued_by again go cs next)) c.in-Finished.is))
 
 pub steps-preserved : goal.steps-preserved
 steps-preserved c = λ again.
@@ -44,4 +44,4 @@ steps-preserved c = λ again.
     let go = M.straight again (c.steps.left - 1) in
     c.steps.invariant again
     ∙ (same_on cs c.steps.self _ _ (λ ls o. one_step again cs c.steps.place ls o c.steps.left (control_meaning c.in-Some.control.now) c.steps-test.true (sym c.in-Some.ensures.control))
-    ∙ (c.in_ok-next.ensures again go ∙ ap (λ next. run_on cs c.step.new.self (leading again go cs next)) c.in-On.is))
+    ∙ (c.in_ok-next.ensures again go ∙ ap (λ next. continued_run cs c.step.new.self (continued_by again go cs next)) c.in-Continue.is))

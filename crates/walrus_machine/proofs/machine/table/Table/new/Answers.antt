@@ -1,8 +1,8 @@
 use Rattle.std.proofs.Common.{◌≡◌, ◌+◌, ◌-◌, ℕ, length, map, reverse, refl, sym, subst, ap, ◌∙◌, arith}
 use Rattle.std.proofs.lemmas.List.{length_push, length-map}
 use Rattle.walrus_machine.specs.Controls.{control_meaning}
-use Rattle.walrus_machine.specs.Tables.{AreAhead, StandAhead}
-use Rattle.walrus_machine.proofs.Tables.{get_mapped, start_stands, more_ahead}
+use Rattle.walrus_machine.specs.Tables.{AreAhead, LevelsAhead}
+use Rattle.walrus_machine.proofs.Tables.{get_mapped, start_listed, more_ahead}
 use Rattle.walrus_machine.proofs.machine.table.Table.new.Goals as goal
 
 pub operators-init : goal.operators-init
@@ -17,7 +17,7 @@ operators-init c =
       count,
       omega (arith, count, same, none),
       subst (AreAhead cs c.len-position.result) (sym (ap reverse c.new-ahead.ensures.items)) tt,
-      start_stands cs c.len.result c.len-position.result c.new.result.items end same c.new.ensures.items,
+      start_listed cs c.len.result c.len-position.result c.new.result.items end same c.new.ensures.items,
     )
 
 pub operators-preserved : goal.operators-preserved
@@ -28,7 +28,7 @@ operators-preserved c =
     let more = c.in_ok-push.ensures.items in
     let pushed : length c.push.new.self.items ≡ length c.operators.ahead.items + 1 = ap length more ∙ length_push c.operators.ahead.items c.innermost.result in
     let back : place ≡ place - 1 + 1 = omega (arith, c.operators-test.true) in
-    let P : ℕ → Type 0 = λ m. StandAhead cs m c.operators.levels in
+    let P : ℕ → Type 0 = λ m. LevelsAhead cs m c.operators.levels in
     let at = get_mapped control_meaning controls.items (place - 1) c.index.result.now (omega (arith, c.operators-test.true, c.operators.invariant.2)) c.index.ensures in (
       refl,
       c.in_ok-go_back.ensures.end ∙ c.operators.invariant.1,

@@ -7,13 +7,13 @@ use Rattle.walrus_machine.proofs.machine.table.Table.seek.Goals as goal
 pub parts-init : goal.parts-init
 parts-init c =
     let cs = c.args.self.now in
-    let first = next_part (test_of c.args.wanted) cs (c.args.opener + 1) c.part-position.result c.part-position.ensures 0 in
+    let first = next_part (test_of c.args.sought) cs (c.args.opener + 1) c.part-position.result c.part-position.ensures 0 in
     (omega (arith, first.0, length_left cs (c.args.opener + 1)), first.1)
 
 pub returns-then-not-passes : goal.returns-then-not-passes
 returns-then-not-passes c =
     c.parts.invariant.1
-    ∙ stops_here (test_of c.args.wanted) c.args.self.now c.parts.position (control_meaning c.in-Some.control.now) (sym c.in-Some.ensures.control) c.parts.passed (sym c.if-not-passes.true ∙ c.passes.ensures)
+    ∙ stops_here (test_of c.args.sought) c.args.self.now c.parts.position (control_meaning c.in-Some.control.now) (sym c.in-Some.ensures.control) c.parts.passed (sym c.if-not-passes.true ∙ c.passes.ensures)
 
 pub overflow_add-passed : goal.overflow_add-passed
 overflow_add-passed c =
@@ -24,13 +24,13 @@ pub parts-smaller : goal.parts-smaller
 parts-smaller c =
     let cs = c.args.self.now in
     let fewer = fewer_here cs c.parts.position (control_meaning c.in-Some.control.now) (sym c.in-Some.ensures.control) in
-    let next = next_part (test_of c.args.wanted) cs (c.parts.position + 1) c.part-position-in-Some.result c.part-position-in-Some.ensures 0 in
+    let next = next_part (test_of c.args.sought) cs (c.parts.position + 1) c.part-position-in-Some.result c.part-position-in-Some.ensures 0 in
     omega (arith, fewer, next.0)
 
 pub parts-preserved : goal.parts-preserved
 parts-preserved c =
     let cs = c.args.self.now in
-    let test = test_of c.args.wanted in
+    let test = test_of c.args.sought in
     let at = sym c.in-Some.ensures.control in
     let fewer = fewer_here cs c.parts.position (control_meaning c.in-Some.control.now) at in
     let next = next_part test cs (c.parts.position + 1) c.part-position-in-Some.result c.part-position-in-Some.ensures 0 in (
@@ -40,4 +40,4 @@ parts-preserved c =
     )
 
 pub returns : goal.returns
-returns c = c.parts.invariant.1 ∙ ends_here (test_of c.args.wanted) c.args.self.now c.parts.position c.parts.passed (sym c.in_default.ensures.control)
+returns c = c.parts.invariant.1 ∙ ends_here (test_of c.args.sought) c.args.self.now c.parts.position c.parts.passed (sym c.in_default.ensures.control)

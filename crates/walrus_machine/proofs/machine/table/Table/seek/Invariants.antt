@@ -8,7 +8,7 @@ use Rattle.walrus_machine.proofs.machine.table.Table.seek.Given as goal
 abbrev pub invariant-parts : goal.invariant-parts
 invariant-parts l =
     (l.passed + length (place_at l.self l.position) ≤ length l.self)
-    × (seek (test_of l.fn.wanted) 0 0 (place_at l.self (l.fn.opener + 1)) ≡ from_part (test_of l.fn.wanted) l.passed (place_at l.self l.position))
+    × (seek (test_of l.fn.sought) 0 0 (place_at l.self (l.fn.opener + 1)) ≡ from_part (test_of l.fn.sought) l.passed (place_at l.self l.position))
 
 abbrev pub decreases-parts : goal.decreases-parts
 decreases-parts l = length (place_at l.self l.position)
