@@ -4,7 +4,7 @@
 use std::path::PathBuf;
 use wrewrite::{check, rewrite, rewrite_with_map, snip, Error, ErrorKind, Options};
 
-const SAMPLE: &[u8] = include_bytes!("../../../crates/wrewrite/data/sample.wasm");
+const SAMPLE: &[u8] = include_bytes!("../../../crates/wtools/data/sample.wasm");
 
 /// An imported function and three bodies, of which the first branches too far and the third reads a local that it doesn't have.
 const REFUSED: &[u8] = b"\0asm\x01\0\0\0\x01\x04\x01\x60\0\0\x02\x07\x01\x01m\x01f\0\0\x03\x04\x03\0\0\0\x0a\x0f\x03\x04\0\x0c\x01\x0b\x02\0\x0b\x05\0\x20\0\x1a\x0b";

@@ -287,16 +287,16 @@ impl<T: Drop> From<AllocFailed<T>> for Failure<'_> {
     }
 }
 
-/// The program's words, without its own name.
+/// The program's words: its arguments from this place on. At 0 is its own name.
 ///
 /// # Errors
 ///
-/// Wrong use where one isn't UTF-8; or that memory ran out.
-pub fn words<R: Env + AllocGlobal>(rt: &R) -> Result<Vec<String>, Failure<'static>> {
+/// Wrong use where an argument isn't UTF-8; or that memory ran out.
+pub fn words<R: Env + AllocGlobal>(rt: &R, first: usize) -> Result<Vec<String>, Failure<'static>> {
     let mut words = Vec::new(rt.alloc());
     match env::args(rt) {
         Ok(args) => {
-            for word in args.skip(1) {
+            for word in args.skip(first) {
                 words.push(word)?;
             }
             Ok(words)

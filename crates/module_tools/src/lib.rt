@@ -20,7 +20,7 @@ mod warnings;
 mod writing;
 
 pub use counting::{CALLS, CountCalls, call_counter, count_calls};
-pub use ending::{Attempt, Failure, Item, Refusal};
+pub use ending::{Attempt, Failure, Item, Refusal, exit_code, words};
 pub use escaped::Escaped;
 pub use files::{Target, read_file};
 pub use names::{Found, FunctionNames, function_at};

@@ -562,9 +562,10 @@ fn run_arguments<R: Files + Input + Clock + Print + Eprint + AllocGlobal + Drop,
     }
 }
 
-/// Runs a program, and returns its status: 0 where the module is written, or none of its bodies is
-/// refused; 1 where the module or a body is refused, or a file can't be read or written; 2 for wrong
-/// use. Where standard error is a terminal, a run of more than two seconds shows there how far it is.
+/// Runs a program over the arguments from this place on, and returns its status: 0 where the module
+/// is written, or none of its bodies is refused; 1 where the module or a body is refused, or a file
+/// can't be read or written; 2 for wrong use. Where standard error is a terminal, a run of more than
+/// two seconds shows there how far it is.
 ///
 /// # Errors
 ///
@@ -573,11 +574,12 @@ pub fn run<R: Files + Input + Env + Clock + Print + Eprint + AllocGlobal + Drop,
     rt: &R,
     tool: &T,
     program: &Program,
+    first: usize,
     terminals: Terminals,
 ) -> io::Result<ExitCode>
     ensures { IfOk result (λ code. exit_status code ≤ 2) }
 {
-    match words(rt) {
+    match words(rt, first) {
         Ok(words) => run_arguments(rt, tool, program, &words, terminals),
         Err(failure) => Ok(exit_code(rt, program.name, failure)),
     }

@@ -6,6 +6,10 @@ use std::fmt;
 /// What is wrong with the words of a program.
 #[derive(Clone, Copy)]
 pub enum UsageError<'w> {
+    /// Of several programs in one none is named.
+    NoProgram,
+    /// Of several programs in one none has this name.
+    UnknownProgram(&'w str),
     /// The program takes no option with this name.
     UnknownOption(&'w str),
     /// An option is given twice.
@@ -70,6 +74,8 @@ impl<'w> Line<'w> {
     /// The line for a wrong use; of an ambiguous name its end, after the functions that have it.
     fn of(wrong: UsageError<'w>) -> Line<'w> {
         match wrong {
+            UsageError::NoProgram => Line::text("no program is named"),
+            UsageError::UnknownProgram(name) => Line::with("unknown program '", name, "'"),
             UsageError::UnknownOption(name) => Line::with("unknown option '", name, "'"),
             UsageError::GivenTwice(name) => Line::with("option '", name, "' is given twice"),
             UsageError::NoValue(name) => Line::with("option '", name, "' requires a value"),

@@ -1,15 +1,12 @@
-//! The program `wcount`: lets the functions of a module count their calls.
-#![tactic(auto)]
+//! `wcount`: lets the functions of a module count their calls.
 
-use module_tools::{CountCalls, Program, Terminals, Tool, call_counter, run};
+use module_tools::{CountCalls, Program, Tool, call_counter};
 use std::alloc::Global;
-use std::io;
-use std::io::IsTerminal;
-use std::process::ExitCode;
 use walrus_ir::{FunctionId, IdHashSet};
 use wasm_module::{Changes, Changing, ModuleError, ParsedModule};
 
-const PROGRAM: Program = Program {
+/// How it is called, and what it takes.
+pub const PROGRAM: Program = Program {
     name: "wcount",
     help: "usage: wcount [OPTION].. IN.wasm OUT.wasm
 
@@ -40,7 +37,7 @@ example: wcount in.wasm counted.wasm",
 
 /// Lets each function count its calls.
 #[derive(Clone, Copy)]
-struct Count;
+pub struct Count;
 
 impl Tool for Count {
     type Bodies = Changing<CountCalls>;
@@ -56,12 +53,4 @@ impl Tool for Count {
             Err(error) => Err(error),
         }
     }
-}
-
-fn main(rt: HostRuntime) -> io::Result<ExitCode> {
-    let terminals = Terminals {
-        output: rt.stdout().is_terminal(),
-        errors: rt.stderr().is_terminal(),
-    };
-    run(&rt, &Count, &PROGRAM, terminals)
 }

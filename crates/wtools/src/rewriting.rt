@@ -1,15 +1,12 @@
-//! The program `wrewrite`: rewrites the bodies of a module's functions.
-#![tactic(auto)]
+//! `wrewrite`: rewrites the bodies of a module's functions.
 
-use module_tools::{Program, Terminals, Tool, run};
+use module_tools::{Program, Tool};
 use std::alloc::Global;
-use std::io;
-use std::io::IsTerminal;
-use std::process::ExitCode;
 use walrus_ir::{FunctionId, IdHashSet};
 use wasm_module::{Changes, ModuleError, ParsedModule, Rewriting};
 
-const PROGRAM: Program = Program {
+/// How it is called, and what it takes.
+pub const PROGRAM: Program = Program {
     name: "wrewrite",
     help: "usage: wrewrite [OPTION].. IN.wasm OUT.wasm
        wrewrite [OPTION].. --check IN.wasm
@@ -45,7 +42,7 @@ example: wrewrite --map out.map in.wasm out.wasm",
 
 /// Rewrites each body as it is.
 #[derive(Clone, Copy)]
-struct RewriteAll;
+pub struct RewriteAll;
 
 impl Tool for RewriteAll {
     type Bodies = Rewriting;
@@ -58,12 +55,4 @@ impl Tool for RewriteAll {
     ) -> Result<(Rewriting, Changes), ModuleError> {
         Ok((Rewriting, Changes::new(alloc)))
     }
-}
-
-fn main(rt: HostRuntime) -> io::Result<ExitCode> {
-    let terminals = Terminals {
-        output: rt.stdout().is_terminal(),
-        errors: rt.stderr().is_terminal(),
-    };
-    run(&rt, &RewriteAll, &PROGRAM, terminals)
 }

@@ -1,15 +1,12 @@
-//! The program `wsnip`: takes away the bodies of functions of a module.
-#![tactic(auto)]
+//! `wsnip`: takes away the bodies of functions of a module.
 
-use module_tools::{Program, Snipping, Terminals, Tool, run};
+use module_tools::{Program, Snipping, Tool};
 use std::alloc::Global;
-use std::io;
-use std::io::IsTerminal;
-use std::process::ExitCode;
 use walrus_ir::{FunctionId, IdHashSet};
 use wasm_module::{Changes, Changing, ModuleError, ParsedModule};
 
-const PROGRAM: Program = Program {
+/// How it is called, and what it takes.
+pub const PROGRAM: Program = Program {
     name: "wsnip",
     help: "usage: wsnip [OPTION].. IN.wasm OUT.wasm FUNCTION..
 
@@ -41,7 +38,7 @@ example: wsnip in.wasm out.wasm 12 unused_function",
 
 /// Takes away the bodies of functions.
 #[derive(Clone, Copy)]
-struct Snip;
+pub struct Snip;
 
 impl Tool for Snip {
     type Bodies = Changing<Snipping>;
@@ -54,12 +51,4 @@ impl Tool for Snip {
     ) -> Result<(Changing<Snipping>, Changes), ModuleError> {
         Ok((Changing(Snipping::new(functions)), Changes::new(alloc)))
     }
-}
-
-fn main(rt: HostRuntime) -> io::Result<ExitCode> {
-    let terminals = Terminals {
-        output: rt.stdout().is_terminal(),
-        errors: rt.stderr().is_terminal(),
-    };
-    run(&rt, &Snip, &PROGRAM, terminals)
 }

@@ -1,0 +1,2 @@
+-- the names of the programs
+pub mod Names

@@ -1,0 +1,106 @@
+//! The programs `wrewrite`, `wsnip` and `wcount` in one. It runs as the one under whose name it is
+//! started, as by a link or a copy, or else as the one that its first word names.
+#![tactic(auto)]
+
+ghost use Rattle.std.specs.Prelude.{◌≤◌, IfOk};
+ghost use Rattle.std.specs.Process.{exit_status};
+
+mod counting;
+mod naming;
+mod rewriting;
+mod snipping;
+
+use counting::Count;
+use module_tools::{Failure, Terminals, UsageError, VERSION, exit_code, run, words};
+use naming::{Chosen, asked};
+use rewriting::RewriteAll;
+use snipping::Snip;
+use std::io;
+use std::io::IsTerminal;
+use std::process::ExitCode;
+use std::rt::{Clock, Env, Files};
+
+/// Its own name, with which its messages begin where it runs as none of them.
+const NAME: &str = "wtools";
+
+const HELP: &str = "usage: wtools PROGRAM [WORD]..
+
+Three programs in one, which read a WebAssembly module and write one. Under the name of one
+of them, as that of a link or a copy, it runs as that one, and PROGRAM is left out.
+
+  wrewrite       rewrites each function, in the shortest spellings
+  wsnip          leaves nothing but `unreachable` of functions that are named
+  wcount         lets each function count its calls
+
+  -h, --help     print this; after PROGRAM, which words it takes
+  -V, --version  print the version
+
+Status: that of the program; 2 wrong use.
+
+example: wtools wrewrite in.wasm out.wasm";
+
+/// What is printed where no program is run.
+#[derive(Clone, Copy)]
+enum Page {
+    Help,
+    Version,
+}
+
+/// The page that the first word requests, which names no program.
+fn requested_page(words: &[String]) -> Result<Page, UsageError<'_>> {
+    let Some(word) = words.first() else {
+        return Err(UsageError::NoProgram);
+    };
+    match word.as_str() {
+        "-h" | "--help" => Ok(Page::Help),
+        "-V" | "--version" => Ok(Page::Version),
+        name => Err(UsageError::UnknownProgram(name)),
+    }
+}
+
+/// Prints the page that the words request, or that they are wrong, and returns the status.
+fn print_page(rt: &(impl Print + Eprint), words: &[String]) -> io::Result<ExitCode>
+    ensures { IfOk result (λ code. exit_status code ≤ 2) }
+{
+    match requested_page(words) {
+        Ok(Page::Help) => println!(rt; "{HELP}")?,
+        Ok(Page::Version) => println!(rt; "{NAME} {VERSION} (wrewrite, wsnip, wcount)")?,
+        Err(wrong) => return Ok(exit_code(rt, NAME, Failure::UsageError(wrong))),
+    }
+    Ok(ExitCode::SUCCESS)
+}
+
+/// Runs none of the programs, and returns the status.
+fn run_none<R: Env + Print + Eprint + AllocGlobal>(rt: &R) -> io::Result<ExitCode>
+    ensures { IfOk result (λ code. exit_status code ≤ 2) }
+{
+    match words(rt, 1) {
+        Ok(words) => print_page(rt, &words),
+        Err(failure) => Ok(exit_code(rt, NAME, failure)),
+    }
+}
+
+/// Runs the program that is asked for, and returns the status, which is `run`'s.
+fn run_asked<R: Files + Input + Env + Clock + Print + Eprint + AllocGlobal + Drop>(
+    rt: &R,
+    terminals: Terminals,
+) -> io::Result<ExitCode>
+    ensures { IfOk result (λ code. exit_status code ≤ 2) }
+{
+    match asked(rt) {
+        Some((Chosen::Rewrite, first)) => {
+            run(rt, &RewriteAll, &rewriting::PROGRAM, first, terminals)
+        }
+        Some((Chosen::Snip, first)) => run(rt, &Snip, &snipping::PROGRAM, first, terminals),
+        Some((Chosen::Count, first)) => run(rt, &Count, &counting::PROGRAM, first, terminals),
+        None => run_none(rt),
+    }
+}
+
+fn main(rt: HostRuntime) -> io::Result<ExitCode> {
+    let terminals = Terminals {
+        output: rt.stdout().is_terminal(),
+        errors: rt.stderr().is_terminal(),
+    };
+    run_asked(&rt, terminals)
+}
