@@ -1,4 +1,4 @@
-//! The programs `wrewrite`, `wsnip` and `wcount` in one. It runs as the one under whose name it is
+//! The programs `wrewrite`, `wsnip` and `wcount`, and the benchmark `wbench`, in one. It runs as the one under whose name it is
 //! started, as by a link or a copy, or else as the one that its first word names.
 #![tactic(auto)]
 
@@ -6,11 +6,13 @@ ghost use Rattle.std.specs.Prelude.{◌≤◌, IfOk};
 ghost use Rattle.std.specs.Process.{exit_status};
 
 mod counting;
+mod measuring;
 mod naming;
 mod rewriting;
 mod snipping;
 
 use counting::Count;
+use measuring::run_passes;
 use module_tools::{Failure, Terminals, UsageError, VERSION, exit_code, run, words};
 use naming::{Chosen, asked};
 use rewriting::RewriteAll;
@@ -25,12 +27,14 @@ const NAME: &str = "wtools";
 
 const HELP: &str = "usage: wtools PROGRAM [WORD]..
 
-Three programs in one, which read a WebAssembly module and write one. Under the name of one
-of them, as that of a link or a copy, it runs as that one, and PROGRAM is left out.
+Three programs in one, which read a WebAssembly module and write one, and a benchmark. Under
+the name of one of them, as that of a link or a copy, it runs as that one, and PROGRAM is left out.
 
   wrewrite       rewrites each function, in the shortest spellings
   wsnip          leaves nothing but `unreachable` of functions that are named
   wcount         lets each function count its calls
+
+  wbench         passes over the bodies of a module, to measure them
 
   -h, --help     print this; after PROGRAM, which words it takes
   -V, --version  print the version
@@ -64,7 +68,7 @@ fn print_page(rt: &(impl Print + Eprint), words: &[String]) -> io::Result<ExitCo
 {
     match requested_page(words) {
         Ok(Page::Help) => println!(rt; "{HELP}")?,
-        Ok(Page::Version) => println!(rt; "{NAME} {VERSION} (wrewrite, wsnip, wcount)")?,
+        Ok(Page::Version) => println!(rt; "{NAME} {VERSION} (wrewrite, wsnip, wcount, wbench)")?,
         Err(wrong) => return Ok(exit_code(rt, NAME, Failure::UsageError(wrong))),
     }
     Ok(ExitCode::SUCCESS)
@@ -93,6 +97,7 @@ fn run_asked<R: Files + Input + Env + Clock + Print + Eprint + AllocGlobal + Dro
         }
         Some((Chosen::Snip, first)) => run(rt, &Snip, &snipping::PROGRAM, first, terminals),
         Some((Chosen::Count, first)) => run(rt, &Count, &counting::PROGRAM, first, terminals),
+        Some((Chosen::Measure, first)) => run_passes(rt, first),
         None => run_none(rt),
     }
 }

@@ -20,6 +20,8 @@ pub enum Chosen {
     Snip,
     /// `wcount`.
     Count,
+    /// `wbench`.
+    Measure,
 }
 
 impl Chosen {
@@ -32,6 +34,7 @@ impl Chosen {
             "wrewrite" => Some(Chosen::Rewrite),
             "wsnip" => Some(Chosen::Snip),
             "wcount" => Some(Chosen::Count),
+            "wbench" => Some(Chosen::Measure),
             _ => None,
         }
     }

@@ -1,11 +1,17 @@
-//! The program `wbench`: passes over the bodies of a module, to measure what a pass costs
-//! (docs/PERFORMANCE.md).
-#![tactic(auto)]
+//! `wbench`: passes over the bodies of a module, to measure what a pass costs.
 
-use module_tools::read_file;
+ghost use Rattle.std.specs.Prelude.{◌≤◌, IfOk};
+ghost use Rattle.std.specs.Process.{exit_status};
+
+use module_tools::{exit_code, read_file, words};
+use std::alloc::Global;
+use std::io;
 use std::process::ExitCode;
-use std::{env, io};
+use std::rt::{Env, Files};
 use wasm_module::{Body, ModuleError, ParsedModule, Scratch};
+
+/// Its name, with which its messages begin.
+const NAME: &str = "wbench";
 
 const USAGE: &str = "usage: wbench parse|rewrite|map PASSES IN.wasm";
 
@@ -120,59 +126,83 @@ fn count_bytes(parsed: &ParsedModule<'_>) -> usize {
     count
 }
 
-/// Measures a module, and prints how many bodies and bytes it has, and the sum of the passes.
-fn measure(
-    rt: &HostRuntime,
+/// What is printed of a module that was measured: how many bodies and bytes it has, and the sum of
+/// the passes.
+#[derive(Clone, Copy)]
+struct Measured {
+    bodies: usize,
+    bytes: usize,
+    sum: usize,
+}
+
+/// Measures a module.
+fn measure(alloc: Global, task: Task<'_>, bytes: &[u8]) -> Result<Measured, ModuleError> {
+    let mut parsed = match ParsedModule::read(alloc, bytes) {
+        Ok(parsed) => parsed,
+        Err(error) => return Err(error),
+    };
+    let mut scratch = Scratch::new(alloc);
+    match pass_all(task, &mut parsed, &mut scratch) {
+        Ok(sum) => Ok(Measured {
+            bodies: parsed.body_count(),
+            bytes: count_bytes(&parsed),
+            sum,
+        }),
+        Err(error) => Err(error),
+    }
+}
+
+/// Measures a module, prints what it found or why it found nothing, and returns the status.
+fn print_measured<R: Print + Eprint + AllocGlobal>(
+    rt: &R,
     task: Task<'_>,
-    parsed: &mut ParsedModule<'_>,
-) -> io::Result<ExitCode> {
-    let mut scratch = Scratch::new(rt.alloc());
-    match pass_all(task, parsed, &mut scratch) {
-        Ok(sum) => {
-            let (bodies, bytes) = (parsed.body_count(), count_bytes(parsed));
+    bytes: &[u8],
+) -> io::Result<ExitCode>
+    ensures { IfOk result (λ code. exit_status code ≤ 2) }
+{
+    match measure(rt.alloc(), task, bytes) {
+        Ok(Measured { bodies, bytes, sum }) => {
             println!(rt; "{bodies} bodies, {bytes} bytes, sum {sum}")?;
             Ok(ExitCode::SUCCESS)
         }
         Err(error) => {
-            eprintln!(rt; "wbench: {error}")?;
+            eprintln!(rt; "{NAME}: {error}")?;
             Ok(ExitCode::FAILURE)
         }
     }
 }
 
-fn read_and_measure(rt: &HostRuntime, task: Task<'_>, bytes: &[u8]) -> io::Result<ExitCode> {
-    match ParsedModule::read(rt.alloc(), bytes) {
-        Ok(mut parsed) => measure(rt, task, &mut parsed),
-        Err(error) => {
-            eprintln!(rt; "wbench: {error}")?;
-            Ok(ExitCode::FAILURE)
-        }
-    }
-}
-
-fn run(rt: &HostRuntime, words: &[String]) -> io::Result<ExitCode> {
+/// Does what the words ask for, and returns the status.
+fn run_words<R: Files + Input + Print + Eprint + AllocGlobal>(
+    rt: &R,
+    words: &[String],
+) -> io::Result<ExitCode>
+    ensures { IfOk result (λ code. exit_status code ≤ 2) }
+{
     let Some(task) = Task::of(words) else {
         eprintln!(rt; "{USAGE}")?;
         return Ok(ExitCode::from(2));
     };
     match read_file(rt, task.path) {
-        Ok(bytes) => read_and_measure(rt, task, &bytes),
-        Err(stop) => {
-            eprintln!(rt; "wbench: {stop}")?;
-            Ok(ExitCode::FAILURE)
-        }
+        Ok(bytes) => print_measured(rt, task, &bytes),
+        Err(failure) => Ok(exit_code(rt, NAME, failure)),
     }
 }
 
-fn words(rt: &HostRuntime) -> io::Result<Vec<String>> {
-    let mut words = Vec::new(rt.alloc());
-    for word in env::args(rt)?.skip(1) {
-        words.push(word)?;
+/// Runs `wbench` over the arguments from this place on, and returns its status: 0 where the module
+/// is measured, 1 where it or a body is refused, 2 for wrong use.
+///
+/// # Errors
+///
+/// Where a line can't be printed.
+pub fn run_passes<R: Files + Input + Env + Print + Eprint + AllocGlobal>(
+    rt: &R,
+    first: usize,
+) -> io::Result<ExitCode>
+    ensures { IfOk result (λ code. exit_status code ≤ 2) }
+{
+    match words(rt, first) {
+        Ok(words) => run_words(rt, &words),
+        Err(failure) => Ok(exit_code(rt, NAME, failure)),
     }
-    Ok(words)
-}
-
-fn main(rt: HostRuntime) -> io::Result<ExitCode> {
-    let words = words(&rt)?;
-    run(&rt, &words)
 }
