@@ -10,7 +10,7 @@ use Rattle.walrus_context.specs.OpenFrames.{OpenFrame, changed_at, with_instr}
 use Rattle.walrus_context.specs.OpenTrees.{OpenTrees}
 use Rattle.walrus_parser.specs.declared.body_parser.BodyParser.{BodyParser}
 use Rattle.walrus_parser.specs.OperatorKinds.{is_diverging}
-use Rattle.walrus_parser.specs.BodyParsers.{TakesAtOnce, placed_in, taking}
+use Rattle.walrus_parser.specs.BodyParsers.{TakesAtOnce, placed_in, with_appended}
 use Rattle.walrus_parser.proofs.SingleInstructions.{appended_alone, same_body}
 use Rattle.walrus_parser.proofs.Roles.{fate_by, fate_of_operator}
 use Rattle.std.specs.Prelude.{Some}
@@ -23,7 +23,7 @@ some_changed change (f ∷ fs) some = (let z : 0 < length (change f ∷ fs) = om
 module _ (old : BodyParser) (o : Listed) (i : Instr) (location : ℕ) (diverging : Bool) (kind : is_instruction o ≡ true) (diverges : diverging ≡ is_diverging o) (placed : placed_in old (meaning o) ≡ Ok (operation_of i))
     (plain : (slots_in i ≡ []) × (clauses_of_try i ≡ [])) where
   -- The instruction is in the innermost frame, which is dead if it cuts.
-  pub taken_at_once : (new : OpenTrees) → (0 < length old.context.frames) × (new ≡ record old.context { frames = changed_at 0 (taking (i, location) diverging) old.context.frames }) →
+  pub taken_at_once : (new : OpenTrees) → (0 < length old.context.frames) × (new ≡ record old.context { frames = changed_at 0 (with_appended (i, location) diverging) old.context.frames }) →
       TakesAtOnce old (record old { context = new }) (meaning o) location true
   taken_at_once new changes =
       let role = fate_of_operator o kind ∙ ap (λ b. Some (fate_by b)) (sym diverges) in (
@@ -33,10 +33,10 @@ module _ (old : BodyParser) (o : Listed) (i : Instr) (location : ℕ) (diverging
 
 -- the effect of an instruction after which the frame isn't dead
 pub stays_alive : (old new : OpenTrees) (i : Instr) (location : ℕ) (diverging : Bool) → diverging ≡ false → (0 < length old.frames) × (new ≡ record old { frames = changed_at 0 (with_instr (i, location)) old.frames }) →
-    (0 < length old.frames) × (new ≡ record old { frames = changed_at 0 (taking (i, location) diverging) old.frames })
+    (0 < length old.frames) × (new ≡ record old { frames = changed_at 0 (with_appended (i, location) diverging) old.frames })
 stays_alive old new i location diverging alive changes =
-    (changes.0, changes.1 ∙ ap (λ fs. record old { frames = fs }) (by_frames old.frames ∙ ap (λ b. changed_at 0 (taking (i, location) b) old.frames) (sym alive)))
+    (changes.0, changes.1 ∙ ap (λ fs. record old { frames = fs }) (by_frames old.frames ∙ ap (λ b. changed_at 0 (with_appended (i, location) b) old.frames) (sym alive)))
   where
-    by_frames : (fs : List OpenFrame) → changed_at 0 (with_instr (i, location)) fs ≡ changed_at 0 (taking (i, location) false) fs
+    by_frames : (fs : List OpenFrame) → changed_at 0 (with_instr (i, location)) fs ≡ changed_at 0 (with_appended (i, location) false) fs
     by_frames [] = refl
     by_frames (f ∷ fs) = refl
