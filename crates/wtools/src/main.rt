@@ -1,5 +1,6 @@
-//! The programs `wrewrite`, `wsnip` and `wcount`, and the benchmark `wbench`, in one. It runs as the one under whose name it is
-//! started, as by a link or a copy, or else as the one that its first word names.
+//! The programs `wrewrite`, `wsnip` and `wcount`, and the benchmark `wbench`, in one. It runs as the
+//! one under whose name it is started, as by a link or a copy, or else as the one that its first word
+//! names.
 #![tactic(auto)]
 
 ghost use Rattle.std.specs.Prelude.{◌≤◌, IfOk};
@@ -27,14 +28,14 @@ const NAME: &str = "wtools";
 
 const HELP: &str = "usage: wtools PROGRAM [WORD]..
 
-Three programs in one, which read a WebAssembly module and write one, and a benchmark. Under
-the name of one of them, as that of a link or a copy, it runs as that one, and PROGRAM is left out.
+Three programs in one, which read a WebAssembly module and write one, and a benchmark.
+Under the name of one of them, as that of a link or a copy, it runs as that one, and
+PROGRAM is left out.
 
   wrewrite       rewrites each function, in the shortest spellings
   wsnip          leaves nothing but `unreachable` of functions that are named
   wcount         lets each function count its calls
-
-  wbench         passes over the bodies of a module, to measure them
+  wbench         passes over the bodies of a module, to measure what a pass costs
 
   -h, --help     print this; after PROGRAM, which words it takes
   -V, --version  print the version
