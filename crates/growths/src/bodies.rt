@@ -1,14 +1,19 @@
-//! The demo module, its function 0, bodies of that function, and the scenarios over them.
+//! The demo module with locals of more types, its function 0, bodies of that function, and the scenarios over them.
 ghost use Rattle.std.specs.Prelude.{◌≡◌, ◌≤◌, ◌<◌, ◌+◌, ◌^◌, length};
 
+use crate::maps::push_new;
 use crate::scenario::Selection;
 use crate::{body_calls, contexts, function_calls, no_memory, runs};
 use std::alloc::{AllocError, Global};
 use std::io;
 use walrus_body::{
-    AcceptAll, FunctionBody, IdsToIndices, IndicesToIds, LocalFunction, OpCheck, ParseFailure,
+    AcceptAll, FunctionBody, IdsToIndices, IndexError, IndicesToIds, LocalFunction, OpCheck,
+    ParseFailure, Space,
 };
-use walrus_ir::{FunctionId, InstrLocId, LocalId, Module, TypeId};
+use walrus_ir::{
+    AbstractHeapType, DataId, FunctionId, HeapType, InstrLocId, LocalId, Module, ModuleLocals,
+    RefType, TypeId, ValType,
+};
 use walrus_run::demo;
 
 /// The rows with a body that is accepted: its bytes, in hexadecimal. It has no declarations.
@@ -107,6 +112,92 @@ impl<'a> Demo<'a> {
     }
 }
 
+/// How many locals the module has.
+pub(crate) const LOCALS: usize = 16;
+
+fn reference(nullable: bool, heap_type: HeapType) -> ValType {
+    ValType::Ref(RefType {
+        nullable,
+        heap_type,
+    })
+}
+
+/// The type of a local after the first four. The type 4 has no new index.
+fn local_type(local: usize) -> ValType {
+    let function = HeapType::Abstract(AbstractHeapType::Func);
+    match local {
+        4 => ValType::F64,
+        5 | 14 => reference(true, function),
+        6 => reference(false, function),
+        7 => ValType::I32,
+        8 => reference(true, HeapType::Abstract(AbstractHeapType::Extern)),
+        9 => reference(true, HeapType::Concrete(TypeId::new(2))),
+        10 => reference(true, HeapType::Concrete(TypeId::new(1))),
+        11 => reference(false, HeapType::Concrete(TypeId::new(4))),
+        12 => ValType::F32,
+        13 => ValType::V128,
+        _ => reference(false, HeapType::Concrete(TypeId::new(1))),
+    }
+}
+
+/// Adds the locals after the demo module's four.
+fn add_locals(locals: &mut ModuleLocals) -> Result<(), AllocError> {
+    for local in 4..LOCALS {
+        locals.add(local_type(local))?;
+    }
+    Ok(())
+}
+
+/// Gives old indices to a function and a data segment without new indices, and gives the function 0
+/// its locals, of which the last isn't in the module.
+fn push_others(indices: &mut IndicesToIds) -> Result<(), IndexError> {
+    indices.push_func(FunctionId::new(12))?;
+    indices.push_data(DataId::new(6))?;
+    for local in 0..LOCALS {
+        indices.push_local(FunctionId::new(0), LocalId::new(local))?;
+    }
+    indices.push_local(FunctionId::new(0), LocalId::new(99))?;
+    Ok(())
+}
+
+/// The ids of the module's old indices.
+fn indices(alloc: Global) -> Result<IndicesToIds, IndexError> {
+    let mut indices = demo::indices_of_items(alloc)?;
+    push_others(&mut indices)?;
+    Ok(indices)
+}
+
+/// The items that have new indices, in the order of these.
+const NUMBERED: [(Space, usize); 13] = [
+    (Space::Types, 0),
+    (Space::Types, 2),
+    (Space::Types, 1),
+    (Space::Types, 3),
+    (Space::Funcs, 1),
+    (Space::Funcs, 0),
+    (Space::Tables, 0),
+    (Space::Globals, 0),
+    (Space::Memories, 0),
+    (Space::Elements, 0),
+    (Space::Data, 0),
+    (Space::Tags, 0),
+    (Space::Tags, 1),
+];
+
+fn push_numbers(numbers: &mut IdsToIndices) -> Result<(), IndexError> {
+    for (space, id) in &NUMBERED {
+        push_new(numbers, *space, *id)?;
+    }
+    Ok(())
+}
+
+/// The new indices of the module's items.
+pub(crate) fn numbers(alloc: Global) -> Result<IdsToIndices, IndexError> {
+    let mut numbers = IdsToIndices::new(alloc);
+    push_numbers(&mut numbers)?;
+    Ok(numbers)
+}
+
 /// Runs the scenarios over the demo module that are selected.
 fn run_over(selection: Selection<'_>, demo: &Demo<'_>) -> io::Result<()> {
     contexts::run(selection, demo)?;
@@ -124,7 +215,7 @@ fn run_with_indices(
 ) -> io::Result<()>
     requires { «module».now.code_section_offset ≡ 90 }
 {
-    match demo::numbers(selection.alloc()) {
+    match numbers(selection.alloc()) {
         Ok(numbers) => {
             let demo = Demo {
                 module,
@@ -143,7 +234,7 @@ fn run_with_indices(
 fn run_with_module(selection: Selection<'_>, module: &Module) -> io::Result<()>
     requires { «module».now.code_section_offset ≡ 90 }
 {
-    match demo::indices(selection.alloc()) {
+    match indices(selection.alloc()) {
         Ok(indices) => run_with_indices(selection, module, &indices),
         Err(_) => Err(io::Error::from(AllocError)),
     }
@@ -152,6 +243,7 @@ fn run_with_module(selection: Selection<'_>, module: &Module) -> io::Result<()>
 /// Runs the scenarios over the demo module that are selected.
 pub(crate) fn run(selection: Selection<'_>) -> io::Result<()> {
     let mut module = demo::module(selection.alloc())?;
+    add_locals(&mut module.locals)?;
     module.code_section_offset = 90;
     run_with_module(selection, &module)
 }

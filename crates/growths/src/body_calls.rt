@@ -43,6 +43,10 @@ enum Kind {
     Parse,
     ParseKeeping,
     Rewrite,
+    /// With a location function, which returns twice the place.
+    RewriteLocated,
+    /// Without a list of pairs.
+    RewriteAlone,
     Read,
 }
 
@@ -110,25 +114,56 @@ pub(crate) fn read(
     )
 }
 
+/// Twice the place of an operator of these bodies.
+fn doubled(place: usize) -> InstrLocId {
+    InstrLocId::new((place % 1_000_000_000) as u32 * 2)
+}
+
+/// Rewrites a body, with a location function if it is located.
+fn rewrite_into(
+    demo: &Demo<'_>,
+    args: Vec<LocalId>,
+    source: &[u8],
+    is_located: bool,
+    bytes: &mut Vec<u8>,
+    map: Option<&mut Vec<(InstrLocId, usize)>>,
+) -> Result<LocalFunction, RewriteError> {
+    let mut instrs = Vec::new(*args.allocator());
+    let locate = |place: &usize| doubled(*place);
+    rewrite_body(
+        demo.module,
+        demo.indices,
+        demo.function,
+        demo.ty,
+        args,
+        body(source),
+        if is_located { Some(&locate) } else { None },
+        AcceptAll,
+        &mut instrs,
+        demo.numbers,
+        bytes,
+        map,
+    )
+}
+
 impl OfBody<'_> {
-    /// Rewrites the body into the lists.
-    fn rewrite(&mut self, args: Vec<LocalId>, returned: &mut String) -> Result<(), AllocError> {
-        let mut instrs = Vec::new(*args.allocator());
-        let rewritten = rewrite_body(
-            self.demo.module,
-            self.demo.indices,
-            self.demo.function,
-            self.demo.ty,
-            args,
-            body(self.source),
-            None::<&fn(&usize) -> InstrLocId>,
-            AcceptAll,
-            &mut instrs,
-            self.demo.numbers,
-            &mut self.bytes,
-            Some(&mut self.pairs),
-        );
-        match rewritten {
+    /// Rewrites the body into the lists, or into that of the bytes alone.
+    fn rewrite(&mut self, args: Vec<LocalId>) -> Result<LocalFunction, RewriteError> {
+        let (demo, source, bytes) = (self.demo, self.source, &mut self.bytes);
+        let map = &mut self.pairs;
+        match self.kind {
+            Kind::RewriteAlone => rewrite_into(demo, args, source, false, bytes, None),
+            Kind::RewriteLocated => rewrite_into(demo, args, source, true, bytes, Some(map)),
+            _ => rewrite_into(demo, args, source, false, bytes, Some(map)),
+        }
+    }
+
+    fn push_rewritten(
+        &mut self,
+        args: Vec<LocalId>,
+        returned: &mut String,
+    ) -> Result<(), AllocError> {
+        match self.rewrite(args) {
             Ok(function) => push_function(returned, &function),
             Err(error) => push_rewrite_error(returned, error),
         }
@@ -164,8 +199,8 @@ impl Scenario for OfBody<'_> {
                 let places = Vec::new(alloc);
                 self.parse(args, Keeping { places }, returned)
             }
-            Kind::Rewrite => self.rewrite(arguments(alloc)?, returned),
             Kind::Read => self.read(returned),
+            _ => self.push_rewritten(arguments(alloc)?, returned),
         }
     }
 
@@ -180,6 +215,124 @@ const CALLS: [(&str, Kind); 4] = [
     ("LocalFunction::parse-keeping", Kind::ParseKeeping),
     ("rewrite_body", Kind::Rewrite),
     ("NamedBody::read", Kind::Read),
+];
+
+/// The other rows of `rewrite_body`: a body, and how it is rewritten.
+const REWRITTEN: [(&str, &str, &str, Kind); 37] = [
+    // An `else` that says nothing is left out.
+    ("rewrite_body", "else", "0041010440050b0b", Kind::Rewrite),
+    (
+        "rewrite_body",
+        "short-if",
+        "004101044005010b0b",
+        Kind::Rewrite,
+    ),
+    // An `else` is added to an `if` with a result.
+    (
+        "rewrite_body",
+        "added-else",
+        "004101047f41020b1a0b",
+        Kind::Rewrite,
+    ),
+    // A constant of two bytes becomes one of one byte.
+    ("rewrite_body", "long", "00014181001a0b", Kind::Rewrite),
+    (
+        "rewrite_body",
+        "arms",
+        "0041010440d2011a05d2011ad2001a0bfc090020011a20001a0b",
+        Kind::Rewrite,
+    ),
+    // Locals of several types.
+    (
+        "rewrite_body",
+        "types",
+        "0020061a20011a20041a20051a20071a20031a200e1a0b",
+        Kind::Rewrite,
+    ),
+    // Dropped code is neither declared nor written.
+    ("rewrite_body", "dead", "0020031a0f20011a0b", Kind::Rewrite),
+    (
+        "rewrite_body-located",
+        "if",
+        "00410104400b0b",
+        Kind::RewriteLocated,
+    ),
+    (
+        "rewrite_body-alone",
+        "locals",
+        "0020011a20031a0b",
+        Kind::RewriteAlone,
+    ),
+    (
+        "rewrite_body-alone",
+        "unnumbered",
+        "0010020b",
+        Kind::RewriteAlone,
+    ),
+    // A fault of the parse comes first, then those of declarations, of writing last.
+    (
+        "rewrite_body",
+        "label-first",
+        "001002200b1a0c050b",
+        Kind::Rewrite,
+    ),
+    (
+        "rewrite_body",
+        "unknown-local",
+        "001002200b1a20101a0b",
+        Kind::Rewrite,
+    ),
+    (
+        "rewrite_body",
+        "untyped-local",
+        "001002200b1a0b",
+        Kind::Rewrite,
+    ),
+    (
+        "rewrite_body",
+        "unnumbered",
+        "00411020011a10020b",
+        Kind::Rewrite,
+    ),
+    // Bodies that can't be parsed.
+    ("rewrite_body", "empty", "", Kind::Rewrite),
+    ("rewrite_body", "ended", "00", Kind::Rewrite),
+    ("rewrite_body", "trailing", "000b0b", Kind::Rewrite),
+    ("rewrite_body", "cut", "0041", Kind::Rewrite),
+    ("rewrite_body", "cut-later", "000f41", Kind::Rewrite),
+    (
+        "rewrite_body",
+        "number",
+        "004180808080701a0b",
+        Kind::Rewrite,
+    ),
+    ("rewrite_body", "type-index", "0002040b0b", Kind::Rewrite),
+    ("rewrite_body", "type", "0002500b0b", Kind::Rewrite),
+    (
+        "rewrite_body",
+        "alignment",
+        "0041002820001a0b",
+        Kind::Rewrite,
+    ),
+    (
+        "rewrite_body",
+        "long-alignment",
+        "00288001000b",
+        Kind::Rewrite,
+    ),
+    ("rewrite_body", "memory", "00284101000b", Kind::Rewrite),
+    ("rewrite_body", "select", "001c027f7f0b", Kind::Rewrite),
+    ("rewrite_body", "operator", "00fc12000b", Kind::Rewrite),
+    ("rewrite_body", "global", "0023010b", Kind::Rewrite),
+    ("rewrite_body", "data", "00fc088200000b", Kind::Rewrite),
+    ("rewrite_body", "labels", "000e0200", Kind::Rewrite),
+    ("rewrite_body", "heap-type", "00d0640b", Kind::Rewrite),
+    ("rewrite_body", "fence", "00fe03010b", Kind::Rewrite),
+    ("rewrite_body", "cast", "00fb180400700b", Kind::Rewrite),
+    ("rewrite_body", "local", "0020110b", Kind::Rewrite),
+    ("rewrite_body", "clause", "001f400104000b0b", Kind::Rewrite),
+    ("rewrite_body", "tag", "001f40010005090b0b", Kind::Rewrite),
+    ("rewrite_body", "function", "0010030b", Kind::Rewrite),
 ];
 
 /// Runs the scenario of a call on a body.
@@ -212,6 +365,18 @@ fn run_row(selection: Selection<'_>, demo: &Demo<'_>, row: &str, digits: &str) -
     Ok(())
 }
 
+fn run_digits(
+    selection: Selection<'_>,
+    demo: &Demo<'_>,
+    call: &str,
+    row: &str,
+    digits: &str,
+    kind: Kind,
+) -> io::Result<()> {
+    let source = bytes_of(selection.alloc(), digits)?;
+    run_one(selection, demo, call, row, &source, kind)
+}
+
 /// Runs the scenarios of these calls that are selected.
 pub(crate) fn run(selection: Selection<'_>, demo: &Demo<'_>) -> io::Result<()> {
     for (row, digits) in &ACCEPTED {
@@ -219,6 +384,9 @@ pub(crate) fn run(selection: Selection<'_>, demo: &Demo<'_>) -> io::Result<()> {
     }
     for (row, digits) in &REFUSED {
         run_row(selection, demo, row, digits)?;
+    }
+    for (call, row, digits, kind) in &REWRITTEN {
+        run_digits(selection, demo, call, row, digits, *kind)?;
     }
     Ok(())
 }

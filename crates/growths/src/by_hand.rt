@@ -4,8 +4,8 @@ use crate::bodies::arguments;
 use std::alloc::{AllocError, Global};
 use walrus_body::LocalFunction;
 use walrus_ir::{
-    Block, Br, FunctionBuilder, Instr, InstrLocId, InstrSeqId, InstrSeqType, LegacyCatch, TagId,
-    Try, TypeId,
+    Block, Br, BrTable, FunctionBuilder, Instr, InstrLocId, InstrSeqId, InstrSeqType, LegacyCatch,
+    LocalGet, LocalId, TagId, Try, TypeId,
 };
 
 /// What is wrong with a function.
@@ -17,13 +17,29 @@ pub(crate) enum Wrong {
     Outside,
     /// A clause follows the one that catches all.
     Clauses,
+    /// A sequence isn't in the function.
+    Unknown,
+    /// A label of a `br_table` goes to a sequence that isn't around it.
+    Table,
+    /// It has no entry.
+    NoEntry,
+    /// Its entry isn't in the function.
+    OtherEntry,
 }
 
 /// The rows of these functions.
-pub(crate) const WRONG: [(&str, Wrong); 3] = [
+pub(crate) const WRONG: [(&str, Wrong); 5] = [
     ("shared", Wrong::Shared),
     ("outside", Wrong::Outside),
     ("clauses", Wrong::Clauses),
+    ("unknown", Wrong::Unknown),
+    ("label", Wrong::Table),
+];
+
+/// Those without an entry.
+pub(crate) const WITHOUT_ENTRY: [(&str, Wrong); 2] = [
+    ("no-entry", Wrong::NoEntry),
+    ("other-entry", Wrong::OtherEntry),
 ];
 
 /// Clauses for a tag, after one that catches all.
@@ -38,12 +54,24 @@ fn clauses(alloc: Global) -> Result<Vec<LegacyCatch>, AllocError> {
     Ok(vec![in alloc; first, last]?)
 }
 
-/// The instruction of the entry.
+/// A table of labels. The first and the default go to the entry, the second to another sequence.
+fn table(alloc: Global) -> Result<BrTable, AllocError> {
+    let default = InstrSeqId::new(0);
+    let blocks = vec![in alloc; default, InstrSeqId::new(1)]?;
+    Ok(BrTable { blocks, default })
+}
+
+/// The first instruction.
 fn wrong_instr(alloc: Global, wrong: Wrong) -> Result<Instr, AllocError> {
     let entry = InstrSeqId::new(0);
     let other = InstrSeqId::new(1);
     let instr = match wrong {
+        Wrong::NoEntry | Wrong::OtherEntry => Instr::Drop,
         Wrong::Shared => Instr::Block(Block { seq: entry }),
+        Wrong::Unknown => Instr::Block(Block {
+            seq: InstrSeqId::new(7),
+        }),
+        Wrong::Table => Instr::BrTable(table(alloc)?),
         Wrong::Outside => Instr::Br(Br { block: other }),
         Wrong::Clauses => Instr::Try(Try {
             seq: other,
@@ -53,19 +81,47 @@ fn wrong_instr(alloc: Global, wrong: Wrong) -> Result<Instr, AllocError> {
     Ok(instr)
 }
 
-/// Gives a function four sequences. The first is its entry and has the instruction.
+/// The entry that is set.
+fn entry(wrong: Wrong) -> Option<InstrSeqId> {
+    match wrong {
+        Wrong::NoEntry => None,
+        Wrong::OtherEntry => Some(InstrSeqId::new(9)),
+        _ => Some(InstrSeqId::new(0)),
+    }
+}
+
+/// Appends the instruction to a sequence, after an unknown local if the function has an unknown
+/// sequence too, whose fault comes first.
+fn put(
+    instrs: &mut Vec<(Instr, InstrLocId)>,
+    wrong: Wrong,
+    instr: Instr,
+) -> Result<(), AllocError> {
+    let location = InstrLocId::new(1);
+    if let Wrong::Unknown = wrong {
+        let local = LocalId::new(99);
+        let first = Instr::LocalGet(LocalGet { local });
+        instrs.push((first, location))?;
+    }
+    instrs.push((instr, location))?;
+    Ok(())
+}
+
+/// Gives a function four sequences, of which the first has the instruction, and its entry.
 fn fill(alloc: Global, builder: &mut FunctionBuilder, wrong: Wrong) -> Result<(), AllocError> {
     for _ in 0..4 {
         builder.alloc(InstrSeqType::Simple(None))?;
     }
+    if let Some(entry) = entry(wrong) {
+        builder.set_entry(entry);
+    }
     let first = InstrSeqId::new(0);
-    builder.set_entry(first);
     if builder.has(first) {
         let instr = wrong_instr(alloc, wrong)?;
-        let location = InstrLocId::new(1);
-        builder.seq_mut(first).instrs.push((instr, location))?;
+        put(&mut builder.seq_mut(first).instrs, wrong, instr)
+    } else {
+        Ok(())
     }
-    Ok(())
 }
 
 /// The function that has this fault. Its argument is local 0, which it doesn't use.

@@ -3,14 +3,27 @@
 use crate::scenario::{Scenario, Selection, push_bytes};
 use std::alloc::{AllocError, Global};
 use std::io;
-use wasm_encode::{FunctionEncoder, OutOp, OutTable, write_op};
-use wasm_ops::RawValType;
+use walrus_ir::LoadKind;
+use wasm_encode::{FunctionEncoder, OutClauses, OutOp, OutTable, write_op};
+use wasm_ops::{BlockType, RawCatch, RawMemArg, RawValType};
+
+/// An operator without lists.
+#[derive(Clone, Copy)]
+enum Plain {
+    Const,
+    Load,
+    Loop,
+    If,
+    BrIf,
+    CallIndirect,
+}
 
 /// Which call is made.
 #[derive(Clone, Copy)]
 enum Kind {
-    Const,
+    Plain(Plain),
     Table,
+    Clauses,
     New,
     Instruction,
     Raw,
@@ -24,8 +37,29 @@ struct Output {
     kind: Kind,
 }
 
-fn write_const(bytes: &mut Vec<u8>) -> Result<(), AllocError> {
-    write_op(&OutOp::I32Const { value: 624485 }, bytes)
+fn load() -> OutOp<'static> {
+    let kind = LoadKind::I32 { atomic: false };
+    let memarg = RawMemArg {
+        exponent: 2,
+        memory: 0,
+        offset: 4294967296,
+    };
+    OutOp::Load { kind, memarg }
+}
+
+fn operator(plain: Plain) -> OutOp<'static> {
+    match plain {
+        Plain::Const => OutOp::I32Const { value: 624485 },
+        Plain::Load => load(),
+        Plain::Loop => OutOp::Loop {
+            ty: BlockType::FuncType(64),
+        },
+        Plain::If => OutOp::If {
+            ty: BlockType::Value(RawValType::F64),
+        },
+        Plain::BrIf => OutOp::BrIf { label: 128 },
+        Plain::CallIndirect => OutOp::CallIndirect { ty: 3, table: 1 },
+    }
 }
 
 fn add_instruction(encoder: &mut FunctionEncoder) -> Result<(), AllocError> {
@@ -38,6 +72,22 @@ fn write_table(bytes: &mut Vec<u8>) -> Result<(), AllocError> {
     write_op(&OutOp::BrTable(OutTable { targets, default }), bytes)
 }
 
+/// A clause with this tag, or one that catches all and passes a reference.
+fn clause(tag: Option<u32>, label: u32) -> RawCatch {
+    RawCatch {
+        by_reference: tag.is_none(),
+        tag,
+        label,
+    }
+}
+
+fn write_clauses(bytes: &mut Vec<u8>) -> Result<(), AllocError> {
+    let clauses = &[clause(Some(5), 0), clause(None, 2)];
+    let ty = BlockType::Empty;
+    let catches = OutClauses { clauses };
+    write_op(&OutOp::TryTable { ty, catches }, bytes)
+}
+
 /// Appends the bytes of an encoder of five declarations.
 fn push_declaring(text: &mut String, alloc: Global) -> Result<(), AllocError> {
     let encoder = FunctionEncoder::new(alloc, &[(2, RawValType::I64); 5])?;
@@ -47,8 +97,9 @@ fn push_declaring(text: &mut String, alloc: Global) -> Result<(), AllocError> {
 impl Scenario for Output {
     fn call(&mut self, returned: &mut String) -> Result<(), AllocError> {
         match self.kind {
-            Kind::Const => write_const(&mut self.bytes),
+            Kind::Plain(plain) => write_op(&operator(plain), &mut self.bytes),
             Kind::Table => write_table(&mut self.bytes),
+            Kind::Clauses => write_clauses(&mut self.bytes),
             Kind::New => push_declaring(returned, *self.bytes.allocator()),
             Kind::Instruction => add_instruction(&mut self.encoder),
             Kind::Raw => self.encoder.raw(&[1, 2, 3, 4, 5, 6, 7, 8]),
@@ -63,11 +114,22 @@ impl Scenario for Output {
 
 /// The calls, each with a row and how many calls are made before: so that a list grows which is
 /// empty, or whose room is used up.
-const CALLS: [(&str, &str, Kind, usize); 9] = [
-    ("write_op-const", "first", Kind::Const, 0),
-    ("write_op-const", "full", Kind::Const, 2),
+const CALLS: [(&str, &str, Kind, usize); 15] = [
+    ("write_op-const", "first", Kind::Plain(Plain::Const), 0),
+    ("write_op-const", "full", Kind::Plain(Plain::Const), 2),
+    ("write_op-load", "first", Kind::Plain(Plain::Load), 0),
+    ("write_op-loop", "first", Kind::Plain(Plain::Loop), 0),
+    ("write_op-if", "first", Kind::Plain(Plain::If), 0),
+    ("write_op-br_if", "first", Kind::Plain(Plain::BrIf), 0),
+    (
+        "write_op-call_indirect",
+        "first",
+        Kind::Plain(Plain::CallIndirect),
+        0,
+    ),
     ("write_op-table", "first", Kind::Table, 0),
     ("write_op-table", "full", Kind::Table, 2),
+    ("write_op-clauses", "first", Kind::Clauses, 0),
     ("FunctionEncoder::new", "first", Kind::New, 0),
     (
         "FunctionEncoder::instruction",

@@ -1,11 +1,12 @@
 //! Functions that are written as entries of the code section.
 
+use crate::bodies::numbers;
 use crate::scenario::{Scenario, Selection, push_bytes, push_error, push_pairs};
 use std::alloc::AllocError;
 use std::io;
 use walrus_body::{Emit, EmitContext, EmitError, IdsToIndices, LocalFunction};
 use walrus_ir::{IdHashMap, InstrLocId, Module};
-use walrus_run::{CodeEntry, demo};
+use walrus_run::CodeEntry;
 
 /// A function, and the context that it is written into.
 #[derive(Drop)]
@@ -36,6 +37,7 @@ fn run_with<'a>(
     module: &'a Module,
     function: &'a LocalFunction,
     indices: &'a mut IdsToIndices,
+    call: &str,
     row: &str,
 ) -> io::Result<()> {
     let alloc = selection.alloc();
@@ -49,18 +51,19 @@ fn run_with<'a>(
         code_transform,
     };
     let mut entry = Entry { context, function };
-    selection.run("CodeEntry::emit", row, &mut entry)
+    selection.run(call, row, &mut entry)
 }
 
-/// Runs the scenario on a function, if it is selected.
+/// Runs the scenario of this name on a function, if it is selected.
 pub(crate) fn run(
     selection: Selection<'_>,
     module: &Module,
     function: &LocalFunction,
+    call: &str,
     row: &str,
 ) -> io::Result<()> {
-    match demo::numbers(selection.alloc()) {
-        Ok(mut indices) => run_with(selection, module, function, &mut indices, row),
+    match numbers(selection.alloc()) {
+        Ok(mut indices) => run_with(selection, module, function, &mut indices, call, row),
         Err(_) => Err(io::Error::from(AllocError)),
     }
 }

@@ -7,10 +7,12 @@ use crate::scenario::{
     Scenario, Selection, push_bytes, push_error, push_flags, push_numbers, push_pairs,
 };
 use crate::{entries, walks};
-use std::alloc::AllocError;
+use std::alloc::{AllocError, Global};
 use std::io;
 use walrus_body::{EmitError, EmitFacts, IdsToIndices, LocalFunction};
-use walrus_ir::{IdHashMap, IdHashSet, InstrLocId, LocalId, Module, WalkError};
+use walrus_ir::{
+    DataId, FunctionBuilder, IdHashMap, IdHashSet, InstrLocId, LocalId, Module, WalkError,
+};
 use wasm_encode::FunctionEncoder;
 
 /// Which call is made.
@@ -44,8 +46,8 @@ struct OfFunction<'a> {
     kind: Kind,
 }
 
-/// How many locals the module has.
-const LOCALS: usize = 4;
+/// How many locals, functions and data segments are shown.
+const SHOWN: usize = 100;
 
 fn push_facts(text: &mut String, facts: &EmitFacts) -> Result<(), AllocError> {
     write!(text, " {}", facts.size)?;
@@ -53,9 +55,30 @@ fn push_facts(text: &mut String, facts: &EmitFacts) -> Result<(), AllocError> {
     for func in &facts.ref_funcs {
         write!(text, " func{}", func.index())?;
     }
-    for local in 0..LOCALS {
+    for local in 0..SHOWN {
         if facts.used_locals.contains(&LocalId::new(local)) {
             write!(text, " local{local}")?;
+        }
+    }
+    Ok(())
+}
+
+/// Appends the size of a function, and whether it is constant.
+fn push_size(text: &mut String, function: &LocalFunction, size: u64) -> Result<(), AllocError>
+    requires { HasEntry function.now.builder }
+{
+    write!(text, " {size}")?;
+    if function.is_const() {
+        text.push_str(" const")?;
+    }
+    Ok(())
+}
+
+fn push_segments(text: &mut String, segments: &IdHashSet<DataId>) -> Result<(), AllocError> {
+    push_numbers(text, &[segments.len()])?;
+    for segment in 0..SHOWN {
+        if segments.contains(&DataId::new(segment)) {
+            write!(text, " data{segment}")?;
         }
     }
     Ok(())
@@ -67,11 +90,11 @@ fn push_found(text: &mut String, function: &LocalFunction, kind: Kind) -> Result
 {
     let fault = match kind {
         Kind::Size => match function.size() {
-            Ok(size) => return write!(text, " {size}"),
+            Ok(size) => return push_size(text, function, size),
             Err(fault) => fault,
         },
         Kind::Segments => match function.used_data_segments() {
-            Ok(segments) => return push_numbers(text, &[segments.len()]),
+            Ok(segments) => return push_segments(text, &segments),
             Err(fault) => fault,
         },
         _ => match function.emit_facts() {
@@ -86,7 +109,7 @@ fn push_local_numbers(
     text: &mut String,
     numbers: &IdHashMap<LocalId, u32>,
 ) -> Result<(), AllocError> {
-    for local in 0..LOCALS {
+    for local in 0..SHOWN {
         if let Some(number) = numbers.get(&LocalId::new(local)) {
             write!(text, " local{local}={number}")?;
         }
@@ -127,16 +150,16 @@ fn emit(
 impl Scenario for OfFunction<'_> {
     fn call(&mut self, returned: &mut String) -> Result<(), AllocError> {
         let of = &self.numbered;
+        if let Kind::Locals = self.kind {
+            return find_locals(returned, of);
+        }
         if !of.function.has_entry() {
             return Ok(());
         }
         match self.kind {
-            Kind::Size | Kind::Segments | Kind::Facts => {
-                push_found(returned, of.function, self.kind)
-            }
-            Kind::Locals => find_locals(returned, of),
             Kind::Emit => emit(of, returned, &mut self.encoder, None),
             Kind::EmitWithMap => emit(of, returned, &mut self.encoder, Some(&mut self.pairs)),
+            _ => push_found(returned, of.function, self.kind),
         }
     }
 
@@ -146,21 +169,29 @@ impl Scenario for OfFunction<'_> {
     }
 }
 
-const CALLS: [(&str, Kind); 6] = [
-    ("LocalFunction::size", Kind::Size),
-    ("LocalFunction::used_data_segments", Kind::Segments),
-    ("LocalFunction::emit_facts", Kind::Facts),
-    ("LocalFunction::emit_locals", Kind::Locals),
-    ("LocalFunction::emit_instructions", Kind::Emit),
-    (
-        "LocalFunction::emit_instructions-with-map",
-        Kind::EmitWithMap,
-    ),
+/// The calls, of which the first three find facts.
+const CALLS: [Kind; 6] = [
+    Kind::Size,
+    Kind::Segments,
+    Kind::Facts,
+    Kind::Locals,
+    Kind::Emit,
+    Kind::EmitWithMap,
 ];
+
+fn name(kind: Kind) -> &'static str {
+    match kind {
+        Kind::Size => "LocalFunction::size",
+        Kind::Segments => "LocalFunction::used_data_segments",
+        Kind::Facts => "LocalFunction::emit_facts",
+        Kind::Locals => "LocalFunction::emit_locals",
+        Kind::Emit => "LocalFunction::emit_instructions",
+        Kind::EmitWithMap => "LocalFunction::emit_instructions-with-map",
+    }
+}
 
 fn run_one(
     selection: Selection<'_>,
-    call: &str,
     row: &str,
     numbered: Numbered<'_>,
     kind: Kind,
@@ -174,33 +205,68 @@ fn run_one(
         pairs,
         kind,
     };
-    selection.run(call, row, &mut of)
+    selection.run(name(kind), row, &mut of)
 }
 
-/// Runs the scenarios on a function whose used locals these are.
+/// Makes these calls on a function whose used locals these are, with these numbers of locals.
+fn run_numbered(
+    selection: Selection<'_>,
+    demo: &Demo<'_>,
+    function: &LocalFunction,
+    used: &IdHashSet<LocalId>,
+    numbers: &IdHashMap<LocalId, u32>,
+    row: &str,
+    calls: &[Kind],
+) -> io::Result<()> {
+    for kind in calls {
+        let numbered = Numbered {
+            module: demo.module,
+            indices: demo.numbers,
+            function,
+            used,
+            numbers,
+        };
+        run_one(selection, row, numbered, *kind)?;
+    }
+    Ok(())
+}
+
+/// Makes these calls on a function whose used locals these are. The locals have no numbers if the
+/// module doesn't have them, or if the type of one has no new index.
 fn run_used(
     selection: Selection<'_>,
     demo: &Demo<'_>,
     function: &LocalFunction,
     used: &IdHashSet<LocalId>,
     row: &str,
+    calls: &[Kind],
 ) -> io::Result<()> {
-    let (module, indices) = (demo.module, demo.numbers);
-    match function.emit_locals(module, indices, used) {
-        Ok((_, numbers)) => {
-            let numbered = Numbered {
-                module,
-                indices,
-                function,
-                used,
-                numbers: &numbers,
-            };
-            for (call, kind) in &CALLS {
-                run_one(selection, call, row, numbered, *kind)?;
-            }
-            Ok(())
+    match function.emit_locals(demo.module, demo.numbers, used) {
+        Ok((_, numbers)) => { run_numbered(selection, demo, function, used, &numbers, row, calls) }
+        Err(_) => {
+            let numbers = IdHashMap::new(selection.alloc());
+            run_numbered(selection, demo, function, used, &numbers, row, calls)
         }
-        Err(_) => Err(io::Error::from(AllocError)),
+    }
+}
+
+/// Makes these calls on a function, if it has an entry.
+fn run_calls(
+    selection: Selection<'_>,
+    demo: &Demo<'_>,
+    function: &LocalFunction,
+    row: &str,
+    calls: &[Kind],
+) -> io::Result<()> {
+    if !function.has_entry() {
+        return Ok(());
+    }
+    match function.emit_facts() {
+        Ok(facts) => run_used(selection, demo, function, &facts.used_locals, row, calls),
+        Err(_) => {
+            let used = IdHashSet::new(selection.alloc());
+            run_used(selection, demo, function, &used, row, calls)
+        }
     }
 }
 
@@ -211,18 +277,9 @@ fn run_row(
     function: &LocalFunction,
     row: &str,
 ) -> io::Result<()> {
-    entries::run(selection, demo.module, function, row)?;
+    entries::run(selection, demo.module, function, "CodeEntry::emit", row)?;
     walks::run(selection, function.builder(), row)?;
-    if !function.has_entry() {
-        return Ok(());
-    }
-    match function.emit_facts() {
-        Ok(facts) => run_used(selection, demo, function, &facts.used_locals, row),
-        Err(_) => {
-            let used = IdHashSet::new(selection.alloc());
-            run_used(selection, demo, function, &used, row)
-        }
-    }
+    run_calls(selection, demo, function, row, &CALLS)
 }
 
 fn run_accepted(
@@ -241,13 +298,131 @@ fn run_wrong(selection: Selection<'_>, demo: &Demo<'_>, row: &str, wrong: Wrong)
     run_row(selection, demo, &function, row)
 }
 
+/// Other rows with a body: of instructions that name ids, of each kind of sequence, and of functions
+/// that can't be written.
+const PARSED: [(&str, &str); 6] = [
+    (
+        "each-name",
+        "002000210122021afc080000fc0900fb090000fb120000d20010010b",
+    ),
+    (
+        "each-sequence",
+        "0041011a024041021a044041031a0541041a0b41051a0b41061a064041071a070041081a1941091a0b410a1a0b",
+    ),
+    ("unknown-local", "001002200b1a20101a0b"),
+    ("untyped-local", "001002200b1a0b"),
+    ("untyped-alone", "00200b1a0b"),
+    ("unnumbered", "00411020011a10020b"),
+];
+
+/// The other rows of the calls that find facts.
+const FOUND: [(&str, &str); 10] = [
+    ("constants", "00410142020b"),
+    ("global", "0023000b"),
+    ("inside", "00024041010b0b"),
+    ("dead-block", "000c00024041011a0b0b"),
+    ("dead-segment", "000240fc09010b0f0240fc09000b0b"),
+    ("segments", "00fc0901fc0900fc09010b"),
+    (
+        "arms",
+        "0041010440d2011a05d2011ad2001a0bfc090020011a20001a0b",
+    ),
+    ("array", "00fb0900001a0b"),
+    ("set", "00410020032101220210010b"),
+    ("dropped", "000f20011ad2001afc09000b"),
+];
+
+fn run_found(selection: Selection<'_>, demo: &Demo<'_>, row: &str, digits: &str) -> io::Result<()> {
+    let bytes = bytes_of(selection.alloc(), digits)?;
+    let function = demo.accepted(selection.alloc(), &bytes)?;
+    run_calls(selection, demo, &function, row, &CALLS[..3])
+}
+
+/// The other rows of `emit_locals`: the arguments of a function, and the locals that it uses.
+const DECLARED: [(&str, &[usize], &[usize]); 13] = [
+    ("none", &[], &[]),
+    ("unused", &[0], &[]),
+    ("argument", &[0], &[0, 1]),
+    ("gap", &[0], &[3, 1]),
+    ("types", &[1, 0], &[14, 7, 6, 5, 4, 3, 2, 1, 0]),
+    ("references", &[], &[5, 6, 8, 9, 10, 12, 13, 15]),
+    // An argument that is listed twice has its last position as its number.
+    ("twice", &[1, 1], &[2, 1]),
+    ("again", &[0, 1, 0], &[2]),
+    // An argument needs neither a type in the module nor a new index for its type.
+    ("foreign", &[77, 11], &[2, 11, 77]),
+    // A local that isn't in the module comes before a type without a new index.
+    ("unknown", &[0], &[99, 1]),
+    ("both", &[], &[11, 99]),
+    ("untyped", &[], &[11]),
+    ("untyped-too", &[0], &[1, 11, 5]),
+];
+
+fn locals(alloc: Global, ids: &[usize]) -> Result<Vec<LocalId>, AllocError> {
+    let mut locals = Vec::new(alloc);
+    for id in ids {
+        locals.push(LocalId::new(*id))?;
+    }
+    Ok(locals)
+}
+
+fn set(alloc: Global, ids: &[usize]) -> Result<IdHashSet<LocalId>, AllocError> {
+    let mut set = IdHashSet::new(alloc);
+    for id in ids {
+        set.insert(LocalId::new(*id))?;
+    }
+    Ok(set)
+}
+
+/// A function without sequences.
+fn without_sequences(
+    alloc: Global,
+    demo: &Demo<'_>,
+    args: &[usize],
+) -> Result<LocalFunction, AllocError> {
+    let args = locals(alloc, args)?;
+    let builder = FunctionBuilder::without_entry(alloc, demo.ty);
+    Ok(LocalFunction::new(args, builder))
+}
+
+fn run_using(
+    selection: Selection<'_>,
+    demo: &Demo<'_>,
+    function: &LocalFunction,
+    row: &str,
+    used: &[usize],
+) -> io::Result<()> {
+    let used = set(selection.alloc(), used)?;
+    run_used(selection, demo, function, &used, row, &CALLS[3..4])
+}
+
+fn run_declared(
+    selection: Selection<'_>,
+    demo: &Demo<'_>,
+    row: &str,
+    args: &[usize],
+    used: &[usize],
+) -> io::Result<()> {
+    let function = without_sequences(selection.alloc(), demo, args)?;
+    run_using(selection, demo, &function, row, used)
+}
+
 /// Runs the scenarios of these calls that are selected.
 pub(crate) fn run(selection: Selection<'_>, demo: &Demo<'_>) -> io::Result<()> {
     for (row, digits) in &ACCEPTED {
         run_accepted(selection, demo, row, digits)?;
     }
+    for (row, digits) in &PARSED {
+        run_accepted(selection, demo, row, digits)?;
+    }
     for (row, wrong) in &WRONG {
         run_wrong(selection, demo, row, *wrong)?;
+    }
+    for (row, digits) in &FOUND {
+        run_found(selection, demo, row, digits)?;
+    }
+    for (row, args, used) in &DECLARED {
+        run_declared(selection, demo, row, args, used)?;
     }
     Ok(())
 }

@@ -30,7 +30,11 @@ pub(crate) struct Maps {
 }
 
 /// Gives an id the next old index.
-fn push_old(indices: &mut IndicesToIds, space: Space, id: usize) -> Result<u32, IndexError> {
+pub(crate) fn push_old(
+    indices: &mut IndicesToIds,
+    space: Space,
+    id: usize,
+) -> Result<u32, IndexError> {
     match space {
         Space::Tables => indices.push_table(TableId::new(id)),
         Space::Types => indices.push_type(TypeId::new(id)),
@@ -44,7 +48,7 @@ fn push_old(indices: &mut IndicesToIds, space: Space, id: usize) -> Result<u32, 
 }
 
 /// The number of the id with this old index.
-fn id_of(indices: &IndicesToIds, space: Space, index: u32) -> Result<usize, IndexError> {
+pub(crate) fn id_of(indices: &IndicesToIds, space: Space, index: u32) -> Result<usize, IndexError> {
     let id = match space {
         Space::Tables => indices.get_table(index)?.index(),
         Space::Types => indices.get_type(index)?.index(),
@@ -59,7 +63,7 @@ fn id_of(indices: &IndicesToIds, space: Space, index: u32) -> Result<usize, Inde
 }
 
 /// The new index of an id.
-fn new_index(numbers: &IdsToIndices, space: Space, id: usize) -> Result<u32, IndexError>
+pub(crate) fn new_index(numbers: &IdsToIndices, space: Space, id: usize) -> Result<u32, IndexError>
     ensures { result ≡ number_of numbers.now space id }
 {
     match space {
@@ -75,7 +79,11 @@ fn new_index(numbers: &IdsToIndices, space: Space, id: usize) -> Result<u32, Ind
 }
 
 /// Gives an id the next new index, and a data segment 7. It does nothing where the id has one.
-fn push_new(numbers: &mut IdsToIndices, space: Space, id: usize) -> Result<(), IndexError> {
+pub(crate) fn push_new(
+    numbers: &mut IdsToIndices,
+    space: Space,
+    id: usize,
+) -> Result<(), IndexError> {
     if new_index(numbers, space, id).is_ok() {
         return Ok(());
     }
@@ -145,6 +153,9 @@ pub(crate) fn push_ids(text: &mut String, indices: &IndicesToIds) -> Result<(), 
         if let Ok(id) = indices.get_local(FunctionId::new(0), index) {
             write!(text, " local{index}={}", id.index())?;
         }
+        if let Ok(id) = indices.get_local(FunctionId::new(3), index) {
+            write!(text, " other{index}={}", id.index())?;
+        }
     }
     Ok(())
 }
@@ -162,6 +173,88 @@ pub(crate) fn push_new_indices(
         }
     }
     Ok(())
+}
+
+/// Appends the texts of faults: of an index without an id in each space and among the locals of a
+/// function, and of a function without locals.
+pub(crate) fn push_index_faults(
+    text: &mut String,
+    indices: &IndicesToIds,
+) -> Result<(), AllocError> {
+    for space in &SPACES {
+        if let Err(error) = id_of(indices, *space, 5) {
+            write!(text, "; {error}")?;
+        }
+    }
+    for (function, index) in &[(3, 5), (2, 0)] {
+        if let Err(error) = indices.get_local(FunctionId::new(*function), *index) {
+            write!(text, "; {error}")?;
+        }
+    }
+    Ok(())
+}
+
+/// Appends the text of the fault of an id without a new index in each space.
+pub(crate) fn push_id_faults(text: &mut String, numbers: &IdsToIndices) -> Result<(), AllocError> {
+    for space in &SPACES {
+        if let Err(error) = new_index(numbers, *space, 99) {
+            write!(text, "; {error}")?;
+        }
+    }
+    Ok(())
+}
+
+/// An id in each space.
+const IDS: [(Space, usize); 8] = [
+    (Space::Tables, 3),
+    (Space::Types, 4),
+    (Space::Funcs, 5),
+    (Space::Globals, 6),
+    (Space::Memories, 7),
+    (Space::Elements, 8),
+    (Space::Data, 9),
+    (Space::Tags, 10),
+];
+
+fn push_each(indices: &mut IndicesToIds) -> Result<(), IndexError> {
+    for (space, id) in &[(Space::Types, 2), (Space::Types, 0)] {
+        push_old(indices, *space, *id)?;
+    }
+    for (space, id) in &IDS {
+        push_old(indices, *space, *id)?;
+    }
+    for local in &[7, 4] {
+        indices.push_local(FunctionId::new(3), LocalId::new(*local))?;
+    }
+    Ok(())
+}
+
+/// Two types, an id in each space, and two locals of the function 3.
+pub(crate) fn some_ids(alloc: Global) -> Result<IndicesToIds, IndexError> {
+    let mut indices = IndicesToIds::new(alloc);
+    push_each(&mut indices)?;
+    Ok(indices)
+}
+
+fn number_each(numbers: &mut IdsToIndices) -> Result<(), IndexError> {
+    for (space, id) in &IDS {
+        push_new(numbers, *space, *id)?;
+    }
+    for id in &[2, 1] {
+        push_new(numbers, Space::Funcs, *id)?;
+    }
+    for index in &[9, 4] {
+        numbers.set_data_index(DataId::new(1), *index)?;
+    }
+    Ok(())
+}
+
+/// New indices of an id in each space, of two more functions, and of a data segment whose new index
+/// is replaced.
+pub(crate) fn some_numbers(alloc: Global) -> Result<IdsToIndices, IndexError> {
+    let mut numbers = IdsToIndices::new(alloc);
+    number_each(&mut numbers)?;
+    Ok(numbers)
 }
 
 impl Scenario for Maps {

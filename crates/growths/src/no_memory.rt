@@ -2,21 +2,26 @@
 
 use crate::bodies::{Demo, bytes_of};
 use crate::body_calls::read;
+use crate::by_hand::{WITHOUT_ENTRY, Wrong, wrong_function};
 use crate::contexts::without_frame;
+use crate::entries;
 use crate::items::{Item, Items};
-use crate::maps::{Kind, Maps, push_ids, push_new_indices};
+use crate::maps::{
+    Kind, Maps, push_id_faults, push_ids, push_index_faults, push_new_indices, some_ids,
+    some_numbers,
+};
 use crate::scenario::{Scenario, Selection, push_bytes, push_flags, push_location, push_numbers};
 use std::alloc::{AllocError, Global};
 use std::io;
 use walrus_body::{
-    AcceptAll, DataSegmentsVisitor, FactsVisitor, IndicesToIds, LocalFunction, OpCheck,
-    SizeVisitor, ValidationContext,
+    AcceptAll, DataSegmentsVisitor, FactsVisitor, IdsToIndices, IndicesToIds, LocalFunction,
+    OpCheck, SizeVisitor, ValidationContext,
 };
 use walrus_ir::{
     BlockKind, FunctionBuilder, InstrLocId, InstrSeqId, InstrSeqType, LocalId, ModuleTypes, TagId,
     TypeId, ValType,
 };
-use walrus_run::{NamedBody, demo};
+use walrus_run::NamedBody;
 use wasm_encode::FunctionEncoder;
 use wasm_ops::{BlockType, Operator, Reader};
 
@@ -156,10 +161,18 @@ impl Scenario for OfModule<'_> {
 
 impl Scenario for IndicesToIds {
     fn call(&mut self, returned: &mut String) -> Result<(), AllocError> {
-        if self.get_type(3).is_ok() {
-            self.remap_type(3, TypeId::new(8));
+        if self.get_type(1).is_ok() {
+            self.remap_type(1, TypeId::new(8));
         }
-        push_ids(returned, self)
+        push_ids(returned, self)?;
+        push_index_faults(returned, self)
+    }
+}
+
+impl Scenario for IdsToIndices {
+    fn call(&mut self, returned: &mut String) -> Result<(), AllocError> {
+        push_new_indices(returned, self)?;
+        push_id_faults(returned, self)
     }
 }
 
@@ -187,6 +200,15 @@ fn push_blocks(text: &mut String, function: &LocalFunction) -> Result<(), AllocE
     Ok(())
 }
 
+/// Appends the arguments of a function, and the range and the number of places of its body.
+fn push_origin(text: &mut String, function: &LocalFunction) -> Result<(), AllocError> {
+    for local in &function.args {
+        write!(text, " local{}", local.index())?;
+    }
+    let places = function.instruction_mapping.len();
+    write!(text, " {:?} {places}", function.original_range)
+}
+
 impl Scenario for LocalFunction {
     fn call(&mut self, returned: &mut String) -> Result<(), AllocError> {
         change(self);
@@ -196,7 +218,8 @@ impl Scenario for LocalFunction {
             push_numbers(returned, &[self.entry_block().index()])?;
             push_flags(returned, &[self.is_const()])?;
         }
-        push_blocks(returned, self)
+        push_blocks(returned, self)?;
+        push_origin(returned, self)
     }
 }
 
@@ -260,8 +283,15 @@ impl Scenario for NamedBody {
 const CALL: &str = "no-memory";
 
 fn run_indices(selection: Selection<'_>) -> io::Result<()> {
-    match demo::indices(selection.alloc()) {
+    match some_ids(selection.alloc()) {
         Ok(mut indices) => selection.run(CALL, "indices", &mut indices),
+        Err(_) => Err(io::Error::from(AllocError)),
+    }
+}
+
+fn run_numbers(selection: Selection<'_>) -> io::Result<()> {
+    match some_numbers(selection.alloc()) {
+        Ok(mut numbers) => selection.run(CALL, "numbers", &mut numbers),
         Err(_) => Err(io::Error::from(AllocError)),
     }
 }
@@ -269,6 +299,23 @@ fn run_indices(selection: Selection<'_>) -> io::Result<()> {
 fn run_function(selection: Selection<'_>, demo: &Demo<'_>, bytes: &[u8]) -> io::Result<()> {
     let mut function = demo.accepted(selection.alloc(), bytes)?;
     selection.run(CALL, "function", &mut function)
+}
+
+/// Runs the scenario of a function that is made by hand.
+fn run_made(selection: Selection<'_>) -> io::Result<()> {
+    let mut function = wrong_function(selection.alloc(), Wrong::Outside)?;
+    selection.run(CALL, "made", &mut function)
+}
+
+/// Runs the scenario of a function that has no entry, and so isn't written.
+fn run_without_entry(
+    selection: Selection<'_>,
+    demo: &Demo<'_>,
+    row: &str,
+    wrong: Wrong,
+) -> io::Result<()> {
+    let function = wrong_function(selection.alloc(), wrong)?;
+    entries::run(selection, demo.module, &function, CALL, row)
 }
 
 fn run_named(selection: Selection<'_>, demo: &Demo<'_>, bytes: &[u8]) -> io::Result<()> {
@@ -297,8 +344,13 @@ pub(crate) fn run(selection: Selection<'_>, demo: &Demo<'_>) -> io::Result<()> {
     let alloc = selection.alloc();
     selection.run(CALL, "module", &mut OfModule { alloc, demo })?;
     run_indices(selection)?;
+    run_numbers(selection)?;
     let bytes = bytes_of(alloc, "00410104400b0b")?;
     run_function(selection, demo, &bytes)?;
+    run_made(selection)?;
+    for (row, wrong) in &WITHOUT_ENTRY {
+        run_without_entry(selection, demo, row, *wrong)?;
+    }
     run_named(selection, demo, &bytes)?;
     run_context(selection, demo)?;
     run_encoder(selection)

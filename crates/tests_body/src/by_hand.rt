@@ -2,10 +2,9 @@
 use crate::lent::append;
 use std::alloc::{AllocError, Global};
 use walrus_ir::{
-    ArrayInitData, ArrayNewData, Block, Br, Call, Const, DataDrop, DataId, FunctionBuilder,
-    FunctionId, IfElse, Instr, InstrLocId, InstrSeqId, InstrSeqType, LegacyCatch, Load, LoadKind,
-    LocalGet, LocalId, LocalSet, LocalTee, MemArg, MemoryId, MemoryInit, RefFunc, TagId, Try,
-    TypeId, Value,
+    Block, Br, Call, Const, FunctionBuilder, FunctionId, IfElse, Instr, InstrLocId, InstrSeqId,
+    InstrSeqType, LegacyCatch, Load, LoadKind, LocalGet, LocalId, LocalSet, LocalTee, MemArg,
+    MemoryId, TagId, Try, TypeId, Value,
 };
 
 /// An instruction, with the numbers of its ids.
@@ -25,10 +24,6 @@ pub(crate) enum Made {
     Call(usize),
     /// An access to this local.
     Local(Access, usize),
-    /// `ref.func` of this function.
-    RefFunc(usize),
-    /// A use of this data segment.
-    Data(Use, usize),
     /// An `i32.load` with this alignment, in bytes.
     Load(u32),
 }
@@ -44,35 +39,11 @@ pub(crate) enum Access {
     Tee,
 }
 
-/// A use of a data segment.
-#[derive(Clone, Copy)]
-pub(crate) enum Use {
-    /// `memory.init`.
-    Init,
-    /// `data.drop`.
-    Drop,
-    /// `array.new_data`.
-    NewArray,
-    /// `array.init_data`.
-    InitArray,
-}
-
 fn on_local(access: Access, local: LocalId) -> Instr {
     match access {
         Access::Get => Instr::LocalGet(LocalGet { local }),
         Access::Set => Instr::LocalSet(LocalSet { local }),
         Access::Tee => Instr::LocalTee(LocalTee { local }),
-    }
-}
-
-fn on_data(usage: Use, data_id: DataId) -> Instr {
-    let ty = TypeId::new(0);
-    let memory = MemoryId::new(0);
-    match usage {
-        Use::Init => Instr::MemoryInit(MemoryInit { memory, data_id }),
-        Use::Drop => Instr::DataDrop(DataDrop { data_id }),
-        Use::NewArray => Instr::ArrayNewData(ArrayNewData { ty, data_id }),
-        Use::InitArray => Instr::ArrayInitData(ArrayInitData { ty, data_id }),
     }
 }
 
@@ -112,10 +83,6 @@ pub(crate) fn instr(made: Made) -> Instr {
             func: FunctionId::new(n),
         }),
         Made::Local(access, n) => on_local(access, LocalId::new(n)),
-        Made::RefFunc(n) => Instr::RefFunc(RefFunc {
-            func: FunctionId::new(n),
-        }),
-        Made::Data(usage, n) => on_data(usage, DataId::new(n)),
         Made::Load(align) => load(align),
     }
 }

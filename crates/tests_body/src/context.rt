@@ -207,6 +207,11 @@ fn push_parts(
     push_sequences(text, builder)
 }
 
+fn push_context(text: &mut String, context: ValidationContext<'_>) -> Result<(), AllocError> {
+    let (builder, controls, _instrs) = context.into_parts();
+    push_parts(text, controls.as_slice(), &builder)
+}
+
 // Appends the results of calls in a context without open frames, and then a bar, the frames that
 // are open after the calls, and all sequences.
 fn push_called(text: &mut String, example: &Example, steps: &[Step]) -> Result<(), AllocError> {
@@ -219,9 +224,10 @@ fn push_called(text: &mut String, example: &Example, steps: &[Step]) -> Result<(
         Vec::new(alloc),
         Vec::new(alloc),
     );
-    make_calls(alloc, &mut context, steps, text)?;
-    let (builder, controls, _instrs) = context.into_parts();
-    push_parts(text, controls.as_slice(), &builder)
+    match make_calls(alloc, &mut context, steps, text) {
+        Ok(()) => push_context(text, context),
+        Err(error) => Err(error),
+    }
 }
 
 fn called(alloc: Global, example: &Example, steps: &[Step]) -> Result<String, AllocError> {
@@ -230,216 +236,174 @@ fn called(alloc: Global, example: &Example, steps: &[Step]) -> Result<String, Al
     Ok(text)
 }
 
-// Makes lists of calls with a module. Each list comes before its expected results.
-fn check_calls_in(
-    rt: &impl Abort,
-    alloc: Global,
-    example: &Example,
-    cases: &[(&[Step], &str)],
-) -> Result<(), Fail> {
-    for (steps, expected) in cases {
+// Makes the calls with a module.
+fn check_calls(rt: &impl Abort, alloc: Global, example: &Example) -> Result<(), Fail> {
+    for (steps, expected) in &CALLS {
         let found = called(alloc, example, steps)?;
         assert_eq!(rt; found.as_str(), *expected);
     }
     Ok(())
 }
 
-fn check_calls(rt: &impl Abort, alloc: Global, cases: &[(&[Step], &str)]) -> Result<(), Fail> {
-    let example = Example::new(alloc, 0)?;
-    check_calls_in(rt, alloc, &example, cases)
-}
-
 const ENTRY: Step = Step::Push(BlockKind::FunctionEntry, 0, 0);
 
 const BLOCK: Step = Step::Push(BlockKind::Block, 0, 0);
 
-/// Frames are opened, shown and closed, each with its own instructions.
-#[test]
-fn opens_and_closes_frames(rt: HostRuntime) -> Result<(), Fail> {
-    let closed = [
-        ENTRY,
-        Step::Put(Made::Drop, 6),
-        Step::Push(BlockKind::Loop, 0, 1),
-        Step::Put(Made::Call(3), 7),
-        Step::Kill,
-        Step::Put(Made::Drop, 8),
-        Step::Pop,
-    ];
-    let shown = [
-        Step::PushWithTy(BlockKind::FunctionEntry, 4),
-        Step::Put(Made::Drop, 6),
-        Step::PushWithTy(BlockKind::If, 2),
-        Step::Push(BlockKind::Block, 1, 1),
-        Step::Kill,
-        Step::Show(0),
-        Step::Show(1),
-        Step::Show(2),
-        Step::Show(3),
-    ];
-    let cases = [
-        (
-            closed.as_slice(),
-            " 0 ok 1 ok ok ok Loop 1 dead [] [I32] 1 of 1 | FunctionEntry 0 alive [] [] 0 \
-            ()[ ]- I32[ call 3@7 ]-",
-        ),
-        (
-            shown.as_slice(),
-            " 0 ok 1 2 ok Block 2 dead [I32] [I32] 1 If 1 alive [I32] [I32] 1 \
-            FunctionEntry 0 alive [] [] 0 NoSuchLabel | FunctionEntry 0 alive [] [] 0 \
-            If 1 alive [I32] [I32] 1 Block 2 dead [I32] [I32] 1 type4[ ]- type2[ ]- type1[ ]-",
-        ),
-    ];
-    check_calls(&rt, rt.alloc(), &cases)
-}
+const TRY: Step = Step::Push(BlockKind::Try, 0, 0);
 
-/// Instructions are appended to the innermost frame or to the one around it; none are appended to a
-/// dead frame.
-#[test]
-fn appends_to_frames(rt: HostRuntime) -> Result<(), Fail> {
-    let around = [
-        ENTRY,
-        Step::PutAround(Made::Drop, 6),
-        Step::PutHere(Made::Call(3), 7),
-        Step::Pop,
-        Step::Kill,
-        Step::PutAround(Made::Drop, 8),
-        Step::Pop,
-        Step::Pop,
-    ];
-    let cases = [(
-        around.as_slice(),
+// Calls in a context without open frames, and their results.
+const CALLS: [(&[Step], &str); 12] = [
+    // Frames are opened, shown and closed, each with its own instructions.
+    (
+        &[
+            ENTRY,
+            Step::Put(Made::Drop, 6),
+            Step::Push(BlockKind::Loop, 0, 1),
+            Step::Put(Made::Call(3), 7),
+            Step::Kill,
+            Step::Put(Made::Drop, 8),
+            Step::Pop,
+        ],
+        " 0 ok 1 ok ok ok Loop 1 dead [] [I32] 1 of 1 | FunctionEntry 0 alive [] [] 0 \
+        ()[ ]- I32[ call 3@7 ]-",
+    ),
+    (
+        &[
+            Step::PushWithTy(BlockKind::FunctionEntry, 4),
+            Step::Put(Made::Drop, 6),
+            Step::PushWithTy(BlockKind::If, 2),
+            Step::Push(BlockKind::Block, 1, 1),
+            Step::Kill,
+            Step::Show(0),
+            Step::Show(1),
+            Step::Show(2),
+            Step::Show(3),
+        ],
+        " 0 ok 1 2 ok Block 2 dead [I32] [I32] 1 If 1 alive [I32] [I32] 1 \
+        FunctionEntry 0 alive [] [] 0 NoSuchLabel | FunctionEntry 0 alive [] [] 0 \
+        If 1 alive [I32] [I32] 1 Block 2 dead [I32] [I32] 1 type4[ ]- type2[ ]- type1[ ]-",
+    ),
+    // Instructions are appended to the innermost frame or to the one around it; none are appended to
+    // a dead frame.
+    (
+        &[
+            ENTRY,
+            Step::PutAround(Made::Drop, 6),
+            Step::PutHere(Made::Call(3), 7),
+            Step::Pop,
+            Step::Kill,
+            Step::PutAround(Made::Drop, 8),
+            Step::Pop,
+            Step::Pop,
+        ],
         " 0 0 ok 1 ok Block 1 alive [] [] 1 of 1 ok 1 ok 1 Block 2 alive [] [] 1 of 2 \
-            FunctionEntry 0 dead [] [] 0 of 0 | ()[ drop@6 ]- ()[ call 3@7 ]- ()[ ]-",
-    )];
-    check_calls(&rt, rt.alloc(), &cases)
-}
+        FunctionEntry 0 dead [] [] 0 of 0 | ()[ drop@6 ]- ()[ call 3@7 ]- ()[ ]-",
+    ),
+    // An instruction in a frame around others moves their starts, unless it is dropped.
+    (
+        &[
+            ENTRY,
+            Step::Put(Made::Drop, 6),
+            Step::PutAround(Made::Block(1), 7),
+            Step::Put(Made::Const(5), 8),
+            Step::Pop,
+            Step::Pop,
+        ],
+        " 0 ok 1 ok 2 ok Block 1 alive [] [] 2 of 1 FunctionEntry 0 alive [] [] 0 of 0 | \
+        ()[ drop@6 block 1@7 ]- ()[ i32.const 5@8 ]-",
+    ),
+    (
+        &[
+            ENTRY,
+            Step::Put(Made::Drop, 6),
+            Step::PutOutside(Made::Call(3), 7),
+            Step::Pop,
+            Step::Pop,
+            Step::Pop,
+        ],
+        " 0 ok 1 1 ok 2 2 Block 2 alive [] [] 2 of 2 Block 1 alive [] [] 2 of 1 \
+        FunctionEntry 0 alive [] [] 0 of 0 | ()[ drop@6 call 3@7 ]- ()[ ]- ()[ ]-",
+    ),
+    (
+        &[
+            ENTRY,
+            Step::Put(Made::Drop, 6),
+            Step::Kill,
+            Step::PutOutside(Made::Call(3), 7),
+        ],
+        " 0 ok ok 1 1 ok 1 1 | FunctionEntry 0 dead [] [] 0 Block 1 alive [] [] 1 \
+        Block 2 alive [] [] 1 ()[ ]- ()[ ]- ()[ ]-",
+    ),
+    // A clause is added to the `try` at the end of the frame around, or dropped if that frame is
+    // dead.
+    (
+        &[
+            ENTRY,
+            Step::Delegate(4),
+            Step::PutTry(1),
+            TRY,
+            Step::Delegate(4),
+            Step::Put(Made::Drop, 8),
+            BLOCK,
+            Step::Delegate(4),
+            Step::Pop,
+            Step::Pop,
+            Step::Pop,
+        ],
+        " 0 NoSuchLabel ok 1 ok ok 2 NoTry Block 2 alive [] [] 2 of 2 \
+        Try 1 alive [] [] 1 of 1 FunctionEntry 0 alive [] [] 0 of 0 | \
+        ()[ try 1 1@0 ]- ()[ drop@8 ]- ()[ ]-",
+    ),
+    (
+        &[
+            ENTRY,
+            Step::PutTry(1),
+            TRY,
+            Step::Put(Made::Drop, 8),
+            Step::Delegate(4),
+            Step::Pop,
+            Step::Pop,
+        ],
+        " 0 ok 1 ok ok Try 1 alive [] [] 1 of 1 FunctionEntry 0 alive [] [] 0 of 0 | \
+        ()[ try 1 1@0 ]- ()[ drop@8 ]-",
+    ),
+    (
+        &[ENTRY, BLOCK, Step::Put(Made::Drop, 8), Step::Delegate(4)],
+        " 0 1 ok NoTry | FunctionEntry 0 alive [] [] 0 Block 1 alive [] [] 0 ()[ ]- ()[ ]-",
+    ),
+    (
+        &[ENTRY, Step::Kill, Step::PutTry(1), TRY, Step::Delegate(4)],
+        " 0 ok ok 1 ok | FunctionEntry 0 dead [] [] 0 Try 1 alive [] [] 0 ()[ ]- ()[ ]-",
+    ),
+    // Calls are refused if no frame is open, and for frames whose type the module doesn't have.
+    (
+        &[
+            Step::Put(Made::Drop, 1),
+            Step::PutHere(Made::Drop, 1),
+            Step::Pop,
+            Step::Kill,
+            Step::Show(0),
+            Step::Delegate(0),
+            Step::PutAround(Made::Drop, 1),
+        ],
+        " NoFrame NoSuchLabel NoFrame NoFrame NoSuchLabel NoSuchLabel 0 NoSuchLabel 0 | \
+        Block 0 alive [] [] 0 ()[ ]-",
+    ),
+    (
+        &[
+            Step::Push(BlockKind::Block, 0, 2),
+            Step::Push(BlockKind::Block, 1, 0),
+            Step::Push(BlockKind::Block, 2, 1),
+            Step::PushWithTy(BlockKind::Block, 3),
+            Step::PushWithTy(BlockKind::Block, 7),
+        ],
+        " TypeMissing TypeMissing TypeMissing NotAFunctionType NotAFunctionType |",
+    ),
+];
 
-/// An instruction in a frame around others moves their starts, unless it is dropped.
+/// The results of calls, and the frames and sequences after them.
 #[test]
-fn moves_the_starts_of_inner_frames(rt: HostRuntime) -> Result<(), Fail> {
-    let block = [
-        ENTRY,
-        Step::Put(Made::Drop, 6),
-        Step::PutAround(Made::Block(1), 7),
-        Step::Put(Made::Const(5), 8),
-        Step::Pop,
-        Step::Pop,
-    ];
-    let both = [
-        ENTRY,
-        Step::Put(Made::Drop, 6),
-        Step::PutOutside(Made::Call(3), 7),
-        Step::Pop,
-        Step::Pop,
-        Step::Pop,
-    ];
-    let neither = [
-        ENTRY,
-        Step::Put(Made::Drop, 6),
-        Step::Kill,
-        Step::PutOutside(Made::Call(3), 7),
-    ];
-    let cases = [
-        (
-            block.as_slice(),
-            " 0 ok 1 ok 2 ok Block 1 alive [] [] 2 of 1 FunctionEntry 0 alive [] [] 0 of 0 | \
-            ()[ drop@6 block 1@7 ]- ()[ i32.const 5@8 ]-",
-        ),
-        (
-            both.as_slice(),
-            " 0 ok 1 1 ok 2 2 Block 2 alive [] [] 2 of 2 Block 1 alive [] [] 2 of 1 \
-            FunctionEntry 0 alive [] [] 0 of 0 | ()[ drop@6 call 3@7 ]- ()[ ]- ()[ ]-",
-        ),
-        (
-            neither.as_slice(),
-            " 0 ok ok 1 1 ok 1 1 | FunctionEntry 0 dead [] [] 0 Block 1 alive [] [] 1 \
-            Block 2 alive [] [] 1 ()[ ]- ()[ ]- ()[ ]-",
-        ),
-    ];
-    check_calls(&rt, rt.alloc(), &cases)
-}
-
-/// A clause is added to the `try` at the end of the frame around, or dropped if that frame is dead.
-#[test]
-fn adds_clauses_to_a_try(rt: HostRuntime) -> Result<(), Fail> {
-    let tries = Step::Push(BlockKind::Try, 0, 0);
-    let added = [
-        ENTRY,
-        Step::Delegate(4),
-        Step::PutTry(1),
-        tries,
-        Step::Delegate(4),
-        Step::Put(Made::Drop, 8),
-        BLOCK,
-        Step::Delegate(4),
-        Step::Pop,
-        Step::Pop,
-        Step::Pop,
-    ];
-    let following = [
-        ENTRY,
-        Step::PutTry(1),
-        tries,
-        Step::Put(Made::Drop, 8),
-        Step::Delegate(4),
-        Step::Pop,
-        Step::Pop,
-    ];
-    let empty = [ENTRY, BLOCK, Step::Put(Made::Drop, 8), Step::Delegate(4)];
-    let dropped = [ENTRY, Step::Kill, Step::PutTry(1), tries, Step::Delegate(4)];
-    let cases = [
-        (
-            added.as_slice(),
-            " 0 NoSuchLabel ok 1 ok ok 2 NoTry Block 2 alive [] [] 2 of 2 \
-            Try 1 alive [] [] 1 of 1 FunctionEntry 0 alive [] [] 0 of 0 | \
-            ()[ try 1 1@0 ]- ()[ drop@8 ]- ()[ ]-",
-        ),
-        (
-            following.as_slice(),
-            " 0 ok 1 ok ok Try 1 alive [] [] 1 of 1 FunctionEntry 0 alive [] [] 0 of 0 | \
-            ()[ try 1 1@0 ]- ()[ drop@8 ]-",
-        ),
-        (
-            empty.as_slice(),
-            " 0 1 ok NoTry | FunctionEntry 0 alive [] [] 0 Block 1 alive [] [] 0 ()[ ]- ()[ ]-",
-        ),
-        (
-            dropped.as_slice(),
-            " 0 ok ok 1 ok | FunctionEntry 0 dead [] [] 0 Try 1 alive [] [] 0 ()[ ]- ()[ ]-",
-        ),
-    ];
-    check_calls(&rt, rt.alloc(), &cases)
-}
-
-/// Calls are refused if no frame is open, and for frames whose type the module doesn't have.
-#[test]
-fn refuses_calls(rt: HostRuntime) -> Result<(), Fail> {
-    let closed = [
-        Step::Put(Made::Drop, 1),
-        Step::PutHere(Made::Drop, 1),
-        Step::Pop,
-        Step::Kill,
-        Step::Show(0),
-        Step::Delegate(0),
-        Step::PutAround(Made::Drop, 1),
-    ];
-    let untyped = [
-        Step::Push(BlockKind::Block, 0, 2),
-        Step::Push(BlockKind::Block, 1, 0),
-        Step::Push(BlockKind::Block, 2, 1),
-        Step::PushWithTy(BlockKind::Block, 3),
-        Step::PushWithTy(BlockKind::Block, 7),
-    ];
-    let cases = [
-        (
-            closed.as_slice(),
-            " NoFrame NoSuchLabel NoFrame NoFrame NoSuchLabel NoSuchLabel 0 NoSuchLabel 0 | \
-            Block 0 alive [] [] 0 ()[ ]-",
-        ),
-        (
-            untyped.as_slice(),
-            " TypeMissing TypeMissing TypeMissing NotAFunctionType NotAFunctionType |",
-        ),
-    ];
-    check_calls(&rt, rt.alloc(), &cases)
+fn makes_calls(rt: HostRuntime) -> Result<(), Fail> {
+    let example = Example::new(rt.alloc(), 0)?;
+    check_calls(&rt, rt.alloc(), &example)
 }

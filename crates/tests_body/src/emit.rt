@@ -3,7 +3,7 @@ ghost use Rattle.wasm_body.specs.declared.error.EmitError.TheVariants.{Memory, T
 ghost use Rattle.walrus_body.specs.Emitting.{AppendsSome, IsUnchanged, ChangesNothingElse};
 
 use crate::function_text::At;
-use crate::plain_module::module;
+use crate::small_module::Example;
 use std::alloc::{AllocError, Global};
 use std::test::Fail;
 use walrus_body::{Emit, EmitContext, EmitError, IdsToIndices};
@@ -38,7 +38,7 @@ impl Emit for Nop {
     }
 }
 
-// An operator that turns out to be too large after its first byte is written.
+// An operator that turns out to be too large after room for it is made.
 #[derive(Drop)]
 struct Oversized;
 
@@ -50,11 +50,10 @@ impl Emit for Oversized {
     ghost refuses = { λ _ _ error. (error ≡ Memory) ⊎ (error ≡ TooLarge) };
 
     fn emit(&self, cx: &mut EmitContext<'_>) -> Result<(), EmitError> {
-        if cx.bytes.push(0x0e).is_err() {
-            return Err(EmitError::Memory);
+        match cx.bytes.reserve(1) {
+            Ok(()) => Err(EmitError::TooLarge),
+            Err(_) => Err(EmitError::Memory),
         }
-        let _ = cx.bytes.pop();
-        Err(EmitError::TooLarge)
     }
 }
 
@@ -94,7 +93,13 @@ fn written_text(alloc: Global, count: usize, cx: &EmitContext<'_>) -> Result<Str
 }
 
 // The same for the three parts.
-fn emitted_in(alloc: Global, module: &Module) -> Result<String, Fail> {
+fn emitted_text(alloc: Global, cx: &mut EmitContext<'_>) -> Result<String, AllocError> {
+    let location = InstrLocId::new(7);
+    let count = emit_three(&Nop { location }, cx);
+    written_text(alloc, count, cx)
+}
+
+fn emitted_in(alloc: Global, module: &Module) -> Result<String, AllocError> {
     let mut indices = IdsToIndices::new(alloc);
     let mut cx = EmitContext {
         module,
@@ -103,14 +108,12 @@ fn emitted_in(alloc: Global, module: &Module) -> Result<String, Fail> {
         func_facts: IdHashMap::new(alloc),
         code_transform: Vec::new(alloc),
     };
-    let location = InstrLocId::new(7);
-    let count = emit_three(&Nop { location }, &mut cx);
-    Ok(written_text(alloc, count, &cx)?)
+    emitted_text(alloc, &mut cx)
 }
 
 fn emitted(alloc: Global) -> Result<String, Fail> {
-    let module = module(alloc)?;
-    emitted_in(alloc, &module)
+    let example = Example::new(alloc, 0)?;
+    Ok(emitted_in(alloc, &example.module)?)
 }
 
 /// A refused part leaves the bytes before it unchanged.

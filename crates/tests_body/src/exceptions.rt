@@ -1,8 +1,6 @@
-//! Exceptions of both kinds: `try_table`, and the `try` of the legacy proposal.
+//! The `try` of the legacy proposal, made by hand.
 use crate::by_hand::put;
-use crate::cases::{About, check};
-use crate::emitting::push_written;
-use crate::small_module::Setting;
+use crate::emitting::written_text;
 use std::alloc::{AllocError, Global};
 use std::process::Abort;
 use std::test::Fail;
@@ -10,45 +8,6 @@ use walrus_body::LocalFunction;
 use walrus_ir::{
     FunctionBuilder, Instr, InstrSeqId, InstrSeqType, LegacyCatch, TagId, Try, TypeId,
 };
-
-/// Clauses of a legacy `try` in the tree, and the faults of a `catch` in the order of its rules:
-/// its tag's old index has no id; the tag isn't in the module; its type isn't a function type;
-/// there is no type for the handler.
-#[test]
-fn parses_clauses(rt: HostRuntime) -> Result<(), Fail> {
-    let cases = [
-        (
-            "064007000b0b",
-            "0..6 0:0 2:2 4:4 5:5 type4[ try 1 1@0 ]5 ()[ ]2 ()[ ]4",
-        ),
-        (
-            "06400700190b0b",
-            "0..7 0:0 2:2 4:4 5:5 6:6 type4[ try 1 2@0 ]6 ()[ ]2 ()[ ]4 ()[ ]5",
-        ),
-        // The body of a `try` that `delegate` closes has no end location.
-        ("064018000b", "0..5 0:0 2:2 4:4 type4[ try 1 1@0 ]4 ()[ ]-"),
-        ("064007040b0b", "Tags 4 at 2"),
-        ("064007030b0b", "UnknownId at 2"),
-        ("064007010b0b", "NotAFunctionType at 2"),
-        ("064007020b0b", "TypeMissing at 2"),
-        ("08040b", "Tags 4 at 0"),
-    ];
-    check(&rt, rt.alloc(), About::Function(Setting::PLAIN), &cases)
-}
-
-/// A `delegate` has the default location, since the sequence that it closes has no end location.
-#[test]
-fn writes_a_delegate_nowhere(rt: HostRuntime) -> Result<(), Fail> {
-    let setting = Setting {
-        ty: 0,
-        offset: 0,
-        before: 0,
-        ops: 1,
-        located: false,
-    };
-    let cases = [("00064018000b", "00064018000b 9@9 1@1 -@3 5@5")];
-    check(&rt, rt.alloc(), About::Written(setting), &cases)
-}
 
 /// A clause for a `try` in a test; a handler is a slot.
 #[derive(Clone, Copy)]
@@ -121,9 +80,7 @@ fn with_try(
 fn written_try(alloc: Global, ty: InstrSeqType, clauses: &[Clause]) -> Result<String, Fail> {
     let builder = with_try(alloc, ty, clauses)?;
     let function = LocalFunction::new(Vec::new(alloc), builder);
-    let mut text = String::new(alloc);
-    push_written(&mut text, &function)?;
-    Ok(text)
+    written_text(alloc, &function)
 }
 
 // Checks that no `try` with a body of this type is written, and that bytes and pairs are unchanged.
@@ -135,21 +92,12 @@ fn refuses_unlawful(rt: &impl Abort, alloc: Global, ty: &InstrSeqType) -> Result
     Ok(())
 }
 
-/// A `try` whose clauses are in an order that isn't allowed isn't written.
+/// A `try` whose clauses are in an order that isn't allowed isn't written. This fault comes before
+/// that of a type without a number. A `catch_all` alone is allowed.
 #[test]
 fn refuses_unlawful_clauses(rt: HostRuntime) -> Result<(), Fail> {
-    refuses_unlawful(&rt, rt.alloc(), &InstrSeqType::Simple(None))
-}
-
-/// This fault comes before that of a type without a number.
-#[test]
-fn refuses_unlawful_clauses_of_an_unnumbered_type(rt: HostRuntime) -> Result<(), Fail> {
-    refuses_unlawful(&rt, rt.alloc(), &InstrSeqType::MultiValue(TypeId::new(77)))
-}
-
-/// A `catch_all` alone is allowed.
-#[test]
-fn writes_a_lawful_clause(rt: HostRuntime) -> Result<(), Fail> {
+    refuses_unlawful(&rt, rt.alloc(), &InstrSeqType::Simple(None))?;
+    refuses_unlawful(&rt, rt.alloc(), &InstrSeqType::MultiValue(TypeId::new(77)))?;
     let ty = InstrSeqType::Simple(None);
     let text = written_try(rt.alloc(), ty, &[Clause::CatchAll(2)])?;
     assert_eq!(rt; text.as_str(), "000640190b0b 9@9 1@1 -@3 -@4 -@5");

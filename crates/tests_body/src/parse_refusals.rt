@@ -5,7 +5,7 @@ use crate::validators::Exhausted;
 use std::test::Fail;
 
 // Bodies, and the first fault of each.
-const FIRST_FAULTS: [(&str, &str); 30] = [
+const FIRST_FAULTS: [(&str, &str); 35] = [
     ("", "MissingEnd at 0"),
     ("01", "MissingEnd at 1"),
     ("02400b", "MissingEnd at 3"),
@@ -36,18 +36,14 @@ const FIRST_FAULTS: [(&str, &str); 30] = [
     ("190b", "CatchOutsideTry at 0"),
     ("09000b", "RethrowOutsideHandler at 0"),
     ("18000b", "DelegateOutsideTry at 0"),
+    // Of a `catch`, in the order of its rules: its tag's old index has no id; the tag isn't in the
+    // module; its type isn't a function type; there is no type for the handler.
+    ("064007040b0b", "Tags 4 at 2"),
+    ("064007030b0b", "UnknownId at 2"),
+    ("064007010b0b", "NotAFunctionType at 2"),
+    ("064007020b0b", "TypeMissing at 2"),
+    ("08040b", "Tags 4 at 0"),
 ];
-
-/// The first fault of a body, and the place of its operator.
-#[test]
-fn names_the_first_fault(rt: HostRuntime) -> Result<(), Fail> {
-    check(
-        &rt,
-        rt.alloc(),
-        About::Function(Setting::PLAIN),
-        &FIRST_FAULTS,
-    )
-}
 
 // Bodies with an old index that has no id, and the space of the index.
 const UNKNOWN_INDICES: [(&str, &str); 24] = [
@@ -77,16 +73,14 @@ const UNKNOWN_INDICES: [(&str, &str); 24] = [
     ("fc0e01070b", "Tables 7 at 0"),
 ];
 
-/// The fault names the space and the old index that has no id. If there are several, it is the
-/// first in the encoding.
+/// The first fault of a body, and the place of its operator. Of an index it names the space and the
+/// number; of several indices it is for the first in the encoding.
 #[test]
-fn names_the_space_of_an_index(rt: HostRuntime) -> Result<(), Fail> {
-    check(
-        &rt,
-        rt.alloc(),
-        About::Function(Setting::PLAIN),
-        &UNKNOWN_INDICES,
-    )
+fn names_the_first_fault(rt: HostRuntime) -> Result<(), Fail> {
+    for cases in [FIRST_FAULTS.as_slice(), UNKNOWN_INDICES.as_slice()] {
+        check(&rt, rt.alloc(), About::Function(Setting::PLAIN), cases)?;
+    }
+    Ok(())
 }
 
 /// The function's own type is checked first. Its fault is at the place of the first operator.

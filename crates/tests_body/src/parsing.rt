@@ -4,116 +4,124 @@ use crate::function_text::push_parsed_function;
 use crate::small_module::{Setting, parse_lent};
 use std::alloc::{AllocError, Global};
 use std::test::Fail;
-use walrus_body::AcceptAll;
+use walrus_body::{AcceptAll, LocalFunction};
 use walrus_ir::{Instr, InstrLocId};
 
-/// Trees of bodies that begin at the place 0, with the location of each operator.
-#[test]
-fn gives_trees_and_mappings(rt: HostRuntime) -> Result<(), Fail> {
-    let cases = [
-        ("010b", "0..2 0:0 1:1 type4[ ]1"),
-        ("0f41071a0b", "0..5 0:0 1:1 3:3 4:4 type4[ return@0 ]4"),
-        ("00000b", "0..3 0:0 1:1 2:2 type4[ unreachable@0 ]2"),
-        (
-            "41000e00001a0b",
-            "0..7 0:0 2:2 5:5 6:6 type4[ i32.const 0@0 br_table 0@2 ]6",
-        ),
-        // A block in a dead sequence isn't in the tree, but the builder has its sequence.
-        (
-            "0c000240010b0b",
-            "0..7 0:0 2:2 4:4 5:5 6:6 type4[ br 0@0 ]6 ()[ ]5",
-        ),
-        (
-            "02400c0041071a0b41051a0b",
-            "0..12 0:0 2:2 4:4 6:6 7:7 8:8 10:10 11:11 \
+// Trees of bodies that begin at the place 0, with the location of each operator.
+const TREES: [(&str, &str); 13] = [
+    ("010b", "0..2 0:0 1:1 type4[ ]1"),
+    ("0f41071a0b", "0..5 0:0 1:1 3:3 4:4 type4[ return@0 ]4"),
+    ("00000b", "0..3 0:0 1:1 2:2 type4[ unreachable@0 ]2"),
+    (
+        "41000e00001a0b",
+        "0..7 0:0 2:2 5:5 6:6 type4[ i32.const 0@0 br_table 0@2 ]6",
+    ),
+    // A block in a dead sequence isn't in the tree, but the builder has its sequence.
+    (
+        "0c000240010b0b",
+        "0..7 0:0 2:2 4:4 5:5 6:6 type4[ br 0@0 ]6 ()[ ]5",
+    ),
+    (
+        "02400c0041071a0b41051a0b",
+        "0..12 0:0 2:2 4:4 6:6 7:7 8:8 10:10 11:11 \
             type4[ block 1@0 i32.const 5@8 drop@10 ]11 ()[ br 1@2 ]7",
-        ),
-        // The alternative that is added has no end location.
-        (
-            "410104400b0b",
-            "0..6 0:0 2:2 4:4 5:5 type4[ i32.const 1@0 if 1 2@2 ]5 ()[ ]4 ()[ ]-",
-        ),
-        (
-            "4101044041021a050103400b0b0b",
-            "0..14 0:0 2:2 4:4 6:6 7:7 8:8 9:9 11:11 12:12 13:13 \
+    ),
+    // The alternative that is added has no end location.
+    (
+        "410104400b0b",
+        "0..6 0:0 2:2 4:4 5:5 type4[ i32.const 1@0 if 1 2@2 ]5 ()[ ]4 ()[ ]-",
+    ),
+    (
+        "4101044041021a050103400b0b0b",
+        "0..14 0:0 2:2 4:4 6:6 7:7 8:8 9:9 11:11 12:12 13:13 \
             type4[ i32.const 1@0 if 1 2@2 ]13 ()[ i32.const 2@4 drop@6 ]7 ()[ loop 3@9 ]12 ()[ ]11",
-        ),
-        // Of equal types the first is picked.
-        (
-            "02000b027e42000b1a410003010b1a0b",
-            "0..16 0:0 2:2 3:3 5:5 7:7 8:8 9:9 11:11 13:13 14:14 15:15 \
+    ),
+    // Of equal types the first is picked.
+    (
+        "02000b027e42000b1a410003010b1a0b",
+        "0..16 0:0 2:2 3:3 5:5 7:7 8:8 9:9 11:11 13:13 14:14 15:15 \
             type4[ block 1@0 block 2@3 drop@8 i32.const 0@9 loop 3@11 drop@14 ]15 ()[ ]2 \
             I64[ i64.const 0@5 ]7 type1[ ]13",
-        ),
-        (
-            "024003400d000d010d020e03010002010b0b0b",
-            "0..19 0:0 2:2 4:4 6:6 8:8 10:10 16:16 17:17 18:18 type4[ block 1@0 ]18 \
+    ),
+    (
+        "024003400d000d010d020e03010002010b0b0b",
+        "0..19 0:0 2:2 4:4 6:6 8:8 10:10 16:16 17:17 18:18 type4[ block 1@0 ]18 \
             ()[ loop 2@2 ]17 \
             ()[ br_if 2@4 br_if 1@6 br_if 0@8 br_table 1 2 0 1@10 ]16",
-        ),
-    ];
-    check(&rt, rt.alloc(), About::Function(Setting::PLAIN), &cases)
+    ),
+    // Clauses of a legacy `try`.
+    (
+        "064007000b0b",
+        "0..6 0:0 2:2 4:4 5:5 type4[ try 1 1@0 ]5 ()[ ]2 ()[ ]4",
+    ),
+    (
+        "06400700190b0b",
+        "0..7 0:0 2:2 4:4 5:5 6:6 type4[ try 1 2@0 ]6 ()[ ]2 ()[ ]4 ()[ ]5",
+    ),
+    // The body of a `try` that `delegate` closes has no end location.
+    ("064018000b", "0..5 0:0 2:2 4:4 type4[ try 1 1@0 ]4 ()[ ]-"),
+];
+
+/// The tree of each body.
+#[test]
+fn gives_trees_and_mappings(rt: HostRuntime) -> Result<(), Fail> {
+    check(&rt, rt.alloc(), About::Function(Setting::PLAIN), &TREES)
 }
 
-/// The instructions of operators, with the ids of their old indices.
-#[test]
-fn gives_instructions(rt: HostRuntime) -> Result<(), Fail> {
-    let cases = [
-        (
-            "1001110100110001000b",
-            " type4[ call 11@0 call_indirect 2 22@2 call_indirect 0 21@5 unreachable@8 ]9",
-        ),
-        (
-            "230024001a0b",
-            " type4[ global.get 31@0 global.set 31@2 drop@4 ]5",
-        ),
-        (
-            "25012600fc0f01fc1000fc11010b",
-            " type4[ table.get 21@0 table.set 22@2 table.grow 21@4 table.size 22@7 \
+// The instructions of operators, with the ids of their old indices; and constants, numeric operators,
+// and accesses with their alignments and offsets.
+const INSTRUCTIONS: [(&str, &str); 10] = [
+    (
+        "1001110100110001000b",
+        " type4[ call 11@0 call_indirect 2 22@2 call_indirect 0 21@5 unreachable@8 ]9",
+    ),
+    (
+        "230024001a0b",
+        " type4[ global.get 31@0 global.set 31@2 drop@4 ]5",
+    ),
+    (
+        "25012600fc0f01fc1000fc11010b",
+        " type4[ table.get 21@0 table.set 22@2 table.grow 21@4 table.size 22@7 \
             table.fill 21@10 ]13",
-        ),
-        (
-            "fc0c0001fc0d00fc0e00010b",
-            " type4[ table.init 51 21@0 elem.drop 51@4 table.copy 22 21@7 ]11",
-        ),
-        (
-            "3f004000fc080100fc0900fc0a0000fc0b000b",
-            " type4[ memory.size 41@0 memory.grow 41@2 memory.init 61 41@4 data.drop 62@8 \
+    ),
+    (
+        "fc0c0001fc0d00fc0e00010b",
+        " type4[ table.init 51 21@0 elem.drop 51@4 table.copy 22 21@7 ]11",
+    ),
+    (
+        "3f004000fc080100fc0900fc0a0000fc0b000b",
+        " type4[ memory.size 41@0 memory.grow 41@2 memory.init 61 41@4 data.drop 62@8 \
             memory.copy 41 41@11 memory.fill 41@15 ]18",
-        ),
-    ];
-    check(&rt, rt.alloc(), About::Entry, &cases)
-}
-
-/// Constants, numeric operators, and accesses with their alignments and offsets.
-#[test]
-fn gives_constants_and_accesses(rt: HostRuntime) -> Result<(), Fail> {
-    let cases = [
-        (
-            "417f4181004240430000c07f0b",
-            " type4[ i32.const -1@0 i32.const 1@2 i64.const -64@5 f32.const 2143289344@7 ]12",
-        ),
-        (
-            "44010000000000f07f4180808080780b",
-            " type4[ f64.const 9218868437227405313@0 i32.const -2147483648@9 ]15",
-        ),
-        (
-            "456aa7c01b1c017efc87000b",
-            " type4[ 45@0 6a@1 a7@2 c0@3 select None@4 select Some(I64)@5 fc.7@8 ]11",
-        ),
-        (
-            "2802002842000029038001280280808080100b",
-            " type4[ load I32 { atomic: false } 41 4 0@0 load I32 { atomic: false } 41 4 0@3 \
+    ),
+    (
+        "417f4181004240430000c07f0b",
+        " type4[ i32.const -1@0 i32.const 1@2 i64.const -64@5 f32.const 2143289344@7 ]12",
+    ),
+    (
+        "44010000000000f07f4180808080780b",
+        " type4[ f64.const 9218868437227405313@0 i32.const -2147483648@9 ]15",
+    ),
+    (
+        "456aa7c01b1c017efc87000b",
+        " type4[ 45@0 6a@1 a7@2 c0@3 select None@4 select Some(I64)@5 fc.7@8 ]11",
+    ),
+    (
+        "2802002842000029038001280280808080100b",
+        " type4[ load I32 { atomic: false } 41 4 0@0 load I32 { atomic: false } 41 4 0@3 \
             load I64 { atomic: false } 41 8 128@7 \
             load I32 { atomic: false } 41 4 4294967296@11 ]18",
-        ),
-        (
-            "2a00052b1f052c00003a00070b",
-            " type4[ load F32 41 1 5@0 load F64 41 2147483648 5@3 \
+    ),
+    (
+        "2a00052b1f052c00003a00070b",
+        " type4[ load F32 41 1 5@0 load F64 41 2147483648 5@3 \
             load I32_8 { kind: SignExtend } 41 1 0@6 store I32_8 { atomic: false } 41 1 7@9 ]12",
-        ),
-    ];
-    check(&rt, rt.alloc(), About::Entry, &cases)
+    ),
+];
+
+/// The instructions of each body.
+#[test]
+fn gives_instructions(rt: HostRuntime) -> Result<(), Fail> {
+    check(&rt, rt.alloc(), About::Entry, &INSTRUCTIONS)
 }
 
 // A body that is `before` bytes after the beginning of the code, and whose operators begin `ops`
@@ -198,31 +206,35 @@ fn asks_for_locations(rt: HostRuntime) -> Result<(), Fail> {
     Ok(())
 }
 
-// Three instructions.
+// A list with an instruction.
 fn some_instrs(alloc: Global) -> Result<Vec<(Instr, InstrLocId)>, AllocError> {
     let mut instrs = Vec::new(alloc);
-    for location in 70..73 {
-        instrs.push((Instr::Return, InstrLocId::new(location)))?;
-    }
+    instrs.push((Instr::Return, InstrLocId::new(70)))?;
     Ok(instrs)
+}
+
+fn function_text(alloc: Global, function: &LocalFunction) -> Result<String, AllocError> {
+    let mut text = String::new(alloc);
+    push_parsed_function(&mut text, function)?;
+    Ok(text)
 }
 
 // The function that is parsed from an `if` with this list.
 fn lent_text(instrs: &mut Vec<(Instr, InstrLocId)>) -> Result<String, Fail> {
     let alloc = *instrs.allocator();
-    let mut text = String::new(alloc);
     let function = parse_lent(alloc, Setting::PLAIN, "410104400b0b", AcceptAll, instrs)?;
-    push_parsed_function(&mut text, &function)?;
-    Ok(text)
+    Ok(function_text(alloc, &function)?)
 }
 
 /// The contents of the caller's list make no difference.
 #[test]
 fn clears_the_lent_list(rt: HostRuntime) -> Result<(), Fail> {
-    let expected = lent_text(&mut Vec::new(rt.alloc()))?;
     let mut instrs = some_instrs(rt.alloc())?;
     let found = lent_text(&mut instrs)?;
-    assert_eq!(rt; found.as_str(), expected.as_str());
+    assert_eq!(rt;
+        found.as_str(),
+        "0..6 0:0 2:2 4:4 5:5 type4[ i32.const 1@0 if 1 2@2 ]5 ()[ ]4 ()[ ]-"
+    );
     assert!(rt; instrs.is_empty());
     Ok(())
 }

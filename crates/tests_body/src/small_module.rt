@@ -10,8 +10,8 @@ use walrus_body::{
     ParseFailure,
 };
 use walrus_ir::{
-    DataId, ElementId, FunctionId, GlobalId, Instr, InstrLocId, LocalId, MemoryId, Module,
-    ModuleLocals, ModuleTags, ModuleTypes, TableId, TagId, TypeId, ValType,
+    DataId, ElementId, FunctionId, GlobalId, Instr, InstrLocId, MemoryId, Module, ModuleLocals,
+    ModuleTags, ModuleTypes, TableId, TagId, TypeId, ValType,
 };
 
 /// A module and the ids of its old indices.
@@ -134,22 +134,19 @@ impl Setting {
 }
 
 // Twice the place modulo 10^9, so that it fits.
-pub(crate) fn doubled(place: usize) -> InstrLocId {
+fn doubled(place: usize) -> InstrLocId {
     InstrLocId::new((place % 1_000_000_000) as u32 * 2)
 }
 
-/// Memory ran out, at no place.
-pub(crate) const OUT_OF_MEMORY: ParseFailure = ParseFailure {
+// Memory ran out, at no place.
+const OUT_OF_MEMORY: ParseFailure = ParseFailure {
     error: ParseError::Memory,
     at: 0,
 };
 
-/// Parses a function with this id and these arguments and with the caller's list. The body is
-/// hexadecimal text.
-pub(crate) fn parse_in<V: OpCheck>(
+// Parses a function without arguments and with the caller's list. The body is hexadecimal text.
+fn parse_in<V: OpCheck>(
     example: &Example,
-    id: FunctionId,
-    args: Vec<LocalId>,
     setting: Setting,
     body: &str,
     validator: V,
@@ -157,7 +154,8 @@ pub(crate) fn parse_in<V: OpCheck>(
 ) -> Result<LocalFunction, ParseFailure>
     requires { example.now.module.code_section_offset ≡ setting.offset }
 {
-    let Ok(bytes) = hex::decode(*instrs.allocator(), body) else {
+    let alloc = *instrs.allocator();
+    let Ok(bytes) = hex::decode(alloc, body) else {
         return Err(OUT_OF_MEMORY);
     };
     let body = FunctionBody {
@@ -169,9 +167,9 @@ pub(crate) fn parse_in<V: OpCheck>(
     LocalFunction::parse(
         &example.module,
         &example.indices,
-        id,
+        FunctionId::new(12),
         TypeId::new(setting.ty),
-        args,
+        Vec::new(alloc),
         body,
         if setting.located { Some(&locate) } else { None },
         validator,
@@ -179,7 +177,7 @@ pub(crate) fn parse_in<V: OpCheck>(
     )
 }
 
-/// Parses a function without arguments and with the caller's list. The body is hexadecimal text.
+/// The same with the module of these tests.
 pub(crate) fn parse_lent<V: OpCheck>(
     alloc: Global,
     setting: Setting,
@@ -187,21 +185,21 @@ pub(crate) fn parse_lent<V: OpCheck>(
     validator: V,
     instrs: &mut Vec<(Instr, InstrLocId)>,
 ) -> Result<LocalFunction, ParseFailure> {
-    let (id, args) = (FunctionId::new(12), Vec::new(alloc));
     match Example::new(alloc, setting.offset as usize) {
-        Ok(example) => parse_in(&example, id, args, setting, body, validator, instrs),
+        Ok(example) => parse_in(&example, setting, body, validator, instrs),
         Err(_) => Err(OUT_OF_MEMORY),
     }
 }
 
-/// Parses a function with a validator that accepts all operators.
-pub(crate) fn parse(
+// Parses a function with a list of its own.
+fn parse_by<V: OpCheck>(
     alloc: Global,
     setting: Setting,
     body: &str,
+    validator: V,
 ) -> Result<LocalFunction, ParseFailure> {
     let mut instrs = Vec::new(alloc);
-    parse_lent(alloc, setting, body, AcceptAll, &mut instrs)
+    parse_lent(alloc, setting, body, validator, &mut instrs)
 }
 
 /// Appends the result of a parse: the function, or the fault and its place.
@@ -211,9 +209,7 @@ pub(crate) fn push_parsed_by<V: OpCheck>(
     body: &str,
     validator: V,
 ) -> Result<(), AllocError> {
-    let alloc = *text.allocator();
-    let mut instrs = Vec::new(alloc);
-    match parse_lent(alloc, setting, body, validator, &mut instrs) {
+    match parse_by(*text.allocator(), setting, body, validator) {
         Ok(function) => push_parsed_function(text, &function),
         Err(failure) => write!(text, "{} at {}", Fault(failure.error), failure.at),
     }
@@ -231,9 +227,8 @@ pub(crate) fn push_parsed(
 // The places at which a validator is called.
 fn noted(alloc: Global, body: &str) -> Vec<usize> {
     let mut noted = Vec::new(alloc);
-    let mut instrs = Vec::new(alloc);
     let recording = RecordingCheck { noted: &mut noted };
-    let _ = parse_lent(alloc, Setting::PLAIN, body, recording, &mut instrs).is_ok();
+    let _ = parse_by(alloc, Setting::PLAIN, body, recording).is_ok();
     noted
 }
 
@@ -254,6 +249,6 @@ fn push_first(text: &mut String, function: &LocalFunction) -> Result<(), AllocEr
 
 /// Appends the first sequence of the function with these operators.
 pub(crate) fn push_entry(text: &mut String, body: &str) -> Result<(), Fail> {
-    let function = parse(*text.allocator(), Setting::PLAIN, body)?;
+    let function = parse_by(*text.allocator(), Setting::PLAIN, body, AcceptAll)?;
     Ok(push_first(text, &function)?)
 }

@@ -1,6 +1,5 @@
 //! Walks over functions made by hand.
-use crate::by_hand::{Access, Made, Use, deep, example};
-use crate::cases::{AboutMade, check_made};
+use crate::by_hand::{deep, example};
 use crate::facts::size;
 use crate::recorder::Recorder;
 use std::alloc::{AllocError, Global};
@@ -8,9 +7,9 @@ use std::process::Abort;
 use std::test::Fail;
 use walrus_ir::{FunctionBuilder, InstrSeqId, dfs_in_order};
 
-/// Appends the events of a walk from a sequence on, as a recorder that accepts this many calls
-/// notes them, and the fault.
-pub(crate) fn push_walk(
+// Appends the events of a walk from a sequence on, as a recorder that accepts this many calls
+// notes them, and the fault.
+fn push_walk(
     text: &mut String,
     builder: &FunctionBuilder,
     start: usize,
@@ -58,39 +57,6 @@ fn check_walks(rt: &impl Abort, alloc: Global, builder: &FunctionBuilder) -> Res
 fn walks_in_order(rt: HostRuntime) -> Result<(), Fail> {
     let builder = example(rt.alloc())?;
     check_walks(&rt, rt.alloc(), &builder)
-}
-
-/// The names that come after instructions; and the first fault of sequences that are not a tree,
-/// which comes before any event.
-#[test]
-fn tells_names_and_faults(rt: HostRuntime) -> Result<(), Fail> {
-    let names = [
-        (0, Made::Local(Access::Get, 1), 0),
-        (0, Made::Local(Access::Set, 2), 0),
-        (0, Made::Local(Access::Tee, 3), 0),
-        (0, Made::Data(Use::Init, 4), 0),
-        (0, Made::Data(Use::Drop, 5), 0),
-        (0, Made::Data(Use::NewArray, 6), 0),
-        (0, Made::Data(Use::InitArray, 7), 0),
-        (0, Made::RefFunc(9), 0),
-        (0, Made::Call(9), 0),
-    ];
-    let noted = " start0 other0 local1 other0 local2 other0 local3 other0 data4 other0 data5 \
-        other0 data6 other0 data7 other0 func9 other0 end9";
-    let own = [(0, Made::Block(0), 0)];
-    let unknown = [(0, Made::Block(7), 0), (0, Made::Block(0), 0)];
-    let twice = [
-        (0, Made::Block(1), 0),
-        (0, Made::Block(1), 0),
-        (0, Made::Block(7), 0),
-    ];
-    let cases = [
-        (names.as_slice(), noted),
-        (own.as_slice(), " SharedSequence"),
-        (unknown.as_slice(), " UnknownSequence"),
-        (twice.as_slice(), " SharedSequence"),
-    ];
-    check_made(&rt, rt.alloc(), AboutMade::Walk, &cases)
 }
 
 /// Neither a walk nor a count uses stack for each level.

@@ -1,16 +1,11 @@
 //! Tests of rewriting and running bodies, for claims that no contract makes: worked cases from
-//! outside, printed texts, and that each call that allocates succeeds if there is memory. A
-//! function here owns one large value and lends it to the next: one that owns several over calls
-//! that may fail takes minutes to prove. The output of the program `wbody` is tested by the rows of
-//! `wbody_rows`.
+//! outside, printed texts, deep nesting and long runs. A function here owns one large value and
+//! lends it to the next: one that owns several over calls that may fail takes minutes to prove. The
+//! output of the program `wbody` is tested by the rows of `wbody_rows`; what `rewrite_body` and
+//! `CodeEntry` write, and that each call that allocates succeeds if there is memory, by the rows of
+//! `growths`.
 #![tactic(auto)]
 
-#[cfg(test)]
-mod by_hand;
-#[cfg(test)]
-mod code_entries;
-#[cfg(test)]
-mod demo_module;
 #[cfg(test)]
 mod function_text;
 mod locating;
@@ -27,5 +22,3 @@ mod read_back;
 mod rewriting;
 #[cfg(test)]
 mod unchanged;
-#[cfg(test)]
-mod whole_bodies;

@@ -234,7 +234,7 @@ fn check(rt: &impl Abort, alloc: Global, place: Place, cases: &[(&str, &str)]) -
 }
 
 // Bodies, and their operators.
-const NAMED: [(&str, &str); 12] = [
+const NAMED: [(&str, &str); 16] = [
     ("010b", "Some(0):01 Some(1):0b None"),
     ("00010b", "Some(0):00 Some(1):01 Some(2):0b None"),
     ("10010b", "Some(0):10 func11 Some(2):0b None"),
@@ -259,6 +259,23 @@ const NAMED: [(&str, &str); 12] = [
         "1f40020000000200000b0b",
         "Some(0):1f []->[] tag0->0 all->0 Some(8):00 Some(9):0b Some(10):0b None",
     ),
+    // With handlers.
+    (
+        "02401f400102000b0b0b",
+        "Some(0):02 []->[] Some(2):1f []->[] all->0 Some(7):0b Some(8):0b Some(9):0b None",
+    ),
+    (
+        "1f400102000b0b",
+        "Some(0):1f []->[] all->0 Some(5):0b Some(6):0b None",
+    ),
+    (
+        "064018000b",
+        "Some(0):06 []->[] Some(2):18 Outer(0) Some(4):0b None",
+    ),
+    (
+        "0640070009000b0b",
+        "Some(0):06 []->[] Some(2):07 tag0 Some(4):09 Handler(0) Some(6):0b Some(7):0b None",
+    ),
 ];
 
 /// Operators with the ids of their old indices, dead ones too, and their places; there is none
@@ -266,30 +283,6 @@ const NAMED: [(&str, &str); 12] = [
 #[test]
 fn names_operators(rt: HostRuntime) -> Result<(), Fail> {
     check(&rt, rt.alloc(), AT_ZERO, &NAMED)
-}
-
-/// Worked bodies with handlers.
-#[test]
-fn names_handlers(rt: HostRuntime) -> Result<(), Fail> {
-    let cases = [
-        (
-            "02401f400102000b0b0b",
-            "Some(0):02 []->[] Some(2):1f []->[] all->0 Some(7):0b Some(8):0b Some(9):0b None",
-        ),
-        (
-            "1f400102000b0b",
-            "Some(0):1f []->[] all->0 Some(5):0b Some(6):0b None",
-        ),
-        (
-            "064018000b",
-            "Some(0):06 []->[] Some(2):18 Outer(0) Some(4):0b None",
-        ),
-        (
-            "0640070009000b0b",
-            "Some(0):06 []->[] Some(2):07 tag0 Some(4):09 Handler(0) Some(6):0b Some(7):0b None",
-        ),
-    ];
-    check(&rt, rt.alloc(), AT_ZERO, &cases)
 }
 
 // Bodies that are refused, and why.
