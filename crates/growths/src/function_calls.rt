@@ -352,7 +352,7 @@ const DECLARED: [(&str, &[usize], &[usize]); 13] = [
     // An argument needs neither a type in the module nor a new index for its type.
     ("foreign", &[77, 11], &[2, 11, 77]),
     // A local that isn't in the module comes before a type without a new index.
-    ("unknown", &[0], &[99, 1]),
+    ("missing", &[0], &[99, 1]),
     ("both", &[], &[11, 99]),
     ("untyped", &[], &[11]),
     ("untyped-too", &[0], &[1, 11, 5]),

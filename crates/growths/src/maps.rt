@@ -100,12 +100,12 @@ pub(crate) fn push_new(
 }
 
 impl Maps {
-    /// Both without an id.
-    pub(crate) fn new(alloc: Global, kind: Kind) -> Maps {
+    /// Both without an id, to which ids are added from this one on.
+    pub(crate) fn new(alloc: Global, kind: Kind, first: usize) -> Maps {
         Maps {
             indices: IndicesToIds::new(alloc),
             numbers: IdsToIndices::new(alloc),
-            next: 0,
+            next: first,
             kind,
         }
     }
@@ -274,8 +274,8 @@ impl Scenario for Maps {
     }
 }
 
-/// The calls, and how many ids a full map has: a list has room for four first, and a hashed map for
-/// nine.
+/// The calls, and how many ids a full map has: a list of ids has room for four first, and a table of
+/// numbers for eight in the end.
 const CALLS: [(&str, Kind, usize); 17] = [
     ("IndicesToIds::push_table", Kind::Old(Space::Tables), 4),
     ("IndicesToIds::push_type", Kind::Old(Space::Types), 4),
@@ -286,33 +286,40 @@ const CALLS: [(&str, Kind, usize); 17] = [
     ("IndicesToIds::push_data", Kind::Old(Space::Data), 4),
     ("IndicesToIds::push_tag", Kind::Old(Space::Tags), 4),
     ("IndicesToIds::push_local", Kind::OldLocal, 4),
-    ("IdsToIndices::push_table", Kind::New(Space::Tables), 9),
-    ("IdsToIndices::push_type", Kind::New(Space::Types), 9),
-    ("IdsToIndices::push_func", Kind::New(Space::Funcs), 9),
-    ("IdsToIndices::push_global", Kind::New(Space::Globals), 9),
-    ("IdsToIndices::push_memory", Kind::New(Space::Memories), 9),
-    ("IdsToIndices::push_element", Kind::New(Space::Elements), 9),
-    ("IdsToIndices::set_data_index", Kind::New(Space::Data), 9),
-    ("IdsToIndices::push_tag", Kind::New(Space::Tags), 9),
+    ("IdsToIndices::push_table", Kind::New(Space::Tables), 8),
+    ("IdsToIndices::push_type", Kind::New(Space::Types), 8),
+    ("IdsToIndices::push_func", Kind::New(Space::Funcs), 8),
+    ("IdsToIndices::push_global", Kind::New(Space::Globals), 8),
+    ("IdsToIndices::push_memory", Kind::New(Space::Memories), 8),
+    ("IdsToIndices::push_element", Kind::New(Space::Elements), 8),
+    ("IdsToIndices::set_data_index", Kind::New(Space::Data), 8),
+    ("IdsToIndices::push_tag", Kind::New(Space::Tags), 8),
 ];
 
-/// Adds an id to maps with so many.
+/// How many ids a full hashed map has. Numbers are hashed where the first of them isn't that of id 0.
+const HASHED: usize = 9;
+
+/// Adds an id to maps with so many, from this one on.
 fn run_one(
     selection: Selection<'_>,
     call: &str,
     kind: Kind,
     row: &str,
+    first: usize,
     count: usize,
 ) -> io::Result<()> {
-    let mut maps = Maps::new(selection.alloc(), kind);
+    let mut maps = Maps::new(selection.alloc(), kind, first);
     selection.run_after(count, call, row, &mut maps)
 }
 
 /// Runs the scenarios of these calls that are selected.
 pub(crate) fn run(selection: Selection<'_>) -> io::Result<()> {
     for (call, kind, full) in &CALLS {
-        run_one(selection, call, *kind, "empty", 0)?;
-        run_one(selection, call, *kind, "full", *full)?;
+        run_one(selection, call, *kind, "empty", 0, 0)?;
+        run_one(selection, call, *kind, "full", 0, *full)?;
+        if let Kind::New(_) = kind {
+            run_one(selection, call, *kind, "hashed", 1, HASHED)?;
+        }
     }
     Ok(())
 }

@@ -136,7 +136,7 @@ fn lengths(context: ValidationContext<'_>) -> [usize; 3] {
 /// Makes empty collections.
 fn make_collections(text: &mut String, alloc: Global, demo: &Demo<'_>) -> Result<(), AllocError> {
     Items::new(alloc, Item::Tag).show(text)?;
-    Maps::new(alloc, Kind::OldLocal).show(text)?;
+    Maps::new(alloc, Kind::OldLocal, 0).show(text)?;
     write!(text, " {:?}", first_sizes(alloc))?;
     push_numbers(text, &[first_segments(alloc)])?;
     push_flags(text, &[has_entry(alloc, demo.ty)])?;
