@@ -339,8 +339,7 @@ fn run_found(selection: Selection<'_>, demo: &Demo<'_>, row: &str, digits: &str)
 }
 
 /// The other rows of `emit_locals`: the arguments of a function, and the locals that it uses.
-const DECLARED: [(&str, &[usize], &[usize]); 13] = [
-    ("none", &[], &[]),
+const DECLARED: [(&str, &[usize], &[usize]); 12] = [
     ("unused", &[0], &[]),
     ("argument", &[0], &[0, 1]),
     ("gap", &[0], &[3, 1]),
