@@ -37,28 +37,31 @@ struct Output {
     kind: Kind,
 }
 
-fn load() -> OutOp<'static> {
+fn write_load(bytes: &mut Vec<u8>) -> Result<(), AllocError> {
     let kind = LoadKind::I32 { atomic: false };
     let memarg = RawMemArg {
         exponent: 2,
         memory: 0,
         offset: 4294967296,
     };
-    OutOp::Load { kind, memarg }
+    write_op(&OutOp::Load { kind, memarg }, bytes)
 }
 
-fn operator(plain: Plain) -> OutOp<'static> {
+fn write_opener(ty: BlockType, is_loop: bool, bytes: &mut Vec<u8>) -> Result<(), AllocError> {
+    match is_loop {
+        true => write_op(&OutOp::Loop { ty }, bytes),
+        false => write_op(&OutOp::If { ty }, bytes),
+    }
+}
+
+fn write_plain(plain: Plain, bytes: &mut Vec<u8>) -> Result<(), AllocError> {
     match plain {
-        Plain::Const => OutOp::I32Const { value: 624485 },
-        Plain::Load => load(),
-        Plain::Loop => OutOp::Loop {
-            ty: BlockType::FuncType(64),
-        },
-        Plain::If => OutOp::If {
-            ty: BlockType::Value(RawValType::F64),
-        },
-        Plain::BrIf => OutOp::BrIf { label: 128 },
-        Plain::CallIndirect => OutOp::CallIndirect { ty: 3, table: 1 },
+        Plain::Const => write_op(&OutOp::I32Const { value: 624485 }, bytes),
+        Plain::Load => write_load(bytes),
+        Plain::Loop => write_opener(BlockType::FuncType(64), true, bytes),
+        Plain::If => write_opener(BlockType::Value(RawValType::F64), false, bytes),
+        Plain::BrIf => write_op(&OutOp::BrIf { label: 128 }, bytes),
+        Plain::CallIndirect => write_op(&OutOp::CallIndirect { ty: 3, table: 1 }, bytes),
     }
 }
 
@@ -97,7 +100,7 @@ fn push_declaring(text: &mut String, alloc: Global) -> Result<(), AllocError> {
 impl Scenario for Output {
     fn call(&mut self, returned: &mut String) -> Result<(), AllocError> {
         match self.kind {
-            Kind::Plain(plain) => write_op(&operator(plain), &mut self.bytes),
+            Kind::Plain(plain) => write_plain(plain, &mut self.bytes),
             Kind::Table => write_table(&mut self.bytes),
             Kind::Clauses => write_clauses(&mut self.bytes),
             Kind::New => push_declaring(returned, *self.bytes.allocator()),
