@@ -293,7 +293,10 @@ impl<'a> ValidationContext<'a> {
             return Err(ParseError::NotAFunctionType);
         }
         let (start_types, end_types) = module.types.params_results(id);
-        self.push_control(kind, start_types, end_types)
+        match InstrSeqType::picked(&module.types, id) {
+            Some(ty) => self.enter(kind, ty, start_types, end_types),
+            None => Err(ParseError::TypeMissing),
+        }
     }
 
     // Opens a frame without parameters and with one result of this type.

@@ -1,11 +1,13 @@
 -- results that may be faults, in every crate
 pub mod ResultLemmas
 -- types: the test for equal types decides equality; the first position that passes a test, for the pick; lists that the order
--- of value types doesn't distinguish are equal; the index of types, one type more at a time
+-- of value types doesn't distinguish are equal; the index of types, and the first type with the lists of each, one type more at
+-- a time
 pub mod SameTypes
 pub mod Positions
 pub mod TypeKeys
 pub mod TypeIndex
+pub mod FirstTypes
 -- locals in runs, one run more at a time
 pub mod LocalRuns
 -- the laws of trees, faults and walks: there is either a tree or a first fault

@@ -179,7 +179,7 @@ position_from-push p i (y ∷ ys) x =
     ]
 
 -- the first position that passes a test, after one more item is added at the end
-position-push : {X : Type 0} (p : X → Bool) (xs : List X) (x : X) → position p (xs ++ x ∷ []) ≡ option_or (position p xs) (cond (p x) (Some (length xs)) None)
+pub position-push : {X : Type 0} (p : X → Bool) (xs : List X) (x : X) → position p (xs ++ x ∷ []) ≡ option_or (position p xs) (cond (p x) (Some (length xs)) None)
 position-push p xs x =
     let e : 0 + length xs ≡ length xs = omega arith in
     position_from-zero p (xs ++ x ∷ [])

@@ -1,8 +1,8 @@
 //! The types of a module.
-ghost use Rattle.std.specs.Prelude.{◌≡◌, [], ◌∷◌, ◌++◌, length, slice_get, is_some, IsSome, IsSomeAnd, IfOk, OnErr, Some};
+ghost use Rattle.std.specs.Prelude.{◌≡◌, [], ◌∷◌, ◌++◌, length, slice_get, is_some, IsSome, IsSomeAnd, IfOk, OnErr, Some, List};
 ghost use Rattle.walrus_ir.specs.Types.{ModuleType, Func, Entry, Other, signature, signature_of};
 ghost use Rattle.walrus_ir.specs.Types.{same_types, is_function, is_entry, find, find_entry};
-ghost use Rattle.walrus_ir.specs.TypeEntries.{module_type};
+ghost use Rattle.walrus_ir.specs.TypeEntries.{module_type, KnowsFirst};
 ghost use Rattle.walrus_ir.specs.TypeIndex.{passes};
 
 use crate::id::TypeId;
@@ -20,6 +20,8 @@ enum TypeEntry {
     Func {
         params: Vec<ValType>,
         results: Vec<ValType>,
+        /// The first function type with these lists, which may be this one.
+        first: TypeId,
     },
     /// The type of the entry of a function with these results.
     Entry {
@@ -29,17 +31,21 @@ enum TypeEntry {
     Other,
 }
 
-// The entry of a function type.
+// The entry of a function type; the first one with these lists is `first`.
 fn func_entry(
     alloc: Global,
     params: &[ValType],
     results: &[ValType],
+    first: TypeId,
 ) -> Result<TypeEntry, AllocError>
-    ensures { IfOk result (λ entry. module_type entry ≡ Func params.now results.now) }
+    ensures lists { IfOk result (λ entry. module_type entry ≡ Func params.now results.now) }
+    ensures first { (types : List ModuleType) → find types params.now results.now ≡ Some first
+        → IfOk result (KnowsFirst types) }
 {
     Ok(TypeEntry::Func {
         params: Vec::from_slice(alloc, params)?,
         results: Vec::from_slice(alloc, results)?,
+        first,
     })
 }
 
@@ -61,6 +67,7 @@ impl TypeEntry {
             TypeEntry::Func {
                 params: takes,
                 results: gives,
+                ..
             } => are_same(takes, params) && are_same(gives, results),
             _ => false,
         }
@@ -91,13 +98,15 @@ impl Model for ModuleTypes {
 
     ghost Value = { List ModuleType };
 
-    ghost use Rattle.walrus_ir.specs.TypeEntries.{module_type};
+    ghost use Rattle.std.specs.Prelude.{All};
+    ghost use Rattle.walrus_ir.specs.TypeEntries.{module_type, KnowsFirst};
     ghost use Rattle.walrus_ir.specs.TypeIndex.{IsIndexOf};
 
     ghost view = { λ m. map module_type m.types.items };
 
     ghost invariant = { λ m. IsIndexOf (map module_type m.types.items) m.index.firsts
-        m.index.func_ids m.index.entry_ids };
+        m.index.func_ids m.index.entry_ids
+        × All (KnowsFirst (map module_type m.types.items)) m.types.items };
 }
 
 impl ModuleTypes {
@@ -125,18 +134,24 @@ impl ModuleTypes {
         ensures ok { IfOk result (λ _. self.new ≡ self.old ++ Func params.now results.now ∷ []) }
         ensures err { OnErr result (self.new ≡ self.old) }
     {
-        let entry = func_entry(*self.types.allocator(), params, results)?;
+        let alloc = *self.types.allocator();
         let id = TypeId::new(self.types.len());
-        if self.find(params, results).is_some() {
-            self.types.push(entry)?;
-            return Ok(id);
-        }
-        self.types.push(entry)?;
-        match self.index.add_func(params, results, id) {
-            Ok(()) => Ok(id),
-            Err(fault) => {
-                self.types.truncate(id.index());
-                Err(fault)
+        match self.find(params, results) {
+            Some(first) => {
+                let entry = func_entry(alloc, params, results, first)?;
+                self.types.push(entry)?;
+                Ok(id)
+            }
+            None => {
+                let entry = func_entry(alloc, params, results, id)?;
+                self.types.push(entry)?;
+                match self.index.add_func(params, results, id) {
+                    Ok(()) => Ok(id),
+                    Err(fault) => {
+                        self.types.truncate(id.index());
+                        Err(fault)
+                    }
+                }
             }
         }
     }
@@ -217,7 +232,11 @@ impl ModuleTypes {
         ensures { signature_of self.now id ≡ Some (signature result.0.now result.1.now) }
     {
         match &self.types[id.index()] {
-            TypeEntry::Func { params, results } => (params, results),
+            TypeEntry::Func {
+                params,
+                results,
+                ..
+            } => (params, results),
             TypeEntry::Entry { results } => (&[], results),
             TypeEntry::Other => unreachable!(),
         }
@@ -254,6 +273,22 @@ impl ModuleTypes {
                 false => self.index.func_ids.get(params, results),
             },
             None => self.index.func_ids.get(params, results),
+        }
+    }
+
+    /// The first function type, in the order of ids, with the parameters and results of this function type or entry
+    /// type. Entry types don't count. This allocates nothing, and takes no look-up for a function type.
+    pub fn first_alike(&self, id: TypeId) -> Option<TypeId>
+        requires { IsSome (signature_of self.now id) }
+        ensures { IsSomeAnd (signature_of self.now id)
+            (λ s. result ≡ find self.now s.parameters s.results) }
+    {
+        match &self.types[id.index()] {
+            TypeEntry::Func { first, .. } => Some(*first),
+            _ => {
+                let (params, results) = self.params_results(id);
+                self.find(params, results)
+            }
         }
     }
 

@@ -83,8 +83,8 @@ pub enum InstrSeqType {
 }
 
 impl InstrSeqType {
-    ghost use Rattle.std.specs.Prelude.{◌≡◌};
-    ghost use Rattle.walrus_ir.specs.Types.{existing};
+    ghost use Rattle.std.specs.Prelude.{◌≡◌, IsSome, IsSomeAnd};
+    ghost use Rattle.walrus_ir.specs.Types.{existing, pick, signature_of};
 
     /// The type of a sequence with these parameters and results. Without parameters and with at
     /// most one result it is simple; otherwise it is the first function type of the module, in the
@@ -100,5 +100,18 @@ impl InstrSeqType {
             return Some(InstrSeqType::Simple(results.first().copied()));
         }
         types.find(params, results).map(InstrSeqType::MultiValue)
+    }
+
+    /// The type of a sequence with the parameters and results of this function type or entry type, as `existing`
+    /// returns it. This allocates nothing, and takes no look-up for a function type.
+    pub fn picked(types: &ModuleTypes, id: TypeId) -> Option<InstrSeqType>
+        requires { IsSome (signature_of types.now id) }
+        ensures { IsSomeAnd (signature_of types.now id) (λ s. result ≡ pick types.now s) }
+    {
+        let (params, results) = types.params_results(id);
+        if params.is_empty() && results.len() < 2 {
+            return Some(InstrSeqType::Simple(results.first().copied()));
+        }
+        types.first_alike(id).map(InstrSeqType::MultiValue)
     }
 }

@@ -9,7 +9,7 @@ use crate::imports::Imported;
 use crate::input::Input;
 use crate::sections::{RANKS, Section, SectionKind, Sections};
 use crate::spaces::Spaces;
-use crate::types::{RawType, read_types};
+use crate::types::{TypeKind, TypeReader, count_types};
 use std::alloc::Global;
 use walrus_body::{IndexError, ParseError, Space, value_type};
 use walrus_ir::{FunctionId, Module, ModuleLocals, ModuleTags, ModuleTypes, TypeId, ValType};
@@ -186,7 +186,7 @@ impl<'a> ParsedModule<'a> {
                 section.name()?;
                 return Ok(());
             }
-            SectionKind::Type => return self.add_types(&read_types(self.alloc, input)?),
+            SectionKind::Type => return self.read_types(input),
             SectionKind::Start => input.index_in(&self.spaces.indices, Space::Funcs)?,
             SectionKind::DataCount => {
                 let place = input.at();
@@ -305,7 +305,7 @@ impl<'a> ParsedModule<'a> {
 
     /// Value types with the ids of the types that they name.
     fn value_types(&self, types: &[RawValType]) -> Result<Vec<ValType>, ModuleError> {
-        let mut made = Vec::new(self.alloc);
+        let mut made = Vec::with_capacity(self.alloc, types.len())?;
         for ty in types {
             match value_type(&self.spaces.indices, *ty) {
                 Ok(ty) => made.push(ty)?,
@@ -315,24 +315,46 @@ impl<'a> ParsedModule<'a> {
         Ok(made)
     }
 
+    /// Adds a type with these parameters and results, if it is a function type.
+    fn add_type(
+        &mut self,
+        kind: TypeKind,
+        params: &[RawValType],
+        results: &[RawValType],
+    ) -> Result<(), ModuleError> {
+        match kind {
+            TypeKind::Func => {
+                let (params, results) = (self.value_types(params)?, self.value_types(results)?);
+                self.module.types.add_func(&params, &results)?;
+            }
+            TypeKind::Other => {
+                self.module.types.add_other()?;
+            }
+        }
+        Ok(())
+    }
+
     /// Adds the types of the type section. The entry types that bodies need are added when the first
     /// such body is parsed.
-    fn add_types(&mut self, types: &[RawType]) -> Result<(), ModuleError> {
-        for index in 0..types.len() {
+    ///
+    /// # Errors
+    ///
+    /// The faults of `count_types`; else `IndexOutOfRange` if a type contains a type index that the
+    /// section doesn't have; or `Memory`.
+    fn read_types(&mut self, section: Input<'a>) -> Result<(), ModuleError> {
+        // A type may name a later one, so that the number of types is needed first.
+        let count = count_types(self.alloc, section)?;
+        for index in 0..count {
             match self.spaces.add_type(TypeId::new(index)) {
                 Ok(()) => {}
                 Err(error) => return Err(ModuleError::of_index(error, 0)),
             }
         }
-        for ty in types {
-            match ty {
-                RawType::Func { params, results } => {
-                    let (params, results) = (self.value_types(params)?, self.value_types(results)?);
-                    self.module.types.add_func(&params, &results)?;
-                }
-                RawType::Other => {
-                    self.module.types.add_other()?;
-                }
+        let mut reader = TypeReader::new(self.alloc, section, count);
+        for _ in 0..reader.groups()? {
+            for _ in 0..reader.members()? {
+                let kind = reader.subtype()?;
+                self.add_type(kind, reader.params(), reader.results())?;
             }
         }
         Ok(())

@@ -7,14 +7,11 @@ use walrus_body::Space;
 use walrus_ir::{HeapType, RefType, ValType};
 use wasm_ops::{RawValType, ReadFault};
 
-/// A composite type, as far as bodies of functions use it: with raw type indices.
-#[derive(Drop)]
-pub(crate) enum RawType {
+/// What a composite type is, as far as bodies of functions use it.
+#[derive(Clone, Copy)]
+pub(crate) enum TypeKind {
     /// A function type.
-    Func {
-        params: Vec<RawValType>,
-        results: Vec<RawValType>,
-    },
+    Func,
     /// A struct or array type.
     Other,
 }
@@ -29,37 +26,75 @@ impl Input<'_> {
     }
 }
 
-/// Reads types, whose type indices have to be less than `count`.
+/// Reads the types of a section, in order. Their type indices have to be less than `limit`.
 #[derive(Drop)]
-struct TypeReader<'a> {
+pub(crate) struct TypeReader<'a> {
     input: Input<'a>,
-    count: usize,
+    limit: usize,
+    params: Vec<RawValType>,
+    results: Vec<RawValType>,
 }
 
-impl TypeReader<'_> {
-    /// A value type, whose type index, if it has one, has to be less than `count`.
-    fn value_type(&mut self) -> Result<RawValType, ModuleError> {
-        let begin = self.input;
-        let ty = self.input.value_type()?;
-        match ty {
-            ValType::Ref(
-                RefType {
-                    heap_type: HeapType::Concrete(index),
-                    ..
-                },
-            ) if index as usize >= self.count => { Err(begin.no_type(index)) }
-            _ => Ok(ty),
+/// Reads a vector of value types into this list, whose type indices have to be less than `limit`.
+fn read_value_types(
+    input: &mut Input<'_>,
+    limit: usize,
+    types: &mut Vec<RawValType>,
+) -> Result<(), ModuleError> {
+    types.clear();
+    let count = match input.number() {
+        Ok(count) => count,
+        Err(error) => return Err(error),
+    };
+    for _ in 0..count {
+        match read_value_type(input, limit) {
+            Ok(ty) => types.push(ty)?,
+            Err(error) => return Err(error),
+        }
+    }
+    Ok(())
+}
+
+/// Reads a value type, whose type index, if it has one, has to be less than `limit`.
+fn read_value_type(input: &mut Input<'_>, limit: usize) -> Result<RawValType, ModuleError> {
+    let begin = *input;
+    let ty = input.value_type()?;
+    match ty {
+        ValType::Ref(
+            RefType {
+                heap_type: HeapType::Concrete(index),
+                ..
+            },
+        ) if index as usize >= limit => { Err(begin.no_type(index)) }
+        _ => Ok(ty),
+    }
+}
+
+impl<'a> TypeReader<'a> {
+    /// A reader of the types of a section. This allocates nothing.
+    pub fn new(alloc: Global, section: Input<'a>, limit: usize) -> TypeReader<'a> {
+        TypeReader {
+            input: section,
+            limit,
+            params: Vec::new(alloc),
+            results: Vec::new(alloc),
         }
     }
 
-    /// A vector of value types.
-    fn value_types(&mut self, alloc: Global) -> Result<Vec<RawValType>, ModuleError> {
-        let mut types = Vec::new(alloc);
-        for _ in 0..self.input.number()? {
-            let ty = self.value_type()?;
-            types.push(ty)?;
+    /// The number of recursive groups, at the front of the section; a type alone counts as a group.
+    pub fn groups(&mut self) -> Result<u32, ModuleError> {
+        self.input.number()
+    }
+
+    /// The number of members of the next group; 1 for a type alone.
+    pub fn members(&mut self) -> Result<u32, ModuleError> {
+        if !matches!(self.input.rest(), [0x4e, ..]) {
+            return Ok(1);
         }
-        Ok(types)
+        match self.input.byte() {
+            Ok(_) => self.input.number(),
+            Err(error) => Err(error),
+        }
     }
 
     /// Reads past the type of a field: a value type, or one of 8 or 16 bits, and its mutability.
@@ -70,91 +105,88 @@ impl TypeReader<'_> {
                 Err(error) => Err(error),
             };
         }
-        match self.value_type() {
+        match read_value_type(&mut self.input, self.limit) {
             Ok(_) => self.input.mutability(),
             Err(error) => Err(error),
         }
     }
 
     /// A composite type.
-    fn composite_type(&mut self, alloc: Global) -> Result<RawType, ModuleError> {
+    fn composite_type(&mut self) -> Result<TypeKind, ModuleError> {
         let begin = self.input;
         match self.input.byte()? {
             0x60 => {
-                let params = self.value_types(alloc)?;
-                let results = self.value_types(alloc)?;
-                Ok(RawType::Func { params, results })
+                read_value_types(&mut self.input, self.limit, &mut self.params)?;
+                read_value_types(&mut self.input, self.limit, &mut self.results)?;
+                Ok(TypeKind::Func)
             }
             0x5f => {
                 for _ in 0..self.input.number()? {
                     self.field()?;
                 }
-                Ok(RawType::Other)
+                Ok(TypeKind::Other)
             }
             0x5e => {
                 self.field()?;
-                Ok(RawType::Other)
+                Ok(TypeKind::Other)
             }
             _ => Err(begin.fault(ModuleFault::Read(ReadFault::BadType))),
         }
     }
 
-    /// A subtype, without its supertypes.
-    fn subtype(&mut self, alloc: Global) -> Result<RawType, ModuleError> {
+    /// The next type, without its supertypes. The lists of a function type are `params` and `results`
+    /// until the next call.
+    pub fn subtype(&mut self) -> Result<TypeKind, ModuleError> {
         if let [0x4f | 0x50, ..] = self.input.rest() {
             self.input.byte()?;
             for _ in 0..self.input.number()? {
                 let begin = self.input;
                 let index = self.input.number()?;
-                if index as usize >= self.count {
+                if index as usize >= self.limit {
                     return Err(begin.no_type(index));
                 }
             }
         }
-        self.composite_type(alloc)
+        self.composite_type()
     }
 
-    /// A recursive group, or one type.
-    fn group(&mut self, alloc: Global, types: &mut Vec<RawType>) -> Result<(), ModuleError> {
-        let mut members = 1;
-        if let [0x4e, ..] = self.input.rest() {
-            self.input.byte()?;
-            members = self.input.number()?;
-        }
-        for _ in 0..members {
-            let ty = self.subtype(alloc)?;
-            types.push(ty)?;
-        }
-        Ok(())
+    /// The parameters of the function type that was read last.
+    pub fn params(&self) -> &[RawValType] {
+        &self.params
+    }
+
+    /// The results of the function type that was read last.
+    pub fn results(&self) -> &[RawValType] {
+        &self.results
     }
 }
 
-/// The types of a section, whose type indices have to be less than `count`.
-fn read_naming(
-    alloc: Global,
-    section: Input<'_>,
-    count: usize,
-) -> Result<Vec<RawType>, ModuleError> {
-    let mut reader = TypeReader {
-        input: section,
-        count,
-    };
-    let mut types = Vec::new(alloc);
-    for _ in 0..reader.input.number()? {
-        reader.group(alloc, &mut types)?;
-    }
-    reader.input.finish()?;
-    Ok(types)
-}
-
-/// The types of a type section, by index.
+/// The number of types of a type section, which are all read; their type indices aren't checked.
 ///
 /// # Errors
 ///
-/// `Truncated`, `BadNumber`, `BadType`, `BadMutability`, `Trailing`; else `IndexOutOfRange` if a
-/// type contains a type index that the section doesn't have; or `Memory`.
-pub(crate) fn read_types(alloc: Global, section: Input<'_>) -> Result<Vec<RawType>, ModuleError> {
-    // The number of types is known only when all are read.
-    let count = read_naming(alloc, section, usize::MAX)?.len();
-    read_naming(alloc, section, count)
+/// `Truncated`, `BadNumber`, `BadType`, `BadMutability`, `Trailing`; or `Memory`.
+pub(crate) fn count_types(alloc: Global, section: Input<'_>) -> Result<usize, ModuleError> {
+    let mut reader = TypeReader::new(alloc, section, usize::MAX);
+    let mut count: usize = 0;
+    let groups = match reader.groups() {
+        Ok(groups) => groups,
+        Err(error) => return Err(error),
+    };
+    for _ in 0..groups {
+        let members = match reader.members() {
+            Ok(members) => members,
+            Err(error) => return Err(error),
+        };
+        for _ in 0..members {
+            match reader.subtype() {
+                Ok(_) => count = count.saturating_add(1),
+                Err(error) => return Err(error),
+            }
+        }
+    }
+    match reader.input.finish() {
+        Ok(()) => Ok(count),
+        Err(error) => Err(error),
+    }
 }

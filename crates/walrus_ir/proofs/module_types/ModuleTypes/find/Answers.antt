@@ -16,5 +16,5 @@ returns-in-true c =
     let there : at_digest index.firsts (func_digest params results) ≡ Some c.in-Some.id = sym (c.get.ensures ∙ ap (at_digest index.firsts) c.func_digest.ensures) ∙ c.in-Some.is in
     let here : passes (is_function params results) (slice_get types c.in-Some.id) ≡ true =
     ap (λ ts. passes (is_function params results) (slice_get ts c.in-Some.id)) c.self.view_is ∙ (sym c.is_func_of.ensures ∙ c.in-true.is) in
-    found_first (is_function params results) types (at_digest index.firsts (func_digest params results)) (at_lists index.func_ids params results) _ c.in-Some.id there here (c.self.invariant.functions_are params results)
+    found_first (is_function params results) types (at_digest index.firsts (func_digest params results)) (at_lists index.func_ids params results) _ c.in-Some.id there here (c.self.invariant.0.functions_are params results)
     ∙ ap (λ ts. find ts params results) c.self.view_is

@@ -15,5 +15,5 @@ returns-in-true c =
     let there : at_digest index.firsts (entry_digest results) ≡ Some c.in-Some.id = sym (c.get.ensures ∙ ap (at_digest index.firsts) c.entry_digest.ensures) ∙ c.in-Some.is in
     let here : passes (is_entry results) (slice_get types c.in-Some.id) ≡ true =
     ap (λ ts. passes (is_entry results) (slice_get ts c.in-Some.id)) c.self.view_is ∙ (sym c.is_entry_of.ensures ∙ c.in-true.is) in
-    found_first (is_entry results) types (at_digest index.firsts (entry_digest results)) (at_list index.entry_ids results) _ c.in-Some.id there here (c.self.invariant.entries_are results)
+    found_first (is_entry results) types (at_digest index.firsts (entry_digest results)) (at_list index.entry_ids results) _ c.in-Some.id there here (c.self.invariant.0.entries_are results)
     ∙ ap (λ ts. find_entry ts results) c.self.view_is

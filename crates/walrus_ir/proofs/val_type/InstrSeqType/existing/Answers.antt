@@ -1,20 +1,10 @@
-use Rattle.std.proofs.Common.{◌≡◌, ℕ, ◌<◌, List, [], ◌∷◌, length, arith, refl, ⊎_elim, ◌⊎◌, inl, inr, ◌∙◌, ap}
+use Rattle.std.proofs.Common.{◌<◌, length, arith, ◌⊎◌, inl, inr, ◌∙◌, ap}
 use Rattle.std.specs.Option.{option_map}
 use Rattle.std.proofs.lemmas.Bool.Decides.{nat_tests}
-use Rattle.walrus_ir.specs.declared.val_type.ValType.{ValType}
 use Rattle.walrus_ir.specs.declared.val_type.InstrSeqType.TheVariants.{MultiValue}
-use Rattle.walrus_ir.specs.Types.{ModuleType, find, existing}
-use Rattle.walrus_ir.proofs.Positions.{option_map_is}
+use Rattle.walrus_ir.proofs.Positions.{option_map_is, needs_type}
 use Rattle.walrus_ir.proofs.val_type.InstrSeqType.existing.Goals as goal
 use Rattle.walrus_ir.proofs.val_type.InstrSeqType.existing.Goals.{else-is_empty-via-then-is_empty+else-results-lt2, else-is_empty-via-else-is_empty}
-
--- if there are parameters or more than one result, the type is one of the module
-needs_type : (types : List ModuleType) (parameters results : List (ValType ℕ)) → (0 < length parameters) ⊎ (1 < length results)
-    → option_map MultiValue (find types parameters results) ≡ existing types parameters results
-needs_type types [] [] h = absurd (⊎_elim (λ n. omega arith) (λ n. omega arith) h)
-needs_type types [] (t ∷ []) h = absurd (⊎_elim (λ n. omega arith) (λ n. omega arith) h)
-needs_type types [] (t ∷ u ∷ ts) h = refl
-needs_type types (p ∷ ps) results h = refl
 
 pub returns : goal.returns
 returns c =
