@@ -3,7 +3,7 @@ ghost use Rattle.std.specs.Prelude.{◌≡◌, ◌≤◌, ◌<◌, ◌+◌, ◌^
 
 use crate::maps::push_new;
 use crate::scenario::Selection;
-use crate::{body_calls, contexts, function_calls, no_memory, runs};
+use crate::{body_calls, contexts, function_calls, no_memory, read_back, runs};
 use std::alloc::{AllocError, Global};
 use std::io;
 use walrus_body::{
@@ -61,6 +61,20 @@ pub(crate) fn body(bytes: &[u8]) -> FunctionBody<'_>
     FunctionBody {
         bytes,
         start: 100,
+        ops: 1.min(bytes.len()),
+    }
+}
+
+/// The body with these bytes, of which the second begins at the greatest place that can be a
+/// location, and the third after it.
+pub(crate) fn late_body(bytes: &[u8]) -> FunctionBody<'_>
+    ensures start { result.start ≡ 4294967293 }
+    ensures ops { result.ops ≤ length result.bytes.now }
+    ensures fits { result.start + length result.bytes.now < 2 ^ 64 }
+{
+    FunctionBody {
+        bytes,
+        start: 4_294_967_293,
         ops: 1.min(bytes.len()),
     }
 }
@@ -204,6 +218,7 @@ fn run_over(selection: Selection<'_>, demo: &Demo<'_>) -> io::Result<()> {
     body_calls::run(selection, demo)?;
     function_calls::run(selection, demo)?;
     runs::run(selection, demo)?;
+    read_back::run(selection, demo)?;
     no_memory::run(selection, demo)
 }
 

@@ -1,6 +1,7 @@
 //! Bodies that are parsed, rewritten, or read with names.
+ghost use Rattle.std.specs.Prelude.{◌≤◌, ◌<◌, ◌+◌, ◌^◌, length};
 
-use crate::bodies::{ACCEPTED, Demo, REFUSED, arguments, body, bytes_of};
+use crate::bodies::{ACCEPTED, Demo, REFUSED, arguments, body, bytes_of, late_body};
 use crate::contexts::push_sequences;
 use crate::scenario::{
     Scenario, Selection, push_bytes, push_error, push_location, push_numbers, push_pairs,
@@ -8,7 +9,8 @@ use crate::scenario::{
 use std::alloc::{AllocError, Global};
 use std::io;
 use walrus_body::{
-    AcceptAll, CheckError, EmitError, LocalFunction, OpCheck, ParseError, ParseFailure,
+    AcceptAll, CheckError, EmitError, FunctionBody, LocalFunction, OpCheck, ParseError,
+    ParseFailure,
 };
 use walrus_ir::{InstrLocId, LocalId, WalkError};
 use walrus_run::{NamedBody, RewriteError, rewrite_body};
@@ -47,6 +49,10 @@ enum Kind {
     RewriteLocated,
     /// Without a list of pairs.
     RewriteAlone,
+    /// At a place such that that of the second operator is too great for a location.
+    RewriteLate,
+    /// There, with a location function.
+    RewriteLateLocated,
     Read,
 }
 
@@ -62,7 +68,7 @@ struct OfBody<'a> {
 
 /// Appends the range of a function, its places with their locations, how many arguments it has, and
 /// its sequences.
-fn push_function(text: &mut String, function: &LocalFunction) -> Result<(), AllocError> {
+pub(crate) fn push_function(text: &mut String, function: &LocalFunction) -> Result<(), AllocError> {
     if let Some(range) = &function.original_range {
         write!(text, " {}..{}", range.start, range.end)?;
     }
@@ -90,7 +96,7 @@ fn push_named(text: &mut String, named: &NamedBody) -> Result<(), AllocError> {
 }
 
 /// Appends why a body isn't rewritten, unless memory ran out.
-fn push_rewrite_error(text: &mut String, error: RewriteError) -> Result<(), AllocError> {
+pub(crate) fn push_rewrite_error(text: &mut String, error: RewriteError) -> Result<(), AllocError> {
     match error {
         RewriteError::Parse(failure) => push_failure(text, failure),
         RewriteError::Walk(error) => push_error(text, &error, &WalkError::Memory),
@@ -120,14 +126,18 @@ fn doubled(place: usize) -> InstrLocId {
 }
 
 /// Rewrites a body, with a location function if it is located.
-fn rewrite_into(
+pub(crate) fn rewrite_into(
     demo: &Demo<'_>,
     args: Vec<LocalId>,
-    source: &[u8],
+    body: FunctionBody<'_>,
     is_located: bool,
     bytes: &mut Vec<u8>,
     map: Option<&mut Vec<(InstrLocId, usize)>>,
-) -> Result<LocalFunction, RewriteError> {
+) -> Result<LocalFunction, RewriteError>
+    requires offset { 90 ≤ body.start }
+    requires ops { body.ops ≤ length body.bytes.now }
+    requires fits { body.start + length body.bytes.now < 2 ^ 64 }
+{
     let mut instrs = Vec::new(*args.allocator());
     let locate = |place: &usize| doubled(*place);
     rewrite_body(
@@ -136,7 +146,7 @@ fn rewrite_into(
         demo.function,
         demo.ty,
         args,
-        body(source),
+        body,
         if is_located { Some(&locate) } else { None },
         AcceptAll,
         &mut instrs,
@@ -152,9 +162,15 @@ impl OfBody<'_> {
         let (demo, source, bytes) = (self.demo, self.source, &mut self.bytes);
         let map = &mut self.pairs;
         match self.kind {
-            Kind::RewriteAlone => rewrite_into(demo, args, source, false, bytes, None),
-            Kind::RewriteLocated => rewrite_into(demo, args, source, true, bytes, Some(map)),
-            _ => rewrite_into(demo, args, source, false, bytes, Some(map)),
+            Kind::RewriteAlone => rewrite_into(demo, args, body(source), false, bytes, None),
+            Kind::RewriteLocated => rewrite_into(demo, args, body(source), true, bytes, Some(map)),
+            Kind::RewriteLate => {
+                rewrite_into(demo, args, late_body(source), false, bytes, Some(map))
+            }
+            Kind::RewriteLateLocated => {
+                rewrite_into(demo, args, late_body(source), true, bytes, Some(map))
+            }
+            _ => rewrite_into(demo, args, body(source), false, bytes, Some(map)),
         }
     }
 
@@ -218,7 +234,7 @@ const CALLS: [(&str, Kind); 4] = [
 ];
 
 /// The other rows of `rewrite_body`: a body, and how it is rewritten.
-const REWRITTEN: [(&str, &str, &str, Kind); 37] = [
+const REWRITTEN: [(&str, &str, &str, Kind); 40] = [
     // An `else` that says nothing is left out.
     ("rewrite_body", "else", "0041010440050b0b", Kind::Rewrite),
     (
@@ -268,6 +284,16 @@ const REWRITTEN: [(&str, &str, &str, Kind); 37] = [
         "unnumbered",
         "0010020b",
         Kind::RewriteAlone,
+    ),
+    // The place of an operator is its location if there is no location function. The greatest is
+    // 2^32 - 2.
+    ("rewrite_body-late", "end", "000b", Kind::RewriteLate),
+    ("rewrite_body-late", "after", "00010b", Kind::RewriteLate),
+    (
+        "rewrite_body-late-located",
+        "after",
+        "00010b",
+        Kind::RewriteLateLocated,
     ),
     // A fault of the parse comes first, then those of declarations, of writing last.
     (

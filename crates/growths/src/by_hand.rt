@@ -1,11 +1,11 @@
-//! Functions that are made by hand, none of which can be written.
+//! Functions that are made by hand. One of them can be written, the others can't.
 
 use crate::bodies::arguments;
 use std::alloc::{AllocError, Global};
 use walrus_body::LocalFunction;
 use walrus_ir::{
-    Block, Br, BrTable, FunctionBuilder, Instr, InstrLocId, InstrSeqId, InstrSeqType, LegacyCatch,
-    LocalGet, LocalId, TagId, Try, TypeId,
+    Block, Br, BrTable, FunctionBuilder, Instr, InstrLocId, InstrSeq, InstrSeqId, InstrSeqType,
+    LegacyCatch, LocalGet, LocalId, TagId, Try, TypeId,
 };
 
 /// What is wrong with a function.
@@ -129,6 +129,38 @@ pub(crate) fn wrong_function(alloc: Global, wrong: Wrong) -> Result<LocalFunctio
     let args = arguments(alloc)?;
     let mut builder = FunctionBuilder::without_entry(alloc, TypeId::new(1));
     match fill(alloc, &mut builder, wrong) {
+        Ok(()) => Ok(LocalFunction::new(args, builder)),
+        Err(error) => Err(error),
+    }
+}
+
+/// Gives a sequence two instructions, which drop the local 1, at locations 5 and 6, and its end
+/// location 7.
+fn fill_sequence(sequence: &mut InstrSeq) -> Result<(), AllocError> {
+    let local = LocalId::new(1);
+    let get = Instr::LocalGet(LocalGet { local });
+    sequence.instrs.push((get, InstrLocId::new(5)))?;
+    sequence.instrs.push((Instr::Drop, InstrLocId::new(6)))?;
+    sequence.end = InstrLocId::new(7);
+    Ok(())
+}
+
+/// Gives a function an entry, which drops the local 1.
+fn fill_entry(builder: &mut FunctionBuilder) -> Result<(), AllocError> {
+    let entry = builder.alloc(InstrSeqType::Simple(None))?;
+    builder.set_entry(entry);
+    if builder.has(entry) {
+        fill_sequence(builder.seq_mut(entry))
+    } else {
+        Ok(())
+    }
+}
+
+/// A function that can be written, and that wasn't read. Its argument is local 0; it drops local 1.
+pub(crate) fn whole_function(alloc: Global) -> Result<LocalFunction, AllocError> {
+    let args = arguments(alloc)?;
+    let mut builder = FunctionBuilder::without_entry(alloc, TypeId::new(1));
+    match fill_entry(&mut builder) {
         Ok(()) => Ok(LocalFunction::new(args, builder)),
         Err(error) => Err(error),
     }

@@ -2,7 +2,7 @@
 ghost use Rattle.walrus_body.specs.LocalFunctions.{HasEntry};
 
 use crate::bodies::{ACCEPTED, Demo, bytes_of};
-use crate::by_hand::{WRONG, Wrong, wrong_function};
+use crate::by_hand::{WRONG, Wrong, whole_function, wrong_function};
 use crate::scenario::{
     Scenario, Selection, push_bytes, push_error, push_flags, push_numbers, push_pairs,
 };
@@ -298,6 +298,18 @@ fn run_wrong(selection: Selection<'_>, demo: &Demo<'_>, row: &str, wrong: Wrong)
     run_row(selection, demo, &function, row)
 }
 
+/// Writes a function that wasn't read as an entry of the code section.
+fn run_made(selection: Selection<'_>, demo: &Demo<'_>) -> io::Result<()> {
+    let function = whole_function(selection.alloc())?;
+    entries::run(
+        selection,
+        demo.module,
+        &function,
+        "CodeEntry::emit",
+        "made-by-hand",
+    )
+}
+
 /// Other rows with a body: of instructions that name ids, of each kind of sequence, and of functions
 /// that can't be written.
 const PARSED: [(&str, &str); 6] = [
@@ -417,6 +429,7 @@ pub(crate) fn run(selection: Selection<'_>, demo: &Demo<'_>) -> io::Result<()> {
     for (row, wrong) in &WRONG {
         run_wrong(selection, demo, row, *wrong)?;
     }
+    run_made(selection, demo)?;
     for (row, digits) in &FOUND {
         run_found(selection, demo, row, digits)?;
     }

@@ -15,6 +15,7 @@ mod function_calls;
 mod items;
 mod maps;
 mod no_memory;
+mod read_back;
 mod runs;
 mod scenario;
 mod walks;
