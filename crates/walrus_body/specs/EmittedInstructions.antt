@@ -9,7 +9,7 @@ use Rattle.wasm_body.specs.declared.error.EmitError.{EmitError}
 use Rattle.wasm_body.specs.Bytes.{Numbers}
 use Rattle.wasm_body.specs.Pairs.{Pair}
 use Rattle.walrus_body.specs.LocalFunctions.{first_slot}
-use Rattle.walrus_emitter.specs.TreeWriting.Trees.{Appends, AppendsBytes, IsNotWritten}
+use Rattle.walrus_emitter.specs.TreeWriting.Trees.{Appends, IsNotWritten}
 
 -- a list of pairs that is lent
 abbrev pub LentPairs : Type 0 → Type 0
@@ -19,14 +19,18 @@ LentPairs Z = MutBor (Vec Pair Z)
 abbrev pub Left : Type 0 → Type 0
 Left A = Unit {0} ⊎ ((A × Unit {0}) ⊎ ⊥)
 
+-- This holds of the list before and after the call, if there is one.
+abbrev pub OfLists : {Z : Type 0} → (Option (List Pair × List Pair) → Type 0)
+    → (entry : Option (LentPairs Z)) → (exit : Left (LentPairs Z)) → Type 0
+OfLists P None (inl none) = P None
+OfLists P (Some list) (inr (inl left)) = P (Some (list.now.items, left.0.now.items))
+OfLists P _ _ = ⊥
+
 -- The bytes of the function's tree were appended to the encoder, and its pairs to the list, if there
 -- is one.
 abbrev pub Emits : {Z : Type 0} → Function → Numbers → (old new : List ℕ)
     → (entry : Option (LentPairs Z)) → (exit : Left (LentPairs Z)) → Type 0
-Emits f to old new None (inl none) = AppendsBytes f.sequences (first_slot f) to old new
-Emits f to old new (Some list) (inr (inl left)) = Appends f.sequences (first_slot f) to old new
-    list.now.items left.0.now.items
-Emits f to old new _ _ = ⊥
+Emits f to old new entry exit = OfLists (Appends f.sequences (first_slot f) to old new) entry exit
 
 -- the list is unchanged, if there is one
 abbrev pub KeepsPairs : {Z : Type 0} → (entry : Option (LentPairs Z))

@@ -56,10 +56,6 @@ OpensAs old new kind id (Err e) = ⊥
 abbrev pub OpensBlock : (old new : OpenTrees) → BlockKind → BlockType → (id : ℕ) → Type 0
 OpensBlock old new kind b id = OpensAs old new kind id (name_block (env_of old) b)
 
--- the fault if a block type can't be named, or has no picked type in the module
-abbrev pub HasNoType : OpenTrees → BlockType → ParseError → Type 0
-HasNoType c b e = opened_type (env_of c) b ≡ Err e
-
 -- The innermost frame is closed, and its sequence now has its instructions; nothing else changed.
 pub record Closes (old new : OpenTrees) (frame : OpenFrame) : Type 0 where
   pub was : InstrSeq

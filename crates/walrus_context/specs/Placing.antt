@@ -10,7 +10,7 @@ use Rattle.walrus_maps.specs.IndexMaps.{id_of}
 use Rattle.wasm_body.specs.declared.error.ParseError.{ParseError}
 use Rattle.wasm_body.specs.declared.error.ParseError.TheVariants.{NoSuchLabel, RethrowOutsideHandler, Index}
 use Rattle.walrus_ir.specs.Results.{◌>>=◌, some_or, unless, with_fault}
-use Rattle.wasm_body.specs.Translation.{Translation}
+use Rattle.wasm_body.specs.Translation.{Translation, keeping_numbers}
 use Rattle.wasm_body.specs.Naming.{Environment, id_at, name_block}
 use Rattle.walrus_context.specs.OpenFrames.{OpenFrame}
 use Rattle.walrus_context.specs.Keeping.{slots}
@@ -47,14 +47,9 @@ block_found env b = name_block env b >>= λ s. Ok tt
 
 -- the translation while these frames are open, innermost first
 abbrev pub placing : Environment → List OpenFrame → Translation ℕ BlockType ℕ (Unit {0}) ParseError
-placing env fs = record {
+placing env fs = record (keeping_numbers (place_at fs) (block_found env) (λ e. 2 ^ e)) {
   index = id_at env;
   local = λ n. with_fault Index (env.local_of n);
-  label = place_at fs;
   handler = handler_in fs;
   outer = depth_around fs;
-  block = block_found env;
-  alignment = λ e. 2 ^ e;
-  number = λ n. Ok n;
-  count = λ n. Ok tt;
 }

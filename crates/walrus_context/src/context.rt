@@ -1,5 +1,5 @@
 //! The sequences of a function during its parse, some of which are open.
-ghost use Rattle.std.specs.Prelude.{reverse, ◌≡◌, ◌⊎◌, ◌≤◌, ◌<◌, [], length, IsSomeAnd, None, Ok, true, false, IfSome, IfOk, IfErr, OnOk, OnErr, MatchOption, MatchResult};
+ghost use Rattle.std.specs.Prelude.{reverse, ◌≡◌, ◌⊎◌, ◌≤◌, ◌<◌, [], length, IsSomeAnd, None, Ok, Err, true, false, IfSome, IfOk, IfErr, OnOk, OnErr, MatchOption, MatchResult};
 ghost use Rattle.walrus_ir.specs.Types.{existing, signature_of};
 ghost use Rattle.walrus_ir.specs.declared.val_type.InstrSeqType.TheVariants.{MultiValue, Simple};
 ghost use Rattle.wasm_body.specs.declared.error.ParseError.{ParseError as Fault};
@@ -9,7 +9,7 @@ ghost use Rattle.walrus_ir.specs.Results.{with_fault};
 ghost use Rattle.wasm_body.specs.declared.error.ParseError.TheVariants.{Index};
 ghost use Rattle.walrus_maps.specs.IndexMaps.{local_of};
 ghost use Rattle.walrus_context.specs.Placing.{block_found, kind_at, place_at};
-ghost use Rattle.walrus_context.specs.OpenTrees.{env_of, Opens, OpensBlock, HasNoType, Pops, ChangesFrame, AddsClauseAround, EndsAt};
+ghost use Rattle.walrus_context.specs.OpenTrees.{env_of, opened_type, Opens, OpensBlock, Pops, ChangesFrame, AddsClauseAround, EndsAt};
 
 use crate::frame::{ControlFrame, ControlStack};
 use crate::frame_stack::FrameStack;
@@ -285,7 +285,7 @@ impl<'a> ValidationContext<'a> {
     fn push_function_type(&mut self, kind: BlockKind, index: u32) -> Result<InstrSeqId, ParseError>
         ensures ok { IfOk result (λ id. OpensBlock self.old self.new kind (FuncType index) id) }
         ensures err { IfErr result (λ e. (e ≡ Fault.Memory)
-            ⊎ HasNoType self.old (FuncType index) e) }
+            ⊎ (opened_type (env_of self.old) (FuncType index) ≡ Err e)) }
     {
         let module = self.module;
         let id = self.indices.get_type(index)?;
@@ -302,7 +302,8 @@ impl<'a> ValidationContext<'a> {
     // Opens a frame without parameters and with one result of this type.
     fn push_value_type(&mut self, kind: BlockKind, ty: RawValType) -> Result<InstrSeqId, ParseError>
         ensures ok { IfOk result (λ id. OpensBlock self.old self.new kind (Value ty) id) }
-        ensures err { IfErr result (λ e. (e ≡ Fault.Memory) ⊎ HasNoType self.old (Value ty) e) }
+        ensures err { IfErr result (λ e. (e ≡ Fault.Memory)
+            ⊎ (opened_type (env_of self.old) (Value ty) ≡ Err e)) }
     {
         match value_type(self.indices, ty) {
             Ok(ty) => self.push_control(kind, &[], &[ty]),
@@ -320,7 +321,8 @@ impl<'a> ValidationContext<'a> {
     /// `TypeMissing` if the module has no type that can be picked; `Memory` if memory runs out.
     pub fn push_block(&mut self, kind: BlockKind, ty: BlockType) -> Result<InstrSeqId, ParseError>
         ensures ok { IfOk result (λ id. OpensBlock self.old self.new kind ty id) }
-        ensures err { IfErr result (λ e. (e ≡ Fault.Memory) ⊎ HasNoType self.old ty e) }
+        ensures err { IfErr result (λ e. (e ≡ Fault.Memory)
+            ⊎ (opened_type (env_of self.old) ty ≡ Err e)) }
     {
         match ty {
             BlockType::Empty => match self.enter_simple(kind) {

@@ -1,5 +1,5 @@
 //! Writing a function's tree.
-ghost use Rattle.std.specs.Prelude.{◌≡◌, ◌∷◌, [], ◌<◌, ◌^◌, length, None, Ok, OnOk, OnErr, IfOk, IfErr};
+ghost use Rattle.std.specs.Prelude.{◌≡◌, ◌∷◌, [], ◌<◌, ◌^◌, length, None, Some, Ok, OnOk, OnErr, IfOk, IfErr};
 ghost use Rattle.walrus_ir.specs.declared.val_type.InstrSeqType.TheVariants.{Simple};
 ghost use Rattle.std.specs.Bool.{OnTrue, OnFalse};
 ghost use Rattle.walrus_ir.specs.declared.instr.Instr.TheVariants as instruction;
@@ -13,7 +13,7 @@ ghost use Rattle.wasm_body.specs.InstructionTable.{operation_of, access_at, clau
 ghost use Rattle.wasm_body.specs.FlatText.{are_lawful as lawful_clauses};
 ghost use Rattle.walrus_numbering.specs.NumberMaps.{numbers_of};
 ghost use Rattle.walrus_numbering.specs.NumberTables.{HasNumbers};
-ghost use Rattle.walrus_emitter.specs.TreeWriting.Trees.{IsFirstScope, IsDraftOf, IsNotWritten, Appends, AppendsBytes};
+ghost use Rattle.walrus_emitter.specs.TreeWriting.Trees.{IsFirstScope, IsDraftOf, IsNotWritten, Appends};
 ghost use Rattle.walrus_emitter.specs.TreeWriting.Emitters.{ClosesWith, IsFaultOfCloser};
 
 use std::alloc::AllocError;
@@ -537,7 +537,7 @@ pub fn emit_with_map(
     map: &mut Vec<(InstrLocId, usize)>,
 ) -> Result<(), EmitError>
     ensures ok { OnOk result (Appends builder.now.sequences entry (numbers_of numbers.now)
-        encoder.old encoder.new map.old.items map.new.items) }
+        encoder.old encoder.new (Some (map.old.items, map.new.items))) }
     ensures err { IfErr result (IsNotWritten builder.now.sequences entry (numbers_of numbers.now)) }
     ensures same_bytes { OnErr result (encoder.new ≡ encoder.old) }
     ensures same_pairs { OnErr result (map.new.items ≡ map.old.items) }
@@ -562,8 +562,8 @@ pub fn emit_without_map(
     numbers: &NumberMaps<'_>,
     encoder: &mut FunctionEncoder,
 ) -> Result<(), EmitError>
-    ensures ok { OnOk result (AppendsBytes builder.now.sequences entry (numbers_of numbers.now)
-        encoder.old encoder.new) }
+    ensures ok { OnOk result (Appends builder.now.sequences entry (numbers_of numbers.now)
+        encoder.old encoder.new None) }
     ensures err { IfErr result (IsNotWritten builder.now.sequences entry (numbers_of numbers.now)) }
     ensures same_bytes { OnErr result (encoder.new ≡ encoder.old) }
 {

@@ -38,9 +38,13 @@ pub record HasFault (to : Numbers) (types : List (ValType ℕ)) (args : List ℕ
   pub are_declared : AreDeclared types args used others
   pub fault_is : declared to (length args) others ≡ Err e
 
--- Memory ran out, a local isn't in the module, or the declarations have this fault.
+-- A local isn't in the module, or the declarations have this fault.
+abbrev pub HasNoDeclarations : Numbers → List (ValType ℕ) → List ℕ → (ℕ → Bool) → EmitError → Type 0
+HasNoDeclarations to types args used e = ((e ≡ UnknownLocal) × HasUnknown types args used) ⊎ HasFault to types args used e
+
+-- Memory ran out, or there are no declarations.
 abbrev pub IsNotDeclared : Numbers → List (ValType ℕ) → List ℕ → (ℕ → Bool) → EmitError → Type 0
-IsNotDeclared to types args used e = (e ≡ Memory) ⊎ (((e ≡ UnknownLocal) × HasUnknown types args used) ⊎ HasFault to types args used e)
+IsNotDeclared to types args used e = (e ≡ Memory) ⊎ HasNoDeclarations to types args used e
 
 -- ---- intermediate results
 

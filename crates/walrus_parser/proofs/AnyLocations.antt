@@ -1,26 +1,22 @@
 -- Which fault is the first doesn't depend on what the location function returns.
-use Rattle.std.specs.Prelude.{◌≡◌, ℕ, zero, suc, ◌+◌, ◌-◌, List, [], ◌∷◌, length, Bool, true, false, Option, Some, None, Result, Ok, Err}
+use Rattle.std.specs.Prelude.{◌≡◌, ℕ, zero, suc, ◌+◌, ◌-◌, List, [], ◌∷◌, length, Bool, Option, Result, Ok, Err}
 use Rattle.std.proofs.Common.{refl, ap, sym, ◌∙◌}
-use Rattle.wasm_numbers.specs.declared.fault.ReadFault.{ReadFault}
 use Rattle.wasm_operators.specs.Operations.{RawOperation}
 use Rattle.wasm_operators.specs.OperatorList.{Placed}
-use Rattle.wasm_operators.specs.Spelling.{read_operation}
 use Rattle.wasm_body.specs.declared.error.ParseError.{ParseError}
-use Rattle.wasm_body.specs.declared.error.ParseError.TheVariants.{Read, PlaceTooGreat, Checked}
 use Rattle.wasm_body.specs.declared.error.ParseFailure.{ParseFailure}
-use Rattle.walrus_ir.specs.Results.{◌>>=◌, unless, with_fault}
+use Rattle.walrus_ir.specs.Results.{◌>>=◌}
 use Rattle.wasm_body.specs.Control.{control_of}
 use Rattle.wasm_body.specs.SourceTree.{Sequence, Body}
 use Rattle.wasm_body.specs.Frames.{Frame, moves}
 use Rattle.wasm_body.specs.Naming.{Environment, NamedOperation, Occurrence, named_in}
-use Rattle.wasm_body.specs.Parsing.Accepted.{mark, has_location, location_at, Setting, Handled, handled}
+use Rattle.wasm_body.specs.Parsing.Accepted.{mark, has_location, location_at, Setting, Admitted, admitted, Handled, handled}
 use Rattle.wasm_body.specs.Parsing.Lists.{continue_from, parsed_from}
 use Rattle.wasm_body.specs.Parsing.Progress.{Layer, Progress, Within, Whole, NoBody, nothing_read, frames_of, further}
 use Rattle.wasm_body.proofs.Structure.ReadFrames.{progress_frames, further_frames}
 use Rattle.wasm_body.proofs.ReadBack.FrameNames.{after_frames, moves_frames, named_of, shapes, named_same}
-use Rattle.walrus_parser.specs.Checking.{placed_at}
-use Rattle.walrus_parser.specs.Settings.{Taken, taken, given_with, BothOrNone}
-use Rattle.walrus_parser.proofs.ParsedSoFar.{occurrence}
+use Rattle.walrus_parser.specs.Settings.{given_with, BothOrNone}
+use Rattle.walrus_parser.proofs.ParsedSoFar.{occurrence, same_places}
 
 -- ---- one fault
 
@@ -43,51 +39,31 @@ module _ {S : Type 0} (env : Environment) (start : ℕ) (check : S → Placed �
   abbrev given : Option (ℕ → ℕ) → Setting S
   given = given_with env start check first
 
-  -- an operator that was taken, with its name
-  abbrev stepped : (ℕ → Bool) → S → List (Frame Occurrence) → ℕ → List ℕ → Result (NamedOperation × Taken S) ParseError
-  stepped fits v fs place bytes = taken fits check v place bytes >>= λ t. named_in env fs t.spelt >>= λ named. Ok (named, t)
+  -- an operator that was admitted, with its name
+  abbrev stepped : (ℕ → Bool) → S → List (Frame Occurrence) → ℕ → List ℕ → Result (NamedOperation × Admitted S) ParseError
+  stepped fits v fs place bytes = admitted fits check v place bytes >>= λ t. named_in env fs t.spelt >>= λ named. Ok (named, t)
 
-  abbrev put : Option (ℕ → ℕ) → ℕ → NamedOperation × Taken S → Handled S
+  abbrev put : Option (ℕ → ℕ) → ℕ → NamedOperation × Admitted S → Handled S
   put locations place k = record { operator = occurrence k.1.spelt place (location_at locations place) k.0; rest = k.1.rest; state = k.1.state }
 
   handled_as : (locations : Option (ℕ → ℕ)) (v : S) (fs : List (Frame Occurrence)) (place : ℕ) (bytes : List ℕ) →
       handled (given locations) v fs place bytes ≡ (stepped (has_location locations) v fs place bytes >>= λ k. Ok (put locations place k))
-  handled_as locations v fs place bytes = by_read (read_operation bytes)
+  handled_as locations v fs place bytes = by_admitted (admitted (has_location locations) check v place bytes)
     where
-      by_name : (x : RawOperation × List ℕ) (w : S) (r : Result NamedOperation ParseError) → ◌≡◌ {A = Result (Handled S) ParseError}
-          (r >>= λ named. Ok (record { operator = occurrence x.0 place (location_at locations place) named; rest = x.1; state = w }))
-          ((r >>= λ named. Ok (named, record { spelt = x.0; rest = x.1; state = w })) >>= λ k. Ok (put locations place k))
-      by_name x w (Ok named) = refl
-      by_name x w (Err e) = refl
+      by_name : (a : Admitted S) (r : Result NamedOperation ParseError) → ◌≡◌ {A = Result (Handled S) ParseError}
+          (r >>= λ named. Ok (put locations place (named, a)))
+          ((r >>= λ named. Ok (named, a)) >>= λ k. Ok (put locations place k))
+      by_name a (Ok named) = refl
+      by_name a (Err e) = refl
 
-      by_check : (x : RawOperation × List ℕ) (c : Result S ℕ) → ◌≡◌ {A = Result (Handled S) ParseError}
-          (with_fault Checked c >>= λ w. named_in env fs x.0 >>= λ named. Ok (record { operator = occurrence x.0 place (location_at locations place) named; rest = x.1; state = w }))
-          (((with_fault Checked c >>= λ t. Ok (record { spelt = x.0; rest = x.1; state = t })) >>= λ t. named_in env fs t.spelt >>= λ named. Ok (named, t)) >>= λ k. Ok (put locations place k))
-      by_check x (Ok w) = by_name x w (named_in env fs x.0)
-      by_check x (Err n) = refl
-
-      by_place : (x : RawOperation × List ℕ) (b : Bool) → ◌≡◌ {A = Result (Handled S) ParseError}
-          (unless b PlaceTooGreat >>= λ _. with_fault Checked (check v (placed_at x.0 place)) >>= λ w. named_in env fs x.0 >>= λ named. Ok (record { operator = occurrence x.0 place (location_at locations place) named; rest = x.1; state = w }))
-          (((unless b PlaceTooGreat >>= λ _. with_fault Checked (check v (placed_at x.0 place)) >>= λ t. Ok (record { spelt = x.0; rest = x.1; state = t })) >>= λ t. named_in env fs t.spelt >>= λ named. Ok (named, t)) >>= λ k. Ok (put locations place k))
-      by_place x true = by_check x (check v (placed_at x.0 place))
-      by_place x false = refl
-
-      by_read : (r : Result (RawOperation × List ℕ) ReadFault) → ◌≡◌ {A = Result (Handled S) ParseError}
-          (with_fault (λ fault. Read (record { fault = fault; at = place })) r >>= λ x.
-          unless (has_location locations place) PlaceTooGreat >>= λ _. with_fault Checked (check v (placed_at x.0 place)) >>= λ w. named_in env fs x.0 >>= λ named. Ok (record { operator = occurrence x.0 place (location_at locations place) named; rest = x.1; state = w }))
-          (((with_fault (λ fault. Read (record { fault = fault; at = place })) r >>= λ x.
-          unless (has_location locations place) PlaceTooGreat >>= λ _. with_fault Checked (check v (placed_at x.0 place)) >>= λ t. Ok (record { spelt = x.0; rest = x.1; state = t })) >>= λ t. named_in env fs t.spelt >>= λ named. Ok (named, t)) >>= λ k. Ok (put locations place k))
-      by_read (Ok x) = by_place x (has_location locations place)
-      by_read (Err e) = refl
+      by_admitted : (r : Result (Admitted S) ParseError) → ◌≡◌ {A = Result (Handled S) ParseError}
+          (r >>= λ a. named_in env fs a.spelt >>= λ named. Ok (put locations place (named, a)))
+          ((r >>= λ a. named_in env fs a.spelt >>= λ named. Ok (named, a)) >>= λ k. Ok (put locations place k))
+      by_admitted (Ok a) = by_name a (named_in env fs a.spelt)
+      by_admitted (Err e) = refl
 
   same_names : (fits : ℕ → Bool) (v : S) (fs gs : List (Frame Occurrence)) (place : ℕ) (bytes : List ℕ) → shapes fs ≡ shapes gs → stepped fits v fs place bytes ≡ stepped fits v gs place bytes
-  same_names fits v fs gs place bytes e = λ i. taken fits check v place bytes >>= λ t. named_same env fs gs t.spelt e i >>= λ named. Ok (named, t)
-
-  same_limit : (l m : Option (ℕ → ℕ)) → BothOrNone l m → has_location l ≡ has_location m
-  same_limit None None h = refl
-  same_limit (Some l) (Some m) h = refl
-  same_limit None (Some m) h = absurd h
-  same_limit (Some l) None h = absurd h
+  same_names fits v fs gs place bytes e = λ i. admitted fits check v place bytes >>= λ t. named_same env fs gs t.spelt e i >>= λ named. Ok (named, t)
 
   module _ (l m : Option (ℕ → ℕ)) (both : BothOrNone l m) where
     abbrev SameFault : ℕ → Type 0
@@ -98,7 +74,7 @@ module _ {S : Type 0} (env : Environment) (start : ℕ) (check : S → Placed �
     after locations turns ls s place size r = continue_from place r (λ h. parsed_from (given locations) turns (further (Within ls s) (mark h.operator)) h.state (place + (size - length h.rest)) h.rest)
 
     turn_same : (turns : ℕ) → SameFault turns → (ls ks : List (Layer Occurrence)) (s t : Sequence Occurrence) (place size : ℕ) (f : ParseFailure) → shapes (frames_of ls) ≡ shapes (frames_of ks) →
-        (r : Result (NamedOperation × Taken S) ParseError) → after l turns ls s place size (r >>= λ k. Ok (put l place k)) ≡ Err f → after m turns ks t place size (r >>= λ k. Ok (put m place k)) ≡ Err f
+        (r : Result (NamedOperation × Admitted S) ParseError) → after l turns ls s place size (r >>= λ k. Ok (put l place k)) ≡ Err f → after m turns ks t place size (r >>= λ k. Ok (put m place k)) ≡ Err f
     turn_same turns ih ls ks s t place size f same (Err e) is = is
     turn_same turns ih ls ks s t place size f same (Ok k) is =
         ih (further (Within ls s) (mark (occurrence k.1.spelt place (location_at l place) k.0))) (further (Within ks t) (mark (occurrence k.1.spelt place (location_at m place) k.0)))
@@ -124,7 +100,7 @@ module _ {S : Type 0} (env : Environment) (start : ℕ) (check : S → Placed �
         let alike = within_shapes ls ks s t same in
         let size = length (x ∷ bytes) in
         let step : stepped (has_location m) v (frames_of ks) place (x ∷ bytes) ≡ stepped (has_location l) v (frames_of ls) place (x ∷ bytes) =
-        ap (λ fits. stepped fits v (frames_of ks) place (x ∷ bytes)) (sym (same_limit l m both)) ∙ sym (same_names (has_location l) v (frames_of ls) (frames_of ks) place (x ∷ bytes) alike) in
+        ap (λ fits. stepped fits v (frames_of ks) place (x ∷ bytes)) (same_places l m both) ∙ sym (same_names (has_location l) v (frames_of ls) (frames_of ks) place (x ∷ bytes) alike) in
         ap (after m turns ks t place size) (handled_as m v (frames_of ks) place (x ∷ bytes) ∙ ap (λ r. r >>= λ k. Ok (put m place k)) step)
         ∙ turn_same turns (same_fault turns) ls ks s t place size f alike (stepped (has_location l) v (frames_of ls) place (x ∷ bytes))
         (sym (ap (after l turns ls s place size) (handled_as l v (frames_of ls) place (x ∷ bytes))) ∙ is)

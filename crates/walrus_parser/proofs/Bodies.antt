@@ -10,7 +10,7 @@ use Rattle.wasm_body.specs.declared.error.ParseFailure.{ParseFailure}
 use Rattle.wasm_body.specs.Control.{end_operation}
 use Rattle.wasm_body.specs.SourceTree.{Sequence, Empty, Body}
 use Rattle.wasm_body.specs.Naming.{NamedOperation, Occurrence, named_in}
-use Rattle.wasm_body.specs.Parsing.Accepted.{mark}
+use Rattle.wasm_body.specs.Parsing.Accepted.{mark, has_location, admitted}
 use Rattle.wasm_body.specs.Parsing.Lists.{failure}
 use Rattle.wasm_body.specs.Parsing.Progress.{Layer, Progress, Within, Whole, NoBody, frames_of, further}
 use Rattle.walrus_parser.specs.declared.body_parser.BodyParser.{BodyParser}
@@ -19,10 +19,10 @@ use Rattle.walrus_parser.specs.Bodies.{ParseInput, mapped_by, operators_parsed, 
 use Rattle.walrus_parser.specs.BodyParsers.{Begins, state_of}
 use Rattle.walrus_parser.specs.Locating.{Locates, MayCall}
 use Rattle.walrus_context.specs.OpenTrees.{env_of}
-use Rattle.walrus_parser.specs.Settings.{has_place, taken, BothOrNone, locations_in, operators_of, IsMapping}
+use Rattle.walrus_parser.specs.Settings.{BothOrNone, locations_in, operators_of, IsMapping}
 use Rattle.walrus_parser.proofs.AnyLocations.{any_locations}
 use Rattle.walrus_parser.proofs.Mappings.{may_call_next, rise-wider}
-use Rattle.walrus_parser.proofs.ParsedSoFar.{Reads, begins, occurrence, goes_over, not_taken, broken, missing, whole, trailing, whole_operators}
+use Rattle.walrus_parser.proofs.ParsedSoFar.{Reads, begins, occurrence, goes_over, not_admitted, broken, missing, whole, trailing, whole_operators}
 
 abbrev pub body_at : Sequence Occurrence → (place location : ℕ) → Body Occurrence
 body_at s place location = record { sequence = s; close = occurrence end_operation place location end_operation }
@@ -71,12 +71,12 @@ module _ {S F : Type 0} (g : Shared F (Bor ℕ × Unit {0}) ℕ) (i : ParseInput
 
   module _ (fits : i.offset ≤ i.start) where
     pub unread : (p : BodyParser) (state : S) (place : ℕ) (rest : List ℕ) (mapping : List (ℕ × ℕ)) (e : ParseError) (f : ParseFailure) → SoFar p state place rest mapping → 0 < length rest →
-        taken (has_place i.on_instr_pos) i.check state place rest ≡ Err e → f ≡ failure e place → IsRefusedAnyway g i f
+        admitted (has_location i.on_instr_pos) i.check state place rest ≡ Err e → f ≡ failure e place → IsRefusedAnyway g i f
     unread p state place rest mapping e f s some take is =
-        anyway mapping f (not_taken g i.on_instr_pos i.environment i.start i.offset i.check i.first i.bytes fits s.layers s.sequence state place rest mapping e s.reads some take ∙ ap Err (sym is))
+        anyway mapping f (not_admitted g i.on_instr_pos i.environment i.start i.offset i.check i.first i.bytes fits s.layers s.sequence state place rest mapping e s.reads some take ∙ ap Err (sym is))
 
     pub breaks : (p : BodyParser) (state next_state : S) (place : ℕ) (rest after : List ℕ) (mapping : List (ℕ × ℕ)) (op : RawOperation) (e : ParseError) (f : ParseFailure) (s : SoFar p state place rest mapping) → 0 < length rest →
-        taken (has_place i.on_instr_pos) i.check state place rest ≡ Ok (record { spelt = op; rest = after; state = next_state }) → named_in (env_of p.context) (frames_of s.layers) op ≡ Err e → f ≡ failure e place → IsRefusedAnyway g i f
+        admitted (has_location i.on_instr_pos) i.check state place rest ≡ Ok (record { spelt = op; rest = after; state = next_state }) → named_in (env_of p.context) (frames_of s.layers) op ≡ Err e → f ≡ failure e place → IsRefusedAnyway g i f
     breaks p state next_state place rest after mapping op e f s some take named is =
         anyway mapping f
         (broken g i.on_instr_pos i.environment i.start i.offset i.check i.first i.bytes fits s.layers s.sequence state next_state place rest after mapping op e s.reads some take
@@ -88,9 +88,9 @@ module _ {S F : Type 0} (g : Shared F (Bor ℕ × Unit {0}) ℕ) (i : ParseInput
 
     -- ---- one more operator
 
-    -- the operator was read and taken, and it has a name
+    -- the operator was admitted, and it has a name
     pub over_next : (p : BodyParser) (state next_state : S) (place next : ℕ) (rest after : List ℕ) (mapping following : List (ℕ × ℕ)) (op : RawOperation) (location : ℕ) (named : NamedOperation) (s : SoFar p state place rest mapping) →
-        taken (has_place i.on_instr_pos) i.check state place rest ≡ Ok (record { spelt = op; rest = after; state = next_state }) → Locates g i.on_instr_pos place location → named_in (env_of p.context) (frames_of s.layers) op ≡ Ok named →
+        admitted (has_location i.on_instr_pos) i.check state place rest ≡ Ok (record { spelt = op; rest = after; state = next_state }) → Locates g i.on_instr_pos place location → named_in (env_of p.context) (frames_of s.layers) op ≡ Ok named →
         next + length after ≡ place + length rest → length after < length rest → following ≡ mapping ++ (place - i.offset, location) ∷ [] →
         ReadsSo (further (Within s.layers s.sequence) (mark (occurrence op place location named))) next_state next after following
     over_next p state next_state place next rest after mapping following op location named s take located is moved shorter pushed =
@@ -100,7 +100,7 @@ module _ {S F : Type 0} (g : Shared F (Bor ℕ × Unit {0}) ℕ) (i : ParseInput
 
     -- it was the function's own `end`
     pub over_end : (p : BodyParser) (state next_state : S) (place next : ℕ) (rest after : List ℕ) (mapping following : List (ℕ × ℕ)) (location : ℕ) (s : SoFar p state place rest mapping) → s.layers ≡ [] →
-        taken (has_place i.on_instr_pos) i.check state place rest ≡ Ok (record { spelt = end_operation; rest = after; state = next_state }) → Locates g i.on_instr_pos place location →
+        admitted (has_location i.on_instr_pos) i.check state place rest ≡ Ok (record { spelt = end_operation; rest = after; state = next_state }) → Locates g i.on_instr_pos place location →
         next + length after ≡ place + length rest → length after < length rest → following ≡ mapping ++ (place - i.offset, location) ∷ [] →
         ReadsSo (Whole (body_at s.sequence place location)) next_state next after following
     over_end p state next_state place next rest after mapping following location s top take located moved shorter pushed =

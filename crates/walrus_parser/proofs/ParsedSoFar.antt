@@ -1,41 +1,39 @@
 -- A parse so far: reading the remaining bytes from here gives the same as reading all from the beginning, for every location
 -- function that agrees with the locations so far.
-use Rattle.std.specs.Prelude.{◌≡◌, ℕ, zero, suc, ◌+◌, ◌-◌, ◌<◌, ◌≤◌, List, [], ◌∷◌, ◌++◌, map, length, Bool, true, false, Option, Some, None, Result, Ok, Err}
+use Rattle.std.specs.Prelude.{◌≡◌, ℕ, zero, suc, ◌+◌, ◌-◌, ◌<◌, ◌≤◌, List, [], ◌∷◌, ◌++◌, map, length, Option, Some, None, Result, Ok, Err}
 use Rattle.std.specs.Borrow.{Bor}
 use Rattle.std.specs.Fn.{Shared}
 use Rattle.std.specs.List.{AllByRecursion}
 use Rattle.std.proofs.lemmas.List.{map-append, append-nil}
 use Rattle.std.proofs.Common.{refl, ap, sym, subst, ◌∙◌, arith}
-use Rattle.wasm_numbers.specs.declared.fault.ReadFault.{ReadFault}
 use Rattle.wasm_operators.specs.Operations.{RawOperation}
 use Rattle.wasm_operators.specs.OperatorList.{Placed}
-use Rattle.wasm_operators.specs.Spelling.{read_operation}
 use Rattle.wasm_body.specs.declared.error.ParseError.{ParseError}
-use Rattle.wasm_body.specs.declared.error.ParseError.TheVariants.{Read, PlaceTooGreat, Checked, Trailing, MissingEnd}
+use Rattle.wasm_body.specs.declared.error.ParseError.TheVariants.{Trailing, MissingEnd}
 use Rattle.wasm_body.specs.declared.error.ParseFailure.{ParseFailure}
-use Rattle.walrus_ir.specs.Results.{◌>>=◌, unless, with_fault}
+use Rattle.walrus_ir.specs.Results.{◌>>=◌}
 use Rattle.wasm_body.specs.Control.{Marked}
 use Rattle.wasm_body.specs.SourceTree.{Sequence, Body, body_text}
 use Rattle.wasm_body.specs.Frames.{Frame}
 use Rattle.wasm_body.specs.Naming.{Environment, NamedOperation, Occurrence, named_in}
-use Rattle.wasm_body.specs.Parsing.Accepted.{mark, has_location, location_at, Setting, Handled, handled}
+use Rattle.wasm_body.specs.Parsing.Accepted.{mark, has_location, location_at, Setting, Admitted, admitted, Handled, handled}
 use Rattle.wasm_body.specs.Parsing.Lists.{failure, continue_from, parsed_from}
 use Rattle.wasm_body.specs.Parsing.Progress.{Layer, Progress, Within, Whole, nothing_read, frames_of, further, progress_after}
 use Rattle.wasm_body.proofs.Structure.ReadTexts.{IsRead, read_text, text_read}
-use Rattle.walrus_parser.specs.Checking.{placed_at}
 use Rattle.walrus_parser.specs.Locating.{Locates}
-use Rattle.walrus_parser.specs.Settings.{has_place, Taken, taken, given_with, BothOrNone, locations_in, operators_of, IsMapping}
+use Rattle.walrus_parser.specs.Settings.{given_with, BothOrNone, locations_in, operators_of, IsMapping}
 use Rattle.walrus_parser.proofs.Mappings.{all-front, mapping-append, mapped_locations, mapped_both}
 
 pub progress-append : {A : Type 0} (xs ys : List (Marked A)) (p : Progress A) → progress_after p (xs ++ ys) ≡ progress_after (progress_after p xs) ys
 progress-append [] ys p = refl
 progress-append (x ∷ xs) ys p = progress-append xs ys (further p x)
 
-pub same_places : {F : Type 0} (o : Option F) (locations : Option (ℕ → ℕ)) (place : ℕ) → BothOrNone o locations → has_location locations place ≡ has_place o place
-same_places None None place h = refl
-same_places (Some f) (Some l) place h = refl
-same_places None (Some l) place h = absurd h
-same_places (Some f) None place h = absurd h
+-- the same places have a location
+pub same_places : {F : Type 0} (o : Option F) (locations : Option (ℕ → ℕ)) → BothOrNone o locations → has_location locations ≡ has_location o
+same_places None None h = refl
+same_places (Some f) (Some l) h = refl
+same_places None (Some l) h = absurd h
+same_places (Some f) None h = absurd h
 
 shown_marks : (xs : List Occurrence) → map (λ m. m.shown) (map mark xs) ≡ xs
 shown_marks [] = refl
@@ -54,7 +52,7 @@ module _ {S F : Type 0} (g : Shared F (Bor ℕ × Unit {0}) ℕ) (o : Option (Bo
   abbrev pub AreLocated : Option (ℕ → ℕ) → List Occurrence → Type 0
   AreLocated locations xs = AllByRecursion (λ x. x.location ≡ location_at locations x.place) xs
 
-  -- these operators are read and taken so far, and they are this part of a body
+  -- these operators are read and admitted so far, and they are this part of a body
   pub record Reads (progress : Progress Occurrence) (state : S) (place : ℕ) (rest : List ℕ) (mapping : List (ℕ × ℕ)) : Type 0 where
     pub turns : ℕ
     pub operators : List Occurrence
@@ -80,37 +78,12 @@ module _ {S F : Type 0} (g : Shared F (Bor ℕ × Unit {0}) ℕ) (o : Option (Bo
 
   -- ---- one operator
 
-  abbrev named_taken : Option (ℕ → ℕ) → List (Frame Occurrence) → ℕ → Taken S → Result (Handled S) ParseError
-  named_taken locations fs place t = named_in env fs t.spelt >>= λ named. Ok (record { operator = occurrence t.spelt place (location_at locations place) named; rest = t.rest; state = t.state })
+  abbrev named_admitted : Option (ℕ → ℕ) → List (Frame Occurrence) → ℕ → Admitted S → Result (Handled S) ParseError
+  named_admitted locations fs place t = named_in env fs t.spelt >>= λ named. Ok (record { operator = occurrence t.spelt place (location_at locations place) named; rest = t.rest; state = t.state })
 
   handled_next : (locations : Option (ℕ → ℕ)) (s : S) (fs : List (Frame Occurrence)) (place : ℕ) (rest : List ℕ) → BothOrNone o locations →
-      handled (given locations) s fs place rest ≡ (taken (has_place o) check s place rest >>= named_taken locations fs place)
-  handled_next locations s fs place rest both = by_read (read_operation rest)
-    where
-      by_check : (x : RawOperation × List ℕ) (c : Result S ℕ) →
-          ◌≡◌ {A = Result (Handled S) ParseError}
-          (with_fault Checked c >>= λ w. named_in env fs x.0 >>= λ named. Ok (record { operator = occurrence x.0 place (location_at locations place) named; rest = x.1; state = w }))
-          ((with_fault Checked c >>= λ t. Ok (record { spelt = x.0; rest = x.1; state = t })) >>= named_taken locations fs place)
-      by_check x (Ok w) = refl
-      by_check x (Err n) = refl
-
-      by_place : (x : RawOperation × List ℕ) (a b : Bool) → a ≡ b →
-          ◌≡◌ {A = Result (Handled S) ParseError}
-          (unless a PlaceTooGreat >>= λ _. with_fault Checked (check s (placed_at x.0 place)) >>= λ w. named_in env fs x.0 >>= λ named. Ok (record { operator = occurrence x.0 place (location_at locations place) named; rest = x.1; state = w }))
-          ((unless b PlaceTooGreat >>= λ _. with_fault Checked (check s (placed_at x.0 place)) >>= λ t. Ok (record { spelt = x.0; rest = x.1; state = t })) >>= named_taken locations fs place)
-      by_place x true true e = by_check x (check s (placed_at x.0 place))
-      by_place x false false e = refl
-      by_place x true false e = absurd cc
-      by_place x false true e = absurd cc
-
-      by_read : (r : Result (RawOperation × List ℕ) ReadFault) →
-          ◌≡◌ {A = Result (Handled S) ParseError}
-          (with_fault (λ fault. Read (record { fault = fault; at = place })) r >>= λ x.
-          unless (has_location locations place) PlaceTooGreat >>= λ _. with_fault Checked (check s (placed_at x.0 place)) >>= λ w. named_in env fs x.0 >>= λ named. Ok (record { operator = occurrence x.0 place (location_at locations place) named; rest = x.1; state = w }))
-          ((with_fault (λ fault. Read (record { fault = fault; at = place })) r >>= λ x.
-          unless (has_place o place) PlaceTooGreat >>= λ _. with_fault Checked (check s (placed_at x.0 place)) >>= λ t. Ok (record { spelt = x.0; rest = x.1; state = t })) >>= named_taken locations fs place)
-      by_read (Err e) = refl
-      by_read (Ok x) = by_place x (has_location locations place) (has_place o place) (same_places o locations place both)
+      handled (given locations) s fs place rest ≡ (admitted (has_location o) check s place rest >>= named_admitted locations fs place)
+  handled_next locations s fs place rest both = ap (λ fits. admitted fits check s place rest >>= named_admitted locations fs place) (same_places o locations both)
 
   abbrev after_next : Option (ℕ → ℕ) → (turns : ℕ) (ls : List (Layer Occurrence)) (s : Sequence Occurrence) (place size : ℕ) → Result (Handled S) ParseError → Result (Body Occurrence) ParseFailure
   after_next locations turns ls s place size r =
@@ -122,13 +95,13 @@ module _ {S F : Type 0} (g : Shared F (Bor ℕ × Unit {0}) ℕ) (o : Option (Bo
   one_turn (suc t) rest some enough = (t, refl)
 
   from_next : (locations : Option (ℕ → ℕ)) → BothOrNone o locations → (t : ℕ) (ls : List (Layer Occurrence)) (s : Sequence Occurrence) (state : S) (place : ℕ) (rest : List ℕ) → 0 < length rest →
-      parsed_from (given locations) (suc t) (Within ls s) state place rest ≡ after_next locations t ls s place (length rest) (taken (has_place o) check state place rest >>= named_taken locations (frames_of ls) place)
+      parsed_from (given locations) (suc t) (Within ls s) state place rest ≡ after_next locations t ls s place (length rest) (admitted (has_location o) check state place rest >>= named_admitted locations (frames_of ls) place)
   from_next locations both t ls s state place [] some = absurd (omega arith)
   from_next locations both t ls s state place (x ∷ rest) some = ap (after_next locations t ls s place (length (x ∷ rest))) (handled_next locations state (frames_of ls) place (x ∷ rest) both)
 
-  -- an operator that was taken, and that has a name
+  -- an operator that was admitted, and that has a name
   pub goes_over : (ls : List (Layer Occurrence)) (s : Sequence Occurrence) (state next_state : S) (place next : ℕ) (rest after : List ℕ) (mapping : List (ℕ × ℕ)) (op : RawOperation) (location : ℕ) (named : NamedOperation) →
-      Reads (Within ls s) state place rest mapping → taken (has_place o) check state place rest ≡ Ok (record { spelt = op; rest = after; state = next_state }) →
+      Reads (Within ls s) state place rest mapping → admitted (has_location o) check state place rest ≡ Ok (record { spelt = op; rest = after; state = next_state }) →
       Locates g o place location → named_in env (frames_of ls) op ≡ Ok named → next + length after ≡ place + length rest → length after < length rest →
       Reads (further (Within ls s) (mark (occurrence op place location named))) next_state next after (mapping ++ (place - offset, location) ∷ [])
   goes_over ls s state next_state place next rest after mapping op location named f take located is moved shorter =
@@ -150,7 +123,7 @@ module _ {S F : Type 0} (g : Shared F (Bor ℕ × Unit {0}) ℕ) (o : Option (Bo
             ap (λ l. parsed_from (given locations) t.0 (further (Within ls s) (mark (occurrence op place l named))) next_state next after) parts.1
             ∙ ap (λ n. parsed_from (given locations) t.0 (further (Within ls s) (mark (occurrence op place (location_at locations place) named))) next_state n after) (sym here)
             ∙ sym (from_next locations both t.0 ls s state place rest (omega arith)
-            ∙ ap (λ r. after_next locations t.0 ls s place (length rest) (r >>= named_taken locations (frames_of ls) place)) take
+            ∙ ap (λ r. after_next locations t.0 ls s place (length rest) (r >>= named_admitted locations (frames_of ls) place)) take
             ∙ ap (λ r. after_next locations t.0 ls s place (length rest) (r >>= λ n. Ok (record { operator = occurrence op place (location_at locations place) n; rest = after; state = next_state }))) is)
             ∙ ap (λ n. parsed_from (given locations) n (Within ls s) state place rest) (sym t.1)
             ∙ f.continues locations both parts.0;
@@ -174,26 +147,26 @@ module _ {S F : Type 0} (g : Shared F (Bor ℕ × Unit {0}) ℕ) (o : Option (Bo
         parsed_operators (mapped mapping) ≡ parsed_from (given (mapped mapping)) f.turns p state place rest
     here p state place rest mapping f = sym (f.continues (mapped mapping) (mapped_both o offset mapping) (mapped_locations g o offset start place f.operators mapping fits f.is_mapping))
 
-    -- the next operator isn't taken
-    pub not_taken : (ls : List (Layer Occurrence)) (s : Sequence Occurrence) (state : S) (place : ℕ) (rest : List ℕ) (mapping : List (ℕ × ℕ)) (e : ParseError) →
-        Reads (Within ls s) state place rest mapping → 0 < length rest → taken (has_place o) check state place rest ≡ Err e → parsed_operators (mapped mapping) ≡ Err (failure e place)
-    not_taken ls s state place rest mapping e f some take =
+    -- the next operator isn't admitted
+    pub not_admitted : (ls : List (Layer Occurrence)) (s : Sequence Occurrence) (state : S) (place : ℕ) (rest : List ℕ) (mapping : List (ℕ × ℕ)) (e : ParseError) →
+        Reads (Within ls s) state place rest mapping → 0 < length rest → admitted (has_location o) check state place rest ≡ Err e → parsed_operators (mapped mapping) ≡ Err (failure e place)
+    not_admitted ls s state place rest mapping e f some take =
         let t = one_turn f.turns rest some f.enough in
         here (Within ls s) state place rest mapping f
         ∙ ap (λ n. parsed_from (given (mapped mapping)) n (Within ls s) state place rest) t.1
         ∙ from_next (mapped mapping) (mapped_both o offset mapping) t.0 ls s state place rest some
-        ∙ ap (λ r. after_next (mapped mapping) t.0 ls s place (length rest) (r >>= named_taken (mapped mapping) (frames_of ls) place)) take
+        ∙ ap (λ r. after_next (mapped mapping) t.0 ls s place (length rest) (r >>= named_admitted (mapped mapping) (frames_of ls) place)) take
 
     -- the operator breaks a rule
     pub broken : (ls : List (Layer Occurrence)) (s : Sequence Occurrence) (state next_state : S) (place : ℕ) (rest after : List ℕ) (mapping : List (ℕ × ℕ)) (op : RawOperation) (e : ParseError) →
-        Reads (Within ls s) state place rest mapping → 0 < length rest → taken (has_place o) check state place rest ≡ Ok (record { spelt = op; rest = after; state = next_state }) →
+        Reads (Within ls s) state place rest mapping → 0 < length rest → admitted (has_location o) check state place rest ≡ Ok (record { spelt = op; rest = after; state = next_state }) →
         named_in env (frames_of ls) op ≡ Err e → parsed_operators (mapped mapping) ≡ Err (failure e place)
     broken ls s state next_state place rest after mapping op e f some take is =
         let t = one_turn f.turns rest some f.enough in
         here (Within ls s) state place rest mapping f
         ∙ ap (λ n. parsed_from (given (mapped mapping)) n (Within ls s) state place rest) t.1
         ∙ from_next (mapped mapping) (mapped_both o offset mapping) t.0 ls s state place rest some
-        ∙ ap (λ r. after_next (mapped mapping) t.0 ls s place (length rest) (r >>= named_taken (mapped mapping) (frames_of ls) place)) take
+        ∙ ap (λ r. after_next (mapped mapping) t.0 ls s place (length rest) (r >>= named_admitted (mapped mapping) (frames_of ls) place)) take
         ∙ ap (λ r. after_next (mapped mapping) t.0 ls s place (length rest) (r >>= λ n. Ok (record { operator = occurrence op place (location_at (mapped mapping) place) n; rest = after; state = next_state }))) is
 
     -- no bytes remain, and a sequence is open

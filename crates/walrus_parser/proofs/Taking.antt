@@ -10,56 +10,52 @@ use Rattle.wasm_operators.specs.Spelling.{read_operation}
 use Rattle.wasm_body.specs.declared.error.ParseError.{ParseError}
 use Rattle.wasm_body.specs.declared.error.ParseError.TheVariants.{Read, PlaceTooGreat, Checked, Memory}
 use Rattle.walrus_ir.specs.Results.{◌>>=◌, unless, with_fault}
+use Rattle.wasm_body.specs.Parsing.Accepted.{has_location, Admitted, admitted}
 use Rattle.walrus_parser.specs.declared.check.CheckError.{CheckError}
 use Rattle.walrus_parser.specs.declared.check.CheckError.TheVariants.{Refused, Memory as out_of_memory}
 use Rattle.walrus_parser.specs.Checking.{placed_at, Checks, fault_of}
-use Rattle.walrus_parser.specs.Locating.{Locates, HasNoLocation}
-use Rattle.walrus_parser.specs.Settings.{has_place, Taken, taken}
+use Rattle.walrus_parser.specs.Locating.{Locates}
 
--- ---- what is taken
+-- ---- what is admitted
 
 module _ {S : Type 0} (fits : ℕ → Bool) (check : S → Placed → Result S ℕ) (s : S) (place : ℕ) where
-  abbrev by_read : Result (RawOperation × List ℕ) ReadFault → Result (Taken S) ParseError
+  abbrev by_read : Result (RawOperation × List ℕ) ReadFault → Result (Admitted S) ParseError
   by_read r =
       with_fault (λ fault. Read (record { fault = fault; at = place })) r >>= λ x.
       unless (fits place) PlaceTooGreat >>= λ _.
       with_fault Checked (check s (placed_at x.0 place)) >>= λ t.
       Ok (record { spelt = x.0; rest = x.1; state = t })
 
-  abbrev by_place : RawOperation → List ℕ → Bool → Result (Taken S) ParseError
+  abbrev by_place : RawOperation → List ℕ → Bool → Result (Admitted S) ParseError
   by_place o rest b = unless b PlaceTooGreat >>= λ _. with_fault Checked (check s (placed_at o place)) >>= λ t. Ok (record { spelt = o; rest = rest; state = t })
 
-  abbrev by_check : RawOperation → List ℕ → Result S ℕ → Result (Taken S) ParseError
+  abbrev by_check : RawOperation → List ℕ → Result S ℕ → Result (Admitted S) ParseError
   by_check o rest c = with_fault Checked c >>= λ t. Ok (record { spelt = o; rest = rest; state = t })
 
-  pub is_taken : (bytes rest : List ℕ) (o : RawOperation) (t : S) → read_operation bytes ≡ Ok (o, rest) → fits place ≡ true → check s (placed_at o place) ≡ Ok t →
-      taken fits check s place bytes ≡ Ok (record { spelt = o; rest = rest; state = t })
-  is_taken bytes rest o t read fit checked = ap by_read read ∙ ap (by_place o rest) fit ∙ ap (by_check o rest) checked
+  pub is_admitted : (bytes rest : List ℕ) (o : RawOperation) (t : S) → read_operation bytes ≡ Ok (o, rest) → fits place ≡ true → check s (placed_at o place) ≡ Ok t →
+      admitted fits check s place bytes ≡ Ok (record { spelt = o; rest = rest; state = t })
+  is_admitted bytes rest o t read fit checked = ap by_read read ∙ ap (by_place o rest) fit ∙ ap (by_check o rest) checked
 
   pub is_refused : (bytes rest : List ℕ) (o : RawOperation) (n : ℕ) → read_operation bytes ≡ Ok (o, rest) → fits place ≡ true → check s (placed_at o place) ≡ Err n →
-      taken fits check s place bytes ≡ Err (Checked n)
+      admitted fits check s place bytes ≡ Err (Checked n)
   is_refused bytes rest o n read fit checked = ap by_read read ∙ ap (by_place o rest) fit ∙ ap (by_check o rest) checked
 
   -- the validator refused it, or ran out of memory
-  pub is_not_taken_there : (o : RawOperation) (e : CheckError) (t : S) → fits place ≡ true → Checks check s (placed_at o place) (Err e) t →
-      (fault_of e ≡ Memory) ⊎ ((bytes rest : List ℕ) → read_operation bytes ≡ Ok (o, rest) → taken fits check s place bytes ≡ Err (fault_of e))
-  is_not_taken_there o (Refused n) t fit checked = inr (λ bytes rest read. is_refused bytes rest o n read fit checked)
-  is_not_taken_there o out_of_memory t fit checked = inl refl
+  pub is_not_admitted : (o : RawOperation) (e : CheckError) (t : S) → fits place ≡ true → Checks check s (placed_at o place) (Err e) t →
+      (fault_of e ≡ Memory) ⊎ ((bytes rest : List ℕ) → read_operation bytes ≡ Ok (o, rest) → admitted fits check s place bytes ≡ Err (fault_of e))
+  is_not_admitted o (Refused n) t fit checked = inr (λ bytes rest read. is_refused bytes rest o n read fit checked)
+  is_not_admitted o out_of_memory t fit checked = inl refl
 
   -- it can't be read
-  pub is_not_read : (bytes : List ℕ) (fault : ReadFault) → read_operation bytes ≡ Err fault → taken fits check s place bytes ≡ Err (Read (record { fault = fault; at = place }))
+  pub is_not_read : (bytes : List ℕ) (fault : ReadFault) → read_operation bytes ≡ Err fault → admitted fits check s place bytes ≡ Err (Read (record { fault = fault; at = place }))
   is_not_read bytes fault unread = ap by_read unread
 
-  pub is_too_great : (bytes rest : List ℕ) (o : RawOperation) → read_operation bytes ≡ Ok (o, rest) → fits place ≡ false → taken fits check s place bytes ≡ Err PlaceTooGreat
+  pub is_too_great : (bytes rest : List ℕ) (o : RawOperation) → read_operation bytes ≡ Ok (o, rest) → fits place ≡ false → admitted fits check s place bytes ≡ Err PlaceTooGreat
   is_too_great bytes rest o read fit = ap by_read read ∙ ap (by_place o rest) fit
 
 -- ---- places
 
 module _ {F : Type 0} where
-  pub located_fits : (g : Shared F (Bor ℕ × Unit {0}) ℕ) (o : Option (Bor F)) (place location : ℕ) → Locates g o place location → has_place o place ≡ true
+  pub located_fits : (g : Shared F (Bor ℕ × Unit {0}) ℕ) (o : Option (Bor F)) (place location : ℕ) → Locates g o place location → has_location o place ≡ true
   located_fits g None place location h = h.0
   located_fits g (Some f) place location h = refl
-
-  pub unlocated_fits : (o : Option (Bor F)) (place : ℕ) → HasNoLocation o place → has_place o place ≡ false
-  unlocated_fits None place h = h
-  unlocated_fits (Some f) place h = absurd h

@@ -12,10 +12,9 @@ MayCall pre (Some f) from to = (place : Bor ℕ) → from ≤ place.now → plac
 -- The place has this location: the one that the function returns. Without a function it is the place itself, if that is small
 -- enough.
 abbrev pub Locates : {F : Type 0} → Shared F (Bor ℕ × Unit {0}) ℕ → Option (Bor F) → (place location : ℕ) → Type 0
-Locates g None place location = (has_location None place ≡ true) × (location ≡ place)
+Locates {F = F} g None place location = (has_location {F = Bor F} None place ≡ true) × (location ≡ place)
 Locates g (Some f) place location = FnReturnsAt g f.now place location
 
 -- The place has no location.
 abbrev pub HasNoLocation : {F : Type 0} → Option (Bor F) → (place : ℕ) → Type 0
-HasNoLocation None place = has_location None place ≡ false
-HasNoLocation (Some f) place = ⊥
+HasNoLocation on_instr_pos place = has_location on_instr_pos place ≡ false

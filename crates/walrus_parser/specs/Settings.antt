@@ -1,41 +1,13 @@
 -- Parsing with a caller's location function and a caller's validator: the setting of a parse has what they return.
-use Rattle.std.specs.Prelude.{◌≡◌, ℕ, ◌+◌, ◌-◌, ◌≤◌, ◌==◌, if◌then◌else◌, nat_lt, List, [], ◌∷◌, map, Bool, true, Option, Some, None, Result, Ok}
+use Rattle.std.specs.Prelude.{◌≡◌, ℕ, ◌+◌, ◌-◌, ◌≤◌, ◌==◌, if◌then◌else◌, List, [], ◌∷◌, map, Option, Some, None, Result}
 use Rattle.std.specs.Borrow.{Bor}
 use Rattle.std.specs.Fn.{Shared}
 use Rattle.std.specs.List.{AllByRecursion}
-use Rattle.wasm_operators.specs.Operations.{RawOperation}
 use Rattle.wasm_operators.specs.OperatorList.{Placed}
-use Rattle.wasm_operators.specs.Spelling.{read_operation}
-use Rattle.wasm_body.specs.declared.error.ParseError.{ParseError}
-use Rattle.wasm_body.specs.declared.error.ParseError.TheVariants.{Read, PlaceTooGreat, Checked}
-use Rattle.walrus_ir.specs.Results.{◌>>=◌, unless, with_fault}
-use Rattle.walrus_ir.specs.Locations.{default_location}
 use Rattle.wasm_body.specs.SourceTree.{Body, body_text}
 use Rattle.wasm_body.specs.Naming.{Environment, Occurrence}
 use Rattle.wasm_body.specs.Parsing.Accepted.{Setting}
-use Rattle.walrus_parser.specs.Checking.{placed_at}
 use Rattle.walrus_parser.specs.Locating.{Locates}
-
--- ---- the next operator
-
--- without a location function, a place must be small enough
-abbrev pub has_place : {F : Type 0} → Option F → ℕ → Bool
-has_place None place = nat_lt place default_location
-has_place (Some f) place = true
-
--- an operator that was read and that the validator accepted, the bytes after it, and the validator's next state
-pub record Taken (S : Type 0) : Type 0 where
-  pub spelt : RawOperation
-  pub rest : List ℕ
-  pub state : S
-
--- The operator at the front of the bytes is read, then its place is checked, and then the validator is called.
-abbrev pub taken : {S : Type 0} → (ℕ → Bool) → (S → Placed → Result S ℕ) → S → (place : ℕ) → List ℕ → Result (Taken S) ParseError
-taken fits check s place bytes =
-    with_fault (λ fault. Read (record { fault = fault; at = place })) (read_operation bytes) >>= λ x.
-    unless (fits place) PlaceTooGreat >>= λ _.
-    with_fault Checked (check s (placed_at x.0 place)) >>= λ t.
-    Ok (record { spelt = x.0; rest = x.1; state = t })
 
 -- ---- the setting
 

@@ -4,10 +4,10 @@ ghost use Rattle.wasm_operators.specs.Spelling.{read_operation};
 ghost use Rattle.wasm_operators.specs.Meaning.{meaning};
 ghost use Rattle.wasm_encode.specs.Writable.{IsWritable};
 ghost use Rattle.wasm_body.specs.declared.error.ParseError.{ParseError as ParseFault};
+ghost use Rattle.wasm_body.specs.Parsing.Accepted.{has_location, admitted};
 ghost use Rattle.wasm_body.specs.Parsing.Lists.{failure};
 ghost use Rattle.walrus_parser.specs.Checking.{fault_of, fault_of_refusal};
 ghost use Rattle.walrus_parser.specs.Locating.{MayCall, Locates};
-ghost use Rattle.walrus_parser.specs.Settings.{has_place, taken};
 
 use crate::check::{CheckError, OpCheck};
 use crate::locating::location_at;
@@ -75,7 +75,7 @@ pub fn accepted_at<V: OpCheck, F: Fn(&usize) -> InstrLocId>(
     requires { MayCall F.pre on_instr_pos at (at + 1) }
     ensures ok { IfOk result (λ _. (bytes rest : List ℕ)
         → read_operation bytes ≡ Ok (meaning operator.now, rest)
-        → taken (has_place on_instr_pos.entry) V.check (V.state validator.old) at bytes
+        → admitted (has_location on_instr_pos.entry) V.check (V.state validator.old) at bytes
         ≡ Ok (record {
           spelt = meaning operator.now;
           rest = rest;
@@ -84,7 +84,7 @@ pub fn accepted_at<V: OpCheck, F: Fn(&usize) -> InstrLocId>(
     ensures located { IfOk result (λ location. Locates F.Fn on_instr_pos.entry at location) }
     ensures err { IfErr result (λ r. (fault_of_refusal r ≡ ParseFault.Memory)
         ⊎ ((bytes rest : List ℕ) → read_operation bytes ≡ Ok (meaning operator.now, rest)
-        → taken (has_place on_instr_pos.entry) V.check (V.state validator.old) at bytes
+        → admitted (has_location on_instr_pos.entry) V.check (V.state validator.old) at bytes
         ≡ Err (fault_of_refusal r))) }
 {
     let Some(location) = location_at(on_instr_pos, at) else {

@@ -1,5 +1,5 @@
 -- Why a tree that a parse made has no raw body.
-use Rattle.std.proofs.Common.{◌≡◌, ◌++◌, ◌+◌, ◌<◌, ◌≤◌, ◌^◌, ℕ, List, [], length, Bool, true, false, Option, Some, None, Ok, refl, arith}
+use Rattle.std.proofs.Common.{◌≡◌, ◌++◌, ◌+◌, ◌<◌, ◌≤◌, ◌^◌, ℕ, List, [], length, Bool, true, false, Option, Some, None, Ok, refl, arith, inl, inr}
 use Rattle.std.specs.Prelude.{nat_lt, nat_le}
 use Rattle.std.specs.List.{AllByRecursion}
 use Rattle.std.specs.FinMap.{get}
@@ -23,7 +23,7 @@ use Rattle.wasm_body.proofs.LocalNumbers.{last_place_get}
 use Rattle.walrus_maps.specs.declared.ids_to_indices.IdsToIndices.{IdsToIndices}
 use Rattle.walrus_maps.specs.IndexMaps.{numbers_in}
 use Rattle.walrus_numbering.specs.NumberMaps.{fitting, numbers_by}
-use Rattle.walrus_rewrite.specs.RawBodies.{EmitInput, HasNoRawBody, unknown, undeclared, unwritten, HasNoParsedBody}
+use Rattle.walrus_rewrite.specs.RawBodies.{EmitInput, HasNoRawBody, undeclared, unwritten, HasNoParsedBody}
 use Rattle.walrus_rewrite.proofs.RawBodyLemmas.{passed}
 
 -- ---- new indices are numbers of 32 bits
@@ -57,10 +57,10 @@ local_fits args others id few (Some n) e =
 
 pub no_parsed_body : (env : Environment) (xs : List Occurrence) (b : Body Occurrence) → AllByRecursion HasSpelling xs → Lawful env xs b →
     (by : EmitInput) → AreIdNumbers by.to → (e : EmitError) → HasNoRawBody by (body_tree env b) e → HasNoParsedBody by (body_tree env b) e
-no_parsed_body env xs b spelt lawful by ids e (unknown is missing) = record { has_none = unknown is missing; is_of_parsed = tt }
-no_parsed_body env xs b spelt lawful by ids e (undeclared others declared_are fault) = record {
-  has_none = undeclared others declared_are fault;
-  is_of_parsed = declaration_faults by.to ids (length by.args) others e fault;
+no_parsed_body env xs b spelt lawful by ids e (undeclared (inl missing)) = record { has_none = undeclared (inl missing); is_of_parsed = tt }
+no_parsed_body env xs b spelt lawful by ids e (undeclared (inr fault)) = record {
+  has_none = undeclared (inr fault);
+  is_of_parsed = declaration_faults by.to ids (length by.args) fault.others e fault.fault_is;
 }
 no_parsed_body env xs b spelt lawful by ids e (unwritten others ds declared_are declarations_are fault) =
     let counted = passed (nat_le (length by.args + length others) (2 ^ 32)) TooLarge (declarations by.to (runs (types_of others))) ds declarations_are in

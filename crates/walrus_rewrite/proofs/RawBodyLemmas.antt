@@ -1,5 +1,5 @@
 -- The raw body of a function: the bytes that its parts write, and why they don't write any.
-use Rattle.std.proofs.Common.{◌≡◌, ◌⊎◌, ◌++◌, ◌+◌, ◌<◌, ◌≤◌, ◌^◌, ℕ, List, [], ◌∷◌, Bool, Result, Ok, Err, length, refl, sym, ap, subst, ◌∙◌, inl, inr, arith}
+use Rattle.std.proofs.Common.{◌≡◌, ◌⊎◌, ◌++◌, ◌+◌, ◌<◌, ◌≤◌, ◌^◌, ℕ, List, [], ◌∷◌, Bool, Option, Some, Result, Ok, Err, length, refl, sym, ap, subst, ◌∙◌, inl, inr, arith}
 use Rattle.std.specs.Prelude.{nat_lt, ◌&&◌, true, false}
 use Rattle.std.specs.List.{list_all, AllByRecursion}
 use Rattle.std.proofs.lemmas.List.{length-append}
@@ -19,18 +19,19 @@ use Rattle.wasm_body.specs.Bytes.{Numbers, numbered_text, bytes_of, tree_bytes}
 use Rattle.wasm_body.specs.Translation.{Located}
 use Rattle.wasm_body.specs.FunctionTree.{FunctionTree}
 use Rattle.wasm_body.specs.LocalNumbers.{Local, ids_of, AreDeclared, number_of_local, declaration, declarations, declared, runs, types_of, uses_local, with_locals}
-use Rattle.wasm_body.specs.Pairs.{Pair, pairs_from, tree_pairs}
+use Rattle.wasm_body.specs.Pairs.{Pair, pairs_from, tree_pairs, AddsPairs}
 use Rattle.wasm_body.specs.TreeOfFunction.{tree_of, HasTree}
 use Rattle.wasm_body.proofs.Translation.Steps.{bound, length-each}
 use Rattle.walrus_maps.specs.declared.ids_to_indices.IdsToIndices.{IdsToIndices}
-use Rattle.walrus_numbering.specs.EmittedLocals.{number_in, HasUnknown}
+use Rattle.walrus_numbering.specs.EmittedLocals.{number_in, HasNoDeclarations}
 use Rattle.walrus_facts.specs.Facts.{locals_used}
 use Rattle.walrus_body.specs.LocalFunctions.{first_slot}
 use Rattle.walrus_body.specs.EmittedInstructions.{IsNotEmitted}
 use Rattle.walrus_numbering.specs.NumberMaps.{numbers_by}
+use Rattle.walrus_emitter.specs.TreeWriting.Trees.{Appends}
 use Rattle.walrus_facts.proofs.LocalsOfTrees.{locals_of_tree}
 use Rattle.walrus_rewrite.proofs.OneTree.{one_function}
-use Rattle.walrus_rewrite.specs.RawBodies.{EmitInput, HasNoRawBody, unknown, undeclared, unwritten, IsRawBodyOf, Begins, IsNotBegun, Writes, WritesBytes, WritesBoth, Declines, not_begun, not_written}
+use Rattle.walrus_rewrite.specs.RawBodies.{EmitInput, HasNoRawBody, undeclared, unwritten, IsRawBodyOf, Begins, IsNotBegun, Writes, Declines, not_begun, not_written}
 
 -- ---- declarations
 
@@ -73,15 +74,15 @@ module _ (ms : List ModuleType) (out : IdsToIndices) (types : List (ValType ℕ)
     abbrev numbered : numbers_by ms out entries ≡ with_locals (numbers_by ms out []) args (ids_of b.declares.others)
     numbered = same_numbers ms out entries args (ids_of b.declares.others) b.declares.numbers_are
 
-    abbrev pub writes : (IsWritten : Numbers → List ℕ → Type 0) → IsWritten (numbers_by ms out entries) encoder → Writes by used IsWritten
-    writes IsWritten h = record {
+    abbrev pub writes : (bytes : List ℕ) (lists : Option (List Pair × List Pair)) → Appends f.sequences (first_slot f) (numbers_by ms out entries) encoder bytes lists → Writes by used f bytes lists
+    writes bytes lists h = record {
       others = b.declares.others;
       are_declared = b.declares.are_declared;
       declarations = b.declarations;
       declarations_are = b.declares.declarations_are;
       is_written =
-          subst (λ o. IsWritten (with_locals (numbers_by ms out []) args (ids_of b.declares.others)) o) b.encoder_is
-          (subst (λ to. IsWritten to encoder) numbered h);
+          subst (λ o. Appends f.sequences (first_slot f) (with_locals (numbers_by ms out []) args (ids_of b.declares.others)) o bytes lists) b.encoder_is
+          (subst (λ to. Appends f.sequences (first_slot f) to encoder bytes lists) numbered h);
     }
 
     pub declines : (e : EmitError) → IsNotEmitted f (numbers_by ms out entries) e → Declines by used f e
@@ -89,11 +90,6 @@ module _ (ms : List ModuleType) (out : IdsToIndices) (types : List (ValType ℕ)
         not_written b.declares.others b.declarations b.declares.are_declared b.declares.declarations_are (subst (λ to. IsNotEmitted f to e) numbered u)
 
 -- ---- of a function that has a tree, with the locals that are found in it
-
-pub with_pairs : (to : Numbers) (t : FunctionTree) (bytes : List ℕ) (before : ℕ) → tree_bytes to t ≡ Ok bytes → (ps : List Pair) × (tree_pairs to t before ≡ Ok ps)
-with_pairs to t bytes before e =
-    let xs = bound (numbered_text to t) (λ xs. Ok (bytes_of xs)) bytes e in
-    (pairs_from before xs.0, ap (λ r. r >>= λ xs. Ok (pairs_from before xs)) xs.1)
 
 module _ (f : Function) (u : Tree SequenceAt LocatedInstr) (is_tree : IsTree f.sequences (first_slot f) u) (used : ℕ → Bool)
     (used_are : (l : ℕ) → used l ≡ among l (locals_used u.items)) where
@@ -129,25 +125,23 @@ module _ (f : Function) (u : Tree SequenceAt LocatedInstr) (is_tree : IsTree f.s
       };
     }
 
-    -- without a list of pairs
-    abbrev pub of_bytes : (bytes : List ℕ) → WritesBytes by used f bytes → (ps : List Pair) × IsRawBodyOf by f bytes ps
-    of_bytes bytes w =
-        let to = with_locals by.to by.args (ids_of w.others) in
-        let made = w.is_written in
-        let written = subst (λ t. tree_bytes to t ≡ Ok made.bytes) (only_tree made.tree made.has_tree) made.bytes_are in
-        let ps = with_pairs to (tree_of u) made.bytes (length (encoded.declaration_bytes w.declarations)) written in
-        (ps.0, its_raw_body w.others w.declarations (declared_so w.others w.are_declared) w.declarations_are made.bytes bytes ps.0 written made.appends ps.1)
-
-    -- with an empty one
-    pub of_both : (bytes : List ℕ) (new_pairs : List Pair) → WritesBoth by used f bytes [] new_pairs → IsRawBodyOf by f bytes new_pairs
-    of_both bytes new_pairs w =
+    -- the pairs of the raw body are appended to the list
+    pub of_written : (bytes : List ℕ) (lists : Option (List Pair × List Pair)) → Writes by used f bytes lists → (ps : List Pair) × IsRawBodyOf by f bytes ps × AddsPairs ps lists
+    of_written bytes lists w =
         let to = with_locals by.to by.args (ids_of w.others) in
         let made = w.is_written in
         let same = only_tree made.tree made.has_tree in
-        let before = length (encoded.declaration_bytes w.declarations) in
-        its_raw_body w.others w.declarations (declared_so w.others w.are_declared) w.declarations_are made.bytes bytes new_pairs
-        (subst (λ t. tree_bytes to t ≡ Ok made.bytes) same made.bytes_are) made.appends_bytes
-        (subst (λ t. tree_pairs to t before ≡ Ok new_pairs) same (subst (λ l. tree_pairs to made.tree before ≡ Ok l) (sym made.appends_pairs) made.pairs_are))
+        let before = length (encoded.declaration_bytes w.declarations) in (
+          made.pairs,
+          its_raw_body w.others w.declarations (declared_so w.others w.are_declared) w.declarations_are made.bytes bytes made.pairs
+          (subst (λ t. tree_bytes to t ≡ Ok made.bytes) same made.bytes_are) made.appends
+          (subst (λ t. tree_pairs to t before ≡ Ok made.pairs) same made.pairs_are),
+          made.appends_pairs,
+        )
+
+    -- they are all that was appended to an empty one
+    pub of_both : (bytes : List ℕ) (pairs : List Pair) → Writes by used f bytes (Some ([], pairs)) → IsRawBodyOf by f bytes pairs
+    of_both bytes pairs w = let made = of_written bytes (Some ([], pairs)) w in subst (λ ps. IsRawBodyOf by f bytes ps) (sym made.2) made.1
 
     abbrev Why : EmitError → Type 0
     Why e = (e ≡ Memory) ⊎ ((t : FunctionTree) × HasTree f.sequences (first_slot f) t × HasNoRawBody by t e)
@@ -155,8 +149,7 @@ module _ (f : Function) (u : Tree SequenceAt LocatedInstr) (is_tree : IsTree f.s
     -- why there is none
     why_not_begun : (e : EmitError) → IsNotBegun by used e → Why e
     why_not_begun e (inl memory) = inl memory
-    why_not_begun e (inr (inl missing)) = inr (tree_of u, has_tree, unknown missing.0 (subst (λ (g : ℕ → Bool). HasUnknown by.types by.args g) used_is missing.1))
-    why_not_begun e (inr (inr fault)) = inr (tree_of u, has_tree, undeclared fault.others (declared_so fault.others fault.are_declared) fault.fault_is)
+    why_not_begun e (inr h) = inr (tree_of u, has_tree, undeclared (subst (λ (g : ℕ → Bool). HasNoDeclarations by.to by.types by.args g e) used_is h))
 
     why_not_written : (e : EmitError) (others : List Local) (ds : List (ℕ × ValType ℕ)) → AreDeclared by.types by.args used others → declared by.to (length by.args) others ≡ Ok ds
         → IsNotEmitted f (with_locals by.to by.args (ids_of others)) e → Why e

@@ -41,7 +41,7 @@ use Rattle.walrus_numbering.specs.NumberMaps.{numbers_by}
 use Rattle.walrus_facts.proofs.LocalsOfTrees.{count_of_tree}
 use Rattle.walrus_rewrite.specs.declared.error.RewriteError.{RewriteError}
 use Rattle.walrus_rewrite.specs.declared.error.RewriteError.TheVariants.{Parse, Walk, Emit}
-use Rattle.walrus_rewrite.specs.RawBodies.{EmitInput, IsRawBody, HasNoRawBody, IsRawBodyOf, AppendsPairs, AppendsBytes, AppendsBoth, IsNotAppended, IsNotFinished, emit_input}
+use Rattle.walrus_rewrite.specs.RawBodies.{EmitInput, IsRawBody, HasNoRawBody, IsRawBodyOf, AppendsPairs, AppendsRawBody, IsNotAppended, IsNotFinished, emit_input}
 use Rattle.walrus_rewrite.proofs.Counts.{few_instructions}
 use Rattle.walrus_rewrite.proofs.ParsedBodies.{are_id_numbers, no_parsed_body}
 use Rattle.walrus_rewrite.specs.RewrittenBodies.{KeepsSource, Rewrites, IsAcceptedAs, RefusesRewriting, IsOfWriting}
@@ -142,27 +142,27 @@ module _ {S F : Type 0} (calls : Shared F (Bor ℕ × Unit {0}) ℕ) (i : ParseI
   Accepts p = AcceptsBody calls i p.builder p.instruction_mapping
 
   pub with_map : {Z : Type 0} → IsOfModule → (p : FunctionParts) → p.args ≡ args → Accepts p → (old new : List ℕ) (list left : LentPairs Z)
-      → AppendsBoth (emit_input out m p) p.builder old new list.now.items left.now.items
+      → AppendsRawBody (emit_input out m p) p.builder old new (Some (list.now.items, left.now.items))
       → Rewrites calls i by p.builder p.instruction_mapping old new (Some list) (inr (inl (left, tt)))
   with_map alike p e a old new list left w =
       let h = subst (λ g. IsRawBodyOf g p.builder w.raw w.pairs) (by_is p e) w.is_raw_body in
       rewrites calls i by p.builder p.instruction_mapping a alike old new (Some list) (inr (inl (left, tt))) w.raw w.pairs h w.appends w.appends_pairs
 
-  pub without_map : {Z : Type 0} → IsOfModule → (p : FunctionParts) → p.args ≡ args → Accepts p → (old new : List ℕ) → AppendsBytes (emit_input out m p) p.builder old new
+  pub without_map : {Z : Type 0} → IsOfModule → (p : FunctionParts) → p.args ≡ args → Accepts p → (old new : List ℕ) → AppendsRawBody (emit_input out m p) p.builder old new None
       → Rewrites calls i by {Z = Z} p.builder p.instruction_mapping old new None (inl tt)
   without_map alike p e a old new w =
       let h = subst (λ g. IsRawBodyOf g p.builder w.raw w.pairs) (by_is p e) w.is_raw_body in
       rewrites calls i by p.builder p.instruction_mapping a alike old new None (inl tt) w.raw w.pairs h w.appends tt
 
   pub all_with_map : {Z : Type 0} → IsOfModule → (r : Result FunctionParts ParseFailure) (s : Result FunctionParts RewriteError) → IfOk r Accepts → IfOk r (λ p. p.args ≡ args)
-      → (old new : List ℕ) (list left : LentPairs Z) → IfOk s (λ made. (r ≡ Ok made) × AppendsBoth (emit_input out m made) made.builder old new list.now.items left.now.items)
+      → (old new : List ℕ) (list left : LentPairs Z) → IfOk s (λ made. (r ≡ Ok made) × AppendsRawBody (emit_input out m made) made.builder old new (Some (list.now.items, left.now.items)))
       → IfOk s (λ made. Rewrites calls i by made.builder made.instruction_mapping old new (Some list) (inr (inl (left, tt))))
   all_with_map alike r (Err e) a g old new list left h = tt
   all_with_map alike r (Ok made) a g old new list left h =
       with_map alike made (subst (λ q. IfOk q (λ p. p.args ≡ args)) h.0 g) (subst (λ q. IfOk q Accepts) h.0 a) old new list left h.1
 
   pub all_without_map : (Z : Type 0) → IsOfModule → (r : Result FunctionParts ParseFailure) (s : Result FunctionParts RewriteError) → IfOk r Accepts → IfOk r (λ p. p.args ≡ args)
-      → (old new : List ℕ) → IfOk s (λ made. (r ≡ Ok made) × AppendsBytes (emit_input out m made) made.builder old new)
+      → (old new : List ℕ) → IfOk s (λ made. (r ≡ Ok made) × AppendsRawBody (emit_input out m made) made.builder old new None)
       → IfOk s (λ made. Rewrites calls i by {Z = Z} made.builder made.instruction_mapping old new None (inl tt))
   all_without_map Z alike r (Err e) a g old new h = tt
   all_without_map Z alike r (Ok made) a g old new h =

@@ -1,6 +1,6 @@
 -- Raw bodies: the declarations of a function's locals, and its operators (WebAssembly core specification 3.0, binary
 -- format, code section).
-use Rattle.std.specs.Prelude.{◌≡◌, ◌⊎◌, ℕ, ◌+◌, Bool, List, [], ◌++◌, length, map, Option, Some, None, Result, Ok, Err}
+use Rattle.std.specs.Prelude.{◌≡◌, ◌⊎◌, ℕ, ◌+◌, Bool, List, [], ◌++◌, length, map, Option, Result, Ok, Err}
 use Rattle.walrus_ir.specs.declared.module.Module.{Module}
 use Rattle.walrus_ir.specs.declared.val_type.ValType.{ValType}
 use Rattle.walrus_ir.specs.Function.{Function}
@@ -9,21 +9,21 @@ use Rattle.walrus_ir.specs.Walk.{HasNoWalk}
 use Rattle.std.proofs.Common.{inl, inr}
 use Rattle.wasm_encode.specs.Declarations as encoded
 use Rattle.wasm_body.specs.declared.error.EmitError.{EmitError}
-use Rattle.wasm_body.specs.declared.error.EmitError.TheVariants.{Memory, TooLarge, UnknownLocal, UnknownSequence}
+use Rattle.wasm_body.specs.declared.error.EmitError.TheVariants.{Memory, TooLarge, UnknownSequence}
 use Rattle.wasm_body.specs.declared.error.ParseFailure.{ParseFailure}
 use Rattle.wasm_body.specs.Bytes.{Numbers, tree_bytes}
 use Rattle.wasm_body.specs.EmissionFaults.{HasNoNumber}
 use Rattle.wasm_body.specs.FunctionTree.{FunctionTree}
 use Rattle.wasm_body.specs.LocalNumbers.{Local, ids_of, AreDeclared, declared, uses_local, with_locals}
-use Rattle.wasm_body.specs.Pairs.{Pair, tree_pairs}
+use Rattle.wasm_body.specs.Pairs.{Pair, tree_pairs, AddsPairs}
 use Rattle.wasm_body.specs.TreeOfFunction.{HasTree, fault_of_walk}
 use Rattle.walrus_maps.specs.declared.ids_to_indices.IdsToIndices.{IdsToIndices}
-use Rattle.walrus_numbering.specs.EmittedLocals.{Declares, HasUnknown, IsNotDeclared}
+use Rattle.walrus_numbering.specs.EmittedLocals.{Declares, HasNoDeclarations, IsNotDeclared}
 use Rattle.walrus_body.specs.Emitting.{Written}
 use Rattle.walrus_body.specs.FunctionParts.{FunctionParts}
 use Rattle.walrus_body.specs.LocalFunctions.{first_slot, HasEntry}
 use Rattle.walrus_facts.specs.Sizes.{IsTooLarge}
-use Rattle.walrus_body.specs.EmittedInstructions.{LentPairs, Left, IsNotEmitted}
+use Rattle.walrus_body.specs.EmittedInstructions.{LentPairs, Left, OfLists, IsNotEmitted}
 use Rattle.walrus_emitter.specs.TreeWriting.Trees as trees
 use Rattle.walrus_numbering.specs.NumberMaps.{numbers_by}
 use Rattle.walrus_rewrite.specs.declared.error.RewriteError.{RewriteError}
@@ -53,10 +53,7 @@ pub record IsRawBody (by : EmitInput) (t : FunctionTree) (bytes : List ℕ) (pai
 -- This is why a tree has no raw body: a used local isn't known, or else the declarations have this first fault, or else the
 -- operators.
 pub data HasNoRawBody (by : EmitInput) (t : FunctionTree) (e : EmitError) : Type 0 where
-  unknown : e ≡ UnknownLocal → HasUnknown by.types by.args (uses_local t) → HasNoRawBody by t e
-  undeclared :
-      (others : List Local) → AreDeclared by.types by.args (uses_local t) others → declared by.to (length by.args) others ≡ Err e →
-      HasNoRawBody by t e
+  undeclared : HasNoDeclarations by.to by.types by.args (uses_local t) e → HasNoRawBody by t e
   unwritten :
       (others : List Local) (declarations : List (ℕ × ValType ℕ)) → AreDeclared by.types by.args (uses_local t) others →
       declared by.to (length by.args) others ≡ Ok declarations → tree_bytes (with_locals by.to by.args (ids_of others)) t ≡ Err e →
@@ -65,8 +62,8 @@ pub data HasNoRawBody (by : EmitInput) (t : FunctionTree) (e : EmitError) : Type
 -- The tree of a parsed body has no raw body for these reasons only: a used local isn't known; the declarations count too many
 -- locals, or name a type without a number; or an operator names an id or a local without a number.
 abbrev pub IsOfParsed : (by : EmitInput) (t : FunctionTree) (e : EmitError) → HasNoRawBody by t e → Type 0
-IsOfParsed by t e (unknown is missing) = Unit {0}
-IsOfParsed by t e (undeclared others are_declared fault) = (e ≡ TooLarge) ⊎ HasNoNumber e
+IsOfParsed by t e (undeclared (inl missing)) = Unit {0}
+IsOfParsed by t e (undeclared (inr fault)) = (e ≡ TooLarge) ⊎ HasNoNumber e
 IsOfParsed by t e (unwritten others declarations are_declared declarations_are fault) = HasNoNumber e
 
 -- This is why the tree of a parsed body has no raw body.
@@ -97,19 +94,14 @@ pub record Begins (by : EmitInput) (used : ℕ → Bool) (encoder : List ℕ) (n
 abbrev pub IsNotBegun : EmitInput → (ℕ → Bool) → EmitError → Type 0
 IsNotBegun by used e = IsNotDeclared by.to by.types by.args used e
 
--- The operators, written with the numbers of the locals, follow the declarations.
-pub record Writes (by : EmitInput) (used : ℕ → Bool) (IsWritten : Numbers → List ℕ → Type 0) : Type 0 where
+-- The operators, written with the numbers of the locals, follow the declarations, and the pairs are appended to the list, if
+-- there is one.
+pub record Writes (by : EmitInput) (used : ℕ → Bool) (f : Function) (bytes : List ℕ) (lists : Option (List Pair × List Pair)) : Type 0 where
   pub others : List Local
   pub are_declared : AreDeclared by.types by.args used others
   pub declarations : List (ℕ × ValType ℕ)
   pub declarations_are : declared by.to (length by.args) others ≡ Ok declarations
-  pub is_written : IsWritten (with_locals by.to by.args (ids_of others)) (encoded.declaration_bytes declarations)
-
-abbrev pub WritesBytes : EmitInput → (ℕ → Bool) → Function → List ℕ → Type 0
-WritesBytes by used f bytes = Writes by used (λ to old. trees.AppendsBytes f.sequences (first_slot f) to old bytes)
-
-abbrev pub WritesBoth : EmitInput → (ℕ → Bool) → Function → List ℕ → (old_pairs new_pairs : List Pair) → Type 0
-WritesBoth by used f bytes old_pairs new_pairs = Writes by used (λ to old. trees.Appends f.sequences (first_slot f) to old bytes old_pairs new_pairs)
+  pub is_written : trees.Appends f.sequences (first_slot f) (with_locals by.to by.args (ids_of others)) (encoded.declaration_bytes declarations) bytes lists
 
 pub data Declines (by : EmitInput) (used : ℕ → Bool) (f : Function) (e : EmitError) : Type 0 where
   not_begun : IsNotBegun by used e → Declines by used f e
@@ -122,24 +114,15 @@ pub data Declines (by : EmitInput) (used : ℕ → Bool) (f : Function) (e : Emi
 
 -- The pairs are appended to the list, if there is one.
 abbrev pub AppendsPairs : {Z : Type 0} → List Pair → (entry : Option (LentPairs Z)) → (exit : Left (LentPairs Z)) → Type 0
-AppendsPairs pairs None (inl none) = Unit {0}
-AppendsPairs pairs (Some list) (inr (inl left)) = left.0.now.items ≡ list.now.items ++ pairs
-AppendsPairs pairs _ _ = ⊥
+AppendsPairs pairs entry exit = OfLists (AddsPairs pairs) entry exit
 
--- The function's raw body is appended.
-pub record AppendsBytes (by : EmitInput) (f : Function) (old new : List ℕ) : Type 0 where
+-- The function's raw body is appended, and its pairs to the list, if there is one.
+pub record AppendsRawBody (by : EmitInput) (f : Function) (old new : List ℕ) (lists : Option (List Pair × List Pair)) : Type 0 where
   pub raw : List ℕ
   pub pairs : List Pair
   pub is_raw_body : IsRawBodyOf by f raw pairs
   pub appends : new ≡ old ++ raw
-
--- And its pairs are appended to a list of pairs.
-pub record AppendsBoth (by : EmitInput) (f : Function) (old new : List ℕ) (old_pairs new_pairs : List Pair) : Type 0 where
-  pub raw : List ℕ
-  pub pairs : List Pair
-  pub is_raw_body : IsRawBodyOf by f raw pairs
-  pub appends : new ≡ old ++ raw
-  pub appends_pairs : new_pairs ≡ old_pairs ++ pairs
+  pub appends_pairs : AddsPairs pairs lists
 
 -- Memory ran out, or facts about the function can't be gathered, or it can't be written.
 abbrev pub IsNotAppended : EmitInput → Function → RewriteError → Type 0

@@ -1,8 +1,8 @@
 //! Raw bodies: the declarations of a function's locals, and its operators.
-ghost use Rattle.std.specs.Prelude.{◌==◌, IfOk, IfErr};
+ghost use Rattle.std.specs.Prelude.{◌==◌, Some, None, IfOk, IfErr};
 ghost use Rattle.std.specs.HashSet.{contains};
 ghost use Rattle.walrus_body.specs.LocalFunctions.{HasEntry};
-ghost use Rattle.walrus_rewrite.specs.RawBodies.{emit_input, Begins, IsNotBegun, WritesBytes, WritesBoth, Declines};
+ghost use Rattle.walrus_rewrite.specs.RawBodies.{emit_input, Begins, IsNotBegun, Writes, Declines};
 
 use std::alloc::Global;
 use walrus_body::{EmitError, IdsToIndices, LocalFunction};
@@ -50,8 +50,8 @@ pub(crate) fn raw_body(
     indices: &IdsToIndices,
 ) -> Result<Vec<u8>, EmitError>
     requires { HasEntry function.now.builder }
-    ensures ok { IfOk result (λ raw. WritesBytes (emit_input indices.now «module».now function.now)
-        (contains (λ x y. x == y) used.now) function.now.builder raw.items) }
+    ensures ok { IfOk result (λ raw. Writes (emit_input indices.now «module».now function.now)
+        (contains (λ x y. x == y) used.now) function.now.builder raw.items None) }
     ensures err { IfErr result (Declines (emit_input indices.now «module».now function.now)
         (contains (λ x y. x == y) used.now) function.now.builder) }
 {
@@ -80,9 +80,9 @@ pub(crate) fn raw_body_with_map(
     map: &mut Vec<(InstrLocId, usize)>,
 ) -> Result<Vec<u8>, EmitError>
     requires { HasEntry function.now.builder }
-    ensures ok { IfOk result (λ raw. WritesBoth (emit_input indices.now «module».now function.now)
-        (contains (λ x y. x == y) used.now) function.now.builder raw.items map.old.items
-        map.new.items) }
+    ensures ok { IfOk result (λ raw. Writes (emit_input indices.now «module».now function.now)
+        (contains (λ x y. x == y) used.now) function.now.builder raw.items
+        (Some (map.old.items, map.new.items))) }
     ensures err { IfErr result (Declines (emit_input indices.now «module».now function.now)
         (contains (λ x y. x == y) used.now) function.now.builder) }
 {

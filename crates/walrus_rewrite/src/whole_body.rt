@@ -1,5 +1,5 @@
 //! Rewriting whole bodies, and writing those of functions.
-ghost use Rattle.std.specs.Prelude.{◌≡◌, ◌⊎◌, ◌++◌, ◌≤◌, ◌<◌, ◌+◌, ◌^◌, ℕ, [], length, Option, Some, Ok, OnOk, OnErr, IfOk, IfErr, IsErr};
+ghost use Rattle.std.specs.Prelude.{◌≡◌, ◌⊎◌, ◌++◌, ◌≤◌, ◌<◌, ◌+◌, ◌^◌, ℕ, [], length, Option, Some, None, Ok, OnOk, OnErr, IfOk, IfErr, IsErr};
 ghost use Rattle.wasm_body.specs.declared.error.ParseFailure.{ParseFailure as Failure};
 ghost use Rattle.wasm_body.specs.SourceTree.{Body};
 ghost use Rattle.wasm_body.specs.Naming.{Occurrence};
@@ -13,7 +13,7 @@ ghost use Rattle.walrus_body.specs.EmittedInstructions.{KeepsPairs};
 ghost use Rattle.walrus_numbering.specs.NumberMaps.{numbers_by};
 ghost use Rattle.walrus_rewrite.specs.declared.error.RewriteError.TheVariants.{Parse};
 ghost use Rattle.walrus_rewrite.specs.Errors.{IsOutOfMemory};
-ghost use Rattle.walrus_rewrite.specs.RawBodies.{emit_input, AppendsBytes, AppendsBoth, IsNotAppended, IsNotFinished};
+ghost use Rattle.walrus_rewrite.specs.RawBodies.{emit_input, AppendsRawBody, IsNotAppended, IsNotFinished};
 ghost use Rattle.walrus_rewrite.specs.RewrittenBodies.{Rewrites, RefusesRewriting, IsOfWriting};
 
 use crate::error::RewriteError;
@@ -53,8 +53,8 @@ pub fn append_raw_body(
     dst: &mut Vec<u8>,
 ) -> Result<(), RewriteError>
     requires { HasEntry function.now.builder }
-    ensures ok { OnOk result (AppendsBytes (emit_input indices.now «module».now function.now)
-        function.now.builder dst.old.items dst.new.items) }
+    ensures ok { OnOk result (AppendsRawBody (emit_input indices.now «module».now function.now)
+        function.now.builder dst.old.items dst.new.items None) }
     ensures err { IfErr result (IsNotAppended (emit_input indices.now «module».now function.now)
         function.now.builder) }
     ensures same_bytes { OnErr result (dst.new.items ≡ dst.old.items) }
@@ -89,8 +89,9 @@ pub fn append_raw_body_with_map(
     map: &mut Vec<(InstrLocId, usize)>,
 ) -> Result<(), RewriteError>
     requires { HasEntry function.now.builder }
-    ensures ok { OnOk result (AppendsBoth (emit_input indices.now «module».now function.now)
-        function.now.builder dst.old.items dst.new.items map.old.items map.new.items) }
+    ensures ok { OnOk result (AppendsRawBody (emit_input indices.now «module».now function.now)
+        function.now.builder dst.old.items dst.new.items
+        (Some (map.old.items, map.new.items))) }
     ensures err { IfErr result (IsNotAppended (emit_input indices.now «module».now function.now)
         function.now.builder) }
     ensures same_bytes { OnErr result (dst.new.items ≡ dst.old.items) }
@@ -122,8 +123,8 @@ fn finish(
 ) -> Result<LocalFunction, RewriteError>
     requires { IfOk parsed (λ made. HasEntry made.builder) }
     ensures ok { IfOk result (λ made. (parsed ≡ Ok made)
-        × AppendsBytes (emit_input indices.now «module».now made) made.builder dst.old.items
-        dst.new.items) }
+        × AppendsRawBody (emit_input indices.now «module».now made) made.builder dst.old.items
+        dst.new.items None) }
     ensures err { IfErr result (IsNotFinished (emit_input indices.now «module».now) parsed) }
     ensures same_bytes { OnErr result (dst.new.items ≡ dst.old.items) }
 {
@@ -150,8 +151,8 @@ fn finish_with_map(
 ) -> Result<LocalFunction, RewriteError>
     requires { IfOk parsed (λ made. HasEntry made.builder) }
     ensures ok { IfOk result (λ made. (parsed ≡ Ok made)
-        × AppendsBoth (emit_input indices.now «module».now made) made.builder dst.old.items
-        dst.new.items map.old.items map.new.items) }
+        × AppendsRawBody (emit_input indices.now «module».now made) made.builder dst.old.items
+        dst.new.items (Some (map.old.items, map.new.items))) }
     ensures err { IfErr result (IsNotFinished (emit_input indices.now «module».now) parsed) }
     ensures same_bytes { OnErr result (dst.new.items ≡ dst.old.items) }
     ensures same_pairs { OnErr result (map.new.items ≡ map.old.items) }

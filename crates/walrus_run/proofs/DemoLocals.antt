@@ -31,7 +31,7 @@ use Rattle.wasm_body.proofs.Bytes.NumberedBodies.{HasNumbers, HasText, translate
 use Rattle.wasm_body.proofs.Bytes.OtherLocals.{IsOfLocal, Has, named_locals, normal_has, same_block, same_bytes_at}
 use Rattle.wasm_body.proofs.Structure.Along.{AllMarked, each_of, each_mapped}
 use Rattle.walrus_numbering.specs.EmittedLocals.{HasUnknown}
-use Rattle.walrus_rewrite.specs.RawBodies.{HasNoRawBody, unknown, undeclared, unwritten}
+use Rattle.walrus_rewrite.specs.RawBodies.{HasNoRawBody, undeclared, unwritten}
 use Rattle.walrus_run.specs.Demo.{demo_args, demo_locals, demo_environment, demo_numbers}
 use Rattle.walrus_run.proofs.DemoNumbers.{within, some_of, locals_are, has_indices, has_blocks}
 
@@ -253,6 +253,6 @@ module _ (xs : List Occurrence) (b : Body Occurrence) (texts : AllByRecursion Ha
 
   -- So it has a raw body.
   pub has_raw_body : (e : EmitError) → HasNoRawBody (record { to = demo_numbers; types = demo_locals; args = demo_args }) tree e → ⊥
-  has_raw_body e (unknown is h) = none_unknown h
-  has_raw_body e (undeclared others d h) = not_ok (declared demo_numbers 1 others) e (can_declare others d) h
+  has_raw_body e (undeclared (inl h)) = none_unknown h.1
+  has_raw_body e (undeclared (inr h)) = not_ok (declared demo_numbers 1 h.others) e (can_declare h.others h.are_declared) h.fault_is
   has_raw_body e (unwritten others declarations d h w) = not_ok (tree_bytes (with_locals demo_numbers demo_args (ids_of others)) tree) e (can_write others d) w

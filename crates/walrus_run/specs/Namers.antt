@@ -1,15 +1,13 @@
 -- Naming operators one by one, in any frames: an operator of an accepted body has the same name as in the body.
 use Rattle.std.specs.Prelude.{◌≡◌, ℕ, List, [], ◌∷◌, ◌++◌, map, Ok}
 use Rattle.std.specs.List.{AllByRecursion}
-use Rattle.walrus_ir.specs.Results.{with_fault}
 use Rattle.walrus_ir.specs.Types.{Signature}
 use Rattle.wasm_operators.specs.declared.types.BlockType.{BlockType}
 use Rattle.wasm_operators.specs.OperatorList.{Lists}
 use Rattle.wasm_ops.specs.Position.{Position}
 use Rattle.wasm_body.specs.declared.error.ParseError.{ParseError}
-use Rattle.wasm_body.specs.declared.error.ParseError.TheVariants.{Index}
 use Rattle.wasm_body.specs.Translation.{Translation, translate}
-use Rattle.wasm_body.specs.Naming.{Environment, NamedOperation, Occurrence, id_at, name_block}
+use Rattle.wasm_body.specs.Naming.{Environment, NamedOperation, Occurrence, naming}
 use Rattle.wasm_body.specs.Parsing.Accepted.{placed}
 use Rattle.walrus_maps.specs.Environments.{environment_of}
 use Rattle.walrus_run.specs.NamedBodies.{BodyNames}
@@ -20,17 +18,7 @@ env_of n = environment_of n.«module».now n.indices.now n.function n.ty
 
 -- naming without the rules of labels
 abbrev pub anywhere : Environment → Translation ℕ BlockType ℕ Signature ParseError
-anywhere env = record {
-  index = id_at env;
-  local = λ n. with_fault Index (env.local_of n);
-  label = λ n. Ok n;
-  handler = λ n. Ok n;
-  outer = λ n. Ok n;
-  number = λ n. Ok n;
-  block = name_block env;
-  alignment = λ e. e;
-  count = λ n. Ok tt;
-}
+anywhere env = record (naming {A = Occurrence} env []) { label = λ n. Ok n; handler = λ n. Ok n; outer = λ n. Ok n }
 
 abbrev pub HasName : Environment → Occurrence → Type 0
 HasName env x = translate (anywhere env) x.spelt ≡ Ok x.named

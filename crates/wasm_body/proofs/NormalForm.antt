@@ -1,6 +1,7 @@
 -- Normal forms and their texts.
 pub mod KeepingLemmas
 pub mod ArenaLemmas
+pub mod Exponents
 pub mod Kept
 pub mod KeptNames
 pub mod Rewritten

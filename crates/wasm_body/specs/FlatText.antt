@@ -1,6 +1,6 @@
 -- The flat text: the operators of a function's tree as a list, in the order of writing, each at its location. A way of writing
 -- says how they are written: with ids, with numbers, or with names.
-use Rattle.std.specs.Prelude.{ℕ, zero, suc, ◌/◌, nat_lt, if◌then◌else◌, List, [], ◌∷◌, Bool, true, false, ◌&&◌, None, Result, Ok, Err}
+use Rattle.std.specs.Prelude.{ℕ, zero, suc, ◌/◌, ◌^◌, ◌<◌, ◌≤◌, nat_lt, if◌then◌else◌, List, [], ◌∷◌, Bool, true, false, ◌&&◌, None, Result, Ok, Err}
 use Rattle.walrus_ir.specs.declared.val_type.InstrSeqType.{InstrSeqType}
 use Rattle.walrus_ir.specs.declared.val_type.InstrSeqType.TheVariants.{Simple}
 use Rattle.walrus_ir.specs.Types.{Signature}
@@ -12,7 +12,7 @@ use Rattle.wasm_body.specs.declared.error.EmitError.TheVariants.{Index, BranchOu
 use Rattle.wasm_body.specs.declared.error.IndexError.TheVariants.{Unnumbered}
 use Rattle.walrus_ir.specs.Results.{◌>>=◌, some_or, gather}
 use Rattle.wasm_body.specs.Control.{Role, an_if, a_try, a_block, a_loop, a_try_table, role_of, end_operation, else_operation, catch_opcode, catch_all_operation, delegate_operation}
-use Rattle.wasm_body.specs.Translation.{Translation, translate, Located, at_location}
+use Rattle.wasm_body.specs.Translation.{Translation, keeping_numbers, relabelled, translate, Located, at_location}
 use Rattle.wasm_body.specs.FunctionTree.{Target, Depth, Outside, Head, LegacyClause, handles, handles_all, delegates, Instruction, FunctionTree, last_location}
 use Rattle.wasm_body.specs.NormalForm.{Typing, balances}
 
@@ -114,17 +114,7 @@ written w o l = translate w o >>= λ x. Ok (at_location x l)
 
 -- the same translation, with this block type for each
 abbrev pub typed : {M C : Type 0} → TextTranslation M C → InstrSeqType → Translation Target (Unit {0}) M C EmitError
-typed w t = record {
-  index = w.index;
-  local = w.local;
-  label = w.label;
-  handler = w.handler;
-  outer = w.outer;
-  number = w.number;
-  block = λ b. w.block t;
-  alignment = w.alignment;
-  count = w.count;
-}
+typed w t = relabelled w w.label (λ b. w.block t) w.alignment
 
 abbrev pub first_type : Sequences Head Instruction → InstrSeqType
 first_type no_sequences = Simple None
@@ -159,23 +149,17 @@ halvings (suc f) n = if nat_lt n 2 then zero else suc (halvings f (n / 2))
 abbrev pub exponent_of : ℕ → ℕ
 exponent_of n = halvings n n
 
+-- Two to this power is at most the alignment, and two to the next power is more. It is a law that such an exponent is the one.
+abbrev pub IsExponentOf : (alignment e : ℕ) → Type 0
+IsExponentOf n e = (2 ^ e ≤ n) × (n < 2 ^ suc e)
+
 abbrev pub depth_of : Target → Result ℕ EmitError
 depth_of (Depth n) = Ok n
 depth_of Outside = Err BranchOutside
 
 -- to ids, and the types of sequences
 abbrev pub to_ids : TextTranslation ℕ InstrSeqType
-to_ids = record {
-  index = λ space n. Ok n;
-  local = λ n. Ok n;
-  label = depth_of;
-  handler = λ n. Ok n;
-  outer = λ n. Ok n;
-  number = λ n. Ok n;
-  block = λ t. Ok t;
-  alignment = exponent_of;
-  count = λ n. Ok tt;
-}
+to_ids = keeping_numbers depth_of (λ t. Ok t) exponent_of
 
 -- With ids, and the types of sequences. It knows no type, and leaves out no `else` (which has no ids).
 abbrev pub with_ids : Writing ℕ InstrSeqType
@@ -183,31 +167,11 @@ with_ids = record { translation = to_ids; balanced = λ t. false }
 
 -- first to ids and types of sequences, and then by another translation
 abbrev pub then_by : {M C : Type 0} → Translation ℕ InstrSeqType M C EmitError → TextTranslation M C
-then_by f = record {
-  index = f.index;
-  local = f.local;
-  label = λ t. depth_of t >>= λ n. f.label n;
-  handler = f.handler;
-  outer = f.outer;
-  number = f.number;
-  block = f.block;
-  alignment = λ n. f.alignment (exponent_of n);
-  count = f.count;
-}
+then_by f = relabelled f (λ t. depth_of t >>= λ n. f.label n) f.block (λ n. f.alignment (exponent_of n))
 
 -- from ids and types of sequences to names, if the module has the types
 abbrev pub names : Typing → Translation ℕ InstrSeqType ℕ Signature EmitError
-names m = record {
-  index = λ space n. Ok n;
-  local = λ n. Ok n;
-  label = λ n. Ok n;
-  handler = λ n. Ok n;
-  outer = λ n. Ok n;
-  number = λ n. Ok n;
-  block = λ t. some_or (m.signature_of t) (Index (Unnumbered Types));
-  alignment = λ e. e;
-  count = λ n. Ok tt;
-}
+names m = keeping_numbers (λ n. Ok n) (λ t. some_or (m.signature_of t) (Index (Unnumbered Types))) (λ e. e)
 
 -- with ids, and parameters and results
 abbrev pub with_names : Typing → Writing ℕ Signature

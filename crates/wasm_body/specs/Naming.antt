@@ -15,7 +15,7 @@ use Rattle.wasm_body.specs.declared.error.ParseError.TheVariants.{Index, NoSuchL
 use Rattle.walrus_ir.specs.Results.{◌>>=◌, unless, some_or, with_fault}
 use Rattle.wasm_body.specs.Control.{Control, Does, Opens, Else, Catch, CatchAll, End, Delegate, control_of}
 use Rattle.wasm_body.specs.Frames.{Frame, handler_at, outside, opener_of, is_allowed}
-use Rattle.wasm_body.specs.Translation.{Translation, translate, translate_value}
+use Rattle.wasm_body.specs.Translation.{Translation, keeping_numbers, translate, translate_value}
 
 -- An operator by its name: with ids for indices, and with parameters and results for a block type. Depths stay as they are.
 abbrev pub NamedOperation : Type 0
@@ -69,16 +69,11 @@ abbrev pub handler_label : {A : Type 0} → List (Frame A) → ℕ → Result �
 handler_label fs n = open_label fs n >>= λ m. unless (handler_at fs n) RethrowOutsideHandler >>= λ u. Ok n
 
 abbrev pub naming : {A : Type 0} → Environment → List (Frame A) → Translation ℕ BlockType ℕ Signature ParseError
-naming env fs = record {
+naming env fs = record (keeping_numbers (open_label fs) (name_block env) (λ e. e)) {
   index = id_at env;
   local = λ n. with_fault Index (env.local_of n);
-  label = open_label fs;
   handler = handler_label fs;
   outer = open_label (outside fs);
-  number = λ n. Ok n;
-  block = name_block env;
-  alignment = λ e. e;
-  count = λ n. Ok tt;
 }
 
 -- ---- 3 and 4: the types that the module must have

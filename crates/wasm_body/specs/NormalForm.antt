@@ -10,7 +10,7 @@ use Rattle.walrus_ir.specs.Results.{infallible}
 use Rattle.walrus_ir.specs.Locations.{default_location}
 use Rattle.wasm_body.specs.Control.{Action, Nop, Plain, Branch, ConditionalBranch, TableBranch, Return, Unreachable, Throw, ThrowRef, Rethrow, TailCall}
 use Rattle.wasm_body.specs.SourceTree.{Sequence, Empty, Single, Wrapped, IfThen, IfElse, TryCatch, TryDelegate, Clauses, Ended, Catches, CatchesAll, Body, map_body}
-use Rattle.wasm_body.specs.Translation.{Translation, translate_immediates, Located, at_location}
+use Rattle.wasm_body.specs.Translation.{Translation, keeping_numbers, translate_immediates, Located, at_location}
 use Rattle.wasm_body.specs.Naming.{NamedOperation, Occurrence, Environment, block_signature, entry_type_id}
 use Rattle.wasm_body.specs.FunctionTree.{Target, Depth, TreeOperation, Head, LegacyClause, handles, handles_all, delegates, Instruction, FunctionTree}
 
@@ -64,17 +64,7 @@ handler_type m o parameters = m.picked (signature parameters (block_signature o)
 -- An operator in the tree: ids stay as they are, a depth becomes a target, a block type moves to the sequence, and the exponent
 -- of an alignment becomes a number of bytes.
 abbrev pub kept : Translation ℕ Signature Target (Unit {0}) ⊥
-kept = record {
-  index = λ space n. Ok n;
-  local = λ n. Ok n;
-  label = λ n. Ok (Depth n);
-  handler = λ n. Ok n;
-  outer = λ n. Ok n;
-  number = λ n. Ok n;
-  block = λ s. Ok tt;
-  alignment = λ e. 2 ^ e;
-  count = λ n. Ok tt;
-}
+kept = keeping_numbers (λ n. Ok (Depth n)) (λ s. Ok tt) (λ e. 2 ^ e)
 
 abbrev pub kept_operation : NamedOperation → TreeOperation
 kept_operation o = record { opcode = o.opcode; immediates = infallible (translate_immediates kept o.immediates) }

@@ -1,5 +1,5 @@
 -- Location pairs: for each operator that is written, its location and the place of its first byte.
-use Rattle.std.specs.Prelude.{ℕ, ◌+◌, ◌==◌, if◌then◌else◌, List, [], ◌∷◌, length, Option, Some, None, Result, Ok}
+use Rattle.std.specs.Prelude.{◌≡◌, ℕ, ◌+◌, ◌==◌, if◌then◌else◌, List, [], ◌∷◌, ◌++◌, length, Option, Some, None, Result, Ok}
 use Rattle.wasm_operators.specs.Operations.{RawOperation}
 use Rattle.wasm_operators.specs.Shortest.{short}
 use Rattle.wasm_body.specs.declared.error.EmitError.{EmitError}
@@ -21,6 +21,11 @@ pairs_from place (x ∷ xs) = (x.location, place) ∷ pairs_from (place + length
 -- writing.
 abbrev pub tree_pairs : Numbers → FunctionTree → (before : ℕ) → Result (List Pair) EmitError
 tree_pairs to t before = numbered_text to t >>= λ xs. Ok (pairs_from before xs)
+
+-- The pairs are appended to a list, if there is one: it was the first of these two, and is the second.
+abbrev pub AddsPairs : List Pair → Option (List Pair × List Pair) → Type 0
+AddsPairs pairs None = Unit {0}
+AddsPairs pairs (Some lists) = lists.1 ≡ lists.0 ++ pairs
 
 -- the location of the pair with this place
 abbrev pub location_in : List Pair → (place : ℕ) → Option ℕ

@@ -1,5 +1,5 @@
 -- Laws of trees and texts.
-use Rattle.std.specs.Prelude.{◌≡◌, List, ◌∷◌, map, Result, Ok}
+use Rattle.std.specs.Prelude.{◌≡◌, ℕ, List, ◌∷◌, map, Result, Ok}
 use Rattle.std.specs.List.{AllByRecursion}
 use Rattle.wasm_body.specs.declared.error.EmitError.{EmitError}
 use Rattle.walrus_ir.specs.Results.{◌>>=◌}
@@ -10,7 +10,7 @@ use Rattle.wasm_body.specs.Naming.{Environment, NamedOperation, Occurrence}
 use Rattle.wasm_body.specs.Parsing.Accepted.{HasSpelling, Lawful}
 use Rattle.wasm_body.specs.FunctionTree.{FunctionTree, IsSameTree}
 use Rattle.wasm_body.specs.NormalForm.{Typing, typing_of, normal_form, name_at, named_body}
-use Rattle.wasm_body.specs.FlatText.{Writing, with_names, tree_text}
+use Rattle.wasm_body.specs.FlatText.{Writing, exponent_of, IsExponentOf, with_names, tree_text}
 use Rattle.wasm_body.specs.Typed.{AreTyped}
 
 -- ---- reading a tree is unique
@@ -72,6 +72,12 @@ abbrev pub NormalAgain : Type 0
 NormalAgain =
     (m : Typing) (xs ys : List (Located NamedOperation)) (b c : Body (Located NamedOperation)) → IsNamedBody xs b → AreTyped m xs →
     IsTextOf m (normal_form m b) ys → IsNamedBody ys c → IsSameTree (normal_form m c) (normal_form m b)
+
+-- ---- alignments
+
+-- Each alignment but 0 is written as its exponent.
+abbrev pub ExponentsAreWritten : Type 0
+ExponentsAreWritten = (n e : ℕ) → IsExponentOf n e → exponent_of n ≡ e
 
 -- ---- trees that are the same
 

@@ -22,6 +22,34 @@ pub record Translation (L B M C E : Type 0) : Type 0 where
   pub alignment : ℕ → ℕ
   pub count : ℕ → Result (Unit {0}) E  -- whether a list of this length may be written
 
+-- Labels, block types and alignments become these; each number stays, and lists may have any length.
+abbrev pub keeping_numbers : {L B M C E : Type 0} → (L → Result M E) → (B → Result C E) → (ℕ → ℕ) → Translation L B M C E
+keeping_numbers to_label to_block to_alignment = record {
+  index = λ space n. Ok n;
+  local = λ n. Ok n;
+  label = to_label;
+  handler = λ n. Ok n;
+  outer = λ n. Ok n;
+  number = λ n. Ok n;
+  block = to_block;
+  alignment = to_alignment;
+  count = λ n. Ok tt;
+}
+
+-- Labels, block types and alignments become these; numbers and lists become what they become by another translation.
+abbrev pub relabelled : {L B M C K A N D E : Type 0} → Translation L B M C E → (K → Result N E) → (A → Result D E) → (ℕ → ℕ) → Translation K A N D E
+relabelled t to_label to_block to_alignment = record {
+  index = t.index;
+  local = t.local;
+  label = to_label;
+  handler = t.handler;
+  outer = t.outer;
+  number = t.number;
+  block = to_block;
+  alignment = to_alignment;
+  count = t.count;
+}
+
 abbrev pub translate_heap : {E : Type 0} → (Space → ℕ → Result ℕ E) → HeapType ℕ → Result (HeapType ℕ) E
 translate_heap f (Abstract a) = Ok (Abstract a)
 translate_heap f (Concrete n) = f Types n >>= λ m. Ok (Concrete m)

@@ -9,7 +9,7 @@ use Rattle.walrus_ir.specs.Unfolding.{SequenceAt, LocatedInstr, IsTree}
 use Rattle.walrus_ir.specs.Results.{infallible}
 use Rattle.wasm_body.specs.declared.error.EmitError.{EmitError}
 use Rattle.wasm_body.specs.declared.error.EmitError.TheVariants as emit
-use Rattle.wasm_body.specs.Translation.{Translation, translate_immediates}
+use Rattle.wasm_body.specs.Translation.{Translation, keeping_numbers, translate_immediates}
 use Rattle.wasm_body.specs.FunctionTree.{Target, Depth, Outside, TreeOperation, Head, Instruction, FunctionTree}
 use Rattle.wasm_body.specs.InstructionTable.{PlacedOperation, operation_of, clauses_of_try}
 
@@ -24,17 +24,7 @@ target_in (p ∷ ps) place = if place == p then Depth 0 else deeper (target_in p
 
 -- places of sequences become targets
 abbrev pub to_targets : List ℕ → Translation ℕ (Unit {0}) Target (Unit {0}) ⊥
-to_targets around = record {
-  index = λ space n. Ok n;
-  local = λ n. Ok n;
-  label = λ place. Ok (target_in around place);
-  handler = λ n. Ok n;
-  outer = λ n. Ok n;
-  number = λ n. Ok n;
-  block = λ b. Ok b;
-  alignment = λ n. n;
-  count = λ n. Ok tt;
-}
+to_targets around = keeping_numbers (λ place. Ok (target_in around place)) (λ b. Ok b) (λ n. n)
 
 abbrev pub with_targets : List ℕ → PlacedOperation → TreeOperation
 with_targets around o = record { opcode = o.opcode; immediates = infallible (translate_immediates (to_targets around) o.immediates) }

@@ -2,7 +2,7 @@
 ghost use Rattle.wasm_body.specs.ExecutionLaws.{NamedExecutionsKept, ExecutionsKept, RunsShowOperators, CountSuffices, EmptyContinues};
 ghost use Rattle.wasm_body.specs.LocationLaws.{PlacesIncrease, PairsMatchText, TextIsRewritten, NamedLocationsAreHonest, LocationsAreHonest};
 ghost use Rattle.wasm_body.specs.ReadBack.{ReadBack, NormalFormAgain, SameBytes, InverseUndoes, AcceptedAgain};
-ghost use Rattle.wasm_body.specs.TextLaws.{LawfulAreTyped, HaveTexts, NormalAgain, OneBody, OneSequence, SameTexts};
+ghost use Rattle.wasm_body.specs.TextLaws.{LawfulAreTyped, HaveTexts, NormalAgain, OneBody, OneSequence, ExponentsAreWritten, SameTexts};
 ghost use Rattle.wasm_body.specs.ValidityLaws.{NamedValidityKept, ValidityKept};
 ghost use Rattle.wasm_body.specs.LocalNumbers.{OneDeclared, OneLocalEach, PlacesAreNumbers, RunsAreMaximal};
 ghost use Rattle.wasm_body.specs.EmissionFaults.{EmissionFaults, DeclarationFaults};
@@ -35,10 +35,12 @@ pub fn law_any_locations<V>()
 /// The normal form of a typed body of named operators has a text, and the text forms a body again.
 /// A body is typed if the type that is picked for each operator that opens a construct has its
 /// block type as signature, and no other operator has a block type. Operators that form a lawful
-/// body and have encodings, such as those of every accepted body, are typed.
+/// body and have encodings, such as those of every accepted body, are typed. An alignment is
+/// written as the exponent of the greatest power of two that is at most it.
 pub fn law_normal_form_texts()
     ensures texts { HaveTexts }
     ensures lawful { LawfulAreTyped }
+    ensures exponents { ExponentsAreWritten }
 {}
 
 /// The text of the normal form of a typed body, read as a body again, has a normal form that is the

@@ -1,5 +1,5 @@
 -- A body that is rewritten: what the contract of `rewrite_body` says about it.
-use Rattle.std.proofs.Common.{◌≡◌, ℕ, List, [], ◌++◌, slice_get, Option, None, Result, Ok, Err, OnOk, IfOk, refl, sym, ap, subst, ◌∙◌}
+use Rattle.std.proofs.Common.{◌≡◌, ℕ, List, [], ◌++◌, slice_get, Option, None, Some, Result, Ok, Err, OnOk, IfOk, refl, sym, ap, subst, ◌∙◌}
 use Rattle.std.specs.Borrow.{Bor}
 use Rattle.std.specs.Fn.{Shared}
 use Rattle.walrus_ir.specs.Function.{Function}
@@ -9,7 +9,7 @@ use Rattle.walrus_body.specs.FunctionParts.{FunctionParts}
 use Rattle.walrus_parser.specs.Bodies.{AcceptsBody, body_input}
 use Rattle.walrus_body.specs.EmittedInstructions.{LentPairs, Left}
 use Rattle.walrus_numbering.specs.NumberMaps.{numbers_by}
-use Rattle.walrus_rewrite.specs.RawBodies.{EmitInput, emit_input, IsRawBodyOf, AppendsBoth}
+use Rattle.walrus_rewrite.specs.RawBodies.{EmitInput, emit_input, IsRawBodyOf, AppendsRawBody}
 use Rattle.walrus_rewrite.specs.RewrittenBodies.{Rewrites}
 use Rattle.wasm_module.specs.declared.parsed.ParsedModule.{ParsedModule}
 use Rattle.wasm_module.specs.CodeSections.{BodyAt}
@@ -123,7 +123,7 @@ parsed_ok source a now function b (Err x) e p = tt
 
 -- bytes and pairs that are appended to empty lists
 pub written_alone :
-    (by : EmitInput) (f : Function) (old new : List ℕ) (old_pairs new_pairs : List Pair) → old ≡ [] → old_pairs ≡ [] → AppendsBoth by f old new old_pairs new_pairs →
+    (by : EmitInput) (f : Function) (old new : List ℕ) (old_pairs new_pairs : List Pair) → old ≡ [] → old_pairs ≡ [] → AppendsRawBody by f old new (Some (old_pairs, new_pairs)) →
     IsRawBodyOf by f new new_pairs
 written_alone by f old new old_pairs new_pairs e p a =
     let bytes : a.raw ≡ new = sym (a.appends ∙ ap (λ (l : List ℕ). l ++ a.raw) e) in

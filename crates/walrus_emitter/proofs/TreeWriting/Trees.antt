@@ -1,5 +1,5 @@
 -- The visitor after a walk, and what it has written.
-use Rattle.std.specs.Prelude.{◌≡◌, ◌≤◌, ◌<◌, ◌⊎◌, ◌↔◌, ◌++◌, ℕ, zero, suc, List, [], ◌∷◌, length, Bool, true, false, IsTrue, Some, None, slice_get, Result, Ok, Err}
+use Rattle.std.specs.Prelude.{◌≡◌, ◌≤◌, ◌<◌, ◌⊎◌, ◌↔◌, ◌++◌, ℕ, zero, suc, List, [], ◌∷◌, length, Bool, true, false, IsTrue, Option, Some, None, slice_get, Result, Ok, Err}
 use Rattle.std.proofs.Common.{refl, sym, ap, subst, ◌∙◌, inl, inr, arith}
 use Rattle.walrus_ir.specs.declared.seq.InstrSeq.{InstrSeq}
 use Rattle.walrus_ir.specs.declared.error.WalkError.{WalkError}
@@ -17,14 +17,14 @@ use Rattle.wasm_body.specs.Control.{end_operation}
 use Rattle.wasm_body.specs.Translation.{Located, at_location}
 use Rattle.wasm_body.specs.TreeOfFunction.{tree_of, fault_of_walk}
 use Rattle.wasm_body.specs.Bytes.{Numbers, numbered_text, bytes_of}
-use Rattle.wasm_body.specs.Pairs.{Pair, pairs_from}
+use Rattle.wasm_body.specs.Pairs.{Pair, pairs_from, AddsPairs}
 use Rattle.walrus_emit_state.specs.declared.closing.Closer.TheVariants.{End}
 use Rattle.walrus_emitter.specs.declared.emit.EmitVisitor.{EmitVisitor}
-use Rattle.walrus_emit_state.specs.Emission.{Emitter, emitter_after, emitter_after_all, first_emitter, Output, output_of}
+use Rattle.walrus_emit_state.specs.Emission.{Emitter, emitter_after, emitter_after_all, first_emitter, output_of}
 use Rattle.walrus_emit_state.specs.TreeWriting.Drafts.{Drafted}
 use Rattle.walrus_emitter.specs.TreeWriting.Emitters.{emitter_at, IsFaultAt}
 use Rattle.walrus_emit_state.specs.TreeWriting.ScopeLists.{ScopeLists, ending, with_more}
-use Rattle.walrus_emitter.specs.TreeWriting.Trees.{IsDraftOf, IsFirstScope, Appends, AppendsBytes, IsNotWritten}
+use Rattle.walrus_emitter.specs.TreeWriting.Trees.{IsDraftOf, IsFirstScope, Appends, IsNotWritten}
 use Rattle.walrus_emitter.specs.TreeWriting.Visiting.{emitter_of, Steps, Refuses, Same}
 use Rattle.walrus_emitter.proofs.Emission.Texts.{last_emitter, tree_written_out}
 
@@ -151,28 +151,28 @@ entry_missing b entry to h = inr (inl (walk.UnknownSequence, unknown begun h, re
 
 -- ---- what is passed on
 
-pub appends : (b : List InstrSeq) (entry : ℕ) (to : Numbers) (base : ℕ) (draft : Drafted) (old_bytes new_bytes : List ℕ) (old_pairs new_pairs : List Pair)
-    → base ≡ length old_bytes → IsDraftOf b entry to base true draft → new_bytes ≡ old_bytes ++ draft.output.bytes
-    → new_pairs ≡ old_pairs ++ draft.output.pairs → Appends b entry to old_bytes new_bytes old_pairs new_pairs
-appends b entry to base draft old_bytes new_bytes old_pairs new_pairs len h bytes pairs =
-    let output = ap (λ (d : Drafted). d.output) h.is in record {
-      tree = h.tree;
-      has_tree = h.has_tree;
-      bytes = bytes_of h.operators;
-      bytes_are = ap (λ r. r >>= λ xs. Ok (bytes_of xs)) h.text;
-      appends_bytes = bytes ∙ ap (λ (o : Output). old_bytes ++ o.bytes) output;
-      pairs = pairs_from base h.operators;
-      pairs_are = ap (λ r. r >>= λ xs. Ok (pairs_from (length old_bytes) xs)) h.text
-          ∙ ap (λ n. Ok (pairs_from n h.operators)) (sym len);
-      appends_pairs = pairs ∙ ap (λ (o : Output). old_pairs ++ o.pairs) output;
-    }
+module _ (b : List InstrSeq) (entry : ℕ) (to : Numbers) (base : ℕ) where
+  abbrev appends_tree : (m : Bool) (draft : Drafted) (old new : List ℕ) (lists : Option (List Pair × List Pair))
+      → base ≡ length old → (h : IsDraftOf b entry to base m draft) → new ≡ old ++ draft.output.bytes
+      → AddsPairs (pairs_from base h.operators) lists → Appends b entry to old new lists
+  appends_tree m draft old new lists len h bytes adds = record {
+    tree = h.tree;
+    has_tree = h.has_tree;
+    bytes = bytes_of h.operators;
+    bytes_are = ap (λ r. r >>= λ xs. Ok (bytes_of xs)) h.text;
+    appends = bytes ∙ ap (λ (d : Drafted). old ++ d.output.bytes) h.is;
+    pairs = pairs_from base h.operators;
+    pairs_are = ap (λ r. r >>= λ xs. Ok (pairs_from (length old) xs)) h.text ∙ ap (λ n. Ok (pairs_from n h.operators)) (sym len);
+    appends_pairs = adds;
+  }
 
-pub appends_bytes : (b : List InstrSeq) (entry : ℕ) (to : Numbers) (base : ℕ) (m : Bool) (draft : Drafted) (old new : List ℕ)
-    → IsDraftOf b entry to base m draft → new ≡ old ++ draft.output.bytes → AppendsBytes b entry to old new
-appends_bytes b entry to base m draft old new h bytes = record {
-  tree = h.tree;
-  has_tree = h.has_tree;
-  bytes = bytes_of h.operators;
-  bytes_are = ap (λ r. r >>= λ xs. Ok (bytes_of xs)) h.text;
-  appends = bytes ∙ ap (λ (d : Drafted). old ++ d.output.bytes) h.is;
-}
+  pub appends : (draft : Drafted) (old_bytes new_bytes : List ℕ) (old_pairs new_pairs : List Pair)
+      → base ≡ length old_bytes → IsDraftOf b entry to base true draft → new_bytes ≡ old_bytes ++ draft.output.bytes
+      → new_pairs ≡ old_pairs ++ draft.output.pairs → Appends b entry to old_bytes new_bytes (Some (old_pairs, new_pairs))
+  appends draft old_bytes new_bytes old_pairs new_pairs len h bytes pairs =
+      appends_tree true draft old_bytes new_bytes (Some (old_pairs, new_pairs)) len h bytes
+      (pairs ∙ ap (λ (d : Drafted). old_pairs ++ d.output.pairs) h.is)
+
+  pub appends_bytes : (m : Bool) (draft : Drafted) (old new : List ℕ)
+      → base ≡ length old → IsDraftOf b entry to base m draft → new ≡ old ++ draft.output.bytes → Appends b entry to old new None
+  appends_bytes m draft old new len h bytes = appends_tree m draft old new None len h bytes tt

@@ -1,5 +1,5 @@
 -- Writing a function's tree: what is written for it, and why it isn't written.
-use Rattle.std.specs.Prelude.{◌≡◌, ◌⊎◌, ◌++◌, ℕ, List, [], ◌∷◌, length, Bool, Some, slice_get, Ok, Err}
+use Rattle.std.specs.Prelude.{◌≡◌, ◌⊎◌, ◌++◌, ℕ, List, [], ◌∷◌, length, Bool, Option, Some, slice_get, Ok, Err}
 use Rattle.walrus_ir.specs.declared.seq.InstrSeq.{InstrSeq}
 use Rattle.walrus_ir.specs.declared.error.WalkError.{WalkError}
 use Rattle.walrus_ir.specs.Faults.{FirstWalkFault}
@@ -10,7 +10,7 @@ use Rattle.wasm_body.specs.Translation.{Located}
 use Rattle.wasm_body.specs.FunctionTree.{FunctionTree}
 use Rattle.wasm_body.specs.TreeOfFunction.{HasTree, fault_of_walk}
 use Rattle.wasm_body.specs.Bytes.{Numbers, numbered_text, tree_bytes}
-use Rattle.wasm_body.specs.Pairs.{Pair, tree_pairs}
+use Rattle.wasm_body.specs.Pairs.{Pair, tree_pairs, AddsPairs}
 use Rattle.walrus_emit_state.specs.Emission.{output_of}
 use Rattle.walrus_emit_state.specs.TreeWriting.Drafts.{Drafted}
 use Rattle.walrus_emit_state.specs.declared.closing.Closer.TheVariants.{End}
@@ -26,26 +26,16 @@ pub record IsDraftOf (b : List InstrSeq) (entry : ℕ) (to : Numbers) (base : �
   pub is : draft
       ≡ record { base = base; has_map = has_map; output = output_of has_map base operators }
 
--- The bytes of the tree from a sequence on are appended to an encoder, and its location pairs to a list.
-pub record Appends (b : List InstrSeq) (entry : ℕ) (to : Numbers) (old_bytes new_bytes : List ℕ)
-    (old_pairs new_pairs : List Pair) : Type 0 where
-  pub tree : FunctionTree
-  pub has_tree : HasTree b entry tree
-  pub bytes : List ℕ
-  pub bytes_are : tree_bytes to tree ≡ Ok bytes
-  pub appends_bytes : new_bytes ≡ old_bytes ++ bytes
-  pub pairs : List Pair
-  pub pairs_are : tree_pairs to tree (length old_bytes) ≡ Ok pairs
-  pub appends_pairs : new_pairs ≡ old_pairs ++ pairs
-
--- the bytes alone are appended
-pub record AppendsBytes (b : List InstrSeq) (entry : ℕ) (to : Numbers) (old new : List ℕ)
-    : Type 0 where
+-- The bytes of the tree from a sequence on are appended to an encoder, and its location pairs to a list, if there is one.
+pub record Appends (b : List InstrSeq) (entry : ℕ) (to : Numbers) (old new : List ℕ) (lists : Option (List Pair × List Pair)) : Type 0 where
   pub tree : FunctionTree
   pub has_tree : HasTree b entry tree
   pub bytes : List ℕ
   pub bytes_are : tree_bytes to tree ≡ Ok bytes
   pub appends : new ≡ old ++ bytes
+  pub pairs : List Pair
+  pub pairs_are : tree_pairs to tree (length old) ≡ Ok pairs
+  pub appends_pairs : AddsPairs pairs lists
 
 -- no sequence is open, and only the one at the entry is to come, which an `end` closes
 pub record IsFirstScope (b : List InstrSeq) (entry : ℕ) (scopes : ScopeLists) : Type 0 where

@@ -40,7 +40,7 @@ use Rattle.wasm_body.proofs.Structure.Along.{AllMarked, each_of, each_mapped}
 use Rattle.wasm_body.proofs.Bytes.LawfulTyped.{named_somewhere}
 use Rattle.wasm_body.proofs.Translation.Steps.{Leads, bound, all_of}
 use Rattle.wasm_body.proofs.Translation.Translations.{LeadAll, lead_all, translate_leads}
-use Rattle.wasm_body.proofs.NormalForm.Kept.{exponent_of-pow}
+use Rattle.wasm_body.proofs.NormalForm.Exponents.{exponent_of-pow}
 use Rattle.wasm_body.proofs.NormalForm.KeptNames.{sure_number, kept_raw, kept_of}
 use Rattle.wasm_body.proofs.Translation.Faults.{no_fault_ok, ok_no_fault, first_within, last_within, FaultsAre, OthersWithin, immediates_faults}
 use Rattle.wasm_body.proofs.Translation.Kinds.{kind_in, raw_kinds, kinds_kept, only_tag, only_outer}

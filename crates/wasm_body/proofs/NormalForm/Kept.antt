@@ -1,9 +1,5 @@
 -- A named operator, kept in the tree and written with names, is itself.
-use Rattle.std.proofs.Common.{◌≡◌, ℕ, zero, suc, ◌^◌, ◌/◌, ◌≤◌, List, [], ◌∷◌, false, Result, Ok, refl, ap, ◌∙◌, arith}
-use Rattle.std.specs.Prelude.{nat_lt, if◌then◌else◌}
-use Rattle.std.proofs.Math.Nat.{pow-suc}
-use Rattle.std.proofs.lemmas.Bool.{le-ltb}
-use Rattle.std.proofs.lemmas.Nat.{pow_pos, shl-shr}
+use Rattle.std.proofs.Common.{◌≡◌, ℕ, List, [], ◌∷◌, Result, Ok, refl, ap, ◌∙◌}
 use Rattle.std.specs.List.{AllByRecursion}
 use Rattle.walrus_ir.specs.declared.val_type.InstrSeqType.{InstrSeqType}
 use Rattle.walrus_ir.specs.Types.{Signature}
@@ -16,29 +12,11 @@ use Rattle.wasm_body.specs.Translation.{translate, translate_immediates}
 use Rattle.wasm_body.specs.Naming.{NamedOperation, block_types}
 use Rattle.wasm_body.specs.FunctionTree.{Target, Depth, Outside}
 use Rattle.wasm_body.specs.NormalForm.{Typing, kept, kept_operation}
-use Rattle.wasm_body.specs.FlatText.{halvings, exponent_of, typed, with_names}
+use Rattle.wasm_body.specs.FlatText.{typed, with_names}
 use Rattle.wasm_body.specs.Typed.{HasSignatures}
 use Rattle.wasm_body.proofs.Translation.Steps.{Leads, after_one, ok-infallible}
 use Rattle.wasm_body.proofs.Translation.Translations.{LeadAll, lead_all, translate_leads, same, translate_same}
-
--- ---- the exponent of a power of two
-
-halvings-pow : (f e : ℕ) → e ≤ f → halvings f (2 ^ e) ≡ e
-halvings-pow zero zero h = refl
-halvings-pow zero (suc e) h = absurd (omega arith)
-halvings-pow (suc f) zero h = refl
-halvings-pow (suc f) (suc e) h =
-    let half : 2 ^ suc e / 2 ≡ 2 ^ e = ap (λ x. x / 2) (pow-suc 2 e) ∙ shl-shr (2 ^ e) 1 in
-    let large : nat_lt (2 ^ suc e) 2 ≡ false = le-ltb (2 ^ suc e) 2 (omega (arith, pow-suc 2 e, pow_pos e)) in
-    ap (λ b. if b then 0 else suc (halvings f (2 ^ suc e / 2))) large
-    ∙ (ap (λ x. suc (halvings f x)) half ∙ ap suc (halvings-pow f e (omega (arith, h))))
-
-below_pow : (e : ℕ) → e ≤ 2 ^ e
-below_pow zero = omega arith
-below_pow (suc e) = omega (arith, below_pow e, pow_pos e, pow-suc 2 e)
-
-pub exponent_of-pow : (e : ℕ) → exponent_of (2 ^ e) ≡ e
-exponent_of-pow e = halvings-pow (2 ^ e) e (below_pow e)
+use Rattle.wasm_body.proofs.NormalForm.Exponents.{exponent_of-pow}
 
 -- ---- kept and written
 

@@ -19,13 +19,13 @@ use Rattle.walrus_ir.specs.Results.{◌>>=◌, gather, each}
 use Rattle.walrus_ir.specs.Locations.{default_location}
 use Rattle.wasm_body.specs.Control.{Action, If, Try, role_of, Control, Does, Opens, Else, Catch, CatchAll, End, Delegate, Marked, with_control, end_operation}
 use Rattle.wasm_body.specs.SourceTree.{Sequence, Empty, Single, Wrapped, IfThen, IfElse, TryCatch, TryDelegate, Clauses, Ended, Catches, CatchesAll, Wrapper, construct_of, text, clauses_text, Body, body_text}
-use Rattle.wasm_body.specs.Translation.{Translation, translate, translate_immediate, translate_immediates, translate_clause, translate_heap, translate_value, translate_tag, translate_cast, Located, at_location}
+use Rattle.wasm_body.specs.Translation.{Translation, relabelled, translate, translate_immediate, translate_immediates, translate_clause, translate_heap, translate_value, translate_tag, translate_cast, Located, at_location}
 use Rattle.wasm_body.specs.Naming.{NamedOperation, block_types}
 use Rattle.wasm_body.specs.FunctionTree.{Target, Depth, Head, LegacyClause, delegates, Instruction, last_location}
 use Rattle.wasm_body.specs.NormalForm.{Typing, kept, Fate, Drops, Stays, Diverges, fate, instruction, with_fate, head, construct_type, handler_type, legacy_clauses, closed_at, normal, handlers, normal_form, kept_operation}
 use Rattle.wasm_body.specs.FlatText.{Writing, TextTranslation, are_lawful, try_closers, closers, has_none, one_or_both, written_items, written_sequences, written, typed, opened, first_type, texts, tree_text, to_ids, with_ids, then_by, text as items_text}
 use Rattle.wasm_body.specs.Bytes.{Numbers, numbering, with_numbers, numbered_text, bytes_of, tree_bytes}
-use Rattle.wasm_body.proofs.NormalForm.Kept.{exponent_of-pow}
+use Rattle.wasm_body.proofs.NormalForm.Exponents.{exponent_of-pow}
 use Rattle.wasm_body.proofs.Structure.Along.{Each, EachIn, HasControl}
 use Rattle.wasm_body.proofs.Translation.Steps.{Leads, after_one, after_two, all_of, each-ok, ok-infallible, bound}
 use Rattle.wasm_body.proofs.Translation.Translations.{LeadAll, lead_all, translate_leads}
@@ -37,17 +37,7 @@ use Rattle.wasm_body.proofs.NormalForm.Rewritten.{Named, closers_by, closers_con
 module _ {M C : Type 0} (w : TextTranslation M C) where
   -- in a sequence of the type
   abbrev pub named_by : InstrSeqType → Translation ℕ Signature M C EmitError
-  named_by t = record {
-    index = w.index;
-    local = w.local;
-    label = λ n. w.label (Depth n);
-    handler = w.handler;
-    outer = w.outer;
-    number = w.number;
-    block = λ s. w.block t;
-    alignment = λ e. w.alignment (2 ^ e);
-    count = w.count;
-  }
+  named_by t = relabelled w (λ n. w.label (Depth n)) (λ s. w.block t) (λ e. w.alignment (2 ^ e))
 
   kept_number : (f : ℕ → Result ℕ EmitError) (n q : ℕ) → (let s : Result ℕ ⊥ = Ok n in s) ≡ Ok q → f q ≡ f n
   kept_number f n q e = let same : n ≡ q = cc e in ap f (sym same)

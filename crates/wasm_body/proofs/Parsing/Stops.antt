@@ -1,6 +1,7 @@
 -- Where parsing on lists stops: after a front of operators, at the end of the body or at the first fault.
-use Rattle.std.proofs.Common.{◌≡◌, ℕ, zero, suc, ◌+◌, ◌-◌, ◌≤◌, List, [], ◌∷◌, ◌++◌, length, map, true, Some, Result, Ok, Err, refl, sym, ap, subst, ◌∙◌, arith, length-append}
+use Rattle.std.proofs.Common.{◌≡◌, ℕ, zero, suc, ◌+◌, ◌-◌, ◌≤◌, List, [], ◌∷◌, ◌++◌, length, map, Bool, true, Some, Result, Ok, Err, refl, sym, ap, subst, ◌∙◌, arith, length-append}
 use Rattle.wasm_operators.specs.Operations.{RawOperation}
+use Rattle.wasm_operators.specs.OperatorList.{Placed}
 use Rattle.wasm_operators.specs.Spelling.{Spells, read_operation}
 use Rattle.wasm_operators.specs.Laws.{AreBytes, ReadingAgrees}
 use Rattle.wasm_body.specs.declared.error.ParseError.{ParseError}
@@ -10,7 +11,7 @@ use Rattle.walrus_ir.specs.Results.{◌>>=◌, unless, with_fault}
 use Rattle.wasm_body.specs.SourceTree.{Sequence, Body}
 use Rattle.wasm_body.specs.Frames.{Frame}
 use Rattle.wasm_body.specs.Naming.{NamedOperation, Occurrence, named_in}
-use Rattle.wasm_body.specs.Parsing.Accepted.{placed, mark, IsNamed, location_at, has_location, Setting, Handled, handled}
+use Rattle.wasm_body.specs.Parsing.Accepted.{placed, mark, IsNamed, location_at, has_location, Setting, Admitted, admitted, Handled, handled}
 use Rattle.wasm_body.specs.Parsing.Progress.{Layer, Progress, Within, Whole, NoBody, frames_of, further}
 use Rattle.wasm_body.specs.Parsing.Lists.{failure, continue_from, parsed_from}
 use Rattle.wasm_body.proofs.Structure.ReadTexts.{IsRead}
@@ -28,24 +29,35 @@ pub record Passed {V : Type 0} (given : Setting V) (v : V) (fs : List (Frame Occ
   pub checked : given.check v (placed h.operator) ≡ Ok h.state
   pub named : named_in given.environment fs h.operator.spelt ≡ Ok h.operator.named
 
+-- the conditions that an admitted operator has passed
+abbrev ArePassed : {V : Type 0} → (ℕ → Bool) → (V → Placed → Result V ℕ) → V → (place : ℕ) → List ℕ → Admitted V → Type 0
+ArePassed fits check v place bytes a =
+    (read_operation bytes ≡ Ok (a.spelt, a.rest)) × (fits place ≡ true) × (check v (record { spelt = a.spelt; place = place }) ≡ Ok a.state)
+
+are_passed : {V : Type 0} (fits : ℕ → Bool) (check : V → Placed → Result V ℕ) (v : V) (place : ℕ) (bytes : List ℕ) (a : Admitted V) → admitted fits check v place bytes ≡ Ok a
+    → ArePassed fits check v place bytes a
+are_passed {V} fits check v place bytes a e =
+    let made = λ (x : RawOperation × List ℕ) (w : V). (let r : Admitted V = record { spelt = x.0; rest = x.1; state = w } in r) in
+    let made_then = λ (x : RawOperation × List ℕ) (w : V). (let r : Result (Admitted V) ParseError = Ok (made x w) in r) in
+    let checked_then = λ (x : RawOperation × List ℕ). with_fault Checked (check v (record { spelt = x.0; place = place })) >>= λ w. made_then x w in
+    let b = bind_ok (with_fault (λ fault. Read (record { fault = fault; at = place })) (read_operation bytes)) (λ x. unless (fits place) PlaceTooGreat >>= λ _. checked_then x) a e in
+    let c = bind_ok (unless (fits place) PlaceTooGreat) (λ _. checked_then b.0) a b.2 in
+    let d = bind_ok (with_fault Checked (check v (record { spelt = b.0.0; place = place }))) (λ w. made_then b.0 w) a c.2 in
+    subst (ArePassed fits check v place bytes) {x = made b.0 d.0} (ok_same {E = ParseError} (made b.0 d.0) a d.2) (
+      with_fault_ok (λ fault. Read (record { fault = fault; at = place })) (read_operation bytes) b.0 b.1,
+      unless_ok (fits place) PlaceTooGreat c.0 c.1,
+      with_fault_ok Checked (check v (record { spelt = b.0.0; place = place })) d.0 d.1,
+    )
+
 pub passed : {V : Type 0} (given : Setting V) (v : V) (fs : List (Frame Occurrence)) (place : ℕ) (bytes : List ℕ) (h : Handled V) → handled given v fs place bytes ≡ Ok h → Passed given v fs place bytes h
 passed {V} given v fs place bytes h e =
-    let made = λ (x : RawOperation × List ℕ) (w : V) (n : NamedOperation). (let r : Handled V = record { operator = record { spelt = x.0; place = place; location = location_at given.locations place; named = n }; rest = x.1; state = w } in r) in
-    let named_then = λ (x : RawOperation × List ℕ) (w : V). named_in given.environment fs x.0 >>= λ n. (let r : Result (Handled V) ParseError = Ok (made x w n) in r) in
-    let checked_then = λ (x : RawOperation × List ℕ). with_fault Checked (given.check v (record { spelt = x.0; place = place })) >>= λ w. named_then x w in
-    let placed_then = λ (x : RawOperation × List ℕ). unless (has_location given.locations place) PlaceTooGreat >>= λ _. checked_then x in
-    let a = bind_ok (with_fault (λ fault. Read (record { fault = fault; at = place })) (read_operation bytes)) placed_then h e in
-    let b = bind_ok (unless (has_location given.locations place) PlaceTooGreat) (λ _. checked_then a.0) h a.2 in
-    let c = bind_ok (with_fault Checked (given.check v (record { spelt = a.0.0; place = place }))) (λ w. named_then a.0 w) h b.2 in
-    let d = bind_ok (named_in given.environment fs a.0.0) (λ n. (let r : Result (Handled V) ParseError = Ok (made a.0 c.0 n) in r)) h c.2 in
-    subst (Passed given v fs place bytes) {x = made a.0 c.0 d.0} (ok_same {E = ParseError} (made a.0 c.0 d.0) h d.2) (record {
-      read = with_fault_ok (λ fault. Read (record { fault = fault; at = place })) (read_operation bytes) a.0 a.1;
-      place_is = refl;
-      has_place = unless_ok (has_location given.locations place) PlaceTooGreat b.0 b.1;
-      location = refl;
-      checked = with_fault_ok Checked (given.check v (record { spelt = a.0.0; place = place })) c.0 c.1;
-      named = d.1;
-    })
+    let made = λ (a : Admitted V) (n : NamedOperation). (let r : Handled V = record { operator = record { spelt = a.spelt; place = place; location = location_at given.locations place; named = n }; rest = a.rest; state = a.state } in r) in
+    let made_then = λ (a : Admitted V) (n : NamedOperation). (let r : Result (Handled V) ParseError = Ok (made a n) in r) in
+    let a = bind_ok (admitted (has_location given.locations) given.check v place bytes) (λ a. named_in given.environment fs a.spelt >>= λ n. made_then a n) h e in
+    let d = bind_ok (named_in given.environment fs a.0.spelt) (λ n. made_then a.0 n) h a.2 in
+    let p = are_passed (has_location given.locations) given.check v place bytes a.0 a.1 in
+    subst (Passed given v fs place bytes) {x = made a.0 d.0} (ok_same {E = ParseError} (made a.0 d.0) h d.2)
+    (record { read = p.0; place_is = refl; has_place = p.1; location = refl; checked = p.2; named = d.1 })
 
 -- parsing stops: nothing more is read
 abbrev pub StopsAt : {V : Type 0} → Setting V → Progress Occurrence → V → ℕ → List ℕ → Result (Body Occurrence) ParseFailure → Type 0

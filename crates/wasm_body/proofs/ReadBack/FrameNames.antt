@@ -9,7 +9,7 @@ use Rattle.wasm_body.specs.declared.error.ParseError.TheVariants.{NoSuchLabel, R
 use Rattle.walrus_ir.specs.Results.{◌>>=◌, unless}
 use Rattle.wasm_body.specs.Control.{Construct, Block, Loop, If, Try, TryTable, Control, Does, Opens, Else, Catch, CatchAll, End, Delegate, control_of, control_by, role_of}
 use Rattle.wasm_body.specs.Frames.{Frame, OfFunction, OfWrapper, Consequent, Alternative, TryBody, Handler, HandlerOfAll, is_allowed, frame_opened, moves, else_moves, catch_moves, catch_all_moves, delegate_moves, is_handler, handler_at, outside, opener_of}
-use Rattle.wasm_body.specs.Translation.{Translation, translate, translate_immediates}
+use Rattle.wasm_body.specs.Translation.{Translation, keeping_numbers, translate, translate_immediates}
 use Rattle.wasm_body.specs.Naming.{Environment, NamedOperation, Occurrence, naming, open_label, handler_label, block_types, block_signature, construct_results, results_of, has_pick, tag_type, has_types, position_fault, named_in}
 use Rattle.wasm_body.proofs.Translation.Steps.{Leads, bound, all_of}
 use Rattle.wasm_body.proofs.Translation.Translations.{LeadAll, lead_all, translate_leads}
@@ -140,17 +140,7 @@ types_in env rs (Delegate n) o = Ok tt
 
 -- naming without indices
 abbrev pub ruling : {A : Type 0} → List (Frame A) → Translation ℕ Signature ℕ Signature ParseError
-ruling fs = record {
-  index = λ space n. Ok n;
-  local = λ n. Ok n;
-  label = open_label fs;
-  handler = handler_label fs;
-  outer = open_label (outside fs);
-  number = λ n. Ok n;
-  block = λ s. Ok s;
-  alignment = λ e. e;
-  count = λ n. Ok tt;
-}
+ruling fs = record (keeping_numbers {B = Signature} (open_label fs) (λ s. Ok s) (λ e. e)) { handler = handler_label fs; outer = open_label (outside fs) }
 
 -- The operator keeps the rules inside these frames.
 pub record KeepsRules (env : Environment) (fs : List (Frame NamedOperation)) (o : NamedOperation) : Type 0 where

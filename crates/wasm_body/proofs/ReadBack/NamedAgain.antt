@@ -26,7 +26,7 @@ use Rattle.wasm_body.specs.ReadBack.{EachInHeap, EachInValue, EachInTag, EachIn,
 use Rattle.wasm_body.proofs.Translation.Steps.{Leads, bound, all_of, after_one}
 use Rattle.wasm_body.proofs.Translation.Translations.{LeadsAt, LeadsHeap, LeadsValue, LeadsTag, LeadsClause, translate_leads}
 use Rattle.wasm_body.proofs.Bytes.Fitting.{fitting_is, fitting_result}
-use Rattle.wasm_body.proofs.NormalForm.Kept.{exponent_of-pow}
+use Rattle.wasm_body.proofs.NormalForm.Exponents.{exponent_of-pow}
 use Rattle.wasm_body.proofs.NormalForm.WrittenTexts.{named_by}
 use Rattle.wasm_body.proofs.ReadBack.FrameNames.{map_frames, ruling, open_frames, handler_label_frames, outer_frames}
 

@@ -9,7 +9,7 @@ use Rattle.wasm_operators.specs.declared.types.Space.{Space}
 use Rattle.wasm_operators.specs.declared.types.Space.TheVariants.{Types, Memories, Tags}
 use Rattle.wasm_operators.specs.Operations.{Access, CatchClause, Cast, Immediate, index, local, label, handler, outer, number, access, branch_table, clauses, block, heap, value, cast, i32, i64, f32, f64, v128, lane, lanes, zero_byte}
 use Rattle.walrus_ir.specs.Results.{◌>>=◌, each}
-use Rattle.wasm_body.specs.Translation.{Translation, translate_heap, translate_value, translate_tag, translate_clause, translate_cast, translate_access, translate_immediate, translate_immediates}
+use Rattle.wasm_body.specs.Translation.{Translation, keeping_numbers, translate_heap, translate_value, translate_tag, translate_clause, translate_cast, translate_access, translate_immediate, translate_immediates}
 use Rattle.wasm_body.specs.Naming.{block_types}
 use Rattle.wasm_body.proofs.Translation.Steps.{bound, after_one, after_two, after_three, Leads, each_leads, length-each, each-ok, all_of}
 
@@ -246,17 +246,7 @@ module _ {L B M C N D E F : Type 0} (f : Translation L B M C E) (g : Translation
 -- ---- the translation that changes nothing
 
 abbrev pub same : {L B E : Type 0} → Translation L B L B E
-same = record {
-  index = λ space n. Ok n;
-  local = λ n. Ok n;
-  label = λ l. Ok l;
-  handler = λ n. Ok n;
-  outer = λ n. Ok n;
-  number = λ n. Ok n;
-  block = λ b. Ok b;
-  alignment = λ n. n;
-  count = λ n. Ok tt;
-}
+same = keeping_numbers (λ l. Ok l) (λ b. Ok b) (λ n. n)
 
 module _ (L B E : Type 0) where
   abbrev nothing : Translation L B L B E

@@ -2,6 +2,7 @@
 -- instructions; legacy exception handling).
 use Rattle.std.specs.Prelude.{◌≡◌, ℕ, ◌+◌, List, [], ◌∷◌, ◌++◌, length, map, replicate, nat_lt, Bool, true, Option, None, Some, IsOk, Result, Ok, Err}
 use Rattle.std.specs.List.{AllByRecursion}
+use Rattle.wasm_operators.specs.Operations.{RawOperation}
 use Rattle.wasm_operators.specs.OperatorList.{Placed, Lists}
 use Rattle.wasm_operators.specs.Spelling.{Spells, read_operation}
 use Rattle.wasm_body.specs.declared.error.ParseError.{ParseError}
@@ -54,7 +55,8 @@ abbrev pub location_at : Option (ℕ → ℕ) → ℕ → ℕ
 location_at None place = place
 location_at (Some locate) place = locate place
 
-abbrev pub has_location : Option (ℕ → ℕ) → ℕ → Bool
+-- for a location function of any type
+abbrev pub has_location : {F : Type 0} → Option F → ℕ → Bool
 has_location None place = nat_lt place default_location
 has_location (Some locate) place = true
 
@@ -88,24 +90,36 @@ pub record Accepted {V : Type 0} (given : Setting V) (bytes : List ℕ) (body : 
 
 -- ---- the first fault
 
+-- an operator that was read and that the validator accepted, the bytes after it, and the validator's next state
+pub record Admitted (V : Type 0) : Type 0 where
+  pub spelt : RawOperation
+  pub rest : List ℕ
+  pub state : V
+
+-- The operator at the front of the bytes is read; then its place is checked; and then the validator gets it. The first of these
+-- that fails gives its fault.
+abbrev pub admitted : {V : Type 0} → (ℕ → Bool) → (V → Placed → Result V ℕ) → V → (place : ℕ) → List ℕ → Result (Admitted V) ParseError
+admitted fits check v place bytes =
+    with_fault (λ fault. Read (record { fault = fault; at = place })) (read_operation bytes) >>= λ x.
+    unless (fits place) PlaceTooGreat >>= λ _.
+    with_fault Checked (check v (record { spelt = x.0; place = place })) >>= λ w.
+    Ok (record { spelt = x.0; rest = x.1; state = w })
+
 -- an operator that was handled, the bytes after it, and the validator's next state
 pub record Handled (V : Type 0) : Type 0 where
   pub operator : Occurrence
   pub rest : List ℕ
   pub state : V
 
--- The operator at the front of the bytes is read; then it is checked that its place has a location; then the validator gets it;
--- and then its rules are tried. The first of these that fails gives its fault.
+-- The operator at the front of the bytes is admitted, if its place has a location; and then its rules are tried.
 abbrev pub handled : {V : Type 0} → Setting V → V → List (Frame Occurrence) → ℕ → List ℕ → Result (Handled V) ParseError
 handled given v fs place bytes =
-    with_fault (λ fault. Read (record { fault = fault; at = place })) (read_operation bytes) >>= λ x.
-    unless (has_location given.locations place) PlaceTooGreat >>= λ _.
-    with_fault Checked (given.check v (record { spelt = x.0; place = place })) >>= λ w.
-    named_in given.environment fs x.0 >>= λ named.
+    admitted (has_location given.locations) given.check v place bytes >>= λ a.
+    named_in given.environment fs a.spelt >>= λ named.
     Ok (record {
-      operator = record { spelt = x.0; place = place; location = location_at given.locations place; named = named };
-      rest = x.1;
-      state = w;
+      operator = record { spelt = a.spelt; place = place; location = location_at given.locations place; named = named };
+      rest = a.rest;
+      state = a.state;
     })
 
 -- an `end` that the bytes don't have

@@ -11,13 +11,12 @@ use Rattle.wasm_body.specs.Control.{end_operation}
 use Rattle.wasm_body.specs.NormalForm.{typing_of, normal_form, named_body}
 use Rattle.wasm_body.specs.Parsing.Lists.{failure}
 use Rattle.wasm_body.specs.TreeOfFunction.{HasTree}
-use Rattle.wasm_body.specs.Parsing.Accepted.{mark}
+use Rattle.wasm_body.specs.Parsing.Accepted.{mark, has_location, admitted}
 use Rattle.wasm_body.specs.Parsing.Progress.{Within, further}
 use Rattle.walrus_parser.specs.Advancing.{Keeps, KeepsProgress, occurrence}
 use Rattle.walrus_parser.specs.BodyParsers.{state_of}
 use Rattle.walrus_parser.specs.Bodies.{operators_input}
 use Rattle.walrus_context.specs.OpenTrees.{env_of}
-use Rattle.walrus_parser.specs.Settings.{has_place, taken}
 use Rattle.walrus_parser.specs.Checking.{fault_of_refusal}
 use Rattle.walrus_parser.specs.Locating.{MayCall, Locates}
 use Rattle.walrus_parser.proofs.Taking.{is_not_read}
@@ -52,7 +51,7 @@ returns-in-Err g c =
     let e = c.in-Err.error in
     let known : (read_operation now.rest ≡ Err e.fault) × (e.at ≡ now.place) = IfErr-at_err (λ (e : ReadError). (read_operation now.rest ≡ Err e.fault) × (e.at ≡ now.place)) c.in-Err.is c.read_next-read.ensures.err in
     inr (unread g.F.Fn i c.requires.offset c.loop-reader.parser state now.place now.rest c.loop-reader.instruction_mapping.items (Read e) c.failure.result c.loop-reader.invariant some
-    (is_not_read (has_place a.on_instr_pos) g.V.OpCheck.check state now.place now.rest e.fault known.0 ∙ ap (λ p. Err (Read (record { fault = e.fault; at = p }))) (sym known.1))
+    (is_not_read (has_location a.on_instr_pos) g.V.OpCheck.check state now.place now.rest e.fault known.0 ∙ ap (λ p. Err (Read (record { fault = e.fault; at = p }))) (sym known.1))
     (c.failure.ensures ∙ ap (failure (Read e)) c.original_position-at.ensures))
 
 pub returns-in-Err-accepted_at : goal.returns-in-Err-accepted_at
@@ -71,7 +70,7 @@ returns-in-Err-accepted_at g c =
     elim c.in-Err-accepted_at.ensures.err [
       | inl is ↦ inl (ap (λ (h : ParseFailure). h.error) is_refused ∙ is)
       | inr is ↦ inr (unread g.F.Fn i c.requires.offset c.loop-reader.parser state now.place now.rest c.loop-reader.instruction_mapping.items e c.refused.result c.loop-reader.invariant some
-          (subst (λ p. taken (has_place a.on_instr_pos) g.V.OpCheck.check state p now.rest ≡ Err e) at_is (is now.rest next.rest is_read))
+          (subst (λ p. admitted (has_location a.on_instr_pos) g.V.OpCheck.check state p now.rest ≡ Err e) at_is (is now.rest next.rest is_read))
           (is_refused ∙ ap (failure e) at_is))
     ]
 
@@ -100,14 +99,14 @@ returns-then-not-eof g c =
     let is_read : read_operation now.rest ≡ Ok (meaning op, next.rest) = IfOk-at_ok (λ x. read_operation now.rest ≡ Ok (meaning x, next.rest)) c.in-Ok.is c.read_next-read.ensures.is_read in
     let Moves : Type 0 = (next.place + length next.rest ≡ now.place + length now.rest) × (length next.rest < length now.rest) in
     let moves : Moves = IfOk-at_ok (λ _. Moves) c.in-Ok.is c.read_next-read.ensures.moves in
-    let reads : taken (has_place a.on_instr_pos) g.V.OpCheck.check state now.place now.rest ≡ Ok (record { spelt = meaning op; rest = next.rest; state = then }) =
-    subst (λ p. taken (has_place a.on_instr_pos) g.V.OpCheck.check state p now.rest ≡ Ok (record { spelt = meaning op; rest = next.rest; state = then })) at_is (c.in-Ok-accepted_at.ensures.ok now.rest next.rest is_read) in
+    let reads : admitted (has_location a.on_instr_pos) g.V.OpCheck.check state now.place now.rest ≡ Ok (record { spelt = meaning op; rest = next.rest; state = then }) =
+    subst (λ p. admitted (has_location a.on_instr_pos) g.V.OpCheck.check state p now.rest ≡ Ok (record { spelt = meaning op; rest = next.rest; state = then })) at_is (c.in-Ok-accepted_at.ensures.ok now.rest next.rest is_read) in
     let located : Locates g.F.Fn a.on_instr_pos now.place c.in-Ok-accepted_at.location = subst (λ p. Locates g.F.Fn a.on_instr_pos p c.in-Ok-accepted_at.location) at_is c.in-Ok-accepted_at.ensures.located in
     let is : c.in-Ok.operator ≡ End = search rules in
     let alone : length p.context.frames ≤ 1 = search rules in
     let more : 0 < length next.rest = search rules in
     let top = no_layers p f.layers f.sequence f.keeps alone in
-    let take : taken (has_place a.on_instr_pos) g.V.OpCheck.check state now.place now.rest ≡ Ok (record { spelt = end_operation; rest = next.rest; state = then }) =
+    let take : admitted (has_location a.on_instr_pos) g.V.OpCheck.check state now.place now.rest ≡ Ok (record { spelt = end_operation; rest = next.rest; state = then }) =
     reads ∙ ap (λ o. Ok (record { spelt = meaning o; rest = next.rest; state = then })) is in
     let pushed : c.try_push.new.list.items ≡ m ++ (now.place - a.code_offset, c.in-Ok-accepted_at.location) ∷ [] =
     c.try_push.ensures.done c.if-not-try_push.false ∙ ap (λ at. m ++ (at - a.code_offset, c.in-Ok-accepted_at.location) ∷ []) c.original_position-at.ensures in
@@ -142,8 +141,8 @@ loop-reader-preserved g c =
     let is_read : read_operation now.rest ≡ Ok (meaning op, next.rest) = IfOk-at_ok (λ x. read_operation now.rest ≡ Ok (meaning x, next.rest)) c.in-Ok.is c.read_next-read.ensures.is_read in
     let Moves : Type 0 = (next.place + length next.rest ≡ now.place + length now.rest) × (length next.rest < length now.rest) in
     let moves : Moves = IfOk-at_ok (λ _. Moves) c.in-Ok.is c.read_next-read.ensures.moves in
-    let taking : taken (has_place a.on_instr_pos) g.V.OpCheck.check state now.place now.rest ≡ Ok (record { spelt = meaning op; rest = next.rest; state = then }) =
-    subst (λ p. taken (has_place a.on_instr_pos) g.V.OpCheck.check state p now.rest ≡ Ok (record { spelt = meaning op; rest = next.rest; state = then })) at_is (c.in-Ok-accepted_at.ensures.ok now.rest next.rest is_read) in
+    let taking : admitted (has_location a.on_instr_pos) g.V.OpCheck.check state now.place now.rest ≡ Ok (record { spelt = meaning op; rest = next.rest; state = then }) =
+    subst (λ p. admitted (has_location a.on_instr_pos) g.V.OpCheck.check state p now.rest ≡ Ok (record { spelt = meaning op; rest = next.rest; state = then })) at_is (c.in-Ok-accepted_at.ensures.ok now.rest next.rest is_read) in
     let located : Locates g.F.Fn a.on_instr_pos now.place c.in-Ok-accepted_at.location = subst (λ p. Locates g.F.Fn a.on_instr_pos p c.in-Ok-accepted_at.location) at_is c.in-Ok-accepted_at.ensures.located in
     let o = meaning op in
     let pushed : c.try_push.new.list.items ≡ m ++ (now.place - a.code_offset, c.in-Ok-accepted_at.location) ∷ [] =
@@ -167,8 +166,8 @@ returns-in-Err-step g c =
     let op = c.in-Ok.operator in
     let at_is = c.original_position-at.ensures in
     let is_read : read_operation now.rest ≡ Ok (meaning op, next.rest) = IfOk-at_ok (λ x. read_operation now.rest ≡ Ok (meaning x, next.rest)) c.in-Ok.is c.read_next-read.ensures.is_read in
-    let reads : taken (has_place a.on_instr_pos) g.V.OpCheck.check state now.place now.rest ≡ Ok (record { spelt = meaning op; rest = next.rest; state = then }) =
-    subst (λ p. taken (has_place a.on_instr_pos) g.V.OpCheck.check state p now.rest ≡ Ok (record { spelt = meaning op; rest = next.rest; state = then })) at_is (c.in-Ok-accepted_at.ensures.ok now.rest next.rest is_read) in
+    let reads : admitted (has_location a.on_instr_pos) g.V.OpCheck.check state now.place now.rest ≡ Ok (record { spelt = meaning op; rest = next.rest; state = then }) =
+    subst (λ p. admitted (has_location a.on_instr_pos) g.V.OpCheck.check state p now.rest ≡ Ok (record { spelt = meaning op; rest = next.rest; state = then })) at_is (c.in-Ok-accepted_at.ensures.ok now.rest next.rest is_read) in
     let f = c.loop-reader.invariant in
     let some : 0 < length now.rest = search rules in
     let o = meaning op in
@@ -196,14 +195,14 @@ returns-in-Ok-finish g c =
     let is_read : read_operation now.rest ≡ Ok (meaning op, next.rest) = IfOk-at_ok (λ x. read_operation now.rest ≡ Ok (meaning x, next.rest)) c.in-Ok.is c.read_next-read.ensures.is_read in
     let Moves : Type 0 = (next.place + length next.rest ≡ now.place + length now.rest) × (length next.rest < length now.rest) in
     let moves : Moves = IfOk-at_ok (λ _. Moves) c.in-Ok.is c.read_next-read.ensures.moves in
-    let reads : taken (has_place a.on_instr_pos) g.V.OpCheck.check state now.place now.rest ≡ Ok (record { spelt = meaning op; rest = next.rest; state = then }) =
-    subst (λ p. taken (has_place a.on_instr_pos) g.V.OpCheck.check state p now.rest ≡ Ok (record { spelt = meaning op; rest = next.rest; state = then })) at_is (c.in-Ok-accepted_at.ensures.ok now.rest next.rest is_read) in
+    let reads : admitted (has_location a.on_instr_pos) g.V.OpCheck.check state now.place now.rest ≡ Ok (record { spelt = meaning op; rest = next.rest; state = then }) =
+    subst (λ p. admitted (has_location a.on_instr_pos) g.V.OpCheck.check state p now.rest ≡ Ok (record { spelt = meaning op; rest = next.rest; state = then })) at_is (c.in-Ok-accepted_at.ensures.ok now.rest next.rest is_read) in
     let located : Locates g.F.Fn a.on_instr_pos now.place c.in-Ok-accepted_at.location = subst (λ p. Locates g.F.Fn a.on_instr_pos p c.in-Ok-accepted_at.location) at_is c.in-Ok-accepted_at.ensures.located in
     let is : c.in-Ok.operator ≡ End = search rules in
     let alone : length p.context.frames ≤ 1 = search rules in
     let last : length next.rest ≡ 0 = search rules in
     let top = no_layers p f.layers f.sequence f.keeps alone in
-    let take : taken (has_place a.on_instr_pos) g.V.OpCheck.check state now.place now.rest ≡ Ok (record { spelt = end_operation; rest = next.rest; state = then }) =
+    let take : admitted (has_location a.on_instr_pos) g.V.OpCheck.check state now.place now.rest ≡ Ok (record { spelt = end_operation; rest = next.rest; state = then }) =
     reads ∙ ap (λ o. Ok (record { spelt = meaning o; rest = next.rest; state = then })) is in
     let pushed : c.try_push.new.list.items ≡ m ++ (now.place - a.code_offset, c.in-Ok-accepted_at.location) ∷ [] =
     c.try_push.ensures.done c.if-not-try_push.false ∙ ap (λ at. m ++ (at - a.code_offset, c.in-Ok-accepted_at.location) ∷ []) c.original_position-at.ensures in

@@ -1,5 +1,6 @@
-use Rattle.std.proofs.Common.{◌==◌, sym, subst}
+use Rattle.std.proofs.Common.{◌==◌, List, Option, Some, sym, subst}
 use Rattle.std.specs.HashSet.{contains}
+use Rattle.wasm_body.specs.Pairs.{Pair}
 use Rattle.walrus_body.specs.LocalFunctions.{first_slot}
 use Rattle.walrus_numbering.specs.NumberMaps.{numbers_by}
 use Rattle.walrus_emitter.specs.TreeWriting.Trees.{Appends}
@@ -12,9 +13,10 @@ returns-in-Ok-emit_instructions-clause-ok c =
     let f = a.function.now.builder in
     let made = c.in-Ok.made in
     let bytes = c.into_raw_body.result.items in
+    let lists : Option (List Pair × List Pair) = Some (c.args.map.now.items, c.emit_instructions.new.map.0.items) in
     writes a.module.now.types a.indices.now a.module.now.locals a.function.now.args (contains (λ x y. x == y) a.used.now) f made.0 made.1.entries c.in-Ok.ensures.ok
-    (λ to old. Appends f.sequences (first_slot f) to old bytes c.args.map.now.items c.emit_instructions.new.map.0.items)
-    (subst (λ b. Appends f.sequences (first_slot f) (numbers_by a.module.now.types a.indices.now made.1.entries) made.0 b c.args.map.now.items c.emit_instructions.new.map.0.items) (sym c.into_raw_body.ensures) c.in-Ok-emit_instructions.ensures.ok)
+    bytes lists
+    (subst (λ b. Appends f.sequences (first_slot f) (numbers_by a.module.now.types a.indices.now made.1.entries) made.0 b lists) (sym c.into_raw_body.ensures) c.in-Ok-emit_instructions.ensures.ok)
 
 pub returns-in-Err-emit_instructions-clause-err : goal.returns-in-Err-emit_instructions-clause-err
 returns-in-Err-emit_instructions-clause-err c =

@@ -1,12 +1,11 @@
-use Rattle.std.proofs.Common.{◌==◌, ◌≡◌, ◌⊎◌, length, drop, ap, subst, ◌∙◌}
+use Rattle.std.proofs.Common.{◌==◌, ◌≡◌, ◌⊎◌, None, length, drop, ap, subst, ◌∙◌}
 use Rattle.std.specs.HashSet.{contains}
 use Rattle.wasm_body.specs.declared.error.EmitError.TheVariants.{Memory}
 use Rattle.wasm_body.specs.FunctionTree.{FunctionTree}
 use Rattle.wasm_body.specs.TreeOfFunction.{HasTree}
 use Rattle.walrus_body.specs.LocalFunctions.{first_slot}
-use Rattle.walrus_emitter.specs.TreeWriting.Trees.{AppendsBytes}
 use Rattle.walrus_rewrite.specs.RawBodies.{EmitInput, emit_input, HasNoRawBody, not_begun}
-use Rattle.walrus_rewrite.proofs.RawBodyLemmas.{writes, declines, of_bytes, why_not}
+use Rattle.walrus_rewrite.proofs.RawBodyLemmas.{writes, declines, of_written, why_not}
 use Rattle.walrus_run.proofs.RewritingLemmas.{parsed_begins, no_walk, no_fault, same_emit_input, normal_bytes}
 use Rattle.walrus_run.proofs.rewriting.written_operators.Goals as goal
 
@@ -56,8 +55,8 @@ returns-in-Ok-emit_instructions-clause-ok c b has =
     let begins = c.in-Ok-begin_body.ensures.ok in
     let bytes = c.emit_instructions.new.dst in
     let written = writes a.module.now.types a.numbers.now a.module.now.locals a.function.now.args used f made.0 made.1.entries begins
-    (λ to old. AppendsBytes f.sequences (first_slot f) to old bytes) c.in-Ok-emit_instructions.ensures.ok in
-    let raw = of_bytes f found.tree found.is_tree used found.holds.used_locals (emit_input a.numbers.now a.module.now a.function.now) bytes written in
+    bytes None c.in-Ok-emit_instructions.ensures.ok in
+    let raw = of_written f found.tree found.is_tree used found.holds.used_locals (emit_input a.numbers.now a.module.now a.function.now) bytes None written in
     normal_bytes f r.is_parsed (emit_input a.numbers.now a.module.now a.function.now) (same_emit_input a.numbers.now a.module.now a.function.now r.numbers_are r.module_is r.args_are)
     bytes raw.0 raw.1 c.in_ok-bytes_after-in-Ok-emit_instructions.field-0.items
     (c.in_ok-bytes_after-in-Ok-emit_instructions.ensures ∙ ap (λ n. drop n bytes) (c.byte_len-declared.ensures.len ∙ ap length begins.encoder_is)) b has
