@@ -18,10 +18,10 @@ abbrev pub clause_operation : {L B : Type 0} → Option ℕ → Operation L B
 clause_operation (Some tag) = operation catch_opcode (index Tags tag ∷ [])
 clause_operation None = catch_all_operation
 
--- the tag of a handler, as an id, if it has one; and the parameters of the tag
-abbrev pub handled : Environment → Option ℕ → Result (Option ℕ × List (ValType ℕ)) ParseError
-handled env None = Ok (None, [])
-handled env (Some n) = id_at env Tags n >>= λ tag. tag_type env tag >>= λ s. Ok (Some tag, s.parameters)
+-- what a handler catches: its tag, as an id, if it has one; and the parameters of the tag
+abbrev pub caught : Environment → Option ℕ → Result (Option ℕ × List (ValType ℕ)) ParseError
+caught env None = Ok (None, [])
+caught env (Some n) = id_at env Tags n >>= λ tag. tag_type env tag >>= λ s. Ok (Some tag, s.parameters)
 
 -- the kind of a handler in its `try`
 abbrev pub handler_kind : Option ℕ → BlockKind

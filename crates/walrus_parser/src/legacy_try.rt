@@ -4,7 +4,7 @@ ghost use Rattle.wasm_operators.specs.declared.types.Opcode.TheVariants.{Byte};
 ghost use Rattle.wasm_operators.specs.Operations.{operation, block};
 ghost use Rattle.wasm_body.specs.Control.{delegate_operation};
 ghost use Rattle.walrus_parser.specs.BodyParsers.{IsSameBody, Steps};
-ghost use Rattle.walrus_parser.specs.Handlers.{clause_operation, handled, handler_kind, clause_of, has_clauses};
+ghost use Rattle.walrus_parser.specs.Handlers.{clause_operation, caught, handler_kind, clause_of, has_clauses};
 ghost use Rattle.walrus_context.specs.OpenTrees.{env_of};
 ghost use Rattle.walrus_ir.specs.Results.{Gives};
 
@@ -13,9 +13,9 @@ use walrus_ir::{BlockKind, Instr, InstrLocId, InstrSeqId, LegacyCatch, TagId, Tr
 use wasm_body::ParseError;
 use wasm_ops::BlockType;
 
-/// The handler of a clause: its tag (none if it is for all) and the parameters of the tag.
+/// What a clause catches: its tag (none if it is for all) and the parameters of the tag.
 #[derive(Clone, Copy)]
-struct Handled<'a> {
+struct Caught<'a> {
     tag: Option<TagId>,
     parameters: &'a [ValType],
 }
@@ -48,13 +48,13 @@ fn has_clauses(kind: BlockKind) -> bool
 }
 
 impl<'a> BodyParser<'a> {
-    /// The handler of a clause for the tag with this old index, or for all tags.
-    fn handled(&self, tag: Option<u32>) -> Result<Handled<'a>, ParseError>
+    /// What a clause catches: the tag with this old index, or all tags.
+    fn caught(&self, tag: Option<u32>) -> Result<Caught<'a>, ParseError>
         ensures { Gives (λ h. (h.tag, h.parameters.now)) result
-            (handled (env_of self.now.context) tag) }
+            (caught (env_of self.now.context) tag) }
     {
         let Some(index) = tag else {
-            return Ok(Handled {
+            return Ok(Caught {
                 tag: None,
                 parameters: &[],
             });
@@ -67,7 +67,7 @@ impl<'a> BodyParser<'a> {
         if !module.types.is_func(ty) {
             return Err(ParseError::NotAFunctionType);
         }
-        Ok(Handled {
+        Ok(Caught {
             tag: Some(id),
             parameters: module.types.params(ty),
         })
@@ -104,19 +104,19 @@ impl BodyParser<'_> {
         if !has_clauses(frame.kind) {
             return Err(ParseError::CatchOutsideTry);
         }
-        let handled = match self.handled(tag) {
-            Ok(handled) => handled,
+        let caught = match self.caught(tag) {
+            Ok(caught) => caught,
             Err(error) => return Err(error),
         };
         self.context.end_sequence(ended, location);
-        let kind = handler_kind(handled.tag);
+        let kind = handler_kind(caught.tag);
         let pushed = self
             .context
-            .push_control(kind, handled.parameters, &frame.end_types);
+            .push_control(kind, caught.parameters, &frame.end_types);
         match pushed {
             Ok(handler) => self
                 .context
-                .add_legacy_catch(clause_of(handled.tag, handler)),
+                .add_legacy_catch(clause_of(caught.tag, handler)),
             Err(error) => Err(error),
         }
     }
