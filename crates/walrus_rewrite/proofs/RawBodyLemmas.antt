@@ -134,8 +134,8 @@ module _ (f : Function) (u : Tree SequenceAt LocatedInstr) (is_tree : IsTree f.s
         let before = length (encoded.declaration_bytes w.declarations) in (
           made.pairs,
           its_raw_body w.others w.declarations (declared_so w.others w.are_declared) w.declarations_are made.bytes bytes made.pairs
-          (subst (λ t. tree_bytes to t ≡ Ok made.bytes) same made.bytes_are) made.appends
-          (subst (λ t. tree_pairs to t before ≡ Ok made.pairs) same made.pairs_are),
+              (subst (λ t. tree_bytes to t ≡ Ok made.bytes) same made.bytes_are) made.appends
+              (subst (λ t. tree_pairs to t before ≡ Ok made.pairs) same made.pairs_are),
           made.appends_pairs,
         )
 
