@@ -19,6 +19,17 @@ pub enum RewriteError {
     Emit(EmitError),
 }
 
+impl RewriteError {
+    /// The error's name: that of its innermost variant.
+    pub fn name(self) -> &'static str {
+        match self {
+            RewriteError::Parse(failure) => failure.error.name(),
+            RewriteError::Walk(error) => EmitError::from(error).name(),
+            RewriteError::Emit(error) => error.name(),
+        }
+    }
+}
+
 impl From<AllocError> for RewriteError {
     ghost use Rattle.std.specs.Prelude.{◌≡◌};
     ghost use Rattle.wasm_body.specs.declared.error.EmitError.TheVariants.{Memory};

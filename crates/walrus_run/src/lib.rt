@@ -5,7 +5,6 @@
 pub mod demo;
 mod execution;
 mod named_body;
-mod names;
 mod naming;
 mod program;
 mod rewriting;

@@ -3,7 +3,6 @@
 use crate::demo;
 use crate::execution::execute;
 use crate::named_body::NamedBody;
-use crate::names::rewrite_name;
 use crate::rewriting::rewrite_demo;
 use crate::trace_text::run_text;
 use crate::trace_words::{outcomes, turns};
@@ -45,7 +44,7 @@ impl From<hex::FromHexError> for Failure {
 
 impl From<RewriteError> for Failure {
     fn from(error: RewriteError) -> Failure {
-        let name = rewrite_name(error);
+        let name = error.name();
         match error {
             RewriteError::Parse(failure) if failure.error != ParseError::Memory => {
                 Failure::RefusedAt {

@@ -5,6 +5,7 @@
 
 mod error;
 mod laws;
+mod names;
 
 pub use error::{EmitError, IndexError, ParseError, ParseFailure};
 pub use laws::{

@@ -151,9 +151,9 @@ impl fmt::Display for FaultName {
     fn fmt<W: fmt::Write>(&self, f: &mut fmt::Formatter<W>) -> fmt::Result {
         match self.0 {
             ModuleFault::Read(fault) => write_name(&fault, f),
-            ModuleFault::Index(error) => write_name(&error, f),
-            ModuleFault::Parse(error) => write_name(&error, f),
-            ModuleFault::Emit(error) => write_name(&error, f),
+            ModuleFault::Index(error) => f.write_str(error.name()),
+            ModuleFault::Parse(error) => f.write_str(error.name()),
+            ModuleFault::Emit(error) => f.write_str(error.name()),
             fault => write_name(&fault, f),
         }
     }
