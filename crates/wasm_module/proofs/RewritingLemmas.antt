@@ -1,5 +1,5 @@
 -- A body that is rewritten: what the contract of `rewrite_body` says about it.
-use Rattle.std.proofs.Common.{◌≡◌, ℕ, List, [], ◌++◌, slice_get, Option, None, Some, Result, Ok, Err, OnOk, IfOk, refl, sym, ap, subst, ◌∙◌}
+use Rattle.std.proofs.Common.{◌≡◌, ℕ, List, [], ◌++◌, slice_get, Option, None, Some, Result, Ok, Err, OnOk, IfOk, sym, ap, subst, ◌∙◌}
 use Rattle.std.specs.Borrow.{Bor}
 use Rattle.std.specs.Fn.{Shared}
 use Rattle.walrus_ir.specs.Function.{Function}
