@@ -126,7 +126,7 @@ module _ (f : Function) (u : Tree SequenceAt LocatedInstr) (is_tree : IsTree f.s
     }
 
     -- the pairs of the raw body are appended to the list
-    pub of_written : (bytes : List ℕ) (lists : Option (List Pair × List Pair)) → Writes by used f bytes lists → (ps : List Pair) × IsRawBodyOf by f bytes ps × AddsPairs ps lists
+    abbrev pub of_written : (bytes : List ℕ) (lists : Option (List Pair × List Pair)) → Writes by used f bytes lists → (ps : List Pair) × IsRawBodyOf by f bytes ps × AddsPairs ps lists
     of_written bytes lists w =
         let to = with_locals by.to by.args (ids_of w.others) in
         let made = w.is_written in
