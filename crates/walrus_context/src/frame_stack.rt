@@ -1,11 +1,13 @@
 //! The open frames, with the instructions of all of them in one list.
-ghost use Rattle.std.specs.Prelude.{reverse, ◌≡◌, ◌⊎◌, ◌≤◌, ◌<◌, ◌+◌, ◌^◌, ℕ, ◌∷◌, ◌++◌, [], List, length, MatchOption, IfOk, IfErr, OnOk, OnErr, IsSome, None, Some, Ok, Err, true, false};
+ghost use Rattle.std.specs.Prelude.{reverse, ◌≡◌, ◌⊎◌, ◌≤◌, ◌<◌, ◌+◌, ◌^◌, ℕ, ◌∷◌, ◌++◌, [], List, length, take, drop, MatchOption, IfOk, IfErr, OnOk, OnErr, IsSome, None, Some, Ok, Err, true, false};
 ghost use Rattle.wasm_body.specs.declared.error.ParseError.{ParseError as Fault};
 ghost use Rattle.walrus_context.specs.OpenFrames.{OpenFrame, AreShown, ShowsAt, frame_with, new_frame, marked_dead, with_instr, ChangesAt, HasNoFrame, HasNoFrameAt, InnerAreEmpty, with_clause_in, with_clause_around};
 ghost use Rattle.walrus_context.specs.FrameStacks.{moved_from, StartFrom};
 
 use crate::frame::{ControlFrame, ControlStack};
+use std::alloc::AllocError;
 use std::marker::Model;
+use std::mem;
 use walrus_ir::{BlockKind, Instr, InstrLocId, InstrSeqId, LegacyCatch, ValType};
 use wasm_body::ParseError;
 
@@ -74,6 +76,28 @@ fn move_starts(controls: &mut ControlStack, from: usize)
         index -= 1;
         controls[index].start += 1;
     }
+}
+
+/// How many instructions a list has at least that is handed on instead of copied.
+const LONG: usize = 4096;
+
+/// The items from a position on, which are removed from the list. If they are all items of a long
+/// list, the list itself is handed on, and an empty one takes its place: so the instructions of a
+/// long body are in memory once. If memory runs out the list is unchanged.
+fn take_tail(
+    list: &mut Vec<(Instr, InstrLocId)>,
+    start: usize,
+) -> Result<Vec<(Instr, InstrLocId)>, AllocError>
+    requires { start ≤ length list.old.items }
+    ensures items { OnOk result (list.new.items ≡ take start list.old.items) }
+    ensures tail { IfOk result (λ t. t.items ≡ drop start list.old.items) }
+    ensures err { OnErr result (list.new.items ≡ list.old.items) }
+{
+    if start > 0 || list.len() < LONG {
+        return list.split_off(start);
+    }
+    let empty = Vec::new(*list.allocator());
+    Ok(mem::replace(list, empty))
 }
 
 /// The open frames. In a contract, they are a list, innermost first.
@@ -162,7 +186,7 @@ impl FrameStack {
         let Some(frame) = self.controls.pop() else {
             return Err(ParseError::NoFrame);
         };
-        match self.instrs.split_off(frame.start) {
+        match take_tail(&mut self.instrs, frame.start) {
             Ok(tail) => Ok((frame, tail)),
             Err(_) => {
                 self.controls.push(frame).unwrap();
