@@ -19,7 +19,7 @@ pub enum ReadFault {
     #[error("the flags of a memory access are not allowed")]
     BadMemArg,
     /// A byte where a value type is required isn't one, or a type index is negative.
-    #[error("no type that may stand here is spelt so")]
+    #[error("no type that is allowed here is spelt so")]
     BadType,
     /// The kind of a clause of `try_table` is more than 3.
     #[error("no clause of `try_table` is of this kind")]
