@@ -21,7 +21,7 @@ invariant_of-self-in-Ok c =
     let s = starts_split 0 c.pop.new.self.items c.in-Some.frame high (subst (λ cs. StartFrom 0 cs high) c.in-Some.ensures.items c.self.invariant) in
     let last = s.1 in
     let l = length-take c.in-Some.frame.start inside.instrs.items in
-    let long : length c.take_tail.new.self.items ≡ c.in-Some.frame.start = ap length c.in-Ok.ensures.items ∙ (let e : length (take c.in-Some.frame.start inside.instrs.items) ≡ c.in-Some.frame.start = omega arith in e) in
+    let long : length c.take_tail.new.list.items ≡ c.in-Some.frame.start = ap length c.in-Ok.ensures.items ∙ (let e : length (take c.in-Some.frame.start inside.instrs.items) ≡ c.in-Some.frame.start = omega arith in e) in
     subst (StartFrom 0 c.pop.new.self.items) (sym long) s.0
 
 pub returns-in-Ok-clause-ok : goal.returns-in-Ok-clause-ok
