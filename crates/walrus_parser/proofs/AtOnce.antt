@@ -1,9 +1,13 @@
--- An operator that is taken at once.
+-- A common operator, which is taken at once.
 use Rattle.std.specs.Prelude.{◌≡◌, ◌<◌, ℕ, List, [], ◌∷◌, length, Bool, true, false, Ok}
 use Rattle.std.proofs.Common.{reverse, refl, ap, sym, ◌∙◌, arith}
 use Rattle.walrus_ir.specs.declared.instr.Instr.{Instr}
 use Rattle.walrus_ir.specs.Unfolding.{slots_in}
+use Rattle.wasm_operators.specs.declared.operator.Op.TheVariants.{End}
 use Rattle.wasm_operators.specs.Meaning.{Listed, meaning}
+use Rattle.wasm_ops.specs.declared.common.CommonOperator.{CommonOperator}
+use Rattle.wasm_ops.specs.declared.common.CommonOperator.TheVariants as common
+use Rattle.wasm_ops.specs.CommonOperators.{listed}
 use Rattle.wasm_body.specs.InstructionTable.{operation_of, clauses_of_try}
 use Rattle.walrus_instructions.specs.OperatorKinds.{is_instruction}
 use Rattle.walrus_context.specs.OpenFrames.{OpenFrame, changed_at, with_instr}
@@ -40,3 +44,24 @@ stays_alive old new i location diverging alive changes =
     by_frames : (fs : List OpenFrame) → changed_at 0 (with_instr (i, location)) fs ≡ changed_at 0 (with_appended (i, location) false) fs
     by_frames [] = refl
     by_frames (f ∷ fs) = refl
+
+-- None of them is an `end`.
+not_end : {A : Type 0} (c : CommonOperator) → listed c ≡ End → A
+not_end (common.LocalGet x) is = absurd cc
+not_end (common.LocalSet x) is = absurd cc
+not_end (common.LocalTee x) is = absurd cc
+not_end (common.I32Const x) is = absurd cc
+not_end (common.I64Const x) is = absurd cc
+not_end (common.Unop x) is = absurd cc
+not_end (common.Binop x) is = absurd cc
+not_end (common.Load x y) is = absurd cc
+not_end (common.Store x y) is = absurd cc
+not_end (common.Call x) is = absurd cc
+not_end (common.GlobalGet x) is = absurd cc
+not_end (common.GlobalSet x) is = absurd cc
+not_end (common.Br x) is = absurd cc
+not_end (common.BrIf x) is = absurd cc
+not_end common.Drop is = absurd cc
+
+pub is_no_end : {A : Type 0} (c : CommonOperator) {o : Listed} → o ≡ listed c → o ≡ End → A
+is_no_end c is end = not_end c (sym is ∙ end)

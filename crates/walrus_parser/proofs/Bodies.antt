@@ -1,11 +1,12 @@
 -- A parse so far, with a caller's location function and validator: the operators read, and the state of the parser.
-use Rattle.std.specs.Prelude.{◌≡◌, ℕ, ◌+◌, ◌-◌, ◌<◌, ◌≤◌, List, [], ◌∷◌, ◌++◌, length, Option, Some, None, Ok, Err}
+use Rattle.std.specs.Prelude.{◌≡◌, ℕ, ◌+◌, ◌-◌, ◌<◌, ◌≤◌, ◌⊎◌, List, [], ◌∷◌, ◌++◌, length, Option, Some, None, Ok, Err}
 use Rattle.std.specs.Borrow.{Bor}
 use Rattle.std.specs.Fn.{Shared}
-use Rattle.std.proofs.Common.{ap, sym, subst, ◌∙◌, arith}
+use Rattle.std.proofs.Common.{ap, sym, subst, ◌∙◌, arith, inl, inr}
 use Rattle.wasm_operators.specs.Operations.{RawOperation}
+use Rattle.wasm_operators.specs.Spelling.{read_operation}
 use Rattle.wasm_body.specs.declared.error.ParseError.{ParseError}
-use Rattle.wasm_body.specs.declared.error.ParseError.TheVariants.{Trailing, MissingEnd}
+use Rattle.wasm_body.specs.declared.error.ParseError.TheVariants.{Trailing, MissingEnd, Memory}
 use Rattle.wasm_body.specs.declared.error.ParseFailure.{ParseFailure}
 use Rattle.wasm_body.specs.Control.{end_operation}
 use Rattle.wasm_body.specs.SourceTree.{Sequence, Empty, Body}
@@ -18,6 +19,7 @@ use Rattle.walrus_parser.specs.Advancing.{Keeps, KeepsProgress}
 use Rattle.walrus_parser.specs.Bodies.{ParseInput, mapped_by, operators_parsed, IsRefusedAnyway}
 use Rattle.walrus_parser.specs.BodyParsers.{Begins, state_of}
 use Rattle.walrus_parser.specs.Locating.{Locates, MayCall}
+use Rattle.walrus_parser.specs.NextOperator.{TakesNext, RefusesNext, not_admitted as not_admitted_at, breaks_rule}
 use Rattle.walrus_context.specs.OpenTrees.{env_of}
 use Rattle.walrus_parser.specs.Settings.{BothOrNone, locations_in, operators_of, IsMapping}
 use Rattle.walrus_parser.proofs.AnyLocations.{any_locations}
@@ -97,6 +99,23 @@ module _ {S F : Type 0} (g : Shared F (Bor ℕ × Unit {0}) ℕ) (i : ParseInput
         subst (ReadsSo (further (Within s.layers s.sequence) (mark (occurrence op place location named))) next_state next after) (sym pushed)
         (goes_over g i.on_instr_pos i.environment i.start i.offset i.check i.first i.bytes s.layers s.sequence state next_state place next rest after mapping op location named s.reads take located
         (ap (λ v. named_in v (frames_of s.layers) op) (sym s.env_is) ∙ is) moved shorter)
+
+    pub takes : (p q : BodyParser) (state next_state : S) (place next : ℕ) (rest after : List ℕ) (mapping following : List (ℕ × ℕ)) (op : RawOperation) → SoFar p state place rest mapping →
+        read_operation rest ≡ Ok (op, after) → next + length after ≡ place + length rest → length after < length rest →
+        TakesNext g i.on_instr_pos i.check state next_state place i.offset op p q mapping following → SoFar q next_state next after following
+    takes p q state next_state place next rest after mapping following op s read moved shorter t =
+        let advances = t.steps s.layers s.sequence place s.keeps in
+        let more = further (Within s.layers s.sequence) (mark (occurrence op place t.location advances.named)) in
+        let reads = over_next p state next_state place next rest after mapping following op t.location advances.named s (t.is_admitted rest after read) t.is_located advances.is_named moved shorter t.adds_pair in
+        continues q more next_state next after following (t.is_same.env ∙ s.env_is) (t.is_same.entry ∙ s.entry) (subst (λ e. KeepsProgress e (state_of q) more) (sym t.is_same.env) advances.keeps) reads
+
+    pub refuses : (p : BodyParser) (state : S) (place : ℕ) (rest after : List ℕ) (mapping : List (ℕ × ℕ)) (op : RawOperation) (e : ParseError) (f : ParseFailure) → SoFar p state place rest mapping → 0 < length rest →
+        read_operation rest ≡ Ok (op, after) → f ≡ failure e place → RefusesNext i.on_instr_pos i.check state place op p e → (e ≡ Memory) ⊎ IsRefusedAnyway g i f
+    refuses p state place rest after mapping op e f s some read is (not_admitted_at admits) = inr (unread p state place rest mapping e f s some (admits rest after read) is)
+    refuses p state place rest after mapping op e f s some read is (breaks_rule t location new admits steps) = elim (steps s.layers s.sequence place s.keeps) [
+      | inl out_of_memory ↦ inl out_of_memory
+      | inr named ↦ inr (breaks p state t place rest after mapping op e f s some (admits rest after read) named is)
+    ]
 
     -- it was the function's own `end`
     pub over_end : (p : BodyParser) (state next_state : S) (place next : ℕ) (rest after : List ℕ) (mapping following : List (ℕ × ℕ)) (location : ℕ) (s : SoFar p state place rest mapping) → s.layers ≡ [] →

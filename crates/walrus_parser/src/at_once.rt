@@ -1,10 +1,11 @@
-//! Operators that are taken at once: the common ones that make an instruction by themselves. Each
-//! function here returns whether it took the operator. It doesn't if an index or a label isn't
-//! found or memory runs out; then nothing is changed, and the operator is taken at length, where
-//! the fault is found. So no error, which is large, is made for an operator that is taken.
+//! Common operators, each of which makes an instruction by itself. Each function here returns
+//! whether it took the operator. It doesn't if an index or a label isn't found or memory runs out;
+//! then nothing is changed, and the operator is taken at length, where the fault is found. So no
+//! error, which is large, is made for an operator that is taken.
 ghost use Rattle.std.specs.Prelude.{◌≡◌, ◌<◌, [], Ok, true};
 ghost use Rattle.wasm_operators.specs.declared.operator.Op.TheVariants as op;
 ghost use Rattle.wasm_operators.specs.Meaning.{meaning};
+ghost use Rattle.wasm_ops.specs.CommonOperators.{listed};
 ghost use Rattle.wasm_encode.specs.Writable.{IsWritable};
 ghost use Rattle.walrus_ir.specs.Unfolding.{slots_in};
 ghost use Rattle.wasm_body.specs.InstructionTable.{operation_of, clauses_of_try};
@@ -18,23 +19,23 @@ use walrus_ir::{
     Binop, Br, BrIf, Call, GlobalGet, GlobalSet, Instr, InstrLocId, Load, LoadKind, LocalGet,
     LocalSet, LocalTee, Store, StoreKind, Unop, Value,
 };
-use wasm_ops::{Operator, RawMemArg};
+use wasm_ops::{CommonOperator, RawMemArg};
 
 impl BodyParser<'_> {
     /// Takes an operator that makes an instruction by itself, which is this one.
     #[inline(always)]
     fn take_at_once(
         &mut self,
-        operator: &Operator<'_>,
+        common: CommonOperator,
         instr: Instr,
         location: InstrLocId,
         diverges: bool,
     ) -> bool
-        requires kind { is_instruction operator.now ≡ true }
-        requires diverges { diverges ≡ is_diverging operator.now }
-        requires placed { placed_in self.old (meaning operator.now) ≡ Ok (operation_of instr) }
+        requires kind { is_instruction (listed common) ≡ true }
+        requires diverges { diverges ≡ is_diverging (listed common) }
+        requires placed { placed_in self.old (meaning (listed common)) ≡ Ok (operation_of instr) }
         requires plain { (slots_in instr ≡ []) × (clauses_of_try instr ≡ []) }
-        ensures { TakesAtOnce self.old self.new (meaning operator.now) location result }
+        ensures { TakesAtOnce self.old self.new (meaning (listed common)) location result }
     {
         if !self.context.append_innermost(instr, location) {
             return false;
@@ -48,14 +49,14 @@ impl BodyParser<'_> {
 
     /// Takes a `local.get`.
     #[inline(always)]
-    fn take_local_get(&mut self, operator: &Operator<'_>, index: u32, location: InstrLocId) -> bool
-        requires { operator.now ≡ op.LocalGet index }
-        ensures { TakesAtOnce self.old self.new (meaning operator.now) location result }
+    fn take_local_get(&mut self, common: CommonOperator, index: u32, location: InstrLocId) -> bool
+        requires { listed common ≡ op.LocalGet index }
+        ensures { TakesAtOnce self.old self.new (meaning (listed common)) location result }
     {
         match self.context.local_at(index) {
             Some(local) => {
                 let instr = Instr::LocalGet(LocalGet { local });
-                self.take_at_once(operator, instr, location, false)
+                self.take_at_once(common, instr, location, false)
             }
             None => false,
         }
@@ -63,14 +64,14 @@ impl BodyParser<'_> {
 
     /// Takes a `local.set`.
     #[inline(always)]
-    fn take_local_set(&mut self, operator: &Operator<'_>, index: u32, location: InstrLocId) -> bool
-        requires { operator.now ≡ op.LocalSet index }
-        ensures { TakesAtOnce self.old self.new (meaning operator.now) location result }
+    fn take_local_set(&mut self, common: CommonOperator, index: u32, location: InstrLocId) -> bool
+        requires { listed common ≡ op.LocalSet index }
+        ensures { TakesAtOnce self.old self.new (meaning (listed common)) location result }
     {
         match self.context.local_at(index) {
             Some(local) => {
                 let instr = Instr::LocalSet(LocalSet { local });
-                self.take_at_once(operator, instr, location, false)
+                self.take_at_once(common, instr, location, false)
             }
             None => false,
         }
@@ -78,14 +79,14 @@ impl BodyParser<'_> {
 
     /// Takes a `local.tee`.
     #[inline(always)]
-    fn take_local_tee(&mut self, operator: &Operator<'_>, index: u32, location: InstrLocId) -> bool
-        requires { operator.now ≡ op.LocalTee index }
-        ensures { TakesAtOnce self.old self.new (meaning operator.now) location result }
+    fn take_local_tee(&mut self, common: CommonOperator, index: u32, location: InstrLocId) -> bool
+        requires { listed common ≡ op.LocalTee index }
+        ensures { TakesAtOnce self.old self.new (meaning (listed common)) location result }
     {
         match self.context.local_at(index) {
             Some(local) => {
                 let instr = Instr::LocalTee(LocalTee { local });
-                self.take_at_once(operator, instr, location, false)
+                self.take_at_once(common, instr, location, false)
             }
             None => false,
         }
@@ -95,20 +96,20 @@ impl BodyParser<'_> {
     #[inline(always)]
     fn push_load(
         &mut self,
-        operator: &Operator<'_>,
+        common: CommonOperator,
         kind: LoadKind,
         memarg: RawMemArg,
         location: InstrLocId,
     ) -> bool
-        requires is { operator.now ≡ op.Load kind memarg }
+        requires is { listed common ≡ op.Load kind memarg }
         requires exponent { memarg.exponent < 32 }
-        ensures { TakesAtOnce self.old self.new (meaning operator.now) location result }
+        ensures { TakesAtOnce self.old self.new (meaning (listed common)) location result }
     {
         match self.context.indices().get_memory(memarg.memory) {
             Ok(memory) => {
                 let arg = memory_argument(memarg);
                 let load = Load { memory, kind, arg };
-                self.take_at_once(operator, Instr::Load(load), location, false)
+                self.take_at_once(common, Instr::Load(load), location, false)
             }
             Err(_) => false,
         }
@@ -118,20 +119,20 @@ impl BodyParser<'_> {
     #[inline(always)]
     fn push_store(
         &mut self,
-        operator: &Operator<'_>,
+        common: CommonOperator,
         kind: StoreKind,
         memarg: RawMemArg,
         location: InstrLocId,
     ) -> bool
-        requires is { operator.now ≡ op.Store kind memarg }
+        requires is { listed common ≡ op.Store kind memarg }
         requires exponent { memarg.exponent < 32 }
-        ensures { TakesAtOnce self.old self.new (meaning operator.now) location result }
+        ensures { TakesAtOnce self.old self.new (meaning (listed common)) location result }
     {
         match self.context.indices().get_memory(memarg.memory) {
             Ok(memory) => {
                 let arg = memory_argument(memarg);
                 let store = Store { memory, kind, arg };
-                self.take_at_once(operator, Instr::Store(store), location, false)
+                self.take_at_once(common, Instr::Store(store), location, false)
             }
             Err(_) => false,
         }
@@ -139,14 +140,14 @@ impl BodyParser<'_> {
 
     /// Takes a `call`.
     #[inline(always)]
-    fn push_call(&mut self, operator: &Operator<'_>, index: u32, location: InstrLocId) -> bool
-        requires { operator.now ≡ op.Call index }
-        ensures { TakesAtOnce self.old self.new (meaning operator.now) location result }
+    fn push_call(&mut self, common: CommonOperator, index: u32, location: InstrLocId) -> bool
+        requires { listed common ≡ op.Call index }
+        ensures { TakesAtOnce self.old self.new (meaning (listed common)) location result }
     {
         match self.context.indices().get_func(index) {
             Ok(func) => {
                 let instr = Instr::Call(Call { func });
-                self.take_at_once(operator, instr, location, false)
+                self.take_at_once(common, instr, location, false)
             }
             Err(_) => false,
         }
@@ -154,14 +155,14 @@ impl BodyParser<'_> {
 
     /// Takes a `global.get`.
     #[inline(always)]
-    fn push_global_get(&mut self, operator: &Operator<'_>, index: u32, location: InstrLocId) -> bool
-        requires { operator.now ≡ op.GlobalGet index }
-        ensures { TakesAtOnce self.old self.new (meaning operator.now) location result }
+    fn push_global_get(&mut self, common: CommonOperator, index: u32, location: InstrLocId) -> bool
+        requires { listed common ≡ op.GlobalGet index }
+        ensures { TakesAtOnce self.old self.new (meaning (listed common)) location result }
     {
         match self.context.indices().get_global(index) {
             Ok(global) => {
                 let instr = Instr::GlobalGet(GlobalGet { global });
-                self.take_at_once(operator, instr, location, false)
+                self.take_at_once(common, instr, location, false)
             }
             Err(_) => false,
         }
@@ -169,14 +170,14 @@ impl BodyParser<'_> {
 
     /// Takes a `global.set`.
     #[inline(always)]
-    fn push_global_set(&mut self, operator: &Operator<'_>, index: u32, location: InstrLocId) -> bool
-        requires { operator.now ≡ op.GlobalSet index }
-        ensures { TakesAtOnce self.old self.new (meaning operator.now) location result }
+    fn push_global_set(&mut self, common: CommonOperator, index: u32, location: InstrLocId) -> bool
+        requires { listed common ≡ op.GlobalSet index }
+        ensures { TakesAtOnce self.old self.new (meaning (listed common)) location result }
     {
         match self.context.indices().get_global(index) {
             Ok(global) => {
                 let instr = Instr::GlobalSet(GlobalSet { global });
-                self.take_at_once(operator, instr, location, false)
+                self.take_at_once(common, instr, location, false)
             }
             Err(_) => false,
         }
@@ -184,14 +185,14 @@ impl BodyParser<'_> {
 
     /// Takes a `br`.
     #[inline(always)]
-    fn take_br(&mut self, operator: &Operator<'_>, label: u32, location: InstrLocId) -> bool
-        requires { operator.now ≡ op.Br label }
-        ensures { TakesAtOnce self.old self.new (meaning operator.now) location result }
+    fn take_br(&mut self, common: CommonOperator, label: u32, location: InstrLocId) -> bool
+        requires { listed common ≡ op.Br label }
+        ensures { TakesAtOnce self.old self.new (meaning (listed common)) location result }
     {
         match self.context.block_at(label as usize) {
             Some(block) => {
                 let instr = Instr::Br(Br { block });
-                self.take_at_once(operator, instr, location, true)
+                self.take_at_once(common, instr, location, true)
             }
             None => false,
         }
@@ -199,54 +200,57 @@ impl BodyParser<'_> {
 
     /// Takes a `br_if`.
     #[inline(always)]
-    fn push_br_if(&mut self, operator: &Operator<'_>, label: u32, location: InstrLocId) -> bool
-        requires { operator.now ≡ op.BrIf label }
-        ensures { TakesAtOnce self.old self.new (meaning operator.now) location result }
+    fn push_br_if(&mut self, common: CommonOperator, label: u32, location: InstrLocId) -> bool
+        requires { listed common ≡ op.BrIf label }
+        ensures { TakesAtOnce self.old self.new (meaning (listed common)) location result }
     {
         match self.context.block_at(label as usize) {
             Some(block) => {
                 let instr = Instr::BrIf(BrIf { block });
-                self.take_at_once(operator, instr, location, false)
+                self.take_at_once(common, instr, location, false)
             }
             None => false,
         }
     }
 
-    /// Takes the next operator, if it is a common one that can be taken at once.
+    /// Takes a common operator.
     #[inline(always)]
-    pub fn step_at_once(&mut self, operator: &Operator<'_>, location: InstrLocId) -> bool
-        requires { IsWritable (meaning operator.now) }
-        ensures { TakesAtOnce self.old self.new (meaning operator.now) location result }
+    pub fn take_common(&mut self, common: CommonOperator, location: InstrLocId) -> bool
+        requires { IsWritable (meaning (listed common)) }
+        ensures { TakesAtOnce self.old self.new (meaning (listed common)) location result }
     {
-        match operator {
-            Operator::LocalGet { local } => self.take_local_get(operator, *local, location),
-            Operator::LocalSet { local } => self.take_local_set(operator, *local, location),
-            Operator::LocalTee { local } => self.take_local_tee(operator, *local, location),
-            Operator::I32Const { value } => {
-                self.take_at_once(operator, constant(Value::I32(*value)), location, false)
+        match common {
+            CommonOperator::LocalGet { local } => self.take_local_get(common, local, location),
+            CommonOperator::LocalSet { local } => self.take_local_set(common, local, location),
+            CommonOperator::LocalTee { local } => self.take_local_tee(common, local, location),
+            CommonOperator::I32Const { value } => {
+                self.take_at_once(common, constant(Value::I32(value)), location, false)
             }
-            Operator::I64Const { value } => {
-                self.take_at_once(operator, constant(Value::I64(*value)), location, false)
+            CommonOperator::I64Const { value } => {
+                self.take_at_once(common, constant(Value::I64(value)), location, false)
             }
-            Operator::Unop(op) => {
-                self.take_at_once(operator, Instr::Unop(Unop { op: *op }), location, false)
+            CommonOperator::Unop(op) => {
+                self.take_at_once(common, Instr::Unop(Unop { op }), location, false)
             }
-            Operator::Binop(op) => {
-                self.take_at_once(operator, Instr::Binop(Binop { op: *op }), location, false)
+            CommonOperator::Binop(op) => {
+                self.take_at_once(common, Instr::Binop(Binop { op }), location, false)
             }
-            Operator::Load { kind, memarg } => {
-                self.push_load(operator, *kind, *memarg, location)
+            CommonOperator::Load { kind, memarg } => {
+                self.push_load(common, kind, memarg, location)
             }
-            Operator::Store { kind, memarg } => {
-                self.push_store(operator, *kind, *memarg, location)
+            CommonOperator::Store { kind, memarg } => {
+                self.push_store(common, kind, memarg, location)
             }
-            Operator::Call { func } => self.push_call(operator, *func, location),
-            Operator::GlobalGet { global } => self.push_global_get(operator, *global, location),
-            Operator::GlobalSet { global } => self.push_global_set(operator, *global, location),
-            Operator::Br { label } => self.take_br(operator, *label, location),
-            Operator::BrIf { label } => self.push_br_if(operator, *label, location),
-            Operator::Drop => self.take_at_once(operator, Instr::Drop, location, false),
-            _ => false,
+            CommonOperator::Call { func } => self.push_call(common, func, location),
+            CommonOperator::GlobalGet { global } => {
+                self.push_global_get(common, global, location)
+            }
+            CommonOperator::GlobalSet { global } => {
+                self.push_global_set(common, global, location)
+            }
+            CommonOperator::Br { label } => self.take_br(common, label, location),
+            CommonOperator::BrIf { label } => self.push_br_if(common, label, location),
+            CommonOperator::Drop => self.take_at_once(common, Instr::Drop, location, false),
         }
     }
 }

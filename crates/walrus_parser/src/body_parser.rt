@@ -5,6 +5,7 @@ ghost use Rattle.wasm_operators.specs.declared.types.Opcode.TheVariants.{Byte};
 ghost use Rattle.wasm_operators.specs.Operations.{operation, block};
 ghost use Rattle.wasm_operators.specs.declared.operator.Op.TheVariants as op;
 ghost use Rattle.wasm_operators.specs.Meaning.{meaning};
+ghost use Rattle.wasm_ops.specs.CommonOperators.{listed};
 ghost use Rattle.wasm_encode.specs.Writable.{IsWritable};
 ghost use Rattle.walrus_instructions.specs.OperatorKinds.{is_instruction};
 ghost use Rattle.walrus_parser.specs.OperatorKinds.{is_diverging};
@@ -28,7 +29,7 @@ use walrus_ir::{
 };
 use walrus_maps::IndicesToIds;
 use wasm_body::ParseError;
-use wasm_ops::{BlockType, Operator};
+use wasm_ops::{BlockType, CommonOperator, Operator};
 
 /// The state while a body is parsed.
 #[derive(Drop)]
@@ -303,27 +304,26 @@ impl BodyParser<'_> {
         }
     }
 
-    /// Takes the next operator, other than the function's own `end`.
+    /// Takes a common operator.
     #[inline(always)]
-    pub fn step(&mut self, operator: &Operator<'_>, location: InstrLocId) -> Result<(), ParseError>
-        requires inside { operator.now ≡ op.End → 1 < length self.old.context.frames }
-        requires writable { IsWritable (meaning operator.now) }
-        ensures step { Steps self.old self.new (meaning operator.now) location result }
-        ensures rest { OnOk result (IsSameBody self.old.context self.new.context) }
-    {
-        if self.step_at_once(operator, location) {
-            return Ok(());
-        }
-        self.step_at_length(operator, location)
-    }
-
-    /// The same for every operator.
-    #[inline(never)]
-    fn step_at_length(
+    pub fn step_common(
         &mut self,
-        operator: &Operator<'_>,
+        common: CommonOperator,
         location: InstrLocId,
     ) -> Result<(), ParseError>
+        requires writable { IsWritable (meaning (listed common)) }
+        ensures step { Steps self.old self.new (meaning (listed common)) location result }
+        ensures rest { OnOk result (IsSameBody self.old.context self.new.context) }
+    {
+        if self.take_common(common, location) {
+            return Ok(());
+        }
+        self.step(&common.operator(), location)
+    }
+
+    /// Takes the next operator, other than the function's own `end`.
+    #[inline(never)]
+    pub fn step(&mut self, operator: &Operator<'_>, location: InstrLocId) -> Result<(), ParseError>
         requires inside { operator.now ≡ op.End → 1 < length self.old.context.frames }
         requires writable { IsWritable (meaning operator.now) }
         ensures step { Steps self.old self.new (meaning operator.now) location result }

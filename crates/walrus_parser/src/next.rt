@@ -1,19 +1,21 @@
 //! The next operator, its location, and whether the validator accepts it.
-ghost use Rattle.std.specs.Prelude.{◌≡◌, ◌⊎◌, ◌+◌, ◌<◌, ℕ, List, length, IfOk, IfErr, Ok, Err};
+ghost use Rattle.std.specs.Prelude.{◌≡◌, ◌⊎◌, ◌+◌, ◌<◌, ℕ, List, length, IfOk, IfErr, IfSome, None, Ok, Err};
 ghost use Rattle.wasm_operators.specs.Spelling.{read_operation};
 ghost use Rattle.wasm_operators.specs.Meaning.{meaning};
 ghost use Rattle.wasm_encode.specs.Writable.{IsWritable};
 ghost use Rattle.wasm_body.specs.declared.error.ParseError.{ParseError as ParseFault};
-ghost use Rattle.wasm_body.specs.Parsing.Accepted.{has_location, admitted};
 ghost use Rattle.wasm_body.specs.Parsing.Lists.{failure};
 ghost use Rattle.walrus_parser.specs.Checking.{fault_of, fault_of_refusal};
 ghost use Rattle.walrus_parser.specs.Locating.{MayCall, Locates};
+ghost use Rattle.walrus_parser.specs.NextOperator.{AdmitsAs, IsAdmitted};
+ghost use Rattle.wasm_ops.specs.CommonOperators.{listed};
+ghost use Rattle.wasm_ops.specs.Position.{IsAfter};
 
 use crate::check::{CheckError, OpCheck};
 use crate::locating::location_at;
 use walrus_ir::InstrLocId;
 use wasm_body::{ParseError, ParseFailure};
-use wasm_ops::{Operator, ReadError, Reader};
+use wasm_ops::{CommonOperator, Operator, ReadError, Reader};
 
 fn failure(error: ParseError, at: usize) -> ParseFailure
     ensures { result ≡ failure error at }
@@ -49,19 +51,28 @@ pub fn refused(refusal: Refusal, at: usize) -> ParseFailure
     }
 }
 
-/// Reads the next operator.
+/// Reads the next operator if it is a common one, as `Reader::read_common` does.
 #[inline(always)]
-pub fn read_next<'a>(reader: &mut Reader<'a>) -> Result<Operator<'a>, ReadError>
+pub fn read_common(reader: &mut Reader<'_>) -> Option<CommonOperator>
+    ensures is_read { IfSome result (λ x.
+        read_operation reader.old.rest ≡ Ok (meaning (listed x), reader.new.rest)) }
+    ensures writable { IfSome result (λ x. IsWritable (meaning (listed x))) }
+    ensures moves { IfSome result (λ _. IsAfter reader.old reader.new) }
+    ensures none { result ≡ None → reader.new ≡ reader.old }
+{
+    reader.read_common()
+}
+
+/// Reads the next operator.
+pub fn read_other<'a>(reader: &mut Reader<'a>) -> Result<Operator<'a>, ReadError>
     ensures is_read { IfOk result (λ x.
         read_operation reader.old.rest ≡ Ok (meaning x, reader.new.rest)) }
     ensures writable { IfOk result (λ x. IsWritable (meaning x)) }
-    ensures moves { IfOk result (λ x.
-        (reader.new.place + length reader.new.rest ≡ reader.old.place + length reader.old.rest)
-        × (length reader.new.rest < length reader.old.rest)) }
+    ensures moves { IfOk result (λ _. IsAfter reader.old reader.new) }
     ensures err { IfErr result (λ e. (read_operation reader.old.rest ≡ Err e.fault)
         × (e.at ≡ reader.old.place)) }
 {
-    reader.read()
+    reader.read_other()
 }
 
 /// The location of an operator that was read at this place, if the validator accepts the operator.
@@ -73,19 +84,12 @@ pub fn accepted_at<V: OpCheck, F: Fn(&usize) -> InstrLocId>(
     validator: &mut V,
 ) -> Result<InstrLocId, Refusal>
     requires { MayCall F.pre on_instr_pos at (at + 1) }
-    ensures ok { IfOk result (λ _. (bytes rest : List ℕ)
-        → read_operation bytes ≡ Ok (meaning operator.now, rest)
-        → admitted (has_location on_instr_pos.entry) V.check (V.state validator.old) at bytes
-        ≡ Ok (record {
-          spelt = meaning operator.now;
-          rest = rest;
-          state = V.state validator.new;
-        })) }
+    ensures ok { IfOk result (λ _. IsAdmitted on_instr_pos.entry V.check (V.state validator.old)
+        (V.state validator.new) at (meaning operator.now)) }
     ensures located { IfOk result (λ location. Locates F.Fn on_instr_pos.entry at location) }
     ensures err { IfErr result (λ r. (fault_of_refusal r ≡ ParseFault.Memory)
-        ⊎ ((bytes rest : List ℕ) → read_operation bytes ≡ Ok (meaning operator.now, rest)
-        → admitted (has_location on_instr_pos.entry) V.check (V.state validator.old) at bytes
-        ≡ Err (fault_of_refusal r))) }
+        ⊎ AdmitsAs on_instr_pos.entry V.check (V.state validator.old) at (meaning operator.now)
+        (λ rest. Err (fault_of_refusal r))) }
 {
     let Some(location) = location_at(on_instr_pos, at) else {
         return Err(Refusal::PlaceTooGreat);

@@ -1,5 +1,8 @@
 //! Parsing the operators of a body.
-ghost use Rattle.std.specs.Prelude.{◌≡◌, ◌⊎◌, ◌≤◌, ◌<◌, ◌+◌, ◌^◌, [], length, Some, IfOk, IfErr, Ok};
+ghost use Rattle.std.specs.Prelude.{◌≡◌, ◌⊎◌, ◌≤◌, ◌<◌, ◌+◌, ◌^◌, [], length, Some, IfOk, IfErr, OnOk, Ok};
+ghost use Rattle.wasm_operators.specs.Meaning.{meaning};
+ghost use Rattle.wasm_ops.specs.CommonOperators.{listed};
+ghost use Rattle.wasm_encode.specs.Writable.{IsWritable};
 ghost use Rattle.wasm_body.specs.declared.error.ParseError.{ParseError as ParseFault};
 ghost use Rattle.wasm_body.specs.Parsing.Lists.{failure};
 ghost use Rattle.wasm_body.specs.SourceTree.{Empty};
@@ -8,17 +11,18 @@ ghost use Rattle.walrus_maps.specs.Environments.{environment_of};
 ghost use Rattle.walrus_parser.specs.Locating.{MayCall};
 ghost use Rattle.walrus_context.specs.OpenTrees.{env_of};
 ghost use Rattle.walrus_parser.specs.BodyParsers.{Begins};
+ghost use Rattle.walrus_parser.specs.NextOperator.{TakesNext, RefusesNext};
 ghost use Rattle.walrus_parser.specs.Bodies.{input_of, operators_input, ParsesOperators, AcceptsBody, RefusesBody};
 
 use crate::body_parser::BodyParser;
 use crate::check::OpCheck;
-use crate::next::{accepted_at, read_next, refused};
+use crate::next::{accepted_at, read_common, read_other, refused};
 use std::alloc::Global;
 use walrus_context::try_push;
 use walrus_ir::{FunctionBuilder, FunctionId, Instr, InstrLocId, Module, TypeId};
 use walrus_maps::IndicesToIds;
 use wasm_body::{ParseError, ParseFailure};
-use wasm_ops::{Operator, Reader};
+use wasm_ops::{CommonOperator, Operator, Reader};
 
 /// A function's sequences, and the place (less the code offset) and location of each operator that
 /// was read.
@@ -35,6 +39,40 @@ fn failure(error: ParseError, at: usize) -> ParseFailure
     ensures { result ≡ failure error at }
 {
     ParseFailure { error, at }
+}
+
+/// Takes a common operator that was read at this place.
+#[inline(always)]
+fn take_common<V: OpCheck, F: Fn(&usize) -> InstrLocId>(
+    parser: &mut BodyParser<'_>,
+    common: CommonOperator,
+    at: usize,
+    on_instr_pos: Option<&F>,
+    validator: &mut V,
+    code_offset: usize,
+    mapping: &mut Vec<(usize, InstrLocId)>,
+) -> Result<(), ParseFailure>
+    requires offset { code_offset ≤ at }
+    requires writable { IsWritable (meaning (listed common)) }
+    requires may_call { MayCall F.pre on_instr_pos at (at + 1) }
+    ensures ok { OnOk result (TakesNext F.Fn on_instr_pos.entry V.check (V.state validator.old)
+        (V.state validator.new) at code_offset (meaning (listed common)) parser.old parser.new
+        mapping.old.items mapping.new.items) }
+    ensures err { IfErr result (λ f. (f.at ≡ at) × ((f.error ≡ ParseFault.Memory)
+        ⊎ RefusesNext on_instr_pos.entry V.check (V.state validator.old) at
+        (meaning (listed common)) parser.old f.error)) }
+{
+    let location = match accepted_at(at, &common.operator(), on_instr_pos, validator) {
+        Ok(location) => location,
+        Err(refusal) => return Err(refused(refusal, at)),
+    };
+    if !try_push(mapping, (at - code_offset, location)) {
+        return Err(failure(ParseError::Memory, at));
+    }
+    match parser.step_common(common, location) {
+        Ok(()) => Ok(()),
+        Err(error) => Err(failure(error, at)),
+    }
 }
 
 /// Parses the operators of a body, none of which is read yet. Places in the mapping are less the
@@ -58,7 +96,22 @@ fn parse_operators<V: OpCheck, F: Fn(&usize) -> InstrLocId>(
     let mut instruction_mapping = Vec::new(alloc);
     while !reader.eof() {
         let at = reader.original_position();
-        let read = read_next(reader);
+        if let Some(common) = read_common(reader) {
+            let taken = take_common(
+                &mut parser,
+                common,
+                at,
+                on_instr_pos,
+                &mut validator,
+                code_offset,
+                &mut instruction_mapping,
+            );
+            match taken {
+                Ok(()) => continue,
+                Err(failure) => return Err(failure),
+            }
+        }
+        let read = read_other(reader);
         let operator = match &read {
             Ok(operator) => operator,
             Err(error) => return Err(failure(ParseError::Read(*error), at)),

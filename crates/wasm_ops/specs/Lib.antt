@@ -1,1 +1,2 @@
+pub mod CommonOperators
 pub mod Position

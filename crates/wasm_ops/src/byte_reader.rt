@@ -161,7 +161,7 @@ pub(crate) fn read_after_byte(byte: u8, bytes: &[u8]) -> Result<(Operator<'_>, &
         0x28..=0x35 => read_load(byte, bytes),
         0x36..=0x3e => read_store(byte, bytes),
         0x3f..=0x44 => read_constant(byte, bytes),
-        0x45..=0xc4 => Ok((numeric(byte), bytes)),
+        0x45..=0xc4 => Ok((numeric(byte).operator(), bytes)),
         0xc5..=0xcf => Err(ReadFault::UnknownOperator),
         0xd0..=0xd6 => read_reference(byte, bytes),
         _ => Err(ReadFault::UnknownOperator),

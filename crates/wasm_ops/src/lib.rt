@@ -6,6 +6,7 @@
 mod access_reader;
 mod atomic_reader;
 mod byte_reader;
+mod common;
 mod numeric_reader;
 mod prefix_reader;
 mod reader;
@@ -15,6 +16,7 @@ mod type_reader;
 mod vector_access_reader;
 mod vector_reader;
 
+pub use common::CommonOperator;
 pub use reader::Reader;
 pub use type_reader::read_value_type;
 pub use wasm_numbers::{ReadError, ReadFault, read_u32, read_u64};

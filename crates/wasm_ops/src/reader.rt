@@ -9,6 +9,7 @@ ghost use Rattle.wasm_operators.specs.Meaning.{meaning};
 use crate::access_reader::{load_kind, read_short_memarg, store_kind};
 use crate::atomic_reader::read_after_fe;
 use crate::byte_reader::read_after_byte;
+use crate::common::CommonOperator;
 use crate::numeric_reader::numeric;
 use crate::prefix_reader::{read_after_fc, read_after_fd};
 use crate::reference_reader::read_after_fb;
@@ -17,7 +18,7 @@ use std::marker::Model;
 use wasm_numbers::{
     ReadError, ReadFault, read_short_s32, read_short_s64, read_short_unsigned, read_u32,
 };
-use wasm_operators::{Operator, index_rows};
+use wasm_operators::Operator;
 
 /// Reads the operator at the front. Returns it and the bytes that follow.
 #[tactic(auto, unfolding(wasm_operators::specs::Spelling::read_operation, wasm_operators::specs::Opcodes::opcode))]
@@ -77,40 +78,31 @@ macro_rules! return_operator {
     }};
 }
 
-/// Returns the operator that is made from the immediates that were read, if any were, and moves
+/// Returns the construct that is opened with the block type that was read, if one was, and moves
 /// past it.
-macro_rules! return_made {
-    ($reader:expr, $read:expr, $part:pat => $operator:expr) => {
-        if let Some(($part, rest)) = $read {
-            return_operator!($reader, $operator, rest)
+macro_rules! return_opened {
+    ($reader:expr, $rest:expr, $name:ident) => {
+        if let Some((ty, rest)) = read_empty_block_type($rest) {
+            return_operator!($reader, Operator::$name { ty }, rest)
         }
     };
 }
 
-/// Returns the operator with this opcode of one byte and this number after it: one on locals,
-/// globals or tables, or another.
-macro_rules! return_indexed {
-    (
-        ($reader:expr, $byte:ident $number:ident $rest:ident)
-        $calls:tt $call_rows:tt
-        (Byte) { $($row:literal $name:ident { $field:ident $id:ident $space:ident })* }
-        (Byte) {
-            $($more_row:literal $more:ident {
-                $more_field:ident $more_id:ident $more_space:ident
-            })*
-        }
-        $($others:tt)*
-    ) => {
-        match $byte {
-            0x0c => return_operator!($reader, Operator::Br { label: $number }, $rest),
-            0x0d => return_operator!($reader, Operator::BrIf { label: $number }, $rest),
-            0x10 => return_operator!($reader, Operator::Call { func: $number }, $rest),
-            0x20 => return_operator!($reader, Operator::LocalGet { local: $number }, $rest),
-            0x21 => return_operator!($reader, Operator::LocalSet { local: $number }, $rest),
-            0x22 => return_operator!($reader, Operator::LocalTee { local: $number }, $rest),
-            $($row => return_operator!($reader, Operator::$name { $field: $number }, $rest),)*
-            $($more_row => return_operator!($reader, Operator::$more { $more_field: $number }, $rest),)*
-            _ => {}
+/// Returns the common operator that is spelt at the front, and moves past it.
+macro_rules! return_common {
+    ($reader:expr, $operator:expr, $rest:expr) => {{
+        let common = $operator;
+        $reader.pass_common(common, $rest);
+        return Some(common);
+    }};
+}
+
+/// Returns the common operator that is made from the immediates that were read, if any were, and
+/// moves past it.
+macro_rules! return_made {
+    ($reader:expr, $read:expr, $part:pat => $operator:expr) => {
+        if let Some(($part, rest)) = $read {
+            return_common!($reader, $operator, rest)
         }
     };
 }
@@ -135,11 +127,12 @@ impl<'a> Model for Reader<'a> {
 }
 
 impl<'a> Reader<'a> {
-    ghost use Rattle.std.specs.Prelude.{◌≡◌, List, ℕ, ◌+◌, ◌++◌, ◌<◌, ◌≤◌, ◌^◌, ◌==◌, length, IfOk, IfErr, IsOkAnd, OnErr, Ok, Err};
+    ghost use Rattle.std.specs.Prelude.{◌≡◌, List, ℕ, ◌+◌, ◌++◌, ◌<◌, ◌≤◌, ◌^◌, ◌==◌, length, IfOk, IfErr, IsOkAnd, OnErr, IfSome, None, Ok, Err};
     ghost use Rattle.wasm_operators.specs.Operations.{RawOperation};
     ghost use Rattle.wasm_operators.specs.Spelling.{Spells, read_operation};
     ghost use Rattle.wasm_ops.specs.Position.{Position, Moves};
     ghost use Rattle.wasm_operators.specs.Meaning.{meaning};
+    ghost use Rattle.wasm_ops.specs.CommonOperators.{listed};
 
     /// A reader of these bytes. `start` is the place of the first byte: its byte offset.
     pub fn new(bytes: &'a [u8], start: usize) -> Self
@@ -184,9 +177,24 @@ impl<'a> Reader<'a> {
         self.rest = rest;
     }
 
-    /// Reads the next operator, of any length.
-    #[inline(never)]
-    fn read_at_length(&mut self) -> Result<Operator<'a>, ReadError>
+    /// Moves past a common operator that is spelt at the front.
+    #[inline(always)]
+    fn pass_common(&mut self, common: CommonOperator, rest: &'a [u8])
+        requires { read_operation self.old.rest ≡ Ok (meaning (listed common), rest.now) }
+        // It is spelt by the bytes that were passed.
+        ensures found { (text : List ℕ) × Moves self.old text self.new
+            × Spells (meaning (listed common)) text }
+        // It is the operator that is spelt at the front.
+        ensures only { (o : RawOperation) (text rest : List ℕ) → Spells o text → self.old.rest ≡ text ++ rest
+            → (meaning (listed common) ≡ o) × Moves self.old text self.new }
+        // It is read, as a function of the bytes.
+        ensures is_read { read_operation self.old.rest ≡ Ok (meaning (listed common), self.new.rest) }
+    {
+        self.pass(&common.operator(), rest);
+    }
+
+    /// Reads the next operator, whatever it is.
+    fn read_any(&mut self) -> Result<Operator<'a>, ReadError>
         // The operator that is read is spelt by the bytes that were taken.
         ensures found { IfOk result (λ x. (text : List ℕ) × Moves self.old text self.new × Spells (meaning x) text) }
         // An operator that is spelt at the front is read.
@@ -211,15 +219,90 @@ impl<'a> Reader<'a> {
         }
     }
 
-    /// Reads the next operator. Its parts are read from left to right, and the first that can't be
-    /// read decides the fault. Allocates nothing.
+    /// Reads the next operator if it is one of those that most code consists of, and its immediates
+    /// are short. If there is none, the reader doesn't move.
+    #[inline(always)]
+    #[tactic(auto, unfolding(wasm_operators::specs::Spelling::read_operation, wasm_operators::specs::Opcodes::opcode, wasm_operators::specs::Opcodes::kinds_of_byte))]
+    pub fn read_common(&mut self) -> Option<CommonOperator>
+        // The operator that is read is spelt by the bytes that were taken.
+        ensures found { IfSome result (λ x. (text : List ℕ) × Moves self.old text self.new
+            × Spells (meaning (listed x)) text) }
+        // It is the operator that is spelt at the front.
+        ensures only { (o : RawOperation) (text rest : List ℕ) → Spells o text → self.old.rest ≡ text ++ rest
+            → IfSome result (λ x. (meaning (listed x) ≡ o) × Moves self.old text self.new) }
+        // The result, as a function of the bytes.
+        ensures is_read { IfSome result (λ x. read_operation self.old.rest ≡ Ok (meaning (listed x), self.new.rest)) }
+        ensures none { result ≡ None → self.new ≡ self.old }
+    {
+        let [byte, rest @ ..] = self.rest else {
+            return None;
+        };
+        let byte = *byte;
+        match byte {
+            0x1a => return_common!(self, CommonOperator::Drop, rest),
+            0x28..=0x35 => return_made!(
+                self, read_short_memarg(rest),
+                memarg => CommonOperator::Load { kind: load_kind(byte), memarg }
+            ),
+            0x36..=0x3e => return_made!(
+                self, read_short_memarg(rest),
+                memarg => CommonOperator::Store { kind: store_kind(byte), memarg }
+            ),
+            0x41 => return_made!(
+                self, read_short_s32(rest), value => CommonOperator::I32Const { value }
+            ),
+            0x42 => return_made!(
+                self, read_short_s64(rest), value => CommonOperator::I64Const { value }
+            ),
+            0x45..=0xc4 => return_common!(self, numeric(byte), rest),
+            _ => {
+                if let Some((number, rest)) = read_short_unsigned(rest) {
+                    match byte {
+                        0x0c => return_common!(self, CommonOperator::Br { label: number }, rest),
+                        0x0d => return_common!(self, CommonOperator::BrIf { label: number }, rest),
+                        0x10 => return_common!(self, CommonOperator::Call { func: number }, rest),
+                        0x20 => return_common!(
+                            self,
+                            CommonOperator::LocalGet { local: number },
+                            rest
+                        ),
+                        0x21 => return_common!(
+                            self,
+                            CommonOperator::LocalSet { local: number },
+                            rest
+                        ),
+                        0x22 => return_common!(
+                            self,
+                            CommonOperator::LocalTee { local: number },
+                            rest
+                        ),
+                        0x23 => return_common!(
+                            self,
+                            CommonOperator::GlobalGet { global: number },
+                            rest
+                        ),
+                        0x24 => return_common!(
+                            self,
+                            CommonOperator::GlobalSet { global: number },
+                            rest
+                        ),
+                        _ => {}
+                    }
+                }
+            }
+        }
+        None
+    }
+
+    /// Reads the next operator, as `read` does. It is the faster one of both where `read_common`
+    /// returned none.
     ///
     /// # Errors
     ///
-    /// A `ReadError` with the fault and the place of the operator's first byte. The reader doesn't
-    /// move.
+    /// Those of `read`.
+    #[inline(never)]
     #[tactic(auto, unfolding(wasm_operators::specs::Spelling::read_operation, wasm_operators::specs::Opcodes::opcode, wasm_operators::specs::Opcodes::kinds_of_byte))]
-    pub fn read(&mut self) -> Result<Operator<'a>, ReadError>
+    pub fn read_other(&mut self) -> Result<Operator<'a>, ReadError>
         // The operator that is read is spelt by the bytes that were taken.
         ensures found { IfOk result (λ x. (text : List ℕ) × Moves self.old text self.new × Spells (meaning x) text) }
         // An operator that is spelt at the front is read.
@@ -232,45 +315,44 @@ impl<'a> Reader<'a> {
         ensures err { OnErr result (self.new ≡ self.old) }
     {
         if let [byte, rest @ ..] = self.rest {
-            let byte = *byte;
-            match byte {
+            match *byte {
                 0x00 => return_operator!(self, Operator::Unreachable, rest),
                 0x01 => return_operator!(self, Operator::Nop, rest),
-                0x02 =>
-                    return_made!(self, read_empty_block_type(rest), ty => Operator::Block { ty }),
-                0x03 =>
-                    return_made!(self, read_empty_block_type(rest), ty => Operator::Loop { ty }),
-                0x04 => return_made!(self, read_empty_block_type(rest), ty => Operator::If { ty }),
+                0x02 => return_opened!(self, rest, Block),
+                0x03 => return_opened!(self, rest, Loop),
+                0x04 => return_opened!(self, rest, If),
                 0x05 => return_operator!(self, Operator::Else, rest),
                 0x0b => return_operator!(self, Operator::End, rest),
                 0x0f => return_operator!(self, Operator::Return, rest),
-                0x1a => return_operator!(self, Operator::Drop, rest),
                 0x1b => return_operator!(self, Operator::Select, rest),
-                0x28..=0x35 => return_made!(
-                    self, read_short_memarg(rest),
-                    memarg => Operator::Load { kind: load_kind(byte), memarg }
-                ),
-                0x36..=0x3e => return_made!(
-                    self, read_short_memarg(rest),
-                    memarg => Operator::Store { kind: store_kind(byte), memarg }
-                ),
-                0x41 =>
-                    return_made!(self, read_short_s32(rest), value => Operator::I32Const { value }),
-                0x42 =>
-                    return_made!(self, read_short_s64(rest), value => Operator::I64Const { value }),
-                0x45..=0xc4 => return_operator!(self, numeric(byte), rest),
-                _ => {
-                    if let Some((number, rest)) = read_short_unsigned(rest) {
-                        index_rows!(return_indexed, self, byte number rest)
-                    }
-                }
+                _ => {}
             }
         }
-        // Matching on the result gives it memory of its own; the operators that are returned above
-        // are built in registers.
-        match self.read_at_length() {
-            Ok(operator) => Ok(operator),
-            Err(error) => Err(error),
+        self.read_any()
+    }
+
+    /// Reads the next operator. Its parts are read from left to right, and the first that can't be
+    /// read decides the fault. Allocates nothing.
+    ///
+    /// # Errors
+    ///
+    /// A `ReadError` with the fault and the place of the operator's first byte. The reader doesn't
+    /// move.
+    pub fn read(&mut self) -> Result<Operator<'a>, ReadError>
+        // The operator that is read is spelt by the bytes that were taken.
+        ensures found { IfOk result (λ x. (text : List ℕ) × Moves self.old text self.new × Spells (meaning x) text) }
+        // An operator that is spelt at the front is read.
+        ensures only { (o : RawOperation) (text rest : List ℕ) → Spells o text → self.old.rest ≡ text ++ rest
+            → IsOkAnd result (λ x. (meaning x ≡ o) × Moves self.old text self.new) }
+        // The result, as a function of the bytes.
+        ensures is_read { IfOk result (λ x. read_operation self.old.rest ≡ Ok (meaning x, self.new.rest)) }
+        // The fault, and the place of the operator.
+        ensures fault { IfErr result (λ e. (read_operation self.old.rest ≡ Err e.fault) × (e.at ≡ self.old.place)) }
+        ensures err { OnErr result (self.new ≡ self.old) }
+    {
+        match self.read_common() {
+            Some(common) => Ok(common.operator()),
+            None => self.read_other(),
         }
     }
 }
