@@ -1,20 +1,15 @@
 //! Functions of a module that have a body: parsing and writing the body.
-ghost use Rattle.std.specs.Prelude.{◌≡◌, ◌⊎◌, ◌≤◌, ◌<◌, ◌+◌, ◌^◌, ◌==◌, ◌↔◌, IsTrue, ℕ, [], length, drop, slice_get, Some, None, Option, IfOk, IfErr, IsErr, OnOk, OnErr};
+ghost use Rattle.std.specs.Prelude.{◌≡◌, ◌⊎◌, ◌≤◌, ◌<◌, ◌+◌, ◌^◌, ◌==◌, ◌↔◌, IsTrue, ℕ, [], length, slice_get, Some, None, IfOk, IfErr, IsErr, OnOk, OnErr};
 ghost use Rattle.std.specs.Borrow.{sem};
 ghost use Rattle.std.specs.HashSet.{contains};
 ghost use Rattle.std.specs.List.{list_all};
 ghost use Rattle.walrus_ir.specs.Unfolding.{among};
 ghost use Rattle.walrus_ir.specs.Walk.{HasNoWalk};
 ghost use Rattle.wasm_body.specs.declared.error.ParseError.{ParseError as ParseFault};
-ghost use Rattle.wasm_body.specs.declared.error.ParseFailure.{ParseFailure as Failure};
-ghost use Rattle.wasm_body.specs.SourceTree.{Body};
-ghost use Rattle.wasm_body.specs.Naming.{Occurrence};
-ghost use Rattle.wasm_body.specs.Parsing.Accepted.{Accepted, FirstFault};
-ghost use Rattle.walrus_parser.specs.Ranges.{range_at};
+ghost use Rattle.walrus_parser.specs.Ranges.{range_of};
 ghost use Rattle.walrus_body.specs.LocalFunctions.{HasEntry, first_slot, first_instrs, is_const, LendsBuilder, LendsBlock};
-ghost use Rattle.walrus_parser.specs.Bodies.{body_input, body_setting, body_operators, AcceptsBody, RefusesBody};
+ghost use Rattle.walrus_parser.specs.Bodies.{body_input, AcceptsBody, RefusesBody, IfAccepted, IfFirstFault};
 ghost use Rattle.walrus_parser.specs.Locating.{MayCall};
-ghost use Rattle.walrus_parser.specs.Settings.{BothOrNone};
 ghost use Rattle.walrus_facts.specs.Facts.{count, segments, AreFacts, TreeHas};
 ghost use Rattle.walrus_facts.specs.Sizes.{IsTooLarge};
 ghost use Rattle.walrus_numbering.specs.EmittedLocals.{Declares, IsNotDeclared};
@@ -138,33 +133,26 @@ impl LocalFunction {
         ensures refused { IfErr result (RefusesBody F.Fn (body_input «module».now indices.now
             id ty body.entry on_instr_pos.entry V.check (V.state validator))) }
         // Unless memory runs out, each accepted body and each first fault is returned.
-        ensures each_body { (locations : Option (ℕ → ℕ)) (b : Body Occurrence)
-            → BothOrNone on_instr_pos.entry locations
-            → Accepted (body_setting «module».now indices.now id ty body.entry V.check
-            (V.state validator) locations) (body_operators body.entry) b
-            → IfErr result (λ f. f.error ≡ ParseFault.Memory) }
-        ensures each_fault { (locations : Option (ℕ → ℕ)) (f : Failure)
-            → BothOrNone on_instr_pos.entry locations
-            → FirstFault (body_setting «module».now indices.now id ty body.entry V.check
-            (V.state validator) locations) (body_operators body.entry) f
-            → IsErr result × IfErr result (λ e. (e.error ≡ ParseFault.Memory) ⊎ (e ≡ f)) }
+        ensures each_body { IfAccepted (body_input «module».now indices.now id ty body.entry
+            on_instr_pos.entry V.check (V.state validator))
+            (IfErr result (λ f. f.error ≡ ParseFault.Memory)) }
+        ensures each_fault { IfFirstFault (body_input «module».now indices.now id ty body.entry
+            on_instr_pos.entry V.check (V.state validator)) (λ f. IsErr result
+            × IfErr result (λ e. (e.error ≡ ParseFault.Memory) ⊎ (e ≡ f))) }
         // The arguments are those that were passed, and the range is that of the body.
         ensures args { IfOk result (λ made. made.args ≡ args.items) }
         ensures range { IfOk result (λ made. made.original_range
-            ≡ Some (range_at body.entry.start (length body.entry.bytes.now)
-            «module».now.code_section_offset)) }
+            ≡ Some (range_of body.entry «module».now.code_section_offset)) }
         ensures instrs { instrs.new.items ≡ [] }
     {
-        let alloc = *instrs.allocator();
-        let start = body.start + body.ops;
         let parsed = parse_function(
-            alloc,
+            *instrs.allocator(),
             module,
             indices,
             id,
             ty,
             body.operators(),
-            start,
+            body.start + body.ops,
             on_instr_pos,
             validator,
             instrs,

@@ -80,6 +80,15 @@ pub record IsFunction (function : Function) (tree : FunctionTree) : Type 0 where
   pub entry : function.entry ≡ Some 0
   pub holds : HasTree function.sequences 0 tree
 
+module _ {S F : Type 0} (i : ParseInput S F) where
+  -- This holds if the bytes are accepted as a body, with any location function if the caller passed one, else without.
+  abbrev pub IfAccepted : Type 0 → Type 0
+  IfAccepted Holds = (locations : Option (ℕ → ℕ)) (b : Body Occurrence) → BothOrNone i.on_instr_pos locations → Accepted (setting_with i locations) i.bytes b → Holds
+
+  -- This holds of the bytes' first fault, if they have one.
+  abbrev pub IfFirstFault : (ParseFailure → Type 0) → Type 0
+  IfFirstFault Holds = (locations : Option (ℕ → ℕ)) (f : ParseFailure) → BothOrNone i.on_instr_pos locations → FirstFault (setting_with i locations) i.bytes f → Holds f
+
 module _ {S F : Type 0} (calls : Shared F (Bor ℕ × Unit {0}) ℕ) (i : ParseInput S F) where
   -- there is a location function exactly if the caller passed one
   abbrev pub AreGiven : Option (ℕ → ℕ) → Type 0

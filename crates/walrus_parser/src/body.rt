@@ -1,6 +1,6 @@
 //! The bytes of a body.
 ghost use Rattle.std.specs.Prelude.{◌≡◌, ◌≤◌, ◌<◌, ◌+◌, ◌^◌, length, drop};
-ghost use Rattle.walrus_parser.specs.Ranges.{range_at};
+ghost use Rattle.walrus_parser.specs.Ranges.{range_of};
 
 use std::ops::Range;
 
@@ -29,7 +29,7 @@ impl<'a> FunctionBody<'a> {
     pub fn range(self, offset: usize) -> Range<usize>
         requires fits { self.start + length self.bytes.now < 2 ^ 64 }
         requires offset { offset ≤ self.start }
-        ensures { result ≡ range_at self.entry.start (length self.entry.bytes.now) offset }
+        ensures { result ≡ range_of self.entry offset }
     {
         Range {
             start: self.start - offset,

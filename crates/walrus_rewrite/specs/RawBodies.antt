@@ -35,9 +35,13 @@ pub record EmitInput : Type 0 where
   pub types : List (ValType ℕ)
   pub args : List ℕ
 
--- the same for a function in a module, with the numbers of index maps
+-- the same for a function in a module with these arguments, with the numbers of index maps
+abbrev pub input_for : IdsToIndices → Module → (args : List ℕ) → EmitInput
+input_for out m args = record { to = numbers_by m.types out []; types = m.locals; args = args }
+
+-- the same for this function
 abbrev pub emit_input : IdsToIndices → Module → FunctionParts → EmitInput
-emit_input out m f = record { to = numbers_by m.types out []; types = m.locals; args = f.args }
+emit_input out m f = input_for out m f.args
 
 -- These are the bytes and the location pairs of a tree as a raw body, the places counted from its first byte.
 pub record IsRawBody (by : EmitInput) (t : FunctionTree) (bytes : List ℕ) (pairs : List Pair) : Type 0 where

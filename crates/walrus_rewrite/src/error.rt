@@ -1,4 +1,6 @@
 //! Why a body isn't rewritten.
+ghost use Rattle.std.specs.Prelude.{◌≡◌};
+ghost use Rattle.walrus_rewrite.specs.Errors.{name_of_rewrite_error};
 
 use std::alloc::AllocError;
 use thiserror::Error;
@@ -21,7 +23,9 @@ pub enum RewriteError {
 
 impl RewriteError {
     /// The error's name: that of its innermost variant.
-    pub fn name(self) -> &'static str {
+    pub fn name(self) -> &'static str
+        ensures { result.now ≡ name_of_rewrite_error self }
+    {
         match self {
             RewriteError::Parse(failure) => failure.error.name(),
             RewriteError::Walk(error) => EmitError::from(error).name(),
@@ -31,7 +35,6 @@ impl RewriteError {
 }
 
 impl From<AllocError> for RewriteError {
-    ghost use Rattle.std.specs.Prelude.{◌≡◌};
     ghost use Rattle.wasm_body.specs.declared.error.EmitError.TheVariants.{Memory};
     ghost use Rattle.walrus_rewrite.specs.declared.error.RewriteError.TheVariants.{Emit};
 

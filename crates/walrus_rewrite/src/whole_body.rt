@@ -1,19 +1,13 @@
 //! Rewriting whole bodies, and writing those of functions.
-ghost use Rattle.std.specs.Prelude.{◌≡◌, ◌⊎◌, ◌++◌, ◌≤◌, ◌<◌, ◌+◌, ◌^◌, ℕ, [], length, Option, Some, None, Ok, OnOk, OnErr, IfOk, IfErr, IsErr};
-ghost use Rattle.wasm_body.specs.declared.error.ParseFailure.{ParseFailure as Failure};
-ghost use Rattle.wasm_body.specs.SourceTree.{Body};
-ghost use Rattle.wasm_body.specs.Naming.{Occurrence};
-ghost use Rattle.wasm_body.specs.Parsing.Accepted.{Accepted, FirstFault};
-ghost use Rattle.walrus_parser.specs.Ranges.{range_at};
+ghost use Rattle.std.specs.Prelude.{◌≡◌, ◌⊎◌, ◌++◌, ◌≤◌, ◌<◌, ◌+◌, ◌^◌, ℕ, [], length, Some, None, Ok, OnOk, OnErr, IfOk, IfErr, IsErr};
+ghost use Rattle.walrus_parser.specs.Ranges.{range_of};
 ghost use Rattle.walrus_body.specs.LocalFunctions.{HasEntry};
-ghost use Rattle.walrus_parser.specs.Bodies.{body_input, body_setting, body_operators};
+ghost use Rattle.walrus_parser.specs.Bodies.{body_input, IfAccepted, IfFirstFault};
 ghost use Rattle.walrus_parser.specs.Locating.{MayCall};
-ghost use Rattle.walrus_parser.specs.Settings.{BothOrNone};
 ghost use Rattle.walrus_body.specs.EmittedInstructions.{KeepsPairs};
-ghost use Rattle.walrus_numbering.specs.NumberMaps.{numbers_by};
 ghost use Rattle.walrus_rewrite.specs.declared.error.RewriteError.TheVariants.{Parse};
 ghost use Rattle.walrus_rewrite.specs.Errors.{IsOutOfMemory};
-ghost use Rattle.walrus_rewrite.specs.RawBodies.{emit_input, AppendsRawBody, IsNotAppended, IsNotFinished};
+ghost use Rattle.walrus_rewrite.specs.RawBodies.{emit_input, input_for, AppendsRawBody, IsNotAppended, IsNotFinished};
 ghost use Rattle.walrus_rewrite.specs.RewrittenBodies.{Rewrites, RefusesRewriting, IsOfWriting};
 
 use crate::error::RewriteError;
@@ -225,35 +219,24 @@ pub fn rewrite_body<V: OpCheck, F: Fn(&usize) -> InstrLocId>(
     // outcomes and bound on turns it executes the operators of the source and ends alike, and its
     // pairs contain their locations. A refusal is for the first reason.
     ensures rewritten { IfOk result (λ made. Rewrites F.Fn (body_input «module».now indices.now
-        id ty body.entry on_instr_pos.entry V.check (V.state validator)) (record {
-          to = numbers_by «module».now.types out.now [];
-          types = «module».now.locals;
-          args = args.items;
-        }) made.builder made.instruction_mapping dst.old.items dst.new.items map.entry map.exit) }
+        id ty body.entry on_instr_pos.entry V.check (V.state validator))
+        (input_for out.now «module».now args.items) made.builder made.instruction_mapping
+        dst.old.items dst.new.items map.entry map.exit) }
     ensures refused { IfErr result (RefusesRewriting F.Fn (body_input «module».now indices.now
-        id ty body.entry on_instr_pos.entry V.check (V.state validator)) (record {
-          to = numbers_by «module».now.types out.now [];
-          types = «module».now.locals;
-          args = args.items;
-        })) }
+        id ty body.entry on_instr_pos.entry V.check (V.state validator))
+        (input_for out.now «module».now args.items)) }
     // Unless memory runs out, the parse refuses no accepted body, and each first fault is returned.
-    ensures each_body { (locations : Option (ℕ → ℕ)) (b : Body Occurrence)
-        → BothOrNone on_instr_pos.entry locations
-        → Accepted (body_setting «module».now indices.now id ty body.entry V.check
-        (V.state validator) locations) (body_operators body.entry) b
-        → IfErr result IsOfWriting }
-    ensures each_fault { (locations : Option (ℕ → ℕ)) (f : Failure)
-        → BothOrNone on_instr_pos.entry locations
-        → FirstFault (body_setting «module».now indices.now id ty body.entry V.check
-        (V.state validator) locations) (body_operators body.entry) f
-        → IsErr result × IfErr result (λ e. IsOutOfMemory e ⊎ (e ≡ Parse f)) }
+    ensures each_body { IfAccepted (body_input «module».now indices.now id ty body.entry
+        on_instr_pos.entry V.check (V.state validator)) (IfErr result IsOfWriting) }
+    ensures each_fault { IfFirstFault (body_input «module».now indices.now id ty body.entry
+        on_instr_pos.entry V.check (V.state validator))
+        (λ f. IsErr result × IfErr result (λ e. IsOutOfMemory e ⊎ (e ≡ Parse f))) }
     ensures same_bytes { OnErr result (dst.new.items ≡ dst.old.items) }
     ensures same_pairs { OnErr result (KeepsPairs map.entry map.exit) }
     // The arguments of the function are these.
     ensures args { IfOk result (λ made. made.args ≡ args.items) }
     ensures range { IfOk result (λ made. made.original_range
-        ≡ Some (range_at body.entry.start (length body.entry.bytes.now)
-        «module».now.code_section_offset)) }
+        ≡ Some (range_of body.entry «module».now.code_section_offset)) }
     ensures instrs { instrs.new.items ≡ [] }
 {
     let parsed = LocalFunction::parse(

@@ -31,6 +31,8 @@ pub mod Machine
 pub mod Places
 pub mod ExecutionLaws
 pub mod LocationLaws
+-- the names of errors, as programs print them
+pub mod ErrorNames
 -- the validation algorithm, and the law that validity is kept
 pub mod Validity
 pub mod ValidityLaws

@@ -1,11 +1,15 @@
 //! The names of errors: for each the name of its innermost variant, as programs print it.
+ghost use Rattle.std.specs.Prelude.{◌≡◌};
+ghost use Rattle.wasm_body.specs.ErrorNames.{name_of_read_fault, name_of_index_error, name_of_parse_error, name_of_emit_error};
 
 use crate::error::{EmitError, IndexError, ParseError};
 use wasm_numbers::ReadFault;
 
 impl IndexError {
     /// The error's name: that of its variant.
-    pub fn name(self) -> &'static str {
+    pub fn name(self) -> &'static str
+        ensures { result.now ≡ name_of_index_error self }
+    {
         match self {
             IndexError::OutOfRange { .. } => "OutOfRange",
             IndexError::NoLocals { .. } => "NoLocals",
@@ -18,7 +22,9 @@ impl IndexError {
 }
 
 /// The name of a fault of reading: that of its variant.
-fn read_name(fault: ReadFault) -> &'static str {
+fn read_name(fault: ReadFault) -> &'static str
+    ensures { result.now ≡ name_of_read_fault fault }
+{
     match fault {
         ReadFault::Truncated => "Truncated",
         ReadFault::BadNumber => "BadNumber",
@@ -34,7 +40,9 @@ fn read_name(fault: ReadFault) -> &'static str {
 
 impl ParseError {
     /// The error's name: that of its innermost variant, as `OutOfRange` for an index without an id.
-    pub fn name(self) -> &'static str {
+    pub fn name(self) -> &'static str
+        ensures { result.now ≡ name_of_parse_error self }
+    {
         match self {
             ParseError::Read(error) => read_name(error.fault),
             ParseError::PlaceTooGreat => "PlaceTooGreat",
@@ -60,7 +68,9 @@ impl ParseError {
 
 impl EmitError {
     /// The error's name: that of its innermost variant, as `Unnumbered` for an id without an index.
-    pub fn name(self) -> &'static str {
+    pub fn name(self) -> &'static str
+        ensures { result.now ≡ name_of_emit_error self }
+    {
         match self {
             EmitError::Index(error) => error.name(),
             EmitError::UnnumberedLocal => "UnnumberedLocal",
