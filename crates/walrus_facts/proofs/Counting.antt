@@ -28,7 +28,7 @@ visited_by (ArrayNewData x) location = refl
 visited_by (ArrayInitData x) location = refl
 visited_by _ location = refl
 
-one_an_instruction : IsByInstruction visited (λ x. x ∷ [])
+pub one_an_instruction : IsByInstruction visited (λ x. x ∷ [])
 one_an_instruction = record { starts = λ seq. refl; ends = λ seq. refl; visits = λ x. visited_by x.0 x.1 }
 
 pub tree_visited : (t : Tree SequenceAt LocatedInstr) → length (flat_map visited (events t)) ≡ count t.items

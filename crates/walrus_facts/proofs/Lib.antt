@@ -1,6 +1,6 @@
 -- the result of each visitor over the events of a tree
-mod Collecting
-mod Counting
+pub mod Collecting
+pub mod Counting
 mod Gathering
 mod Marks
 mod FactLaws
