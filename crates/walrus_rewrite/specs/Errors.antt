@@ -15,7 +15,7 @@ IsOutOfMemory (Walk w) = w ≡ walk.Memory
 IsOutOfMemory (Emit e) = e ≡ emit.Memory
 
 -- an error's name: that of its innermost variant
-pub name_of_rewrite_error : RewriteError → List ℕ
+abbrev pub name_of_rewrite_error : RewriteError → List ℕ
 name_of_rewrite_error (Parse f) = name_of_parse_error f.error
 name_of_rewrite_error (Walk w) = name_of_emit_error (fault_of_walk w)
 name_of_rewrite_error (Emit e) = name_of_emit_error e

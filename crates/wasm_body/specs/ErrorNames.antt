@@ -9,7 +9,7 @@ use Rattle.wasm_body.specs.declared.error.ParseError.TheVariants as parse
 use Rattle.wasm_body.specs.declared.error.EmitError.{EmitError}
 use Rattle.wasm_body.specs.declared.error.EmitError.TheVariants as emit
 
-pub name_of_read_fault : ReadFault → List ℕ
+abbrev pub name_of_read_fault : ReadFault → List ℕ
 name_of_read_fault read.Truncated = codes "Truncated"
 name_of_read_fault read.BadNumber = codes "BadNumber"
 name_of_read_fault read.UnknownOperator = codes "UnknownOperator"
@@ -20,7 +20,7 @@ name_of_read_fault read.BadCastFlags = codes "BadCastFlags"
 name_of_read_fault read.BadFence = codes "BadFence"
 name_of_read_fault read.BadSelect = codes "BadSelect"
 
-pub name_of_index_error : IndexError → List ℕ
+abbrev pub name_of_index_error : IndexError → List ℕ
 name_of_index_error (index.OutOfRange space n) = codes "OutOfRange"
 name_of_index_error (index.NoLocals function) = codes "NoLocals"
 name_of_index_error (index.Unnumbered space) = codes "Unnumbered"
@@ -28,7 +28,7 @@ name_of_index_error index.TooMany = codes "TooMany"
 name_of_index_error index.Memory = codes "Memory"
 name_of_index_error (index.LocalOutOfRange function n) = codes "LocalOutOfRange"
 
-pub name_of_parse_error : ParseError → List ℕ
+abbrev pub name_of_parse_error : ParseError → List ℕ
 name_of_parse_error (parse.Read e) = name_of_read_fault e.fault
 name_of_parse_error parse.PlaceTooGreat = codes "PlaceTooGreat"
 name_of_parse_error (parse.Checked code) = codes "Checked"
@@ -48,7 +48,7 @@ name_of_parse_error parse.NoFrame = codes "NoFrame"
 name_of_parse_error parse.UnknownId = codes "UnknownId"
 name_of_parse_error parse.Memory = codes "Memory"
 
-pub name_of_emit_error : EmitError → List ℕ
+abbrev pub name_of_emit_error : EmitError → List ℕ
 name_of_emit_error (emit.Index e) = name_of_index_error e
 name_of_emit_error emit.UnnumberedLocal = codes "UnnumberedLocal"
 name_of_emit_error emit.UnknownSequence = codes "UnknownSequence"
