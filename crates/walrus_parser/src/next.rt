@@ -17,7 +17,8 @@ use walrus_ir::InstrLocId;
 use wasm_body::{ParseError, ParseFailure};
 use wasm_ops::{CommonOperator, Operator, ReadError, Reader};
 
-fn failure(error: ParseError, at: usize) -> ParseFailure
+/// The failure of a parse with this error at this place.
+pub fn failure(error: ParseError, at: usize) -> ParseFailure
     ensures { result ≡ failure error at }
 {
     ParseFailure { error, at }

@@ -4,7 +4,6 @@ ghost use Rattle.wasm_operators.specs.Meaning.{meaning};
 ghost use Rattle.wasm_ops.specs.CommonOperators.{listed};
 ghost use Rattle.wasm_encode.specs.Writable.{IsWritable};
 ghost use Rattle.wasm_body.specs.declared.error.ParseError.{ParseError as ParseFault};
-ghost use Rattle.wasm_body.specs.Parsing.Lists.{failure};
 ghost use Rattle.wasm_body.specs.SourceTree.{Empty};
 ghost use Rattle.wasm_body.specs.Naming.{entry_type_id as entry_type_of};
 ghost use Rattle.walrus_maps.specs.Environments.{environment_of};
@@ -16,7 +15,7 @@ ghost use Rattle.walrus_parser.specs.Bodies.{input_of, operators_input, ParsesOp
 
 use crate::body_parser::BodyParser;
 use crate::check::OpCheck;
-use crate::next::{accepted_at, read_common, read_other, refused};
+use crate::next::{accepted_at, failure, read_common, read_other, refused};
 use std::alloc::Global;
 use walrus_context::try_push;
 use walrus_ir::{FunctionBuilder, FunctionId, Instr, InstrLocId, Module, TypeId};
@@ -33,12 +32,6 @@ pub struct ParsedOperators {
     /// For each operator that was read, in order: its place, a byte offset, less the code offset;
     /// and its location.
     pub instruction_mapping: Vec<(usize, InstrLocId)>,
-}
-
-fn failure(error: ParseError, at: usize) -> ParseFailure
-    ensures { result ≡ failure error at }
-{
-    ParseFailure { error, at }
 }
 
 /// Takes a common operator that was read at this place.
