@@ -37,3 +37,5 @@ mod small_module;
 mod validators;
 #[cfg(test)]
 mod walk;
+#[cfg(test)]
+mod walks;

@@ -1,0 +1,4 @@
+-- the visits of a walk
+mod Visits
+-- items that are changed one after the other
+mod Changes
