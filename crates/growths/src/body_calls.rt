@@ -3,9 +3,8 @@ ghost use Rattle.std.specs.Prelude.{◌≤◌, ◌<◌, ◌+◌, ◌^◌, length
 
 use crate::bodies::{ACCEPTED, Demo, REFUSED, arguments, body, bytes_of, late_body};
 use crate::contexts::push_sequences;
-use crate::scenario::{
-    Scenario, Selection, push_bytes, push_error, push_location, push_numbers, push_pairs,
-};
+use crate::scenario::{Scenario, Selection};
+use crate::text::{Text, push_bytes, push_error, push_location, push_numbers, push_pairs};
 use std::alloc::{AllocError, Global};
 use std::io;
 use walrus_body::{
@@ -68,35 +67,35 @@ struct OfBody<'a> {
 
 /// Appends the range of a function, its places with their locations, how many arguments it has, and
 /// its sequences.
-pub(crate) fn push_function(text: &mut String, function: &LocalFunction) -> Result<(), AllocError> {
+pub(crate) fn push_function(text: &mut Text, function: &LocalFunction) {
     if let Some(range) = &function.original_range {
-        write!(text, " {}..{}", range.start, range.end)?;
+        write!(text, " {}..{}", range.start, range.end);
     }
     for (place, location) in &function.instruction_mapping {
-        write!(text, " {place}:")?;
-        push_location(text, *location)?;
+        write!(text, " {place}:");
+        push_location(text, *location);
     }
-    push_numbers(text, &[function.args.len()])?;
-    push_sequences(text, function.builder())
+    push_numbers(text, &[function.args.len()]);
+    push_sequences(text, function.builder());
 }
 
 /// Appends why a body is refused, unless memory ran out.
-pub(crate) fn push_failure(text: &mut String, failure: ParseFailure) -> Result<(), AllocError> {
+pub(crate) fn push_failure(text: &mut Text, failure: ParseFailure) -> Result<(), AllocError> {
     push_error(text, &failure.error, &ParseError::Memory)?;
-    write!(text, " at {}", failure.at)
-}
-
-/// Appends the operators of a body, each with its place.
-fn push_named(text: &mut String, named: &NamedBody) -> Result<(), AllocError> {
-    for (position, op) in named.ops().iter().enumerate() {
-        let place = named.place(position).unwrap_or(0);
-        write!(text, " {place}:{:?}", op.opcode)?;
-    }
+    write!(text, " at {}", failure.at);
     Ok(())
 }
 
+/// Appends the operators of a body, each with its place.
+fn push_named(text: &mut Text, named: &NamedBody) {
+    for (position, op) in named.ops().iter().enumerate() {
+        let place = named.place(position).unwrap_or(0);
+        write!(text, " {place}:{:?}", op.opcode);
+    }
+}
+
 /// Appends why a body isn't rewritten, unless memory ran out.
-pub(crate) fn push_rewrite_error(text: &mut String, error: RewriteError) -> Result<(), AllocError> {
+pub(crate) fn push_rewrite_error(text: &mut Text, error: RewriteError) -> Result<(), AllocError> {
     match error {
         RewriteError::Parse(failure) => push_failure(text, failure),
         RewriteError::Walk(error) => push_error(text, &error, &WalkError::Memory),
@@ -177,36 +176,39 @@ impl OfBody<'_> {
     fn push_rewritten(
         &mut self,
         args: Vec<LocalId>,
-        returned: &mut String,
+        returned: &mut Text,
     ) -> Result<(), AllocError> {
         match self.rewrite(args) {
             Ok(function) => push_function(returned, &function),
-            Err(error) => push_rewrite_error(returned, error),
+            Err(error) => return push_rewrite_error(returned, error),
         }
+        Ok(())
     }
 
-    fn read(&self, returned: &mut String) -> Result<(), AllocError> {
+    fn read(&self, returned: &mut Text) -> Result<(), AllocError> {
         match read(*self.bytes.allocator(), self.demo, self.source) {
             Ok(named) => push_named(returned, &named),
-            Err(failure) => push_failure(returned, failure),
+            Err(failure) => return push_failure(returned, failure),
         }
+        Ok(())
     }
 
     fn parse<V: OpCheck>(
         &self,
         args: Vec<LocalId>,
         validator: V,
-        returned: &mut String,
+        returned: &mut Text,
     ) -> Result<(), AllocError> {
         match self.demo.parse(args, self.source, validator) {
             Ok(function) => push_function(returned, &function),
-            Err(failure) => push_failure(returned, failure),
+            Err(failure) => return push_failure(returned, failure),
         }
+        Ok(())
     }
 }
 
 impl Scenario for OfBody<'_> {
-    fn call(&mut self, returned: &mut String) -> Result<(), AllocError> {
+    fn call(&mut self, returned: &mut Text) -> Result<(), AllocError> {
         let alloc = *self.bytes.allocator();
         match self.kind {
             Kind::Parse => self.parse(arguments(alloc)?, AcceptAll, returned),
@@ -220,9 +222,9 @@ impl Scenario for OfBody<'_> {
         }
     }
 
-    fn show(&self, text: &mut String) -> Result<(), AllocError> {
-        push_bytes(text, &self.bytes)?;
-        push_pairs(text, &self.pairs)
+    fn show(&self, text: &mut Text) {
+        push_bytes(text, &self.bytes);
+        push_pairs(text, &self.pairs);
     }
 }
 

@@ -1,6 +1,7 @@
 //! Bytes that are written: operators, declarations, and bytes as they are.
 
-use crate::scenario::{Scenario, Selection, push_bytes};
+use crate::scenario::{Scenario, Selection};
+use crate::text::{Text, push_bytes};
 use std::alloc::{AllocError, Global};
 use std::io;
 use walrus_ir::LoadKind;
@@ -92,13 +93,14 @@ fn write_clauses(bytes: &mut Vec<u8>) -> Result<(), AllocError> {
 }
 
 /// Appends the bytes of an encoder of five declarations.
-fn push_declaring(text: &mut String, alloc: Global) -> Result<(), AllocError> {
+fn push_declaring(text: &mut Text, alloc: Global) -> Result<(), AllocError> {
     let encoder = FunctionEncoder::new(alloc, &[(2, RawValType::I64); 5])?;
-    push_bytes(text, encoder.bytes())
+    push_bytes(text, encoder.bytes());
+    Ok(())
 }
 
 impl Scenario for Output {
-    fn call(&mut self, returned: &mut String) -> Result<(), AllocError> {
+    fn call(&mut self, returned: &mut Text) -> Result<(), AllocError> {
         match self.kind {
             Kind::Plain(plain) => write_plain(plain, &mut self.bytes),
             Kind::Table => write_table(&mut self.bytes),
@@ -109,9 +111,9 @@ impl Scenario for Output {
         }
     }
 
-    fn show(&self, text: &mut String) -> Result<(), AllocError> {
-        push_bytes(text, &self.bytes)?;
-        push_bytes(text, self.encoder.bytes())
+    fn show(&self, text: &mut Text) {
+        push_bytes(text, &self.bytes);
+        push_bytes(text, self.encoder.bytes());
     }
 }
 

@@ -1,7 +1,8 @@
 //! Contexts of a parse.
 
 use crate::bodies::Demo;
-use crate::scenario::{Scenario, Selection, push_error, push_location, push_numbers};
+use crate::scenario::{Scenario, Selection};
+use crate::text::{Text, push_error, push_location, push_numbers};
 use std::alloc::{AllocError, Global};
 use std::io;
 use walrus_body::{ControlFrame, ParseError, ValidationContext};
@@ -85,58 +86,54 @@ fn call_on(
 
 /// Appends an open frame: its kind, its sequence, how many values it takes and gives, and where its
 /// instructions begin.
-fn push_frame(text: &mut String, frame: &ControlFrame) -> Result<(), AllocError> {
+fn push_frame(text: &mut Text, frame: &ControlFrame) {
     let (takes, gives) = (frame.start_types.len(), frame.end_types.len());
-    write!(text, " {:?}", frame.kind)?;
-    push_numbers(text, &[frame.block.index(), takes, gives, frame.start])
+    write!(text, " {:?}", frame.kind);
+    push_numbers(text, &[frame.block.index(), takes, gives, frame.start]);
 }
 
 impl Scenario for OfContext<'_> {
-    fn call(&mut self, returned: &mut String) -> Result<(), AllocError> {
+    fn call(&mut self, returned: &mut Text) -> Result<(), AllocError> {
         match call_on(&mut self.context, self.kind) {
-            Ok(Some(seq)) => write!(returned, " {}", seq.index()),
-            Ok(None) => Ok(()),
-            Err(error) => push_error(returned, &error, &ParseError::Memory),
-        }
-    }
-
-    fn show(&self, text: &mut String) -> Result<(), AllocError> {
-        for n in 0..12 {
-            if let Ok(frame) = self.context.control(n) {
-                push_frame(text, frame)?;
-            }
+            Ok(Some(seq)) => push_numbers(returned, &[seq.index()]),
+            Ok(None) => (),
+            Err(error) => return push_error(returned, &error, &ParseError::Memory),
         }
         Ok(())
+    }
+
+    fn show(&self, text: &mut Text) {
+        for n in 0..12 {
+            if let Ok(frame) = self.context.control(n) {
+                push_frame(text, frame);
+            }
+        }
     }
 }
 
 /// Appends a sequence: the locations of its instructions, of a `try` how many clauses it has, and
 /// the location of its end.
-fn push_sequence(text: &mut String, seq: &InstrSeq) -> Result<(), AllocError> {
-    text.push_str(" [")?;
+fn push_sequence(text: &mut Text, seq: &InstrSeq) {
+    text.push_str(" [");
     for (instr, location) in &seq.instrs {
-        push_location(text, *location)?;
+        push_location(text, *location);
         if let Instr::Try(instr) = instr {
-            write!(text, "+{}", instr.catches.len())?;
+            write!(text, "+{}", instr.catches.len());
         }
-        text.push(' ')?;
+        text.push(' ');
     }
-    push_location(text, seq.end)?;
-    text.push(']')
+    push_location(text, seq.end);
+    text.push(']');
 }
 
 /// Appends the sequences of a function.
-pub(crate) fn push_sequences(
-    text: &mut String,
-    builder: &FunctionBuilder,
-) -> Result<(), AllocError> {
+pub(crate) fn push_sequences(text: &mut Text, builder: &FunctionBuilder) {
     for slot in 0..14 {
         let id = InstrSeqId::new(slot);
         if builder.has(id) {
-            push_sequence(text, builder.seq(id))?;
+            push_sequence(text, builder.seq(id));
         }
     }
-    Ok(())
 }
 
 /// A context without a frame.
@@ -215,9 +212,9 @@ fn builder_of(of: OfContext<'_>) -> FunctionBuilder {
 
 fn print_sequences(selection: Selection<'_>, builder: &FunctionBuilder) -> io::Result<()> {
     let rt = selection.rt;
-    let mut text = String::new(rt.alloc());
-    push_sequences(&mut text, builder)?;
-    println!(rt; "end:{text}")
+    let mut text = Text::new(rt.alloc());
+    push_sequences(&mut text, builder);
+    println!(rt; "end:{}", text.whole()?)
 }
 
 /// Runs a scenario after so many calls of it, and prints the sequences, if it is selected.

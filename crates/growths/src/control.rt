@@ -1,6 +1,7 @@
 //! A call that breaks its object, which has to be reported.
 
 use crate::scenario::{Scenario, Selection};
+use crate::text::Text;
 use std::alloc::AllocError;
 use std::io;
 
@@ -13,14 +14,14 @@ struct Broken {
 }
 
 impl Scenario for Broken {
-    fn call(&mut self, _returned: &mut String) -> Result<(), AllocError> {
+    fn call(&mut self, _returned: &mut Text) -> Result<(), AllocError> {
         self.first.push(1)?;
         self.second.push(2)?;
         Ok(())
     }
 
-    fn show(&self, text: &mut String) -> Result<(), AllocError> {
-        write!(text, " {:?} {:?}", self.first, self.second)
+    fn show(&self, text: &mut Text) {
+        write!(text, " {:?} {:?}", self.first, self.second);
     }
 }
 

@@ -1,7 +1,8 @@
 //! Functions that are written as entries of the code section.
 
 use crate::bodies::numbers;
-use crate::scenario::{Scenario, Selection, push_bytes, push_error, push_pairs};
+use crate::scenario::{Scenario, Selection};
+use crate::text::{Text, push_bytes, push_error, push_numbers, push_pairs};
 use std::alloc::AllocError;
 use std::io;
 use walrus_body::{Emit, EmitContext, EmitError, IdsToIndices, LocalFunction};
@@ -16,7 +17,7 @@ struct Entry<'a> {
 }
 
 impl Scenario for Entry<'_> {
-    fn call(&mut self, returned: &mut String) -> Result<(), AllocError> {
+    fn call(&mut self, returned: &mut Text) -> Result<(), AllocError> {
         let func = self.function;
         match (CodeEntry { func }).emit(&mut self.context) {
             Ok(()) => Ok(()),
@@ -24,10 +25,10 @@ impl Scenario for Entry<'_> {
         }
     }
 
-    fn show(&self, text: &mut String) -> Result<(), AllocError> {
-        write!(text, " {}", self.context.func_facts.len())?;
-        push_bytes(text, &self.context.bytes)?;
-        push_pairs(text, &self.context.code_transform)
+    fn show(&self, text: &mut Text) {
+        push_numbers(text, &[self.context.func_facts.len()]);
+        push_bytes(text, &self.context.bytes);
+        push_pairs(text, &self.context.code_transform);
     }
 }
 

@@ -3,9 +3,8 @@ ghost use Rattle.walrus_body.specs.LocalFunctions.{HasEntry};
 
 use crate::bodies::{ACCEPTED, Demo, bytes_of};
 use crate::by_hand::{WRONG, Wrong, whole_function, wrong_function};
-use crate::scenario::{
-    Scenario, Selection, push_bytes, push_error, push_flags, push_numbers, push_pairs,
-};
+use crate::scenario::{Scenario, Selection};
+use crate::text::{Text, push_bytes, push_error, push_flags, push_numbers, push_pairs};
 use crate::{entries, walks};
 use std::alloc::{AllocError, Global};
 use std::io;
@@ -49,89 +48,107 @@ struct OfFunction<'a> {
 /// How many locals, functions and data segments are shown.
 const SHOWN: usize = 100;
 
-fn push_facts(text: &mut String, facts: &EmitFacts) -> Result<(), AllocError> {
-    write!(text, " {}", facts.size)?;
-    push_flags(text, &[facts.uses_data_segments])?;
+fn push_facts(text: &mut Text, facts: &EmitFacts) {
+    write!(text, " {}", facts.size);
+    push_flags(text, &[facts.uses_data_segments]);
     for func in &facts.ref_funcs {
-        write!(text, " func{}", func.index())?;
+        write!(text, " func{}", func.index());
     }
     for local in 0..SHOWN {
         if facts.used_locals.contains(&LocalId::new(local)) {
-            write!(text, " local{local}")?;
+            write!(text, " local{local}");
         }
     }
-    Ok(())
 }
 
 /// Appends the size of a function, and whether it is constant.
-fn push_size(text: &mut String, function: &LocalFunction, size: u64) -> Result<(), AllocError>
+fn push_size(text: &mut Text, function: &LocalFunction, size: u64)
     requires { HasEntry function.now.builder }
 {
-    write!(text, " {size}")?;
+    write!(text, " {size}");
     if function.is_const() {
-        text.push_str(" const")?;
+        text.push_str(" const");
+    }
+}
+
+fn push_segments(text: &mut Text, segments: &IdHashSet<DataId>) {
+    push_numbers(text, &[segments.len()]);
+    for segment in 0..SHOWN {
+        if segments.contains(&DataId::new(segment)) {
+            write!(text, " data{segment}");
+        }
+    }
+}
+
+fn find_size(text: &mut Text, function: &LocalFunction) -> Result<(), WalkError>
+    requires { HasEntry function.now.builder }
+{
+    match function.size() {
+        Ok(size) => push_size(text, function, size),
+        Err(fault) => return Err(fault),
     }
     Ok(())
 }
 
-fn push_segments(text: &mut String, segments: &IdHashSet<DataId>) -> Result<(), AllocError> {
-    push_numbers(text, &[segments.len()])?;
-    for segment in 0..SHOWN {
-        if segments.contains(&DataId::new(segment)) {
-            write!(text, " data{segment}")?;
-        }
+fn find_segments(text: &mut Text, function: &LocalFunction) -> Result<(), WalkError>
+    requires { HasEntry function.now.builder }
+{
+    match function.used_data_segments() {
+        Ok(segments) => push_segments(text, &segments),
+        Err(fault) => return Err(fault),
+    }
+    Ok(())
+}
+
+fn find_facts(text: &mut Text, function: &LocalFunction) -> Result<(), WalkError>
+    requires { HasEntry function.now.builder }
+{
+    match function.emit_facts() {
+        Ok(facts) => push_facts(text, &facts),
+        Err(fault) => return Err(fault),
     }
     Ok(())
 }
 
 /// Appends what is found out about a function.
-fn push_found(text: &mut String, function: &LocalFunction, kind: Kind) -> Result<(), AllocError>
+fn push_found(text: &mut Text, function: &LocalFunction, kind: Kind) -> Result<(), AllocError>
     requires { HasEntry function.now.builder }
 {
-    let fault = match kind {
-        Kind::Size => match function.size() {
-            Ok(size) => return push_size(text, function, size),
-            Err(fault) => fault,
-        },
-        Kind::Segments => match function.used_data_segments() {
-            Ok(segments) => return push_segments(text, &segments),
-            Err(fault) => fault,
-        },
-        _ => match function.emit_facts() {
-            Ok(facts) => return push_facts(text, &facts),
-            Err(fault) => fault,
-        },
+    let found = match kind {
+        Kind::Size => find_size(text, function),
+        Kind::Segments => find_segments(text, function),
+        _ => find_facts(text, function),
     };
-    push_error(text, &fault, &WalkError::Memory)
+    match found {
+        Ok(()) => Ok(()),
+        Err(fault) => push_error(text, &fault, &WalkError::Memory),
+    }
 }
 
-fn push_local_numbers(
-    text: &mut String,
-    numbers: &IdHashMap<LocalId, u32>,
-) -> Result<(), AllocError> {
+fn push_local_numbers(text: &mut Text, numbers: &IdHashMap<LocalId, u32>) {
     for local in 0..SHOWN {
         if let Some(number) = numbers.get(&LocalId::new(local)) {
-            write!(text, " local{local}={number}")?;
+            write!(text, " local{local}={number}");
         }
     }
-    Ok(())
 }
 
 /// Appends the declarations of a function's locals, and their numbers.
-fn find_locals(text: &mut String, of: &Numbered<'_>) -> Result<(), AllocError> {
+fn find_locals(text: &mut Text, of: &Numbered<'_>) -> Result<(), AllocError> {
     match of.function.emit_locals(of.module, of.indices, of.used) {
         Ok((declarations, numbers)) => {
-            write!(text, " {declarations:?}")?;
-            push_local_numbers(text, &numbers)
+            write!(text, " {declarations:?}");
+            push_local_numbers(text, &numbers);
         }
-        Err(error) => push_error(text, &error, &EmitError::Memory),
+        Err(error) => return push_error(text, &error, &EmitError::Memory),
     }
+    Ok(())
 }
 
 /// Writes a function.
 fn emit(
     of: &Numbered<'_>,
-    text: &mut String,
+    text: &mut Text,
     encoder: &mut FunctionEncoder,
     map: Option<&mut Vec<(InstrLocId, usize)>>,
 ) -> Result<(), AllocError>
@@ -148,7 +165,7 @@ fn emit(
 }
 
 impl Scenario for OfFunction<'_> {
-    fn call(&mut self, returned: &mut String) -> Result<(), AllocError> {
+    fn call(&mut self, returned: &mut Text) -> Result<(), AllocError> {
         let of = &self.numbered;
         if let Kind::Locals = self.kind {
             return find_locals(returned, of);
@@ -163,9 +180,9 @@ impl Scenario for OfFunction<'_> {
         }
     }
 
-    fn show(&self, text: &mut String) -> Result<(), AllocError> {
-        push_bytes(text, self.encoder.bytes())?;
-        push_pairs(text, &self.pairs)
+    fn show(&self, text: &mut Text) {
+        push_bytes(text, self.encoder.bytes());
+        push_pairs(text, &self.pairs);
     }
 }
 

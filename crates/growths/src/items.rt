@@ -1,6 +1,7 @@
 //! Parts of a module and of a function, to which items are added.
 
 use crate::scenario::{Scenario, Selection};
+use crate::text::{Text, push_numbers};
 use std::alloc::{AllocError, Global};
 use std::io;
 use walrus_ir::{
@@ -62,34 +63,41 @@ impl Items {
     }
 }
 
-fn push_types(text: &mut String, types: &ModuleTypes) -> Result<(), AllocError> {
+fn push_types(text: &mut Text, types: &ModuleTypes) {
     for id in 0..SHOWN {
         let id = TypeId::new(id);
         if types.is_func(id) {
             let (params, results) = types.params_results(id);
-            write!(text, " {params:?}{results:?}")?;
+            write!(text, " {params:?}{results:?}");
         }
     }
-    Ok(())
+}
+
+fn push_tag(text: &mut Text, tags: &ModuleTags, id: usize) {
+    if let Some(ty) = tags.get(TagId::new(id)) {
+        write!(text, " tag{}", ty.index());
+    }
+}
+
+fn push_local(text: &mut Text, locals: &ModuleLocals, id: usize) {
+    if let Some(ty) = locals.get(LocalId::new(id)) {
+        write!(text, " {ty:?}");
+    }
 }
 
 impl Scenario for Items {
-    fn call(&mut self, returned: &mut String) -> Result<(), AllocError> {
-        let number = self.add()?;
-        write!(returned, " {number}")
+    fn call(&mut self, returned: &mut Text) -> Result<(), AllocError> {
+        push_numbers(returned, &[self.add()?]);
+        Ok(())
     }
 
-    fn show(&self, text: &mut String) -> Result<(), AllocError> {
-        push_types(text, &self.types)?;
+    fn show(&self, text: &mut Text) {
+        push_types(text, &self.types);
         for id in 0..SHOWN {
-            if let Some(ty) = self.tags.get(TagId::new(id)) {
-                write!(text, " tag{}", ty.index())?;
-            }
-            if let Some(ty) = self.locals.get(LocalId::new(id)) {
-                write!(text, " {ty:?}")?;
-            }
+            push_tag(text, &self.tags, id);
+            push_local(text, &self.locals, id);
         }
-        write!(text, " {}", self.builder.count())
+        push_numbers(text, &[self.builder.count()]);
     }
 }
 

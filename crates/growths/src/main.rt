@@ -18,6 +18,7 @@ mod no_memory;
 mod read_back;
 mod runs;
 mod scenario;
+mod text;
 mod walks;
 
 use crate::scenario::Selection;

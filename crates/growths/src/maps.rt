@@ -2,7 +2,8 @@
 ghost use Rattle.std.specs.Prelude.{◌≡◌};
 ghost use Rattle.walrus_maps.specs.IndexMaps.{number_of};
 
-use crate::scenario::{Scenario, Selection, push_error};
+use crate::scenario::{Scenario, Selection};
+use crate::text::{Text, push_error};
 use std::alloc::{AllocError, Global};
 use std::io;
 use walrus_body::{IdsToIndices, IndexError, IndicesToIds, Space};
@@ -140,68 +141,72 @@ const SPACES: [Space; 8] = [
 /// How many indices are looked up in each space.
 const SHOWN: u32 = 12;
 
+/// Appends the id of an old index, if it has one.
+fn push_id(text: &mut Text, indices: &IndicesToIds, space: Space, index: u32) {
+    if let Ok(id) = id_of(indices, space, index) {
+        write!(text, " {space}{index}={id}");
+    }
+}
+
+/// Appends the id of a local of a function, if it has one, after this name.
+fn push_local(
+    text: &mut Text,
+    indices: &IndicesToIds,
+    name: &str,
+    function: FunctionId,
+    index: u32,
+) {
+    if let Ok(id) = indices.get_local(function, index) {
+        write!(text, " {name}{index}={}", id.index());
+    }
+}
+
 /// Appends the ids of old indices.
-pub(crate) fn push_ids(text: &mut String, indices: &IndicesToIds) -> Result<(), AllocError> {
+pub(crate) fn push_ids(text: &mut Text, indices: &IndicesToIds) {
     for space in &SPACES {
         for index in 0..SHOWN {
-            if let Ok(id) = id_of(indices, *space, index) {
-                write!(text, " {space}{index}={id}")?;
-            }
+            push_id(text, indices, *space, index);
         }
     }
     for index in 0..SHOWN {
-        if let Ok(id) = indices.get_local(FunctionId::new(0), index) {
-            write!(text, " local{index}={}", id.index())?;
-        }
-        if let Ok(id) = indices.get_local(FunctionId::new(3), index) {
-            write!(text, " other{index}={}", id.index())?;
-        }
+        push_local(text, indices, "local", FunctionId::new(0), index);
+        push_local(text, indices, "other", FunctionId::new(3), index);
     }
-    Ok(())
 }
 
 /// Appends new indices.
-pub(crate) fn push_new_indices(
-    text: &mut String,
-    numbers: &IdsToIndices,
-) -> Result<(), AllocError> {
+pub(crate) fn push_new_indices(text: &mut Text, numbers: &IdsToIndices) {
     for space in &SPACES {
         for id in 0..SHOWN as usize {
             if let Ok(index) = new_index(numbers, *space, id) {
-                write!(text, " {space}{id}:{index}")?;
+                write!(text, " {space}{id}:{index}");
             }
         }
     }
-    Ok(())
 }
 
 /// Appends the texts of faults: of an index without an id in each space and among the locals of a
 /// function, and of a function without locals.
-pub(crate) fn push_index_faults(
-    text: &mut String,
-    indices: &IndicesToIds,
-) -> Result<(), AllocError> {
+pub(crate) fn push_index_faults(text: &mut Text, indices: &IndicesToIds) {
     for space in &SPACES {
         if let Err(error) = id_of(indices, *space, 5) {
-            write!(text, "; {error}")?;
+            write!(text, "; {error}");
         }
     }
     for (function, index) in &[(3, 5), (2, 0)] {
         if let Err(error) = indices.get_local(FunctionId::new(*function), *index) {
-            write!(text, "; {error}")?;
+            write!(text, "; {error}");
         }
     }
-    Ok(())
 }
 
 /// Appends the text of the fault of an id without a new index in each space.
-pub(crate) fn push_id_faults(text: &mut String, numbers: &IdsToIndices) -> Result<(), AllocError> {
+pub(crate) fn push_id_faults(text: &mut Text, numbers: &IdsToIndices) {
     for space in &SPACES {
         if let Err(error) = new_index(numbers, *space, 99) {
-            write!(text, "; {error}")?;
+            write!(text, "; {error}");
         }
     }
-    Ok(())
 }
 
 /// An id in each space.
@@ -258,19 +263,20 @@ pub(crate) fn some_numbers(alloc: Global) -> Result<IdsToIndices, IndexError> {
 }
 
 impl Scenario for Maps {
-    fn call(&mut self, returned: &mut String) -> Result<(), AllocError> {
+    fn call(&mut self, returned: &mut Text) -> Result<(), AllocError> {
         match self.add() {
             Ok(index) => {
                 self.next = self.next.saturating_add(1);
-                write!(returned, " {index:?}")
+                write!(returned, " {index:?}");
             }
-            Err(error) => push_error(returned, &error, &IndexError::Memory),
+            Err(error) => return push_error(returned, &error, &IndexError::Memory),
         }
+        Ok(())
     }
 
-    fn show(&self, text: &mut String) -> Result<(), AllocError> {
-        push_ids(text, &self.indices)?;
-        push_new_indices(text, &self.numbers)
+    fn show(&self, text: &mut Text) {
+        push_ids(text, &self.indices);
+        push_new_indices(text, &self.numbers);
     }
 }
 

@@ -10,7 +10,8 @@ use crate::maps::{
     Kind, Maps, push_id_faults, push_ids, push_index_faults, push_new_indices, some_ids,
     some_numbers,
 };
-use crate::scenario::{Scenario, Selection, push_bytes, push_flags, push_location, push_numbers};
+use crate::scenario::{Scenario, Selection};
+use crate::text::{Text, push_bytes, push_flags, push_location, push_numbers};
 use std::alloc::{AllocError, Global};
 use std::io;
 use walrus_body::{
@@ -26,45 +27,43 @@ use wasm_encode::FunctionEncoder;
 use wasm_ops::{BlockType, Operator, Reader};
 
 /// Appends the labels of an operator.
-fn push_labels(text: &mut String, op: &Operator<'_>) -> Result<(), AllocError> {
+fn push_labels(text: &mut Text, op: &Operator<'_>) {
     match op {
         Operator::BrTable(table) => {
-            write!(text, " {} {}", table.len(), table.default())?;
+            write!(text, " {} {}", table.len(), table.default());
             for label in table.targets() {
-                write!(text, " {label}")?;
+                write!(text, " {label}");
             }
-            Ok(())
         }
         Operator::TryTable { catches, .. } => {
-            write!(text, " {}", catches.len())?;
+            write!(text, " {}", catches.len());
             for clause in catches.iter() {
-                write!(text, " {}", clause.label)?;
+                write!(text, " {}", clause.label);
             }
-            Ok(())
         }
-        _ => Ok(()),
+        _ => (),
     }
 }
 
 /// Reads a `try_table`, a `br_table`, an `end`, and nothing after it.
-fn read_operators(text: &mut String) -> Result<(), AllocError> {
+fn read_operators(text: &mut Text) {
     let bytes = [
         0x1f, 0x40, 0x01, 0x02, 0x03, 0x0e, 0x02, 0x00, 0x01, 0x04, 0x0b,
     ];
     let mut reader = Reader::new(&bytes, 0);
     for _ in 0..4 {
         let place = reader.original_position();
-        push_numbers(text, &[place])?;
+        push_numbers(text, &[place]);
         if let Ok(op) = reader.read() {
-            push_labels(text, &op)?;
-            push_flags(text, &[AcceptAll.op(place, &op).is_ok()])?;
+            push_labels(text, &op);
+            push_flags(text, &[AcceptAll.op(place, &op).is_ok()]);
         }
     }
-    push_flags(text, &[reader.eof()])
+    push_flags(text, &[reader.eof()]);
 }
 
-fn push_id(text: &mut String, id: Option<TypeId>) -> Result<(), AllocError> {
-    write!(text, " {:?}", id.map(TypeId::index))
+fn push_id(text: &mut Text, id: Option<TypeId>) {
+    write!(text, " {:?}", id.map(TypeId::index));
 }
 
 /// The function type of a sequence, if it has one.
@@ -84,30 +83,29 @@ fn existing_type(types: &ModuleTypes) -> Option<TypeId> {
 }
 
 /// Appends how many values a function type takes and gives.
-fn push_sizes(text: &mut String, types: &ModuleTypes, id: TypeId) -> Result<(), AllocError> {
+fn push_sizes(text: &mut Text, types: &ModuleTypes, id: TypeId) {
     if types.is_func(id) {
         let (params, results) = types.params_results(id);
-        push_numbers(text, &[params.len(), results.len()])?;
-        push_numbers(text, &[types.params(id).len(), types.results(id).len()])?;
+        push_numbers(text, &[params.len(), results.len()]);
+        push_numbers(text, &[types.params(id).len(), types.results(id).len()]);
     }
-    Ok(())
 }
 
 /// Looks at types: finds some, and appends how many values a function type takes and gives.
-fn look_at_types(text: &mut String, types: &ModuleTypes) -> Result<(), AllocError> {
-    push_id(text, existing_type(types))?;
-    push_id(text, types.find(&[], &[]))?;
-    push_id(text, types.find_for_function_entry(&[]))?;
-    push_sizes(text, types, TypeId::new(2))?;
-    push_flags(text, &[types.is_func(TypeId::new(9))])
+fn look_at_types(text: &mut Text, types: &ModuleTypes) {
+    push_id(text, existing_type(types));
+    push_id(text, types.find(&[], &[]));
+    push_id(text, types.find_for_function_entry(&[]));
+    push_sizes(text, types, TypeId::new(2));
+    push_flags(text, &[types.is_func(TypeId::new(9))]);
 }
 
 /// Looks at tags, locals and new indices.
-fn look_at_items(text: &mut String, demo: &Demo<'_>) -> Result<(), AllocError> {
-    push_id(text, demo.module.tags.get(TagId::new(1)))?;
+fn look_at_items(text: &mut Text, demo: &Demo<'_>) {
+    push_id(text, demo.module.tags.get(TagId::new(1)));
     let local = demo.module.locals.get(LocalId::new(1));
-    write!(text, " {local:?}")?;
-    push_new_indices(text, demo.numbers)
+    write!(text, " {local:?}");
+    push_new_indices(text, demo.numbers);
 }
 
 /// The sizes with which visitors begin.
@@ -134,13 +132,13 @@ fn lengths(context: ValidationContext<'_>) -> [usize; 3] {
 }
 
 /// Makes empty collections.
-fn make_collections(text: &mut String, alloc: Global, demo: &Demo<'_>) -> Result<(), AllocError> {
-    Items::new(alloc, Item::Tag).show(text)?;
-    Maps::new(alloc, Kind::OldLocal, 0).show(text)?;
-    write!(text, " {:?}", first_sizes(alloc))?;
-    push_numbers(text, &[first_segments(alloc)])?;
-    push_flags(text, &[has_entry(alloc, demo.ty)])?;
-    push_numbers(text, &lengths(without_frame(alloc, demo)))
+fn make_collections(text: &mut Text, alloc: Global, demo: &Demo<'_>) {
+    Items::new(alloc, Item::Tag).show(text);
+    Maps::new(alloc, Kind::OldLocal, 0).show(text);
+    write!(text, " {:?}", first_sizes(alloc));
+    push_numbers(text, &[first_segments(alloc)]);
+    push_flags(text, &[has_entry(alloc, demo.ty)]);
+    push_numbers(text, &lengths(without_frame(alloc, demo)));
 }
 
 /// The module, and what is made from nothing.
@@ -151,28 +149,31 @@ struct OfModule<'a> {
 }
 
 impl Scenario for OfModule<'_> {
-    fn call(&mut self, returned: &mut String) -> Result<(), AllocError> {
-        read_operators(returned)?;
-        look_at_types(returned, &self.demo.module.types)?;
-        look_at_items(returned, self.demo)?;
-        make_collections(returned, self.alloc, self.demo)
+    fn call(&mut self, returned: &mut Text) -> Result<(), AllocError> {
+        read_operators(returned);
+        look_at_types(returned, &self.demo.module.types);
+        look_at_items(returned, self.demo);
+        make_collections(returned, self.alloc, self.demo);
+        Ok(())
     }
 }
 
 impl Scenario for IndicesToIds {
-    fn call(&mut self, returned: &mut String) -> Result<(), AllocError> {
+    fn call(&mut self, returned: &mut Text) -> Result<(), AllocError> {
         if self.get_type(1).is_ok() {
             self.remap_type(1, TypeId::new(8));
         }
-        push_ids(returned, self)?;
-        push_index_faults(returned, self)
+        push_ids(returned, self);
+        push_index_faults(returned, self);
+        Ok(())
     }
 }
 
 impl Scenario for IdsToIndices {
-    fn call(&mut self, returned: &mut String) -> Result<(), AllocError> {
-        push_new_indices(returned, self)?;
-        push_id_faults(returned, self)
+    fn call(&mut self, returned: &mut Text) -> Result<(), AllocError> {
+        push_new_indices(returned, self);
+        push_id_faults(returned, self);
+        Ok(())
     }
 }
 
@@ -186,40 +187,40 @@ fn change(function: &mut LocalFunction) {
 }
 
 /// Appends a function's type and sequences: number, length and end.
-fn push_blocks(text: &mut String, function: &LocalFunction) -> Result<(), AllocError> {
-    push_numbers(text, &[function.ty().index()])?;
+fn push_blocks(text: &mut Text, function: &LocalFunction) {
+    push_numbers(text, &[function.ty().index()]);
     for slot in 0..4 {
         let id = InstrSeqId::new(slot);
         if function.has_block(id) {
             let seq = function.block(id);
-            push_numbers(text, &[seq.id().index(), seq.len()])?;
-            text.push(' ')?;
-            push_location(text, seq.end)?;
+            push_numbers(text, &[seq.id().index(), seq.len()]);
+            text.push(' ');
+            push_location(text, seq.end);
         }
     }
-    Ok(())
 }
 
 /// Appends the arguments of a function, and the range and the number of places of its body.
-fn push_origin(text: &mut String, function: &LocalFunction) -> Result<(), AllocError> {
+fn push_origin(text: &mut Text, function: &LocalFunction) {
     for local in &function.args {
-        write!(text, " local{}", local.index())?;
+        write!(text, " local{}", local.index());
     }
     let places = function.instruction_mapping.len();
-    write!(text, " {:?} {places}", function.original_range)
+    write!(text, " {:?} {places}", function.original_range);
 }
 
 impl Scenario for LocalFunction {
-    fn call(&mut self, returned: &mut String) -> Result<(), AllocError> {
+    fn call(&mut self, returned: &mut Text) -> Result<(), AllocError> {
         change(self);
         let entry = self.builder().entry().map(InstrSeqId::index);
-        write!(returned, " {entry:?}")?;
+        write!(returned, " {entry:?}");
         if self.has_entry() {
-            push_numbers(returned, &[self.entry_block().index()])?;
-            push_flags(returned, &[self.is_const()])?;
+            push_numbers(returned, &[self.entry_block().index()]);
+            push_flags(returned, &[self.is_const()]);
         }
-        push_blocks(returned, self)?;
-        push_origin(returned, self)
+        push_blocks(returned, self);
+        push_origin(returned, self);
+        Ok(())
     }
 }
 
@@ -245,7 +246,7 @@ fn local_of(context: &ValidationContext<'_>) -> Option<usize> {
 }
 
 impl Scenario for ValidationContext<'_> {
-    fn call(&mut self, returned: &mut String) -> Result<(), AllocError> {
+    fn call(&mut self, returned: &mut Text) -> Result<(), AllocError> {
         let has_type = self.has_block_type(BlockType::FuncType(1)).is_ok();
         let is_loop = is_loop(self);
         let is_marked = self.unreachable().is_ok();
@@ -253,30 +254,32 @@ impl Scenario for ValidationContext<'_> {
         push_flags(
             returned,
             &[has_type, is_loop, is_marked, is_dead, has_outer],
-        )?;
-        write!(returned, " {:?}", local_of(self))
+        );
+        write!(returned, " {:?}", local_of(self));
+        Ok(())
     }
 }
 
 /// Looks at an encoder, and takes its bytes.
-fn take_bytes(text: &mut String, encoder: FunctionEncoder) -> Result<(), AllocError> {
-    push_numbers(text, &[encoder.byte_len(), encoder.bytes().len()])?;
-    push_bytes(text, &encoder.into_raw_body())
+fn take_bytes(text: &mut Text, encoder: FunctionEncoder) {
+    push_numbers(text, &[encoder.byte_len(), encoder.bytes().len()]);
+    push_bytes(text, &encoder.into_raw_body());
 }
 
 impl Scenario for Option<FunctionEncoder> {
-    fn call(&mut self, returned: &mut String) -> Result<(), AllocError> {
-        match self.take() {
-            Some(encoder) => take_bytes(returned, encoder),
-            None => Ok(()),
+    fn call(&mut self, returned: &mut Text) -> Result<(), AllocError> {
+        if let Some(encoder) = self.take() {
+            take_bytes(returned, encoder);
         }
+        Ok(())
     }
 }
 
 impl Scenario for NamedBody {
-    fn call(&mut self, returned: &mut String) -> Result<(), AllocError> {
-        push_numbers(returned, &[self.ops().len()])?;
-        write!(returned, " {:?} {:?}", self.place(1), self.place(9))
+    fn call(&mut self, returned: &mut Text) -> Result<(), AllocError> {
+        push_numbers(returned, &[self.ops().len()]);
+        write!(returned, " {:?} {:?}", self.place(1), self.place(9));
+        Ok(())
     }
 }
 

@@ -3,7 +3,8 @@
 use crate::bodies::{Demo, arguments, body, bytes_of};
 use crate::body_calls::{push_function, push_rewrite_error, rewrite_into};
 use crate::maps::push_old;
-use crate::scenario::{Scenario, Selection, push_bytes};
+use crate::scenario::{Scenario, Selection};
+use crate::text::{Text, push_bytes};
 use std::alloc::{AllocError, Global};
 use std::io;
 use walrus_body::{FunctionBody, IndexError, IndicesToIds, Space};
@@ -45,33 +46,46 @@ fn rewrite_first(again: &Again<'_>, bytes: &mut Vec<u8>) -> Result<usize, Rewrit
     Ok(first_place(&pairs))
 }
 
-/// Appends the function that has these bytes, and what they are rewritten into.
-fn push_second(
-    text: &mut String,
+/// Rewrites the body with these bytes into others, and appends its function.
+fn rewrite_second(
+    text: &mut Text,
     again: &Again<'_>,
     bytes: &[u8],
     ops: usize,
+    rewritten: &mut Vec<u8>,
 ) -> Result<(), AllocError> {
     let args = arguments(again.alloc)?;
-    let mut rewritten = Vec::new(again.alloc);
     let read = FunctionBody {
         bytes,
         start: 100,
         ops: ops.min(bytes.len()),
     };
-    match rewrite_into(again.second, args, read, false, &mut rewritten, None) {
-        Ok(function) => push_function(text, &function)?,
-        Err(error) => push_rewrite_error(text, error)?,
+    match rewrite_into(again.second, args, read, false, rewritten, None) {
+        Ok(function) => push_function(text, &function),
+        Err(error) => return push_rewrite_error(text, error),
     }
-    push_bytes(text, &rewritten)
+    Ok(())
+}
+
+/// Appends the function that has these bytes, and what they are rewritten into.
+fn push_second(
+    text: &mut Text,
+    again: &Again<'_>,
+    bytes: &[u8],
+    ops: usize,
+) -> Result<(), AllocError> {
+    let mut rewritten = Vec::new(again.alloc);
+    rewrite_second(text, again, bytes, ops, &mut rewritten)?;
+    push_bytes(text, &rewritten);
+    Ok(())
 }
 
 impl Scenario for Again<'_> {
-    fn call(&mut self, returned: &mut String) -> Result<(), AllocError> {
+    fn call(&mut self, returned: &mut Text) -> Result<(), AllocError> {
         let mut bytes = Vec::new(self.alloc);
         match rewrite_first(self, &mut bytes) {
             Ok(ops) => {
-                push_bytes(returned, &bytes)?;
+                push_bytes(returned, &bytes);
                 push_second(returned, self, &bytes, ops)
             }
             Err(error) => push_rewrite_error(returned, error),

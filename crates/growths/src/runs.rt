@@ -3,11 +3,12 @@
 use crate::bodies::{Demo, bytes_of};
 use crate::body_calls::{push_failure, read};
 use crate::scenario::{Scenario, Selection};
+use crate::text::Text;
 use std::alloc::{AllocError, Global};
 use std::collections::BTreeSet;
 use std::io;
 use walrus_ir::TagId;
-use walrus_run::{Ending, Event, NamedBody, Outcome, execute};
+use walrus_run::{Ending, Event, NamedBody, Outcome, Run, execute};
 
 /// A body, a letter for each outcome of its run, and the number of turns.
 #[derive(Clone, Copy)]
@@ -19,7 +20,7 @@ struct Execution<'a> {
     turns: u64,
 }
 
-fn push_event(text: &mut String, event: &Event) -> Result<(), AllocError> {
+fn push_event(text: &mut Text, event: &Event) {
     match event {
         Event::Op(i) => write!(text, " {i}"),
         Event::Taken { i, clause, .. } => write!(text, " {i}:taken{clause}"),
@@ -56,21 +57,26 @@ fn outcomes(alloc: Global, letters: &str) -> Result<Vec<Outcome>, AllocError> {
     Ok(outcomes)
 }
 
+fn push_run(text: &mut Text, run: &Run) {
+    for event in &run.events {
+        push_event(text, event);
+    }
+    text.push_str(ending_name(&run.ending));
+}
+
 fn run_named(
-    text: &mut String,
+    text: &mut Text,
     named: &NamedBody,
     outcomes: &[Outcome],
     turns: u64,
 ) -> Result<(), AllocError> {
     let run = execute(named, outcomes, turns)?;
-    for event in &run.events {
-        push_event(text, event)?;
-    }
-    text.push_str(ending_name(&run.ending))
+    push_run(text, &run);
+    Ok(())
 }
 
 impl Scenario for Execution<'_> {
-    fn call(&mut self, returned: &mut String) -> Result<(), AllocError> {
+    fn call(&mut self, returned: &mut Text) -> Result<(), AllocError> {
         let outcomes = outcomes(self.alloc, self.letters)?;
         match read(self.alloc, self.demo, self.source) {
             Ok(named) => run_named(returned, &named, &outcomes, self.turns),

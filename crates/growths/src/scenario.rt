@@ -1,28 +1,44 @@
 //! How a call is made: between lines that say what it is made on, and what it returns.
 
+use crate::text::Text;
 use std::alloc::{AllocError, Global};
-use std::{fmt, io};
-use walrus_ir::InstrLocId;
+use std::io;
 
 /// A call that takes memory, with all that it is made on.
 pub(crate) trait Scenario {
     /// Makes the call, and appends what it returns to a text with room for it. The only error is
     /// that memory ran out.
-    fn call(&mut self, returned: &mut String) -> Result<(), AllocError>;
+    fn call(&mut self, returned: &mut Text) -> Result<(), AllocError>;
 
     /// Appends what the call is made on. Calls that take no memory show nothing.
-    fn show(&self, _text: &mut String) -> Result<(), AllocError> {
-        Ok(())
-    }
+    fn show(&self, _text: &mut Text) {}
 }
 
 /// The room in bytes for what a call returns.
 const ROOM: usize = 8000;
 
-fn shown<S: Scenario>(alloc: Global, scenario: &S) -> Result<String, AllocError> {
-    let mut text = String::new(alloc);
-    scenario.show(&mut text)?;
-    Ok(text)
+fn shown<S: Scenario>(alloc: Global, scenario: &S) -> Text {
+    let mut text = Text::new(alloc);
+    scenario.show(&mut text);
+    text
+}
+
+/// Makes a call. The only error is that memory ran out, for the call or for what it returns.
+fn called<S: Scenario>(scenario: &mut S, returned: &mut Text) -> Result<(), AllocError> {
+    scenario.call(returned)?;
+    match returned.whole() {
+        Ok(_) => Ok(()),
+        Err(error) => Err(error),
+    }
+}
+
+/// Prints what a call is made on where that differs from what was there before.
+fn print_difference(rt: &HostRuntime, before: &str, now: &str) -> io::Result<()> {
+    if now == before {
+        println!(rt; "as before")
+    } else {
+        println!(rt; "differs:{now}")
+    }
 }
 
 /// Prints whether all is as before, and makes a call again that was refused memory.
@@ -30,17 +46,12 @@ fn make_again<S: Scenario>(
     rt: &HostRuntime,
     scenario: &mut S,
     before: &str,
-    returned: &mut String,
+    returned: &mut Text,
 ) -> io::Result<()> {
     println!(rt; "Memory")?;
-    let now = shown(rt.alloc(), scenario)?;
-    if now.as_str() == before {
-        println!(rt; "as before")?;
-    } else {
-        println!(rt; "differs:{now}")?;
-    }
+    print_difference(rt, before, shown(rt.alloc(), scenario).whole()?)?;
     returned.clear();
-    scenario.call(returned)?;
+    called(scenario, returned)?;
     Ok(())
 }
 
@@ -49,13 +60,18 @@ fn make_once<S: Scenario>(
     rt: &HostRuntime,
     scenario: &mut S,
     before: &str,
-    returned: &mut String,
+    returned: &mut Text,
 ) -> io::Result<()> {
     println!(rt; "try")?;
-    if scenario.call(returned).is_err() {
+    if called(scenario, returned).is_err() {
         make_again(rt, scenario, before, returned)?;
     }
-    println!(rt; "returned:{returned}")
+    println!(rt; "returned:{}", returned.whole()?)
+}
+
+/// Prints what a call was made on.
+fn print_after(rt: &HostRuntime, after: &Text) -> io::Result<()> {
+    println!(rt; "after:{}", after.whole()?)
 }
 
 /// Which scenarios are run: all, or that of one call on one row.
@@ -88,17 +104,18 @@ impl<'a> Selection<'a> {
         }
     }
 
-    /// Makes a call, and prints what it is made on after it.
-    fn make<S: Scenario>(self, scenario: &mut S, before: &str) -> io::Result<()> {
+    /// Makes a call, and prints what it is made on before and after it.
+    fn make<S: Scenario>(
+        self,
+        call: &str,
+        row: &str,
+        scenario: &mut S,
+        before: &str,
+    ) -> io::Result<()> {
         let (rt, alloc) = (self.rt, self.alloc());
-        make_once(
-            rt,
-            scenario,
-            before,
-            &mut String::with_capacity(alloc, ROOM)?,
-        )?;
-        let after = shown(alloc, scenario)?;
-        println!(rt; "after:{after}")
+        println!(rt; "call: {call} {row}\nbefore:{before}")?;
+        make_once(rt, scenario, before, &mut Text::with_room(alloc, ROOM)?)?;
+        print_after(rt, &shown(alloc, scenario))
     }
 
     /// Runs a scenario if it is selected.
@@ -111,10 +128,11 @@ impl<'a> Selection<'a> {
         if !self.has(call, row) {
             return Ok(());
         }
-        let before = shown(self.alloc(), scenario)?;
-        let rt = self.rt;
-        println!(rt; "call: {call} {row}\nbefore:{before}")?;
-        self.make(scenario, before.as_str())
+        let before = shown(self.alloc(), scenario);
+        match before.whole() {
+            Ok(before) => self.make(call, row, scenario, before),
+            Err(error) => Err(io::Error::from(error)),
+        }
     }
 
     /// Runs a scenario after so many calls of it.
@@ -126,67 +144,8 @@ impl<'a> Selection<'a> {
         scenario: &mut S,
     ) -> io::Result<()> {
         for _ in 0..calls {
-            scenario.call(&mut String::new(self.alloc()))?;
+            called(scenario, &mut Text::new(self.alloc()))?;
         }
         self.run(call, row, scenario)
     }
-}
-
-/// Appends the error of a call, unless it is this one, that memory ran out.
-pub(crate) fn push_error<E: fmt::Debug + PartialEq>(
-    text: &mut String,
-    error: &E,
-    memory: &E,
-) -> Result<(), AllocError> {
-    if *error == *memory {
-        return Err(AllocError);
-    }
-    write!(text, " {error:?}")
-}
-
-/// Appends numbers.
-pub(crate) fn push_numbers(text: &mut String, numbers: &[usize]) -> Result<(), AllocError> {
-    for number in numbers {
-        write!(text, " {number}")?;
-    }
-    Ok(())
-}
-
-/// Appends whether things are so.
-pub(crate) fn push_flags(text: &mut String, flags: &[bool]) -> Result<(), AllocError> {
-    for flag in flags {
-        write!(text, " {flag}")?;
-    }
-    Ok(())
-}
-
-/// Appends bytes, in hexadecimal.
-pub(crate) fn push_bytes(text: &mut String, bytes: &[u8]) -> Result<(), AllocError> {
-    text.push(' ')?;
-    for byte in bytes {
-        write!(text, "{byte:02x}")?;
-    }
-    Ok(())
-}
-
-/// Appends a location; `-` for the default location.
-pub(crate) fn push_location(text: &mut String, location: InstrLocId) -> Result<(), AllocError> {
-    if location.is_default() {
-        text.push('-')
-    } else {
-        write!(text, "{}", location.data())
-    }
-}
-
-/// Appends locations, each with its place.
-pub(crate) fn push_pairs(
-    text: &mut String,
-    pairs: &[(InstrLocId, usize)],
-) -> Result<(), AllocError> {
-    for (location, place) in pairs {
-        text.push(' ')?;
-        push_location(text, *location)?;
-        write!(text, "@{place}")?;
-    }
-    Ok(())
 }

@@ -1,6 +1,7 @@
 //! Walks over the sequences of a function.
 
-use crate::scenario::{Scenario, Selection, push_error};
+use crate::scenario::{Scenario, Selection};
+use crate::text::{Text, push_error};
 use std::alloc::{AllocError, Global};
 use std::io;
 use walrus_ir::{
@@ -101,22 +102,21 @@ fn visit(recorder: &mut Recorder, builder: &FunctionBuilder) -> Result<(), WalkE
 }
 
 impl Scenario for Walk<'_> {
-    fn call(&mut self, returned: &mut String) -> Result<(), AllocError> {
+    fn call(&mut self, returned: &mut Text) -> Result<(), AllocError> {
         self.recorder.events.clear();
         self.recorder.calls = 0;
         self.stop = visit(&mut self.recorder, self.builder).err();
         match self.stop {
             None => write!(returned, " {:?}", self.recorder.events),
-            Some(fault) => push_error(returned, &fault, &WalkError::Memory),
+            Some(fault) => return push_error(returned, &fault, &WalkError::Memory),
         }
+        Ok(())
     }
 
     /// The visitor's events are only shown where they aren't those that come first.
-    fn show(&self, text: &mut String) -> Result<(), AllocError> {
-        if is_front(self) {
-            Ok(())
-        } else {
-            write!(text, " {:?}", self.recorder.events)
+    fn show(&self, text: &mut Text) {
+        if !is_front(self) {
+            write!(text, " {:?}", self.recorder.events);
         }
     }
 }
