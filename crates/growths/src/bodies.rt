@@ -51,32 +51,17 @@ pub(crate) fn bytes_of(alloc: Global, digits: &str) -> io::Result<Vec<u8>> {
     }
 }
 
-/// The body with these bytes, which begin at place 100. Its operators follow a byte that counts the
-/// declarations.
-pub(crate) fn body(bytes: &[u8]) -> FunctionBody<'_>
-    ensures start { result.start ≡ 100 }
+/// The body with these bytes, which begin at place 100; of a late one the second begins at the
+/// greatest place that can be a location, and the third after it. Its operators follow a byte that
+/// counts the declarations.
+pub(crate) fn body(bytes: &[u8], is_late: bool) -> FunctionBody<'_>
+    ensures start { 90 ≤ result.start }
     ensures ops { result.ops ≤ length result.bytes.now }
     ensures fits { result.start + length result.bytes.now < 2 ^ 64 }
 {
-    FunctionBody {
-        bytes,
-        start: 100,
-        ops: 1.min(bytes.len()),
-    }
-}
-
-/// The body with these bytes, of which the second begins at the greatest place that can be a
-/// location, and the third after it.
-pub(crate) fn late_body(bytes: &[u8]) -> FunctionBody<'_>
-    ensures start { result.start ≡ 4294967293 }
-    ensures ops { result.ops ≤ length result.bytes.now }
-    ensures fits { result.start + length result.bytes.now < 2 ^ 64 }
-{
-    FunctionBody {
-        bytes,
-        start: 4_294_967_293,
-        ops: 1.min(bytes.len()),
-    }
+    let ops = 1.min(bytes.len());
+    let start = if is_late { 4_294_967_293 } else { 100 };
+    FunctionBody { bytes, start, ops }
 }
 
 /// What bodies are parsed and written with.
@@ -96,6 +81,23 @@ pub(crate) struct Demo<'a> {
 }
 
 impl<'a> Demo<'a> {
+    /// The function 0 of this module, with these old indices and new ones.
+    pub(crate) fn new(
+        module: &'a Module,
+        indices: &'a IndicesToIds,
+        numbers: &'a IdsToIndices,
+    ) -> Demo<'a>
+        requires { «module».now.code_section_offset ≡ 90 }
+    {
+        Demo {
+            module,
+            indices,
+            numbers,
+            function: FunctionId::new(0),
+            ty: TypeId::new(1),
+        }
+    }
+
     /// The function with these arguments that has the body with these bytes.
     pub(crate) fn parse<V: OpCheck>(
         &self,
@@ -110,7 +112,7 @@ impl<'a> Demo<'a> {
             self.function,
             self.ty,
             args,
-            body(bytes),
+            body(bytes, false),
             None::<&fn(&usize) -> InstrLocId>,
             validator,
             &mut instrs,
@@ -174,13 +176,6 @@ fn push_others(indices: &mut IndicesToIds) -> Result<(), IndexError> {
     Ok(())
 }
 
-/// The ids of the module's old indices.
-fn indices(alloc: Global) -> Result<IndicesToIds, IndexError> {
-    let mut indices = demo::indices_of_items(alloc)?;
-    push_others(&mut indices)?;
-    Ok(indices)
-}
-
 /// The items that have new indices, in the order of these.
 const NUMBERED: [(Space, usize); 13] = [
     (Space::Types, 0),
@@ -198,18 +193,12 @@ const NUMBERED: [(Space, usize); 13] = [
     (Space::Tags, 1),
 ];
 
-fn push_numbers(numbers: &mut IdsToIndices) -> Result<(), IndexError> {
+/// Gives the module's items their new indices.
+pub(crate) fn number_items(numbers: &mut IdsToIndices) -> Result<(), IndexError> {
     for (space, id) in &NUMBERED {
         push_new(numbers, *space, *id)?;
     }
     Ok(())
-}
-
-/// The new indices of the module's items.
-pub(crate) fn numbers(alloc: Global) -> Result<IdsToIndices, IndexError> {
-    let mut numbers = IdsToIndices::new(alloc);
-    push_numbers(&mut numbers)?;
-    Ok(numbers)
 }
 
 /// Runs the scenarios over the demo module that are selected.
@@ -230,17 +219,23 @@ fn run_with_indices(
 ) -> io::Result<()>
     requires { «module».now.code_section_offset ≡ 90 }
 {
-    match numbers(selection.alloc()) {
-        Ok(numbers) => {
-            let demo = Demo {
-                module,
-                indices,
-                numbers: &numbers,
-                function: FunctionId::new(0),
-                ty: TypeId::new(1),
-            };
-            run_over(selection, &demo)
-        }
+    let mut numbers = IdsToIndices::new(selection.alloc());
+    match number_items(&mut numbers) {
+        Ok(()) => run_over(selection, &Demo::new(module, indices, &numbers)),
+        Err(_) => Err(io::Error::from(AllocError)),
+    }
+}
+
+/// Adds to the old indices of the module's first items.
+fn run_with_items(
+    selection: Selection<'_>,
+    module: &Module,
+    indices: &mut IndicesToIds,
+) -> io::Result<()>
+    requires { «module».now.code_section_offset ≡ 90 }
+{
+    match push_others(indices) {
+        Ok(()) => run_with_indices(selection, module, indices),
         Err(_) => Err(io::Error::from(AllocError)),
     }
 }
@@ -249,16 +244,20 @@ fn run_with_indices(
 fn run_with_module(selection: Selection<'_>, module: &Module) -> io::Result<()>
     requires { «module».now.code_section_offset ≡ 90 }
 {
-    match indices(selection.alloc()) {
-        Ok(indices) => run_with_indices(selection, module, &indices),
+    match demo::indices_of_items(selection.alloc()) {
+        Ok(mut indices) => run_with_items(selection, module, &mut indices),
         Err(_) => Err(io::Error::from(AllocError)),
     }
 }
 
-/// Runs the scenarios over the demo module that are selected.
-pub(crate) fn run(selection: Selection<'_>) -> io::Result<()> {
-    let mut module = demo::module(selection.alloc())?;
+/// Adds the other locals to the module, and says where its code begins.
+fn run_with_locals(selection: Selection<'_>, module: &mut Module) -> io::Result<()> {
     add_locals(&mut module.locals)?;
     module.code_section_offset = 90;
-    run_with_module(selection, &module)
+    run_with_module(selection, module)
+}
+
+/// Runs the scenarios over the demo module that are selected.
+pub(crate) fn run(selection: Selection<'_>) -> io::Result<()> {
+    run_with_locals(selection, &mut demo::module(selection.alloc())?)
 }

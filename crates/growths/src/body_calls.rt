@@ -1,7 +1,7 @@
 //! Bodies that are parsed, rewritten, or read with names.
 ghost use Rattle.std.specs.Prelude.{◌≤◌, ◌<◌, ◌+◌, ◌^◌, length};
 
-use crate::bodies::{ACCEPTED, Demo, REFUSED, arguments, body, bytes_of, late_body};
+use crate::bodies::{ACCEPTED, Demo, REFUSED, arguments, body, bytes_of};
 use crate::contexts::push_sequences;
 use crate::scenario::{Scenario, Selection};
 use crate::text::{Text, push_bytes, push_error, push_location, push_numbers, push_pairs};
@@ -53,6 +53,17 @@ enum Kind {
     /// There, with a location function.
     RewriteLateLocated,
     Read,
+}
+
+impl Kind {
+    fn is_late(self) -> bool {
+        matches!(self, Kind::RewriteLate | Kind::RewriteLateLocated)
+    }
+
+    /// Whether there is a location function.
+    fn is_located(self) -> bool {
+        matches!(self, Kind::RewriteLocated | Kind::RewriteLateLocated)
+    }
 }
 
 /// A body, and the lists that it is rewritten into, after two bytes and a pair of something else.
@@ -115,7 +126,7 @@ pub(crate) fn read(
         demo.indices,
         demo.function,
         demo.ty,
-        body(source),
+        body(source, false),
     )
 }
 
@@ -158,19 +169,13 @@ pub(crate) fn rewrite_into(
 impl OfBody<'_> {
     /// Rewrites the body into the lists, or into that of the bytes alone.
     fn rewrite(&mut self, args: Vec<LocalId>) -> Result<LocalFunction, RewriteError> {
-        let (demo, source, bytes) = (self.demo, self.source, &mut self.bytes);
-        let map = &mut self.pairs;
-        match self.kind {
-            Kind::RewriteAlone => rewrite_into(demo, args, body(source), false, bytes, None),
-            Kind::RewriteLocated => rewrite_into(demo, args, body(source), true, bytes, Some(map)),
-            Kind::RewriteLate => {
-                rewrite_into(demo, args, late_body(source), false, bytes, Some(map))
-            }
-            Kind::RewriteLateLocated => {
-                rewrite_into(demo, args, late_body(source), true, bytes, Some(map))
-            }
-            _ => rewrite_into(demo, args, body(source), false, bytes, Some(map)),
-        }
+        let (is_late, is_located) = (self.kind.is_late(), self.kind.is_located());
+        let map = match self.kind {
+            Kind::RewriteAlone => None,
+            _ => Some(&mut self.pairs),
+        };
+        let source = body(self.source, is_late);
+        rewrite_into(self.demo, args, source, is_located, &mut self.bytes, map)
     }
 
     fn push_rewritten(

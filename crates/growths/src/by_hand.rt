@@ -90,21 +90,24 @@ fn entry(wrong: Wrong) -> Option<InstrSeqId> {
     }
 }
 
-/// Appends the instruction to a sequence, after an unknown local if the function has an unknown
-/// sequence too, whose fault comes first.
-fn put(
-    instrs: &mut Vec<(Instr, InstrLocId)>,
-    wrong: Wrong,
-    instr: Instr,
-) -> Result<(), AllocError> {
-    let location = InstrLocId::new(1);
-    if let Wrong::Unknown = wrong {
-        let local = LocalId::new(99);
-        let first = Instr::LocalGet(LocalGet { local });
-        instrs.push((first, location))?;
-    }
-    instrs.push((instr, location))?;
+/// Appends an instruction with this location.
+fn put(sequence: &mut InstrSeq, instr: Instr, location: u32) -> Result<(), AllocError> {
+    sequence.instrs.push((instr, InstrLocId::new(location)))?;
     Ok(())
+}
+
+fn put_local(sequence: &mut InstrSeq, local: usize, location: u32) -> Result<(), AllocError> {
+    let local = LocalId::new(local);
+    put(sequence, Instr::LocalGet(LocalGet { local }), location)
+}
+
+/// Gives a sequence its instruction, after an unknown local if the function has an unknown sequence
+/// too, whose fault comes first.
+fn put_wrong(alloc: Global, sequence: &mut InstrSeq, wrong: Wrong) -> Result<(), AllocError> {
+    if let Wrong::Unknown = wrong {
+        put_local(sequence, 99, 1)?;
+    }
+    put(sequence, wrong_instr(alloc, wrong)?, 1)
 }
 
 /// Gives a function four sequences, of which the first has the instruction, and its entry.
@@ -117,8 +120,7 @@ fn fill(alloc: Global, builder: &mut FunctionBuilder, wrong: Wrong) -> Result<()
     }
     let first = InstrSeqId::new(0);
     if builder.has(first) {
-        let instr = wrong_instr(alloc, wrong)?;
-        put(&mut builder.seq_mut(first).instrs, wrong, instr)
+        put_wrong(alloc, builder.seq_mut(first), wrong)
     } else {
         Ok(())
     }
@@ -137,10 +139,8 @@ pub(crate) fn wrong_function(alloc: Global, wrong: Wrong) -> Result<LocalFunctio
 /// Gives a sequence two instructions, which drop the local 1, at locations 5 and 6, and its end
 /// location 7.
 fn fill_sequence(sequence: &mut InstrSeq) -> Result<(), AllocError> {
-    let local = LocalId::new(1);
-    let get = Instr::LocalGet(LocalGet { local });
-    sequence.instrs.push((get, InstrLocId::new(5)))?;
-    sequence.instrs.push((Instr::Drop, InstrLocId::new(6)))?;
+    put_local(sequence, 1, 5)?;
+    put(sequence, Instr::Drop, 6)?;
     sequence.end = InstrLocId::new(7);
     Ok(())
 }

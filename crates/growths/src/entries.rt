@@ -1,6 +1,6 @@
 //! Functions that are written as entries of the code section.
 
-use crate::bodies::numbers;
+use crate::bodies::number_items;
 use crate::scenario::{Scenario, Selection};
 use crate::text::{Text, push_bytes, push_error, push_numbers, push_pairs};
 use std::alloc::AllocError;
@@ -63,8 +63,9 @@ pub(crate) fn run(
     call: &str,
     row: &str,
 ) -> io::Result<()> {
-    match numbers(selection.alloc()) {
-        Ok(mut indices) => run_with(selection, module, function, &mut indices, call, row),
+    let mut indices = IdsToIndices::new(selection.alloc());
+    match number_items(&mut indices) {
+        Ok(()) => run_with(selection, module, function, &mut indices, call, row),
         Err(_) => Err(io::Error::from(AllocError)),
     }
 }

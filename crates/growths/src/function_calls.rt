@@ -248,8 +248,21 @@ fn run_numbered(
     Ok(())
 }
 
-/// Makes these calls on a function whose used locals these are. The locals have no numbers if the
-/// module doesn't have them, or if the type of one has no new index.
+/// The numbers of a function's locals, of which it uses these. They have none if the module doesn't
+/// have them, or if the type of one has no new index.
+fn numbers_of(
+    alloc: Global,
+    demo: &Demo<'_>,
+    function: &LocalFunction,
+    used: &IdHashSet<LocalId>,
+) -> IdHashMap<LocalId, u32> {
+    match function.emit_locals(demo.module, demo.numbers, used) {
+        Ok((_, numbers)) => numbers,
+        Err(_) => IdHashMap::new(alloc),
+    }
+}
+
+/// Makes these calls on a function whose used locals these are.
 fn run_used(
     selection: Selection<'_>,
     demo: &Demo<'_>,
@@ -258,12 +271,17 @@ fn run_used(
     row: &str,
     calls: &[Kind],
 ) -> io::Result<()> {
-    match function.emit_locals(demo.module, demo.numbers, used) {
-        Ok((_, numbers)) => { run_numbered(selection, demo, function, used, &numbers, row, calls) }
-        Err(_) => {
-            let numbers = IdHashMap::new(selection.alloc());
-            run_numbered(selection, demo, function, used, &numbers, row, calls)
-        }
+    let numbers = numbers_of(selection.alloc(), demo, function, used);
+    run_numbered(selection, demo, function, used, &numbers, row, calls)
+}
+
+/// The locals that a function uses; none where its sequences are no tree.
+fn used_by(alloc: Global, function: &LocalFunction) -> IdHashSet<LocalId>
+    requires { HasEntry function.now.builder }
+{
+    match function.emit_facts() {
+        Ok(EmitFacts { used_locals, .. }) => used_locals,
+        Err(_) => IdHashSet::new(alloc),
     }
 }
 
@@ -278,13 +296,8 @@ fn run_calls(
     if !function.has_entry() {
         return Ok(());
     }
-    match function.emit_facts() {
-        Ok(facts) => run_used(selection, demo, function, &facts.used_locals, row, calls),
-        Err(_) => {
-            let used = IdHashSet::new(selection.alloc());
-            run_used(selection, demo, function, &used, row, calls)
-        }
-    }
+    let used = used_by(selection.alloc(), function);
+    run_used(selection, demo, function, &used, row, calls)
 }
 
 /// Runs the scenarios on a function.

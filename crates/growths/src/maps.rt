@@ -221,7 +221,8 @@ const IDS: [(Space, usize); 8] = [
     (Space::Tags, 10),
 ];
 
-fn push_each(indices: &mut IndicesToIds) -> Result<(), IndexError> {
+/// Gives two types, an id in each space, and two locals of the function 3 the next old indices.
+pub(crate) fn push_each(indices: &mut IndicesToIds) -> Result<(), IndexError> {
     for (space, id) in &[(Space::Types, 2), (Space::Types, 0)] {
         push_old(indices, *space, *id)?;
     }
@@ -234,14 +235,9 @@ fn push_each(indices: &mut IndicesToIds) -> Result<(), IndexError> {
     Ok(())
 }
 
-/// Two types, an id in each space, and two locals of the function 3.
-pub(crate) fn some_ids(alloc: Global) -> Result<IndicesToIds, IndexError> {
-    let mut indices = IndicesToIds::new(alloc);
-    push_each(&mut indices)?;
-    Ok(indices)
-}
-
-fn number_each(numbers: &mut IdsToIndices) -> Result<(), IndexError> {
+/// Gives new indices to an id in each space, to two more functions, and to a data segment whose new
+/// index is replaced.
+pub(crate) fn number_each(numbers: &mut IdsToIndices) -> Result<(), IndexError> {
     for (space, id) in &IDS {
         push_new(numbers, *space, *id)?;
     }
@@ -252,14 +248,6 @@ fn number_each(numbers: &mut IdsToIndices) -> Result<(), IndexError> {
         numbers.set_data_index(DataId::new(1), *index)?;
     }
     Ok(())
-}
-
-/// New indices of an id in each space, of two more functions, and of a data segment whose new index
-/// is replaced.
-pub(crate) fn some_numbers(alloc: Global) -> Result<IdsToIndices, IndexError> {
-    let mut numbers = IdsToIndices::new(alloc);
-    number_each(&mut numbers)?;
-    Ok(numbers)
 }
 
 impl Scenario for Maps {

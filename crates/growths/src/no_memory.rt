@@ -7,8 +7,8 @@ use crate::contexts::without_frame;
 use crate::entries;
 use crate::items::{Item, Items};
 use crate::maps::{
-    Kind, Maps, push_id_faults, push_ids, push_index_faults, push_new_indices, some_ids,
-    some_numbers,
+    Kind, Maps, number_each, push_each, push_id_faults, push_ids, push_index_faults,
+    push_new_indices,
 };
 use crate::scenario::{Scenario, Selection};
 use crate::text::{Text, push_bytes, push_flags, push_location, push_numbers};
@@ -286,15 +286,17 @@ impl Scenario for NamedBody {
 const CALL: &str = "no-memory";
 
 fn run_indices(selection: Selection<'_>) -> io::Result<()> {
-    match some_ids(selection.alloc()) {
-        Ok(mut indices) => selection.run(CALL, "indices", &mut indices),
+    let mut indices = IndicesToIds::new(selection.alloc());
+    match push_each(&mut indices) {
+        Ok(()) => selection.run(CALL, "indices", &mut indices),
         Err(_) => Err(io::Error::from(AllocError)),
     }
 }
 
 fn run_numbers(selection: Selection<'_>) -> io::Result<()> {
-    match some_numbers(selection.alloc()) {
-        Ok(mut numbers) => selection.run(CALL, "numbers", &mut numbers),
+    let mut numbers = IdsToIndices::new(selection.alloc());
+    match number_each(&mut numbers) {
+        Ok(()) => selection.run(CALL, "numbers", &mut numbers),
         Err(_) => Err(io::Error::from(AllocError)),
     }
 }
@@ -342,19 +344,23 @@ fn run_encoder(selection: Selection<'_>) -> io::Result<()> {
     selection.run(CALL, "encoder", &mut encoder)
 }
 
+/// Runs the scenarios of functions and of a body with these bytes, and of what holds them.
+fn run_functions(selection: Selection<'_>, demo: &Demo<'_>, bytes: &[u8]) -> io::Result<()> {
+    run_function(selection, demo, bytes)?;
+    run_made(selection)?;
+    for (row, wrong) in &WITHOUT_ENTRY {
+        run_without_entry(selection, demo, row, *wrong)?;
+    }
+    run_named(selection, demo, bytes)?;
+    run_context(selection, demo)?;
+    run_encoder(selection)
+}
+
 /// Runs the scenarios of these calls that are selected.
 pub(crate) fn run(selection: Selection<'_>, demo: &Demo<'_>) -> io::Result<()> {
     let alloc = selection.alloc();
     selection.run(CALL, "module", &mut OfModule { alloc, demo })?;
     run_indices(selection)?;
     run_numbers(selection)?;
-    let bytes = bytes_of(alloc, "00410104400b0b")?;
-    run_function(selection, demo, &bytes)?;
-    run_made(selection)?;
-    for (row, wrong) in &WITHOUT_ENTRY {
-        run_without_entry(selection, demo, row, *wrong)?;
-    }
-    run_named(selection, demo, &bytes)?;
-    run_context(selection, demo)?;
-    run_encoder(selection)
+    run_functions(selection, demo, &bytes_of(alloc, "00410104400b0b")?)
 }

@@ -28,22 +28,30 @@ fn first_place(pairs: &[(InstrLocId, usize)]) -> usize {
     }
 }
 
-/// Rewrites a body into these bytes. Returns the place of the first operator.
-fn rewrite_first(again: &Again<'_>, bytes: &mut Vec<u8>) -> Result<usize, RewriteError> {
+/// Rewrites a body into these bytes and pairs.
+fn rewrite_into_pairs(
+    again: &Again<'_>,
+    bytes: &mut Vec<u8>,
+    pairs: &mut Vec<(InstrLocId, usize)>,
+) -> Result<(), RewriteError> {
     let args = match arguments(again.alloc) {
         Ok(args) => args,
         Err(_) => return Err(RewriteError::Walk(WalkError::Memory)),
     };
+    let source = body(again.source, false);
+    match rewrite_into(again.first, args, source, false, bytes, Some(pairs)) {
+        Ok(_) => Ok(()),
+        Err(error) => Err(error),
+    }
+}
+
+/// Rewrites a body into these bytes. Returns the place of the first operator.
+fn rewrite_first(again: &Again<'_>, bytes: &mut Vec<u8>) -> Result<usize, RewriteError> {
     let mut pairs = Vec::new(again.alloc);
-    rewrite_into(
-        again.first,
-        args,
-        body(again.source),
-        false,
-        bytes,
-        Some(&mut pairs),
-    )?;
-    Ok(first_place(&pairs))
+    match rewrite_into_pairs(again, bytes, &mut pairs) {
+        Ok(()) => Ok(first_place(&pairs)),
+        Err(error) => Err(error),
+    }
 }
 
 /// Rewrites the body with these bytes into others, and appends its function.
@@ -142,13 +150,7 @@ fn run_row(
 }
 
 fn run_with(selection: Selection<'_>, demo: &Demo<'_>, indices: &IndicesToIds) -> io::Result<()> {
-    let second = Demo {
-        module: demo.module,
-        indices,
-        numbers: demo.numbers,
-        function: demo.function,
-        ty: demo.ty,
-    };
+    let second = Demo::new(demo.module, indices, demo.numbers);
     for (row, digits) in &ROWS {
         run_row(selection, demo, &second, row, digits)?;
     }

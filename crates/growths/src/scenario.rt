@@ -32,8 +32,9 @@ fn called<S: Scenario>(scenario: &mut S, returned: &mut Text) -> Result<(), Allo
     }
 }
 
-/// Prints what a call is made on where that differs from what was there before.
-fn print_difference(rt: &HostRuntime, before: &str, now: &str) -> io::Result<()> {
+/// Prints whether what a call is made on is as it was before.
+fn print_now(rt: &HostRuntime, before: &str, now: &Text) -> io::Result<()> {
+    let now = now.whole()?;
     if now == before {
         println!(rt; "as before")
     } else {
@@ -49,7 +50,7 @@ fn make_again<S: Scenario>(
     returned: &mut Text,
 ) -> io::Result<()> {
     println!(rt; "Memory")?;
-    print_difference(rt, before, shown(rt.alloc(), scenario).whole()?)?;
+    print_now(rt, before, &shown(rt.alloc(), scenario))?;
     returned.clear();
     called(scenario, returned)?;
     Ok(())
@@ -67,6 +68,12 @@ fn make_once<S: Scenario>(
         make_again(rt, scenario, before, returned)?;
     }
     println!(rt; "returned:{}", returned.whole()?)
+}
+
+/// Makes a call, with room for what it returns.
+fn make_with_room<S: Scenario>(rt: &HostRuntime, scenario: &mut S, before: &str) -> io::Result<()> {
+    let mut returned = Text::with_room(rt.alloc(), ROOM)?;
+    make_once(rt, scenario, before, &mut returned)
 }
 
 /// Prints what a call was made on.
@@ -112,10 +119,10 @@ impl<'a> Selection<'a> {
         scenario: &mut S,
         before: &str,
     ) -> io::Result<()> {
-        let (rt, alloc) = (self.rt, self.alloc());
+        let rt = self.rt;
         println!(rt; "call: {call} {row}\nbefore:{before}")?;
-        make_once(rt, scenario, before, &mut Text::with_room(alloc, ROOM)?)?;
-        print_after(rt, &shown(alloc, scenario))
+        make_with_room(rt, scenario, before)?;
+        print_after(rt, &shown(rt.alloc(), scenario))
     }
 
     /// Runs a scenario if it is selected.
