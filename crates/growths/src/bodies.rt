@@ -119,9 +119,10 @@ impl<'a> Demo<'a> {
         )
     }
 
-    /// The function that has the body with these bytes, which is accepted.
-    pub(crate) fn accepted(&self, alloc: Global, bytes: &[u8]) -> io::Result<LocalFunction> {
-        match self.parse(arguments(alloc)?, bytes, AcceptAll) {
+    /// The function that has the body with these bytes, in hexadecimal, which is accepted.
+    pub(crate) fn accepted(&self, alloc: Global, digits: &str) -> io::Result<LocalFunction> {
+        let bytes = bytes_of(alloc, digits)?;
+        match self.parse(arguments(alloc)?, &bytes, AcceptAll) {
             Ok(function) => Ok(function),
             Err(_) => Err(io::Error::from(io::ErrorKind::InvalidData)),
         }

@@ -390,12 +390,21 @@ fn run_one(
     selection.run(call, row, &mut of)
 }
 
-fn run_row(selection: Selection<'_>, demo: &Demo<'_>, row: &str, digits: &str) -> io::Result<()> {
-    let source = bytes_of(selection.alloc(), digits)?;
+fn run_calls(
+    selection: Selection<'_>,
+    demo: &Demo<'_>,
+    row: &str,
+    source: &[u8],
+) -> io::Result<()> {
     for (call, kind) in &CALLS {
-        run_one(selection, demo, call, row, &source, *kind)?;
+        run_one(selection, demo, call, row, source, *kind)?;
     }
     Ok(())
+}
+
+fn run_row(selection: Selection<'_>, demo: &Demo<'_>, row: &str, digits: &str) -> io::Result<()> {
+    let source = bytes_of(selection.alloc(), digits)?;
+    run_calls(selection, demo, row, &source)
 }
 
 fn run_digits(

@@ -11,6 +11,8 @@ use walrus_ir::{
 /// What is wrong with a function.
 #[derive(Clone, Copy)]
 pub(crate) enum Wrong {
+    /// Nothing: it can be written.
+    Nothing,
     /// A sequence is inside of itself.
     Shared,
     /// A branch goes to a sequence that isn't around it.
@@ -66,7 +68,7 @@ fn wrong_instr(alloc: Global, wrong: Wrong) -> Result<Instr, AllocError> {
     let entry = InstrSeqId::new(0);
     let other = InstrSeqId::new(1);
     let instr = match wrong {
-        Wrong::NoEntry | Wrong::OtherEntry => Instr::Drop,
+        Wrong::Nothing | Wrong::NoEntry | Wrong::OtherEntry => Instr::Drop,
         Wrong::Shared => Instr::Block(Block { seq: entry }),
         Wrong::Unknown => Instr::Block(Block {
             seq: InstrSeqId::new(7),
@@ -111,7 +113,11 @@ fn put_wrong(alloc: Global, sequence: &mut InstrSeq, wrong: Wrong) -> Result<(),
 }
 
 /// Gives a function four sequences, of which the first has the instruction, and its entry.
-fn fill(alloc: Global, builder: &mut FunctionBuilder, wrong: Wrong) -> Result<(), AllocError> {
+fn fill_wrong(
+    alloc: Global,
+    builder: &mut FunctionBuilder,
+    wrong: Wrong,
+) -> Result<(), AllocError> {
     for _ in 0..4 {
         builder.alloc(InstrSeqType::Simple(None))?;
     }
@@ -123,16 +129,6 @@ fn fill(alloc: Global, builder: &mut FunctionBuilder, wrong: Wrong) -> Result<()
         put_wrong(alloc, builder.seq_mut(first), wrong)
     } else {
         Ok(())
-    }
-}
-
-/// The function that has this fault. Its argument is local 0, which it doesn't use.
-pub(crate) fn wrong_function(alloc: Global, wrong: Wrong) -> Result<LocalFunction, AllocError> {
-    let args = arguments(alloc)?;
-    let mut builder = FunctionBuilder::without_entry(alloc, TypeId::new(1));
-    match fill(alloc, &mut builder, wrong) {
-        Ok(()) => Ok(LocalFunction::new(args, builder)),
-        Err(error) => Err(error),
     }
 }
 
@@ -156,11 +152,19 @@ fn fill_entry(builder: &mut FunctionBuilder) -> Result<(), AllocError> {
     }
 }
 
-/// A function that can be written, and that wasn't read. Its argument is local 0; it drops local 1.
-pub(crate) fn whole_function(alloc: Global) -> Result<LocalFunction, AllocError> {
+fn fill(alloc: Global, builder: &mut FunctionBuilder, wrong: Wrong) -> Result<(), AllocError> {
+    match wrong {
+        Wrong::Nothing => fill_entry(builder),
+        _ => fill_wrong(alloc, builder, wrong),
+    }
+}
+
+/// The function that has this fault, and that wasn't read. Its argument is local 0, which it doesn't
+/// use.
+pub(crate) fn function(alloc: Global, wrong: Wrong) -> Result<LocalFunction, AllocError> {
     let args = arguments(alloc)?;
     let mut builder = FunctionBuilder::without_entry(alloc, TypeId::new(1));
-    match fill_entry(&mut builder) {
+    match fill(alloc, &mut builder, wrong) {
         Ok(()) => Ok(LocalFunction::new(args, builder)),
         Err(error) => Err(error),
     }

@@ -1,8 +1,8 @@
 //! Functions with a body: what is found out about them, and what is written for them.
 ghost use Rattle.walrus_body.specs.LocalFunctions.{HasEntry};
 
-use crate::bodies::{ACCEPTED, Demo, bytes_of};
-use crate::by_hand::{WRONG, Wrong, whole_function, wrong_function};
+use crate::bodies::{ACCEPTED, Demo};
+use crate::by_hand::{WRONG, Wrong, function};
 use crate::scenario::{Scenario, Selection};
 use crate::text::{Text, push_bytes, push_error, push_flags, push_numbers, push_pairs};
 use crate::{entries, walks};
@@ -300,44 +300,57 @@ fn run_calls(
     run_used(selection, demo, function, &used, row, calls)
 }
 
-/// Runs the scenarios on a function.
+/// Which scenarios are run on a function.
+#[derive(Clone, Copy)]
+enum Which {
+    All,
+    /// The calls that find facts.
+    Finding,
+    /// That it is written as an entry of the code section.
+    Entry,
+}
+
+/// Runs scenarios on a function.
 fn run_row(
     selection: Selection<'_>,
     demo: &Demo<'_>,
     function: &LocalFunction,
     row: &str,
+    which: Which,
 ) -> io::Result<()> {
+    if let Which::Finding = which {
+        return run_calls(selection, demo, function, row, &CALLS[..3]);
+    }
     entries::run(selection, demo.module, function, "CodeEntry::emit", row)?;
+    if let Which::Entry = which {
+        return Ok(());
+    }
     walks::run(selection, function.builder(), row)?;
     run_calls(selection, demo, function, row, &CALLS)
 }
 
-fn run_accepted(
+/// Runs scenarios on the function that has a body with these bytes.
+fn run_read(
     selection: Selection<'_>,
     demo: &Demo<'_>,
     row: &str,
     digits: &str,
+    which: Which,
 ) -> io::Result<()> {
-    let bytes = bytes_of(selection.alloc(), digits)?;
-    let function = demo.accepted(selection.alloc(), &bytes)?;
-    run_row(selection, demo, &function, row)
+    let function = demo.accepted(selection.alloc(), digits)?;
+    run_row(selection, demo, &function, row, which)
 }
 
-fn run_wrong(selection: Selection<'_>, demo: &Demo<'_>, row: &str, wrong: Wrong) -> io::Result<()> {
-    let function = wrong_function(selection.alloc(), wrong)?;
-    run_row(selection, demo, &function, row)
-}
-
-/// Writes a function that wasn't read as an entry of the code section.
-fn run_made(selection: Selection<'_>, demo: &Demo<'_>) -> io::Result<()> {
-    let function = whole_function(selection.alloc())?;
-    entries::run(
-        selection,
-        demo.module,
-        &function,
-        "CodeEntry::emit",
-        "made-by-hand",
-    )
+/// Runs scenarios on a function that is made by hand.
+fn run_made(
+    selection: Selection<'_>,
+    demo: &Demo<'_>,
+    row: &str,
+    wrong: Wrong,
+    which: Which,
+) -> io::Result<()> {
+    let function = function(selection.alloc(), wrong)?;
+    run_row(selection, demo, &function, row, which)
 }
 
 /// Other rows with a body: of instructions that name ids, of each kind of sequence, and of functions
@@ -374,12 +387,6 @@ const FOUND: [(&str, &str); 10] = [
     ("dropped", "000f20011ad2001afc09000b"),
 ];
 
-fn run_found(selection: Selection<'_>, demo: &Demo<'_>, row: &str, digits: &str) -> io::Result<()> {
-    let bytes = bytes_of(selection.alloc(), digits)?;
-    let function = demo.accepted(selection.alloc(), &bytes)?;
-    run_calls(selection, demo, &function, row, &CALLS[..3])
-}
-
 /// The other rows of `emit_locals`: the arguments of a function, and the locals that it uses.
 const DECLARED: [(&str, &[usize], &[usize]); 12] = [
     ("unused", &[0], &[]),
@@ -407,12 +414,11 @@ fn locals(alloc: Global, ids: &[usize]) -> Result<Vec<LocalId>, AllocError> {
     Ok(locals)
 }
 
-fn set(alloc: Global, ids: &[usize]) -> Result<IdHashSet<LocalId>, AllocError> {
-    let mut set = IdHashSet::new(alloc);
+fn add_all(set: &mut IdHashSet<LocalId>, ids: &[usize]) -> Result<(), AllocError> {
     for id in ids {
         set.insert(LocalId::new(*id))?;
     }
-    Ok(set)
+    Ok(())
 }
 
 /// A function without sequences.
@@ -433,8 +439,11 @@ fn run_using(
     row: &str,
     used: &[usize],
 ) -> io::Result<()> {
-    let used = set(selection.alloc(), used)?;
-    run_used(selection, demo, function, &used, row, &CALLS[3..4])
+    let mut set = IdHashSet::new(selection.alloc());
+    match add_all(&mut set, used) {
+        Ok(()) => run_used(selection, demo, function, &set, row, &CALLS[3..4]),
+        Err(error) => Err(io::Error::from(error)),
+    }
 }
 
 fn run_declared(
@@ -451,17 +460,23 @@ fn run_declared(
 /// Runs the scenarios of these calls that are selected.
 pub(crate) fn run(selection: Selection<'_>, demo: &Demo<'_>) -> io::Result<()> {
     for (row, digits) in &ACCEPTED {
-        run_accepted(selection, demo, row, digits)?;
+        run_read(selection, demo, row, digits, Which::All)?;
     }
     for (row, digits) in &PARSED {
-        run_accepted(selection, demo, row, digits)?;
+        run_read(selection, demo, row, digits, Which::All)?;
     }
     for (row, wrong) in &WRONG {
-        run_wrong(selection, demo, row, *wrong)?;
+        run_made(selection, demo, row, *wrong, Which::All)?;
     }
-    run_made(selection, demo)?;
+    run_made(
+        selection,
+        demo,
+        "made-by-hand",
+        Wrong::Nothing,
+        Which::Entry,
+    )?;
     for (row, digits) in &FOUND {
-        run_found(selection, demo, row, digits)?;
+        run_read(selection, demo, row, digits, Which::Finding)?;
     }
     for (row, args, used) in &DECLARED {
         run_declared(selection, demo, row, args, used)?;

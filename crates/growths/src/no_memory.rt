@@ -2,7 +2,7 @@
 
 use crate::bodies::{Demo, bytes_of};
 use crate::body_calls::read;
-use crate::by_hand::{WITHOUT_ENTRY, Wrong, wrong_function};
+use crate::by_hand::{WITHOUT_ENTRY, Wrong, function};
 use crate::contexts::without_frame;
 use crate::entries;
 use crate::items::{Item, Items};
@@ -285,6 +285,9 @@ impl Scenario for NamedBody {
 
 const CALL: &str = "no-memory";
 
+/// The bytes of a body, in hexadecimal.
+const BODY: &str = "00410104400b0b";
+
 fn run_indices(selection: Selection<'_>) -> io::Result<()> {
     let mut indices = IndicesToIds::new(selection.alloc());
     match push_each(&mut indices) {
@@ -301,14 +304,15 @@ fn run_numbers(selection: Selection<'_>) -> io::Result<()> {
     }
 }
 
-fn run_function(selection: Selection<'_>, demo: &Demo<'_>, bytes: &[u8]) -> io::Result<()> {
-    let mut function = demo.accepted(selection.alloc(), bytes)?;
+/// Runs the scenario of the function that has a body with these bytes.
+fn run_function(selection: Selection<'_>, demo: &Demo<'_>, digits: &str) -> io::Result<()> {
+    let mut function = demo.accepted(selection.alloc(), digits)?;
     selection.run(CALL, "function", &mut function)
 }
 
 /// Runs the scenario of a function that is made by hand.
 fn run_made(selection: Selection<'_>) -> io::Result<()> {
-    let mut function = wrong_function(selection.alloc(), Wrong::Outside)?;
+    let mut function = function(selection.alloc(), Wrong::Outside)?;
     selection.run(CALL, "made", &mut function)
 }
 
@@ -319,12 +323,13 @@ fn run_without_entry(
     row: &str,
     wrong: Wrong,
 ) -> io::Result<()> {
-    let function = wrong_function(selection.alloc(), wrong)?;
+    let function = function(selection.alloc(), wrong)?;
     entries::run(selection, demo.module, &function, CALL, row)
 }
 
-fn run_named(selection: Selection<'_>, demo: &Demo<'_>, bytes: &[u8]) -> io::Result<()> {
-    match read(selection.alloc(), demo, bytes) {
+fn run_named(selection: Selection<'_>, demo: &Demo<'_>, digits: &str) -> io::Result<()> {
+    let bytes = bytes_of(selection.alloc(), digits)?;
+    match read(selection.alloc(), demo, &bytes) {
         Ok(mut named) => selection.run(CALL, "named", &mut named),
         Err(_) => Err(io::Error::from(io::ErrorKind::InvalidData)),
     }
@@ -344,23 +349,18 @@ fn run_encoder(selection: Selection<'_>) -> io::Result<()> {
     selection.run(CALL, "encoder", &mut encoder)
 }
 
-/// Runs the scenarios of functions and of a body with these bytes, and of what holds them.
-fn run_functions(selection: Selection<'_>, demo: &Demo<'_>, bytes: &[u8]) -> io::Result<()> {
-    run_function(selection, demo, bytes)?;
-    run_made(selection)?;
-    for (row, wrong) in &WITHOUT_ENTRY {
-        run_without_entry(selection, demo, row, *wrong)?;
-    }
-    run_named(selection, demo, bytes)?;
-    run_context(selection, demo)?;
-    run_encoder(selection)
-}
-
 /// Runs the scenarios of these calls that are selected.
 pub(crate) fn run(selection: Selection<'_>, demo: &Demo<'_>) -> io::Result<()> {
     let alloc = selection.alloc();
     selection.run(CALL, "module", &mut OfModule { alloc, demo })?;
     run_indices(selection)?;
     run_numbers(selection)?;
-    run_functions(selection, demo, &bytes_of(alloc, "00410104400b0b")?)
+    run_function(selection, demo, BODY)?;
+    run_made(selection)?;
+    for (row, wrong) in &WITHOUT_ENTRY {
+        run_without_entry(selection, demo, row, *wrong)?;
+    }
+    run_named(selection, demo, BODY)?;
+    run_context(selection, demo)?;
+    run_encoder(selection)
 }

@@ -49,12 +49,20 @@ fn outcome(alloc: Global, letter: char) -> Result<Outcome, AllocError> {
     }
 }
 
-fn outcomes(alloc: Global, letters: &str) -> Result<Vec<Outcome>, AllocError> {
-    let mut outcomes = Vec::new(alloc);
+fn push_outcome(outcomes: &mut Vec<Outcome>, outcome: Outcome) -> Result<(), AllocError> {
+    outcomes.push(outcome)?;
+    Ok(())
+}
+
+fn push_outcomes(
+    outcomes: &mut Vec<Outcome>,
+    alloc: Global,
+    letters: &str,
+) -> Result<(), AllocError> {
     for letter in letters.chars() {
-        outcomes.push(outcome(alloc, letter)?)?;
+        push_outcome(outcomes, outcome(alloc, letter)?)?;
     }
-    Ok(outcomes)
+    Ok(())
 }
 
 fn push_run(text: &mut Text, run: &Run) {
@@ -75,12 +83,21 @@ fn run_named(
     Ok(())
 }
 
+impl Execution<'_> {
+    fn run(&self, returned: &mut Text, outcomes: &[Outcome]) -> Result<(), AllocError> {
+        match read(self.alloc, self.demo, self.source) {
+            Ok(named) => run_named(returned, &named, outcomes, self.turns),
+            Err(failure) => push_failure(returned, failure),
+        }
+    }
+}
+
 impl Scenario for Execution<'_> {
     fn call(&mut self, returned: &mut Text) -> Result<(), AllocError> {
-        let outcomes = outcomes(self.alloc, self.letters)?;
-        match read(self.alloc, self.demo, self.source) {
-            Ok(named) => run_named(returned, &named, &outcomes, self.turns),
-            Err(failure) => push_failure(returned, failure),
+        let mut outcomes = Vec::new(self.alloc);
+        match push_outcomes(&mut outcomes, self.alloc, self.letters) {
+            Ok(()) => self.run(returned, &outcomes),
+            Err(error) => Err(error),
         }
     }
 }

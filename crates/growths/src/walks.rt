@@ -153,6 +153,16 @@ fn run_one(
     selection.run(call, row, &mut walk)
 }
 
+fn run_both(
+    selection: Selection<'_>,
+    builder: &FunctionBuilder,
+    all: &[Event],
+    row: &str,
+) -> io::Result<()> {
+    run_one(selection, builder, all, "dfs_in_order", row, 60)?;
+    run_one(selection, builder, all, "dfs_in_order-recording", row, 0)
+}
+
 /// Runs the scenarios of these calls that are selected, on a function.
 pub(crate) fn run(
     selection: Selection<'_>,
@@ -160,6 +170,5 @@ pub(crate) fn run(
     row: &str,
 ) -> io::Result<()> {
     let all = all_events(selection.alloc(), builder)?;
-    run_one(selection, builder, &all, "dfs_in_order", row, 60)?;
-    run_one(selection, builder, &all, "dfs_in_order-recording", row, 0)
+    run_both(selection, builder, &all, row)
 }
