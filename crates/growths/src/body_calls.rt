@@ -169,13 +169,16 @@ pub(crate) fn rewrite_into(
 impl OfBody<'_> {
     /// Rewrites the body into the lists, or into that of the bytes alone.
     fn rewrite(&mut self, args: Vec<LocalId>) -> Result<LocalFunction, RewriteError> {
-        let (is_late, is_located) = (self.kind.is_late(), self.kind.is_located());
-        let map = match self.kind {
-            Kind::RewriteAlone => None,
-            _ => Some(&mut self.pairs),
-        };
-        let source = body(self.source, is_late);
-        rewrite_into(self.demo, args, source, is_located, &mut self.bytes, map)
+        let source = body(self.source, self.kind.is_late());
+        let is_located = self.kind.is_located();
+        let (demo, bytes) = (self.demo, &mut self.bytes);
+        match self.kind {
+            Kind::RewriteAlone => rewrite_into(demo, args, source, is_located, bytes, None),
+            _ => {
+                let map = Some(&mut self.pairs);
+                rewrite_into(demo, args, source, is_located, bytes, map)
+            }
+        }
     }
 
     fn push_rewritten(
