@@ -24,13 +24,12 @@ mod walks;
 use crate::scenario::Selection;
 use std::{env, io};
 
-/// The program's words, without its own name.
-fn words(rt: &HostRuntime) -> io::Result<Vec<String>> {
-    let mut words = Vec::new(rt.alloc());
+/// Appends the program's words, without its own name.
+fn push_words(rt: &HostRuntime, words: &mut Vec<String>) -> io::Result<()> {
     for word in env::args(rt)?.skip(1) {
         words.push(word)?;
     }
-    Ok(words)
+    Ok(())
 }
 
 /// Runs the scenarios that are selected.
@@ -43,6 +42,9 @@ fn run(selection: Selection<'_>) -> io::Result<()> {
 }
 
 fn main(rt: HostRuntime) -> io::Result<()> {
-    let words = words(&rt)?;
-    run(Selection::new(&rt, &words))
+    let mut words = Vec::new(rt.alloc());
+    match push_words(&rt, &mut words) {
+        Ok(()) => run(Selection::new(&rt, &words)),
+        Err(error) => Err(error),
+    }
 }
