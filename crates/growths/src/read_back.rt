@@ -39,10 +39,8 @@ fn rewrite_into_pairs(
         Err(_) => return Err(RewriteError::Walk(WalkError::Memory)),
     };
     let source = body(again.source, false);
-    match rewrite_into(again.first, args, source, false, bytes, Some(pairs)) {
-        Ok(_) => Ok(()),
-        Err(error) => Err(error),
-    }
+    rewrite_into(again.first, args, source, false, bytes, Some(pairs))?;
+    Ok(())
 }
 
 /// Rewrites a body into these bytes. Returns the place of the first operator.
