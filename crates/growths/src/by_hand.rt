@@ -93,12 +93,16 @@ fn entry(wrong: Wrong) -> Option<InstrSeqId> {
 }
 
 /// Appends an instruction with this location.
-fn put(sequence: &mut InstrSeq, instr: Instr, location: u32) -> Result<(), AllocError> {
-    sequence.instrs.push((instr, InstrLocId::new(location)))?;
+fn put(sequence: &mut InstrSeq, instr: Instr, location: InstrLocId) -> Result<(), AllocError> {
+    sequence.instrs.push((instr, location))?;
     Ok(())
 }
 
-fn put_local(sequence: &mut InstrSeq, local: usize, location: u32) -> Result<(), AllocError> {
+fn put_local(
+    sequence: &mut InstrSeq,
+    local: usize,
+    location: InstrLocId,
+) -> Result<(), AllocError> {
     let local = LocalId::new(local);
     put(sequence, Instr::LocalGet(LocalGet { local }), location)
 }
@@ -107,9 +111,9 @@ fn put_local(sequence: &mut InstrSeq, local: usize, location: u32) -> Result<(),
 /// too, whose fault comes first.
 fn put_wrong(alloc: Global, sequence: &mut InstrSeq, wrong: Wrong) -> Result<(), AllocError> {
     if let Wrong::Unknown = wrong {
-        put_local(sequence, 99, 1)?;
+        put_local(sequence, 99, InstrLocId::new(1))?;
     }
-    put(sequence, wrong_instr(alloc, wrong)?, 1)
+    put(sequence, wrong_instr(alloc, wrong)?, InstrLocId::new(1))
 }
 
 /// Gives a function four sequences, of which the first has the instruction, and its entry.
@@ -135,8 +139,8 @@ fn fill_wrong(
 /// Gives a sequence two instructions, which drop the local 1, at locations 5 and 6, and its end
 /// location 7.
 fn fill_sequence(sequence: &mut InstrSeq) -> Result<(), AllocError> {
-    put_local(sequence, 1, 5)?;
-    put(sequence, Instr::Drop, 6)?;
+    put_local(sequence, 1, InstrLocId::new(5))?;
+    put(sequence, Instr::Drop, InstrLocId::new(6))?;
     sequence.end = InstrLocId::new(7);
     Ok(())
 }
