@@ -1,8 +1,13 @@
 -- The locations that a caller's location function returns.
-use Rattle.std.specs.Prelude.{◌≡◌, ◌≤◌, ◌<◌, ℕ, false, true, Option, Some, None}
+use Rattle.std.specs.Prelude.{◌≡◌, ◌≤◌, ◌<◌, ◌+◌, ℕ, length, false, true, Option, Some, None}
 use Rattle.std.specs.Borrow.{Bor}
 use Rattle.std.specs.Fn.{Shared, FnReturnsAt}
+use Rattle.wasm_ops.specs.Position.{Position}
 use Rattle.wasm_body.specs.Parsing.Accepted.{has_location}
+
+-- the place after the bytes that a reader has before it
+abbrev pub end_of : Position → ℕ
+end_of reader = reader.place + length reader.rest
 
 -- The function, if there is one, may be called at each place from `from` on and below `to`.
 abbrev pub MayCall : {F : Type 0} → (F → Bor ℕ → Type 0) → Option (Bor F) → (from to : ℕ) → Type 0

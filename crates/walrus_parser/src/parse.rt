@@ -7,7 +7,7 @@ ghost use Rattle.wasm_body.specs.declared.error.ParseError.{ParseError as ParseF
 ghost use Rattle.wasm_body.specs.SourceTree.{Empty};
 ghost use Rattle.wasm_body.specs.Naming.{entry_type_id as entry_type_of};
 ghost use Rattle.walrus_maps.specs.Environments.{environment_of};
-ghost use Rattle.walrus_parser.specs.Locating.{MayCall};
+ghost use Rattle.walrus_parser.specs.Locating.{MayCall, end_of};
 ghost use Rattle.walrus_context.specs.OpenTrees.{env_of};
 ghost use Rattle.walrus_parser.specs.BodyParsers.{Begins};
 ghost use Rattle.walrus_parser.specs.NextOperator.{TakesNext, RefusesNext};
@@ -32,6 +32,23 @@ pub struct ParsedOperators {
     /// For each operator that was read, in order: its place, a byte offset, less the code offset;
     /// and its location.
     pub instruction_mapping: Vec<(usize, InstrLocId)>,
+}
+
+impl ParsedOperators {
+    fn new(
+        builder: FunctionBuilder,
+        instruction_mapping: Vec<(usize, InstrLocId)>,
+    ) -> ParsedOperators
+        ensures { result ≡ record {
+          builder = builder;
+          instruction_mapping = instruction_mapping;
+        } }
+    {
+        ParsedOperators {
+            builder,
+            instruction_mapping,
+        }
+    }
 }
 
 /// Takes a common operator that was read at this place.
@@ -81,8 +98,7 @@ fn parse_operators<V: OpCheck, F: Fn(&usize) -> InstrLocId>(
 ) -> Result<ParsedOperators, ParseFailure>
     requires fresh { Begins parser }
     requires offset { code_offset ≤ reader.old.place }
-    requires may_call { MayCall F.pre on_instr_pos reader.old.place
-        (reader.old.place + length reader.old.rest) }
+    requires may_call { MayCall F.pre on_instr_pos reader.old.place (end_of reader.old) }
     ensures { ParsesOperators F.Fn (operators_input (env_of parser.entry.context) reader.old
         code_offset on_instr_pos.entry V.check (V.state validator)) result }
 {
@@ -90,7 +106,7 @@ fn parse_operators<V: OpCheck, F: Fn(&usize) -> InstrLocId>(
     while !reader.eof() {
         let at = reader.original_position();
         if let Some(common) = read_common(reader) {
-            let taken = take_common(
+            match take_common(
                 &mut parser,
                 common,
                 at,
@@ -98,8 +114,7 @@ fn parse_operators<V: OpCheck, F: Fn(&usize) -> InstrLocId>(
                 &mut validator,
                 code_offset,
                 &mut instruction_mapping,
-            );
-            match taken {
+            ) {
                 Ok(()) => continue,
                 Err(failure) => return Err(failure),
             }
@@ -121,12 +136,7 @@ fn parse_operators<V: OpCheck, F: Fn(&usize) -> InstrLocId>(
                 return Err(failure(ParseError::Trailing, reader.original_position()));
             }
             match parser.finish(location, lent) {
-                Ok(builder) => {
-                    return Ok(ParsedOperators {
-                        builder,
-                        instruction_mapping,
-                    });
-                }
+                Ok(builder) => return Ok(ParsedOperators::new(builder, instruction_mapping)),
                 Err(error) => return Err(failure(error, at)),
             }
         }

@@ -15,7 +15,7 @@ use Rattle.wasm_body.specs.Parsing.Accepted.{mark, has_location, admitted}
 use Rattle.wasm_body.specs.Parsing.Progress.{Within, further}
 use Rattle.walrus_parser.specs.Advancing.{Keeps, KeepsProgress, occurrence}
 use Rattle.walrus_parser.specs.BodyParsers.{state_of}
-use Rattle.walrus_parser.specs.Bodies.{operators_input}
+use Rattle.walrus_parser.specs.Bodies.{operators_input, HoldsBody}
 use Rattle.walrus_context.specs.OpenTrees.{env_of}
 use Rattle.walrus_parser.specs.Checking.{fault_of_refusal}
 use Rattle.walrus_parser.specs.Locating.{MayCall, Locates}
@@ -213,7 +213,7 @@ returns-in-Ok-finish g c =
     let whole = over_end g.F.Fn i c.requires.offset p state then now.place next.place now.rest next.rest m c.try_push.new.list.items c.in-Ok-accepted_at.location f top take located moves.0 moves.1 pushed in
     let b = body_at f.sequence now.place c.in-Ok-accepted_at.location in
     let done = c.in-Ok-finish.ensures.ok in
-    record {
+    let holds : HoldsBody g.F.Fn i (record { builder = c.in-Ok-finish.builder; instruction_mapping = c.try_push.new.list }) = record {
       body = b;
       is_parsed = is_whole g.F.Fn i c.requires.offset b then next.place next.rest c.try_push.new.list.items whole last;
       type = done.type ∙ ap (λ (e : Environment). e.type) f.env_is;
@@ -223,7 +223,8 @@ returns-in-Ok-finish g c =
             (done.holds f.sequence b.close refl (subst (λ ls. Keeps (env_of p.context) (state_of p) ls f.sequence) top f.keeps));
       };
       is_mapping = whole_mapping g.F.Fn i c.requires.offset b then next.place next.rest c.try_push.new.list.items whole;
-    }
+    } in
+    subst (HoldsBody g.F.Fn i) (sym c.new.ensures) holds
 
 pub returns-in-Err-finish : goal.returns-in-Err-finish
 returns-in-Err-finish g c =
@@ -234,11 +235,11 @@ returns-in-Err-finish g c =
       | inr is ↦ absurd (some_open (env_of p.context) (state_of p) f.layers f.sequence f.keeps is.1)
     ]
 
-pub take_common-taken-requires-clause-writable : goal.take_common-taken-requires-clause-writable
-take_common-taken-requires-clause-writable g c = c.in-Some.ensures.writable
+pub take_common-requires-clause-writable : goal.take_common-requires-clause-writable
+take_common-requires-clause-writable g c = c.in-Some.ensures.writable
 
-pub take_common-taken-requires-clause-may_call : goal.take_common-taken-requires-clause-may_call
-take_common-taken-requires-clause-may_call g c =
+pub take_common-requires-clause-may_call : goal.take_common-requires-clause-may_call
+take_common-requires-clause-may_call g c =
     let a = c.args in
     let i = operators_input (env_of a.parser.context) a.reader.now a.code_offset a.on_instr_pos g.V.OpCheck.check (g.V.OpCheck.state a.validator) in
     let now = c.loop-reader.reader in
@@ -257,11 +258,11 @@ loop-reader-preserved-in-Ok g c =
     let next = c.read_common.new.reader in
     let o = meaning (listed c.in-Some.common) in
     let state = g.V.OpCheck.state c.loop-reader.validator in
-    let then = g.V.OpCheck.state c.take_common-taken.new.validator in
+    let then = g.V.OpCheck.state c.take_common.new.validator in
     let m = c.loop-reader.instruction_mapping.items in
-    let following = c.take_common-taken.new.mapping.items in
-    takes g.F.Fn i c.requires.offset c.loop-reader.parser c.take_common-taken.new.parser state then now.place next.place now.rest next.rest m following o c.loop-reader.invariant c.in-Some.ensures.is_read c.in-Some.ensures.moves.0 c.in-Some.ensures.moves.1
-    (subst (λ p. TakesNext g.F.Fn a.on_instr_pos g.V.OpCheck.check state then p a.code_offset o c.loop-reader.parser c.take_common-taken.new.parser m following) c.original_position-at.ensures c.in-Ok.ensures.ok)
+    let following = c.take_common.new.mapping.items in
+    takes g.F.Fn i c.requires.offset c.loop-reader.parser c.take_common.new.parser state then now.place next.place now.rest next.rest m following o c.loop-reader.invariant c.in-Some.ensures.is_read c.in-Some.ensures.moves.0 c.in-Some.ensures.moves.1
+    (subst (λ p. TakesNext g.F.Fn a.on_instr_pos g.V.OpCheck.check state then p a.code_offset o c.loop-reader.parser c.take_common.new.parser m following) c.original_position-at.ensures c.in-Ok.ensures.ok)
 
 pub returns-in-Err : goal.returns-in-Err
 returns-in-Err g c =
