@@ -26,6 +26,11 @@ pub record OpenTrees : Type 0 where
   pub builder : Function
   pub frames : List OpenFrame
 
+-- There is one more sequence, which has this type and is empty; nothing else changed.
+pub record AddsEmpty (old new : OpenTrees) (type : InstrSeqType) (id : ℕ) : Type 0 where
+  pub is_next : id ≡ length old.builder.sequences
+  pub is : new ≡ record old { builder = with_new_sequence old.builder type }
+
 -- each frame's sequence is in this arena
 abbrev pub AreInArena : List InstrSeq → List OpenFrame → Type 0
 AreInArena sequences fs = AllByRecursion (λ f. f.sequence < length sequences) fs

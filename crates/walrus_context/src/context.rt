@@ -9,7 +9,7 @@ ghost use Rattle.walrus_ir.specs.Results.{with_fault};
 ghost use Rattle.wasm_body.specs.declared.error.ParseError.TheVariants.{Index};
 ghost use Rattle.walrus_maps.specs.IndexMaps.{local_of};
 ghost use Rattle.walrus_context.specs.Placing.{block_found, kind_at, place_at};
-ghost use Rattle.walrus_context.specs.OpenTrees.{env_of, opened_type, Opens, OpensBlock, Pops, ChangesFrame, AddsClauseAround, EndsAt};
+ghost use Rattle.walrus_context.specs.OpenTrees.{env_of, opened_type, Opens, OpensBlock, Pops, ChangesFrame, AddsClauseAround, EndsAt, AddsEmpty};
 
 use crate::frame::{ControlFrame, ControlStack};
 use crate::frame_stack::FrameStack;
@@ -252,6 +252,33 @@ impl<'a> ValidationContext<'a> {
     {
         match InstrSeqType::existing(&self.module.types, start_types, end_types) {
             Some(ty) => self.enter(kind, ty, start_types, end_types),
+            None => Err(ParseError::TypeMissing),
+        }
+    }
+
+    /// Adds an empty sequence with these parameters and results, which no frame has, and returns it.
+    /// Its type is the one that is picked for them in the module.
+    ///
+    /// # Errors
+    ///
+    /// `TypeMissing` if the module has no such type; `Memory` if memory runs out.
+    pub fn add_empty(
+        &mut self,
+        start_types: &[ValType],
+        end_types: &[ValType],
+    ) -> Result<InstrSeqId, ParseError>
+        ensures ok { IfOk result (λ id. IsSomeAnd
+            (existing self.old.module.types start_types.now end_types.now)
+            (λ ty. AddsEmpty self.old self.new ty id)) }
+        ensures err { IfErr result (λ e. (e ≡ Fault.Memory) ⊎ ((e ≡ Fault.TypeMissing)
+            × (existing self.old.module.types start_types.now end_types.now ≡ None))) }
+        ensures same { OnErr result (self.new ≡ self.old) }
+    {
+        match InstrSeqType::existing(&self.module.types, start_types, end_types) {
+            Some(ty) => match self.func.alloc(ty) {
+                Ok(id) => Ok(id),
+                Err(_) => Err(ParseError::Memory),
+            },
             None => Err(ParseError::TypeMissing),
         }
     }

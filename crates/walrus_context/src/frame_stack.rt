@@ -9,6 +9,7 @@ use std::alloc::AllocError;
 use std::marker::Model;
 use std::mem;
 use walrus_ir::{BlockKind, Instr, InstrLocId, InstrSeqId, LegacyCatch, ValType};
+use walrus_maps::{list_with_room, make_room};
 use wasm_body::ParseError;
 
 /// Pushes an item. The error is `Memory` if memory runs out; the list is unchanged.
@@ -31,13 +32,11 @@ pub fn try_push<T: Drop>(list: &mut Vec<T>, item: T) -> bool
     ensures done { result ≡ true → list.new.items ≡ list.old.items ++ item ∷ [] }
     ensures same { result ≡ false → list.new.items ≡ list.old.items }
 {
-    match list.reserve(1) {
-        Ok(()) => {
-            list.push_reserved(item);
-            true
-        }
-        Err(_) => false,
+    if list.len() >= list.capacity() && !make_room(list, 1) {
+        return false;
     }
+    list.push_reserved(item);
+    true
 }
 
 /// The index of the n-th frame from the innermost, if more than `n` frames are open.
@@ -79,11 +78,14 @@ fn move_starts(controls: &mut ControlStack, from: usize)
 }
 
 /// How many instructions a list has at least that is handed on instead of copied.
-const LONG: usize = 4096;
+const MANY: usize = 64;
 
-/// The items from a position on, which are removed from the list. If they are all items of a long
-/// list, the list itself is handed on, and an empty one takes its place: so the instructions of a
-/// long body are in memory once. If memory runs out the list is unchanged.
+/// For how many instructions room is made at most in the list that takes its place.
+const MOST_ROOM: usize = 4096;
+
+/// The items from a position on, which are removed from the list. If they are all its items, and it
+/// isn't short and has used most of its room, the list itself is handed on, and an empty one takes
+/// its place. If memory runs out the list is unchanged.
 fn take_tail(
     list: &mut Vec<(Instr, InstrLocId)>,
     start: usize,
@@ -93,11 +95,13 @@ fn take_tail(
     ensures tail { IfOk result (λ t. t.items ≡ drop start list.old.items) }
     ensures err { OnErr result (list.new.items ≡ list.old.items) }
 {
-    if start > 0 || list.len() < LONG {
+    if start > 0 || list.len() < MANY || list.len() < list.capacity() / 2 {
         return list.split_off(start);
     }
-    let empty = Vec::new(*list.allocator());
-    Ok(mem::replace(list, empty))
+    let empty = list_with_room(*list.allocator(), list.capacity().min(MOST_ROOM));
+    let mut tail = mem::replace(list, empty);
+    tail.shrink_to_fit();
+    Ok(tail)
 }
 
 /// The open frames. In a contract, they are a list, innermost first.

@@ -14,6 +14,7 @@ use crate::putting::{put_byte, put_integer, put_memarg, put_number};
 use std::alloc::{AllocError, Global};
 use std::marker::Model;
 use walrus_ir::InstrLocId;
+use walrus_maps::{list_with_room, make_room};
 use wasm_body::EmitError;
 use wasm_encode::{FunctionEncoder, OutOp, write_op};
 use wasm_operators::RawMemArg;
@@ -21,6 +22,9 @@ use wasm_operators::RawMemArg;
 /// How many bytes an operator takes at most that is an opcode of one byte and a number, an integer
 /// or a memory argument.
 const ROOM: usize = 31;
+
+/// How many bytes an operator takes on average, at most, in code of compilers.
+const BYTES: usize = 3;
 
 /// Reserves room for such an operator, and appends its pair if pairs are kept. Returns whether it
 /// did. Otherwise both lists are unchanged.
@@ -39,16 +43,14 @@ fn begin(
         (record { bytes = bytes.old.items; pairs = pairs.old.items }) location) }
     ensures unchanged { OnFalse result (pairs.new.items ≡ pairs.old.items) }
 {
-    match bytes.reserve(ROOM) {
-        Ok(()) => {}
-        Err(_) => return false,
+    if bytes.capacity() - bytes.len() < ROOM && !make_room(bytes, ROOM) {
+        return false;
     }
     if !has_map {
         return true;
     }
-    match pairs.reserve(1) {
-        Ok(()) => {}
-        Err(_) => return false,
+    if pairs.len() == pairs.capacity() && !make_room(pairs, 1) {
+        return false;
     }
     let place = base + bytes.len();
     pairs.push_reserved((location, place));
@@ -82,8 +84,8 @@ impl Model for Draft {
 }
 
 impl Draft {
-    /// Nothing is written. It takes no memory.
-    pub fn new(alloc: Global, base: usize, has_map: bool) -> Draft
+    /// Nothing is written. There is room for about so many operators, if there is memory for it.
+    pub fn new(alloc: Global, base: usize, has_map: bool, operators: usize) -> Draft
         requires { base < 2 ^ 63 }
         ensures { result ≡ record {
           base = base;
@@ -94,8 +96,8 @@ impl Draft {
         Draft {
             base,
             has_map,
-            bytes: Vec::new(alloc),
-            pairs: Vec::new(alloc),
+            bytes: list_with_room(alloc, operators.saturating_mul(BYTES)),
+            pairs: list_with_room(alloc, if has_map { operators } else { 0 }),
         }
     }
 
@@ -205,8 +207,8 @@ impl Draft {
         Ok(())
     }
 
-    /// Appends what is written, the pairs where they are asked for. Where memory runs out both are
-    /// as before.
+    /// Appends what is written, the pairs where they are asked for; an empty list of pairs becomes
+    /// theirs. Where memory runs out both are as before.
     pub fn append_to(
         self,
         encoder: &mut FunctionEncoder,
@@ -217,9 +219,15 @@ impl Draft {
         ensures err { OnErr result (encoder.new ≡ encoder.old) }
         ensures unchanged { OnErr result (map.new.items ≡ map.old.items) }
     {
-        map.reserve(self.pairs.len())?;
-        encoder.raw(&self.bytes)?;
-        map.extend_from_slice(&self.pairs).unwrap();
+        let Draft { bytes, pairs, .. } = self;
+        if map.is_empty() {
+            encoder.raw(bytes.as_slice())?;
+            *map = pairs;
+            return Ok(());
+        }
+        map.reserve(pairs.len())?;
+        encoder.raw(&bytes)?;
+        map.extend_from_slice(&pairs).unwrap();
         Ok(())
     }
 

@@ -475,6 +475,15 @@ fn first_scopes(builder: &FunctionBuilder, entry: InstrSeqId) -> Result<Scopes, 
     Ok(scopes)
 }
 
+/// How many instructions all sequences have.
+fn instr_count(builder: &FunctionBuilder) -> usize {
+    let mut count = 0usize;
+    for slot in 0..builder.count() {
+        count = count.saturating_add(builder.seq(InstrSeqId::new(slot)).len());
+    }
+    count
+}
+
 /// Writes the tree of the function from a sequence on, aside. `base` is the number of bytes before
 /// it.
 ///
@@ -510,7 +519,7 @@ fn draft_tree(
         numbers: *numbers,
         locals,
         scopes,
-        draft: Draft::new(builder.allocator(), base, has_map),
+        draft: Draft::new(builder.allocator(), base, has_map, instr_count(builder)),
     };
     match dfs_in_order(&mut visitor, builder, entry) {
         Ok(()) => {

@@ -48,6 +48,7 @@ fn count_handlers(clauses: &[LegacyCatch]) -> usize
 }
 
 /// The number of sequences inside an instruction.
+#[inline(always)]
 pub(crate) fn count_inside(instr: &Instr) -> usize
     ensures { result ≡ length (slots_in instr.now) }
 {

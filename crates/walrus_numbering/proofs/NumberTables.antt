@@ -1,25 +1,36 @@
 -- The numbers of a function's locals in a table by id.
-use Rattle.std.proofs.Common.{◌≡◌, ℕ, zero, suc, ◌+◌, List, [], ◌∷◌, ◌++◌, length, Option, Some, slice_get, ap, ◌∙◌, arith}
+use Rattle.std.proofs.Common.{◌≡◌, ◌⊎◌, ℕ, zero, suc, List, [], ◌++◌, Option, Some, None, slice_get, replicate, take, inl, inr, sym, ap, ◌∙◌, arith}
+use Rattle.std.proofs.lemmas.List.{take_all}
+use Rattle.std.specs.List.{All}
+use Rattle.std.specs.Map.{lookup}
 use Rattle.std.specs.Option.{option_flatten}
+use Rattle.walrus_maps.proofs.EntryMaps.{same_id, get-entries}
 use Rattle.walrus_numbering.specs.EmittedLocals.{number_in}
 use Rattle.walrus_numbering.specs.NumberTables.{HasNumbers}
 
--- The numbers of the ids from this one on, as many as are listed. A local that has no number in the map has none in the list.
-abbrev pub AreNumbers : List (ℕ × ℕ) → (first : ℕ) → List (Option ℕ) → Type 0
-AreNumbers entries first [] = Unit {0}
-AreNumbers entries first (n ∷ ns) = (number_in entries first ≡ n) × AreNumbers entries (suc first) ns
+-- each entry has the number of its id
+pub are_numbered : (es : List (ℕ × ℕ)) → All (λ e. lookup (same_id e.0) es ≡ Some e.1) es → All (λ e. number_in es e.0 ≡ Some e.1) es
+are_numbered es found k d within = get-entries es _ ∙ found k d within
 
--- one more
-pub numbers_more : (entries : List (ℕ × ℕ)) (first : ℕ) (ns : List (Option ℕ)) (n : Option ℕ) (id : ℕ) → AreNumbers entries first ns
-    → id ≡ first + length ns → number_in entries id ≡ n → AreNumbers entries first (ns ++ n ∷ [])
-numbers_more entries first [] n id are next is = (ap (number_in entries) (omega (arith, next)) ∙ is, tt)
-numbers_more entries first (m ∷ ms) n id are next is = (are.0, numbers_more entries (suc first) ms n id are.1 (omega (arith, next)) is)
+-- a table without numbers
+no_number : (P : Type 0) (m id n : ℕ) → option_flatten (slice_get (replicate m None) id) ≡ Some n → P
+no_number P zero id n found = absurd cc
+no_number P (suc m) zero n found = absurd cc
+no_number P (suc m) (suc id) n found = no_number P m id n found
 
-number_found : (entries : List (ℕ × ℕ)) (first : ℕ) (ns : List (Option ℕ)) (i id n : ℕ) → AreNumbers entries first ns → id ≡ first + i
-    → option_flatten (slice_get ns i) ≡ Some n → number_in entries id ≡ Some n
-number_found entries first [] i id n are is found = absurd cc
-number_found entries first (m ∷ ms) zero id n are is found = ap (number_in entries) (omega (arith, is)) ∙ are.0 ∙ found
-number_found entries first (m ∷ ms) (suc i) id n are is found = number_found entries (suc first) ms i id n are.1 (omega (arith, is)) found
+pub none_there_yet : (es : List (ℕ × ℕ)) (count : ℕ) (before table : List (Option ℕ)) (m : ℕ) → before ≡ [] → table ≡ take count before ++ replicate m None
+    → HasNumbers es table
+none_there_yet es count before table m empty is id n found =
+    let blank = is ∙ (ap (λ xs. take count xs ++ replicate m None) empty ∙ ap (λ xs. xs ++ replicate m None) (take_all count [] (omega arith))) in
+    no_number (number_in es id ≡ Some n) m id n (ap (λ xs. option_flatten (slice_get xs id)) (sym blank) ∙ found)
 
-pub has_numbers : (entries : List (ℕ × ℕ)) (ns : List (Option ℕ)) → AreNumbers entries 0 ns → HasNumbers entries ns
-has_numbers entries ns are id n found = number_found entries 0 ns id id n are (omega arith) found
+-- a number that is put into the table
+put_one : (es : List (ℕ × ℕ)) (old : List (Option ℕ)) (k v id n : ℕ) → number_in es k ≡ Some v → HasNumbers es old
+    → ((id ≡ k) × (n ≡ v)) ⊎ (option_flatten (slice_get old id) ≡ Some n) → number_in es id ≡ Some n
+put_one es old k v id n is has (inl same) = ap (number_in es) same.0 ∙ (is ∙ ap Some (sym same.1))
+put_one es old k v id n is has (inr there) = has id n there
+
+pub number_put : (es : List (ℕ × ℕ)) (old new : List (Option ℕ)) (k v : ℕ) → number_in es k ≡ Some v → HasNumbers es old
+    → ((id n : ℕ) → option_flatten (slice_get new id) ≡ Some n → ((id ≡ k) × (n ≡ v)) ⊎ (option_flatten (slice_get old id) ≡ Some n))
+    → HasNumbers es new
+number_put es old new k v is has put id n found = put_one es old k v id n is has (put id n found)

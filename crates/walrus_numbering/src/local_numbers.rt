@@ -36,12 +36,16 @@ fn saturated_number(place: usize) -> u32
 }
 
 /// The number of each argument: its last position. A position that doesn't fit 32 bits is cut, so
-/// that the map still has all arguments.
-fn number_arguments(alloc: Global, args: &[LocalId]) -> Result<IdHashMap<LocalId, u32>, AllocError>
+/// that the map still has all arguments. The map has room for so many locals.
+fn number_arguments(
+    alloc: Global,
+    args: &[LocalId],
+    room: usize,
+) -> Result<IdHashMap<LocalId, u32>, AllocError>
     ensures { IfOk result (λ numbers. (id : ℕ)
         → number_in numbers.entries id ≡ option_map saturated (last_place args.now id)) }
 {
-    let mut numbers = IdHashMap::new(alloc);
+    let mut numbers = IdHashMap::with_capacity(alloc, room)?;
     for (place, id) in args.iter().enumerate() {
         numbers.insert(*id, saturated_number(place))?;
     }
@@ -227,7 +231,7 @@ pub fn emit_locals(
     ensures err { IfErr result (IsNotDeclared (numbers_by «module».now.types indices.now [])
         «module».now.locals args.now (contains (λ x y. x == y) used.now)) }
 {
-    let mut numbers = number_arguments(alloc, args)?;
+    let mut numbers = number_arguments(alloc, args, args.len().saturating_add(used.len()))?;
     let others = match declared_locals(alloc, &module.locals, args, &numbers, used) {
         Ok(others) => others,
         Err(fault) => return Err(fault),

@@ -1,7 +1,6 @@
 //! The numbers of a function's locals in a table by id, for small ids.
-ghost use Rattle.std.specs.Prelude.{◌≡◌, IfOk, slice_get};
+ghost use Rattle.std.specs.Prelude.{◌≡◌, ◌⊎◌, ℕ, Some, IfOk, slice_get};
 ghost use Rattle.std.specs.Option.{option_flatten};
-ghost use Rattle.walrus_numbering.specs.EmittedLocals.{number_in};
 ghost use Rattle.walrus_numbering.specs.NumberTables.{HasNumbers};
 
 use std::alloc::{AllocError, Global};
@@ -21,11 +20,15 @@ fn table_len(numbers: &IdHashMap<LocalId, u32>) -> usize {
         .min(count)
 }
 
-/// The number of a local, if it has one.
-fn number_of(numbers: &IdHashMap<LocalId, u32>, local: LocalId) -> Option<u32>
-    ensures { result ≡ number_in numbers.now.entries local }
+/// Puts the number of a local into a table, if the table has its id.
+fn set_number(table: &mut Vec<Option<u32>>, local: LocalId, number: u32)
+    ensures { (id n : ℕ) → option_flatten (slice_get table.new.items id) ≡ Some n
+        → ((id ≡ local) × (n ≡ number))
+        ⊎ (option_flatten (slice_get table.old.items id) ≡ Some n) }
 {
-    numbers.get(&local).copied()
+    if local.index() < table.len() {
+        table[local.index()] = Some(number);
+    }
 }
 
 /// The numbers of the locals with the first ids, by id.
@@ -35,10 +38,10 @@ pub fn number_table(
 ) -> Result<Vec<Option<u32>>, AllocError>
     ensures { IfOk result (λ table. HasNumbers numbers.now.entries table.items) }
 {
-    let count = table_len(numbers);
-    let mut table = Vec::with_capacity(alloc, count)?;
-    for index in 0..count {
-        table.push(number_of(numbers, LocalId::new(index)))?;
+    let mut table = Vec::new(alloc);
+    table.resize(table_len(numbers), None)?;
+    for (id, number) in numbers.iter() {
+        set_number(&mut table, *id, *number);
     }
     Ok(table)
 }

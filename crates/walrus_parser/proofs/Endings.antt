@@ -24,8 +24,8 @@ use Rattle.walrus_parser.specs.Advancing.{ParseState, Keeps, occurrence, Advance
 use Rattle.walrus_context.specs.Keeping.{IsWithin, Holds}
 use Rattle.walrus_context.specs.OpenConstructs.{kind_in}
 use Rattle.walrus_context.specs.OpenFrames.{OpenFrame, new_frame, changed_at, marked_dead, with_instr}
-use Rattle.walrus_context.specs.OpenTrees.{OpenTrees, Pops, Opens, EndsAt, env_of}
-use Rattle.walrus_parser.specs.BodyParsers.{AddsEmpty, AppendsIf, HasNoIf, either, if_else, state_with, with_appended}
+use Rattle.walrus_context.specs.OpenTrees.{OpenTrees, Pops, Opens, EndsAt, env_of, AddsEmpty}
+use Rattle.walrus_parser.specs.BodyParsers.{AppendsIf, HasNoIf, either, if_else, state_with, with_appended}
 use Rattle.walrus_parser.proofs.Constructs.{grown_at}
 use Rattle.walrus_parser.proofs.ConstructKinds.{by_if, by_else}
 use Rattle.walrus_parser.proofs.Labels.{holds_length}
@@ -33,42 +33,6 @@ use Rattle.walrus_parser.proofs.Openings.{reverse_last}
 use Rattle.walrus_parser.proofs.NextSequences.{seals_end, some_around}
 use Rattle.walrus_parser.proofs.Rules.{named_end}
 use Rattle.walrus_parser.proofs.Steps.{Seals, ended, chosen, chosen_alone, ends_body}
-
--- ---- an empty alternative
-
-last_set : (b : List InstrSeq) (x : InstrSeq) → slice_set (b ++ x ∷ []) (length b) x ≡ b ++ x ∷ []
-last_set [] x = refl
-last_set (y ∷ b) x = ap (λ c. y ∷ c) (last_set b x)
-
--- Opening a frame and closing it at once adds an empty sequence.
-opened_closed : (old mid new : OpenTrees) (t : InstrSeqType) (takes gives : List (ValType ℕ)) (id block : ℕ) (c : ControlFrame) → Opens old mid kind.Else t takes gives id → Pops mid new c block → AddsEmpty old new t id
-opened_closed old mid new t takes gives id block c o h =
-    let f = h.frame in
-    let xs = old.builder.sequences in
-    let x : InstrSeq = empty_sequence (length xs) t in
-    let g = new_frame kind.Else takes gives id in
-    let frames : f ∷ new.frames ≡ g ∷ old.frames = sym h.closes.frames ∙ ap (λ (z : OpenTrees). z.frames) o.is in
-    let first : f ≡ g = cc frames in
-    let rest : new.frames ≡ old.frames = cc frames in
-    let here : f.sequence ≡ length xs = ap (λ (z : OpenFrame). z.sequence) first ∙ o.is_next in
-    let grown : mid.builder.sequences ≡ xs ++ x ∷ [] = ap (λ (z : OpenTrees). z.builder.sequences) o.is in
-    let found : Some h.closes.was ≡ Some x = sym h.closes.before ∙ ap (slice_get mid.builder.sequences) here ∙ ap (λ b. slice_get b (length xs)) grown ∙ grown_at xs x in
-    let was : h.closes.was ≡ x = cc found in
-    let closed = λ (m : OpenTrees) (n : ℕ) (s : InstrSeq) (is : List _) (fs : List OpenFrame). record m { builder = with_sequence m.builder n (record s { instrs = is }); frames = fs } in
-    record {
-      is_next = o.is_next;
-      is = h.closes.is
-          ∙ (λ i. closed (o.is i) (here i) (was i) (first i).instrs (rest i))
-          ∙ ap (λ b. record old { builder = record old.builder { sequences = b } }) (last_set xs x);
-    }
-
-pub adds_empty : (old mid new : OpenTrees) (takes gives : List (ValType ℕ)) (id block : ℕ) (c : ControlFrame) → IsSomeAnd (existing old.module.types takes gives) (λ t. Opens old mid kind.Else t takes gives id) → Pops mid new c block →
-    IsSomeAnd (existing old.module.types takes gives) (λ t. AddsEmpty old new t id)
-adds_empty old mid new takes gives id block c o h = of_pick (existing old.module.types takes gives) o
-  where
-    of_pick : (p : Option InstrSeqType) → IsSomeAnd p (λ t. Opens old mid kind.Else t takes gives id) → IsSomeAnd p (λ t. AddsEmpty old new t id)
-    of_pick (Some t) q = opened_closed old mid new t takes gives id block c q h
-    of_pick None q = q
 
 -- ---- the frame of a construct is closed
 

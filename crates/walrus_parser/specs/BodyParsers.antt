@@ -72,11 +72,6 @@ pub record HasNoAlternative (p : BodyParser) (given : Option ℕ) : Type 0 where
 abbrev pub HasNoIf : BodyParser → Option ℕ → Type 0
 HasNoIf old alternative = (old.if_else.items ≡ []) ⊎ (HasNoAlternative old alternative ⊎ (old.context.frames ≡ []))
 
--- There is one more sequence, which has this type and is empty; nothing else changed.
-pub record AddsEmpty (old new : OpenTrees) (type : InstrSeqType) (id : ℕ) : Type 0 where
-  pub is_next : id ≡ length old.builder.sequences
-  pub is : new ≡ record old { builder = with_new_sequence old.builder type }
-
 -- It is still the parse of the same body.
 pub record IsSameBody (old new : OpenTrees) : Type 0 where
   pub env : env_of new ≡ env_of old

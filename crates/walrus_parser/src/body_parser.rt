@@ -16,8 +16,8 @@ ghost use Rattle.wasm_body.specs.InstructionTable.{operation_of, clauses_of_try}
 ghost use Rattle.wasm_body.specs.Naming.{entry_type_id as entry_type_of};
 ghost use Rattle.walrus_maps.specs.Environments.{environment_of};
 ghost use Rattle.walrus_context.specs.OpenFrames.{changed_at};
-ghost use Rattle.walrus_context.specs.OpenTrees.{env_of};
-ghost use Rattle.walrus_parser.specs.BodyParsers.{Begins, IsSameBody, Steps, with_alternative, AppendsIf, HasNoIf, AddsEmpty, Finishes, with_appended, placed_in};
+ghost use Rattle.walrus_context.specs.OpenTrees.{env_of, AddsEmpty};
+ghost use Rattle.walrus_parser.specs.BodyParsers.{Begins, IsSameBody, Steps, with_alternative, AppendsIf, HasNoIf, Finishes, with_appended, placed_in};
 
 use std::alloc::Global;
 use std::mem;
@@ -211,18 +211,7 @@ impl BodyParser<'_> {
             × (existing self.old.context.module.types start_types.now end_types.now ≡ None))) }
         ensures ifs { self.new.if_else ≡ self.old.if_else }
     {
-        let alternative = match self
-            .context
-            .push_control(BlockKind::Else, start_types, end_types)
-        {
-            Ok(alternative) => alternative,
-            Err(error) => return Err(error),
-        };
-        let (_frame, _block) = match self.context.pop_control() {
-            Ok(popped) => popped,
-            Err(error) => return Err(error),
-        };
-        Ok(alternative)
+        self.context.add_empty(start_types, end_types)
     }
 
     /// Takes an `end` that closes a construct.

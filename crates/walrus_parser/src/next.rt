@@ -5,7 +5,7 @@ ghost use Rattle.wasm_operators.specs.Meaning.{meaning};
 ghost use Rattle.wasm_encode.specs.Writable.{IsWritable};
 ghost use Rattle.wasm_body.specs.declared.error.ParseError.{ParseError as ParseFault};
 ghost use Rattle.wasm_body.specs.Parsing.Lists.{failure};
-ghost use Rattle.walrus_parser.specs.Checking.{fault_of, fault_of_refusal};
+ghost use Rattle.walrus_parser.specs.Checking.{Checks, placed_at, fault_of, fault_of_refusal};
 ghost use Rattle.walrus_parser.specs.Locating.{MayCall, Locates};
 ghost use Rattle.walrus_parser.specs.NextOperator.{AdmitsAs, IsAdmitted};
 ghost use Rattle.wasm_ops.specs.CommonOperators.{listed};
@@ -96,6 +96,65 @@ pub fn accepted_at<V: OpCheck, F: Fn(&usize) -> InstrLocId>(
         return Err(Refusal::PlaceTooGreat);
     };
     match validator.op(at, operator) {
+        Ok(()) => Ok(location),
+        Err(error) => Err(Refusal::Checked(error)),
+    }
+}
+
+/// Has the validator check a common operator. Each arm makes its own `Operator`, so that none is in
+/// memory where the validator is inlined and doesn't look at it.
+#[inline(always)]
+fn check_common<V: OpCheck>(
+    validator: &mut V,
+    at: usize,
+    common: CommonOperator,
+) -> Result<(), CheckError>
+    ensures { Checks V.check (V.state validator.old) (placed_at (meaning (listed common)) at)
+        result (V.state validator.new) }
+{
+    match common {
+        CommonOperator::LocalGet { local } => validator.op(at, &Operator::LocalGet { local }),
+        CommonOperator::LocalSet { local } => validator.op(at, &Operator::LocalSet { local }),
+        CommonOperator::LocalTee { local } => validator.op(at, &Operator::LocalTee { local }),
+        CommonOperator::I32Const { value } => validator.op(at, &Operator::I32Const { value }),
+        CommonOperator::I64Const { value } => validator.op(at, &Operator::I64Const { value }),
+        CommonOperator::Unop(op) => validator.op(at, &Operator::Unop(op)),
+        CommonOperator::Binop(op) => validator.op(at, &Operator::Binop(op)),
+        CommonOperator::Load { kind, memarg } => {
+            validator.op(at, &Operator::Load { kind, memarg })
+        }
+        CommonOperator::Store { kind, memarg } => {
+            validator.op(at, &Operator::Store { kind, memarg })
+        }
+        CommonOperator::Call { func } => validator.op(at, &Operator::Call { func }),
+        CommonOperator::GlobalGet { global } => validator.op(at, &Operator::GlobalGet { global }),
+        CommonOperator::GlobalSet { global } => validator.op(at, &Operator::GlobalSet { global }),
+        CommonOperator::Br { label } => validator.op(at, &Operator::Br { label }),
+        CommonOperator::BrIf { label } => validator.op(at, &Operator::BrIf { label }),
+        CommonOperator::Drop => validator.op(at, &Operator::Drop),
+    }
+}
+
+/// The location of a common operator that was read at this place, if the validator accepts it.
+#[inline(always)]
+pub fn accepted_common_at<V: OpCheck, F: Fn(&usize) -> InstrLocId>(
+    at: usize,
+    common: CommonOperator,
+    on_instr_pos: Option<&F>,
+    validator: &mut V,
+) -> Result<InstrLocId, Refusal>
+    requires { MayCall F.pre on_instr_pos at (at + 1) }
+    ensures ok { IfOk result (λ _. IsAdmitted on_instr_pos.entry V.check (V.state validator.old)
+        (V.state validator.new) at (meaning (listed common))) }
+    ensures located { IfOk result (λ location. Locates F.Fn on_instr_pos.entry at location) }
+    ensures err { IfErr result (λ r. (fault_of_refusal r ≡ ParseFault.Memory)
+        ⊎ AdmitsAs on_instr_pos.entry V.check (V.state validator.old) at (meaning (listed common))
+        (λ rest. Err (fault_of_refusal r))) }
+{
+    let Some(location) = location_at(on_instr_pos, at) else {
+        return Err(Refusal::PlaceTooGreat);
+    };
+    match check_common(validator, at, common) {
         Ok(()) => Ok(location),
         Err(error) => Err(Refusal::Checked(error)),
     }

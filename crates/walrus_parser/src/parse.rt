@@ -15,11 +15,11 @@ ghost use Rattle.walrus_parser.specs.Bodies.{input_of, operators_input, ParsesOp
 
 use crate::body_parser::BodyParser;
 use crate::check::OpCheck;
-use crate::next::{accepted_at, failure, read_common, read_other, refused};
+use crate::next::{accepted_at, accepted_common_at, failure, read_common, read_other, refused};
 use std::alloc::Global;
 use walrus_context::try_push;
 use walrus_ir::{FunctionBuilder, FunctionId, Instr, InstrLocId, Module, TypeId};
-use walrus_maps::IndicesToIds;
+use walrus_maps::{IndicesToIds, list_with_room};
 use wasm_body::{ParseError, ParseFailure};
 use wasm_ops::{CommonOperator, Operator, Reader};
 
@@ -51,6 +51,10 @@ impl ParsedOperators {
     }
 }
 
+/// For how many places room is made at most before the first operator is read: for five in eight
+/// bytes, since an operator takes some two bytes.
+const MOST_ROOM: usize = 1 << 14;
+
 /// Takes a common operator that was read at this place.
 #[inline(always)]
 fn take_common<V: OpCheck, F: Fn(&usize) -> InstrLocId>(
@@ -72,7 +76,7 @@ fn take_common<V: OpCheck, F: Fn(&usize) -> InstrLocId>(
         ⊎ RefusesNext on_instr_pos.entry V.check (V.state validator.old) at
         (meaning (listed common)) parser.old f.error)) }
 {
-    let location = match accepted_at(at, &common.operator(), on_instr_pos, validator) {
+    let location = match accepted_common_at(at, common, on_instr_pos, validator) {
         Ok(location) => location,
         Err(refusal) => return Err(refused(refusal, at)),
     };
@@ -102,7 +106,8 @@ fn parse_operators<V: OpCheck, F: Fn(&usize) -> InstrLocId>(
     ensures { ParsesOperators F.Fn (operators_input (env_of parser.entry.context) reader.old
         code_offset on_instr_pos.entry V.check (V.state validator)) result }
 {
-    let mut instruction_mapping = Vec::new(alloc);
+    let room = (reader.bytes_remaining() / 8 * 5).min(MOST_ROOM);
+    let mut instruction_mapping = list_with_room(alloc, room);
     while !reader.eof() {
         let at = reader.original_position();
         if let Some(common) = read_common(reader) {

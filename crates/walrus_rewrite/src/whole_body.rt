@@ -34,6 +34,26 @@ pub(crate) fn append_both(
     Ok(())
 }
 
+/// The same with lists that aren't needed otherwise. If both lists are empty they become these.
+fn append_lists(
+    dst: &mut Vec<u8>,
+    map: &mut Vec<(InstrLocId, usize)>,
+    bytes: Vec<u8>,
+    pairs: Vec<(InstrLocId, usize)>,
+) -> Result<(), AllocError>
+    ensures bytes { OnOk result (dst.new.items ≡ dst.old.items ++ bytes.items) }
+    ensures pairs { OnOk result (map.new.items ≡ map.old.items ++ pairs.items) }
+    ensures same_bytes { OnErr result (dst.new.items ≡ dst.old.items) }
+    ensures same_pairs { OnErr result (map.new.items ≡ map.old.items) }
+{
+    if dst.is_empty() && map.is_empty() {
+        *dst = bytes;
+        *map = pairs;
+        return Ok(());
+    }
+    append_both(dst, map, &bytes, &pairs)
+}
+
 /// Appends the raw body of a function.
 ///
 /// # Errors
@@ -99,7 +119,7 @@ pub fn append_raw_body_with_map(
     let mut pairs = Vec::new(alloc);
     let used = &facts.used_locals;
     match raw_body_with_map(alloc, function, used, module, indices, &mut pairs) {
-        Ok(bytes) => Ok(append_both(dst, map, &bytes, &pairs)?),
+        Ok(bytes) => Ok(append_lists(dst, map, bytes, pairs)?),
         Err(fault) => Err(RewriteError::Emit(fault)),
     }
 }

@@ -3,6 +3,7 @@ pub mod NumberLemmas
 pub mod Leaving
 -- declarations of locals, group by group; indices of locals, one more at a time
 pub mod LocalLemmas
+pub mod LaneLocals
 pub mod SpaceLemmas
 -- the parts of a module that don't change; the contracts of `rewrite_body` and `parse` for one body, rewritten or refused
 pub mod ModuleLemmas

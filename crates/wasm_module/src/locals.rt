@@ -148,6 +148,40 @@ pub(crate) fn arguments(alloc: Global, count: usize) -> Result<Vec<LocalId>, Mod
 #[derive(Clone, Copy, Debug, Drop)]
 pub(crate) struct LocalsBelow(pub usize);
 
+impl LocalsBelow {
+    ghost use Rattle.std.specs.Prelude.{◌≡◌, ◌<◌, ◌≤◌, ℕ, OnOk, IfErr};
+    ghost use Rattle.wasm_operators.specs.Meaning.{meaning};
+    ghost use Rattle.walrus_parser.specs.Checking.{Checks, placed_at};
+    ghost use Rattle.walrus_parser.specs.declared.check.CheckError.TheVariants.{Refused};
+    ghost use Rattle.wasm_module.specs.LocalsBelow.{locals_below};
+
+    /// Checks a local that an operator names.
+    #[inline(always)]
+    fn check_local(&self, index: u32) -> Result<(), CheckError>
+        ensures ok { OnOk result (index < self.now.0) }
+        ensures refused { IfErr result (λ e. (e ≡ Refused 0) × (self.now.0 ≤ index)) }
+    {
+        if (index as usize) < self.0 {
+            Ok(())
+        } else {
+            Err(CheckError::Refused(0))
+        }
+    }
+
+    /// Checks an operator of any kind by its immediates.
+    #[inline(never)]
+    fn check_any(&self, op: &Operator<'_>) -> Result<(), CheckError>
+        ensures { (place : ℕ) → Checks locals_below self.now.0 (placed_at (meaning op.now) place)
+            result self.now.0 }
+    {
+        let (_, immediates) = op.parts();
+        match immediates {
+            Immediates::Local(local) => self.check_local(local),
+            _ => Ok(()),
+        }
+    }
+}
+
 impl OpCheck for LocalsBelow {
     ghost use Rattle.std.specs.Prelude.{ℕ};
     ghost use Rattle.wasm_module.specs.LocalsBelow.{locals_below};
@@ -158,11 +192,26 @@ impl OpCheck for LocalsBelow {
 
     ghost check = { locals_below };
 
+    #[inline(always)]
+    #[tactic(auto, using(crate::proofs::LaneLocals::no_unary_local, crate::proofs::LaneLocals::no_binary_local))]
     fn op(&mut self, _pos: usize, op: &Operator<'_>) -> Result<(), CheckError> {
-        let (_, immediates) = op.parts();
-        match immediates {
-            Immediates::Local(local) if local as usize >= self.0 => Err(CheckError::Refused(0)),
-            _ => Ok(()),
+        match op {
+            Operator::LocalGet { local } => self.check_local(*local),
+            Operator::LocalSet { local } => self.check_local(*local),
+            Operator::LocalTee { local } => self.check_local(*local),
+            Operator::I32Const { .. } => Ok(()),
+            Operator::I64Const { .. } => Ok(()),
+            Operator::Unop(_) => Ok(()),
+            Operator::Binop(_) => Ok(()),
+            Operator::Load { .. } => Ok(()),
+            Operator::Store { .. } => Ok(()),
+            Operator::Call { .. } => Ok(()),
+            Operator::GlobalGet { .. } => Ok(()),
+            Operator::GlobalSet { .. } => Ok(()),
+            Operator::Br { .. } => Ok(()),
+            Operator::BrIf { .. } => Ok(()),
+            Operator::Drop => Ok(()),
+            _ => self.check_any(op),
         }
     }
 }

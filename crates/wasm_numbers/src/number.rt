@@ -250,7 +250,7 @@ pub fn read_s64(bytes: &[u8]) -> Result<(i64, &[u8]), ReadFault>
 /// the same as a `u32` and as a `u64`.
 #[inline(always)]
 #[tactic(auto, using(crate::proofs::Powers::powers), unfolding(crate::specs::Numbers::integer))]
-pub fn read_short_unsigned(bytes: &[u8]) -> Option<(u32, &[u8])>
+fn read_short_unsigned(bytes: &[u8]) -> Option<(u32, &[u8])>
     ensures short { IfSome result (λ x. a_u32 bytes.now ≡ Ok (x.0, x.1.now)) }
     ensures long { IfSome result (λ x. a_u64 bytes.now ≡ Ok (x.0, x.1.now)) }
 {
@@ -328,7 +328,7 @@ fn read_short_signed(bytes: &[u8]) -> Option<(i64, &[u8])>
 /// Reads an `s32` of up to three bytes at the front, if there is one (WebAssembly core
 /// specification 3.0, binary format, values). Returns it and the bytes that follow.
 #[inline(always)]
-pub fn read_short_s32(bytes: &[u8]) -> Option<(i32, &[u8])>
+fn read_short_s32(bytes: &[u8]) -> Option<(i32, &[u8])>
     ensures { IfSome result (λ x. an_s32 bytes.now ≡ Ok (x.0, x.1.now)) }
 {
     let (value, rest) = read_short_signed(bytes)?;
@@ -338,10 +338,98 @@ pub fn read_short_s32(bytes: &[u8]) -> Option<(i32, &[u8])>
 /// Reads an `s64` of up to three bytes at the front, if there is one (WebAssembly core
 /// specification 3.0, binary format, values). Returns it and the bytes that follow.
 #[inline(always)]
-pub fn read_short_s64(bytes: &[u8]) -> Option<(i64, &[u8])>
+fn read_short_s64(bytes: &[u8]) -> Option<(i64, &[u8])>
     ensures { IfSome result (λ x. an_s64 bytes.now ≡ Ok (x.0, x.1.now)) }
 {
     read_short_signed(bytes)
+}
+
+#[inline(never)]
+fn long_u32_at_front(bytes: &[u8]) -> Option<(u32, &[u8])>
+    ensures { IfSome result (λ x. a_u32 bytes.now ≡ Ok (x.0, x.1.now)) }
+{
+    match read_u32_of_any_length(bytes) {
+        Ok((value, rest)) => Some((value, rest)),
+        Err(_) => None,
+    }
+}
+
+/// The `u32` at the front, if there is one, and the bytes that follow (WebAssembly core
+/// specification 3.0, binary format, values). Fastest for up to three bytes.
+#[inline(always)]
+pub fn u32_at_front(bytes: &[u8]) -> Option<(u32, &[u8])>
+    ensures { IfSome result (λ x. a_u32 bytes.now ≡ Ok (x.0, x.1.now)) }
+{
+    match read_short_unsigned(bytes) {
+        Some((value, rest)) => Some((value, rest)),
+        None => long_u32_at_front(bytes),
+    }
+}
+
+#[inline(never)]
+fn long_u64_at_front(bytes: &[u8]) -> Option<(u64, &[u8])>
+    ensures { IfSome result (λ x. a_u64 bytes.now ≡ Ok (x.0, x.1.now)) }
+{
+    match read_u64_of_any_length(bytes) {
+        Ok((value, rest)) => Some((value, rest)),
+        Err(_) => None,
+    }
+}
+
+/// The `u64` at the front, if there is one, and the bytes that follow (WebAssembly core
+/// specification 3.0, binary format, values). Fastest for up to three bytes.
+#[inline(always)]
+pub fn u64_at_front(bytes: &[u8]) -> Option<(u64, &[u8])>
+    ensures { IfSome result (λ x. a_u64 bytes.now ≡ Ok (x.0, x.1.now)) }
+{
+    match read_short_unsigned(bytes) {
+        Some((value, rest)) => Some((value as u64, rest)),
+        None => long_u64_at_front(bytes),
+    }
+}
+
+#[inline(never)]
+fn long_s32_at_front(bytes: &[u8]) -> Option<(i32, &[u8])>
+    ensures { IfSome result (λ x. an_s32 bytes.now ≡ Ok (x.0, x.1.now)) }
+{
+    match read_s32_of_any_length(bytes) {
+        Ok((value, rest)) => Some((value, rest)),
+        Err(_) => None,
+    }
+}
+
+/// The `s32` at the front, if there is one, and the bytes that follow (WebAssembly core
+/// specification 3.0, binary format, values). Fastest for up to three bytes.
+#[inline(always)]
+pub fn s32_at_front(bytes: &[u8]) -> Option<(i32, &[u8])>
+    ensures { IfSome result (λ x. an_s32 bytes.now ≡ Ok (x.0, x.1.now)) }
+{
+    match read_short_s32(bytes) {
+        Some((value, rest)) => Some((value, rest)),
+        None => long_s32_at_front(bytes),
+    }
+}
+
+#[inline(never)]
+fn long_s64_at_front(bytes: &[u8]) -> Option<(i64, &[u8])>
+    ensures { IfSome result (λ x. an_s64 bytes.now ≡ Ok (x.0, x.1.now)) }
+{
+    match read_s64_of_any_length(bytes) {
+        Ok((value, rest)) => Some((value, rest)),
+        Err(_) => None,
+    }
+}
+
+/// The `s64` at the front, if there is one, and the bytes that follow (WebAssembly core
+/// specification 3.0, binary format, values). Fastest for up to three bytes.
+#[inline(always)]
+pub fn s64_at_front(bytes: &[u8]) -> Option<(i64, &[u8])>
+    ensures { IfSome result (λ x. an_s64 bytes.now ≡ Ok (x.0, x.1.now)) }
+{
+    match read_short_s64(bytes) {
+        Some((value, rest)) => Some((value, rest)),
+        None => long_s64_at_front(bytes),
+    }
 }
 
 /// Reads a byte at the front. Returns it and the bytes that follow.

@@ -7,7 +7,7 @@ ghost use Rattle.wasm_operators.specs.AccessOperations.{load_opcode, store_opcod
 
 use walrus_ir::ExtendedLoad::{SignExtend, ZeroExtend};
 use walrus_ir::{LoadKind, StoreKind};
-use wasm_numbers::{ReadFault, read_short_unsigned, read_u32, read_u64};
+use wasm_numbers::{ReadFault, read_u32, read_u64, u64_at_front};
 use wasm_operators::{Opcode, RawMemArg};
 
 /// The exponent that flags contain, and whether the index of a memory follows.
@@ -37,8 +37,8 @@ fn read_memory(flags: (u32, bool), bytes: &[u8]) -> Result<(u32, &[u8]), ReadFau
     }
 }
 
-/// Reads a memory argument at the front if its memory is 0, its flags have one byte and its offset
-/// has at most three bytes. Returns it and the bytes that follow.
+/// Reads a memory argument at the front if its memory is 0 and its flags have one byte. Returns it
+/// and the bytes that follow.
 #[inline(always)]
 #[tactic(auto, using(wasm_numbers::proofs::Powers::powers), unfolding(wasm_operators::specs::Immediates::memory_access, wasm_numbers::specs::Numbers::integer))]
 pub(crate) fn read_short_memarg(bytes: &[u8]) -> Option<(RawMemArg, &[u8])>
@@ -50,11 +50,11 @@ pub(crate) fn read_short_memarg(bytes: &[u8]) -> Option<(RawMemArg, &[u8])>
     if *flags >= 32 {
         return None;
     }
-    let (offset, rest) = read_short_unsigned(rest)?;
+    let (offset, rest) = u64_at_front(rest)?;
     let memarg = RawMemArg {
         exponent: *flags as u32,
         memory: 0,
-        offset: offset as u64,
+        offset,
     };
     Some((memarg, rest))
 }

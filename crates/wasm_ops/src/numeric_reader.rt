@@ -182,7 +182,7 @@ fn conversion(byte: u8) -> CommonOperator
 }
 
 /// The operator with an opcode from 0x45 to 0xc4: a numeric operator.
-#[inline(always)]
+#[inline(never)]
 pub(crate) fn numeric(byte: u8) -> CommonOperator
     requires low { 0x45 ≤ byte }
     requires high { byte ≤ 0xc4 }

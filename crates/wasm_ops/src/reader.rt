@@ -15,9 +15,7 @@ use crate::prefix_reader::{read_after_fc, read_after_fd};
 use crate::reference_reader::read_after_fb;
 use crate::type_reader::read_empty_block_type;
 use std::marker::Model;
-use wasm_numbers::{
-    ReadError, ReadFault, read_short_s32, read_short_s64, read_short_unsigned, read_u32,
-};
+use wasm_numbers::{ReadError, ReadFault, read_u32, s32_at_front, s64_at_front, u32_at_front};
 use wasm_operators::Operator;
 
 /// Reads the operator at the front. Returns it and the bytes that follow.
@@ -152,6 +150,13 @@ impl<'a> Reader<'a> {
         self.rest.is_empty()
     }
 
+    /// The number of the remaining bytes.
+    pub fn bytes_remaining(&self) -> usize
+        ensures { result ≡ length self.now.rest }
+    {
+        self.rest.len()
+    }
+
     /// The place of the first remaining byte.
     pub fn original_position(&self) -> usize
         ensures { result ≡ self.now.place }
@@ -219,8 +224,8 @@ impl<'a> Reader<'a> {
         }
     }
 
-    /// Reads the next operator if it is one of those that most code consists of, and its immediates
-    /// are short. If there is none, the reader doesn't move.
+    /// Reads the next operator if it is one of those that most code consists of. A memory argument's
+    /// memory is 0 then. If there is none, the reader doesn't move.
     #[inline(always)]
     #[tactic(auto, unfolding(wasm_operators::specs::Spelling::read_operation, wasm_operators::specs::Opcodes::opcode, wasm_operators::specs::Opcodes::kinds_of_byte))]
     pub fn read_common(&mut self) -> Option<CommonOperator>
@@ -249,14 +254,14 @@ impl<'a> Reader<'a> {
                 memarg => CommonOperator::Store { kind: store_kind(byte), memarg }
             ),
             0x41 => return_made!(
-                self, read_short_s32(rest), value => CommonOperator::I32Const { value }
+                self, s32_at_front(rest), value => CommonOperator::I32Const { value }
             ),
             0x42 => return_made!(
-                self, read_short_s64(rest), value => CommonOperator::I64Const { value }
+                self, s64_at_front(rest), value => CommonOperator::I64Const { value }
             ),
             0x45..=0xc4 => return_common!(self, numeric(byte), rest),
-            _ => {
-                if let Some((number, rest)) = read_short_unsigned(rest) {
+            0x0c..=0x24 => {
+                if let Some((number, rest)) = u32_at_front(rest) {
                     match byte {
                         0x0c => return_common!(self, CommonOperator::Br { label: number }, rest),
                         0x0d => return_common!(self, CommonOperator::BrIf { label: number }, rest),
@@ -290,6 +295,7 @@ impl<'a> Reader<'a> {
                     }
                 }
             }
+            _ => {}
         }
         None
     }

@@ -1,17 +1,33 @@
-use Rattle.std.proofs.Common.{length, ◌∷◌, [], ap, subst, sym, ◌∙◌, length-append, arith}
+use Rattle.std.proofs.Common.{◌≡◌, List, ℕ, Some, subst, sym, ◌∙◌}
+use Rattle.std.proofs.lemmas.List.Elements.{All-head, All-tail}
+use Rattle.std.proofs.lemmas.Map.Iter.{rest_more}
+use Rattle.std.specs.List.{All}
+use Rattle.std.specs.Map.Iter.{deref_pair}
 use Rattle.walrus_numbering.specs.EmittedLocals.{number_in}
-use Rattle.walrus_numbering.proofs.NumberTables.{AreNumbers, numbers_more, has_numbers}
+use Rattle.walrus_numbering.proofs.NumberTables.{are_numbered, none_there_yet, number_put}
 use Rattle.walrus_numbering.proofs.local_table.number_table.Goals as goal
 
-pub loop-index-preserved : goal.loop-index-preserved
-loop-index-preserved c =
+pub loop-id-init : goal.loop-id-init
+loop-id-init c =
     let es = c.args.numbers.now.entries in
-    let ns = c.loop-index.table.items in
-    let n = c.number_of.result in
-    let pushed = c.in_ok-push.ensures.items in
-    let is = ap (number_in es) (sym c.new.ensures) ∙ sym c.number_of.ensures in
-    let more = numbers_more es 0 ns n c.loop-index.index c.loop-index.invariant.0 (omega (arith, c.loop-index.invariant.1)) is in
-    (subst (AreNumbers es 0) (sym pushed) more, ap length pushed ∙ length-append ns (n ∷ []) ∙ omega (arith, c.loop-index.invariant.1))
+    let Numbered : List (ℕ × ℕ) → Type 0 = All (λ e. number_in es e.0 ≡ Some e.1) in (
+      tt,
+      tt,
+      subst Numbered (sym (c.into_iter-id-iterator.ensures.into_iter_gives ∙ c.iter-id-items.ensures.rest)) (are_numbered es c.iter-id-items.ensures.found),
+      none_there_yet es c.table_len.result c.new-table.result.items c.resize.new.self.items _ c.new-table.ensures.items c.in_ok-resize.ensures.items,
+    )
+
+pub loop-id-preserved : goal.loop-id-preserved
+loop-id-preserved c =
+    let es = c.args.numbers.now.entries in
+    let entry : ℕ × ℕ = (c.in-Some.id.now, c.in-Some.number.now) in
+    let first = rest_more deref_pair c.loop-id.id-iterator c.next.new.self c.next.result _ c.in-Some.is c.next.ensures.steps in
+    let numbered = subst (All (λ e. number_in es e.0 ≡ Some e.1)) first c.loop-id.invariant.2 in (
+      tt,
+      tt,
+      All-tail (λ e. number_in es e.0 ≡ Some e.1) entry c.next.new.self numbered,
+      number_put es c.loop-id.table.items c.set_number.new.table.items entry.0 entry.1 (All-head (λ e. number_in es e.0 ≡ Some e.1) entry c.next.new.self numbered) c.loop-id.invariant.3 c.set_number.ensures,
+    )
 
 pub returns : goal.returns
-returns c = has_numbers c.args.numbers.now.entries c.loop-index.table.items c.loop-index.invariant.0
+returns c = c.loop-id.invariant.3

@@ -1,7 +1,12 @@
--- The table has the numbers of the ids so far.
-use Rattle.std.proofs.Common.{◌≡◌, length}
-use Rattle.walrus_numbering.proofs.NumberTables.{AreNumbers}
+-- The remaining entries are those of the map, and the table has numbers of the map alone.
+use Rattle.std.proofs.Common.{◌≡◌, Some}
+use Rattle.std.specs.List.{All}
+use Rattle.walrus_numbering.specs.EmittedLocals.{number_in}
+use Rattle.walrus_numbering.specs.NumberTables.{HasNumbers}
 use Rattle.walrus_numbering.proofs.local_table.number_table.Given as goal
 
-abbrev pub invariant-loop-index : goal.invariant-loop-index
-invariant-loop-index l = AreNumbers l.numbers.entries 0 l.table.items × (length l.table.items ≡ l.index)
+abbrev pub invariant-loop-id : goal.invariant-loop-id
+invariant-loop-id l =
+    (goal.iterator-loop-id).can_next l.id-iterator × (goal.iterator-loop-id).is_finite l.id-iterator
+    × All (λ e. number_in l.numbers.entries e.0 ≡ Some e.1) l.id-iterator
+    × HasNumbers l.numbers.entries l.table.items

@@ -34,7 +34,7 @@ pub loop-reader-init : goal.loop-reader-init
 loop-reader-init g c =
     let a = c.args in
     let i = operators_input (env_of a.parser.context) a.reader.now a.code_offset a.on_instr_pos g.V.OpCheck.check (g.V.OpCheck.state a.validator) in
-    begins_parse g.F.Fn i a.parser c.new-instruction_mapping.result.items refl c.requires.fresh c.new-instruction_mapping.ensures.items
+    begins_parse g.F.Fn i a.parser c.list_with_room-instruction_mapping.result.items refl c.requires.fresh c.list_with_room-instruction_mapping.ensures
 
 pub accepted_at-requires : goal.accepted_at-requires
 accepted_at-requires g c =

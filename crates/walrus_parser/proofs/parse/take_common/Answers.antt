@@ -18,8 +18,7 @@ returns-in-Err-clause-err g c =
       ap (λ (f : ParseFailure). f.at) is,
       elim c.in-Err.ensures.err [
         | inl memory ↦ inl (error_is ∙ memory)
-        | inr refused ↦ inr (not_admitted (subst (λ (x : ParseError). AdmitsAs a.on_instr_pos g.V.OpCheck.check state a.at (meaning (listed a.common)) (λ rest. Err x)) (sym error_is)
-            (subst (λ (o : Listed). AdmitsAs a.on_instr_pos g.V.OpCheck.check state a.at (meaning o) (λ rest. Err e)) c.operator.ensures refused)))
+        | inr refused ↦ inr (not_admitted (subst (λ (x : ParseError). AdmitsAs a.on_instr_pos g.V.OpCheck.check state a.at (meaning (listed a.common)) (λ rest. Err x)) (sym error_is) refused))
       ],
     )
 
@@ -28,10 +27,10 @@ returns-in-Ok-step_common-clause-ok g c =
     let a = c.args in
     let check = g.V.OpCheck.check in
     let s = g.V.OpCheck.state a.validator.now in
-    let t = g.V.OpCheck.state c.accepted_at.new.validator in
+    let t = g.V.OpCheck.state c.accepted_common_at.new.validator in
     record {
       location = c.in-Ok.location;
-      is_admitted = subst (λ (o : Listed). IsAdmitted a.on_instr_pos check s t a.at (meaning o)) c.operator.ensures c.in-Ok.ensures.ok;
+      is_admitted = c.in-Ok.ensures.ok;
       is_located = c.in-Ok.ensures.located;
       adds_pair = c.try_push.ensures.done c.if-not-try_push.false;
       steps = c.in-Ok-step_common.ensures.step;
@@ -43,10 +42,10 @@ returns-in-Err-step_common-clause-err g c =
     let a = c.args in
     let check = g.V.OpCheck.check in
     let s = g.V.OpCheck.state a.validator.now in
-    let t = g.V.OpCheck.state c.accepted_at.new.validator in
+    let t = g.V.OpCheck.state c.accepted_common_at.new.validator in
     let o = meaning (listed a.common) in
     let is = c.failure-in-Err-step_common.ensures in
-    let admits : IsAdmitted a.on_instr_pos check s t a.at o = subst (λ (x : Listed). IsAdmitted a.on_instr_pos check s t a.at (meaning x)) c.operator.ensures c.in-Ok.ensures.ok in (
+    let admits : IsAdmitted a.on_instr_pos check s t a.at o = c.in-Ok.ensures.ok in (
       ap (λ (f : ParseFailure). f.at) is,
       inr (subst (λ (x : ParseError). RefusesNext a.on_instr_pos check s a.at o a.parser.now x) (sym (ap (λ (f : ParseFailure). f.error) is))
           (breaks_rule t c.in-Ok.location c.step_common.new.self admits c.in-Err-step_common.ensures.step)),

@@ -13,8 +13,8 @@ returns-in-Ok-raw_body_with_map-clause-ok c =
     let bytes = c.in-Ok-raw_body_with_map.bytes.items in
     let pairs = c.raw_body_with_map.new.map.items in
     let written = subst (λ l. Writes by used a.function.now.builder bytes (Some (l, pairs))) c.new-pairs.ensures.items c.in-Ok-raw_body_with_map.ensures.ok in
-    let bytes_after : c.append_both.new.dst.items ≡ a.dst.now.items ++ bytes = search rules in
-    let pairs_after : c.append_both.new.map.items ≡ a.map.now.items ++ pairs = search rules in
+    let bytes_after : c.append_lists.new.dst.items ≡ a.dst.now.items ++ bytes = search rules in
+    let pairs_after : c.append_lists.new.map.items ≡ a.map.now.items ++ pairs = search rules in
     record {
       raw = bytes;
       pairs = pairs;
