@@ -12,6 +12,8 @@ mod mappings;
 #[cfg(test)]
 mod tools;
 #[cfg(test)]
+mod views;
+#[cfg(test)]
 mod whole_modules;
 #[cfg(test)]
 mod words;

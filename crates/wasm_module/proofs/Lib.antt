@@ -9,6 +9,8 @@ pub mod SpaceLemmas
 pub mod ModuleLemmas
 pub mod RewritingLemmas
 pub mod RefusalLemmas
+-- the first section with an id
+pub mod ViewLemmas
 -- the bytes that are written, piece by piece: to a writer; one body after the other; new sections in their places; one section
 -- after the other
 pub mod WritingLemmas

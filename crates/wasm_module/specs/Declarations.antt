@@ -43,6 +43,14 @@ parameters_in (Some s) = s.parameters
 abbrev pub parameters_of : List ModuleType → (type : ℕ) → List (ValType ℕ)
 parameters_of types type = parameters_in (signature_of types type)
 
+abbrev pub results_in : Option Signature → List (ValType ℕ)
+results_in None = []
+results_in (Some s) = s.results
+
+-- the results of a function of this type
+abbrev pub results_of : List ModuleType → (type : ℕ) → List (ValType ℕ)
+results_of types type = results_in (signature_of types type)
+
 -- The bytes of a body begin with declarations, and these operators follow. The types of the function's locals are those of
 -- its parameters, and then those of the declarations.
 pub record HaveLocals (indices : IndicesToIds) (parameters : List (ValType ℕ)) (bytes operators : List ℕ) (locals : List (ValType ℕ)) : Type 0 where

@@ -7,8 +7,11 @@ pub mod Declarations
 -- rewritten (`Extends`), and a body that is parsed, rewritten or changed
 pub mod CodeSections
 pub mod RewrittenCode
--- why a body is refused
+-- the faults of errors of the crates below; why a body is refused
+pub mod Faults
 pub mod Refusals
--- sections and their ranks; the bytes that are written for a section and after it, and the module that is written
+-- sections and their ranks; the items of sections; the bytes that are written for a section and after it, and the module
+-- that is written
 pub mod Sections
+pub mod Views
 pub mod WrittenModules

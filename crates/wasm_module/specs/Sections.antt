@@ -1,6 +1,6 @@
 -- Sections (WebAssembly core specification 3.0, binary format, modules): each is an id, the size of its contents, and its
 -- contents.
-use Rattle.std.specs.Prelude.{◌≡◌, ◌-◌, ℕ, nat_lt, get_or, if◌then◌else◌, List, [], ◌∷◌, ◌++◌, length, Option, Some, None, Result, Ok, Err}
+use Rattle.std.specs.Prelude.{◌≡◌, ◌-◌, ℕ, ◌==◌, nat_lt, get_or, if◌then◌else◌, List, [], ◌∷◌, ◌++◌, length, Option, Some, None, Result, Ok, Err}
 use Rattle.wasm_numbers.specs.Numbers.{u32}
 use Rattle.wasm_operators.specs.Shortest.{short_number}
 use Rattle.wasm_module.specs.declared.fault.ModuleError.{ModuleError}
@@ -43,6 +43,15 @@ AreSections end text (s ∷ ss) = (following : List ℕ) × Begins end text s fo
 -- the file is a module with these sections
 abbrev pub IsModule : List ℕ → List SectionAt → Type 0
 IsModule file ss = (text : List ℕ) × (file ≡ preamble ++ text) × AreSections (length file) text ss
+
+-- The contents of a custom section begin with this name.
+abbrev pub BeginsWithName : (contents name : List ℕ) → Type 0
+BeginsWithName contents name = (following : List ℕ) × (u32 contents ≡ Ok (length name, name ++ following))
+
+-- the first of these sections that has this id, if there is one
+abbrev pub first_with : (id : ℕ) → List SectionAt → Option SectionAt
+first_with id [] = None
+first_with id (s ∷ ss) = if s.id == id then Some s else first_with id ss
 
 -- ---- their order
 

@@ -5,7 +5,7 @@ use crate::fault::{ModuleError, ModuleFault};
 use crate::input::Input;
 use crate::output::{write_bytes, write_number};
 use crate::parsed::ParsedModule;
-use crate::sections::{Section, SectionKind};
+use crate::sections::SectionKind;
 use std::alloc::Global;
 use walrus_ir::GlobalId;
 
@@ -24,18 +24,6 @@ fn with_item(alloc: Global, contents: &[u8], item: &[u8]) -> Result<Vec<u8>, Mod
 }
 
 impl<'a> ParsedModule<'a> {
-    /// The section of this kind, if there is one.
-    fn section(&self, kind: SectionKind) -> Result<Option<Section<'a>>, ModuleError> {
-        for section in self.sections()? {
-            match section {
-                Ok(section) if section.kind == kind => return Ok(Some(section)),
-                Ok(_) => {}
-                Err(error) => return Err(error),
-            }
-        }
-        Ok(None)
-    }
-
     /// Appends an item to the section of this kind, or to a new one.
     fn add_item(
         &self,

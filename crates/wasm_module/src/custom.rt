@@ -54,7 +54,7 @@ struct Follower<'a> {
 
 /// The parts of a name section that are changed along with the code.
 fn read_names<'a>(alloc: Global, section: &Section<'a>) -> Result<Follower<'a>, ModuleError> {
-    let (_, mut input) = section.name()?;
+    let (_, mut input) = section.named_input()?;
     let mut parts = Vec::new(alloc);
     let mut from = section.contents;
     // A subsection takes two bytes at least.
@@ -91,7 +91,7 @@ fn read_names<'a>(alloc: Global, section: &Section<'a>) -> Result<Follower<'a>, 
 
 /// A section with metadata of code, which is one part.
 fn read_metadata<'a>(alloc: Global, section: &Section<'a>) -> Result<Follower<'a>, ModuleError> {
-    let (_, input) = section.name()?;
+    let (_, input) = section.named_input()?;
     let mut parts = Vec::new(alloc);
     parts.push(Part {
         follows: Follows::Offsets,
@@ -256,7 +256,7 @@ pub struct Note<'a> {
 pub(crate) fn follows_code(section: &Section<'_>) -> bool
     ensures { IsTrue result → HasFollowedName section.now.contents.rest.now }
 {
-    match section.name() {
+    match section.named_input() {
         Ok((name, _)) => name == "name" || name.starts_with("metadata.code."),
         Err(_) => false,
     }
@@ -266,7 +266,7 @@ pub(crate) fn follows_code(section: &Section<'_>) -> bool
 pub(crate) fn holds_debug(section: &Section<'_>) -> bool
     ensures { IsTrue result → HasDebugName section.now.contents.rest.now }
 {
-    match section.name() {
+    match section.named_input() {
         Ok((name, _)) => {
             name == "sourceMappingURL"
                 || name == "external_debug_info"
@@ -280,7 +280,7 @@ pub(crate) fn holds_debug(section: &Section<'_>) -> bool
 pub(crate) fn names_source_map(section: &Section<'_>) -> bool
     ensures { IsTrue result → HasSourceMapName section.now.contents.rest.now }
 {
-    match section.name() {
+    match section.named_input() {
         Ok((name, _)) if name == "sourceMappingURL" => true,
         _ => false,
     }
@@ -340,7 +340,7 @@ impl<'a> Followers<'a> {
     }
 
     fn add(&mut self, alloc: Global, section: &Section<'a>) -> Result<(), ModuleError> {
-        let (name, _) = section.name()?;
+        let (name, _) = section.named_input()?;
         let read = if name == "name" {
             read_names(alloc, section)
         } else if name.starts_with("metadata.code.") {

@@ -6,6 +6,7 @@ ghost use Rattle.wasm_body.specs.declared.error.IndexError.TheVariants as index;
 ghost use Rattle.wasm_body.specs.declared.error.ParseError.TheVariants as parse;
 ghost use Rattle.wasm_module.specs.declared.fault.ModuleFault.TheVariants.{Memory};
 ghost use Rattle.walrus_rewrite.specs.Errors.{IsOutOfMemory};
+ghost use Rattle.wasm_module.specs.Faults.{index_fault, walk_fault};
 ghost use Rattle.wasm_module.specs.Refusals.{place_in_file};
 
 use std::alloc::{AllocError, AllocFailed};
@@ -161,7 +162,9 @@ impl fmt::Display for FaultName {
 
 impl ModuleFault {
     /// The fault of an index or an id in code that isn't found.
-    fn of_index(error: IndexError) -> ModuleFault {
+    fn of_index(error: IndexError) -> ModuleFault
+        ensures { result ≡ index_fault error }
+    {
         match error {
             IndexError::Memory => ModuleFault::Memory,
             IndexError::LocalOutOfRange { .. } => ModuleFault::LocalOutOfRange,
@@ -185,7 +188,8 @@ impl ModuleFault {
 
     /// The fault of a function that can't be walked over.
     fn of_walk(error: WalkError) -> ModuleFault
-        ensures { error ≡ walk.Memory → result ≡ Memory }
+        ensures fault { result ≡ walk_fault error }
+        ensures memory { error ≡ walk.Memory → result ≡ Memory }
     {
         match error {
             WalkError::Memory => ModuleFault::Memory,
@@ -217,7 +221,8 @@ impl ModuleFault {
 pub struct ModuleError {
     /// What is wrong.
     pub fault: ModuleFault,
-    /// The place: a byte offset from the start of the file. It is meaningless for `Memory`.
+    /// The place: a byte offset from the start of the file. It is meaningless for `Memory`, and 0 for
+    /// an error that was converted from one of a walk or of an index map.
     pub at: usize,
 }
 
@@ -313,5 +318,30 @@ impl<T: Drop> From<AllocFailed<T>> for ModuleError {
 
     fn from(_failed: AllocFailed<T>) -> ModuleError {
         ModuleError::MEMORY
+    }
+}
+
+/// The error of an index or an id in a function that isn't found, and of an index map that can't
+/// grow; the fault is that of code that contains the index. Its place is 0, since no place is known.
+impl From<IndexError> for ModuleError {
+    ghost from_gives = { λ cause error. (error.fault ≡ index_fault cause) × (error.at ≡ 0) };
+
+    fn from(error: IndexError) -> ModuleError {
+        ModuleError {
+            fault: ModuleFault::of_index(error),
+            at: 0,
+        }
+    }
+}
+
+/// The error of a function that can't be walked over. Its place is 0, since no place is known.
+impl From<WalkError> for ModuleError {
+    ghost from_gives = { λ cause error. (error.fault ≡ walk_fault cause) × (error.at ≡ 0) };
+
+    fn from(error: WalkError) -> ModuleError {
+        ModuleError {
+            fault: ModuleFault::of_walk(error),
+            at: 0,
+        }
     }
 }

@@ -173,8 +173,9 @@ impl<'a> Input<'a> {
 
     /// A vector of bytes: their number, and the bytes; the faults are those of `number` and `part`.
     pub fn bytes(&mut self) -> Result<&'a [u8], ModuleError>
-        ensures { IfOk result (λ bytes. a_u32 self.old.rest.now
+        ensures value { IfOk result (λ bytes. a_u32 self.old.rest.now
             ≡ Ok (length bytes.now, bytes.now ++ self.new.rest.now)) }
+        ensures same_end { self.new.end ≡ self.old.end }
     {
         let len = self.number()?;
         let part = self.part(len as usize)?;
@@ -183,8 +184,9 @@ impl<'a> Input<'a> {
 
     /// A name: a vector of bytes that is UTF-8; otherwise `BadName`, where the vector begins.
     pub fn name(&mut self) -> Result<&'a str, ModuleError>
-        ensures { IfOk result (λ name. a_u32 self.old.rest.now
+        ensures value { IfOk result (λ name. a_u32 self.old.rest.now
             ≡ Ok (length name.now, name.now ++ self.new.rest.now)) }
+        ensures same_end { self.new.end ≡ self.old.end }
     {
         let begin = *self;
         match str::from_utf8(self.bytes()?) {

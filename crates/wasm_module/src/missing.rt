@@ -3,7 +3,7 @@
 
 ghost use Rattle.std.specs.Prelude.{◌≡◌, IfErr};
 ghost use Rattle.wasm_module.specs.declared.fault.ModuleFault.TheVariants.{Memory};
-ghost use Rattle.wasm_module.specs.Declarations.{parameters_of};
+ghost use Rattle.wasm_module.specs.Declarations.{parameters_of, results_of};
 ghost use Rattle.wasm_module.specs.RewrittenCode.{Extends};
 
 use crate::code::Body;
@@ -16,11 +16,22 @@ use wasm_ops::{BlockType, Operator, Reader};
 
 impl<'a> ParsedModule<'a> {
     /// The parameters of functions of this type; none if it isn't a function type.
-    pub(crate) fn params(&self, ty: TypeId) -> &[ValType]
+    pub fn params(&self, ty: TypeId) -> &[ValType]
         ensures { result.now ≡ parameters_of self.now.«module».types ty }
     {
         if self.module.types.is_func(ty) {
             self.module.types.params(ty)
+        } else {
+            &[]
+        }
+    }
+
+    /// The results of functions of this type; none if it isn't a function type.
+    pub fn results(&self, ty: TypeId) -> &[ValType]
+        ensures { result.now ≡ results_of self.now.«module».types ty }
+    {
+        if self.module.types.is_func(ty) {
+            self.module.types.results(ty)
         } else {
             &[]
         }

@@ -183,7 +183,7 @@ impl<'a> ParsedModule<'a> {
         let mut input = section.contents;
         match section.kind {
             SectionKind::Custom => {
-                section.name()?;
+                section.named_input()?;
                 return Ok(());
             }
             SectionKind::Type => return self.read_types(input),

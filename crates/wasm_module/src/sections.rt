@@ -1,7 +1,7 @@
 //! Sections (WebAssembly core specification 3.0, binary format, modules).
-ghost use Rattle.std.specs.Prelude.{◌≡◌, ◌<◌, ◌++◌, length, Ok, IfOk, IfSome};
+ghost use Rattle.std.specs.Prelude.{◌≡◌, ◌<◌, ◌-◌, ◌++◌, length, Ok, IfOk, IfSome};
 ghost use Rattle.wasm_numbers.specs.Numbers.{u32};
-ghost use Rattle.wasm_module.specs.Sections.{preamble, section_at, Begins};
+ghost use Rattle.wasm_module.specs.Sections.{preamble, section_at, Begins, BeginsWithName};
 
 use crate::fault::{ModuleError, ModuleFault};
 use crate::input::Input;
@@ -132,21 +132,54 @@ pub struct Section<'a> {
 
 impl<'a> Section<'a> {
     /// Its contents, without its id and its size.
-    pub fn contents(&self) -> &'a [u8] {
+    pub fn contents(&self) -> &'a [u8]
+        ensures { result.now ≡ self.now.contents.rest.now }
+    {
         self.contents.rest()
     }
 
     /// The place of the first byte of its contents.
-    pub fn contents_at(&self) -> usize {
+    pub fn contents_at(&self) -> usize
+        ensures { result ≡ self.now.contents.end - length self.now.contents.rest.now }
+    {
         self.contents.at()
+    }
+
+    /// The name of a custom section.
+    ///
+    /// # Errors
+    ///
+    /// `Truncated`, `Read` or `BadName`; none for a custom section of a module that was read.
+    pub fn name(&self) -> Result<&'a str, ModuleError>
+        ensures { IfOk result (λ name. BeginsWithName self.now.contents.rest.now name.now) }
+    {
+        match self.named_input() {
+            Ok((name, _)) => Ok(name),
+            Err(error) => Err(error),
+        }
     }
 
     /// The name of a custom section, and the contents that follow it.
     ///
     /// # Errors
     ///
-    /// `Truncated`, `BadNumber` or `BadName`.
-    pub(crate) fn name(&self) -> Result<(&'a str, Input<'a>), ModuleError>
+    /// Those of `name`.
+    pub fn named_contents(&self) -> Result<(&'a str, &'a [u8]), ModuleError>
+        ensures { IfOk result (λ x. u32 self.now.contents.rest.now
+            ≡ Ok (length x.0.now, x.0.now ++ x.1.now)) }
+    {
+        match self.named_input() {
+            Ok((name, following)) => Ok((name, following.rest())),
+            Err(error) => Err(error),
+        }
+    }
+
+    /// The name of a custom section, and the contents that follow it.
+    ///
+    /// # Errors
+    ///
+    /// Those of `name`.
+    pub(crate) fn named_input(&self) -> Result<(&'a str, Input<'a>), ModuleError>
         ensures { IfOk result (λ x. u32 self.now.contents.rest.now
             ≡ Ok (length x.0.now, x.0.now ++ x.1.rest.now)) }
     {

@@ -1,0 +1,168 @@
+//! Views of a module that was read: its sections by kind, and the items in them. They take no
+//! memory.
+
+ghost use Rattle.std.specs.Prelude.{◌≡◌, List, length, option_map, Ok, IfOk};
+ghost use Rattle.wasm_numbers.specs.Numbers.{u32};
+ghost use Rattle.wasm_module.specs.Sections.{SectionAt, IsModule, first_with, id_of, section_at};
+ghost use Rattle.wasm_module.specs.Views.{HasItems, HasBodies, HasSomeItems};
+
+use crate::code::Bodies;
+use crate::exports::Exports;
+use crate::fault::ModuleError;
+use crate::functions::Functions;
+use crate::imports::Imports;
+use crate::input::Input;
+use crate::parsed::ParsedModule;
+use crate::sections::{Section, SectionKind, Sections};
+
+/// The items of a section that are left, and their number.
+#[derive(Clone, Copy)]
+pub(crate) struct Items<'a> {
+    pub left: Input<'a>,
+    pub count: u32,
+}
+
+impl<'a> Items<'a> {
+    /// The items of a section or a subsection with these contents, which begin with their number.
+    pub fn of_contents(contents: Input<'a>) -> Result<Items<'a>, ModuleError>
+        ensures count { IfOk result (λ items. u32 contents.entry.rest.now
+            ≡ Ok (items.count, items.left.rest.now)) }
+        ensures end { IfOk result (λ items. items.left.end ≡ contents.entry.end) }
+    {
+        let mut left = contents;
+        match left.number() {
+            Ok(count) => Ok(Items { left, count }),
+            Err(error) => Err(error),
+        }
+    }
+
+    /// No items.
+    pub fn none() -> Items<'static>
+        ensures { result.count ≡ 0 }
+    {
+        Items {
+            left: Input::new(&[]),
+            count: 0,
+        }
+    }
+}
+
+impl<'a> ParsedModule<'a> {
+    /// The section of this kind, if there is one. Of custom sections it is the first.
+    ///
+    /// # Errors
+    ///
+    /// None, since the sections were read before.
+    pub fn section(&self, kind: SectionKind) -> Result<Option<Section<'a>>, ModuleError>
+        ensures { (all : List SectionAt) → IsModule self.now.bytes.now all
+            → IfOk result (λ found. first_with (id_of kind) all ≡ option_map section_at found) }
+    {
+        let id = kind.id();
+        'sections: for section in Sections::new(self.bytes())? {
+            let section = section?;
+            let next = section.kind.id();
+            if next == id {
+                return Ok(Some(section));
+            }
+        }
+        Ok(None)
+    }
+
+    /// The items of the section of this kind; none if there is no such section.
+    fn items(&self, kind: SectionKind) -> Result<Items<'a>, ModuleError>
+        ensures { (all : List SectionAt) → IsModule self.now.bytes.now all
+            → IfOk result (λ items. HasItems (first_with (id_of kind) all) items) }
+    {
+        match self.section(kind) {
+            Ok(Some(section)) => Items::of_contents(section.contents),
+            Ok(None) => Ok(Items::none()),
+            Err(error) => Err(error),
+        }
+    }
+
+    /// The number of items of the section of this kind, with which its contents begin; 0 if there
+    /// is no such section. Items that are imported aren't counted, and of types it is the number of
+    /// recursive groups. For `Start` and `DataCount` it is the number in the section, and it says
+    /// nothing for `Custom`.
+    ///
+    /// # Errors
+    ///
+    /// None, since the sections were read before.
+    pub fn item_count(&self, kind: SectionKind) -> Result<u32, ModuleError>
+        ensures { (all : List SectionAt) → IsModule self.now.bytes.now all
+            → IfOk result (HasSomeItems (first_with (id_of kind) all)) }
+    {
+        match self.items(kind) {
+            Ok(items) => Ok(items.count),
+            Err(error) => Err(error),
+        }
+    }
+
+    /// The exports, in order.
+    ///
+    /// # Errors
+    ///
+    /// None, since the sections were read before.
+    pub fn exports(&self) -> Result<Exports<'a>, ModuleError>
+        ensures { (all : List SectionAt) → IsModule self.now.bytes.now all
+            → IfOk result (λ exports. HasItems (first_with 7 all) exports.items) }
+    {
+        match self.items(SectionKind::Export) {
+            Ok(items) => Ok(Exports { items }),
+            Err(error) => Err(error),
+        }
+    }
+
+    /// The imports, in order.
+    ///
+    /// # Errors
+    ///
+    /// None, since the sections were read before.
+    pub fn imports(&self) -> Result<Imports<'a>, ModuleError>
+        ensures { (all : List SectionAt) → IsModule self.now.bytes.now all
+            → IfOk result (λ imports. HasItems (first_with 2 all) imports.items) }
+    {
+        match self.items(SectionKind::Import) {
+            Ok(items) => Ok(Imports { items }),
+            Err(error) => Err(error),
+        }
+    }
+
+    /// The functions by index, each with its type, and with its body unless it is imported.
+    ///
+    /// # Errors
+    ///
+    /// None, since the sections were read before.
+    pub fn functions(&self) -> Result<Functions<'_, 'a>, ModuleError>
+        ensures types { IfOk result (λ s. s.types.now ≡ self.now.func_types.items) }
+        ensures total { IfOk result (λ s. s.total ≡ length self.now.func_types.items) }
+        ensures imported { IfOk result (λ s. s.imported ≡ self.now.imported) }
+        ensures bodies { (all : List SectionAt) → IsModule self.now.bytes.now all
+            → IfOk result (λ s. HasBodies (first_with 10 all) self.now.imported s.bodies) }
+    {
+        match self.code_bodies() {
+            Ok(bodies) => Ok(Functions {
+                types: self.func_types.as_slice(),
+                total: self.func_types.len(),
+                imported: self.imported(),
+                bodies,
+            }),
+            Err(error) => Err(error),
+        }
+    }
+
+    /// The bodies of the code section; none if there is no code section.
+    fn code_bodies(&self) -> Result<Bodies<'a>, ModuleError>
+        ensures { (all : List SectionAt) → IsModule self.now.bytes.now all
+            → IfOk result (HasBodies (first_with 10 all) self.now.imported) }
+    {
+        match self.section(SectionKind::Code) {
+            Ok(Some(section)) => match Bodies::of_section(section.contents, self.imported()) {
+                Ok((_, bodies)) => Ok(bodies),
+                Err(error) => Err(error),
+            },
+            Ok(None) => Ok(Bodies::none()),
+            Err(error) => Err(error),
+        }
+    }
+}
