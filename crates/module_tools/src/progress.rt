@@ -6,7 +6,7 @@ use std::cell::Cell;
 use std::rt::Clock;
 use std::time::{Duration, Instant};
 use walrus_body::LocalFunction;
-use wasm_module::{Body, BodyWriter, ModuleError, ParsedModule, Scratch};
+use wasm_module::{Body, BodyWriter, ModuleError, Needed, ParsedModule, Scratch};
 
 /// For how many milliseconds a run shows nothing.
 const FIRST: u64 = 2000;
@@ -124,10 +124,10 @@ impl<R: Eprint + Clock, B: BodyWriter> BodyWriter for Watched<'_, R, B> {
         &self,
         parsed: &mut ParsedModule<'a>,
         body: Body<'a>,
-        has_pairs: bool,
+        needed: Needed,
         scratch: &mut Scratch,
-    ) -> Result<LocalFunction, ModuleError> {
+    ) -> Result<Option<LocalFunction>, ModuleError> {
         self.progress.step();
-        self.bodies.write_body(parsed, body, has_pairs, scratch)
+        self.bodies.write_body(parsed, body, needed, scratch)
     }
 }

@@ -8,6 +8,6 @@ mod segments;
 mod sizes;
 
 pub use facts::{EmitFacts, FactsVisitor, law_facts};
-pub use marking::emit_facts;
+pub use marking::{emit_facts, is_marked, mark};
 pub use segments::{DataSegmentsVisitor, used_data_segments};
 pub use sizes::{SizeVisitor, size};

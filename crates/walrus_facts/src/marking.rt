@@ -15,9 +15,9 @@ use walrus_ir::{
 /// How many ids can be marked.
 const MARKS: usize = 1 << 12;
 
-/// Whether an id is marked.
+/// Whether an id is marked: one that has no mark isn't.
 #[inline(always)]
-fn is_marked(marks: &[bool], id: usize) -> bool
+pub fn is_marked(marks: &[bool], id: usize) -> bool
     ensures { result ≡ is_marked marks.now id }
 {
     marks.get(id).copied().unwrap_or(false)
@@ -42,8 +42,8 @@ fn reach(marks: &mut Vec<bool>, id: usize) -> bool
     }
 }
 
-/// Marks an id, if it has a mark.
-fn mark(marks: &mut Vec<bool>, id: usize)
+/// Marks an id, unless it is too great or memory runs out. No other id is marked by it.
+pub fn mark(marks: &mut Vec<bool>, id: usize)
     ensures { (other : ℕ) → is_marked marks.new.items other ≡ true
         → (other ≡ id) ⊎ (is_marked marks.old.items other ≡ true) }
 {

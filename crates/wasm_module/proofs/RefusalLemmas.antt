@@ -101,6 +101,20 @@ not_rewritten F calls source now function b type id args count body start (Emit 
       )
     ]
 
+-- the same, with arguments that are these
+pub not_rewritten_flat :
+    (F : Type 0) (calls : Shared F (Bor ℕ × Unit {0}) ℕ)
+    (source now : ParsedModule) (function : ℕ) (b : BodyAt) (type id : ℕ) (given args : List ℕ) (count : ℕ) (body : FunctionBody) (start : ℕ) (x : RewriteError) (e : ModuleError) →
+    Enters source function b now type args count body → id ≡ 0 → start ≡ b.start → given ≡ args →
+    RefusesRewriting calls (body_input now.module now.spaces.indices id type body (no_location_function F) locals_below count)
+    (record { to = numbers_by now.module.types now.spaces.numbers []; types = now.module.locals; args = given }) x → (IsOutOfMemory x → e.fault ≡ Memory) → e.at ≡ place_in_file start x →
+    IsNotRewritten source function b now e
+not_rewritten_flat F calls source now function b type id given args count body start x e enters is_first same args_are r out_of_memory place =
+    let At : List ℕ → Type 0 =
+    λ xs. RefusesRewriting calls (body_input now.module now.spaces.indices id type body (no_location_function F) locals_below count)
+    (record { to = numbers_by now.module.types now.spaces.numbers []; types = now.module.locals; args = xs }) x in
+    not_rewritten F calls source now function b type id args count body start x e enters is_first same (subst At args_are r) out_of_memory place
+
 -- ---- in a module that extends the source
 
 fault_then : (source a now : ParsedModule) (function : ℕ) (b : BodyAt) (at : ℕ) → Extends source a → HasFaultAt a function b now at → HasFaultAt source function b now at

@@ -11,6 +11,7 @@ use Rattle.walrus_body.specs.EmittedInstructions.{LentPairs, Left}
 use Rattle.walrus_numbering.specs.NumberMaps.{numbers_by}
 use Rattle.walrus_rewrite.specs.RawBodies.{EmitInput, emit_input, IsRawBodyOf, AppendsRawBody}
 use Rattle.walrus_rewrite.specs.RewrittenBodies.{Rewrites}
+use Rattle.walrus_flat.specs.RewrittenFlat.{RewritesFlat}
 use Rattle.wasm_module.specs.declared.parsed.ParsedModule.{ParsedModule}
 use Rattle.wasm_module.specs.CodeSections.{BodyAt}
 use Rattle.wasm_module.specs.LocalsBelow.{locals_below}
@@ -37,6 +38,33 @@ rewritten {F} {Z} {calls} {made} {mapping} {entry} {exit} source now function b 
     let all : x.raw ≡ raw = sym (x.bytes ∙ ap (λ (l : List ℕ). l ++ x.raw) none) in
     let is_rewritten : IsRewrittenAs now type args count body x.raw x.pairs =
     record { body = x.accepts.body; accepted = x.accepts.accepted; is_raw_body = x.is_raw_body; keeps = x.keeps } in
+    record {
+      now = now;
+      type = type;
+      args = args;
+      count = count;
+      body = body;
+      enters = enters;
+      pairs = x.pairs;
+      is_rewritten = subst (λ (l : List ℕ). IsRewrittenAs now type args count body l x.pairs) all is_rewritten;
+    }
+
+-- the same, without a tree
+pub rewritten_flat :
+    {F Z : Type 0} {calls : Shared F (Bor ℕ × Unit {0}) ℕ} {entry : Option (LentPairs Z)} {exit : Left (LentPairs Z)}
+    (source now : ParsedModule) (function : ℕ) (b : BodyAt) (type id : ℕ) (given args : List ℕ) (count : ℕ) (body : FunctionBody) (old raw : List ℕ) →
+    Enters source function b now type args count body → id ≡ 0 → given ≡ args → old ≡ [] →
+    RewritesFlat calls (body_input now.module now.spaces.indices id type body (no_location_function F) locals_below count)
+    (record { to = numbers_by now.module.types now.spaces.numbers []; types = now.module.locals; args = given }) old raw entry exit →
+    IsRewritten source function b raw
+rewritten_flat {F} {Z} {calls} {entry} {exit} source now function b type id given args count body old raw enters is_first args_are none r =
+    let At : ℕ → List ℕ → Type 0 =
+    λ n xs. RewritesFlat calls (body_input now.module now.spaces.indices n type body (no_location_function F) locals_below count)
+    (record { to = numbers_by now.module.types now.spaces.numbers []; types = now.module.locals; args = xs }) old raw entry exit in
+    let x = subst (At 0) args_are (subst (λ n. At n given) is_first r) in
+    let all : x.raw ≡ raw = sym (x.bytes ∙ ap (λ (l : List ℕ). l ++ x.raw) none) in
+    let is_rewritten : IsRewrittenAs now type args count body x.raw x.pairs =
+    record { body = x.body; accepted = x.accepted; is_raw_body = x.is_raw_body; keeps = x.keeps } in
     record {
       now = now;
       type = type;

@@ -13,6 +13,7 @@ use crate::locals::LocalsBelow;
 use crate::parsed::ParsedModule;
 use std::alloc::Global;
 use walrus_body::{EmitError, LocalFunction, ParseError};
+use walrus_flat::{FlatScratch, rewrite_flat};
 use walrus_ir::{Instr, InstrLocId};
 use walrus_rewrite::{RewriteError, append_raw_body_with_map, rewrite_body};
 
@@ -20,6 +21,7 @@ use walrus_rewrite::{RewriteError, append_raw_body_with_map, rewrite_body};
 #[derive(Drop)]
 pub struct Scratch {
     instrs: Vec<(Instr, InstrLocId)>,
+    flat: FlatScratch,
     /// The raw body that was written last.
     pub raw: Vec<u8>,
     /// Its location pairs, if they were requested: for each operator that was written its location,
@@ -33,6 +35,7 @@ impl Scratch {
     pub fn new(alloc: Global) -> Scratch {
         Scratch {
             instrs: Vec::new(alloc),
+            flat: FlatScratch::new(alloc),
             raw: Vec::new(alloc),
             pairs: Vec::new(alloc),
         }
@@ -79,7 +82,129 @@ macro_rules! rewrite_once {
     }};
 }
 
+/// Rewrites a body unchanged and without its tree, with a list of location pairs or none.
+macro_rules! rewrite_flat_once {
+    ($parsed:ident, $body:ident, $flat:expr, $raw:expr, $map:expr) => {{
+        let BodyContext {
+            ty,
+            args,
+            body: source,
+            locals,
+        } = $parsed.enter($body)?;
+        let lists = $parsed.spaces.local_lists();
+        let rewritten = rewrite_flat(
+            &$parsed.module,
+            &$parsed.spaces.indices,
+            lists,
+            ty,
+            args.as_slice(),
+            source,
+            // A location is the operator's place in the file.
+            None::<&fn(&usize) -> InstrLocId>,
+            LocalsBelow(locals),
+            &$parsed.spaces.numbers,
+            $flat,
+            $raw,
+            $map,
+        );
+        match rewritten {
+            Ok(()) => Ok(()),
+            Err(error) => Err(ModuleError::of_body(error, $body.start())),
+        }
+    }};
+}
+
 impl<'a> ParsedModule<'a> {
+    fn rewrite_flat_once(
+        &mut self,
+        body: Body<'a>,
+        scratch: &mut Scratch,
+    ) -> Result<(), ModuleError>
+        ensures extends { Extends self.old self.new }
+        ensures rewritten { OnOk result
+            (IsRewritten self.old body.entry.func (body_at body.entry) scratch.new.raw.items) }
+        ensures refused { IfErr result
+            (IsNotRewritten self.old body.entry.func (body_at body.entry) self.new) }
+    {
+        let Scratch { flat, raw, .. } = scratch;
+        raw.clear();
+        rewrite_flat_once!(self, body, flat, raw, None)
+    }
+
+    fn rewrite_flat_once_with_pairs(
+        &mut self,
+        body: Body<'a>,
+        scratch: &mut Scratch,
+    ) -> Result<(), ModuleError>
+        ensures extends { Extends self.old self.new }
+        ensures rewritten { OnOk result
+            (IsRewritten self.old body.entry.func (body_at body.entry) scratch.new.raw.items) }
+        ensures refused { IfErr result
+            (IsNotRewritten self.old body.entry.func (body_at body.entry) self.new) }
+    {
+        let Scratch {
+            flat,
+            raw,
+            pairs,
+            ..
+        } = scratch;
+        raw.clear();
+        pairs.clear();
+        rewrite_flat_once!(self, body, flat, raw, Some(pairs))
+    }
+
+    /// Rewrites a body as `rewrite` does, without its tree: the same bytes, at less cost.
+    ///
+    /// # Errors
+    ///
+    /// Those of `rewrite`.
+    pub fn rewrite_flat(&mut self, body: Body<'a>, scratch: &mut Scratch) -> Result<(), ModuleError>
+        ensures extends { Extends self.old self.new }
+        ensures rewritten { OnOk result
+            (IsRewritten self.old body.entry.func (body_at body.entry) scratch.new.raw.items) }
+        ensures refused { IfErr result
+            (IsNotRewritten self.old body.entry.func (body_at body.entry) self.new) }
+    {
+        match self.rewrite_flat_once(body, scratch) {
+            Ok(()) => Ok(()),
+            Err(error) => {
+                if !needs_type(&error) {
+                    return Err(error);
+                }
+                self.add_missing_types(body)?;
+                self.rewrite_flat_once(body, scratch)
+            }
+        }
+    }
+
+    /// The same as `rewrite_flat`, with its location pairs.
+    ///
+    /// # Errors
+    ///
+    /// Those of `rewrite`.
+    pub fn rewrite_flat_with_pairs(
+        &mut self,
+        body: Body<'a>,
+        scratch: &mut Scratch,
+    ) -> Result<(), ModuleError>
+        ensures extends { Extends self.old self.new }
+        ensures rewritten { OnOk result
+            (IsRewritten self.old body.entry.func (body_at body.entry) scratch.new.raw.items) }
+        ensures refused { IfErr result
+            (IsNotRewritten self.old body.entry.func (body_at body.entry) self.new) }
+    {
+        match self.rewrite_flat_once_with_pairs(body, scratch) {
+            Ok(()) => Ok(()),
+            Err(error) => {
+                if !needs_type(&error) {
+                    return Err(error);
+                }
+                self.add_missing_types(body)?;
+                self.rewrite_flat_once_with_pairs(body, scratch)
+            }
+        }
+    }
+
     fn rewrite_once(
         &mut self,
         body: Body<'a>,
@@ -106,7 +231,12 @@ impl<'a> ParsedModule<'a> {
         ensures refused { IfErr result
             (IsNotRewritten self.old body.entry.func (body_at body.entry) self.new) }
     {
-        let Scratch { instrs, raw, pairs } = scratch;
+        let Scratch {
+            instrs,
+            raw,
+            pairs,
+            ..
+        } = scratch;
         raw.clear();
         pairs.clear();
         rewrite_once!(self, body, instrs, raw, Some(pairs))

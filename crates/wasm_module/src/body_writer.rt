@@ -12,6 +12,17 @@ use crate::fault::ModuleError;
 use crate::parsed::ParsedModule;
 use walrus_body::LocalFunction;
 
+/// What is needed of a body besides its bytes.
+#[derive(Clone, Copy, Debug, PartialEq, Eq)]
+pub enum Needed {
+    /// Nothing.
+    Nothing,
+    /// Its location pairs.
+    Pairs,
+    /// Its location pairs, and its function as it is written.
+    Function,
+}
+
 /// How each body of a module is written. It is called twice for a body: in the first pass, to find
 /// its faults, its size and the new contents of custom sections, and in the second, to write it.
 pub trait BodyWriter {
@@ -19,8 +30,8 @@ pub trait BodyWriter {
     ghost writes: { Self → Parsed → ℕ → BodyAt → List ℕ → Type 0 };
 
     /// Makes the raw body that is written for one of the module that was read, and its location
-    /// pairs if they are requested, and puts both into the scratch. Returns the function of the
-    /// body.
+    /// pairs if they are needed, and puts both into the scratch. Returns the function of the body
+    /// if it is needed, or if it was made anyway.
     ///
     /// # Errors
     ///
@@ -29,16 +40,17 @@ pub trait BodyWriter {
         &self,
         parsed: &mut ParsedModule<'a>,
         body: Body<'a>,
-        has_pairs: bool,
+        needed: Needed,
         scratch: &mut Scratch,
-    ) -> Result<LocalFunction, ModuleError>
+    ) -> Result<Option<LocalFunction>, ModuleError>
         ensures extends { OnOk result (Extends parsed.old parsed.new) }
         ensures written { (source : Parsed) → Extends source parsed.old
             → OnOk result (writes self.now source body.entry.func (body_at body.entry)
             scratch.new.raw.items) };
 }
 
-/// Each body is rewritten as `walrus_rewrite::rewrite_body` does.
+/// Each body is rewritten as `walrus_rewrite::rewrite_body` does; without its tree, unless its
+/// function is needed.
 #[derive(Clone, Copy, Debug, Drop)]
 pub struct Rewriting;
 
@@ -49,12 +61,22 @@ impl BodyWriter for Rewriting {
         &self,
         parsed: &mut ParsedModule<'a>,
         body: Body<'a>,
-        has_pairs: bool,
+        needed: Needed,
         scratch: &mut Scratch,
-    ) -> Result<LocalFunction, ModuleError> {
-        match has_pairs {
-            true => parsed.rewrite_with_pairs(body, scratch),
-            false => parsed.rewrite(body, scratch),
+    ) -> Result<Option<LocalFunction>, ModuleError> {
+        match needed {
+            Needed::Nothing => match parsed.rewrite_flat(body, scratch) {
+                Ok(()) => Ok(None),
+                Err(error) => Err(error),
+            },
+            Needed::Pairs => match parsed.rewrite_flat_with_pairs(body, scratch) {
+                Ok(()) => Ok(None),
+                Err(error) => Err(error),
+            },
+            Needed::Function => match parsed.rewrite_with_pairs(body, scratch) {
+                Ok(function) => Ok(Some(function)),
+                Err(error) => Err(error),
+            },
         }
     }
 }
@@ -86,13 +108,13 @@ impl<C: ChangeFunction> BodyWriter for Changing<C> {
         &self,
         parsed: &mut ParsedModule<'a>,
         body: Body<'a>,
-        has_pairs: bool,
+        needed: Needed,
         scratch: &mut Scratch,
-    ) -> Result<LocalFunction, ModuleError> {
-        let _ = has_pairs;
+    ) -> Result<Option<LocalFunction>, ModuleError> {
+        let _ = needed;
         let mut function = parsed.parse(body, scratch)?;
         self.0.change(body.func, &mut function)?;
         parsed.write(&function, body.start(), scratch)?;
-        Ok(function)
+        Ok(Some(function))
     }
 }

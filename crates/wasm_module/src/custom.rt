@@ -6,6 +6,7 @@ ghost use Rattle.std.specs.Prelude.{IsTrue};
 ghost use Rattle.wasm_module.specs.WrittenModules.{HasFollowedName, HasDebugName, HasSourceMapName};
 
 use crate::bodies::Scratch;
+use crate::body_writer::Needed;
 use crate::code::Body;
 use crate::fault::{ModuleError, ModuleFault};
 use crate::function_items::{FunctionItems, Item};
@@ -366,20 +367,22 @@ impl<'a> Followers<'a> {
         Ok(())
     }
 
-    /// Whether the location pairs of this function's body are needed. Copies the items of functions
-    /// before it. The functions have to come in ascending order.
-    pub fn reach(&mut self, func: usize) -> Result<bool, ModuleError> {
-        let mut needs_pairs = false;
+    /// What is needed of this function's body: its function, if a section has items of it. Copies the
+    /// items of functions before it. The functions have to come in ascending order.
+    pub fn reach(&mut self, func: usize) -> Result<Needed, ModuleError> {
+        let mut needed = Needed::Nothing;
         for section in self.sections.iter_mut() {
             for part in section.parts.iter_mut() {
                 match part.items.carry_before(func) {
                     Ok(()) => {}
                     Err(error) => return Err(error),
                 }
-                needs_pairs |= part.follows != Follows::Locals && part.items.has(func);
+                if part.items.has(func) {
+                    needed = Needed::Function;
+                }
             }
         }
-        Ok(needs_pairs)
+        Ok(needed)
     }
 
     /// Changes the items of a function whose body was rewritten.

@@ -34,7 +34,7 @@ mod views;
 mod writing;
 
 pub use bodies::Scratch;
-pub use body_writer::{BodyWriter, ChangeFunction, Changing, Rewriting};
+pub use body_writer::{BodyWriter, ChangeFunction, Changing, Needed, Rewriting};
 pub use changes::Changes;
 pub use code::{Bodies, Body};
 pub use custom::{Note, NoteKind};

@@ -93,9 +93,10 @@ impl<'a> ParsedModule<'a> {
     ) -> Result<usize, ModuleError>
         ensures { OnOk result (Extends self.old self.new) }
     {
-        let has_pairs = followers.reach(body.func)?;
-        let function = bodies.write_body(self, body, has_pairs, scratch)?;
-        followers.pass(self, body, &function, scratch)?;
+        let needed = followers.reach(body.func)?;
+        if let Some(function) = bodies.write_body(self, body, needed, scratch)? {
+            followers.pass(self, body, &function, scratch)?;
+        }
         let len = scratch.raw.len();
         Ok(number_len(len).saturating_add(len))
     }

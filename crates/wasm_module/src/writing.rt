@@ -11,7 +11,7 @@ ghost use Rattle.wasm_module.specs.Sections.{id_of, section as whole_section, se
 ghost use Rattle.wasm_module.specs.WrittenModules.{Puts, new_contents_in, between, new_after, IsWrittenCode, IsWrittenFor, IsWrittenAt, IsWrittenModule};
 
 use crate::bodies::Scratch;
-use crate::body_writer::BodyWriter;
+use crate::body_writer::{BodyWriter, Needed};
 use crate::changes::Changes;
 use crate::code::{Bodies, Body};
 use crate::fault::{ModuleError, ModuleFault};
@@ -150,7 +150,11 @@ impl<'a> ParsedModule<'a> {
             × B.writes bodies.now source body.entry.func (body_at body.entry) raw
             × Puts (W.contents out.old) (W.contents out.new) at end (entry raw)) }
     {
-        bodies.write_body(self, body, sink.needs_pairs(), scratch)?;
+        let needed = match sink.needs_pairs() {
+            true => Needed::Pairs,
+            false => Needed::Nothing,
+        };
+        bodies.write_body(self, body, needed, scratch)?;
         let raw = scratch.raw.as_slice();
         let start = put_number(self.alloc, raw.len(), at, out)?;
         let old_start = body.start();

@@ -1,0 +1,36 @@
+-- an operator with numbers is its name with numbers
+pub mod Renumbered
+-- the parts of an operator are checked as they are named
+pub mod CheckingAlike
+-- a body that is checked so far
+pub mod CheckedFronts
+-- what parsing the operators gives
+pub mod Accepting
+-- an accepted body that is read again
+pub mod WrittenFronts
+-- a raw body from its parts
+pub mod RawBodies
+-- one operator that is checked: those that part or close a construct, and all others; and the operators of a body so far
+pub mod CheckedOperators
+pub mod CheckedSteps
+pub mod CheckedClosings
+pub mod CheckerSteps
+pub mod CheckerOperators
+pub mod CheckerAtOnce
+pub mod CheckedBodies
+pub mod CheckedLoop
+-- what is written aside
+pub mod Drafts
+-- the steps of the writer
+pub mod WriterSteps
+pub mod WriterOperators
+pub mod WriterAtOnce
+-- the operators of a body that is written so far
+pub mod WrittenLoop
+-- a body that was checked, with the function's own type
+pub mod CheckedWhole
+-- a body that was checked and written
+pub mod FlatBodies
+pub mod FlatResults
+-- both ways of rewriting append the same
+pub mod SameResults

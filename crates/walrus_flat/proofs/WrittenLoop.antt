@@ -1,0 +1,276 @@
+-- The loop over the operators of a body that is written while it is read again: what was written is what is written of the
+-- operators so far.
+use Rattle.std.proofs.Common.{◌≡◌, ℕ, ◌+◌, ◌-◌, ◌<◌, ◌≤◌, List, [], ◌∷◌, ◌++◌, length, map, Bool, true, false, Option, Some, None, Result, Ok, Err, refl, sym, ap, subst, ◌∙◌, arith}
+use Rattle.std.specs.Borrow.{Bor}
+use Rattle.std.specs.Fn.{Shared}
+use Rattle.std.proofs.lemmas.List.{map-append}
+use Rattle.walrus_ir.specs.Results.{gather}
+use Rattle.wasm_numbers.specs.declared.fault.ReadFault.{ReadFault}
+use Rattle.wasm_operators.specs.Operations.{RawOperation}
+use Rattle.wasm_operators.specs.Spelling.{Spells, read_operation}
+use Rattle.wasm_operators.proofs.ReadingBytes.{reading_agrees}
+use Rattle.wasm_body.specs.declared.error.EmitError.{EmitError}
+use Rattle.wasm_body.specs.Bytes.{Numbers}
+use Rattle.wasm_body.specs.Control.{Marked, Control}
+use Rattle.wasm_body.specs.Frames.{Frame, function_frames}
+use Rattle.wasm_body.specs.Naming.{NamedOperation, Occurrence, named_in}
+use Rattle.wasm_body.specs.NormalForm.{Typing, typing_of, construct_type, name_at}
+use Rattle.wasm_body.specs.TextLaws.{mark_named}
+use Rattle.wasm_body.specs.Translation.{Located, at_location}
+use Rattle.wasm_body.specs.Parsing.Accepted.{mark, placed, has_location, validated, IsNamed}
+use Rattle.wasm_body.specs.Parsing.Progress.{Layer, Progress, Whole, nothing_read, frames_of, further, progress_after}
+use Rattle.wasm_body.proofs.Structure.Mapped.{map_mark}
+use Rattle.wasm_body.proofs.Structure.ReadFrames.{Goes, body_goes}
+use Rattle.wasm_body.proofs.Structure.ReadTexts.{IsRead, read_text}
+use Rattle.wasm_body.proofs.Structure.ReadingTrees.{body_read}
+use Rattle.wasm_body.proofs.Parsing.ParseResults.{is_ok, front_over}
+use Rattle.wasm_body.proofs.Parsing.Parses.{Over}
+use Rattle.wasm_body.proofs.ReadBack.FrameNames.{named_of}
+use Rattle.walrus_parser.specs.Bodies.{ParseInput, setting_with}
+use Rattle.walrus_parser.specs.Locating.{MayCall, Locates, HasNoLocation}
+use Rattle.walrus_parser.specs.Settings.{operators_of}
+use Rattle.walrus_parser.proofs.Bodies.{is_whole, whole_mapping}
+use Rattle.walrus_parser.proofs.Mappings.{may_call_next}
+use Rattle.walrus_parser.proofs.ParsedSoFar.{begins, occurrence, progress-append}
+use Rattle.wasm_flat.specs.Flat.{Named, first_state, written_at, after, flat, numbered, IsWrittenSo}
+use Rattle.wasm_flat.specs.FlatLaws.{bare}
+use Rattle.wasm_flat.proofs.Fronts as fronts
+use Rattle.wasm_flat.proofs.OtherLocations.{faults_anywhere}
+use Rattle.walrus_flat.specs.declared.writer.Writer.{Writer}
+use Rattle.walrus_flat.specs.Checked.{marks}
+use Rattle.walrus_flat.specs.Laws.{written_of}
+use Rattle.walrus_flat.specs.Written.{drafted, state_of}
+use Rattle.walrus_flat.specs.Writers.{numbers_in, env_at, IsSameWriter, Takes, IsTaken, StepsWriter}
+use Rattle.walrus_flat.specs.WrittenBody.{some_locations, IsAccepted, WritesBody, RefusesWriting}
+use Rattle.walrus_flat.proofs.Drafts.{drafted-append}
+use Rattle.walrus_flat.proofs.CheckedWhole.{read_operators}
+use Rattle.walrus_flat.proofs.WrittenFronts.{is_read, text_of, read_marks, ReadsAgain, LeftOf, NextOf, its_read, next_of, continues, marks_more, ends}
+
+-- ---- what was read
+
+abbrev Read : Type 0
+Read = Result (RawOperation × List ℕ) ReadFault
+
+same_first : (a b : RawOperation) (c d : List ℕ) → (let r : Read = Ok (a, c) in r) ≡ Ok (b, d) → a ≡ b
+same_first a b c d e = let both : (let p : RawOperation × List ℕ = (a, c) in p) ≡ (b, d) = cc in ap (λ (p : RawOperation × List ℕ). p.0) both
+
+same_second : (a b : RawOperation) (c d : List ℕ) → (let r : Read = Ok (a, c) in r) ≡ Ok (b, d) → c ≡ d
+same_second a b c d e = let both : (let p : RawOperation × List ℕ = (a, c) in p) ≡ (b, d) = cc in ap (λ (p : RawOperation × List ℕ). p.1) both
+
+-- ---- operators by their names
+
+-- the marks of operators that were read
+marks_are : (xs : List Occurrence) → map (map_mark name_at) (map mark xs) ≡ marks xs
+marks_are [] = refl
+marks_are (x ∷ xs) = ap (λ l. mark_named (name_at x) ∷ l) (marks_are xs)
+
+marks-append : (xs ys : List Occurrence) → marks (xs ++ ys) ≡ marks xs ++ marks ys
+marks-append xs ys = ap (map mark_named) (map-append name_at xs ys) ∙ map-append mark_named (map name_at xs) (map name_at ys)
+
+-- without locations
+abbrev by_name : Marked NamedOperation → NamedOperation × Control
+by_name x = (x.shown, x.control)
+
+bare_names : (xs : List (Marked Occurrence)) → map bare (map (map_mark name_at) xs) ≡ map by_name (map (map_mark named_of) xs)
+bare_names [] = refl
+bare_names (x ∷ xs) = ap (λ l. (x.shown.named, x.control) ∷ l) (bare_names xs)
+
+some_frame : (ls : List (Layer Occurrence)) → (g : Frame Occurrence) × (gs : List (Frame Occurrence)) × (frames_of ls ≡ g ∷ gs)
+some_frame [] = (_, _, refl)
+some_frame (l ∷ ls) = (_, _, refl)
+
+-- `Takes` with numbers that are given
+record Took (m : Typing) (w new : Writer) (x : Marked Named) (k : Numbers) : Type 0 where
+  same : IsSameWriter w new
+  operators : List (Located RawOperation)
+  are_numbered : gather (map (numbered k m) (written_at (state_of w.«open») x)) ≡ Ok operators
+  draft : new.draft ≡ drafted w.draft operators
+  state_is : state_of new.«open» ≡ after (λ q. k.balanced (construct_type m q)) (state_of w.«open») x
+
+took : (m : Typing) (w new : Writer) (x : Marked Named) → Takes m w new x → Took m w new x (numbers_in w)
+took m w new x h = record { same = h.same; operators = h.operators; are_numbered = h.are_numbered; draft = h.draft; state_is = h.state_is }
+
+module _ {F : Type 0} (g : Shared F (Bor ℕ × Unit {0}) ℕ) (i : ParseInput (Unit {0}) F) (first : Writer) where
+  abbrev to : Numbers
+  to = numbers_in first
+
+  abbrev typing : Typing
+  typing = typing_of i.environment
+
+  abbrev balanced : NamedOperation → Bool
+  balanced o = to.balanced (construct_type typing o)
+
+  abbrev locations : Option (ℕ → ℕ)
+  locations = some_locations i.on_instr_pos
+
+  -- The operators that were read, and what was written of them.
+  pub record WritesSoFar (w : Writer) (place : ℕ) (rest : List ℕ) : Type 0 where
+    pub same : IsSameWriter first w
+    pub accepted : IsAccepted i
+    pub read : Progress Occurrence
+    pub its : Progress Occurrence
+    pub mapping : List (ℕ × ℕ)
+    pub left : List Occurrence
+    pub left_of : LeftOf g i locations accepted.body read its tt place rest mapping left
+    pub written : List (Located RawOperation)
+    pub is_written : IsWrittenSo to typing balanced (read_marks read) (state_of w.«open») written
+    pub draft : w.draft ≡ drafted first.draft written
+
+  -- ---- before the first operator
+
+  pub begins_writing : i.check ≡ (λ v x. Ok tt) → i.first ≡ tt → IsAccepted i → state_of first.«open» ≡ first_state → WritesSoFar first i.start i.bytes
+  begins_writing accepts starts a none =
+      let given = setting_with i locations in
+      let ok = is_ok (validated given.check given.first (map placed a.accepted.operators)) a.accepted.all.passes in
+      let goes : Goes (IsNamed i.environment) (Some function_frames) (map mark a.accepted.operators) =
+      subst (Goes (IsNamed i.environment) (Some function_frames)) (sym a.accepted.lawful.is_body) (body_goes (IsNamed i.environment) a.body a.accepted.lawful.named) in
+      let whole : progress_after nothing_read (map mark a.accepted.operators) ≡ Whole a.body = ap (progress_after nothing_read) a.accepted.lawful.is_body ∙ body_read a.body in
+      let over = front_over given reading_agrees a.accepted.operators i.bytes [] ok.0 (i.start + length i.bytes) a.accepted.all ok.1 goes (omega arith) in
+      record {
+        same = record { «module» = refl; indices = refl; function = refl; ty = refl; out = refl; locals = refl };
+        accepted = a;
+        read = nothing_read;
+        its = nothing_read;
+        mapping = [];
+        left = a.accepted.operators;
+        left_of = record {
+          reads = begins g i.on_instr_pos i.environment i.start i.offset i.check i.first i.bytes;
+          last = ok.0;
+          end = i.start + length i.bytes;
+          over = subst (λ q. Over given nothing_read i.first i.start i.bytes a.accepted.operators q ok.0 (i.start + length i.bytes) []) whole over;
+          same = refl;
+          front = [];
+          front_read = refl;
+          names = refl;
+        };
+        written = [];
+        is_written = record { state_is = none; written_are = refl };
+        draft = refl;
+      }
+
+  -- ---- the next operator
+
+  module _ (w : Writer) (place : ℕ) (rest : List ℕ) (so : WritesSoFar w place rest) where
+    pub may_call_here : (pre : F → Bor ℕ → Type 0) → MayCall pre i.on_instr_pos i.start (i.start + length i.bytes) → 0 < length rest → MayCall pre i.on_instr_pos place (place + 1)
+    may_call_here pre may some =
+        let r = so.left_of.reads in
+        let at = r.place_is in
+        may_call_next pre i.on_instr_pos i.start (i.start + length i.bytes) place r.started (omega arith) may
+
+    module _ (some : 0 < length rest) where
+      abbrev next_one : NextOf g i locations so.accepted.body so.read so.its tt place rest so.left so.left_of.last so.left_of.end
+      next_one = next_of g i locations so.accepted.body so.read so.its tt place rest so.left so.left_of.last so.left_of.end so.left_of.over so.left_of.same some
+
+      -- it can be read
+      pub unreadable : (fault : ReadFault) → read_operation rest ≡ Err fault → ⊥
+      unreadable fault e = let both = sym e ∙ next_one.read in cc
+
+      -- and has a location
+      pub unlocated : HasNoLocation i.on_instr_pos place → ⊥
+      unlocated h = by_left so.left next_one.left_is so.left_of.over
+        where
+          fits : (o : Option (Bor F)) (at : ℕ) → at ≡ place → has_location (some_locations o) at ≡ true → HasNoLocation o place → ⊥
+          fits None at e has not = let both : true ≡ false = sym has ∙ (ap (has_location {F = Bor F} None) e ∙ not) in cc
+          fits (Some f) at e has not = let both : true ≡ false = not in cc
+
+          by_left : (xs : List Occurrence) → xs ≡ next_one.first ∷ next_one.others → Over (setting_with i locations) so.its tt place rest xs (Whole so.accepted.body) so.left_of.last so.left_of.end [] → ⊥
+          by_left [] e over = cc
+          by_left (x ∷ xs) e over = fits i.on_instr_pos x.place over.spelt.0 over.have_locations.0 h
+
+      module _ (o : RawOperation) (following text : List ℕ) (read : read_operation rest ≡ Ok (o, following)) (spells : Spells o text) (location : ℕ) where
+        spelt_is : next_one.first.spelt ≡ o
+        spelt_is = same_first next_one.first.spelt o next_one.following following (sym next_one.read ∙ read)
+
+        following_is : next_one.following ≡ following
+        following_is = same_second next_one.first.spelt o next_one.following following (sym next_one.read ∙ read)
+
+        abbrev this : Occurrence
+        this = occurrence next_one.first.spelt place location next_one.first.named
+
+        abbrev this_marked : Marked Named
+        this_marked = mark_named (at_location next_one.first.named location)
+
+        -- what the step of the writer shows of it
+        taken_in : (ls : List (Layer Occurrence)) → named_in i.environment (frames_of ls) next_one.first.spelt ≡ Ok next_one.first.named → (new : Writer) (r : Result (Unit {0}) EmitError) → env_at w w.ty ≡ i.environment → StepsWriter w new o location r →
+            IsTaken typing w new this_marked r
+        taken_in ls named new r env step =
+            let f = some_frame ls in
+            let there : named_in (env_at w w.ty) (f.0 ∷ f.1) o ≡ Ok next_one.first.named =
+            ap (λ e. named_in e (f.0 ∷ f.1) o) env ∙ (ap (λ fs. named_in i.environment fs o) (sym f.2) ∙ (ap (named_in i.environment (frames_of ls)) (sym spelt_is) ∙ named)) in
+            subst (λ e. IsTaken (typing_of e) w new this_marked r) env (step w.ty f.0 f.1 text next_one.first.named spells there)
+
+        module _ (new : Writer) (env : env_at w w.ty ≡ i.environment) (numbers : numbers_in w ≡ to) where
+          -- it was written
+          pub goes_on : StepsWriter w new o location (Ok tt) → Locates g i.on_instr_pos place location → (next : ℕ) → next + length following ≡ place + length rest → length following < length rest → WritesSoFar new next following
+          goes_on step located next moves shorter =
+              let n = next_one in
+              let l = so.left_of in
+              let t = subst (Took typing w new this_marked) numbers (took typing w new this_marked (taken_in n.layers n.is_named new (Ok tt) env step)) in
+              let left = continues g i locations so.accepted.body so.read so.its tt place next location rest so.mapping so.left l n located (ap (λ (q : List ℕ). next + length q) following_is ∙ moves) (subst (λ (q : List ℕ). length q < length rest) (sym following_is) shorter) in
+              let was : IsRead so.read = is_read so.read so.its (its_read g i locations so.accepted.body so.its tt l.last place l.end rest so.left l.over) l.same in
+              let now : IsRead (further so.read (mark this)) = is_read (further so.read (mark this)) (further so.its (mark n.first)) (its_read g i locations so.accepted.body (further so.its (mark n.first)) n.state left.last next left.end n.following n.others left.over) left.same in
+              let more = marks_more g i locations so.accepted.body so.read so.its tt place rest so.mapping so.left l this was now in
+              record {
+                same = record { «module» = t.same.«module» ∙ so.same.«module»; indices = t.same.indices ∙ so.same.indices; function = t.same.function ∙ so.same.function; ty = t.same.ty ∙ so.same.ty; out = t.same.out ∙ so.same.out; locals = t.same.locals ∙ so.same.locals };
+                accepted = so.accepted;
+                read = further so.read (mark this);
+                its = further so.its (mark n.first);
+                mapping = so.mapping ++ (place - i.offset, location) ∷ [];
+                left = n.others;
+                left_of = subst (λ q. LeftOf g i locations so.accepted.body (further so.read (mark this)) (further so.its (mark n.first)) tt next q (so.mapping ++ (place - i.offset, location) ∷ []) n.others) following_is left;
+                written = so.written ++ t.operators;
+                is_written =
+                    subst (λ s. IsWrittenSo to typing balanced (read_marks (further so.read (mark this))) s (so.written ++ t.operators)) (sym t.state_is)
+                    (subst (λ xs. IsWrittenSo to typing balanced xs (after balanced (state_of w.«open») this_marked) (so.written ++ t.operators)) (sym more)
+                    (fronts.continues balanced to typing (read_marks so.read) (state_of w.«open») so.written so.is_written this_marked t.operators t.are_numbered));
+                draft = t.draft ∙ (ap (λ d. drafted d t.operators) so.draft ∙ sym (drafted-append first.draft so.written t.operators));
+              }
+
+          -- it has a fault, which is that of the whole
+          pub refuses : (e : EmitError) → gather (map (numbered (numbers_in w) typing) (written_at (state_of w.«open») this_marked)) ≡ Err e → RefusesWriting g i to e
+          refuses e h =
+              let n = next_one in
+              let l = so.left_of in
+              let fault = subst (λ (k : Numbers). gather (map (numbered k typing) (written_at (state_of w.«open») this_marked)) ≡ Err e) numbers h in
+              let broken = fronts.breaks balanced to typing (read_marks so.read) (state_of w.«open») so.written so.is_written this_marked e fault (marks n.others) in
+              let all = l.front ++ n.first ∷ n.others in
+              let read_all : progress_after nothing_read (map mark all) ≡ Whole so.accepted.body =
+              ap (progress_after nothing_read) (map-append mark l.front (n.first ∷ n.others))
+              ∙ (progress-append (map mark l.front) (map mark (n.first ∷ n.others)) nothing_read
+              ∙ (ap (λ p. progress_after p (map mark (n.first ∷ n.others))) l.front_read ∙ (ap (λ xs. progress_after so.its (map mark xs)) (sym n.left_is) ∙ l.over.ends))) in
+              let same_front : map bare (read_marks so.read) ≡ map bare (marks l.front) =
+              bare_names (read_text so.read []) ∙ (ap (map by_name) l.names ∙ (sym (bare_names (map mark l.front)) ∙ ap (map bare) (marks_are l.front))) in
+              let alike : map bare (read_marks so.read ++ this_marked ∷ marks n.others) ≡ map bare (marks all) =
+              map-append bare (read_marks so.read) (this_marked ∷ marks n.others)
+              ∙ (ap (λ xs. xs ++ map bare (this_marked ∷ marks n.others)) same_front
+              ∙ (sym (map-append bare (marks l.front) (marks (n.first ∷ n.others))) ∙ ap (map bare) (sym (marks-append l.front (n.first ∷ n.others))))) in
+              record {
+                accepted = so.accepted;
+                fault =
+                    ap (λ xs. written_of i.environment to xs) (sym (read_operators all so.accepted.body read_all))
+                    ∙ faults_anywhere to typing balanced (read_marks so.read ++ this_marked ∷ marks n.others) (marks all) alike e broken;
+              }
+
+          pub taken_here : (r : Result (Unit {0}) EmitError) → StepsWriter w new o location r → IsTaken typing w new this_marked r
+          taken_here r step = taken_in next_one.layers next_one.is_named new r env step
+
+    -- ---- no bytes remain
+
+    pub completes : i.offset ≤ i.start → length rest ≡ 0 → WritesBody g i to first.draft w.draft
+    completes fits none =
+        let l = so.left_of in
+        let e = ends g i locations so.accepted.body so.read so.its tt place rest so.mapping so.left l none in
+        let reads = subst (λ q. ReadsAgain g i locations q tt place rest so.mapping) e.1 l.reads in
+        let operators_are = read_operators reads.operators e.0 reads.are_read in
+        let text = text_of reads.operators (Whole e.0) reads.are_read tt in
+        let marked : marks (operators_of e.0) ≡ read_marks so.read =
+        ap marks (sym operators_are) ∙ (sym (marks_are reads.operators) ∙ (ap (map (map_mark name_at)) (sym text) ∙ ap read_marks (sym e.1))) in
+        record {
+          mapping = so.mapping;
+          body = e.0;
+          is_parsed = is_whole g i fits e.0 tt place rest so.mapping reads none;
+          is_mapping = whole_mapping g i fits e.0 tt place rest so.mapping reads;
+          operators = so.written;
+          are_written = ap (λ xs. gather (map (numbered to typing) (flat balanced first_state xs))) marked ∙ so.is_written.written_are;
+          draft = so.draft;
+        }

@@ -1,0 +1,23 @@
+use Rattle.std.proofs.Common.{List, ℕ, Result, Ok, Err}
+use Rattle.std.specs.Prelude.{IfOk}
+use Rattle.wasm_operators.specs.Operations.{RawOperation}
+use Rattle.wasm_operators.specs.Spelling.{Spells}
+use Rattle.wasm_ops.specs.Position.{Position, Moves, IsAfter}
+use Rattle.wasm_ops.proofs.Passing.{is_after}
+use Rattle.walrus_flat.proofs.check_body.read_other.Goals as goal
+
+moved : {A E : Type 0} (view : A → RawOperation) (old new : Position) (r : Result A E) → IfOk r (λ x. (text : List ℕ) × Moves old text new × Spells (view x) text)
+    → IfOk r (λ x. IsAfter old new)
+moved view old new (Ok x) (text, moves, spells) = is_after old new (view x) text moves spells
+moved view old new (Err e) h = tt
+
+pub returns-clause-moves : goal.returns-clause-moves
+returns-clause-moves c = moved _ c.args.reader.now c.read_other.new.self c.read_other.result c.read_other.ensures.found
+
+spelt : {A E : Type 0} (view : A → RawOperation) (old new : Position) (r : Result A E) → IfOk r (λ x. (text : List ℕ) × Moves old text new × Spells (view x) text)
+    → IfOk r (λ x. (text : List ℕ) × Spells (view x) text)
+spelt view old new (Ok x) (text, moves, spells) = (text, spells)
+spelt view old new (Err e) h = tt
+
+pub returns-clause-spelt : goal.returns-clause-spelt
+returns-clause-spelt c = spelt _ c.args.reader.now c.read_other.new.self c.read_other.result c.read_other.ensures.found

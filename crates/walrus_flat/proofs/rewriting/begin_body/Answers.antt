@@ -1,0 +1,11 @@
+use Rattle.std.proofs.Common.{◌<◌, ◌^◌, List, [], length, subst, sym}
+use Rattle.walrus_numbering.specs.NumberMaps.{numbers_by}
+use Rattle.walrus_rewrite.proofs.RawBodyLemmas.{few_declarations}
+use Rattle.walrus_flat.proofs.rewriting.begin_body.Goals as goal
+
+pub new-requires : goal.new-requires
+new-requires c =
+    let made = c.in-Ok.made in
+    let d = c.in-Ok.ensures.ok in
+    let few = few_declarations (numbers_by c.args.module.now.types c.args.out.now []) (length c.args.args.now) d.others made.0.items d.declarations_are in
+    subst (λ (l : List _). length l < 2 ^ 32) (sym c.as_slice.ensures.value) few

@@ -1,0 +1,14 @@
+-- the open sequences of a body that is checked, and the operators of one that is written
+pub mod SequenceKinds
+pub mod UsedMarks
+pub mod Checked
+pub mod Checkers
+pub mod CheckedBody
+pub mod Written
+pub mod Writers
+-- laws
+pub mod Laws
+-- a body that is written while it is read again
+pub mod WrittenBody
+-- the contract of rewriting without a tree
+pub mod RewrittenFlat

@@ -1,0 +1,126 @@
+-- Rewriting a body without its tree: what is written of an accepted one. Why there is none is said as for `rewrite_body`.
+use Rattle.std.specs.Prelude.{◌≡◌, ℕ, ◌+◌, List, [], ◌++◌, length, Bool, true, false, Option, Some, None, Result, Ok, Err}
+use Rattle.std.specs.Fn.{Shared}
+use Rattle.std.specs.Borrow.{Bor}
+use Rattle.wasm_body.specs.declared.error.EmitError.{EmitError}
+use Rattle.wasm_body.specs.declared.error.EmitError.TheVariants.{Memory}
+use Rattle.wasm_body.specs.Bytes.{Numbers}
+use Rattle.wasm_body.specs.SourceTree.{Body}
+use Rattle.wasm_body.specs.Naming.{Occurrence}
+use Rattle.wasm_body.specs.NormalForm.{body_tree}
+use Rattle.wasm_body.specs.Pairs.{Pair}
+use Rattle.wasm_body.specs.Parsing.Accepted.{Accepted}
+use Rattle.walrus_parser.specs.Bodies.{ParseInput, setting_with, mapped_by}
+use Rattle.walrus_parser.specs.Settings.{operators_of, IsMapping}
+use Rattle.walrus_body.specs.EmittedInstructions.{LentPairs, Left}
+use Rattle.walrus_rewrite.specs.declared.error.RewriteError.{RewriteError}
+use Rattle.walrus_rewrite.specs.declared.error.RewriteError.TheVariants.{Emit}
+use Rattle.walrus_rewrite.specs.RawBodies.{EmitInput, IsRawBody, Begins, IsNotBegun, AppendsPairs}
+use Rattle.walrus_ir.specs.Function.{Function}
+use Rattle.walrus_rewrite.specs.RewrittenBodies.{KeepsSource, Rewrites}
+use Rattle.walrus_ir.specs.declared.module.Module.{Module}
+use Rattle.walrus_maps.specs.declared.ids_to_indices.IdsToIndices.{IdsToIndices}
+use Rattle.walrus_numbering.specs.NumberMaps.{numbers_by}
+use Rattle.walrus_emit_state.specs.TreeWriting.Drafts.{Drafted}
+use Rattle.walrus_flat.specs.WrittenBody.{WritesBody, RefusesWriting}
+
+-- the same input with a validator of one state that accepts everything
+abbrev pub read_again : {S F : Type 0} → ParseInput S F → ParseInput (Unit {0}) F
+read_again i = record {
+  environment = i.environment;
+  start = i.start;
+  offset = i.offset;
+  on_instr_pos = i.on_instr_pos;
+  check = λ v x. Ok tt;
+  first = tt;
+  bytes = i.bytes;
+}
+
+-- the input of writing with new indices, for a function with these arguments
+abbrev pub emit_input : Module → IdsToIndices → List ℕ → EmitInput
+emit_input m out args = record { to = numbers_by m.types out []; types = m.locals; args = args }
+
+-- nothing is written
+abbrev pub empty_draft : ℕ → Bool → Drafted
+empty_draft base has_map = record { base = base; has_map = has_map; output = record { bytes = []; pairs = [] } }
+
+abbrev pub is_none : {A : Type 0} → Option A → Bool
+is_none None = true
+is_none (Some x) = false
+
+-- The bytes are appended if the body was written; else its fault is returned.
+abbrev pub Finishes : Result (List ℕ × Drafted) RewriteError → (old new : List ℕ) → Result (Unit {0}) RewriteError → Type 0
+Finishes (Ok made) old new (Ok u) = new ≡ old ++ (made.0 ++ made.1.output.bytes)
+Finishes (Ok made) old new (Err e) = e ≡ Emit Memory
+Finishes (Err f) old new (Ok u) = ⊥
+Finishes (Err f) old new (Err e) = e ≡ f
+
+-- And the pairs are appended to their list.
+abbrev pub FinishesBoth : Result (List ℕ × Drafted) RewriteError → (old new : List ℕ) → (old_pairs new_pairs : List Pair) → Result (Unit {0}) RewriteError → Type 0
+FinishesBoth (Ok made) old new old_pairs new_pairs (Ok u) = (new ≡ old ++ (made.0 ++ made.1.output.bytes)) × (new_pairs ≡ old_pairs ++ made.1.output.pairs)
+FinishesBoth (Ok made) old new old_pairs new_pairs (Err e) = e ≡ Emit Memory
+FinishesBoth (Err f) old new old_pairs new_pairs (Ok u) = ⊥
+FinishesBoth (Err f) old new old_pairs new_pairs (Err e) = e ≡ f
+
+module _ {S F : Type 0} (asks : Shared F (Bor ℕ × Unit {0}) ℕ) (i : ParseInput S F) (by : EmitInput) where
+  -- The bytes are accepted as a body, with the locations that the caller's function returned, and the raw body of its normal form
+  -- was appended: `Rewrites` without the function.
+  pub record RewritesFlat {Z : Type 0} (old new : List ℕ) (entry : Option (LentPairs Z)) (exit : Left (LentPairs Z)) : Type 0 where
+    pub mapping : List (ℕ × ℕ)
+    pub body : Body Occurrence
+    pub accepted : Accepted (setting_with i (mapped_by asks i mapping)) i.bytes body
+    pub is_mapping : IsMapping asks i.on_instr_pos i.offset i.start (i.start + length i.bytes) (operators_of body) mapping
+    pub raw : List ℕ
+    pub pairs : List Pair
+    pub is_raw_body : IsRawBody by (body_tree i.environment body) raw pairs
+    pub keeps : KeepsSource i.environment accepted.operators body pairs
+    pub bytes : new ≡ old ++ raw
+    pub appends_pairs : AppendsPairs pairs entry exit
+
+  -- The declarations, and what is written after them, are the raw body of the accepted body; the pairs are its own, if they are
+  -- kept.
+  pub record Composes (has_map : Bool) (declared : List ℕ) (written : Drafted) : Type 0 where
+    pub mapping : List (ℕ × ℕ)
+    pub body : Body Occurrence
+    pub accepted : Accepted (setting_with i (mapped_by asks i mapping)) i.bytes body
+    pub is_mapping : IsMapping asks i.on_instr_pos i.offset i.start (i.start + length i.bytes) (operators_of body) mapping
+    pub pairs : List Pair
+    pub is_raw_body : IsRawBody by (body_tree i.environment body) (declared ++ written.output.bytes) pairs
+    pub keeps : KeepsSource i.environment accepted.operators body pairs
+    pub kept_pairs : has_map ≡ true → written.output.pairs ≡ pairs
+
+  -- ---- after the first pass, which found that live operators name these locals
+
+  -- The declarations are written, and after them what is written of the body.
+  pub record WritesAll (has_map : Bool) (numbers_with : List (ℕ × ℕ) → Numbers) (used : ℕ → Bool) (declared : List ℕ) (written : Drafted) : Type 0 where
+    pub entries : List (ℕ × ℕ)
+    pub begins : Begins by used declared entries
+    pub base : ℕ
+    pub base_is : base ≡ length declared
+    pub writes : WritesBody asks (read_again i) (numbers_with entries) (empty_draft base has_map) written
+
+  -- The locals can't be declared, or else this is the first fault of what is written of the body; or memory ran out.
+  pub data IsNotAllWritten (numbers_with : List (ℕ × ℕ) → Numbers) (used : ℕ → Bool) (e : EmitError) : Type 0 where
+    out_of_memory : e ≡ Memory → IsNotAllWritten numbers_with used e
+    not_begun : IsNotBegun by used e → IsNotAllWritten numbers_with used e
+    not_written :
+        (declared : List ℕ) (entries : List (ℕ × ℕ)) → Begins by used declared entries →
+        RefusesWriting asks (read_again i) (numbers_with entries) e → IsNotAllWritten numbers_with used e
+
+-- ---- both ways of rewriting
+
+-- These bytes and these pairs were appended by both: by `rewrite_body`, and without a tree.
+pub record AppendAlike {Z : Type 0} (old one other : List ℕ) (entry : Option (LentPairs Z)) (exit : Left (LentPairs Z)) (flat_entry : Option (LentPairs Z)) (flat_exit : Left (LentPairs Z)) : Type 0 where
+  pub raw : List ℕ
+  pub pairs : List Pair
+  pub is_one : one ≡ old ++ raw
+  pub is_other : other ≡ old ++ raw
+  pub appends_pairs : AppendsPairs pairs entry exit
+  pub appends_flat_pairs : AppendsPairs pairs flat_entry flat_exit
+
+-- Where they had the same locations, or there is no location function, they append the same.
+abbrev pub BothAppendAlike : (S F Z : Type 0) → Shared F (Bor ℕ × Unit {0}) ℕ → Type 0
+BothAppendAlike S F Z asks =
+    (i : ParseInput S F) (by : EmitInput) (made : Function) (mapping : List (ℕ × ℕ)) (old one other : List ℕ) (entry : Option (LentPairs Z)) (exit : Left (LentPairs Z)) (flat_entry : Option (LentPairs Z)) (flat_exit : Left (LentPairs Z)) →
+    Rewrites asks i by made mapping old one entry exit → (flat : RewritesFlat asks i by old other flat_entry flat_exit) → mapped_by asks i mapping ≡ mapped_by asks i flat.mapping →
+    AppendAlike old one other entry exit flat_entry flat_exit

@@ -1,0 +1,451 @@
+//! The operators of a body, checked one by one.
+ghost use Rattle.std.specs.Prelude.{◌≡◌, ◌≢◌, ◌⊎◌, ◌++◌, ◌-◌, slice_get, [], ◌∷◌, List, length, Option, Some, None, nat_lt, reverse, Ok, Err, OnOk, IfOk, IfErr, MatchOption, true, false};
+ghost use Rattle.walrus_ir.specs.Types.{Signature, signature, signature_of_type};
+ghost use Rattle.wasm_operators.specs.Meaning.{meaning};
+ghost use Rattle.wasm_encode.specs.Writable.{IsWritable};
+ghost use Rattle.wasm_body.specs.declared.error.ParseError.TheVariants.{Memory as MemoryFault};
+ghost use Rattle.wasm_body.specs.Naming.{has_pick};
+ghost use Rattle.walrus_parser.specs.OperatorKinds.{is_diverging};
+ghost use Rattle.walrus_flat.specs.SequenceKinds.{handler_kind, has_else, has_clauses, has_delegate};
+ghost use Rattle.std.specs.Bool.{OnTrue, OnFalse};
+ghost use Rattle.wasm_ops.specs.CommonOperators.{listed};
+
+use crate::body_indices::BodyIndices;
+use crate::checking::Checking;
+use crate::open_sequence::OpenSequence;
+use crate::used_locals::UsedLocals;
+use walrus_context::value_type;
+use walrus_ir::{BlockKind, InstrSeqType, Module, TypeId, ValType};
+use wasm_body::ParseError;
+use wasm_operators::{BlockType, Operator};
+use wasm_ops::CommonOperator;
+use wasm_translate::{Lists, translated};
+
+/// The state while a body is checked.
+#[derive(Drop)]
+pub(crate) struct Checker<'a> {
+    pub module: &'a Module,
+    pub indices: BodyIndices<'a>,
+    /// The function's type.
+    pub ty: TypeId,
+    /// The open sequences, the innermost last.
+    pub open: Vec<OpenSequence>,
+    /// Whether code is dead.
+    pub dead: bool,
+    /// The locals that live operators named.
+    pub used: UsedLocals,
+    pub lists: Lists,
+}
+
+/// The kind of a handler of a tag, or of all.
+fn handler_kind(tag: Option<u32>) -> BlockKind
+    ensures { result ≡ handler_kind tag }
+{
+    match tag {
+        Some(_) => BlockKind::Catch,
+        None => BlockKind::CatchAll,
+    }
+}
+
+/// Whether an `else` may follow a sequence of this kind.
+fn has_else(kind: BlockKind) -> bool
+    ensures { result ≡ has_else kind }
+{
+    matches!(kind, BlockKind::If)
+}
+
+/// Whether a label counts one of the open sequences.
+#[inline(always)]
+fn has_label(open: &Vec<OpenSequence>, label: u32) -> bool
+    ensures { result ≡ nat_lt label (length (reverse open.now.items)) }
+{
+    (label as usize) < open.len()
+}
+
+/// Whether clauses may follow a sequence of this kind.
+fn has_clauses(kind: BlockKind) -> bool
+    ensures { result ≡ has_clauses kind }
+{
+    matches!(kind, BlockKind::Try | BlockKind::Catch)
+}
+
+/// Whether a `delegate` may follow a sequence of this kind.
+fn has_delegate(kind: BlockKind) -> bool
+    ensures { result ≡ has_delegate kind }
+{
+    matches!(kind, BlockKind::Try)
+}
+
+impl Checker<'_> {
+    ghost use Rattle.walrus_flat.specs.Checked.{env_of, ChecksStep, StaysSame, ChecksAtOnce};
+    ghost use Rattle.walrus_flat.specs.Checkers.{ChecksParts, IsNamedType, has_handler_type, as_kind, Closes, Opens, BeginsConstruct, RefusesConstruct, PartsIf, RefusesElse, PartsTry, RefusesClause, ClosesTry, RefusesDelegate, NamesLocal, RefusesLocal, Takes, parts_in};
+
+    /// Checks the parts of an operator.
+    fn check_parts(&mut self, operator: &Operator<'_>) -> Result<(), ParseError>
+        requires { IsWritable (meaning operator.now) }
+        ensures parts { ChecksParts self.old (meaning operator.now) result }
+        ensures same { self.new ≡ record self.old { lists = self.new.lists } }
+    {
+        let checking = Checking {
+            module: self.module,
+            indices: self.indices.ids,
+            function: self.indices.function,
+            open: self.open.as_slice(),
+        };
+        match translated(operator, &checking, &mut self.lists) {
+            Ok(_) => Ok(()),
+            Err(fault) => Err(fault),
+        }
+    }
+
+    /// A type with the parameters and results of a block type whose parts are checked.
+    fn named_type(&self, ty: BlockType) -> Result<InstrSeqType, ParseError>
+        ensures { IsNamedType (env_of self.now) ty result }
+    {
+        match ty {
+            BlockType::Empty => Ok(InstrSeqType::Simple(None)),
+            BlockType::Value(value) => match value_type(self.indices.ids, value) {
+                Ok(value) => Ok(InstrSeqType::Simple(Some(value))),
+                Err(error) => Err(error),
+            },
+            BlockType::FuncType(index) => match self.indices.ids.get_type(index) {
+                Ok(id) => Ok(InstrSeqType::MultiValue(id)),
+                Err(error) => Err(ParseError::Index(error)),
+            },
+        }
+    }
+
+    /// Whether the module has a type of a sequence with these parameters and results.
+    fn has_pick(&self, params: &[ValType], results: &[ValType]) -> Result<(), ParseError>
+        ensures { result ≡ has_pick (env_of self.now) (signature params.now results.now) }
+    {
+        match InstrSeqType::existing(&self.module.types, params, results) {
+            Some(_) => Ok(()),
+            None => Err(ParseError::TypeMissing),
+        }
+    }
+
+    /// Whether the module has a type of a sequence with the parameters and results of this type.
+    fn has_pick_of(&self, ty: &InstrSeqType) -> Result<(), ParseError>
+        ensures { (s : Signature) → signature_of_type (env_of self.now).types ty.now ≡ Some s
+            → result ≡ has_pick (env_of self.now) s }
+    {
+        match *ty {
+            InstrSeqType::Simple(result) => match result {
+                None => self.has_pick(&[], &[]),
+                Some(value) => self.has_pick(&[], &[value]),
+            },
+            InstrSeqType::MultiValue(id) => {
+                if !self.module.types.is_func(id) {
+                    return Err(ParseError::NotAFunctionType);
+                }
+                let (params, results) = self.module.types.params_results(id);
+                self.has_pick(params, results)
+            }
+        }
+    }
+
+    /// Whether the module has a type of a sequence with these parameters and the results of a type.
+    fn has_pick_with(&self, params: &[ValType], ty: InstrSeqType) -> Result<(), ParseError>
+        ensures { (s : Signature) → signature_of_type (env_of self.now).types ty ≡ Some s
+            → result ≡ has_pick (env_of self.now) (signature params.now s.results) }
+    {
+        match ty {
+            InstrSeqType::Simple(result) => match result {
+                None => self.has_pick(params, &[]),
+                Some(value) => self.has_pick(params, &[value]),
+            },
+            InstrSeqType::MultiValue(id) => {
+                if !self.module.types.is_func(id) {
+                    return Err(ParseError::NotAFunctionType);
+                }
+                let (_own, results) = self.module.types.params_results(id);
+                self.has_pick(params, results)
+            }
+        }
+    }
+
+    /// Opens a sequence.
+    fn enter(&mut self, kind: BlockKind, ty: InstrSeqType) -> Result<(), ParseError>
+        ensures ok { OnOk result (Opens self.old self.new kind ty) }
+        ensures err { IfErr result (λ e. e ≡ MemoryFault) }
+    {
+        let before = self.dead;
+        match self.open.push(OpenSequence { kind, ty, before }) {
+            Ok(()) => Ok(()),
+            Err(_) => Err(ParseError::Memory),
+        }
+    }
+
+    /// Opens the first sequence of a construct.
+    fn begin(
+        &mut self,
+        operator: &Operator<'_>,
+        kind: BlockKind,
+        ty: BlockType,
+    ) -> Result<(), ParseError>
+        requires { IsWritable (meaning operator.now) }
+        ensures ok { OnOk result
+            (BeginsConstruct self.old self.new (meaning operator.now) kind ty) }
+        ensures err { IfErr result (RefusesConstruct self.old (meaning operator.now) ty) }
+    {
+        let _ids = self.indices.ids;
+        match self.check_parts(operator) {
+            Ok(()) => {}
+            Err(error) => return Err(error),
+        }
+        match self.named_type(ty) {
+            Ok(named) => match self.has_pick_of(&named) {
+                Ok(()) => self.enter(kind, named),
+                Err(error) => Err(error),
+            },
+            Err(error) => Err(error),
+        }
+    }
+
+    /// Closes the innermost sequence, and returns it.
+    fn close(&mut self) -> Option<OpenSequence>
+        ensures { MatchOption result (self.old.open.items ≡ []) (Closes self.old self.new) }
+    {
+        match self.open.pop() {
+            Some(top) => {
+                self.dead = top.before;
+                Some(top)
+            }
+            None => None,
+        }
+    }
+
+    /// Opens the next sequence of the construct of one that was closed.
+    fn reopen(&mut self, top: OpenSequence, kind: BlockKind) -> Result<(), ParseError>
+        ensures ok { OnOk result ((self.new.open.items
+            ≡ self.old.open.items ++ as_kind kind top ∷ [])
+            × (self.new ≡ record self.old { «open» = self.new.open })) }
+        ensures err { IfErr result (λ e. e ≡ MemoryFault) }
+    {
+        let next = OpenSequence {
+            kind,
+            ty: top.ty,
+            before: top.before,
+        };
+        match self.open.push(next) {
+            Ok(()) => Ok(()),
+            Err(_) => Err(ParseError::Memory),
+        }
+    }
+
+    /// Takes an `else`.
+    fn part_if(&mut self) -> Result<(), ParseError>
+        ensures ok { OnOk result (PartsIf self.old self.new) }
+        ensures err { IfErr result (RefusesElse self.old) }
+    {
+        match self.close() {
+            Some(top) if has_else(top.kind) => self.reopen(top, BlockKind::Else),
+            _ => Err(ParseError::ElseOutsideIf),
+        }
+    }
+
+    /// Whether the module has the type of a handler of the tag with this old index, in a `try` of
+    /// this type.
+    fn has_handler_of(&self, tag: u32, ty: InstrSeqType) -> Result<(), ParseError>
+        ensures { (s : Signature) → signature_of_type (env_of self.now).types ty ≡ Some s
+            → result ≡ has_handler_type (env_of self.now) (Some tag) s.results }
+    {
+        let id = match self.indices.ids.get_tag(tag) {
+            Ok(id) => id,
+            Err(error) => return Err(ParseError::Index(error)),
+        };
+        let Some(handled) = self.module.tags.get(id) else {
+            return Err(ParseError::UnknownId);
+        };
+        if !self.module.types.is_func(handled) {
+            return Err(ParseError::NotAFunctionType);
+        }
+        self.has_pick_with(self.module.types.params(handled), ty)
+    }
+
+    /// Whether the module has the type of a handler of this tag, if it has one, in a `try` of this
+    /// type.
+    fn has_handler(&self, tag: Option<u32>, ty: InstrSeqType) -> Result<(), ParseError>
+        ensures { (s : Signature) → signature_of_type (env_of self.now).types ty ≡ Some s
+            → result ≡ has_handler_type (env_of self.now) tag s.results }
+    {
+        match tag {
+            Some(tag) => self.has_handler_of(tag, ty),
+            None => self.has_pick_with(&[], ty),
+        }
+    }
+
+    /// Takes a `catch` of the tag with this old index, or a `catch_all`.
+    fn begin_clause(&mut self, tag: Option<u32>) -> Result<(), ParseError>
+        ensures ok { OnOk result (PartsTry self.old self.new tag) }
+        ensures err { IfErr result (RefusesClause self.old tag) }
+    {
+        let _ids = self.indices.ids;
+        let top = match self.close() {
+            Some(top) if has_clauses(top.kind) => top,
+            _ => return Err(ParseError::CatchOutsideTry),
+        };
+        match self.has_handler(tag, top.ty) {
+            Ok(()) => self.reopen(top, handler_kind(tag)),
+            Err(error) => Err(error),
+        }
+    }
+
+    /// The innermost sequence, if one is open.
+    fn innermost(&self) -> Option<OpenSequence>
+        ensures { result
+            ≡ slice_get self.now.open.items (length self.now.open.items - 1) }
+    {
+        self.open.last().copied()
+    }
+
+    /// Takes a `delegate`.
+    fn close_try(&mut self, operator: &Operator<'_>) -> Result<(), ParseError>
+        requires { IsWritable (meaning operator.now) }
+        ensures ok { OnOk result (ClosesTry self.old self.new (meaning operator.now)) }
+        ensures err { IfErr result (RefusesDelegate self.old (meaning operator.now)) }
+    {
+        let _ids = self.indices.ids;
+        match self.innermost() {
+            Some(top) if has_delegate(top.kind) => {}
+            _ => return Err(ParseError::DelegateOutsideTry),
+        }
+        match self.check_parts(operator) {
+            Ok(()) => {
+                self.close();
+                Ok(())
+            }
+            Err(error) => Err(error),
+        }
+    }
+
+    /// Takes an operator that names a local.
+    fn name_local(&mut self, index: u32) -> Result<(), ParseError>
+        ensures ok { OnOk result (NamesLocal self.old self.new index) }
+        ensures err { IfErr result (RefusesLocal self.old index) }
+    {
+        let id = match self.indices.ids.get_local(self.indices.function, index) {
+            Ok(id) => id,
+            Err(error) => return Err(ParseError::Index(error)),
+        };
+        if self.dead {
+            return Ok(());
+        }
+        if self.used.add(id) {
+            return Ok(());
+        }
+        Err(ParseError::Memory)
+    }
+
+    /// Takes an operator by itself.
+    fn take(&mut self, operator: &Operator<'_>) -> Result<(), ParseError>
+        requires { IsWritable (meaning operator.now) }
+        ensures ok { OnOk result
+            (Takes self.old self.new (meaning operator.now) (is_diverging operator.now)) }
+        ensures err { IfErr result (λ e. (e ≡ MemoryFault)
+            ⊎ (parts_in self.old (meaning operator.now) ≡ Err e)) }
+    {
+        match self.check_parts(operator) {
+            Ok(()) => {
+                if is_diverging(operator) {
+                    self.dead = true;
+                }
+                Ok(())
+            }
+            Err(error) => Err(error),
+        }
+    }
+
+    /// Takes an operator that names the local with this old index, as `step_common`.
+    #[inline(always)]
+    fn name_local_at(&mut self, index: u32) -> bool
+        ensures done { OnTrue result (NamesLocal self.old self.new index) }
+        ensures unchanged { OnFalse result (StaysSame self.old self.new) }
+    {
+        let Some(local) = self.indices.local_at(index) else {
+            return false;
+        };
+        if self.dead {
+            return true;
+        }
+        self.used.add(local)
+    }
+
+    /// Takes a common operator. Returns whether it did; if not, a part of it doesn't exist or memory
+    /// ran out, and nothing is changed.
+    #[inline(always)]
+    pub fn step_common(&mut self, common: CommonOperator) -> bool
+        requires { self.old.open.items ≢ [] }
+        ensures { ChecksAtOnce self.old self.new (meaning (listed common)) result }
+    {
+        match common {
+            CommonOperator::LocalGet { local } => self.name_local_at(local),
+            CommonOperator::LocalSet { local } => self.name_local_at(local),
+            CommonOperator::LocalTee { local } => self.name_local_at(local),
+            CommonOperator::I32Const { .. } => true,
+            CommonOperator::I64Const { .. } => true,
+            CommonOperator::Unop(_) => true,
+            CommonOperator::Binop(_) => true,
+            CommonOperator::Load { memarg, .. } => self.indices.has_memory(memarg.memory),
+            CommonOperator::Store { memarg, .. } => self.indices.has_memory(memarg.memory),
+            CommonOperator::Call { func } => self.indices.has_func(func),
+            CommonOperator::GlobalGet { global } => self.indices.has_global(global),
+            CommonOperator::GlobalSet { global } => self.indices.has_global(global),
+            CommonOperator::Br { label } => {
+                if !has_label(&self.open, label) {
+                    return false;
+                }
+                self.dead = true;
+                true
+            }
+            CommonOperator::BrIf { label } => has_label(&self.open, label),
+            CommonOperator::Drop => true,
+        }
+    }
+
+    /// Takes the next operator.
+    pub fn step(&mut self, operator: &Operator<'_>) -> Result<(), ParseError>
+        requires writable { IsWritable (meaning operator.now) }
+        requires inside { self.old.open.items ≢ [] }
+        ensures step { ChecksStep self.old self.new (meaning operator.now) result }
+        ensures env { OnOk result (env_of self.new ≡ env_of self.old) }
+    {
+        match operator {
+            Operator::Nop => Ok(()),
+            Operator::Block { ty } => self.begin(operator, BlockKind::Block, *ty),
+            Operator::Loop { ty } => self.begin(operator, BlockKind::Loop, *ty),
+            Operator::If { ty } => self.begin(operator, BlockKind::If, *ty),
+            Operator::Try { ty } => self.begin(operator, BlockKind::Try, *ty),
+            Operator::TryTable { ty, .. } => self.begin(operator, BlockKind::TryTable, *ty),
+            Operator::Else => self.part_if(),
+            Operator::Catch { tag } => self.begin_clause(Some(*tag)),
+            Operator::CatchAll => self.begin_clause(None),
+            Operator::Delegate { .. } => self.close_try(operator),
+            Operator::End => {
+                self.close();
+                Ok(())
+            }
+            Operator::LocalGet { local } => self.name_local(*local),
+            Operator::LocalSet { local } => self.name_local(*local),
+            Operator::LocalTee { local } => self.name_local(*local),
+            _ => self.take(operator),
+        }
+    }
+}
+
+/// Whether what follows the operator in its sequence is dead.
+pub(crate) fn is_diverging(operator: &Operator<'_>) -> bool
+    ensures { result ≡ is_diverging operator.now }
+{
+    matches!(
+        operator,
+        Operator::Unreachable
+            | Operator::Br { .. }
+            | Operator::BrTable(_)
+            | Operator::Return
+            | Operator::Throw { .. }
+            | Operator::Rethrow { .. }
+            | Operator::ThrowRef
+    )
+}

@@ -1,0 +1,21 @@
+//! Rewriting bodies without their trees: a body is checked, and then written while it is read again.
+#![tactic(auto)]
+
+mod body_indices;
+mod check_body;
+mod checker;
+mod checking;
+mod laws;
+mod local_numbers;
+mod open_sequence;
+mod renumbering;
+mod rewriting;
+mod scratch;
+mod sequences;
+mod used_locals;
+mod write_body;
+mod writer;
+
+pub use laws::{law_append_alike, law_raw_body, law_renumbered};
+pub use rewriting::rewrite_flat;
+pub use scratch::FlatScratch;

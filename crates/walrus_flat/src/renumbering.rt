@@ -1,0 +1,85 @@
+//! Operators as they are read become operators with new numbers.
+ghost use Rattle.std.specs.Prelude.{◌≡◌, ◌<◌, ◌^◌, IfOk};
+ghost use Rattle.walrus_numbering.specs.NumberMaps.{numbers_of};
+
+use walrus_ir::{FunctionId, InstrSeqType, LocalId};
+use walrus_maps::IndicesToIds;
+use walrus_numbering::{NumberMaps, block_type};
+use wasm_body::EmitError;
+use wasm_operators::{BlockType, Space};
+use wasm_translate::Translate;
+
+/// What is needed to write an operator of a function's body with new numbers.
+#[derive(Clone, Copy)]
+pub(crate) struct Renumbering<'a> {
+    /// The ids of old indices.
+    pub indices: &'a IndicesToIds,
+    /// The function, whose locals have their own old indices.
+    pub function: FunctionId,
+    /// The numbers of ids.
+    pub numbers: NumberMaps<'a>,
+    /// The type of the sequences of the construct that the operator opens, if it opens one.
+    pub ty: InstrSeqType,
+}
+
+/// The number of a local.
+fn local_number(numbers: &NumberMaps<'_>, local: LocalId) -> Result<u32, EmitError>
+    ensures number { result ≡ (numbers_of numbers.now).local_number local }
+    ensures fits { IfOk result (λ number. number < 2 ^ 32) }
+{
+    match numbers.locals.get(&local).copied() {
+        Some(number) => Ok(number),
+        None => Err(EmitError::UnnumberedLocal),
+    }
+}
+
+impl Translate for Renumbering<'_> {
+    type Fault = EmitError;
+
+    ghost use Rattle.wasm_body.specs.declared.error.EmitError.TheVariants.{Memory};
+    ghost use Rattle.walrus_flat.specs.Written.{changes_of};
+
+    ghost changes = { changes_of };
+
+    ghost memory = { Memory };
+
+    fn index(&self, space: Space, index: u32) -> Result<u32, EmitError> {
+        let indices = self.indices;
+        let ids = self.numbers.ids;
+        match space {
+            Space::Tables => Ok(ids.get_table_index(indices.get_table(index)?)?),
+            Space::Types => Ok(ids.get_type_index(indices.get_type(index)?)?),
+            Space::Funcs => Ok(ids.get_func_index(indices.get_func(index)?)?),
+            Space::Globals => Ok(ids.get_global_index(indices.get_global(index)?)?),
+            Space::Memories => Ok(ids.get_memory_index(indices.get_memory(index)?)?),
+            Space::Elements => Ok(ids.get_element_index(indices.get_element(index)?)?),
+            Space::Data => Ok(ids.get_data_index(indices.get_data(index)?)?),
+            Space::Tags => Ok(ids.get_tag_index(indices.get_tag(index)?)?),
+        }
+    }
+
+    fn local(&self, index: u32) -> Result<u32, EmitError> {
+        let id = self.indices.get_local(self.function, index)?;
+        local_number(&self.numbers, id)
+    }
+
+    fn label(&self, depth: u32) -> Result<u32, EmitError> {
+        Ok(depth)
+    }
+
+    fn handler(&self, depth: u32) -> Result<u32, EmitError> {
+        Ok(depth)
+    }
+
+    fn outer(&self, depth: u32) -> Result<u32, EmitError> {
+        Ok(depth)
+    }
+
+    fn block(&self, _ty: BlockType) -> Result<BlockType, EmitError> {
+        block_type(&self.numbers, self.ty)
+    }
+
+    fn out_of_memory(&self) -> EmitError {
+        EmitError::Memory
+    }
+}

@@ -1,0 +1,560 @@
+//! Rewriting a body without its tree.
+ghost use Rattle.std.specs.Prelude.{◌≡◌, ◌⊎◌, ◌++◌, ◌≤◌, ◌<◌, ◌+◌, ◌^◌, ℕ, [], length, Option, Some, OnOk, OnErr, IfOk, IfErr, IsErr, false};
+ghost use Rattle.wasm_body.specs.declared.error.ParseError.TheVariants.{Memory as MemoryFault};
+ghost use Rattle.wasm_body.specs.declared.error.EmitError.TheVariants.{Memory};
+ghost use Rattle.wasm_flat.specs.Flat.{first_state};
+ghost use Rattle.walrus_rewrite.specs.RawBodies.{Begins, IsNotBegun};
+ghost use Rattle.wasm_body.specs.Parsing.Lists.{failure};
+ghost use Rattle.walrus_maps.specs.Environments.{environment_of};
+ghost use Rattle.wasm_body.specs.declared.error.ParseFailure.{ParseFailure as Failure};
+ghost use Rattle.wasm_body.specs.SourceTree.{Body};
+ghost use Rattle.wasm_body.specs.Naming.{Occurrence};
+ghost use Rattle.wasm_body.specs.Parsing.Accepted.{Accepted, FirstFault};
+ghost use Rattle.walrus_parser.specs.Bodies.{input_of, body_input, body_setting, body_operators};
+ghost use Rattle.walrus_parser.specs.Locating.{MayCall};
+ghost use Rattle.walrus_parser.specs.Settings.{BothOrNone};
+ghost use Rattle.walrus_body.specs.EmittedInstructions.{KeepsPairs};
+ghost use Rattle.walrus_numbering.specs.NumberMaps.{numbers_by};
+ghost use Rattle.walrus_rewrite.specs.declared.error.RewriteError.TheVariants.{Parse, Emit as EmitFault};
+ghost use Rattle.walrus_rewrite.specs.Errors.{IsOutOfMemory};
+ghost use Rattle.walrus_rewrite.specs.RewrittenBodies.{RefusesRewriting, IsOfWriting};
+ghost use Rattle.walrus_flat.specs.Checked.{env_of};
+ghost use Rattle.walrus_flat.specs.Checkers.{used_in};
+ghost use Rattle.walrus_flat.specs.CheckedBody.{BeginsBody, setting_at, entry_in, ChecksAll, is_in};
+ghost use Rattle.walrus_flat.specs.Written.{state_of};
+ghost use Rattle.walrus_flat.specs.WrittenBody.{again, IsAccepted, WritesBody, RefusesWriting};
+ghost use Rattle.walrus_flat.specs.RewrittenFlat.{emit_input, empty_draft, is_none, Composes, WritesAll, IsNotAllWritten, Finishes, FinishesBoth, RewritesFlat};
+
+use crate::body_indices::BodyIndices;
+use crate::check_body::check_operators;
+use crate::checker::Checker;
+use crate::local_numbers::LocalNumbers;
+use crate::open_sequence::OpenSequence;
+use crate::scratch::FlatScratch;
+use crate::sequences::{Next, OpenSequences, Written};
+use crate::used_locals::UsedLocals;
+use crate::write_body::write_operators;
+use crate::writer::Writer;
+use std::alloc::{AllocError, Global};
+use std::mem;
+use walrus_emit_state::Draft;
+use walrus_ir::{
+    BlockKind, FunctionId, IdHashMap, IdHashSet, InstrLocId, InstrSeqType, LocalId, Module, TypeId,
+};
+use walrus_maps::{IdsToIndices, IndicesToIds};
+use walrus_numbering::{emit_locals, number_table};
+use walrus_parser::{FunctionBody, OpCheck};
+use walrus_rewrite::RewriteError;
+use wasm_body::{EmitError, ParseError, ParseFailure};
+use wasm_encode::FunctionEncoder;
+use wasm_ops::Reader;
+use wasm_translate::Lists;
+
+/// The entry type of a function of this type.
+fn entry_type(module: &Module, ty: TypeId) -> Result<TypeId, ParseError>
+    ensures { result ≡ entry_in «module».now.types ty }
+{
+    let types = &module.types;
+    if !types.is_func(ty) {
+        return Err(ParseError::NotAFunctionType);
+    }
+    match types.find_for_function_entry(types.results(ty)) {
+        Some(entry) => Ok(entry),
+        None => Err(ParseError::EntryTypeMissing),
+    }
+}
+
+/// A checker that has checked no operator. It takes the lists of the scratch.
+fn begin_check<'a>(
+    alloc: Global,
+    module: &'a Module,
+    indices: &'a IndicesToIds,
+    function: FunctionId,
+    ty: TypeId,
+    entry: TypeId,
+    scratch: &mut FlatScratch,
+) -> Result<Checker<'a>, ParseError>
+    ensures begins { IfOk result BeginsBody }
+    ensures env { IfOk result (λ c. env_of c
+        ≡ environment_of «module».now indices.now function ty) }
+    ensures none { IfOk result (λ c. (x : ℕ) → used_in c x ≡ false) }
+    ensures err { IfErr result (λ e. e ≡ MemoryFault) }
+{
+    let mut open = mem::replace(&mut scratch.open, Vec::new(alloc));
+    open.clear();
+    let lent = mem::replace(&mut scratch.used, IdHashSet::new(alloc));
+    let marks = mem::replace(&mut scratch.marks, Vec::new(alloc));
+    let used = UsedLocals::none(lent, marks);
+    let first = OpenSequence {
+        kind: BlockKind::FunctionEntry,
+        ty: InstrSeqType::MultiValue(entry),
+        before: false,
+    };
+    match open.push(first) {
+        Ok(()) => Ok(Checker {
+            module,
+            indices: BodyIndices {
+                ids: indices,
+                function,
+                locals: indices.locals_of(function),
+            },
+            ty,
+            open,
+            dead: false,
+            used,
+            lists: Lists::new(alloc),
+        }),
+        Err(_) => Err(ParseError::Memory),
+    }
+}
+
+fn failure(error: ParseError, at: usize) -> ParseFailure
+    ensures { result ≡ failure error at }
+{
+    ParseFailure { error, at }
+}
+
+/// The first pass over the operators of a body. The scratch then holds the locals that live
+/// operators name.
+fn check<V: OpCheck>(
+    alloc: Global,
+    module: &Module,
+    indices: &IndicesToIds,
+    function: FunctionId,
+    ty: TypeId,
+    ops: &[u8],
+    start: usize,
+    has_limit: bool,
+    validator: V,
+    scratch: &mut FlatScratch,
+) -> Result<(), ParseFailure>
+    requires { start + length ops.now < 2 ^ 64 }
+    ensures { ChecksAll (setting_at (environment_of «module».now indices.now function ty) start
+        V.check (V.state validator)) has_limit ops.now (is_in scratch.new.used) result }
+{
+    let entry = match entry_type(module, ty) {
+        Ok(entry) => entry,
+        Err(error) => return Err(failure(error, start)),
+    };
+    let mut checker = match begin_check(alloc, module, indices, function, ty, entry, scratch) {
+        Ok(checker) => checker,
+        Err(error) => return Err(failure(error, start)),
+    };
+    let mut reader = Reader::new(ops, start);
+    let result = check_operators(&mut checker, &mut reader, has_limit, validator);
+    let Checker { open, used, .. } = checker;
+    let UsedLocals { locals, marks } = used;
+    scratch.open = open;
+    scratch.used = locals;
+    scratch.marks = marks;
+    result
+}
+
+/// The sequences of a body of which nothing is written. They take the list of the scratch.
+fn begin_sequences(alloc: Global, scratch: &mut FlatScratch) -> Result<OpenSequences, EmitError>
+    ensures ok { IfOk result (λ open_sequences. state_of open_sequences ≡ first_state) }
+    ensures err { IfErr result (λ e. e ≡ Memory) }
+{
+    let mut sequences = mem::replace(&mut scratch.sequences, Vec::new(alloc));
+    sequences.clear();
+    match sequences.push(Written::Kept(false)) {
+        Ok(()) => Ok(OpenSequences {
+            next: Next::Live,
+            sequences,
+        }),
+        Err(_) => Err(EmitError::Memory),
+    }
+}
+
+/// The second pass over the operators of a body, after its declarations.
+fn write<'a, F: Fn(&usize) -> InstrLocId>(
+    alloc: Global,
+    module: &'a Module,
+    indices: &'a IndicesToIds,
+    function: FunctionId,
+    ty: TypeId,
+    ops: &[u8],
+    start: usize,
+    on_instr_pos: Option<&F>,
+    out: &'a IdsToIndices,
+    locals: &'a IdHashMap<LocalId, u32>,
+    base: usize,
+    has_map: bool,
+    scratch: &mut FlatScratch,
+) -> Result<Draft, EmitError>
+    requires base { base < 2 ^ 63 }
+    requires fits { start + length ops.now < 2 ^ 64 }
+    requires offset { «module».now.code_section_offset ≤ start }
+    requires may_call { MayCall F.pre on_instr_pos start (start + length ops.now) }
+    requires accepted { IsAccepted (again (environment_of «module».now indices.now function ty)
+        (record { rest = ops.now; place = start }) «module».now.code_section_offset
+        on_instr_pos) }
+    ensures ok { IfOk result (WritesBody F.Fn (again (environment_of «module».now indices.now
+        function ty) (record { rest = ops.now; place = start })
+        «module».now.code_section_offset on_instr_pos.entry) (numbers_by «module».now.types
+        out.now locals.now.entries) (empty_draft base has_map)) }
+    ensures err { IfErr result (λ e. (e ≡ Memory) ⊎ RefusesWriting F.Fn
+        (again (environment_of «module».now indices.now function ty)
+        (record { rest = ops.now; place = start }) «module».now.code_section_offset
+        on_instr_pos.entry) (numbers_by «module».now.types out.now locals.now.entries) e) }
+{
+    let open = match begin_sequences(alloc, scratch) {
+        Ok(open) => open,
+        Err(fault) => return Err(fault),
+    };
+    let Ok(table) = number_table(alloc, locals) else {
+        return Err(EmitError::Memory);
+    };
+    let draft = Draft::new(alloc, base, has_map);
+    let mut writer = Writer {
+        module,
+        indices: BodyIndices {
+            ids: indices,
+            function,
+            locals: indices.locals_of(function),
+        },
+        ty,
+        out,
+        locals: LocalNumbers { map: locals, table },
+        open,
+        lists: Lists::new(alloc),
+        draft,
+    };
+    let mut reader = Reader::new(ops, start);
+    match write_operators(&mut writer, &mut reader, on_instr_pos) {
+        Ok(()) => {
+            let Writer { open, draft, .. } = writer;
+            scratch.sequences = open.sequences;
+            Ok(draft)
+        }
+        Err(fault) => Err(fault),
+    }
+}
+
+/// An encoder with the declarations of the locals that a body uses, and the number of each local.
+fn begin_body(
+    alloc: Global,
+    module: &Module,
+    args: &[LocalId],
+    out: &IdsToIndices,
+    used: &IdHashSet<LocalId>,
+) -> Result<(FunctionEncoder, IdHashMap<LocalId, u32>), EmitError>
+    ensures ok { IfOk result (λ made. Begins (emit_input «module».now out.now args.now)
+        (is_in used.now) made.0 made.1.entries) }
+    ensures err { IfErr result (IsNotBegun (emit_input «module».now out.now args.now)
+        (is_in used.now)) }
+{
+    let (declarations, numbers) = match emit_locals(alloc, args, module, out, used) {
+        Ok(made) => made,
+        Err(fault) => return Err(fault),
+    };
+    match FunctionEncoder::new(alloc, declarations.as_slice()) {
+        Ok(encoder) => Ok((encoder, numbers)),
+        Err(_) => Err(EmitError::Memory),
+    }
+}
+
+/// The declarations of a body, and what is written after them, of one that was checked. The scratch
+/// has the locals that live operators name.
+fn write_checked<F: Fn(&usize) -> InstrLocId>(
+    alloc: Global,
+    module: &Module,
+    indices: &IndicesToIds,
+    function: FunctionId,
+    ty: TypeId,
+    args: &[LocalId],
+    ops: &[u8],
+    start: usize,
+    on_instr_pos: Option<&F>,
+    out: &IdsToIndices,
+    has_map: bool,
+    scratch: &mut FlatScratch,
+) -> Result<(FunctionEncoder, Draft), EmitError>
+    requires fits { start + length ops.now < 2 ^ 64 }
+    requires offset { «module».now.code_section_offset ≤ start }
+    requires may_call { MayCall F.pre on_instr_pos start (start + length ops.now) }
+    requires accepted { IsAccepted (again (environment_of «module».now indices.now function ty)
+        (record { rest = ops.now; place = start }) «module».now.code_section_offset
+        on_instr_pos) }
+    ensures ok { IfOk result (λ made. WritesAll F.Fn (again (environment_of «module».now
+        indices.now function ty) (record { rest = ops.now; place = start })
+        «module».now.code_section_offset on_instr_pos.entry) (emit_input «module».now out.now
+        args.now) has_map (numbers_by «module».now.types out.now) (is_in scratch.old.used) made.0
+        made.1) }
+    ensures err { IfErr result (IsNotAllWritten F.Fn (again (environment_of «module».now
+        indices.now function ty) (record { rest = ops.now; place = start })
+        «module».now.code_section_offset on_instr_pos.entry) (emit_input «module».now out.now
+        args.now) (numbers_by «module».now.types out.now) (is_in scratch.old.used)) }
+{
+    let (encoder, numbers) = match begin_body(alloc, module, args, out, &scratch.used) {
+        Ok(made) => made,
+        Err(fault) => return Err(fault),
+    };
+    let base = encoder.byte_len();
+    match write(
+        alloc,
+        module,
+        indices,
+        function,
+        ty,
+        ops,
+        start,
+        on_instr_pos,
+        out,
+        &numbers,
+        base,
+        has_map,
+        scratch,
+    ) {
+        Ok(draft) => Ok((encoder, draft)),
+        Err(fault) => Err(fault),
+    }
+}
+
+/// Whether places have a limit, which they have where there is no location function.
+fn has_limit<F: Fn(&usize) -> InstrLocId>(on_instr_pos: Option<&F>) -> bool
+    ensures { result ≡ is_none on_instr_pos.entry }
+{
+    match on_instr_pos {
+        Some(_) => false,
+        None => true,
+    }
+}
+
+/// Both passes: the declarations of a body, and what is written after them.
+fn write_body<V: OpCheck, F: Fn(&usize) -> InstrLocId>(
+    alloc: Global,
+    module: &Module,
+    indices: &IndicesToIds,
+    function: FunctionId,
+    ty: TypeId,
+    args: &[LocalId],
+    ops: &[u8],
+    start: usize,
+    on_instr_pos: Option<&F>,
+    validator: V,
+    out: &IdsToIndices,
+    has_map: bool,
+    scratch: &mut FlatScratch,
+) -> Result<(FunctionEncoder, Draft), RewriteError>
+    requires fits { start + length ops.now < 2 ^ 64 }
+    requires offset { «module».now.code_section_offset ≤ start }
+    requires may_call { MayCall F.pre on_instr_pos start (start + length ops.now) }
+    ensures ok { IfOk result (λ made. Composes F.Fn (input_of «module».now indices.now function
+        ty start ops.now on_instr_pos.entry V.check (V.state validator)) (emit_input
+        «module».now out.now args.now) has_map made.0 made.1) }
+    ensures err { IfErr result (RefusesRewriting F.Fn (input_of «module».now indices.now function
+        ty start ops.now on_instr_pos.entry V.check (V.state validator)) (emit_input
+        «module».now out.now args.now)) }
+{
+    let limited = has_limit(on_instr_pos);
+    match check(
+        alloc, module, indices, function, ty, ops, start, limited, validator, scratch,
+    ) {
+        Ok(()) => {}
+        Err(failure) => return Err(RewriteError::Parse(failure)),
+    }
+    match write_checked(
+        alloc,
+        module,
+        indices,
+        function,
+        ty,
+        args,
+        ops,
+        start,
+        on_instr_pos,
+        out,
+        has_map,
+        scratch,
+    ) {
+        Ok(made) => Ok(made),
+        Err(fault) => Err(RewriteError::Emit(fault)),
+    }
+}
+
+/// Appends a body to `dst`.
+fn append(mut encoder: FunctionEncoder, draft: Draft, dst: &mut Vec<u8>) -> Result<(), RewriteError>
+    ensures ok { OnOk result
+        (dst.new.items ≡ dst.old.items ++ (encoder ++ draft.output.bytes)) }
+    ensures err { IfErr result (λ e. e ≡ EmitFault Memory) }
+    ensures same { OnErr result (dst.new.items ≡ dst.old.items) }
+{
+    draft.append_bytes_to(&mut encoder)?;
+    dst.extend_from_slice(encoder.bytes())?;
+    Ok(())
+}
+
+/// Appends the bytes and the pairs, or neither if memory runs out.
+fn append_both(
+    dst: &mut Vec<u8>,
+    map: &mut Vec<(InstrLocId, usize)>,
+    bytes: &[u8],
+    pairs: &[(InstrLocId, usize)],
+) -> Result<(), AllocError>
+    ensures bytes { OnOk result (dst.new.items ≡ dst.old.items ++ bytes.now) }
+    ensures pairs { OnOk result (map.new.items ≡ map.old.items ++ pairs.now) }
+    ensures same_bytes { OnErr result (dst.new.items ≡ dst.old.items) }
+    ensures same_pairs { OnErr result (map.new.items ≡ map.old.items) }
+{
+    map.reserve(pairs.len())?;
+    dst.extend_from_slice(bytes)?;
+    map.extend_from_slice(pairs).unwrap();
+    Ok(())
+}
+
+/// Appends a body to `dst`, and its pairs to the list.
+fn append_with_map(
+    mut encoder: FunctionEncoder,
+    draft: Draft,
+    dst: &mut Vec<u8>,
+    map: &mut Vec<(InstrLocId, usize)>,
+) -> Result<(), RewriteError>
+    ensures ok { OnOk result
+        (dst.new.items ≡ dst.old.items ++ (encoder ++ draft.output.bytes)) }
+    ensures pairs { OnOk result (map.new.items ≡ map.old.items ++ draft.output.pairs) }
+    ensures err { IfErr result (λ e. e ≡ EmitFault Memory) }
+    ensures same { OnErr result (dst.new.items ≡ dst.old.items) }
+    ensures same_pairs { OnErr result (map.new.items ≡ map.old.items) }
+{
+    let mut pairs = Vec::new(*dst.allocator());
+    draft.append_to(&mut encoder, &mut pairs)?;
+    append_both(dst, map, encoder.bytes(), pairs.as_slice())?;
+    Ok(())
+}
+
+/// Appends a body to `dst`, if it was written.
+fn finish(
+    made: Result<(FunctionEncoder, Draft), RewriteError>,
+    dst: &mut Vec<u8>,
+) -> Result<(), RewriteError>
+    ensures finishes { Finishes made dst.old.items dst.new.items result }
+    ensures same_bytes { OnErr result (dst.new.items ≡ dst.old.items) }
+{
+    match made {
+        Ok(parts) => {
+            let (encoder, draft) = parts;
+            append(encoder, draft, dst)
+        }
+        Err(error) => Err(error),
+    }
+}
+
+/// The same, and its pairs to the list.
+fn finish_with_map(
+    made: Result<(FunctionEncoder, Draft), RewriteError>,
+    dst: &mut Vec<u8>,
+    map: &mut Vec<(InstrLocId, usize)>,
+) -> Result<(), RewriteError>
+    ensures finishes { FinishesBoth made dst.old.items dst.new.items map.old.items map.new.items
+        result }
+    ensures same_bytes { OnErr result (dst.new.items ≡ dst.old.items) }
+    ensures same_pairs { OnErr result (map.new.items ≡ map.old.items) }
+{
+    match made {
+        Ok(parts) => {
+            let (encoder, draft) = parts;
+            append_with_map(encoder, draft, dst, map)
+        }
+        Err(error) => Err(error),
+    }
+}
+
+/// Rewrites a function's body as `rewrite_body` does, without its tree: what is written is written
+/// while the body is read a second time. The caller's location function is called once for each
+/// operator, in the second pass.
+///
+/// # Errors
+///
+/// Those of `rewrite_body`. `dst` and `map` are then as before.
+pub fn rewrite_flat<V: OpCheck, F: Fn(&usize) -> InstrLocId>(
+    module: &Module,
+    indices: &IndicesToIds,
+    id: FunctionId,
+    ty: TypeId,
+    args: &[LocalId],
+    body: FunctionBody<'_>,
+    on_instr_pos: Option<&F>,
+    validator: V,
+    out: &IdsToIndices,
+    scratch: &mut FlatScratch,
+    dst: &mut Vec<u8>,
+    map: Option<&mut Vec<(InstrLocId, usize)>>,
+) -> Result<(), RewriteError>
+    requires offset { «module».now.code_section_offset ≤ body.start }
+    requires ops { body.ops ≤ length body.bytes.now }
+    requires fits { body.start + length body.bytes.now < 2 ^ 64 }
+    requires may_call { MayCall F.pre on_instr_pos (body.start + body.ops)
+        (body.start + length body.bytes.now) }
+    // What is appended is the raw body of the normal form of the accepted body: for every list of
+    // outcomes and bound on turns it executes the operators of the source and ends alike, and its
+    // pairs hold their locations. What is refused is so for the first reason.
+    ensures rewritten { OnOk result (RewritesFlat F.Fn (body_input «module».now indices.now
+        id ty body.entry on_instr_pos.entry V.check (V.state validator)) (record {
+          to = numbers_by «module».now.types out.now [];
+          types = «module».now.locals;
+          args = args.now;
+        }) dst.old.items dst.new.items map.entry map.exit) }
+    ensures refused { IfErr result (RefusesRewriting F.Fn (body_input «module».now indices.now
+        id ty body.entry on_instr_pos.entry V.check (V.state validator)) (record {
+          to = numbers_by «module».now.types out.now [];
+          types = «module».now.locals;
+          args = args.now;
+        })) }
+    // No accepted body is refused by the parse unless memory runs out, and each first fault is
+    // returned.
+    ensures each_body { (locations : Option (ℕ → ℕ)) (b : Body Occurrence)
+        → BothOrNone on_instr_pos.entry locations
+        → Accepted (body_setting «module».now indices.now id ty body.entry V.check
+        (V.state validator) locations) (body_operators body.entry) b
+        → IfErr result IsOfWriting }
+    ensures each_fault { (locations : Option (ℕ → ℕ)) (f : Failure)
+        → BothOrNone on_instr_pos.entry locations
+        → FirstFault (body_setting «module».now indices.now id ty body.entry V.check
+        (V.state validator) locations) (body_operators body.entry) f
+        → IsErr result × IfErr result (λ e. IsOutOfMemory e ⊎ (e ≡ Parse f)) }
+    ensures same_bytes { OnErr result (dst.new.items ≡ dst.old.items) }
+    ensures same_pairs { OnErr result (KeepsPairs map.entry map.exit) }
+{
+    let alloc = *dst.allocator();
+    let start = body.start + body.ops;
+    let ops = body.operators();
+    match map {
+        Some(list) => {
+            let with_pairs = write_body(
+                alloc,
+                module,
+                indices,
+                id,
+                ty,
+                args,
+                ops,
+                start,
+                on_instr_pos,
+                validator,
+                out,
+                true,
+                scratch,
+            );
+            finish_with_map(with_pairs, dst, list)
+        }
+        None => {
+            let without = write_body(
+                alloc,
+                module,
+                indices,
+                id,
+                ty,
+                args,
+                ops,
+                start,
+                on_instr_pos,
+                validator,
+                out,
+                false,
+                scratch,
+            );
+            finish(without, dst)
+        }
+    }
+}

@@ -1,0 +1,576 @@
+//! The operators of a body, written one by one.
+ghost use Rattle.std.specs.Prelude.{◌≡◌, ◌∷◌, [], OnOk, IfErr, false, None, Ok};
+ghost use Rattle.walrus_ir.specs.Locations.{default_location};
+ghost use Rattle.walrus_ir.specs.declared.val_type.InstrSeqType.TheVariants.{Simple as SimpleType};
+ghost use Rattle.wasm_operators.specs.Meaning.{meaning};
+ghost use Rattle.wasm_encode.specs.Writable.{IsWritable};
+ghost use Rattle.wasm_body.specs.declared.error.EmitError.TheVariants.{Memory};
+ghost use Rattle.wasm_flat.specs.Flat.{Kept as KeptOpen, Live as LiveMode, Dead as DeadMode, innermost, around, mode_of_else, state};
+ghost use Rattle.walrus_parser.specs.OperatorKinds.{is_diverging};
+ghost use Rattle.walrus_flat.specs.Written.{drafted, waiting_else, awake, opens_of, state_of, mode_of, is_dead, ends_dropped, else_if, end_if, end_location, else_pieces, end_pieces, state_after_else, state_after_end, mode_if};
+ghost use Rattle.wasm_operators.specs.AccessOperations.{access_of};
+ghost use Rattle.wasm_operators.specs.declared.operator.Op.TheVariants as listing;
+ghost use Rattle.wasm_operators.specs.declared.types.Opcode.TheVariants as opcodes;
+ghost use Rattle.wasm_operators.specs.declared.types.Space.TheVariants.{Funcs, Globals};
+ghost use Rattle.wasm_operators.specs.Operations.{operation, index as index_immediate, local as local_immediate, label as label_immediate, access as access_immediate};
+ghost use Rattle.wasm_ops.specs.CommonOperators.{listed};
+
+use crate::body_indices::BodyIndices;
+use crate::checker::is_diverging;
+use crate::local_numbers::LocalNumbers;
+use crate::renumbering::Renumbering;
+use crate::sequences::{Next, OpenSequences, Written};
+use walrus_context::value_type;
+use walrus_emit_state::Draft;
+use walrus_ir::{BinaryOp, InstrLocId, InstrSeqType, Module, TypeId, UnaryOp};
+use walrus_maps::IdsToIndices;
+use walrus_numbering::{NumberMaps, is_balanced};
+use wasm_body::EmitError;
+use wasm_encode::OutOp;
+use wasm_operators::{
+    BlockType, Opcode, Operator, RawMemArg, binary_opcode, load_opcode, store_opcode, unary_opcode,
+};
+use wasm_ops::CommonOperator;
+use wasm_translate::{Lists, translated};
+
+/// The state while a body is written.
+#[derive(Drop)]
+pub(crate) struct Writer<'a> {
+    pub module: &'a Module,
+    pub indices: BodyIndices<'a>,
+    /// The function's type.
+    pub ty: TypeId,
+    /// The new indices.
+    pub out: &'a IdsToIndices,
+    /// The numbers of the function's locals.
+    pub locals: LocalNumbers<'a>,
+    pub open: OpenSequences,
+    pub lists: Lists,
+    pub draft: Draft,
+}
+
+impl Writer<'_> {
+    ghost use Rattle.walrus_flat.specs.Writers.{PutsAsIs, Goes, WritesUnless, OpensUnless, Picks, needs_one, numbers_in, StepsWriter, WritesCommon, WritesAtOnce};
+
+    /// Writes the `else` that waits, if one does.
+    fn write_else(&mut self) -> Result<(), EmitError>
+        ensures ok { OnOk result (self.new ≡ record self.old {
+          draft = drafted self.old.draft (waiting_else self.old.open.next);
+          «open» = awake self.old.open;
+        }) }
+        ensures err { IfErr result (λ e. e ≡ Memory) }
+    {
+        let _ids = self.indices.ids;
+        match self.open.waiting() {
+            Some(location) => match self.draft.write_any(&OutOp::Else, location) {
+                Ok(()) => {
+                    self.open.wake();
+                    Ok(())
+                }
+                Err(fault) => Err(fault),
+            },
+            None => Ok(()),
+        }
+    }
+
+    /// Writes an operator as it is, with its numbers. If it opens a construct, this is the type of its
+    /// sequences.
+    fn write_as_is(
+        &mut self,
+        operator: &Operator<'_>,
+        ty: InstrSeqType,
+        location: InstrLocId,
+    ) -> Result<(), EmitError>
+        requires { IsWritable (meaning operator.now) }
+        ensures { PutsAsIs self.old self.new (meaning operator.now) ty location result }
+    {
+        match self.write_else() {
+            Ok(()) => {}
+            Err(fault) => return Err(fault),
+        }
+        let numbers = NumberMaps {
+            types: &self.module.types,
+            ids: self.out,
+            locals: self.locals.map,
+        };
+        let with = Renumbering {
+            indices: self.indices.ids,
+            function: self.indices.function,
+            numbers,
+            ty,
+        };
+        match translated(operator, &with, &mut self.lists) {
+            Ok(op) => self.draft.write_any(&op, location),
+            Err(fault) => Err(fault),
+        }
+    }
+
+    /// Writes an operator by itself.
+    fn write_plain(
+        &mut self,
+        operator: &Operator<'_>,
+        location: InstrLocId,
+    ) -> Result<(), EmitError>
+        requires { IsWritable (meaning operator.now) }
+        ensures { WritesUnless (is_dead self.old.open.next) self.old self.new
+            (meaning operator.now) (SimpleType None) location (state_of self.old.open)
+            (state (mode_if (is_diverging operator.now)) (opens_of self.old.open)) result }
+    {
+        let _ids = self.indices.ids;
+        if self.open.is_dead() {
+            return Ok(());
+        }
+        match self.write_as_is(operator, InstrSeqType::Simple(None), location) {
+            Ok(()) => {
+                self.open.next = next_after(is_diverging(operator));
+                Ok(())
+            }
+            Err(fault) => Err(fault),
+        }
+    }
+
+    /// The type of a sequence with the parameters and results of a block type.
+    fn picked(&self, ty: BlockType) -> Result<InstrSeqType, EmitError>
+        ensures { Picks self.now ty result }
+    {
+        let types = &self.module.types;
+        match ty {
+            BlockType::Empty => Ok(InstrSeqType::Simple(None)),
+            BlockType::Value(value) => match value_type(self.indices.ids, value) {
+                Ok(value) => Ok(InstrSeqType::Simple(Some(value))),
+                Err(_) => Err(EmitError::UnknownSequence),
+            },
+            BlockType::FuncType(index) => {
+                let Ok(id) = self.indices.ids.get_type(index) else {
+                    return Err(EmitError::UnknownSequence);
+                };
+                if !types.is_func(id) {
+                    return Err(EmitError::UnknownSequence);
+                }
+                let (params, results) = types.params_results(id);
+                match InstrSeqType::existing(types, params, results) {
+                    Some(ty) => Ok(ty),
+                    None => Err(EmitError::UnknownSequence),
+                }
+            }
+        }
+    }
+
+    /// Whether the first sequence of an `if`, or of another construct, needs an `else`.
+    fn needs_else(&self, is_if: bool, ty: &InstrSeqType) -> bool
+        ensures { result ≡ needs_one is_if ((numbers_in self.now).balanced ty.now) }
+    {
+        if is_if {
+            let balanced = is_balanced(&self.module.types, *ty);
+            !balanced
+        } else {
+            false
+        }
+    }
+
+    /// Writes the opener of a construct, whose sequences have this type.
+    fn write_opener(
+        &mut self,
+        operator: &Operator<'_>,
+        ty: InstrSeqType,
+        is_if: bool,
+        location: InstrLocId,
+    ) -> Result<(), EmitError>
+        requires { IsWritable (meaning operator.now) }
+        ensures { WritesUnless false self.old self.new (meaning operator.now) ty location
+            (state_of self.old.open) (state LiveMode (KeptOpen (needs_one is_if
+            ((numbers_in self.old).balanced ty)) ∷ opens_of self.old.open)) result }
+    {
+        let _ids = self.indices.ids;
+        let needs_else = self.needs_else(is_if, &ty);
+        match self.write_as_is(operator, ty, location) {
+            Ok(()) => {}
+            Err(fault) => return Err(fault),
+        }
+        self.open.next = Next::Live;
+        self.open.enter(Written::Kept(needs_else))
+    }
+
+    /// Takes the opener of a construct.
+    fn begin(
+        &mut self,
+        operator: &Operator<'_>,
+        ty: BlockType,
+        is_if: bool,
+        location: InstrLocId,
+    ) -> Result<(), EmitError>
+        requires { IsWritable (meaning operator.now) }
+        ensures { OpensUnless (is_dead self.old.open.next) self.old self.new
+            (meaning operator.now) ty is_if location result }
+    {
+        let _ids = self.indices.ids;
+        if self.open.is_dead() {
+            return self.open.enter(Written::Dropped);
+        }
+        match self.picked(ty) {
+            Ok(ty) => self.write_opener(operator, ty, is_if, location),
+            Err(fault) => Err(fault),
+        }
+    }
+
+    /// Writes an `else`, if it is needed.
+    fn write_needed_else(&mut self, needed: bool, location: InstrLocId) -> Result<(), EmitError>
+        ensures ok { OnOk result (self.new ≡ record self.old {
+          draft = drafted self.old.draft (else_if needed location);
+        }) }
+        ensures err { IfErr result (λ e. e ≡ Memory) }
+    {
+        if needed {
+            self.draft.write_any(&OutOp::Else, location)
+        } else {
+            Ok(())
+        }
+    }
+
+    /// Takes an `else`.
+    fn part_if(&mut self, location: InstrLocId) -> Result<(), EmitError>
+        ensures ok { OnOk result (Goes self.old self.new
+            (state_after_else (mode_of self.old.open.next) (opens_of self.old.open) location)
+            (else_pieces (mode_of self.old.open.next) (innermost (opens_of self.old.open))
+            location)) }
+        ensures err { IfErr result (λ e. e ≡ Memory) }
+    {
+        let _ids = self.indices.ids;
+        if self.open.ends_dropped() {
+            return Ok(());
+        }
+        let needs_else = self.open.needs_else();
+        let waited = self.open.waits();
+        match self.write_else() {
+            Ok(()) => {}
+            Err(fault) => return Err(fault),
+        }
+        match self.write_needed_else(needs_else && !waited, location) {
+            Ok(()) => {}
+            Err(fault) => return Err(fault),
+        }
+        self.open.next = next_in_alternative(needs_else, location);
+        self.open.leave();
+        self.open.enter(Written::Kept(false))
+    }
+
+    /// Takes a clause of a legacy `try`.
+    fn begin_clause(
+        &mut self,
+        operator: &Operator<'_>,
+        location: InstrLocId,
+    ) -> Result<(), EmitError>
+        requires { IsWritable (meaning operator.now) }
+        ensures { WritesUnless (ends_dropped (state_of self.old.open)) self.old self.new
+            (meaning operator.now) (SimpleType None) location (state_of self.old.open)
+            (state LiveMode (opens_of self.old.open)) result }
+    {
+        let _ids = self.indices.ids;
+        if self.open.ends_dropped() {
+            return Ok(());
+        }
+        match self.write_as_is(operator, InstrSeqType::Simple(None), location) {
+            Ok(()) => {
+                self.open.next = Next::Live;
+                Ok(())
+            }
+            Err(fault) => Err(fault),
+        }
+    }
+
+    /// Takes a `delegate`.
+    fn close_try(&mut self, operator: &Operator<'_>) -> Result<(), EmitError>
+        requires { IsWritable (meaning operator.now) }
+        ensures { WritesUnless (ends_dropped (state_of self.old.open)) self.old self.new
+            (meaning operator.now) (SimpleType None) default_location
+            (state DeadMode (around (opens_of self.old.open)))
+            (state LiveMode (around (opens_of self.old.open))) result }
+    {
+        let _ids = self.indices.ids;
+        if self.open.ends_dropped() {
+            self.open.leave();
+            return Ok(());
+        }
+        let none = InstrSeqType::Simple(None);
+        match self.write_as_is(operator, none, InstrLocId::default()) {
+            Ok(()) => {
+                self.open.next = Next::Live;
+                self.open.leave();
+                Ok(())
+            }
+            Err(fault) => Err(fault),
+        }
+    }
+
+    /// Writes the `end` of a sequence that is written. One that needs an `else` gets it before.
+    fn write_end(&mut self, needs_else: bool, location: InstrLocId) -> Result<(), EmitError>
+        ensures ok { OnOk result (self.new ≡ record self.old {
+          draft = drafted self.old.draft (end_if needs_else location);
+        }) }
+        ensures err { IfErr result (λ e. e ≡ Memory) }
+    {
+        if !needs_else {
+            return self.draft.write_any(&OutOp::End, location);
+        }
+        match self.draft.write_any(&OutOp::Else, location) {
+            Ok(()) => self.draft.write_any(&OutOp::End, InstrLocId::default()),
+            Err(fault) => Err(fault),
+        }
+    }
+
+    /// Takes an `end`.
+    fn close(&mut self, location: InstrLocId) -> Result<(), EmitError>
+        ensures ok { OnOk result (Goes self.old self.new
+            (state_after_end (mode_of self.old.open.next) (opens_of self.old.open))
+            (end_pieces (mode_of self.old.open.next) (innermost (opens_of self.old.open))
+            location)) }
+        ensures err { IfErr result (λ e. e ≡ Memory) }
+    {
+        let _ids = self.indices.ids;
+        if self.open.ends_dropped() {
+            self.open.leave();
+            return Ok(());
+        }
+        let needs_else = self.open.needs_else() && !self.open.waits();
+        let location = last_location(self.open.next, location);
+        match self.write_end(needs_else, location) {
+            Ok(()) => {
+                self.open.next = Next::Live;
+                self.open.leave();
+                Ok(())
+            }
+            Err(fault) => Err(fault),
+        }
+    }
+
+    /// Writes an operator that is a byte and a local, as `write_common`.
+    #[inline(always)]
+    fn write_local(&mut self, byte: u8, index: u32, location: InstrLocId) -> bool
+        ensures { WritesCommon self.old self.new (operation (opcodes.Byte byte)
+            (local_immediate index ∷ [])) location result }
+    {
+        let Some(local) = self.indices.local_at(index) else {
+            return false;
+        };
+        match self.locals.at(local) {
+            Some(number) => self.draft.write_number(byte, number, location),
+            None => false,
+        }
+    }
+
+    /// Writes an operator that is a byte and a function, as `write_common`.
+    #[inline(always)]
+    fn write_func(&mut self, byte: u8, index: u32, location: InstrLocId) -> bool
+        ensures { WritesCommon self.old self.new (operation (opcodes.Byte byte)
+            (index_immediate Funcs index ∷ [])) location result }
+    {
+        let Ok(id) = self.indices.ids.get_func(index) else {
+            return false;
+        };
+        match self.out.get_func_index(id) {
+            Ok(number) => self.draft.write_number(byte, number, location),
+            Err(_) => false,
+        }
+    }
+
+    /// Writes an operator that is a byte and a global, as `write_common`.
+    #[inline(always)]
+    fn write_global(&mut self, byte: u8, index: u32, location: InstrLocId) -> bool
+        ensures { WritesCommon self.old self.new (operation (opcodes.Byte byte)
+            (index_immediate Globals index ∷ [])) location result }
+    {
+        let Ok(id) = self.indices.ids.get_global(index) else {
+            return false;
+        };
+        match self.out.get_global_index(id) {
+            Ok(number) => self.draft.write_number(byte, number, location),
+            Err(_) => false,
+        }
+    }
+
+    /// Writes an operator that is an opcode and an access to memory, as `write_common`; not if the
+    /// opcode isn't one byte.
+    #[inline(always)]
+    fn write_access(&mut self, opcode: Opcode, memarg: RawMemArg, location: InstrLocId) -> bool
+        ensures { WritesCommon self.old self.new (operation opcode
+            (access_immediate (access_of memarg) ∷ [])) location result }
+    {
+        let Opcode::Byte(byte) = opcode else {
+            return false;
+        };
+        let Ok(id) = self.indices.ids.get_memory(memarg.memory) else {
+            return false;
+        };
+        match self.out.get_memory_index(id) {
+            Ok(memory) => {
+                let memarg = RawMemArg { memory, ..memarg };
+                self.draft.write_access(byte, memarg, location)
+            }
+            Err(_) => false,
+        }
+    }
+
+    /// Writes an operator that is a byte and a label, as `write_common`.
+    #[inline(always)]
+    fn write_label(&mut self, byte: u8, label: u32, location: InstrLocId) -> bool
+        ensures { WritesCommon self.old self.new (operation (opcodes.Byte byte)
+            (label_immediate label ∷ [])) location result }
+    {
+        self.draft.write_number(byte, label, location)
+    }
+
+    /// Writes an operator of one operand, as `write_common`; not if its opcode isn't one byte.
+    #[inline(always)]
+    fn write_unary(&mut self, op: UnaryOp, location: InstrLocId) -> bool
+        ensures { WritesCommon self.old self.new (meaning (listing.Unop op)) location result }
+    {
+        match unary_opcode(op) {
+            Opcode::Byte(byte) => self.draft.write_byte(byte, location),
+            Opcode::Prefixed(_, _) => false,
+        }
+    }
+
+    /// Writes an operator of two operands, as `write_unary`.
+    #[inline(always)]
+    fn write_binary(&mut self, op: BinaryOp, location: InstrLocId) -> bool
+        ensures { WritesCommon self.old self.new (meaning (listing.Binop op)) location result }
+    {
+        match binary_opcode(op) {
+            Opcode::Byte(byte) => self.draft.write_byte(byte, location),
+            Opcode::Prefixed(_, _) => false,
+        }
+    }
+
+    /// Writes an `i32.const`, as `write_common`.
+    #[inline(always)]
+    fn write_i32(&mut self, value: i32, location: InstrLocId) -> bool
+        ensures { WritesCommon self.old self.new (meaning (listing.I32Const value)) location result }
+    {
+        let wide = i64::from(value);
+        self.draft.write_integer(0x41, wide, location)
+    }
+
+    /// Writes an `i64.const`, as `write_common`.
+    #[inline(always)]
+    fn write_i64(&mut self, value: i64, location: InstrLocId) -> bool
+        ensures { WritesCommon self.old self.new (meaning (listing.I64Const value)) location result }
+    {
+        self.draft.write_integer(0x42, value, location)
+    }
+
+    /// Writes a `drop`, as `write_common`.
+    #[inline(always)]
+    fn write_drop(&mut self, location: InstrLocId) -> bool
+        ensures { WritesCommon self.old self.new (meaning listing.Drop) location result }
+    {
+        self.draft.write_byte(0x1a, location)
+    }
+
+    /// Writes a common operator where no `else` waits, and returns whether it did. Otherwise nothing
+    /// is changed: a part of it has no number, or memory ran out.
+    #[inline(always)]
+    fn write_common(&mut self, common: CommonOperator, location: InstrLocId) -> bool
+        ensures { WritesCommon self.old self.new (meaning (listed common)) location result }
+    {
+        match common {
+            CommonOperator::LocalGet { local } => self.write_local(0x20, local, location),
+            CommonOperator::LocalSet { local } => self.write_local(0x21, local, location),
+            CommonOperator::LocalTee { local } => self.write_local(0x22, local, location),
+            CommonOperator::I32Const { value } => self.write_i32(value, location),
+            CommonOperator::I64Const { value } => self.write_i64(value, location),
+            CommonOperator::Unop(op) => self.write_unary(op, location),
+            CommonOperator::Binop(op) => self.write_binary(op, location),
+            CommonOperator::Load { kind, memarg } => {
+                self.write_access(load_opcode(kind), memarg, location)
+            }
+            CommonOperator::Store { kind, memarg } => {
+                self.write_access(store_opcode(kind), memarg, location)
+            }
+            CommonOperator::Call { func } => self.write_func(0x10, func, location),
+            CommonOperator::GlobalGet { global } => self.write_global(0x23, global, location),
+            CommonOperator::GlobalSet { global } => self.write_global(0x24, global, location),
+            CommonOperator::Br { label } => self.write_label(0x0c, label, location),
+            CommonOperator::BrIf { label } => self.write_label(0x0d, label, location),
+            CommonOperator::Drop => self.write_drop(location),
+        }
+    }
+
+    /// Takes a common operator, and returns whether it did. Otherwise nothing is changed: an `else`
+    /// waits, a part of the operator has no number, or memory ran out.
+    #[inline(always)]
+    pub fn step_common(&mut self, common: CommonOperator, location: InstrLocId) -> bool
+        ensures { WritesAtOnce self.old self.new (listed common) location result }
+    {
+        match self.open.next {
+            Next::Dead => true,
+            Next::Waits(_) => false,
+            Next::Live => {
+                if !self.write_common(common, location) {
+                    return false;
+                }
+                if !is_cutting(common) {
+                    return true;
+                }
+                self.open.next = Next::Dead;
+                true
+            }
+        }
+    }
+
+    /// Takes the next operator.
+    pub fn step(&mut self, operator: &Operator<'_>, location: InstrLocId) -> Result<(), EmitError>
+        requires { IsWritable (meaning operator.now) }
+        ensures { StepsWriter self.old self.new (meaning operator.now) location result }
+    {
+        match operator {
+            Operator::Nop => Ok(()),
+            Operator::Block { ty } => self.begin(operator, *ty, false, location),
+            Operator::Loop { ty } => self.begin(operator, *ty, false, location),
+            Operator::Try { ty } => self.begin(operator, *ty, false, location),
+            Operator::TryTable { ty, .. } => self.begin(operator, *ty, false, location),
+            Operator::If { ty } => self.begin(operator, *ty, true, location),
+            Operator::Else => self.part_if(location),
+            Operator::Catch { .. } => self.begin_clause(operator, location),
+            Operator::CatchAll => self.begin_clause(operator, location),
+            Operator::Delegate { .. } => self.close_try(operator),
+            Operator::End => self.close(location),
+            _ => self.write_plain(operator, location),
+        }
+    }
+}
+
+/// Whether what follows a common operator in its sequence is dead.
+#[inline(always)]
+fn is_cutting(common: CommonOperator) -> bool
+    ensures { result ≡ is_diverging (listed common) }
+{
+    matches!(common, CommonOperator::Br { .. })
+}
+
+/// What becomes of the operators after one by itself.
+fn next_after(diverges: bool) -> Next
+    ensures { mode_of result ≡ mode_if diverges }
+{
+    if diverges { Next::Dead } else { Next::Live }
+}
+
+/// What becomes of the operators after an `else` at this location.
+fn next_in_alternative(was_needed: bool, location: InstrLocId) -> Next
+    ensures { mode_of result ≡ mode_of_else was_needed location }
+{
+    if was_needed {
+        Next::Live
+    } else {
+        Next::Waits(location)
+    }
+}
+
+/// The location of an `end`: its own, or else that of the `else` that waits.
+fn last_location(next: Next, location: InstrLocId) -> InstrLocId
+    ensures { result ≡ end_location next location }
+{
+    match next {
+        Next::Waits(first) if location.is_default() => first,
+        _ => location,
+    }
+}

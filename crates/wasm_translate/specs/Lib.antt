@@ -1,0 +1,2 @@
+-- operators whose parts are translated
+pub mod Changes
