@@ -205,7 +205,7 @@ fn write<'a, F: Fn(&usize) -> InstrLocId>(
     let Ok(table) = number_table(alloc, locals) else {
         return Err(EmitError::Memory);
     };
-    let draft = Draft::new(alloc, base, has_map);
+    let draft = Draft::new(alloc, base, has_map, ops.len() / 2);
     let mut writer = Writer {
         module,
         indices: BodyIndices {
