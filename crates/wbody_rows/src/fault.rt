@@ -33,6 +33,9 @@ pub(crate) enum Fault {
     /// `rewrite_body` appends other bytes than parsing and writing do.
     #[error("`rewrite_body` appends other bytes")]
     AppendsOthers,
+    /// `rewrite_flat` appends other bytes or pairs than `rewrite_body`, or has another fault.
+    #[error("`rewrite_flat` differs from `rewrite_body`")]
+    FlatDiffers,
     /// A proper prefix of the body's operators is accepted as a body.
     #[error("a front of it is accepted")]
     FrontAccepted,

@@ -1,14 +1,17 @@
 //! The program `wbody_rows`: reads cases from standard input and runs each through the program
-//! `wbody`, in memory. If a case's body is accepted, it reads back the bytes written for it, runs
-//! both bodies, and checks that each proper prefix of the body's operators is refused.
+//! `wbody`, in memory, and rewrites its body by its tree and without it. If a case's body is
+//! accepted, it reads back the bytes written for it, runs both bodies, and checks that each proper
+//! prefix of the body's operators is refused.
 #![tactic(auto)]
 
+mod both_ways;
 mod demo;
 mod fault;
 mod fronts;
 mod read_back;
 mod traces;
 
+use crate::both_ways::rewritten_alike;
 use crate::demo::{Body, Demo};
 use crate::fault::Fault;
 use crate::fronts::are_refused;
@@ -17,6 +20,7 @@ use crate::traces::compare_runs;
 use std::alloc::{AllocError, Global};
 use std::io;
 use std::io::{BufRead, BufReader};
+use walrus_flat::FlatScratch;
 use walrus_run::{NamedBody, run_arguments};
 
 /// The result of a run: its status, and what it prints to standard output and to standard error.
@@ -75,6 +79,8 @@ impl<'a> Row<'a> {
 struct Counts {
     rows: u64,
     rows_differ: u64,
+    rewritten: u64,
+    rewritten_differ: u64,
     bodies: u64,
     bodies_differ: u64,
 }
@@ -139,6 +145,26 @@ fn check_body(alloc: Global, demo: &Demo, words: &str) -> Result<(), Fault> {
     are_refused(alloc, demo, &bytes)
 }
 
+/// Rewrites the body that the last of these arguments encodes by its tree and without it. `None`: it
+/// isn't hexadecimal.
+fn both_ways(
+    alloc: Global,
+    demo: &Demo,
+    words: &str,
+    scratch: &mut FlatScratch,
+) -> Result<Option<bool>, AllocError> {
+    let bytes = match hex::decode(alloc, words.rsplit(' ').next().unwrap_or("")) {
+        Ok(bytes) => bytes,
+        Err(hex::FromHexError::OutOfMemory) => return Err(AllocError),
+        Err(_) => return Ok(None),
+    };
+    match rewritten_alike(alloc, demo, demo.source(&bytes), scratch) {
+        Ok(()) => Ok(Some(true)),
+        Err(Fault::Memory) => Err(AllocError),
+        Err(_) => Ok(Some(false)),
+    }
+}
+
 /// What is wrong with the body of these arguments, if anything.
 fn body_fault(alloc: Global, demo: &Demo, words: &str) -> Result<Option<Fault>, AllocError> {
     match check_body(alloc, demo, words) {
@@ -178,6 +204,26 @@ impl Counts {
         Ok(output.status)
     }
 
+    /// Counts a body that was rewritten in both ways, and prints its arguments if the results
+    /// differ.
+    fn take_both_ways(
+        &mut self,
+        rt: &HostRuntime,
+        demo: &Demo,
+        scratch: &mut FlatScratch,
+        words: &str,
+    ) -> io::Result<()> {
+        let Some(alike) = both_ways(rt.alloc(), demo, words, scratch)? else {
+            return Ok(());
+        };
+        self.rewritten = self.rewritten.saturating_add(1);
+        if !alike {
+            self.rewritten_differ = self.rewritten_differ.saturating_add(1);
+            println!(rt; "{words}: {}", Fault::FlatDiffers)?;
+        }
+        Ok(())
+    }
+
     /// Counts an accepted body, and prints its arguments and what is wrong with it, if anything.
     fn take_body(&mut self, rt: &HostRuntime, demo: &Demo, words: &str) -> io::Result<()> {
         self.bodies = self.bodies.saturating_add(1);
@@ -188,9 +234,16 @@ impl Counts {
         Ok(())
     }
 
-    /// Counts the case in a line, and its body if it is accepted.
-    fn take_line(&mut self, rt: &HostRuntime, demo: &Demo, line: &str) -> io::Result<()> {
+    /// Counts the case in a line, its body in both ways, and its body if it is accepted.
+    fn take_line(
+        &mut self,
+        rt: &HostRuntime,
+        demo: &Demo,
+        scratch: &mut FlatScratch,
+        line: &str,
+    ) -> io::Result<()> {
         let row = Row::of_line(line);
+        self.take_both_ways(rt, demo, scratch, row.words)?;
         if self.take_row(rt, row)? == 0 {
             self.take_body(rt, demo, row.words)?;
         }
@@ -198,10 +251,15 @@ impl Counts {
     }
 
     /// Counts the cases of standard input.
-    fn take_all(&mut self, rt: &HostRuntime, demo: &Demo) -> io::Result<()> {
+    fn take_all(
+        &mut self,
+        rt: &HostRuntime,
+        demo: &Demo,
+        scratch: &mut FlatScratch,
+    ) -> io::Result<()> {
         let alloc = rt.alloc();
         for line in BufReader::new(alloc, rt.reader())?.lines(alloc) {
-            self.take_line(rt, demo, line?.as_str())?;
+            self.take_line(rt, demo, scratch, line?.as_str())?;
         }
         Ok(())
     }
@@ -210,10 +268,13 @@ impl Counts {
         let Counts {
             rows,
             rows_differ,
+            rewritten,
+            rewritten_differ,
             bodies,
             bodies_differ,
         } = self;
         println!(rt; "{rows} rows, {rows_differ} differ")?;
+        println!(rt; "{rewritten} bodies rewritten by their tree and without it, {rewritten_differ} differ")?;
         println!(rt; "{bodies} bodies read back, traced and cut short, {bodies_differ} differ")
     }
 }
@@ -223,10 +284,13 @@ fn run(rt: &HostRuntime, demo: &Demo) -> io::Result<()> {
     let mut counts = Counts {
         rows: 0,
         rows_differ: 0,
+        rewritten: 0,
+        rewritten_differ: 0,
         bodies: 0,
         bodies_differ: 0,
     };
-    counts.take_all(rt, demo)?;
+    let mut scratch = FlatScratch::new(rt.alloc());
+    counts.take_all(rt, demo, &mut scratch)?;
     counts.print(rt)
 }
 

@@ -13,7 +13,7 @@ use wasm_module::{Body, ModuleError, ParsedModule, Scratch};
 /// Its name, with which its messages begin.
 const NAME: &str = "wbench";
 
-const USAGE: &str = "usage: wbench parse|rewrite|map PASSES IN.wasm";
+const USAGE: &str = "usage: wbench parse|rewrite|map|flat|flatmap PASSES IN.wasm";
 
 /// What a pass does with each body.
 #[derive(Clone, Copy)]
@@ -24,6 +24,10 @@ enum Pass {
     Rewrite,
     /// Parses and writes it, with location pairs.
     Map,
+    /// Writes it without a tree.
+    Flat,
+    /// Writes it without a tree, with location pairs.
+    FlatMap,
 }
 
 impl Pass {
@@ -32,6 +36,8 @@ impl Pass {
             "parse" => Some(Pass::Parse),
             "rewrite" => Some(Pass::Rewrite),
             "map" => Some(Pass::Map),
+            "flat" => Some(Pass::Flat),
+            "flatmap" => Some(Pass::FlatMap),
             _ => None,
         }
     }
@@ -55,6 +61,14 @@ impl Pass {
             },
             Pass::Map => match parsed.rewrite_with_pairs(body, scratch) {
                 Ok(_function) => Ok(scratch.raw.len().saturating_add(scratch.pairs.len())),
+                Err(error) => Err(error),
+            },
+            Pass::Flat => match parsed.rewrite_flat(body, scratch) {
+                Ok(()) => Ok(scratch.raw.len()),
+                Err(error) => Err(error),
+            },
+            Pass::FlatMap => match parsed.rewrite_flat_with_pairs(body, scratch) {
+                Ok(()) => Ok(scratch.raw.len().saturating_add(scratch.pairs.len())),
                 Err(error) => Err(error),
             },
         }

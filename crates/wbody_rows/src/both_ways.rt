@@ -1,0 +1,108 @@
+//! A body rewritten by its tree and without it.
+
+use crate::demo::{Body, Demo, arguments, function, function_type};
+use crate::fault::Fault;
+use std::alloc::{AllocError, Global};
+use walrus_body::AcceptAll;
+use walrus_flat::{FlatScratch, rewrite_flat};
+use walrus_ir::InstrLocId;
+use walrus_run::{RewriteError, rewrite_body};
+
+/// What is appended for a body: its bytes and its location pairs; and why nothing is.
+#[derive(Drop)]
+struct Appended {
+    bytes: Vec<u8>,
+    pairs: Vec<(InstrLocId, usize)>,
+    error: Option<RewriteError>,
+}
+
+impl Appended {
+    fn nothing(alloc: Global) -> Appended {
+        Appended {
+            bytes: Vec::new(alloc),
+            pairs: Vec::new(alloc),
+            error: None,
+        }
+    }
+
+    /// This fault, if both differ.
+    fn compare(&self, other: &Appended, fault: Fault) -> Result<(), Fault> {
+        let alike = self.bytes == other.bytes && self.pairs == other.pairs;
+        if alike && self.error == other.error {
+            Ok(())
+        } else {
+            Err(fault)
+        }
+    }
+}
+
+/// What `rewrite_body` appends.
+fn by_tree(alloc: Global, demo: &Demo, body: Body<'_>) -> Result<Appended, AllocError> {
+    let mut instrs = Vec::new(alloc);
+    let args = arguments(alloc)?;
+    let mut appended = Appended::nothing(alloc);
+    let rewritten = rewrite_body(
+        &demo.module,
+        body.indices,
+        function(),
+        function_type(),
+        args,
+        body.at_zero(),
+        None::<&fn(&usize) -> InstrLocId>,
+        AcceptAll,
+        &mut instrs,
+        &demo.numbers,
+        &mut appended.bytes,
+        Some(&mut appended.pairs),
+    );
+    appended.error = match rewritten {
+        Ok(_function) => None,
+        Err(error) => Some(error),
+    };
+    Ok(appended)
+}
+
+/// What `rewrite_flat` appends.
+fn without_tree(
+    alloc: Global,
+    demo: &Demo,
+    body: Body<'_>,
+    scratch: &mut FlatScratch,
+) -> Result<Appended, AllocError> {
+    let args = arguments(alloc)?;
+    let mut appended = Appended::nothing(alloc);
+    let rewritten = rewrite_flat(
+        &demo.module,
+        body.indices,
+        function(),
+        function_type(),
+        &args,
+        body.at_zero(),
+        None::<&fn(&usize) -> InstrLocId>,
+        AcceptAll,
+        &demo.numbers,
+        scratch,
+        &mut appended.bytes,
+        Some(&mut appended.pairs),
+    );
+    appended.error = match rewritten {
+        Ok(()) => None,
+        Err(error) => Some(error),
+    };
+    Ok(appended)
+}
+
+/// Checks that a body is rewritten alike by its tree and without it: the same bytes, location pairs
+/// and fault.
+pub(crate) fn rewritten_alike(
+    alloc: Global,
+    demo: &Demo,
+    body: Body<'_>,
+    scratch: &mut FlatScratch,
+) -> Result<(), Fault> {
+    let flat = without_tree(alloc, demo, body, scratch)?;
+    match by_tree(alloc, demo, body) {
+        Ok(tree) => flat.compare(&tree, Fault::FlatDiffers),
+        Err(AllocError) => Err(Fault::Memory),
+    }
+}
