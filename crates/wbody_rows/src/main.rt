@@ -147,7 +147,7 @@ fn check_body(alloc: Global, demo: &Demo, words: &str) -> Result<(), Fault> {
 
 /// Rewrites the body that the last of these arguments encodes by its tree and without it. `None`: it
 /// isn't hexadecimal.
-fn both_ways(
+fn is_rewritten_alike(
     alloc: Global,
     demo: &Demo,
     words: &str,
@@ -213,7 +213,7 @@ impl Counts {
         scratch: &mut FlatScratch,
         words: &str,
     ) -> io::Result<()> {
-        let Some(alike) = both_ways(rt.alloc(), demo, words, scratch)? else {
+        let Some(alike) = is_rewritten_alike(rt.alloc(), demo, words, scratch)? else {
             return Ok(());
         };
         self.rewritten = self.rewritten.saturating_add(1);
@@ -274,7 +274,9 @@ impl Counts {
             bodies_differ,
         } = self;
         println!(rt; "{rows} rows, {rows_differ} differ")?;
-        println!(rt; "{rewritten} bodies rewritten by their tree and without it, {rewritten_differ} differ")?;
+        println!(rt;
+            "{rewritten} bodies rewritten by their tree and without it, {rewritten_differ} differ"
+        )?;
         println!(rt; "{bodies} bodies read back, traced and cut short, {bodies_differ} differ")
     }
 }

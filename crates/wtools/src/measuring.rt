@@ -13,7 +13,7 @@ use wasm_module::{Body, ModuleError, ParsedModule, Scratch};
 /// Its name, with which its messages begin.
 const NAME: &str = "wbench";
 
-const USAGE: &str = "usage: wbench parse|rewrite|map|flat|flatmap PASSES IN.wasm";
+const USAGE: &str = "usage: wbench parse|rewrite|map|flat|flatmap|compare PASSES IN.wasm";
 
 /// What a pass does with each body.
 #[derive(Clone, Copy)]
@@ -28,6 +28,8 @@ enum Pass {
     Flat,
     /// Writes it without a tree, with location pairs.
     FlatMap,
+    /// Writes it by its tree and without it, and compares the bytes and the location pairs.
+    Compare,
 }
 
 impl Pass {
@@ -38,12 +40,13 @@ impl Pass {
             "map" => Some(Pass::Map),
             "flat" => Some(Pass::Flat),
             "flatmap" => Some(Pass::FlatMap),
+            "compare" => Some(Pass::Compare),
             _ => None,
         }
     }
 
     /// Does it with a body, and returns a number that depends on the result: how many operators
-    /// were read; how many bytes were written; or how many bytes and pairs.
+    /// were read; how many bytes were written; how many bytes and pairs; or 1 if both ways differ.
     fn run<'a>(
         self,
         parsed: &mut ParsedModule<'a>,
@@ -71,7 +74,24 @@ impl Pass {
                 Ok(()) => Ok(scratch.raw.len().saturating_add(scratch.pairs.len())),
                 Err(error) => Err(error),
             },
+            Pass::Compare => match parsed.rewrite_with_pairs(body, scratch) {
+                Ok(_function) => compare_flat(parsed, body, scratch),
+                Err(error) => Err(error),
+            },
         }
+    }
+}
+
+/// Writes a body without a tree, and returns 1 if the bytes or the pairs differ from these.
+fn compare_flat<'a>(
+    parsed: &mut ParsedModule<'a>,
+    body: Body<'a>,
+    tree: &Scratch,
+) -> Result<usize, ModuleError> {
+    let mut flat = Scratch::new(*tree.raw.allocator());
+    match parsed.rewrite_flat_with_pairs(body, &mut flat) {
+        Ok(()) => Ok(usize::from(flat.raw != tree.raw || flat.pairs != tree.pairs)),
+        Err(error) => Err(error),
     }
 }
 
