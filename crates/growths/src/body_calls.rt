@@ -12,7 +12,7 @@ use walrus_body::{
     ParseFailure,
 };
 use walrus_ir::{InstrLocId, LocalId, WalkError};
-use walrus_run::{NamedBody, RewriteError, rewrite_body};
+use walrus_run::{FlatScratch, NamedBody, RewriteError, rewrite_body, rewrite_flat};
 use wasm_ops::Operator;
 
 /// A validator that accepts every operator and keeps its place, or has no memory for it.
@@ -52,6 +52,8 @@ enum Kind {
     RewriteLate,
     /// There, with a location function.
     RewriteLateLocated,
+    /// Without a tree.
+    Flat,
     Read,
 }
 
@@ -73,6 +75,7 @@ struct OfBody<'a> {
     source: &'a [u8],
     bytes: Vec<u8>,
     pairs: Vec<(InstrLocId, usize)>,
+    flat: FlatScratch,
     kind: Kind,
 }
 
@@ -181,6 +184,32 @@ impl OfBody<'_> {
         }
     }
 
+    /// Rewrites the body into the lists, without a tree.
+    fn rewrite_flat(&mut self, args: &[LocalId]) -> Result<(), RewriteError> {
+        let demo = self.demo;
+        rewrite_flat(
+            demo.module,
+            demo.indices,
+            demo.function,
+            demo.ty,
+            args,
+            body(self.source, false),
+            None::<&fn(&usize) -> InstrLocId>,
+            AcceptAll,
+            demo.numbers,
+            &mut self.flat,
+            &mut self.bytes,
+            Some(&mut self.pairs),
+        )
+    }
+
+    fn push_flat(&mut self, args: &[LocalId], returned: &mut Text) -> Result<(), AllocError> {
+        match self.rewrite_flat(args) {
+            Ok(()) => Ok(()),
+            Err(error) => push_rewrite_error(returned, error),
+        }
+    }
+
     fn push_rewritten(
         &mut self,
         args: Vec<LocalId>,
@@ -226,6 +255,7 @@ impl Scenario for OfBody<'_> {
                 self.parse(args, Keeping { places }, returned)
             }
             Kind::Read => self.read(returned),
+            Kind::Flat => self.push_flat(&arguments(alloc)?, returned),
             _ => self.push_rewritten(arguments(alloc)?, returned),
         }
     }
@@ -236,10 +266,11 @@ impl Scenario for OfBody<'_> {
     }
 }
 
-const CALLS: [(&str, Kind); 4] = [
+const CALLS: [(&str, Kind); 5] = [
     ("LocalFunction::parse", Kind::Parse),
     ("LocalFunction::parse-keeping", Kind::ParseKeeping),
     ("rewrite_body", Kind::Rewrite),
+    ("rewrite_flat", Kind::Flat),
     ("NamedBody::read", Kind::Read),
 ];
 
@@ -388,6 +419,7 @@ fn run_one(
         source,
         bytes,
         pairs,
+        flat: FlatScratch::new(alloc),
         kind,
     };
     selection.run(call, row, &mut of)

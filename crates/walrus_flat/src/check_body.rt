@@ -7,11 +7,11 @@ ghost use Rattle.wasm_ops.specs.CommonOperators.{listed};
 ghost use Rattle.wasm_ops.specs.Position.{IsAfter};
 ghost use Rattle.wasm_body.specs.Parsing.Lists.{failure};
 ghost use Rattle.walrus_parser.specs.Checking.{fault_of};
-ghost use Rattle.walrus_flat.specs.Checked.{env_of};
+ghost use Rattle.walrus_flat.specs.Checked.{env_of, ChecksStep};
 ghost use Rattle.walrus_flat.specs.CheckedBody.{fits_limit, BeginsBody, setting_at, ChecksOperators, ChecksNext, RefusesTaking, IsTaken};
 
 use crate::checker::Checker;
-use walrus_parser::{CheckError, OpCheck};
+use walrus_parser::{CheckError, OpCheck, check_common};
 use wasm_body::{ParseError, ParseFailure};
 use wasm_ops::{CommonOperator, Operator, ReadError, Reader};
 
@@ -85,9 +85,43 @@ fn accepts<V: OpCheck>(
     }
 }
 
+/// Whether a common operator that was read at this place is taken.
+#[inline(always)]
+fn accepts_common<V: OpCheck>(
+    at: usize,
+    common: CommonOperator,
+    has_limit: bool,
+    validator: &mut V,
+) -> Result<(), ParseError>
+    ensures ok { OnOk result (IsTaken V.check (V.state validator.old) (V.state validator.new)
+        (meaning (listed common)) has_limit at) }
+    ensures err { IfErr result (RefusesTaking V.check (V.state validator.old)
+        (meaning (listed common)) has_limit at) }
+{
+    if !fits_limit(has_limit, at) {
+        return Err(ParseError::PlaceTooGreat);
+    }
+    match check_common(validator, at, common) {
+        Ok(()) => Ok(()),
+        Err(error) => Err(checked(error)),
+    }
+}
+
+/// Takes a common operator as any other. It isn't inlined, so that where one is taken at once no
+/// `Operator` is in memory.
+#[inline(never)]
+fn step_at_length(checker: &mut Checker<'_>, common: CommonOperator) -> Result<(), ParseError>
+    requires writable { IsWritable (meaning (listed common)) }
+    requires inside { checker.old.open.items ≢ [] }
+    ensures step { ChecksStep checker.old checker.new (meaning (listed common)) result }
+    ensures env { OnOk result (env_of checker.new ≡ env_of checker.old) }
+{
+    checker.step(&common.operator())
+}
+
 /// Checks a common operator that was read at this place.
 #[inline(always)]
-fn check_common<V: OpCheck>(
+fn take_common<V: OpCheck>(
     checker: &mut Checker<'_>,
     common: CommonOperator,
     at: usize,
@@ -99,14 +133,14 @@ fn check_common<V: OpCheck>(
     ensures { ChecksNext V.check (V.state validator.old) (V.state validator.new) has_limit at
         checker.old checker.new (meaning (listed common)) result }
 {
-    match accepts(at, &common.operator(), has_limit, validator) {
+    match accepts_common(at, common, has_limit, validator) {
         Ok(()) => {}
         Err(error) => return Err(error),
     }
     if checker.step_common(common) {
         return Ok(());
     }
-    checker.step(&common.operator())
+    step_at_length(checker, common)
 }
 
 /// Checks the operators of a body, of which none is checked yet. Places have a limit where there is
@@ -125,7 +159,7 @@ pub(crate) fn check_operators<V: OpCheck>(
     while !reader.eof() {
         let at = reader.original_position();
         if let Some(common) = read_common(reader) {
-            match check_common(checker, common, at, has_limit, &mut validator) {
+            match take_common(checker, common, at, has_limit, &mut validator) {
                 Ok(()) => continue,
                 Err(error) => return Err(failure(error, at)),
             }

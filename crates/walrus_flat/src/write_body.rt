@@ -3,7 +3,7 @@ ghost use Rattle.std.specs.Prelude.{◌≡◌, ◌≤◌, ◌+◌, length, Match
 ghost use Rattle.walrus_parser.specs.Locating.{MayCall, Locates, HasNoLocation};
 ghost use Rattle.wasm_flat.specs.Flat.{first_state};
 ghost use Rattle.walrus_flat.specs.Written.{state_of};
-ghost use Rattle.walrus_flat.specs.Writers.{env_at, numbers_in};
+ghost use Rattle.walrus_flat.specs.Writers.{env_at, numbers_in, StepsWriter};
 ghost use Rattle.walrus_flat.specs.WrittenBody.{again, IsAccepted, WritesOperators, WritesNext};
 ghost use Rattle.wasm_operators.specs.Meaning.{meaning};
 ghost use Rattle.wasm_encode.specs.Writable.{IsWritable};
@@ -32,6 +32,20 @@ fn location_at<F: Fn(&usize) -> InstrLocId>(
     }
 }
 
+/// Writes a common operator as any other. It isn't inlined, so that where one is written at once no
+/// `Operator` is in memory.
+#[inline(never)]
+fn step_at_length(
+    writer: &mut Writer<'_>,
+    common: CommonOperator,
+    location: InstrLocId,
+) -> Result<(), EmitError>
+    requires { IsWritable (meaning (listed common)) }
+    ensures { StepsWriter writer.old writer.new (meaning (listed common)) location result }
+{
+    writer.step(&common.operator(), location)
+}
+
 /// Writes a common operator that was read at this place.
 #[inline(always)]
 fn write_common<F: Fn(&usize) -> InstrLocId>(
@@ -51,7 +65,7 @@ fn write_common<F: Fn(&usize) -> InstrLocId>(
     if writer.step_common(common, location) {
         return Ok(());
     }
-    writer.step(&common.operator(), location)
+    step_at_length(writer, common, location)
 }
 
 /// Writes the operators of a checked body, of which none is written yet.

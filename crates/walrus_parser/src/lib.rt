@@ -13,4 +13,5 @@ mod try_tables;
 
 pub use body::FunctionBody;
 pub use check::{AcceptAll, CheckError, OpCheck};
+pub use next::check_common;
 pub use parse::{ParsedOperators, parse_function};

@@ -101,10 +101,14 @@ pub fn accepted_at<V: OpCheck, F: Fn(&usize) -> InstrLocId>(
     }
 }
 
-/// Has the validator check a common operator. Each arm makes its own `Operator`, so that none is in
-/// memory where the validator is inlined and doesn't look at it.
+/// Has the validator check a common operator whose first byte is at this place. Each arm makes its
+/// own `Operator`, so that none is in memory where the validator is inlined and doesn't look at it.
+///
+/// # Errors
+///
+/// Those of the validator.
 #[inline(always)]
-fn check_common<V: OpCheck>(
+pub fn check_common<V: OpCheck>(
     validator: &mut V,
     at: usize,
     common: CommonOperator,

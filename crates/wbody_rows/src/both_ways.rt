@@ -4,9 +4,8 @@ use crate::demo::{Body, Demo, arguments, function, function_type};
 use crate::fault::Fault;
 use std::alloc::{AllocError, Global};
 use walrus_body::AcceptAll;
-use walrus_flat::{FlatScratch, rewrite_flat};
 use walrus_ir::InstrLocId;
-use walrus_run::{RewriteError, rewrite_body};
+use walrus_run::{FlatScratch, RewriteError, rewrite_body, rewrite_flat};
 
 /// What is appended for a body: its bytes and its location pairs; and why nothing is.
 #[derive(Drop)]

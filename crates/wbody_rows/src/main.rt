@@ -20,8 +20,7 @@ use crate::traces::compare_runs;
 use std::alloc::{AllocError, Global};
 use std::io;
 use std::io::{BufRead, BufReader};
-use walrus_flat::FlatScratch;
-use walrus_run::{NamedBody, run_arguments};
+use walrus_run::{FlatScratch, NamedBody, run_arguments};
 
 /// The result of a run: its status, and what it prints to standard output and to standard error.
 #[derive(Drop)]

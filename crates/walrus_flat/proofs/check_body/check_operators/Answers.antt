@@ -29,11 +29,11 @@ loop-reader-init g c =
 
 -- ---- a common operator
 
-pub check_common-requires-clause-writable : goal.check_common-requires-clause-writable
-check_common-requires-clause-writable g c = c.in-Some.ensures.writable
+pub take_common-requires-clause-writable : goal.take_common-requires-clause-writable
+take_common-requires-clause-writable g c = c.in-Some.ensures.writable
 
-pub check_common-requires-clause-inside : goal.check_common-requires-clause-inside
-check_common-requires-clause-inside g c = c.loop-reader.invariant.inside
+pub take_common-requires-clause-inside : goal.take_common-requires-clause-inside
+take_common-requires-clause-inside g c = c.loop-reader.invariant.inside
 
 pub loop-reader-smaller-in-Ok : goal.loop-reader-smaller-in-Ok
 loop-reader-smaller-in-Ok g c = c.in-Some.ensures.moves.1
@@ -43,10 +43,10 @@ loop-reader-preserved-in-Ok g c =
     let a = c.args in
     let check = g.V.OpCheck.check in
     let v = g.V.OpCheck.state c.loop-reader.validator in
-    let w = g.V.OpCheck.state c.check_common.new.validator in
+    let w = g.V.OpCheck.state c.take_common.new.validator in
     let now = c.loop-reader.reader in
     let next = c.read_common.new.reader in
-    let new = c.check_common.new.checker in
+    let new = c.take_common.new.checker in
     let x = listed c.in-Some.common in
     goes_on a.reader.now.place check (g.V.OpCheck.state a.validator) a.has_limit a.reader.now.rest a.checker.now c.loop-reader.checker v now.place now.rest c.loop-reader.invariant new x (is_alone c.in-Some.common) w next.place next.rest c.in-Some.ensures.is_read
     (subst (λ p. ChecksNext check v w a.has_limit p c.loop-reader.checker new (meaning x) (Ok tt)) c.original_position-at.ensures c.in-Ok.ensures) c.in-Some.ensures.moves.0 c.in-Some.ensures.moves.1
@@ -56,9 +56,9 @@ returns-in-Err g c =
     let a = c.args in
     let check = g.V.OpCheck.check in
     let v = g.V.OpCheck.state c.loop-reader.validator in
-    let w = g.V.OpCheck.state c.check_common.new.validator in
+    let w = g.V.OpCheck.state c.take_common.new.validator in
     let now = c.loop-reader.reader in
-    let new = c.check_common.new.checker in
+    let new = c.take_common.new.checker in
     let o = meaning (listed c.in-Some.common) in
     let e = c.in-Err.error in
     let some : 0 < length now.rest = search rules in

@@ -1,9 +1,8 @@
 use Rattle.std.specs.Borrow.{Bor}
 use Rattle.std.specs.Fn.{Shared}
-use Rattle.std.proofs.Common.{inl, inr, ℕ, Option, Result, Ok, Err, sym, subst}
-use Rattle.wasm_operators.specs.Meaning.{Listed, meaning}
+use Rattle.std.proofs.Common.{inl, inr, ℕ, Option, Result, Ok, Err, subst}
+use Rattle.wasm_operators.specs.Meaning.{meaning}
 use Rattle.wasm_operators.specs.Operations.{RawOperation}
-use Rattle.wasm_encode.specs.Writable.{IsWritable}
 use Rattle.wasm_ops.specs.CommonOperators.{listed}
 use Rattle.wasm_body.specs.declared.error.EmitError.{EmitError}
 use Rattle.walrus_parser.specs.Locating.{Locates}
@@ -32,8 +31,8 @@ returns-then-step_common g c =
     let taken = subst (WritesAtOnce a.writer.now new x location) c.if-step_common.true c.step_common.ensures in
     (location, c.in-Some.ensures, at_other a.writer.now new x location (Ok tt) (is_alone a.common) taken)
 
-pub step-requires : goal.step-requires
-step-requires g c = subst (λ (x : Listed). IsWritable (meaning x)) (sym c.operator.ensures) c.requires.writable
+pub step_at_length-requires : goal.step_at_length-requires
+step_at_length-requires g c = c.requires.writable
 
 pub returns : goal.returns
 returns g c =
@@ -41,8 +40,7 @@ returns g c =
     let x = listed a.common in
     let o = meaning x in
     let mid = c.step_common.new.self in
-    let new = c.step.new.self in
+    let new = c.step_at_length.new.writer in
     let location = c.in-Some.location in
     let same = subst (WritesAtOnce a.writer.now mid x location) c.if-step_common.false c.step_common.ensures in
-    let steps : StepsWriter mid new o location c.step.result = subst (λ (y : Listed). StepsWriter mid new (meaning y) location c.step.result) c.operator.ensures c.step.ensures in
-    by_result g.F.Fn a.on_instr_pos a.at location a.writer.now new o c.step.result c.in-Some.ensures (subst (λ (w : Writer). StepsWriter w new o location c.step.result) same steps)
+    by_result g.F.Fn a.on_instr_pos a.at location a.writer.now new o c.step_at_length.result c.in-Some.ensures (subst (λ (w : Writer). StepsWriter w new o location c.step_at_length.result) same c.step_at_length.ensures)
