@@ -35,7 +35,7 @@ use crate::sequences::{Next, OpenSequences, Written};
 use crate::used_locals::UsedLocals;
 use crate::write_body::write_operators;
 use crate::writer::Writer;
-use std::alloc::{AllocError, Global};
+use std::alloc::Global;
 use std::mem;
 use walrus_emit_state::Draft;
 use walrus_ir::{
@@ -44,7 +44,7 @@ use walrus_ir::{
 use walrus_maps::{IdsToIndices, IndicesToIds};
 use walrus_numbering::{emit_locals, number_table};
 use walrus_parser::{FunctionBody, OpCheck};
-use walrus_rewrite::RewriteError;
+use walrus_rewrite::{RewriteError, append_lists};
 use wasm_body::{EmitError, ParseError, ParseFailure};
 use wasm_encode::FunctionEncoder;
 use wasm_ops::Reader;
@@ -385,24 +385,6 @@ fn append(mut encoder: FunctionEncoder, draft: Draft, dst: &mut Vec<u8>) -> Resu
     Ok(())
 }
 
-/// Appends the bytes and the pairs, or neither if memory runs out.
-fn append_both(
-    dst: &mut Vec<u8>,
-    map: &mut Vec<(InstrLocId, usize)>,
-    bytes: &[u8],
-    pairs: &[(InstrLocId, usize)],
-) -> Result<(), AllocError>
-    ensures bytes { OnOk result (dst.new.items ≡ dst.old.items ++ bytes.now) }
-    ensures pairs { OnOk result (map.new.items ≡ map.old.items ++ pairs.now) }
-    ensures same_bytes { OnErr result (dst.new.items ≡ dst.old.items) }
-    ensures same_pairs { OnErr result (map.new.items ≡ map.old.items) }
-{
-    map.reserve(pairs.len())?;
-    dst.extend_from_slice(bytes)?;
-    map.extend_from_slice(pairs).unwrap();
-    Ok(())
-}
-
 /// Appends a body to `dst`, and its pairs to the list.
 fn append_with_map(
     mut encoder: FunctionEncoder,
@@ -419,7 +401,7 @@ fn append_with_map(
 {
     let mut pairs = Vec::new(*dst.allocator());
     draft.append_to(&mut encoder, &mut pairs)?;
-    append_both(dst, map, encoder.bytes(), pairs.as_slice())?;
+    append_lists(dst, map, encoder.into_raw_body(), pairs)?;
     Ok(())
 }
 

@@ -12,4 +12,4 @@ pub use code_entry::CodeEntry;
 pub use error::RewriteError;
 pub use locating::locate;
 pub use raw_body::begin_body;
-pub use whole_body::{append_raw_body, append_raw_body_with_map, rewrite_body};
+pub use whole_body::{append_lists, append_raw_body, append_raw_body_with_map, rewrite_body};

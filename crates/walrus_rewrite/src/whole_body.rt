@@ -34,8 +34,12 @@ pub(crate) fn append_both(
     Ok(())
 }
 
-/// The same with lists that aren't needed otherwise. If both lists are empty they become these.
-fn append_lists(
+/// Appends the bytes and the pairs of a body. If both lists are empty they become these.
+///
+/// # Errors
+///
+/// If memory runs out; both lists are then unchanged.
+pub fn append_lists(
     dst: &mut Vec<u8>,
     map: &mut Vec<(InstrLocId, usize)>,
     bytes: Vec<u8>,
