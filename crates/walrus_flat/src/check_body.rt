@@ -5,31 +5,13 @@ ghost use Rattle.wasm_operators.specs.Meaning.{meaning};
 ghost use Rattle.wasm_encode.specs.Writable.{IsWritable};
 ghost use Rattle.wasm_ops.specs.CommonOperators.{listed};
 ghost use Rattle.wasm_ops.specs.Position.{IsAfter};
-ghost use Rattle.wasm_body.specs.Parsing.Lists.{failure};
-ghost use Rattle.walrus_parser.specs.Checking.{fault_of};
 ghost use Rattle.walrus_flat.specs.Checked.{env_of, ChecksStep};
 ghost use Rattle.walrus_flat.specs.CheckedBody.{fits_limit, BeginsBody, setting_at, ChecksOperators, ChecksNext, RefusesTaking, IsTaken};
 
 use crate::checker::Checker;
-use walrus_parser::{CheckError, OpCheck, check_common};
+use walrus_parser::{OpCheck, check_common, checked, failure};
 use wasm_body::{ParseError, ParseFailure};
 use wasm_ops::{CommonOperator, Operator, ReadError, Reader};
-
-fn failure(error: ParseError, at: usize) -> ParseFailure
-    ensures { result ≡ failure error at }
-{
-    ParseFailure { error, at }
-}
-
-/// The fault of an operator that the validator refuses.
-fn checked(error: CheckError) -> ParseError
-    ensures { result ≡ fault_of error }
-{
-    match error {
-        CheckError::Refused(number) => ParseError::Checked(number),
-        CheckError::Memory => ParseError::Memory,
-    }
-}
 
 /// Whether a place is small enough, if places have a limit.
 fn fits_limit(has_limit: bool, at: usize) -> bool

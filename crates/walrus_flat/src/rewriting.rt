@@ -4,7 +4,6 @@ ghost use Rattle.wasm_body.specs.declared.error.ParseError.TheVariants.{Memory a
 ghost use Rattle.wasm_body.specs.declared.error.EmitError.TheVariants.{Memory};
 ghost use Rattle.wasm_flat.specs.Flat.{first_state};
 ghost use Rattle.walrus_rewrite.specs.RawBodies.{Begins, IsNotBegun};
-ghost use Rattle.wasm_body.specs.Parsing.Lists.{failure};
 ghost use Rattle.walrus_maps.specs.Environments.{environment_of};
 ghost use Rattle.wasm_body.specs.declared.error.ParseFailure.{ParseFailure as Failure};
 ghost use Rattle.wasm_body.specs.SourceTree.{Body};
@@ -43,7 +42,7 @@ use walrus_ir::{
 };
 use walrus_maps::{IdsToIndices, IndicesToIds};
 use walrus_numbering::{emit_locals, number_table};
-use walrus_parser::{FunctionBody, OpCheck};
+use walrus_parser::{FunctionBody, OpCheck, failure};
 use walrus_rewrite::{RewriteError, append_lists};
 use wasm_body::{EmitError, ParseError, ParseFailure};
 use wasm_encode::FunctionEncoder;
@@ -106,12 +105,6 @@ fn begin_check<'a>(
         }),
         Err(_) => Err(ParseError::Memory),
     }
-}
-
-fn failure(error: ParseError, at: usize) -> ParseFailure
-    ensures { result ≡ failure error at }
-{
-    ParseFailure { error, at }
 }
 
 /// The first pass over the operators of a body. The scratch then holds the locals that live

@@ -13,5 +13,5 @@ mod try_tables;
 
 pub use body::FunctionBody;
 pub use check::{AcceptAll, CheckError, OpCheck};
-pub use next::check_common;
+pub use next::{check_common, checked, failure};
 pub use parse::{ParsedOperators, parse_function};

@@ -24,7 +24,8 @@ pub fn failure(error: ParseError, at: usize) -> ParseFailure
     ParseFailure { error, at }
 }
 
-fn checked(error: CheckError) -> ParseError
+/// The fault of an operator that the validator refuses with this error.
+pub fn checked(error: CheckError) -> ParseError
     ensures { result ≡ fault_of error }
 {
     match error {
