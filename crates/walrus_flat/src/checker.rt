@@ -139,8 +139,10 @@ impl Checker<'_> {
                 if !self.module.types.is_func(id) {
                     return Err(ParseError::NotAFunctionType);
                 }
-                let (params, results) = self.module.types.params_results(id);
-                self.has_pick(params, results)
+                match InstrSeqType::picked(&self.module.types, id) {
+                    Some(_) => Ok(()),
+                    None => Err(ParseError::TypeMissing),
+                }
             }
         }
     }

@@ -63,6 +63,19 @@ fn entry_type(module: &Module, ty: TypeId) -> Result<TypeId, ParseError>
     }
 }
 
+/// How many locals a set may have to be lent to the next body.
+const MOST_LENT: usize = 64;
+
+/// The set of the last body, or another one where it may have much room: clearing a set and going over
+/// it take time by its room, so that one great body would make each small one after it slow.
+fn lent_on(alloc: Global, last: IdHashSet<LocalId>) -> IdHashSet<LocalId> {
+    if last.len() <= MOST_LENT {
+        last
+    } else {
+        IdHashSet::new(alloc)
+    }
+}
+
 /// A checker that has checked no operator. It takes the lists of the scratch.
 fn begin_check<'a>(
     alloc: Global,
@@ -81,9 +94,9 @@ fn begin_check<'a>(
 {
     let mut open = mem::replace(&mut scratch.open, Vec::new(alloc));
     open.clear();
-    let lent = mem::replace(&mut scratch.used, IdHashSet::new(alloc));
+    let last = mem::replace(&mut scratch.used, IdHashSet::new(alloc));
     let marks = mem::replace(&mut scratch.marks, Vec::new(alloc));
-    let used = UsedLocals::none(lent, marks);
+    let used = UsedLocals::none(lent_on(alloc, last), marks);
     let first = OpenSequence {
         kind: BlockKind::FunctionEntry,
         ty: InstrSeqType::MultiValue(entry),

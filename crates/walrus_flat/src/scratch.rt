@@ -4,7 +4,6 @@ use crate::open_sequence::OpenSequence;
 use crate::sequences::Written;
 use std::alloc::Global;
 use walrus_ir::{IdHashSet, LocalId};
-use wasm_translate::Lists;
 
 /// The lists that `rewrite_flat` needs, lent to one body after the other, so that they keep their
 /// memory. Their contents don't matter.
@@ -14,7 +13,6 @@ pub struct FlatScratch {
     pub(crate) sequences: Vec<Written>,
     pub(crate) used: IdHashSet<LocalId>,
     pub(crate) marks: Vec<bool>,
-    pub(crate) lists: Lists,
 }
 
 impl FlatScratch {
@@ -25,7 +23,6 @@ impl FlatScratch {
             sequences: Vec::new(alloc),
             used: IdHashSet::new(alloc),
             marks: Vec::new(alloc),
-            lists: Lists::new(alloc),
         }
     }
 }

@@ -147,8 +147,7 @@ impl Writer<'_> {
                 if !types.is_func(id) {
                     return Err(EmitError::UnknownSequence);
                 }
-                let (params, results) = types.params_results(id);
-                match InstrSeqType::existing(types, params, results) {
+                match InstrSeqType::picked(types, id) {
                     Some(ty) => Ok(ty),
                     None => Err(EmitError::UnknownSequence),
                 }
