@@ -27,7 +27,7 @@ use Rattle.walrus_flat.specs.UsedMarks.{AreUsed, has_local, is_found}
 use Rattle.walrus_flat.specs.Checkers.{parts_in, NamesLocal, Takes}
 use Rattle.walrus_flat.proofs.CheckerOperators.{at_local_get, at_local_set, at_local_tee, at_other, at_drop, at_i32, at_i64, at_unary, at_binary}
 
--- ---- answers
+-- ---- results
 
 pub when_true : {P : Type 0} (b : Bool) → (b ≡ true → P) → OnTrue b P
 when_true true f = f refl
