@@ -86,21 +86,12 @@ macro_rules! return_opened {
     };
 }
 
-/// Returns the common operator that is spelt at the front, and moves past it.
-macro_rules! return_common {
-    ($reader:expr, $operator:expr, $rest:expr) => {{
-        let common = $operator;
-        $reader.pass_common(common, $rest);
-        return Some(common);
-    }};
-}
-
 /// Returns the common operator that is made from the immediates that were read, if any were, and
-/// moves past it.
+/// the bytes that follow.
 macro_rules! return_made {
-    ($reader:expr, $read:expr, $part:pat => $operator:expr) => {
+    ($read:expr, $part:pat => $operator:expr) => {
         if let Some(($part, rest)) = $read {
-            return_common!($reader, $operator, rest)
+            return Some(($operator, rest));
         }
     };
 }
@@ -182,9 +173,9 @@ impl<'a> Reader<'a> {
         self.rest = rest;
     }
 
-    /// Moves past a common operator that is spelt at the front.
+    /// Moves past the common operator that is spelt at the front, to the bytes that follow it.
     #[inline(always)]
-    fn pass_common(&mut self, common: CommonOperator, rest: &'a [u8])
+    pub fn pass_common(&mut self, common: CommonOperator, rest: &'a [u8])
         requires { read_operation self.old.rest ≡ Ok (meaning (listed common), rest.now) }
         // It is spelt by the bytes that were passed.
         ensures found { (text : List ℕ) × Moves self.old text self.new
@@ -224,10 +215,51 @@ impl<'a> Reader<'a> {
         }
     }
 
+    /// The next operator, if it is one of those that most code consists of, and the bytes that follow
+    /// it. A memory argument's memory is 0 then. The reader doesn't move; `pass_common` moves it.
+    #[inline(always)]
+    #[tactic(auto, unfolding(wasm_operators::specs::Spelling::read_operation, wasm_operators::specs::Opcodes::opcode, wasm_operators::specs::Opcodes::kinds_of_byte))]
+    pub fn peek_common(&self) -> Option<(CommonOperator, &'a [u8])>
+        // The operator and the bytes that follow, as a function of the bytes.
+        ensures { IfSome result (λ x. read_operation self.now.rest ≡ Ok (meaning (listed x.0), x.1.now)) }
+    {
+        let [byte, rest @ ..] = self.rest else {
+            return None;
+        };
+        let byte = *byte;
+        match byte {
+            0x0c => return_made!(u32_at_front(rest), label => CommonOperator::Br { label }),
+            0x0d => return_made!(u32_at_front(rest), label => CommonOperator::BrIf { label }),
+            0x10 => return_made!(u32_at_front(rest), func => CommonOperator::Call { func }),
+            0x1a => return Some((CommonOperator::Drop, rest)),
+            0x20 => return_made!(u32_at_front(rest), local => CommonOperator::LocalGet { local }),
+            0x21 => return_made!(u32_at_front(rest), local => CommonOperator::LocalSet { local }),
+            0x22 => return_made!(u32_at_front(rest), local => CommonOperator::LocalTee { local }),
+            0x23 => {
+                return_made!(u32_at_front(rest), global => CommonOperator::GlobalGet { global })
+            }
+            0x24 => {
+                return_made!(u32_at_front(rest), global => CommonOperator::GlobalSet { global })
+            }
+            0x41 => return_made!(s32_at_front(rest), value => CommonOperator::I32Const { value }),
+            0x42 => return_made!(s64_at_front(rest), value => CommonOperator::I64Const { value }),
+            0x45..=0xc4 => return Some((numeric(byte), rest)),
+            0x28..=0x35 => return_made!(
+                read_short_memarg(rest),
+                memarg => CommonOperator::Load { kind: load_kind(byte), memarg }
+            ),
+            0x36..=0x3e => return_made!(
+                read_short_memarg(rest),
+                memarg => CommonOperator::Store { kind: store_kind(byte), memarg }
+            ),
+            _ => {}
+        }
+        None
+    }
+
     /// Reads the next operator if it is one of those that most code consists of. A memory argument's
     /// memory is 0 then. If there is none, the reader doesn't move.
     #[inline(always)]
-    #[tactic(auto, unfolding(wasm_operators::specs::Spelling::read_operation, wasm_operators::specs::Opcodes::opcode, wasm_operators::specs::Opcodes::kinds_of_byte))]
     pub fn read_common(&mut self) -> Option<CommonOperator>
         // The operator that is read is spelt by the bytes that were taken.
         ensures found { IfSome result (λ x. (text : List ℕ) × Moves self.old text self.new
@@ -239,65 +271,13 @@ impl<'a> Reader<'a> {
         ensures is_read { IfSome result (λ x. read_operation self.old.rest ≡ Ok (meaning (listed x), self.new.rest)) }
         ensures none { result ≡ None → self.new ≡ self.old }
     {
-        let [byte, rest @ ..] = self.rest else {
-            return None;
-        };
-        let byte = *byte;
-        match byte {
-            0x1a => return_common!(self, CommonOperator::Drop, rest),
-            0x28..=0x35 => return_made!(
-                self, read_short_memarg(rest),
-                memarg => CommonOperator::Load { kind: load_kind(byte), memarg }
-            ),
-            0x36..=0x3e => return_made!(
-                self, read_short_memarg(rest),
-                memarg => CommonOperator::Store { kind: store_kind(byte), memarg }
-            ),
-            0x41 => return_made!(
-                self, s32_at_front(rest), value => CommonOperator::I32Const { value }
-            ),
-            0x42 => return_made!(
-                self, s64_at_front(rest), value => CommonOperator::I64Const { value }
-            ),
-            0x45..=0xc4 => return_common!(self, numeric(byte), rest),
-            0x0c..=0x24 => {
-                if let Some((number, rest)) = u32_at_front(rest) {
-                    match byte {
-                        0x0c => return_common!(self, CommonOperator::Br { label: number }, rest),
-                        0x0d => return_common!(self, CommonOperator::BrIf { label: number }, rest),
-                        0x10 => return_common!(self, CommonOperator::Call { func: number }, rest),
-                        0x20 => return_common!(
-                            self,
-                            CommonOperator::LocalGet { local: number },
-                            rest
-                        ),
-                        0x21 => return_common!(
-                            self,
-                            CommonOperator::LocalSet { local: number },
-                            rest
-                        ),
-                        0x22 => return_common!(
-                            self,
-                            CommonOperator::LocalTee { local: number },
-                            rest
-                        ),
-                        0x23 => return_common!(
-                            self,
-                            CommonOperator::GlobalGet { global: number },
-                            rest
-                        ),
-                        0x24 => return_common!(
-                            self,
-                            CommonOperator::GlobalSet { global: number },
-                            rest
-                        ),
-                        _ => {}
-                    }
-                }
+        match self.peek_common() {
+            Some((common, rest)) => {
+                self.pass_common(common, rest);
+                Some(common)
             }
-            _ => {}
+            None => None,
         }
-        None
     }
 
     /// Reads the next operator, as `read` does. It is the faster one of both where `read_common`
