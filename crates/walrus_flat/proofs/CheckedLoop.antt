@@ -23,12 +23,13 @@ use Rattle.walrus_parser.specs.OperatorKinds.{is_diverging}
 use Rattle.walrus_parser.specs.Advancing.{occurrence}
 use Rattle.walrus_parser.proofs.Roles.{fate_of_operator}
 use Rattle.walrus_flat.specs.declared.checker.Checker.{Checker}
-use Rattle.walrus_flat.specs.Checked.{env_of, AreFrames, state_of, Passes}
+use Rattle.walrus_flat.specs.Checked.{env_of, AreFrames, state_of, Passes, StaysSame}
 use Rattle.walrus_flat.specs.Checkers.{used_in}
 use Rattle.walrus_flat.specs.CheckedBody.{HasLimit, fits_limit, BeginsBody, setting_at, parsed_here, ChecksBody, RefusesTaking, IsTaken, ChecksNext}
 use Rattle.walrus_flat.proofs.CheckedFronts.{begins, unread, too_great, refused, unnamed, named, stops, missing, trailing, complete}
 use Rattle.walrus_flat.proofs.CheckedBodies.{ChecksSo, ChecksWhole, continues}
 use Rattle.walrus_flat.proofs.CheckedSteps.{alone_named, does}
+use Rattle.walrus_flat.proofs.CheckerAtOnce.{same_state, still_some}
 
 has_fit : (limit : Bool) (locations : Option (ℕ → ℕ)) (place : ℕ) → HasLimit limit locations → has_location locations place ≡ fits_limit limit place
 has_fit true None place h = refl
@@ -76,6 +77,15 @@ module _ {V : Type 0} (start : ℕ) (check : V → Placed → Result V ℕ) (v0 
       dead = (λ i. deadness (b.dead i) (map (λ (f : OpenSequence). f.before) (reverse (b.opens i)))) ∙ ap (λ d. deadness false (d ∷ [])) b.before;
       used = λ x. refl;
     };
+  }
+
+  -- nothing changed but memory
+  pub still : (c mid : Checker) (v w : V) (place : ℕ) (rest : List ℕ) → StaysSame c mid → w ≡ v → SoFar c v place rest → SoFar mid w place rest
+  still c mid v w place rest same state so = record {
+    env = ap env_of same.is ∙ so.env;
+    inside = still_some c mid same so.inside;
+    checks = λ locations h. subst (λ k. ChecksSo (given locations) bytes (used_in first) (state_of mid) k place rest) (sym state)
+        (subst (λ s. ChecksSo (given locations) bytes (used_in first) s v place rest) (sym (same_state c mid same)) (so.checks locations h));
   }
 
   module _ (c new : Checker) (v w : V) (place next : ℕ) (rest after : List ℕ) (o : RawOperation) (so : SoFar c v place rest) (read : read_operation rest ≡ Ok (o, after)) (taken : IsTaken check v w o limit place) where
@@ -172,12 +182,6 @@ module _ {V : Type 0} (start : ℕ) (check : V → Placed → Result V ℕ) (v0 
             stops (given locations) bytes s.layers s.sequence v place rest s.operators s.reads some e
             (refused (given locations) v (frames_of s.layers) place rest o after read (has_fit limit locations place h ∙ fits) n refuses ∙ ap Err (sym error))
             ∙ ap Err (sym is))
-
-        -- it isn't, or it breaks a rule
-        pub stops_next : (new : Checker) (w : V) (e : ParseError) → ChecksNext check v w limit place c new o (Err e) → (f : ParseFailure) → f ≡ failure e place →
-            (f.error ≡ Memory) ⊎ ((locations : Option (ℕ → ℕ)) → HasLimit limit locations → parsed_here (given locations) bytes ≡ Err f)
-        stops_next new w e (inl refuses) f is = untaken e refuses f is
-        stops_next new w e (inr (taken, (steps, env))) f is = breaks c new v w place place rest after o so read taken e some steps f is
 
     -- ---- an operator by itself
 

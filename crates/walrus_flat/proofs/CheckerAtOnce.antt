@@ -10,19 +10,15 @@ use Rattle.wasm_operators.specs.declared.types.Space.TheVariants.{Funcs, Globals
 use Rattle.wasm_operators.specs.declared.types.RawMemArg.{RawMemArg}
 use Rattle.wasm_operators.specs.declared.operator.Op.TheVariants as op
 use Rattle.wasm_operators.specs.Meaning.{Listed, meaning}
-use Rattle.wasm_operators.specs.Operations.{RawOperation}
 use Rattle.wasm_ops.specs.declared.common.CommonOperator.{CommonOperator}
 use Rattle.wasm_ops.specs.declared.common.CommonOperator.TheVariants as common
 use Rattle.wasm_ops.specs.CommonOperators.{listed}
-use Rattle.wasm_body.specs.declared.error.ParseError.{ParseError}
-use Rattle.wasm_body.specs.Frames.{Frame}
-use Rattle.wasm_body.specs.Naming.{Environment, Occurrence}
 use Rattle.walrus_maps.specs.IndexMaps.{id_of}
 use Rattle.walrus_facts.specs.Marking.{is_marked}
 use Rattle.walrus_instructions.specs.OperatorKinds.{is_instruction}
 use Rattle.walrus_parser.specs.OperatorKinds.{is_diverging}
 use Rattle.walrus_flat.specs.declared.checker.Checker.{Checker}
-use Rattle.walrus_flat.specs.Checked.{AreFrames, CheckState, IsChecked, env_of, state_of, ChecksStep, StepsChecker, StaysSame, ChecksAtOnce}
+use Rattle.walrus_flat.specs.Checked.{env_of, state_of, StepsChecker, StaysSame, ChecksAtOnce}
 use Rattle.walrus_flat.specs.UsedMarks.{AreUsed, has_local, is_found}
 use Rattle.walrus_flat.specs.Checkers.{parts_in, NamesLocal, Takes}
 use Rattle.walrus_flat.proofs.CheckerOperators.{at_local_get, at_local_set, at_local_tee, at_other, at_drop, at_i32, at_i64, at_unary, at_binary}
@@ -83,24 +79,11 @@ module _ {S : Type 0} (old new : HashSet ℕ S) where
 
 -- ---- what isn't taken at once
 
-module _ (old mid new : Checker) (o : RawOperation) (same : StaysSame old mid) where
-  abbrev ChecksFrom : Environment → CheckState → Result (Unit {0}) ParseError → Type 0
-  ChecksFrom e s r = (fs : List (Frame Occurrence)) → AreFrames e.types s.frames fs → IsChecked e s (state_of new) fs o r
+pub same_state : (old mid : Checker) → StaysSame old mid → state_of mid ≡ state_of old
+same_state old mid same = λ i. record { frames = reverse (same.is i).«open».items; dead = (same.is i).dead; used = λ x. same.used x i }
 
-  same_state : state_of mid ≡ state_of old
-  same_state = λ i. record { frames = reverse (same.is i).«open».items; dead = (same.is i).dead; used = λ x. same.used x i }
-
-  -- nothing changed, and then it was taken
-  pub steps_after : (r : Result (Unit {0}) ParseError) → ChecksStep mid new o r → OnOk r (env_of new ≡ env_of mid) → StepsChecker old new o r
-  steps_after r steps env =
-      (subst (λ s. ChecksFrom (env_of old) s r) same_state (subst (λ e. ChecksFrom e (state_of mid) r) (ap env_of same.is) steps), same_env r env)
-    where
-      same_env : (q : Result (Unit {0}) ParseError) → OnOk q (env_of new ≡ env_of mid) → OnOk q (env_of new ≡ env_of old)
-      same_env (Ok u) e = e ∙ ap env_of same.is
-      same_env (Err f) e = tt
-
-  pub still_some : old.«open».items ≢ [] → mid.«open».items ≢ []
-  still_some some none = some (sym (ap (λ (k : Checker). k.«open».items) same.is) ∙ none)
+pub still_some : (old mid : Checker) → StaysSame old mid → old.«open».items ≢ [] → mid.«open».items ≢ []
+still_some old mid same some none = some (sym (ap (λ (k : Checker). k.«open».items) same.is) ∙ none)
 
 -- ---- common operators
 

@@ -2,6 +2,8 @@
 pub mod Renumbered
 -- the parts of an operator are checked as they are named
 pub mod CheckingAlike
+-- operators without parts that may be missing
+pub mod NoParts
 -- a body that is checked so far
 pub mod CheckedFronts
 -- what parsing the operators gives
@@ -25,6 +27,9 @@ pub mod Drafts
 pub mod WriterSteps
 pub mod WriterOperators
 pub mod WriterAtOnce
+pub mod WriterShort
+-- types of sequences that are written as one byte
+pub mod TypeBytes
 -- the operators of a body that is written so far
 pub mod WrittenLoop
 -- a body that was checked, with the function's own type

@@ -116,6 +116,10 @@ module _ {F : Type 0} (g : Shared F (Bor ℕ × Unit {0}) ℕ) (i : ParseInput (
     pub is_written : IsWrittenSo to typing balanced (read_marks read) (state_of w.«open») written
     pub draft : w.draft ≡ drafted first.draft written
 
+  -- nothing changed
+  pub still : (w new : Writer) (place : ℕ) (rest : List ℕ) → new ≡ w → WritesSoFar w place rest → WritesSoFar new place rest
+  still w new place rest same = subst (λ k. WritesSoFar k place rest) (sym same)
+
   -- ---- before the first operator
 
   pub begins_writing : i.check ≡ (λ v x. Ok tt) → i.first ≡ tt → IsAccepted i → state_of first.«open» ≡ first_state → WritesSoFar first i.start i.bytes

@@ -8,6 +8,11 @@ use Rattle.walrus_ir.specs.Unfolding.{among}
 use Rattle.walrus_ir.specs.Locations.{default_location}
 use Rattle.wasm_operators.specs.OperatorList.{Placed}
 use Rattle.wasm_operators.specs.Operations.{RawOperation}
+use Rattle.wasm_operators.specs.Meaning.{meaning}
+use Rattle.wasm_operators.specs.Spelling.{read_operation}
+use Rattle.wasm_ops.specs.CommonOperators.{listed}
+use Rattle.wasm_ops.specs.Position.{Position, IsAfter}
+use Rattle.wasm_ops.specs.declared.common.CommonOperator.{CommonOperator}
 use Rattle.wasm_body.specs.declared.error.ParseError.{ParseError}
 use Rattle.wasm_body.specs.declared.error.ParseError.TheVariants.{Memory, PlaceTooGreat, Checked, NotAFunctionType, EntryTypeMissing}
 use Rattle.wasm_body.specs.declared.error.ParseFailure.{ParseFailure}
@@ -21,7 +26,7 @@ use Rattle.walrus_parser.specs.Checking.{placed_at}
 use Rattle.walrus_parser.specs.Settings.{operators_of}
 use Rattle.walrus_flat.specs.declared.checker.Checker.{Checker}
 use Rattle.walrus_flat.specs.declared.open_sequence.OpenSequence.{OpenSequence}
-use Rattle.walrus_flat.specs.Checked.{marks, StepsChecker}
+use Rattle.walrus_flat.specs.Checked.{marks, StepsChecker, StaysSame}
 use Rattle.walrus_flat.specs.Checkers.{used_in}
 
 -- whether places have a limit, which they have where there is no location function
@@ -76,6 +81,13 @@ pub record IsTaken {V : Type 0} (check : V → Placed → Result V ℕ) (v w : V
 abbrev pub ChecksNext : {V : Type 0} → (V → Placed → Result V ℕ) → (v w : V) → (limit : Bool) → (place : ℕ) → Checker → Checker → RawOperation → Result (Unit {0}) ParseError → Type 0
 ChecksNext check v w limit place old new o (Ok u) = IsTaken check v w o limit place × StepsChecker old new o (Ok tt)
 ChecksNext check v w limit place old new o (Err e) = RefusesTaking check v o limit place e ⊎ (IsTaken check v w o limit place × StepsChecker old new o (Err e))
+
+-- The next operator is a common one, which was taken at once; or it wasn't, and nothing changed but memory; or it isn't accepted.
+abbrev pub ChecksNextAtOnce : {V : Type 0} → (V → Placed → Result V ℕ) → (v w : V) → (limit : Bool) → (place : ℕ) → Position → Position → Checker → Checker → Result Bool ParseError → Type 0
+ChecksNextAtOnce check v w limit place from to old new (Ok true) =
+    (x : CommonOperator) × (read_operation from.rest ≡ Ok (meaning (listed x), to.rest)) × IsAfter from to × ChecksNext check v w limit place old new (meaning (listed x)) (Ok tt)
+ChecksNextAtOnce check v w limit place from to old new (Ok false) = (to ≡ from) × StaysSame old new × (w ≡ v)
+ChecksNextAtOnce check v w limit place from to old new (Err e) = (x : CommonOperator) × (rest : List ℕ) × (read_operation from.rest ≡ Ok (meaning (listed x), rest)) × RefusesTaking check v (meaning (listed x)) limit place e
 
 -- ---- with the function's own type
 

@@ -9,7 +9,8 @@ use Rattle.walrus_ir.specs.Types.{Signature, signature, signature_of_type}
 use Rattle.walrus_ir.specs.Results.{◌>>=◌, with_fault}
 use Rattle.wasm_operators.specs.declared.types.BlockType.{BlockType}
 use Rattle.wasm_operators.specs.declared.types.Space.TheVariants.{Tags}
-use Rattle.wasm_operators.specs.Operations.{RawOperation}
+use Rattle.wasm_operators.specs.declared.types.Opcode.TheVariants.{Byte}
+use Rattle.wasm_operators.specs.Operations.{operation, RawOperation}
 use Rattle.wasm_body.specs.declared.error.ParseError.{ParseError}
 use Rattle.wasm_body.specs.declared.error.ParseError.TheVariants.{Memory, Index, ElseOutsideIf, CatchOutsideTry, DelegateOutsideTry}
 use Rattle.wasm_body.specs.Naming.{Environment, id_at, name_block, tag_type, has_pick}
@@ -24,6 +25,17 @@ use Rattle.walrus_flat.specs.SequenceKinds.{handler_kind, has_else, has_clauses,
 -- an operator with its parts, if all of them exist
 abbrev pub parts_in : Checker → RawOperation → Result RawOperation ParseError
 parts_in c o = changed (checking_changes (env_of c) (reverse c.«open».items)) o
+
+-- No part of an operator is missing in any module; nor does a block type name anything that is missing.
+abbrev pub HasNoParts : RawOperation → Type 0
+HasNoParts o = (c : Checker) → IsOk (parts_in c o)
+
+abbrev pub NamesNoType : BlockType → Type 0
+NamesNoType b = (env : Environment) → IsOk (name_block env b)
+
+-- The operator is this byte.
+abbrev pub IsByte : RawOperation → ℕ → Type 0
+IsByte o byte = o ≡ operation (Byte byte) []
 
 -- The parts exist; or memory ran out, or this is the first fault among them.
 abbrev pub ChecksParts : Checker → RawOperation → Result (Unit {0}) ParseError → Type 0

@@ -8,11 +8,13 @@ use Rattle.walrus_emit_state.specs.TreeWriting.Drafts.{with_written}
 use Rattle.walrus_ir.specs.Types.{Signature, pick}
 use Rattle.walrus_ir.specs.Results.{gather}
 use Rattle.wasm_operators.specs.declared.types.BlockType.{BlockType}
-use Rattle.wasm_operators.specs.Operations.{RawOperation}
+use Rattle.wasm_operators.specs.declared.types.Opcode.TheVariants.{Byte}
+use Rattle.wasm_operators.specs.Operations.{block, operation, RawOperation}
+use Rattle.wasm_operators.specs.Shortest.{short_block, short_number}
 use Rattle.wasm_operators.specs.Spelling.{Spells}
 use Rattle.wasm_body.specs.declared.error.EmitError.{EmitError}
 use Rattle.wasm_body.specs.declared.error.EmitError.TheVariants.{Memory}
-use Rattle.wasm_body.specs.Bytes.{Numbers}
+use Rattle.wasm_body.specs.Bytes.{Numbers, numbered_block}
 use Rattle.wasm_body.specs.Control.{Marked}
 use Rattle.wasm_body.specs.Frames.{Frame}
 use Rattle.wasm_body.specs.Naming.{Environment, NamedOperation, Occurrence, name_block, named_in}
@@ -38,6 +40,18 @@ env_at w type = environment_of w.«module».now w.indices.ids.now w.indices.func
 -- an operator with its numbers; if it opens a construct, this is the type of its sequences
 abbrev pub renumbered : Writer → InstrSeqType → RawOperation → Result RawOperation EmitError
 renumbered w ty o = changed (writing_changes (id_of w.indices.ids.now) (local_of w.indices.ids.now w.indices.function) (numbers_in w) ty) o
+
+-- The operator is this byte and a block type.
+abbrev pub IsOpener : RawOperation → ℕ → Type 0
+IsOpener o byte = (b : BlockType) × (o ≡ operation (Byte byte) (block b ∷ []))
+
+-- Whatever the numbers are, the block type for such sequences is spelt as this number.
+abbrev pub IsTypeByte : InstrSeqType → ℕ → Type 0
+IsTypeByte type code = (b : BlockType) × ((to : Numbers) → numbered_block to type ≡ Ok b) × (short_block b ≡ short_number code)
+
+-- both: an opener and the type of its sequences
+abbrev pub IsShortOpener : RawOperation → InstrSeqType → ℕ × ℕ → Type 0
+IsShortOpener o type bytes = IsOpener o bytes.0 × IsTypeByte type bytes.1
 
 -- The writer of the same body.
 pub record IsSameWriter (old new : Writer) : Type 0 where

@@ -1,9 +1,13 @@
 -- What writing the operators of a body shows, which is read again.
-use Rattle.std.specs.Prelude.{◌≡◌, ◌⊎◌, ℕ, ◌+◌, List, length, Option, Some, None, Result, Ok, Err}
+use Rattle.std.specs.Prelude.{◌≡◌, ◌⊎◌, ℕ, ◌+◌, List, length, Bool, true, false, Option, Some, None, Result, Ok, Err}
 use Rattle.std.specs.Borrow.{Bor}
 use Rattle.std.specs.Fn.{Shared}
 use Rattle.wasm_operators.specs.Operations.{RawOperation}
-use Rattle.wasm_ops.specs.Position.{Position}
+use Rattle.wasm_operators.specs.Meaning.{meaning}
+use Rattle.wasm_operators.specs.Spelling.{Spells, read_operation}
+use Rattle.wasm_ops.specs.CommonOperators.{listed}
+use Rattle.wasm_ops.specs.Position.{Position, IsAfter}
+use Rattle.wasm_ops.specs.declared.common.CommonOperator.{CommonOperator}
 use Rattle.wasm_body.specs.declared.error.EmitError.{EmitError}
 use Rattle.wasm_body.specs.declared.error.EmitError.TheVariants.{Memory}
 use Rattle.wasm_body.specs.Bytes.{Numbers}
@@ -14,7 +18,6 @@ use Rattle.wasm_body.specs.Translation.{Located}
 use Rattle.walrus_parser.specs.Bodies.{ParseInput, setting_with, operators_input, mapped_by, operators_parsed}
 use Rattle.walrus_parser.specs.Settings.{operators_of, IsMapping}
 use Rattle.walrus_emit_state.specs.TreeWriting.Drafts.{Drafted}
-use Rattle.walrus_parser.specs.Locating.{Locates, HasNoLocation}
 use Rattle.walrus_flat.specs.declared.writer.Writer.{Writer}
 use Rattle.walrus_flat.specs.Writers.{StepsWriter}
 use Rattle.walrus_flat.specs.Laws.{written_of}
@@ -34,11 +37,11 @@ pub record IsAccepted {F : Type 0} (i : ParseInput (Unit {0}) F) : Type 0 where
   pub body : Body Occurrence
   pub accepted : Accepted (setting_with i (some_locations i.on_instr_pos)) i.bytes body
 
--- An operator at this place is written, at its location; or it has no location.
-abbrev pub WritesNext : {F : Type 0} → Shared F (Bor ℕ × Unit {0}) ℕ → Option (Bor F) → (place : ℕ) → Writer → Writer → RawOperation → Result (Unit {0}) EmitError → Type 0
-WritesNext g on_instr_pos place old new o (Ok u) = (location : ℕ) × Locates g on_instr_pos place location × StepsWriter old new o location (Ok u)
-WritesNext g on_instr_pos place old new o (Err e) =
-    HasNoLocation on_instr_pos place ⊎ ((location : ℕ) × Locates g on_instr_pos place location × StepsWriter old new o location (Err e))
+-- The next operator is a common one, which was written or skipped at once; or it wasn't, and nothing changed.
+abbrev pub WritesNextAtOnce : Position → Position → Writer → Writer → (location : ℕ) → Bool → Type 0
+WritesNextAtOnce from to old new location true =
+    (x : CommonOperator) × (read_operation from.rest ≡ Ok (meaning (listed x), to.rest)) × ((text : List ℕ) × Spells (meaning (listed x)) text) × IsAfter from to × StepsWriter old new (meaning (listed x)) location (Ok tt)
+WritesNextAtOnce from to old new location false = (to ≡ from) × (new ≡ old)
 
 module _ {F : Type 0} (g : Shared F (Bor ℕ × Unit {0}) ℕ) (i : ParseInput (Unit {0}) F) (to : Numbers) where
   -- What is written of the body was written, with the locations that the caller's function returned.

@@ -1,12 +1,12 @@
 //! The first pass: a body is checked, and the locals that its live operators name are gathered.
-ghost use Rattle.std.specs.Prelude.{◌≡◌, ◌≢◌, ◌+◌, ◌<◌, ℕ, [], List, length, IfSome, None, IfOk, IfErr, OnOk, Ok, Err, true, false};
+ghost use Rattle.std.specs.Prelude.{◌≡◌, ◌≢◌, ◌+◌, ◌<◌, ℕ, [], List, length, IfOk, IfErr, OnOk, Ok, Err, true, false};
 ghost use Rattle.wasm_operators.specs.Spelling.{Spells, read_operation};
 ghost use Rattle.wasm_operators.specs.Meaning.{meaning};
 ghost use Rattle.wasm_encode.specs.Writable.{IsWritable};
 ghost use Rattle.wasm_ops.specs.CommonOperators.{listed};
 ghost use Rattle.wasm_ops.specs.Position.{IsAfter};
-ghost use Rattle.walrus_flat.specs.Checked.{env_of, ChecksStep};
-ghost use Rattle.walrus_flat.specs.CheckedBody.{fits_limit, BeginsBody, setting_at, ChecksOperators, ChecksNext, RefusesTaking, IsTaken};
+ghost use Rattle.walrus_flat.specs.Checked.{env_of};
+ghost use Rattle.walrus_flat.specs.CheckedBody.{fits_limit, BeginsBody, setting_at, ChecksOperators, ChecksNextAtOnce, RefusesTaking, IsTaken};
 
 use crate::checker::Checker;
 use walrus_parser::{OpCheck, check_common, checked, failure};
@@ -18,19 +18,6 @@ fn fits_limit(has_limit: bool, at: usize) -> bool
     ensures { result ≡ fits_limit has_limit at }
 {
     !has_limit || at < u32::MAX as usize
-}
-
-/// Reads the next operator if it is a common one, as `Reader::read_common` does.
-#[inline(always)]
-pub(crate) fn read_common(reader: &mut Reader<'_>) -> Option<CommonOperator>
-    ensures is_read { IfSome result (λ x.
-        read_operation reader.old.rest ≡ Ok (meaning (listed x), reader.new.rest)) }
-    ensures writable { IfSome result (λ x. IsWritable (meaning (listed x))) }
-    ensures spelt { IfSome result (λ x. (text : List ℕ) × Spells (meaning (listed x)) text) }
-    ensures moves { IfSome result (λ _. IsAfter reader.old reader.new) }
-    ensures none { result ≡ None → reader.new ≡ reader.old }
-{
-    reader.read_common()
 }
 
 /// Reads the next operator.
@@ -89,44 +76,40 @@ fn accepts_common<V: OpCheck>(
     }
 }
 
-/// Takes a common operator as any other. It isn't inlined, so that where one is taken at once no
-/// `Operator` is in memory.
-#[inline(never)]
-fn step_at_length(checker: &mut Checker<'_>, common: CommonOperator) -> Result<(), ParseError>
-    requires writable { IsWritable (meaning (listed common)) }
-    requires inside { checker.old.open.items ≢ [] }
-    ensures step { ChecksStep checker.old checker.new (meaning (listed common)) result }
-    ensures env { OnOk result (env_of checker.new ≡ env_of checker.old) }
-{
-    checker.step(&common.operator())
-}
-
-/// Checks a common operator that was read at this place.
+/// Checks the next operator at once if it is a common one, and returns whether it did. It doesn't if
+/// a part of it isn't found or memory runs out; then nothing is changed, and the operator is checked
+/// as any other. The validator is called after the operator was taken, so that what was read is in
+/// no memory: each kind of operator has a way of its own until then.
 #[inline(always)]
-fn take_common<V: OpCheck>(
+fn check_at_once<V: OpCheck>(
     checker: &mut Checker<'_>,
-    common: CommonOperator,
+    reader: &mut Reader<'_>,
     at: usize,
     has_limit: bool,
     validator: &mut V,
-) -> Result<(), ParseError>
-    requires writable { IsWritable (meaning (listed common)) }
+) -> Result<bool, ParseError>
     requires inside { checker.old.open.items ≢ [] }
-    ensures { ChecksNext V.check (V.state validator.old) (V.state validator.new) has_limit at
-        checker.old checker.new (meaning (listed common)) result }
+    ensures { ChecksNextAtOnce V.check (V.state validator.old) (V.state validator.new) has_limit at
+        reader.old reader.new checker.old checker.new result }
 {
+    let Some((common, rest)) = reader.peek_common() else {
+        return Ok(false);
+    };
+    if !checker.step_common(common) {
+        return Ok(false);
+    }
     match accepts_common(at, common, has_limit, validator) {
-        Ok(()) => {}
-        Err(error) => return Err(error),
+        Ok(()) => {
+            reader.pass_common(common, rest);
+            Ok(true)
+        }
+        Err(error) => Err(error),
     }
-    if checker.step_common(common) {
-        return Ok(());
-    }
-    step_at_length(checker, common)
 }
 
 /// Checks the operators of a body, of which none is checked yet. Places have a limit where there is
-/// no location function.
+/// no location function. It isn't inlined, so that what it calls may be.
+#[inline(never)]
 pub(crate) fn check_operators<V: OpCheck>(
     checker: &mut Checker<'_>,
     reader: &mut Reader<'_>,
@@ -140,11 +123,10 @@ pub(crate) fn check_operators<V: OpCheck>(
     let _ids = checker.indices.ids;
     while !reader.eof() {
         let at = reader.original_position();
-        if let Some(common) = read_common(reader) {
-            match take_common(checker, common, at, has_limit, &mut validator) {
-                Ok(()) => continue,
-                Err(error) => return Err(failure(error, at)),
-            }
+        match check_at_once(checker, reader, at, has_limit, &mut validator) {
+            Ok(true) => continue,
+            Ok(false) => {}
+            Err(error) => return Err(failure(error, at)),
         }
         let read = read_other(reader);
         let operator = match &read {

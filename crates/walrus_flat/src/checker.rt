@@ -1,11 +1,12 @@
 //! The operators of a body, checked one by one.
-ghost use Rattle.std.specs.Prelude.{◌≡◌, ◌≢◌, ◌⊎◌, ◌++◌, ◌-◌, slice_get, [], ◌∷◌, List, length, Option, Some, None, nat_lt, reverse, Ok, Err, OnOk, IfOk, IfErr, MatchOption, true, false};
+ghost use Rattle.std.specs.Prelude.{◌≡◌, ◌≢◌, ◌⊎◌, ◌++◌, ◌-◌, slice_get, [], ◌∷◌, List, length, Option, Some, None, nat_lt, reverse, Ok, Err, OnOk, IfOk, IfErr, IfSome, MatchOption, true, false};
 ghost use Rattle.walrus_ir.specs.Types.{Signature, signature, signature_of_type};
 ghost use Rattle.wasm_operators.specs.Meaning.{meaning};
 ghost use Rattle.wasm_encode.specs.Writable.{IsWritable};
 ghost use Rattle.wasm_body.specs.declared.error.ParseError.TheVariants.{Memory as MemoryFault};
 ghost use Rattle.wasm_body.specs.Naming.{has_pick};
 ghost use Rattle.walrus_parser.specs.OperatorKinds.{is_diverging};
+ghost use Rattle.walrus_flat.specs.Checkers.{NamesNoType, HasNoParts, IsByte};
 ghost use Rattle.walrus_flat.specs.SequenceKinds.{handler_kind, has_else, has_clauses, has_delegate};
 ghost use Rattle.std.specs.Bool.{OnTrue, OnFalse};
 ghost use Rattle.wasm_ops.specs.CommonOperators.{listed};
@@ -76,6 +77,39 @@ fn has_delegate(kind: BlockKind) -> bool
     matches!(kind, BlockKind::Try)
 }
 
+/// Whether a block type names no type of the module.
+fn names_no_type(ty: BlockType) -> bool
+    ensures { OnTrue result (NamesNoType ty) }
+{
+    match ty {
+        BlockType::Empty => true,
+        BlockType::Value(value) => match value {
+            ValType::I32 => true,
+            ValType::I64 => true,
+            ValType::F32 => true,
+            ValType::F64 => true,
+            ValType::V128 => true,
+            ValType::Ref(_) => false,
+        },
+        BlockType::FuncType(_) => false,
+    }
+}
+
+/// Whether this is the opener of a construct, with a block type that names no type, so that it has
+/// no part to check.
+#[inline(always)]
+fn is_plain_opener(operator: &Operator<'_>) -> bool
+    ensures { OnTrue result (HasNoParts (meaning operator.now)) }
+{
+    match operator {
+        Operator::Block { ty } => names_no_type(*ty),
+        Operator::Loop { ty } => names_no_type(*ty),
+        Operator::If { ty } => names_no_type(*ty),
+        Operator::Try { ty } => names_no_type(*ty),
+        _ => false,
+    }
+}
+
 impl Checker<'_> {
     ghost use Rattle.walrus_flat.specs.Checked.{env_of, ChecksStep, StaysSame, ChecksAtOnce};
     ghost use Rattle.walrus_flat.specs.Checkers.{ChecksParts, IsNamedType, has_handler_type, as_kind, Closes, Opens, BeginsConstruct, RefusesConstruct, PartsIf, RefusesElse, PartsTry, RefusesClause, ClosesTry, RefusesDelegate, NamesLocal, RefusesLocal, Takes, parts_in};
@@ -95,6 +129,32 @@ impl Checker<'_> {
         match translated(operator, &checking, &mut self.lists) {
             Ok(_) => Ok(()),
             Err(fault) => Err(fault),
+        }
+    }
+
+    /// Checks the parts of the opener of a construct, as `check_parts`.
+    #[inline(always)]
+    fn check_opener(&mut self, operator: &Operator<'_>) -> Result<(), ParseError>
+        requires { IsWritable (meaning operator.now) }
+        ensures parts { ChecksParts self.old (meaning operator.now) result }
+        ensures same { self.new ≡ record self.old { lists = self.new.lists } }
+    {
+        if is_plain_opener(operator) {
+            return Ok(());
+        }
+        self.check_parts(operator)
+    }
+
+    /// Checks the parts of an operator by itself, as `check_parts`.
+    #[inline(always)]
+    fn check_alone(&mut self, operator: &Operator<'_>) -> Result<(), ParseError>
+        requires { IsWritable (meaning operator.now) }
+        ensures parts { ChecksParts self.old (meaning operator.now) result }
+        ensures same { self.new ≡ record self.old { lists = self.new.lists } }
+    {
+        match plain_byte(operator) {
+            Some(_) => Ok(()),
+            None => self.check_parts(operator),
         }
     }
 
@@ -192,7 +252,7 @@ impl Checker<'_> {
         ensures err { IfErr result (RefusesConstruct self.old (meaning operator.now) ty) }
     {
         let _ids = self.indices.ids;
-        match self.check_parts(operator) {
+        match self.check_opener(operator) {
             Ok(()) => {}
             Err(error) => return Err(error),
         }
@@ -348,7 +408,7 @@ impl Checker<'_> {
         ensures err { IfErr result (λ e. (e ≡ MemoryFault)
             ⊎ (parts_in self.old (meaning operator.now) ≡ Err e)) }
     {
-        match self.check_parts(operator) {
+        match self.check_alone(operator) {
             Ok(()) => {
                 if is_diverging(operator) {
                     self.dead = true;
@@ -450,4 +510,17 @@ pub(crate) fn is_diverging(operator: &Operator<'_>) -> bool
             | Operator::Rethrow { .. }
             | Operator::ThrowRef
     )
+}
+
+/// The byte of an operator by itself that is one byte, if it is one of those that are frequent.
+#[inline(always)]
+pub(crate) fn plain_byte(operator: &Operator<'_>) -> Option<u8>
+    ensures { IfSome result (IsByte (meaning operator.now)) }
+{
+    match operator {
+        Operator::Unreachable => Some(0x00),
+        Operator::Return => Some(0x0f),
+        Operator::Select => Some(0x1b),
+        _ => None,
+    }
 }

@@ -53,6 +53,11 @@ impl OpenSequences {
         matches!(self.next, Next::Dead)
     }
 
+    /// Whether what follows is written, and no `else` waits.
+    pub fn is_live(&self) -> bool {
+        matches!(self.next, Next::Live)
+    }
+
     /// Whether an `else` waits.
     pub fn waits(&self) -> bool
         ensures { result ≡ waits self.now.next }

@@ -3,17 +3,14 @@ ghost use Rattle.std.specs.Prelude.{◌≡◌, ◌≤◌, ◌+◌, length, Match
 ghost use Rattle.walrus_parser.specs.Locating.{MayCall, Locates, HasNoLocation};
 ghost use Rattle.wasm_flat.specs.Flat.{first_state};
 ghost use Rattle.walrus_flat.specs.Written.{state_of};
-ghost use Rattle.walrus_flat.specs.Writers.{env_at, numbers_in, StepsWriter};
-ghost use Rattle.walrus_flat.specs.WrittenBody.{again, IsAccepted, WritesOperators, WritesNext};
-ghost use Rattle.wasm_operators.specs.Meaning.{meaning};
-ghost use Rattle.wasm_encode.specs.Writable.{IsWritable};
-ghost use Rattle.wasm_ops.specs.CommonOperators.{listed};
+ghost use Rattle.walrus_flat.specs.Writers.{env_at, numbers_in};
+ghost use Rattle.walrus_flat.specs.WrittenBody.{again, IsAccepted, WritesOperators, WritesNextAtOnce};
 
-use crate::check_body::{read_common, read_other};
+use crate::check_body::read_other;
 use crate::writer::Writer;
 use walrus_ir::InstrLocId;
 use wasm_body::EmitError;
-use wasm_ops::{CommonOperator, Reader};
+use wasm_ops::Reader;
 
 /// The location of the operator at this place: the one that the function returns. Without a
 /// function it is the place itself, if that is small enough.
@@ -32,43 +29,32 @@ fn location_at<F: Fn(&usize) -> InstrLocId>(
     }
 }
 
-/// Writes a common operator as any other. It isn't inlined, so that where one is written at once no
-/// `Operator` is in memory.
-#[inline(never)]
-fn step_at_length(
-    writer: &mut Writer<'_>,
-    common: CommonOperator,
-    location: InstrLocId,
-) -> Result<(), EmitError>
-    requires { IsWritable (meaning (listed common)) }
-    ensures { StepsWriter writer.old writer.new (meaning (listed common)) location result }
-{
-    writer.step(&common.operator(), location)
-}
-
-/// Writes a common operator that was read at this place.
+/// Writes the next operator at once if it is a common one in live code, and returns whether it did.
+/// It doesn't if an `else` waits, a part of the operator has no number or memory runs out; then
+/// nothing is changed, and the operator is written as any other.
 #[inline(always)]
-fn write_common<F: Fn(&usize) -> InstrLocId>(
-    writer: &mut Writer<'_>,
-    common: CommonOperator,
-    at: usize,
-    on_instr_pos: Option<&F>,
-) -> Result<(), EmitError>
-    requires writable { IsWritable (meaning (listed common)) }
-    requires may_call { MayCall F.pre on_instr_pos at (at + 1) }
-    ensures { WritesNext F.Fn on_instr_pos.entry at writer.old writer.new
-        (meaning (listed common)) result }
+fn write_at_once(writer: &mut Writer<'_>, reader: &mut Reader<'_>, location: InstrLocId) -> bool
+    ensures { WritesNextAtOnce reader.old reader.new writer.old writer.new location result }
 {
-    let Some(location) = location_at(on_instr_pos, at) else {
-        return Err(EmitError::UnknownSequence);
-    };
-    if writer.step_common(common, location) {
-        return Ok(());
+    let _ids = writer.indices.ids;
+    // This is tested before the operator is read, so that each kind of operator has a way of its own
+    // from there.
+    if !writer.is_live() {
+        return false;
     }
-    step_at_length(writer, common, location)
+    let Some((common, rest)) = reader.peek_common() else {
+        return false;
+    };
+    if !writer.step_common(common, location) {
+        return false;
+    }
+    reader.pass_common(common, rest);
+    true
 }
 
-/// Writes the operators of a checked body, of which none is written yet.
+/// Writes the operators of a checked body, of which none is written yet. It isn't inlined, so that
+/// what it calls may be.
+#[inline(never)]
 pub(crate) fn write_operators<F: Fn(&usize) -> InstrLocId>(
     writer: &mut Writer<'_>,
     reader: &mut Reader<'_>,
@@ -86,19 +72,16 @@ pub(crate) fn write_operators<F: Fn(&usize) -> InstrLocId>(
 {
     while !reader.eof() {
         let at = reader.original_position();
-        if let Some(common) = read_common(reader) {
-            match write_common(writer, common, at, on_instr_pos) {
-                Ok(()) => continue,
-                Err(fault) => return Err(fault),
-            }
+        let Some(location) = location_at(on_instr_pos, at) else {
+            return Err(EmitError::UnknownSequence);
+        };
+        if write_at_once(writer, reader, location) {
+            continue;
         }
         let read = read_other(reader);
         let operator = match &read {
             Ok(operator) => operator,
             Err(_) => return Err(EmitError::UnknownSequence),
-        };
-        let Some(location) = location_at(on_instr_pos, at) else {
-            return Err(EmitError::UnknownSequence);
         };
         match writer.step(operator, location) {
             Ok(()) => {}

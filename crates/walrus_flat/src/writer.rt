@@ -1,5 +1,5 @@
 //! The operators of a body, written one by one.
-ghost use Rattle.std.specs.Prelude.{◌≡◌, ◌∷◌, [], OnOk, IfErr, false, None, Ok};
+ghost use Rattle.std.specs.Prelude.{◌≡◌, ◌∷◌, [], OnOk, IfErr, IfSome, false, None, Ok};
 ghost use Rattle.walrus_ir.specs.Locations.{default_location};
 ghost use Rattle.walrus_ir.specs.declared.val_type.InstrSeqType.TheVariants.{Simple as SimpleType};
 ghost use Rattle.wasm_operators.specs.Meaning.{meaning};
@@ -14,19 +14,22 @@ ghost use Rattle.wasm_operators.specs.declared.types.Opcode.TheVariants as opcod
 ghost use Rattle.wasm_operators.specs.declared.types.Space.TheVariants.{Funcs, Globals};
 ghost use Rattle.wasm_operators.specs.Operations.{operation, index as index_immediate, local as local_immediate, label as label_immediate, access as access_immediate};
 ghost use Rattle.wasm_ops.specs.CommonOperators.{listed};
+ghost use Rattle.wasm_body.specs.Translation.{at_location};
+ghost use Rattle.wasm_operators.specs.Shortest.{short_number};
+ghost use Rattle.walrus_emit_state.specs.TreeWriting.Drafts.{with_bytes};
+ghost use Rattle.walrus_flat.specs.Writers.{IsOpener, IsTypeByte, IsShortOpener};
 
 use crate::body_indices::BodyIndices;
-use crate::checker::is_diverging;
+use crate::checker::{is_diverging, plain_byte};
 use crate::local_numbers::LocalNumbers;
 use crate::renumbering::Renumbering;
 use crate::sequences::{Next, OpenSequences, Written};
 use walrus_context::value_type;
 use walrus_emit_state::Draft;
-use walrus_ir::{BinaryOp, InstrLocId, InstrSeqType, Module, TypeId, UnaryOp};
+use walrus_ir::{BinaryOp, InstrLocId, InstrSeqType, Module, TypeId, UnaryOp, ValType};
 use walrus_maps::IdsToIndices;
 use walrus_numbering::{NumberMaps, is_balanced};
 use wasm_body::EmitError;
-use wasm_encode::OutOp;
 use wasm_operators::{
     BlockType, Opcode, Operator, RawMemArg, binary_opcode, load_opcode, store_opcode, unary_opcode,
 };
@@ -49,8 +52,69 @@ pub(crate) struct Writer<'a> {
     pub draft: Draft,
 }
 
+/// The byte of the opener of a construct that has a block type and no other part.
+#[inline(always)]
+fn opener_byte(operator: &Operator<'_>) -> Option<u8>
+    ensures { IfSome result (IsOpener (meaning operator.now)) }
+{
+    match operator {
+        Operator::Block { .. } => Some(0x02),
+        Operator::Loop { .. } => Some(0x03),
+        Operator::If { .. } => Some(0x04),
+        Operator::Try { .. } => Some(0x06),
+        _ => None,
+    }
+}
+
+/// The byte that is written for a type of sequences, unless it needs a number.
+fn type_byte(ty: InstrSeqType) -> Option<u32>
+    ensures { IfSome result (IsTypeByte ty) }
+{
+    match ty {
+        InstrSeqType::Simple(None) => Some(0x40),
+        InstrSeqType::Simple(Some(value)) => match value {
+            ValType::I32 => Some(0x7f),
+            ValType::I64 => Some(0x7e),
+            ValType::F32 => Some(0x7d),
+            ValType::F64 => Some(0x7c),
+            ValType::V128 => Some(0x7b),
+            ValType::Ref(_) => None,
+        },
+        InstrSeqType::MultiValue(_) => None,
+    }
+}
+
+/// The two bytes of an opener, if it is two bytes and needs no number.
+#[inline(always)]
+fn opener_bytes(operator: &Operator<'_>, ty: &InstrSeqType) -> Option<(u8, u32)>
+    ensures { IfSome result (IsShortOpener (meaning operator.now) ty.now) }
+{
+    match opener_byte(operator) {
+        Some(byte) => match type_byte(*ty) {
+            Some(code) => Some((byte, code)),
+            None => None,
+        },
+        None => None,
+    }
+}
+
 impl Writer<'_> {
     ghost use Rattle.walrus_flat.specs.Writers.{PutsAsIs, Goes, WritesUnless, OpensUnless, Picks, needs_one, numbers_in, StepsWriter, WritesCommon, WritesAtOnce};
+
+    /// Writes an operator that is one byte.
+    fn put_byte(&mut self, byte: u8, location: InstrLocId) -> Result<(), EmitError>
+        ensures ok { OnOk result (self.new ≡ record self.old {
+          draft = drafted self.old.draft
+              (at_location (operation (opcodes.Byte byte) []) location ∷ []);
+        }) }
+        ensures err { IfErr result (λ e. e ≡ Memory) }
+    {
+        if self.draft.write_byte(byte, location) {
+            Ok(())
+        } else {
+            Err(EmitError::Memory)
+        }
+    }
 
     /// Writes the `else` that waits, if one does.
     fn write_else(&mut self) -> Result<(), EmitError>
@@ -62,7 +126,7 @@ impl Writer<'_> {
     {
         let _ids = self.indices.ids;
         match self.open.waiting() {
-            Some(location) => match self.draft.write_any(&OutOp::Else, location) {
+            Some(location) => match self.put_byte(0x05, location) {
                 Ok(()) => {
                     self.open.wake();
                     Ok(())
@@ -105,6 +169,58 @@ impl Writer<'_> {
         }
     }
 
+    /// Writes an operator that is a byte and a number.
+    fn put_number(&mut self, byte: u8, number: u32, location: InstrLocId) -> Result<(), EmitError>
+        ensures ok { OnOk result (self.new ≡ record self.old {
+          draft = with_bytes self.old.draft (byte ∷ short_number number) location;
+        }) }
+        ensures err { IfErr result (λ e. e ≡ Memory) }
+    {
+        if self.draft.write_number(byte, number, location) {
+            Ok(())
+        } else {
+            Err(EmitError::Memory)
+        }
+    }
+
+    /// Writes the opener of a construct, as `write_as_is`.
+    fn write_block(
+        &mut self,
+        operator: &Operator<'_>,
+        ty: InstrSeqType,
+        location: InstrLocId,
+    ) -> Result<(), EmitError>
+        requires { IsWritable (meaning operator.now) }
+        ensures { PutsAsIs self.old self.new (meaning operator.now) ty location result }
+    {
+        let Some((byte, code)) = opener_bytes(operator, &ty) else {
+            return self.write_as_is(operator, ty, location);
+        };
+        match self.write_else() {
+            Ok(()) => self.put_number(byte, code, location),
+            Err(fault) => Err(fault),
+        }
+    }
+
+    /// Writes an operator by itself as it is, as `write_as_is`.
+    fn write_alone(
+        &mut self,
+        operator: &Operator<'_>,
+        location: InstrLocId,
+    ) -> Result<(), EmitError>
+        requires { IsWritable (meaning operator.now) }
+        ensures { PutsAsIs self.old self.new (meaning operator.now) (SimpleType None) location
+            result }
+    {
+        let Some(byte) = plain_byte(operator) else {
+            return self.write_as_is(operator, InstrSeqType::Simple(None), location);
+        };
+        match self.write_else() {
+            Ok(()) => self.put_byte(byte, location),
+            Err(fault) => Err(fault),
+        }
+    }
+
     /// Writes an operator by itself.
     fn write_plain(
         &mut self,
@@ -120,7 +236,7 @@ impl Writer<'_> {
         if self.open.is_dead() {
             return Ok(());
         }
-        match self.write_as_is(operator, InstrSeqType::Simple(None), location) {
+        match self.write_alone(operator, location) {
             Ok(()) => {
                 self.open.next = next_after(is_diverging(operator));
                 Ok(())
@@ -182,7 +298,7 @@ impl Writer<'_> {
     {
         let _ids = self.indices.ids;
         let needs_else = self.needs_else(is_if, &ty);
-        match self.write_as_is(operator, ty, location) {
+        match self.write_block(operator, ty, location) {
             Ok(()) => {}
             Err(fault) => return Err(fault),
         }
@@ -220,7 +336,7 @@ impl Writer<'_> {
         ensures err { IfErr result (λ e. e ≡ Memory) }
     {
         if needed {
-            self.draft.write_any(&OutOp::Else, location)
+            self.put_byte(0x05, location)
         } else {
             Ok(())
         }
@@ -309,10 +425,10 @@ impl Writer<'_> {
         ensures err { IfErr result (λ e. e ≡ Memory) }
     {
         if !needs_else {
-            return self.draft.write_any(&OutOp::End, location);
+            return self.put_byte(0x0b, location);
         }
-        match self.draft.write_any(&OutOp::Else, location) {
-            Ok(()) => self.draft.write_any(&OutOp::End, InstrLocId::default()),
+        match self.put_byte(0x05, location) {
+            Ok(()) => self.put_byte(0x0b, InstrLocId::default()),
             Err(fault) => Err(fault),
         }
     }
@@ -492,6 +608,12 @@ impl Writer<'_> {
             CommonOperator::BrIf { label } => self.write_label(0x0d, label, location),
             CommonOperator::Drop => self.write_drop(location),
         }
+    }
+
+    /// Whether what follows is written, and no `else` waits.
+    #[inline(always)]
+    pub fn is_live(&self) -> bool {
+        self.open.is_live()
     }
 
     /// Takes a common operator, and returns whether it did. Otherwise nothing is changed: an `else`

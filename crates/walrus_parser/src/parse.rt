@@ -90,7 +90,9 @@ fn take_common<V: OpCheck, F: Fn(&usize) -> InstrLocId>(
 }
 
 /// Parses the operators of a body, none of which is read yet. Places in the mapping are less the
-/// code offset. If the body is accepted, the caller's list is given back.
+/// code offset. If the body is accepted, the caller's list is given back. It isn't inlined, so that
+/// what it calls may be.
+#[inline(never)]
 fn parse_operators<V: OpCheck, F: Fn(&usize) -> InstrLocId>(
     alloc: Global,
     mut parser: BodyParser<'_>,

@@ -1,0 +1,30 @@
+-- Operators without parts that may be missing.
+use Rattle.std.proofs.Common.{◌≡◌, ℕ, [], ◌∷◌, Bool, Result, Ok, Err, refl, sym, subst}
+use Rattle.std.specs.Prelude.{IsOk}
+use Rattle.std.specs.Bool.{OnTrue}
+use Rattle.wasm_operators.specs.declared.types.BlockType.{BlockType}
+use Rattle.wasm_operators.specs.declared.types.Opcode.TheVariants.{Byte}
+use Rattle.wasm_operators.specs.Meaning.{Listed, meaning}
+use Rattle.wasm_operators.specs.Operations.{block, operation, RawOperation}
+use Rattle.wasm_body.specs.Naming.{name_block}
+use Rattle.walrus_emitter.proofs.TreeWriting.Spelled.{on_true}
+use Rattle.walrus_flat.specs.Checked.{env_of}
+use Rattle.walrus_flat.specs.Checkers.{parts_in, HasNoParts, IsByte, NamesNoType}
+
+made : {A E : Type 0} (r : Result A E) → IsOk r → (x : A) × (r ≡ Ok x)
+made (Ok x) h = (x, refl)
+made (Err e) h = absurd cc
+
+-- an opener whose block type names no type
+opener_alone : (byte : ℕ) (b : BlockType) → NamesNoType b → HasNoParts (operation (Byte byte) (block b ∷ []))
+opener_alone byte b none c =
+    let named = made (name_block (env_of c) b) (none (env_of c)) in
+    rw named.1 refl
+
+-- one of these operators is such an opener if its block type is of this kind
+pub at_opener : (o : Listed) (byte : ℕ) (b : BlockType) → meaning o ≡ operation (Byte byte) (block b ∷ []) → (r : Bool) → OnTrue r (NamesNoType b) → OnTrue r (HasNoParts (meaning o))
+at_opener o byte b is r = on_true r (λ none. subst HasNoParts (sym is) (opener_alone byte b none))
+
+-- an operator that is one byte
+pub byte_alone : (o : RawOperation) (byte : ℕ) → IsByte o byte → HasNoParts o
+byte_alone o byte is c = subst (λ x. IsOk (parts_in c x)) (sym is) refl
