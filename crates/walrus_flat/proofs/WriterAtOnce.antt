@@ -120,12 +120,6 @@ module _ (old : Writer) (x : Listed) (location : ℕ) where
   abbrev then : FlatState
   then = state (mode_if (is_diverging x)) (opens_of old.«open»)
 
-  -- code is dead
-  pub skipped : old.«open».next ≡ next.Dead → WritesAtOnce old old x location true
-  skipped is =
-      subst (λ d. WritesUnless d old old (meaning x) (Simple None) location (state_of old.«open») then (Ok tt)) (sym (ap is_dead is))
-      (record { same = record { «module» = refl; indices = refl; function = refl; ty = refl; out = refl; locals = refl }; draft = refl; state_is = refl })
-
   module _ (live : old.«open».next ≡ next.Live) (mid : Writer) where
     -- it was written
     goes : WritesCommon old mid (meaning x) location true → (s : OpenSequences) → state_of s ≡ then → WritesAtOnce old (record mid { «open» = s }) x location true

@@ -1,5 +1,6 @@
 //! The open sequences of a body that is written, and what is written of the operators that follow.
 ghost use Rattle.std.specs.Prelude.{◌≡◌, ◌∷◌, OnOk, IfErr};
+ghost use Rattle.std.specs.Bool.{OnTrue};
 ghost use Rattle.wasm_body.specs.declared.error.EmitError.TheVariants.{Memory};
 ghost use Rattle.wasm_flat.specs.Flat.{innermost, around, needs_else};
 ghost use Rattle.walrus_flat.specs.Written.{open_of, opens_of, state_of, is_dead, waits, waiting_location, ends_dropped};
@@ -54,7 +55,10 @@ impl OpenSequences {
     }
 
     /// Whether what follows is written, and no `else` waits.
-    pub fn is_live(&self) -> bool {
+    #[inline(always)]
+    pub fn is_live(&self) -> bool
+        ensures { OnTrue result (self.now.next ≡ LiveNext) }
+    {
         matches!(self.next, Next::Live)
     }
 

@@ -45,7 +45,7 @@ fn write_at_once(writer: &mut Writer<'_>, reader: &mut Reader<'_>, location: Ins
     let Some((common, rest)) = reader.peek_common() else {
         return false;
     };
-    if !writer.step_common(common, location) {
+    if !writer.step_live(common, location) {
         return false;
     }
     reader.pass_common(common, rest);

@@ -7,6 +7,8 @@ ghost use Rattle.wasm_encode.specs.Writable.{IsWritable};
 ghost use Rattle.wasm_body.specs.declared.error.EmitError.TheVariants.{Memory};
 ghost use Rattle.wasm_flat.specs.Flat.{Kept as KeptOpen, Live as LiveMode, Dead as DeadMode, innermost, around, mode_of_else, state};
 ghost use Rattle.walrus_parser.specs.OperatorKinds.{is_diverging};
+ghost use Rattle.walrus_flat.specs.declared.sequences.Next.TheVariants.{Live as LiveNext};
+ghost use Rattle.std.specs.Bool.{OnTrue};
 ghost use Rattle.walrus_flat.specs.Written.{drafted, waiting_else, awake, opens_of, state_of, mode_of, is_dead, ends_dropped, else_if, end_if, end_location, else_pieces, end_pieces, state_after_else, state_after_end, mode_if};
 ghost use Rattle.wasm_operators.specs.AccessOperations.{access_of};
 ghost use Rattle.wasm_operators.specs.declared.operator.Op.TheVariants as listing;
@@ -612,30 +614,26 @@ impl Writer<'_> {
 
     /// Whether what follows is written, and no `else` waits.
     #[inline(always)]
-    pub fn is_live(&self) -> bool {
+    pub fn is_live(&self) -> bool
+        ensures { OnTrue result (self.now.open.next ≡ LiveNext) }
+    {
         self.open.is_live()
     }
 
-    /// Takes a common operator, and returns whether it did. Otherwise nothing is changed: an `else`
-    /// waits, a part of the operator has no number, or memory ran out.
+    /// Takes a common operator where what follows is written and no `else` waits, and returns whether it
+    /// did. Otherwise nothing is changed: a part of the operator has no number, or memory ran out.
     #[inline(always)]
-    pub fn step_common(&mut self, common: CommonOperator, location: InstrLocId) -> bool
+    pub fn step_live(&mut self, common: CommonOperator, location: InstrLocId) -> bool
+        requires { self.old.open.next ≡ LiveNext }
         ensures { WritesAtOnce self.old self.new (listed common) location result }
     {
-        match self.open.next {
-            Next::Dead => true,
-            Next::Waits(_) => false,
-            Next::Live => {
-                if !self.write_common(common, location) {
-                    return false;
-                }
-                if !is_cutting(common) {
-                    return true;
-                }
-                self.open.next = Next::Dead;
-                true
-            }
+        if !self.write_common(common, location) {
+            return false;
         }
+        if is_cutting(common) {
+            self.open.next = Next::Dead;
+        }
+        true
     }
 
     /// Takes the next operator.

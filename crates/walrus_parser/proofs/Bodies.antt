@@ -57,6 +57,11 @@ module _ {S F : Type 0} (g : Shared F (Bor ℕ × Unit {0}) ℕ) (i : ParseInput
   continues p (Whole b) state place rest mapping e entry keeps reads = absurd keeps
   continues p NoBody state place rest mapping e entry keeps reads = absurd keeps
 
+  -- nothing changed
+  pub still : (p q : BodyParser) (s t : S) (place : ℕ) (rest : List ℕ) (m n : List (ℕ × ℕ)) → q ≡ p → n ≡ m → t ≡ s → SoFar p s place rest m → SoFar q t place rest n
+  still p q s t place rest m n parser mapping state so =
+      subst (λ k. SoFar k t place rest n) (sym parser) (subst (λ k. SoFar p t place rest k) (sym mapping) (subst (λ k. SoFar p k place rest m) (sym state) so))
+
   -- ---- refusals
 
   both_mapped : (mapping : List (ℕ × ℕ)) (locations : Option (ℕ → ℕ)) → BothOrNone i.on_instr_pos locations → BothOrNone (locations_in i.on_instr_pos i.offset mapping) locations

@@ -1,11 +1,10 @@
 -- The end of a construct: the state after the calls of the context.
-use Rattle.std.proofs.Common.{arith, Bool, true, ◌≤◌, ◌≡◌, ◌≢◌, ◌⊎◌, inl, inr, ◌<◌, OnOk, IfErr, Result, Ok, Err, ℕ, List, [], ◌∷◌, ◌++◌, length, reverse, slice_get, slice_set, Option, Some, None, IsSomeAnd, refl, sym, ap, ◌∙◌, subst}
+use Rattle.std.proofs.Common.{arith, Bool, true, ◌≤◌, ◌≡◌, ◌≢◌, ◌⊎◌, inl, inr, ◌<◌, OnOk, IfErr, Result, Ok, Err, ℕ, List, [], ◌∷◌, length, reverse, Option, Some, None, IsSomeAnd, refl, sym, ap, ◌∙◌, subst}
 use Rattle.walrus_ir.specs.declared.seq.InstrSeq.{InstrSeq}
 use Rattle.walrus_ir.specs.declared.control.BlockKind.{BlockKind}
 use Rattle.walrus_ir.specs.declared.control.BlockKind.TheVariants as kind
 use Rattle.walrus_ir.specs.declared.val_type.InstrSeqType.{InstrSeqType}
 use Rattle.walrus_ir.specs.declared.val_type.ValType.{ValType}
-use Rattle.walrus_ir.specs.Function.{with_sequence}
 use Rattle.walrus_ir.specs.InstructionSequence.{empty_sequence}
 use Rattle.walrus_ir.specs.Types.{existing}
 use Rattle.walrus_ir.specs.Unfolding.{LocatedInstr}
@@ -23,10 +22,9 @@ use Rattle.walrus_parser.specs.declared.body_parser.BodyParser.{BodyParser}
 use Rattle.walrus_parser.specs.Advancing.{ParseState, Keeps, occurrence, Advances, IsStep}
 use Rattle.walrus_context.specs.Keeping.{IsWithin, Holds}
 use Rattle.walrus_context.specs.OpenConstructs.{kind_in}
-use Rattle.walrus_context.specs.OpenFrames.{OpenFrame, new_frame, changed_at, marked_dead, with_instr}
-use Rattle.walrus_context.specs.OpenTrees.{OpenTrees, Pops, Opens, EndsAt, env_of, AddsEmpty}
+use Rattle.walrus_context.specs.OpenFrames.{OpenFrame, changed_at, marked_dead, with_instr}
+use Rattle.walrus_context.specs.OpenTrees.{OpenTrees, Pops, EndsAt, env_of, AddsEmpty}
 use Rattle.walrus_parser.specs.BodyParsers.{AppendsIf, HasNoIf, either, if_else, state_with, with_appended}
-use Rattle.walrus_parser.proofs.Constructs.{grown_at}
 use Rattle.walrus_parser.proofs.ConstructKinds.{by_if, by_else}
 use Rattle.walrus_parser.proofs.Labels.{holds_length}
 use Rattle.walrus_parser.proofs.Openings.{reverse_last}

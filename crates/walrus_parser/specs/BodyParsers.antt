@@ -1,8 +1,7 @@
 -- A parser of bodies as contracts see it, and what its steps do.
-use Rattle.std.specs.Prelude.{◌≡◌, ◌⊎◌, ℕ, List, [], ◌∷◌, ◌++◌, length, Bool, true, false, cond, reverse, Option, Some, None, Result, Ok}
+use Rattle.std.specs.Prelude.{◌≡◌, ◌⊎◌, ℕ, List, [], ◌∷◌, ◌++◌, Bool, true, false, cond, reverse, Option, Some, None, Result, Ok}
 use Rattle.walrus_ir.specs.declared.instr.Instr.TheVariants as instr
-use Rattle.walrus_ir.specs.declared.val_type.InstrSeqType.{InstrSeqType}
-use Rattle.walrus_ir.specs.Function.{Function, with_new_sequence}
+use Rattle.walrus_ir.specs.Function.{Function}
 use Rattle.walrus_ir.specs.Unfolding.{LocatedInstr}
 use Rattle.wasm_operators.specs.Operations.{CatchClause, RawOperation}
 use Rattle.wasm_body.specs.declared.error.ParseError.{ParseError}

@@ -293,23 +293,6 @@ impl BodyParser<'_> {
         }
     }
 
-    /// Takes a common operator.
-    #[inline(always)]
-    pub fn step_common(
-        &mut self,
-        common: CommonOperator,
-        location: InstrLocId,
-    ) -> Result<(), ParseError>
-        requires writable { IsWritable (meaning (listed common)) }
-        ensures step { Steps self.old self.new (meaning (listed common)) location result }
-        ensures rest { OnOk result (IsSameBody self.old.context self.new.context) }
-    {
-        if self.take_common(common, location) {
-            return Ok(());
-        }
-        self.step(&common.operator(), location)
-    }
-
     /// Takes the next operator, other than the function's own `end`.
     #[inline(never)]
     pub fn step(&mut self, operator: &Operator<'_>, location: InstrLocId) -> Result<(), ParseError>

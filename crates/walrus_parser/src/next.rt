@@ -1,12 +1,12 @@
 //! The next operator, its location, and whether the validator accepts it.
-ghost use Rattle.std.specs.Prelude.{◌≡◌, ◌⊎◌, ◌+◌, ◌<◌, ℕ, List, length, IfOk, IfErr, IfSome, None, Ok, Err};
+ghost use Rattle.std.specs.Prelude.{◌≡◌, ◌⊎◌, ◌+◌, ◌<◌, ℕ, List, length, IfOk, IfErr, IfSome, MatchOption, Ok, Err};
 ghost use Rattle.wasm_operators.specs.Spelling.{read_operation};
 ghost use Rattle.wasm_operators.specs.Meaning.{meaning};
 ghost use Rattle.wasm_encode.specs.Writable.{IsWritable};
 ghost use Rattle.wasm_body.specs.declared.error.ParseError.{ParseError as ParseFault};
 ghost use Rattle.wasm_body.specs.Parsing.Lists.{failure};
 ghost use Rattle.walrus_parser.specs.Checking.{Checks, placed_at, fault_of, fault_of_refusal};
-ghost use Rattle.walrus_parser.specs.Locating.{MayCall, Locates};
+ghost use Rattle.walrus_parser.specs.Locating.{MayCall, Locates, HasNoLocation};
 ghost use Rattle.walrus_parser.specs.NextOperator.{AdmitsAs, IsAdmitted};
 ghost use Rattle.wasm_ops.specs.CommonOperators.{listed};
 ghost use Rattle.wasm_ops.specs.Position.{IsAfter};
@@ -53,18 +53,6 @@ pub fn refused(refusal: Refusal, at: usize) -> ParseFailure
     }
 }
 
-/// Reads the next operator if it is a common one, as `Reader::read_common` does.
-#[inline(always)]
-pub fn read_common(reader: &mut Reader<'_>) -> Option<CommonOperator>
-    ensures is_read { IfSome result (λ x.
-        read_operation reader.old.rest ≡ Ok (meaning (listed x), reader.new.rest)) }
-    ensures writable { IfSome result (λ x. IsWritable (meaning (listed x))) }
-    ensures moves { IfSome result (λ _. IsAfter reader.old reader.new) }
-    ensures none { result ≡ None → reader.new ≡ reader.old }
-{
-    reader.read_common()
-}
-
 /// Reads the next operator.
 pub fn read_other<'a>(reader: &mut Reader<'a>) -> Result<Operator<'a>, ReadError>
     ensures is_read { IfOk result (λ x.
@@ -77,15 +65,36 @@ pub fn read_other<'a>(reader: &mut Reader<'a>) -> Result<Operator<'a>, ReadError
     reader.read_other()
 }
 
+/// The location of the operator at this place: the one that was asked for, or else as `location_at`.
+#[inline(always)]
+fn location_of<F: Fn(&usize) -> InstrLocId>(
+    asked: Option<InstrLocId>,
+    on_instr_pos: Option<&F>,
+    at: usize,
+) -> Option<InstrLocId>
+    requires may_call { MayCall F.pre on_instr_pos at (at + 1) }
+    requires asked { IfSome asked (λ location. Locates F.Fn on_instr_pos at location) }
+    ensures { MatchOption result (HasNoLocation on_instr_pos.entry at)
+        (λ location. Locates F.Fn on_instr_pos.entry at location) }
+{
+    match asked {
+        Some(location) => Some(location),
+        None => location_at(on_instr_pos, at),
+    }
+}
+
 /// The location of an operator that was read at this place, if the validator accepts the operator.
+/// It may have been asked for before.
 #[inline(always)]
 pub fn accepted_at<V: OpCheck, F: Fn(&usize) -> InstrLocId>(
     at: usize,
     operator: &Operator<'_>,
+    asked: Option<InstrLocId>,
     on_instr_pos: Option<&F>,
     validator: &mut V,
 ) -> Result<InstrLocId, Refusal>
-    requires { MayCall F.pre on_instr_pos at (at + 1) }
+    requires may_call { MayCall F.pre on_instr_pos at (at + 1) }
+    requires asked { IfSome asked (λ location. Locates F.Fn on_instr_pos at location) }
     ensures ok { IfOk result (λ _. IsAdmitted on_instr_pos.entry V.check (V.state validator.old)
         (V.state validator.new) at (meaning operator.now)) }
     ensures located { IfOk result (λ location. Locates F.Fn on_instr_pos.entry at location) }
@@ -93,7 +102,7 @@ pub fn accepted_at<V: OpCheck, F: Fn(&usize) -> InstrLocId>(
         ⊎ AdmitsAs on_instr_pos.entry V.check (V.state validator.old) at (meaning operator.now)
         (λ rest. Err (fault_of_refusal r))) }
 {
-    let Some(location) = location_at(on_instr_pos, at) else {
+    let Some(location) = location_of(asked, on_instr_pos, at) else {
         return Err(Refusal::PlaceTooGreat);
     };
     match validator.op(at, operator) {
@@ -137,30 +146,5 @@ pub fn check_common<V: OpCheck>(
         CommonOperator::Br { label } => validator.op(at, &Operator::Br { label }),
         CommonOperator::BrIf { label } => validator.op(at, &Operator::BrIf { label }),
         CommonOperator::Drop => validator.op(at, &Operator::Drop),
-    }
-}
-
-/// The location of a common operator that was read at this place, if the validator accepts it.
-#[inline(always)]
-pub fn accepted_common_at<V: OpCheck, F: Fn(&usize) -> InstrLocId>(
-    at: usize,
-    common: CommonOperator,
-    on_instr_pos: Option<&F>,
-    validator: &mut V,
-) -> Result<InstrLocId, Refusal>
-    requires { MayCall F.pre on_instr_pos at (at + 1) }
-    ensures ok { IfOk result (λ _. IsAdmitted on_instr_pos.entry V.check (V.state validator.old)
-        (V.state validator.new) at (meaning (listed common))) }
-    ensures located { IfOk result (λ location. Locates F.Fn on_instr_pos.entry at location) }
-    ensures err { IfErr result (λ r. (fault_of_refusal r ≡ ParseFault.Memory)
-        ⊎ AdmitsAs on_instr_pos.entry V.check (V.state validator.old) at (meaning (listed common))
-        (λ rest. Err (fault_of_refusal r))) }
-{
-    let Some(location) = location_at(on_instr_pos, at) else {
-        return Err(Refusal::PlaceTooGreat);
-    };
-    match check_common(validator, at, common) {
-        Ok(()) => Ok(location),
-        Err(error) => Err(Refusal::Checked(error)),
     }
 }

@@ -1,27 +1,24 @@
 //! Parsing the operators of a body.
-ghost use Rattle.std.specs.Prelude.{◌≡◌, ◌⊎◌, ◌≤◌, ◌<◌, ◌+◌, ◌^◌, [], length, Some, IfOk, IfErr, OnOk, Ok};
-ghost use Rattle.wasm_operators.specs.Meaning.{meaning};
-ghost use Rattle.wasm_ops.specs.CommonOperators.{listed};
-ghost use Rattle.wasm_encode.specs.Writable.{IsWritable};
-ghost use Rattle.wasm_body.specs.declared.error.ParseError.{ParseError as ParseFault};
+ghost use Rattle.std.specs.Prelude.{◌≡◌, ◌≤◌, ◌<◌, ◌+◌, ◌^◌, [], length, Some, IfOk, IfErr, Ok};
 ghost use Rattle.wasm_body.specs.SourceTree.{Empty};
 ghost use Rattle.wasm_body.specs.Naming.{entry_type_id as entry_type_of};
 ghost use Rattle.walrus_maps.specs.Environments.{environment_of};
 ghost use Rattle.walrus_parser.specs.Locating.{MayCall, end_of};
 ghost use Rattle.walrus_context.specs.OpenTrees.{env_of};
 ghost use Rattle.walrus_parser.specs.BodyParsers.{Begins};
-ghost use Rattle.walrus_parser.specs.NextOperator.{TakesNext, RefusesNext};
+ghost use Rattle.walrus_parser.specs.NextOperator.{ParsesAtOnce};
 ghost use Rattle.walrus_parser.specs.Bodies.{input_of, operators_input, ParsesOperators, AcceptsBody, RefusesBody};
 
 use crate::body_parser::BodyParser;
 use crate::check::OpCheck;
-use crate::next::{accepted_at, accepted_common_at, failure, read_common, read_other, refused};
+use crate::locating::location_at;
+use crate::next::{accepted_at, check_common, checked, failure, read_other, refused};
 use std::alloc::Global;
 use walrus_context::try_push;
 use walrus_ir::{FunctionBuilder, FunctionId, Instr, InstrLocId, Module, TypeId};
 use walrus_maps::{IndicesToIds, list_with_room};
 use wasm_body::{ParseError, ParseFailure};
-use wasm_ops::{CommonOperator, Operator, Reader};
+use wasm_ops::{Operator, Reader};
 
 /// A function's sequences, and the place (less the code offset) and location of each operator that
 /// was read.
@@ -55,38 +52,52 @@ impl ParsedOperators {
 /// bytes, since an operator takes some two bytes.
 const MOST_ROOM: usize = 1 << 14;
 
-/// Takes a common operator that was read at this place.
+/// What became of the next operator.
+pub(crate) enum Attempt {
+    /// It was taken.
+    Taken,
+    /// It wasn't. This is its location, if that was asked for.
+    Left(Option<InstrLocId>),
+}
+
+/// Takes the next operator at once if it is a common one. It doesn't if the operator has no location,
+/// a part of it isn't found or memory runs out; then nothing is changed, and the operator is taken as
+/// any other. The validator is called after the operator was taken, so that each kind of operator
+/// has a way of its own until then.
 #[inline(always)]
-fn take_common<V: OpCheck, F: Fn(&usize) -> InstrLocId>(
+fn parse_at_once<V: OpCheck, F: Fn(&usize) -> InstrLocId>(
     parser: &mut BodyParser<'_>,
-    common: CommonOperator,
+    reader: &mut Reader<'_>,
     at: usize,
     on_instr_pos: Option<&F>,
     validator: &mut V,
     code_offset: usize,
     mapping: &mut Vec<(usize, InstrLocId)>,
-) -> Result<(), ParseFailure>
+) -> Result<Attempt, ParseFailure>
     requires offset { code_offset ≤ at }
-    requires writable { IsWritable (meaning (listed common)) }
     requires may_call { MayCall F.pre on_instr_pos at (at + 1) }
-    ensures ok { OnOk result (TakesNext F.Fn on_instr_pos.entry V.check (V.state validator.old)
-        (V.state validator.new) at code_offset (meaning (listed common)) parser.old parser.new
-        mapping.old.items mapping.new.items) }
-    ensures err { IfErr result (λ f. (f.at ≡ at) × ((f.error ≡ ParseFault.Memory)
-        ⊎ RefusesNext on_instr_pos.entry V.check (V.state validator.old) at
-        (meaning (listed common)) parser.old f.error)) }
+    ensures { ParsesAtOnce F.Fn on_instr_pos.entry V.check (V.state validator.old)
+        (V.state validator.new) at code_offset reader.old reader.new parser.old parser.new
+        mapping.old.items mapping.new.items result }
 {
-    let location = match accepted_common_at(at, common, on_instr_pos, validator) {
-        Ok(location) => location,
-        Err(refusal) => return Err(refused(refusal, at)),
+    let Some((common, rest)) = reader.peek_common() else {
+        return Ok(Attempt::Left(None));
     };
+    let Some(location) = location_at(on_instr_pos, at) else {
+        return Ok(Attempt::Left(None));
+    };
+    if !parser.take_common(common, location) {
+        return Ok(Attempt::Left(Some(location)));
+    }
+    match check_common(validator, at, common) {
+        Ok(()) => {}
+        Err(error) => return Err(failure(checked(error), at)),
+    }
     if !try_push(mapping, (at - code_offset, location)) {
         return Err(failure(ParseError::Memory, at));
     }
-    match parser.step_common(common, location) {
-        Ok(()) => Ok(()),
-        Err(error) => Err(failure(error, at)),
-    }
+    reader.pass_common(common, rest);
+    Ok(Attempt::Taken)
 }
 
 /// Parses the operators of a body, none of which is read yet. Places in the mapping are less the
@@ -112,26 +123,25 @@ fn parse_operators<V: OpCheck, F: Fn(&usize) -> InstrLocId>(
     let mut instruction_mapping = list_with_room(alloc, room);
     while !reader.eof() {
         let at = reader.original_position();
-        if let Some(common) = read_common(reader) {
-            match take_common(
-                &mut parser,
-                common,
-                at,
-                on_instr_pos,
-                &mut validator,
-                code_offset,
-                &mut instruction_mapping,
-            ) {
-                Ok(()) => continue,
-                Err(failure) => return Err(failure),
-            }
-        }
+        let asked = match parse_at_once(
+            &mut parser,
+            reader,
+            at,
+            on_instr_pos,
+            &mut validator,
+            code_offset,
+            &mut instruction_mapping,
+        ) {
+            Ok(Attempt::Taken) => continue,
+            Ok(Attempt::Left(asked)) => asked,
+            Err(failure) => return Err(failure),
+        };
         let read = read_other(reader);
         let operator = match &read {
             Ok(operator) => operator,
             Err(error) => return Err(failure(ParseError::Read(*error), at)),
         };
-        let location = match accepted_at(at, operator, on_instr_pos, &mut validator) {
+        let location = match accepted_at(at, operator, asked, on_instr_pos, &mut validator) {
             Ok(location) => location,
             Err(refusal) => return Err(refused(refusal, at)),
         };

@@ -6,6 +6,6 @@ pub mod Agreement
 -- the same for bits, and for every kind of number
 pub mod BitsLaws
 pub mod NumberLaws
--- the short paths of the code: numbers of up to three bytes; sixteen lanes
+-- the short paths of the code: numbers of up to five bytes; sixteen lanes
 pub mod ShortNumbers
 pub mod Lanes

@@ -44,3 +44,13 @@ pub more : {V : Type 0} (e : Encoding V) (bits : ℕ) (bytes : List ℕ) (high :
     → integer e (bits - 7) (without_first bytes) ≡ Ok (high, rest) → integer e bits bytes ≡ Ok (e.more (slice_index_or bytes 0 0 - 128) high, rest)
 more e bits bytes high rest some low wide read =
     ap (integer e bits) (front bytes some) ∙ more_of e bits (slice_index_or bytes 0 0) (without_first bytes) high rest low wide read
+
+-- three bytes at the front, with more of the number after them
+pub more_after_three : {V : Type 0} (e : Encoding V) (bits : ℕ) (bytes : List ℕ) (high : V) (rest : List ℕ) → 1 ≤ length bytes → 1 ≤ length (without_first bytes)
+    → 1 ≤ length (without_first (without_first bytes)) → 128 ≤ slice_index_or bytes 0 0 → 128 ≤ slice_index_or (without_first bytes) 0 0
+    → 128 ≤ slice_index_or (without_first (without_first bytes)) 0 0 → 21 < bits → integer e (bits - 7 - 7 - 7) (without_first (without_first (without_first bytes))) ≡ Ok (high, rest)
+    → integer e bits bytes ≡ Ok (e.more (slice_index_or bytes 0 0 - 128) (e.more (slice_index_or (without_first bytes) 0 0 - 128) (e.more (slice_index_or (without_first (without_first bytes)) 0 0 - 128) high)), rest)
+more_after_three e bits bytes high rest some some_2 some_3 low low_2 low_3 wide read =
+    let upper = more e (bits - 7 - 7) (without_first (without_first bytes)) high rest some_3 low_3 (omega arith) read in
+    let middle = more e (bits - 7) (without_first bytes) (e.more (slice_index_or (without_first (without_first bytes)) 0 0 - 128) high) rest some_2 low_2 (omega arith) upper in
+    more e bits bytes (e.more (slice_index_or (without_first bytes) 0 0 - 128) (e.more (slice_index_or (without_first (without_first bytes)) 0 0 - 128) high)) rest some low (omega arith) middle

@@ -9,6 +9,7 @@ ghost use Rattle.wasm_numbers.specs.Numbers.{unsigned, signed, unsigned_last, si
 use crate::fault::ReadFault;
 
 /// The value of the last byte of an unsigned number, with this many bits left.
+#[inline(always)]
 #[tactic(auto, using(crate::proofs::Powers::powers))]
 fn last_unsigned(bits: u32, byte: u8) -> Option<u64>
     requires { byte < 128 }
@@ -25,6 +26,7 @@ fn last_unsigned(bits: u32, byte: u8) -> Option<u64>
 }
 
 /// The value of the last byte of a signed number, with this many bits left.
+#[inline(always)]
 #[tactic(auto, using(crate::proofs::Powers::powers))]
 fn last_signed(bits: u32, byte: u8) -> Option<i64>
     requires some { 0 < bits }
@@ -44,6 +46,7 @@ fn last_signed(bits: u32, byte: u8) -> Option<i64>
 }
 
 /// The number of `bits` bits with these low seven bits and this number above them.
+#[inline(always)]
 fn join_unsigned(bits: u32, low: u8, high: u64) -> u64
     requires long { 7 < bits }
     requires wide { bits ≤ 64 }
@@ -133,6 +136,12 @@ pub fn read_signed(bits: u32, bytes: &[u8]) -> Result<(i64, &[u8]), ReadFault>
 fn read_u32_of_any_length(bytes: &[u8]) -> Result<(u32, &[u8]), ReadFault>
     ensures { Gives (λ x. (x.0, x.1.now)) result (a_u32 bytes.now) }
 {
+    if let Some((value, rest)) = read_short_unsigned(bytes) {
+        return Ok((value, rest));
+    }
+    if let Some((value, rest)) = read_longer_unsigned(32, bytes) {
+        return Ok((value as u32, rest));
+    }
     let (value, rest) = read_unsigned(32, bytes)?;
     Ok((value as u32, rest))
 }
@@ -162,6 +171,12 @@ pub fn read_u32(bytes: &[u8]) -> Result<(u32, &[u8]), ReadFault>
 fn read_u64_of_any_length(bytes: &[u8]) -> Result<(u64, &[u8]), ReadFault>
     ensures { Gives (λ x. (x.0, x.1.now)) result (a_u64 bytes.now) }
 {
+    if let Some((value, rest)) = read_short_unsigned(bytes) {
+        return Ok((value as u64, rest));
+    }
+    if let Some((value, rest)) = read_longer_unsigned(64, bytes) {
+        return Ok((value, rest));
+    }
     read_unsigned(64, bytes)
 }
 
@@ -189,6 +204,12 @@ pub fn read_u64(bytes: &[u8]) -> Result<(u64, &[u8]), ReadFault>
 fn read_s32_of_any_length(bytes: &[u8]) -> Result<(i32, &[u8]), ReadFault>
     ensures { Gives (λ x. (x.0, x.1.now)) result (an_s32 bytes.now) }
 {
+    if let Some((value, rest)) = read_short_s32(bytes) {
+        return Ok((value, rest));
+    }
+    if let Some((value, rest)) = read_longer_signed(32, bytes) {
+        return Ok((value as i32, rest));
+    }
     let (value, rest) = read_signed(32, bytes)?;
     Ok((value as i32, rest))
 }
@@ -220,6 +241,12 @@ pub fn read_s32(bytes: &[u8]) -> Result<(i32, &[u8]), ReadFault>
 fn read_s64_of_any_length(bytes: &[u8]) -> Result<(i64, &[u8]), ReadFault>
     ensures { Gives (λ x. (x.0, x.1.now)) result (an_s64 bytes.now) }
 {
+    if let Some((value, rest)) = read_short_s64(bytes) {
+        return Ok((value, rest));
+    }
+    if let Some((value, rest)) = read_longer_signed(64, bytes) {
+        return Ok((value, rest));
+    }
     read_signed(64, bytes)
 }
 
@@ -344,12 +371,125 @@ fn read_short_s64(bytes: &[u8]) -> Option<(i64, &[u8])>
     read_short_signed(bytes)
 }
 
+/// Reads an unsigned number of one or two bytes at the front, if there is one of this many bits.
+/// Returns it and the bytes that follow.
+#[inline(always)]
+#[tactic(auto, using(crate::proofs::Powers::powers), unfolding(crate::specs::Numbers::integer))]
+fn read_pair_unsigned(bits: u32, bytes: &[u8]) -> Option<(u64, &[u8])>
+    requires long { 7 < bits }
+    requires wide { bits ≤ 64 }
+    ensures gives { IfSome result (λ x. integer unsigned bits bytes.now ≡ Ok (x.0, x.1.now)) }
+    ensures fits { IfSome result (λ x. x.0 < 2 ^ bits) }
+{
+    let [first, rest @ ..] = bytes else {
+        return None;
+    };
+    if *first < 128 {
+        let value = last_unsigned(bits, *first)?;
+        return Some((value, rest));
+    }
+    let [second, rest @ ..] = rest else {
+        return None;
+    };
+    if *second < 128 {
+        let high = last_unsigned(bits - 7, *second)?;
+        return Some((join_unsigned(bits, *first - 128, high), rest));
+    }
+    None
+}
+
+/// Reads an unsigned number of four or five bytes at the front, if there is one of this many bits.
+/// Returns it and the bytes that follow.
+#[inline(always)]
+fn read_longer_unsigned(bits: u32, bytes: &[u8]) -> Option<(u64, &[u8])>
+    requires long { 28 < bits }
+    requires wide { bits ≤ 64 }
+    ensures gives { IfSome result (λ x. integer unsigned bits bytes.now ≡ Ok (x.0, x.1.now)) }
+    ensures fits { IfSome result (λ x. x.0 < 2 ^ bits) }
+{
+    let [first, rest @ ..] = bytes else {
+        return None;
+    };
+    let [second, rest @ ..] = rest else {
+        return None;
+    };
+    let [third, rest @ ..] = rest else {
+        return None;
+    };
+    if *first < 128 || *second < 128 || *third < 128 {
+        return None;
+    }
+    let (high, rest) = read_pair_unsigned(bits - 7 - 7 - 7, rest)?;
+    let high = join_unsigned(bits - 7 - 7, *third - 128, high);
+    let high = join_unsigned(bits - 7, *second - 128, high);
+    Some((join_unsigned(bits, *first - 128, high), rest))
+}
+
+/// Reads a signed number of one or two bytes at the front, if there is one of this many bits.
+/// Returns it and the bytes that follow.
+#[inline(always)]
+#[tactic(auto, using(crate::proofs::Powers::powers), unfolding(crate::specs::Numbers::integer))]
+fn read_pair_signed(bits: u32, bytes: &[u8]) -> Option<(i64, &[u8])>
+    requires long { 7 < bits }
+    requires wide { bits ≤ 64 }
+    ensures gives { IfSome result (λ x. integer signed bits bytes.now ≡ Ok (x.0, x.1.now)) }
+    ensures low { IfSome result (λ x. pos 0 ≤ℤ (x.0 +ℤ pos (2 ^ (bits - 1)))) }
+    ensures high { IfSome result (λ x. x.0 <ℤ pos (2 ^ (bits - 1))) }
+{
+    let [first, rest @ ..] = bytes else {
+        return None;
+    };
+    if *first < 128 {
+        let value = last_signed(bits, *first)?;
+        return Some((value, rest));
+    }
+    let [second, rest @ ..] = rest else {
+        return None;
+    };
+    if *second < 128 {
+        let high = last_signed(bits - 7, *second)?;
+        return Some((join_signed(bits, *first - 128, high), rest));
+    }
+    None
+}
+
+/// Reads a signed number of four or five bytes at the front, if there is one of this many bits.
+/// Returns it and the bytes that follow.
+#[inline(always)]
+fn read_longer_signed(bits: u32, bytes: &[u8]) -> Option<(i64, &[u8])>
+    requires long { 28 < bits }
+    requires wide { bits ≤ 64 }
+    ensures gives { IfSome result (λ x. integer signed bits bytes.now ≡ Ok (x.0, x.1.now)) }
+    ensures low { IfSome result (λ x. pos 0 ≤ℤ (x.0 +ℤ pos (2 ^ (bits - 1)))) }
+    ensures high { IfSome result (λ x. x.0 <ℤ pos (2 ^ (bits - 1))) }
+{
+    let [first, rest @ ..] = bytes else {
+        return None;
+    };
+    let [second, rest @ ..] = rest else {
+        return None;
+    };
+    let [third, rest @ ..] = rest else {
+        return None;
+    };
+    if *first < 128 || *second < 128 || *third < 128 {
+        return None;
+    }
+    let (high, rest) = read_pair_signed(bits - 7 - 7 - 7, rest)?;
+    let high = join_signed(bits - 7 - 7, *third - 128, high);
+    let high = join_signed(bits - 7, *second - 128, high);
+    Some((join_signed(bits, *first - 128, high), rest))
+}
+
 #[inline(never)]
 fn long_u32_at_front(bytes: &[u8]) -> Option<(u32, &[u8])>
     ensures { IfSome result (λ x. a_u32 bytes.now ≡ Ok (x.0, x.1.now)) }
 {
-    match read_u32_of_any_length(bytes) {
-        Ok((value, rest)) => Some((value, rest)),
+    if let Some((value, rest)) = read_longer_unsigned(32, bytes) {
+        return Some((value as u32, rest));
+    }
+    match read_unsigned(32, bytes) {
+        Ok((value, rest)) => Some((value as u32, rest)),
         Err(_) => None,
     }
 }
@@ -370,7 +510,10 @@ pub fn u32_at_front(bytes: &[u8]) -> Option<(u32, &[u8])>
 fn long_u64_at_front(bytes: &[u8]) -> Option<(u64, &[u8])>
     ensures { IfSome result (λ x. a_u64 bytes.now ≡ Ok (x.0, x.1.now)) }
 {
-    match read_u64_of_any_length(bytes) {
+    if let Some((value, rest)) = read_longer_unsigned(64, bytes) {
+        return Some((value, rest));
+    }
+    match read_unsigned(64, bytes) {
         Ok((value, rest)) => Some((value, rest)),
         Err(_) => None,
     }
@@ -392,8 +535,11 @@ pub fn u64_at_front(bytes: &[u8]) -> Option<(u64, &[u8])>
 fn long_s32_at_front(bytes: &[u8]) -> Option<(i32, &[u8])>
     ensures { IfSome result (λ x. an_s32 bytes.now ≡ Ok (x.0, x.1.now)) }
 {
-    match read_s32_of_any_length(bytes) {
-        Ok((value, rest)) => Some((value, rest)),
+    if let Some((value, rest)) = read_longer_signed(32, bytes) {
+        return Some((value as i32, rest));
+    }
+    match read_signed(32, bytes) {
+        Ok((value, rest)) => Some((value as i32, rest)),
         Err(_) => None,
     }
 }
@@ -414,7 +560,10 @@ pub fn s32_at_front(bytes: &[u8]) -> Option<(i32, &[u8])>
 fn long_s64_at_front(bytes: &[u8]) -> Option<(i64, &[u8])>
     ensures { IfSome result (λ x. an_s64 bytes.now ≡ Ok (x.0, x.1.now)) }
 {
-    match read_s64_of_any_length(bytes) {
+    if let Some((value, rest)) = read_longer_signed(64, bytes) {
+        return Some((value, rest));
+    }
+    match read_signed(64, bytes) {
         Ok((value, rest)) => Some((value, rest)),
         Err(_) => None,
     }

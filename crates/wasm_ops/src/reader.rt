@@ -215,12 +215,10 @@ impl<'a> Reader<'a> {
         }
     }
 
-    /// The next operator, if it is one of those that most code consists of, and the bytes that follow
-    /// it. A memory argument's memory is 0 then. The reader doesn't move; `pass_common` moves it.
+    /// The common operator at the front, as a function of the bytes.
     #[inline(always)]
     #[tactic(auto, unfolding(wasm_operators::specs::Spelling::read_operation, wasm_operators::specs::Opcodes::opcode, wasm_operators::specs::Opcodes::kinds_of_byte))]
-    pub fn peek_common(&self) -> Option<(CommonOperator, &'a [u8])>
-        // The operator and the bytes that follow, as a function of the bytes.
+    fn find_common(&self) -> Option<(CommonOperator, &'a [u8])>
         ensures { IfSome result (λ x. read_operation self.now.rest ≡ Ok (meaning (listed x.0), x.1.now)) }
     {
         let [byte, rest @ ..] = self.rest else {
@@ -255,6 +253,19 @@ impl<'a> Reader<'a> {
             _ => {}
         }
         None
+    }
+
+    /// The next operator, if it is one of those that most code consists of, and the bytes that follow
+    /// it. A memory argument's memory is 0 then. The reader doesn't move; `pass_common` moves it.
+    #[inline(always)]
+    pub fn peek_common(&self) -> Option<(CommonOperator, &'a [u8])>
+        // It is spelt by the bytes before those.
+        ensures spelt { IfSome result (λ x. (text : List ℕ) × Spells (meaning (listed x.0)) text) }
+        // The result, as a function of the bytes.
+        ensures is_read { IfSome result (λ x. read_operation self.now.rest ≡ Ok (meaning (listed x.0), x.1.now)) }
+    {
+        law_front(self.rest);
+        self.find_common()
     }
 
     /// Reads the next operator if it is one of those that most code consists of. A memory argument's

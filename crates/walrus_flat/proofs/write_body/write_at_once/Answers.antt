@@ -12,9 +12,9 @@ returns c =
     let a = c.args in
     let common = c.in-Some.common in
     let x = listed common in
-    let new = c.step_common.new.self in
+    let new = c.step_live.new.self in
     let found = c.pass_common.ensures.found in
-    let taken = subst (WritesAtOnce a.writer.now new x a.location) c.if-not-step_common.false c.step_common.ensures in (
+    let taken = subst (WritesAtOnce a.writer.now new x a.location) c.if-not-step_live.false c.step_live.ensures in (
       common,
       c.pass_common.ensures.is_read,
       (found.0, found.2),
