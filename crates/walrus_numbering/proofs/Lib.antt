@@ -2,5 +2,6 @@
 pub mod LocalNumbering
 -- the exponent of an alignment
 pub mod Exponents
--- the numbers of locals in a table
+-- the numbers of locals in a table, and in one whose locals are listed
 pub mod NumberTables
+pub mod ListedLocals

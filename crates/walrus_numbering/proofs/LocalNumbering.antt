@@ -263,7 +263,7 @@ distinct_apart : (ks : List ℕ) → IsDistinct same_id ks → Apart ks
 distinct_apart [] d = tt
 distinct_apart (k ∷ ks) d = (none_among k ks (IsDistinct-head same_id k ks d), distinct_apart ks (IsDistinct-tail same_id k ks d))
 
-apart_distinct : (ks : List ℕ) → Apart ks → IsDistinct same_id ks
+pub apart_distinct : (ks : List ℕ) → Apart ks → IsDistinct same_id ks
 unfolding IsDistinct
 apart_distinct [] a = tt
 apart_distinct (k ∷ ks) a = (among_none k ks a.0, apart_distinct ks a.1)

@@ -3,6 +3,7 @@
 #![tactic(auto)]
 
 mod balance;
+mod listed_locals;
 mod local_numbers;
 mod local_table;
 mod memory_arguments;
@@ -10,6 +11,7 @@ mod number_maps;
 mod written_types;
 
 pub use balance::is_balanced;
+pub use listed_locals::emit_listed_locals;
 pub use local_numbers::emit_locals;
 pub use local_table::{number_at, number_table};
 pub use memory_arguments::memory_argument;

@@ -22,10 +22,10 @@ use wasm_body::EmitError;
 use wasm_operators::RawValType;
 
 /// How many numbers of 32 bits there are.
-const NUMBERS: usize = 1 << 32;
+pub(crate) const NUMBERS: usize = 1 << 32;
 
 /// The number of this position, or the greatest number if the position doesn't fit 32 bits.
-fn saturated_number(place: usize) -> u32
+pub(crate) fn saturated_number(place: usize) -> u32
     ensures { result ≡ saturated place }
 {
     if place < NUMBERS {
@@ -212,6 +212,33 @@ fn declarations(
     written_runs(alloc, numbers, runs)
 }
 
+/// The declarations of these locals, in their order.
+///
+/// # Errors
+///
+/// As `declarations`.
+pub(crate) fn declare(
+    alloc: Global,
+    module: &Module,
+    indices: &IdsToIndices,
+    others: &[(ValType, LocalId)],
+) -> Result<Vec<(u32, RawValType)>, EmitError>
+    ensures ok { IfOk result (λ made. declarations (numbers_by «module».now.types indices.now [])
+        (runs (types_of others.now)) ≡ Ok made.items) }
+    ensures err { IfErr result (λ e. (e ≡ Memory)
+        ⊎ (declarations (numbers_by «module».now.types indices.now [])
+        (runs (types_of others.now)) ≡ Err e)) }
+{
+    let runs = runs(alloc, others)?;
+    let maps = NumberMaps {
+        types: &module.types,
+        ids: indices,
+        // No type names a local.
+        locals: &IdHashMap::new(alloc),
+    };
+    declarations(alloc, &maps, runs.as_slice())
+}
+
 /// The declarations of the used locals that aren't arguments, and the numbers of these and of the
 /// arguments (WebAssembly core specification 3.0, binary format, code section).
 ///
@@ -240,13 +267,7 @@ pub fn emit_locals(
         return Err(EmitError::TooLarge);
     }
     number_others(&mut numbers, args, others.as_slice())?;
-    let runs = runs(alloc, others.as_slice())?;
-    let maps = NumberMaps {
-        types: &module.types,
-        ids: indices,
-        locals: &numbers,
-    };
-    match declarations(alloc, &maps, runs.as_slice()) {
+    match declare(alloc, module, indices, others.as_slice()) {
         Ok(declarations) => Ok((declarations, numbers)),
         Err(fault) => Err(fault),
     }
