@@ -1,6 +1,7 @@
 -- Marks of locals that are among the facts.
-use Rattle.std.proofs.Common.{◌≡◌, ◌⊎◌, ℕ, zero, suc, ◌<◌, ◌==◌, List, [], ◌∷◌, ◌++◌, length, Bool, true, false, ◌||◌, Result, Ok, Err, refl, sym, ap, ◌∙◌, inl, inr, arith}
+use Rattle.std.proofs.Common.{◌≡◌, ⊥, ℕ, zero, suc, ◌<◌, ◌==◌, List, [], ◌∷◌, ◌++◌, length, Bool, true, false, ◌||◌, Result, Ok, Err, refl, sym, ap, ◌∙◌, arith}
 use Rattle.std.specs.Prelude.{slice_set, replicate}
+use Rattle.std.specs.Bool.{OnTrue, OnFalse}
 use Rattle.std.proofs.lemmas.Bool.{eq-eqb, eqb-true}
 use Rattle.walrus_ir.specs.declared.error.WalkError.{WalkError}
 use Rattle.walrus_ir.specs.Events.{WalkEvent, NameLocal, VisitsOne}
@@ -24,15 +25,24 @@ more_unmarked (m ∷ ms) n zero = refl
 more_unmarked (m ∷ ms) n (suc id) = more_unmarked ms n id
 
 -- one more mark
-pub one_marked : (marks : List Bool) (id other : ℕ) → is_marked (slice_set marks id true) other ≡ true → (other ≡ id) ⊎ (is_marked marks other ≡ true)
-one_marked [] id other h = inr h
-one_marked (m ∷ ms) zero zero h = inl refl
-one_marked (m ∷ ms) zero (suc other) h = inr h
-one_marked (m ∷ ms) (suc id) zero h = inr h
-one_marked (m ∷ ms) (suc id) (suc other) h = elim (one_marked ms id other h) [
-  | inl same ↦ inl (ap suc same)
-  | inr was ↦ inr was
-]
+set_here : (marks : List Bool) (id : ℕ) → id < length marks → is_marked (slice_set marks id true) id ≡ true
+set_here [] id within = absurd (omega (arith, within))
+set_here (m ∷ ms) zero within = refl
+set_here (m ∷ ms) (suc id) within = set_here ms id (omega (arith, within))
+
+set_elsewhere : (marks : List Bool) (id other : ℕ) → (other ≡ id → ⊥) → is_marked (slice_set marks id true) other ≡ is_marked marks other
+set_elsewhere [] id other differs = refl
+set_elsewhere (m ∷ ms) zero zero differs = absurd (differs refl)
+set_elsewhere (m ∷ ms) zero (suc other) differs = refl
+set_elsewhere (m ∷ ms) (suc id) zero differs = refl
+set_elsewhere (m ∷ ms) (suc id) (suc other) differs = set_elsewhere ms id other (λ same. differs (ap suc same))
+
+pub one_marked : (marks : List Bool) (id other : ℕ) → id < length marks → is_marked (slice_set marks id true) other ≡ ((other == id) || is_marked marks other)
+one_marked marks id other within =
+    elim (other == id) as (λ b. (other == id) ≡ b → is_marked (slice_set marks id true) other ≡ (b || is_marked marks other)) [
+      | true ↦ λ e. let same = eqb-true other id e in ap (is_marked (slice_set marks id true)) same ∙ set_here marks id within
+      | false ↦ λ e. set_elsewhere marks id other (λ same. let no : false ≡ true = sym e ∙ eq-eqb other id same in absurd (cc no))
+    ] refl
 
 -- ---- what is used
 
@@ -58,11 +68,14 @@ named_used s t id step = step.used_locals id ∙ ap (λ b. (b || false) || has_u
 
 -- a local is used and marked
 pub marked_used : (s t : EmitFacts) (id : ℕ) (old new : List Bool) → Adds s (NameLocal id) t → AreUsed old s
-    → ((other : ℕ) → is_marked new other ≡ true → (other ≡ id) ⊎ (is_marked old other ≡ true)) → AreUsed new t
-marked_used s t id old new step used puts other marked = elim (puts other marked) [
-  | inl same ↦ ap (has_used_local t) same ∙ named_used s t id step
-  | inr was ↦ still_used s t (NameLocal id) old step used other was
-]
+    → (b : Bool) → OnTrue b ((other : ℕ) → is_marked new other ≡ ((other == id) || is_marked old other)) → OnFalse b ((other : ℕ) → is_marked new other ≡ is_marked old other)
+    → AreUsed new t
+marked_used s t id old new step used true puts same other marked =
+    elim (other == id) as (λ b. (other == id) ≡ b → (b || is_marked old other) ≡ true → has_used_local t other ≡ true) [
+      | true ↦ λ e h. ap (has_used_local t) (eqb-true other id e) ∙ named_used s t id step
+      | false ↦ λ e h. still_used s t (NameLocal id) old step used other h
+    ] refl (sym (puts other) ∙ marked)
+marked_used s t id old new step used false puts same other marked = still_used s t (NameLocal id) old step used other (sym (same other) ∙ marked)
 
 -- a local that is used already adds nothing
 used_again : (named used : Bool) → (named ≡ true → used ≡ true) → used ≡ (named || false) || used

@@ -1,6 +1,6 @@
 //! Gathering the facts of a function's body, with marks in front of the set of its locals.
-ghost use Rattle.std.specs.Prelude.{◌≡◌, ◌⊎◌, ◌<◌, ℕ, true, vec_len, IfOk, IfErr};
-ghost use Rattle.std.specs.Bool.{OnTrue};
+ghost use Rattle.std.specs.Prelude.{◌≡◌, ◌⊎◌, ◌||◌, ◌==◌, ◌<◌, ℕ, vec_len, IfOk, IfErr};
+ghost use Rattle.std.specs.Bool.{OnTrue, OnFalse};
 ghost use Rattle.walrus_ir.specs.Walk.{HasNoWalk};
 ghost use Rattle.walrus_facts.specs.Facts.{AreFacts, TreeHas};
 ghost use Rattle.walrus_facts.specs.Marking.{is_marked, AreUsed};
@@ -42,14 +42,19 @@ fn reach(marks: &mut Vec<bool>, id: usize) -> bool
     }
 }
 
-/// Marks an id, unless it is too great or memory runs out. No other id is marked by it.
-pub fn mark(marks: &mut Vec<bool>, id: usize)
-    ensures { (other : ℕ) → is_marked marks.new.items other ≡ true
-        → (other ≡ id) ⊎ (is_marked marks.old.items other ≡ true) }
+/// Marks an id, and returns whether it did: not if the id is too great, or memory ran out. No other
+/// id is marked by it.
+pub fn mark(marks: &mut Vec<bool>, id: usize) -> bool
+    ensures marked { OnTrue result ((other : ℕ) → is_marked marks.new.items other
+        ≡ ((other == id) || is_marked marks.old.items other)) }
+    ensures unchanged { OnFalse result ((other : ℕ)
+        → is_marked marks.new.items other ≡ is_marked marks.old.items other) }
 {
-    if reach(marks, id) {
-        marks[id] = true;
+    if !reach(marks, id) {
+        return false;
     }
+    marks[id] = true;
+    true
 }
 
 /// Gathers facts as `FactsVisitor`, and marks the locals with small ids that it has, so that each
@@ -110,7 +115,7 @@ impl Visitor for MarkingVisitor {
         }
         match self.inner.visit_local_id(local) {
             Ok(()) => {
-                mark(&mut self.marks, local.index());
+                let _ = mark(&mut self.marks, local.index());
                 Ok(())
             }
             Err(fault) => Err(fault),
