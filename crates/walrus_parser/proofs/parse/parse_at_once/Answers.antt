@@ -27,10 +27,14 @@ returns-in-Err g c =
       ap (λ (f : ParseFailure). f.at) is,
       elim (is_not_admitted (has_location a.on_instr_pos) g.V.OpCheck.check state a.at (meaning (listed common)) c.in-Err.error (g.V.OpCheck.state c.check_common.new.validator)
           (located_fits g.F.Fn a.on_instr_pos a.at c.in-Some-location_at.location c.in-Some-location_at.ensures) c.in-Err.ensures) [
-        | inl memory ↦ inl (error_is ∙ memory)
-        | inr refused ↦ inr (common, c.in-Some.rest.now, c.in-Some.ensures.is_read,
-            subst (λ (x : ParseError). AdmitsAs a.on_instr_pos g.V.OpCheck.check state a.at (meaning (listed common)) (λ rest. Err x)) (sym error_is) refused)
-      ],
+            | inl memory ↦ inl (error_is ∙ memory)
+            | inr refused ↦ inr (
+              common,
+              c.in-Some.rest.now,
+              c.in-Some.ensures.is_read,
+              subst (λ (x : ParseError). AdmitsAs a.on_instr_pos g.V.OpCheck.check state a.at (meaning (listed common)) (λ rest. Err x)) (sym error_is) refused,
+            )
+          ],
     )
 
 pub returns : goal.returns
