@@ -1,10 +1,8 @@
 -- Common operators that are checked at once.
-use Rattle.std.proofs.Common.{◌≡◌, ◌≢◌, ◌⊎◌, inl, inr, ℕ, List, [], reverse, length, Bool, true, false, Ok, Err, OnOk, Result, refl, sym, ap, subst, ◌∙◌}
-use Rattle.std.specs.Prelude.{◌||◌, ◌==◌, cond, nat_lt, IsOk, OnErr}
+use Rattle.std.proofs.Common.{◌≡◌, ◌≢◌, ℕ, [], reverse, length, Bool, true, false, Ok, Err, Result, refl, sym, ap, subst, ◌∙◌}
+use Rattle.std.specs.Prelude.{◌||◌, ◌==◌, cond, nat_lt, IsOk}
 use Rattle.std.specs.Bool.{OnTrue, OnFalse}
-use Rattle.std.specs.HashSet.{HashSet}
-use Rattle.std.specs.List.{list_any}
-use Rattle.std.proofs.lemmas.Bool.{eq-eqb, eqb-true}
+use Rattle.std.proofs.lemmas.Bool.{eqb-true}
 use Rattle.wasm_operators.specs.declared.types.Space.{Space}
 use Rattle.wasm_operators.specs.declared.types.Space.TheVariants.{Funcs, Globals, Memories}
 use Rattle.wasm_operators.specs.declared.types.RawMemArg.{RawMemArg}
@@ -14,12 +12,11 @@ use Rattle.wasm_ops.specs.declared.common.CommonOperator.{CommonOperator}
 use Rattle.wasm_ops.specs.declared.common.CommonOperator.TheVariants as common
 use Rattle.wasm_ops.specs.CommonOperators.{listed}
 use Rattle.walrus_maps.specs.IndexMaps.{id_of}
-use Rattle.walrus_facts.specs.Marking.{is_marked}
 use Rattle.walrus_instructions.specs.OperatorKinds.{is_instruction}
 use Rattle.walrus_parser.specs.OperatorKinds.{is_diverging}
 use Rattle.walrus_flat.specs.declared.checker.Checker.{Checker}
 use Rattle.walrus_flat.specs.Checked.{env_of, state_of, StepsChecker, StaysSame, ChecksAtOnce}
-use Rattle.walrus_flat.specs.UsedMarks.{AreUsed, has_local, is_found}
+use Rattle.walrus_flat.specs.UsedLocals.{is_found}
 use Rattle.walrus_flat.specs.Checkers.{parts_in, NamesLocal, Takes}
 use Rattle.walrus_flat.proofs.CheckerOperators.{at_local_get, at_local_set, at_local_tee, at_other, at_drop, at_i32, at_i64, at_unary, at_binary}
 
@@ -43,39 +40,6 @@ used_already false used id x h = again (x == id) (used x) (λ same. ap used (eqb
     again : (named was : Bool) → (named ≡ true → was ≡ true) → was ≡ (named || was)
     again true was is = is refl
     again false was is = refl
-
--- where no local is marked
-pub none_marked : {S : Type 0} (marks : List Bool) (used : HashSet ℕ S) → marks ≡ [] → AreUsed marks used
-none_marked marks used none id marked = let no : false ≡ true = sym (ap (λ ms. is_marked ms id) none) ∙ marked in absurd (cc no)
-
-module _ {S : Type 0} (old new : HashSet ℕ S) where
-  -- the same keys
-  pub same_keys : new.keys ≡ old.keys → (x : ℕ) → has_local new x ≡ has_local old x
-  same_keys same x = ap (list_any (λ y. x == y)) same
-
-  pub same_marks : (marks : List Bool) → new.keys ≡ old.keys → AreUsed marks old → AreUsed marks new
-  same_marks marks same used x marked = same_keys same x ∙ used x marked
-
-  -- one local more
-  module _ (id : ℕ) (adds : (x : ℕ) → has_local new x ≡ ((x == id) || has_local old x)) where
-    pub more_used : (marks : List Bool) → AreUsed marks old → AreUsed marks new
-    more_used marks used x marked = adds x ∙ either (x == id) (has_local old x) (used x marked)
-      where
-        either : (a b : Bool) → b ≡ true → (a || b) ≡ true
-        either true b h = refl
-        either false b h = h
-
-    pub marked_used : (before after : List Bool) → AreUsed before old → ((x : ℕ) → is_marked after x ≡ true → (x ≡ id) ⊎ (is_marked before x ≡ true)) → AreUsed after new
-    marked_used before after used puts x marked = elim (puts x marked) [
-      | inl same ↦ adds x ∙ ap (λ b. b || has_local old x) (eq-eqb x id same)
-      | inr was ↦ more_used before used x was
-    ]
-
-  -- a local was added, or memory ran out
-  pub put_used : {E : Type 0} (r : Result Bool E) (marks : List Bool) (id : ℕ) → OnOk r ((x : ℕ) → has_local new x ≡ ((x == id) || has_local old x)) → OnErr r (new.keys ≡ old.keys) →
-      AreUsed marks old → AreUsed marks new
-  put_used (Ok b) marks id adds same used = more_used id adds marks used
-  put_used (Err e) marks id adds same used = same_marks marks same used
 
 -- ---- what isn't taken at once
 

@@ -1,7 +1,6 @@
 -- The steps of the checker, from what its calls do.
 use Rattle.std.proofs.Common.{◌≡◌, ◌≢◌, ◌⊎◌, inl, inr, ℕ, List, [], ◌∷◌, ◌++◌, reverse, Bool, true, false, Some, None, Result, Ok, Err, OnOk, IfErr, refl, sym, ap, subst, ◌∙◌}
 use Rattle.std.specs.Prelude.{◌||◌, ◌==◌, cond, IsOk}
-use Rattle.std.specs.HashSet.{contains}
 use Rattle.std.proofs.lemmas.List.{reverse-reverse, reverse-append}
 use Rattle.walrus_ir.specs.declared.control.BlockKind.{BlockKind}
 use Rattle.walrus_ir.specs.declared.control.BlockKind.TheVariants as kind
@@ -26,6 +25,7 @@ use Rattle.walrus_flat.specs.declared.checker.Checker.{Checker}
 use Rattle.walrus_flat.specs.declared.open_sequence.OpenSequence.{OpenSequence}
 use Rattle.walrus_flat.specs.declared.used_locals.UsedLocals.{UsedLocals}
 use Rattle.walrus_flat.specs.Checked.{env_of, AreFrames, deadness_of, state_of, Passes, IsChecked}
+use Rattle.walrus_flat.specs.UsedLocals.{is_used}
 use Rattle.walrus_flat.specs.Checkers.{parts_in, as_kind, Closes, BeginsConstruct, RefusesConstruct, PartsIf, RefusesElse, PartsTry, RefusesClause, ClosesTry, RefusesDelegate, used_in, NamesLocal, RefusesLocal, Takes}
 use Rattle.walrus_flat.proofs.CheckingAlike.{named_too, refused_too}
 use Rattle.walrus_flat.proofs.CheckedOperators.{last_first}
@@ -72,7 +72,7 @@ module _ (old new : Checker) (some : old.«open».items ≢ []) where
       by_reverse (b ∷ bs) e = (reverse bs, b, sym (reverse-reverse all) ∙ (ap reverse e ∙ reverse-append (b ∷ []) bs))
 
   same_used : (c : Checker) → new.used ≡ old.used → (x : ℕ) → (state_of new).used x ≡ (state_of old).used x
-  same_used c e x = ap (λ (u : UsedLocals). contains (λ p q. p == q) u.locals x) e
+  same_used c e x = ap (λ (u : UsedLocals). is_used u x) e
 
   -- ---- openers
 

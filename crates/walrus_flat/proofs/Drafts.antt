@@ -52,7 +52,7 @@ written_as_is old w new o p ty location is e same stays (Ok u) ok err =
         function = same.function ∙ ap (λ (k : Writer). k.indices.function) is;
         ty = same.ty ∙ ap (λ (k : Writer). k.ty) is;
         out = same.out ∙ ap (λ (k : Writer). k.out) is;
-        locals = same.locals ∙ ap (λ (k : Writer). k.locals.map) is;
+        locals = same.locals ∙ ap (λ (k : Writer). k.locals.numbered) is;
       };
       operator = p;
       is_renumbered = subst (λ (k : Writer). renumbered k ty o ≡ Ok p) is e;

@@ -12,6 +12,9 @@ pub mod Accepting
 pub mod WrittenFronts
 -- a raw body from its parts
 pub mod RawBodies
+-- the numbers of locals
+pub mod NumberedLocals
+pub mod UsedLocals
 -- one operator that is checked: those that part or close a construct, and all others; and the operators of a body so far
 pub mod CheckedOperators
 pub mod CheckedSteps

@@ -28,6 +28,7 @@ use Rattle.walrus_parser.specs.OperatorKinds.{is_diverging}
 use Rattle.walrus_emit_state.specs.TreeWriting.Drafts.{Drafted, with_bytes}
 use Rattle.walrus_emitter.proofs.TreeWriting.Spelled.{numbered}
 use Rattle.walrus_flat.specs.declared.writer.Writer.{Writer}
+use Rattle.walrus_flat.specs.UsedLocals.{entries_of}
 use Rattle.walrus_flat.specs.declared.sequences.Next.TheVariants as next
 use Rattle.walrus_flat.specs.declared.sequences.OpenSequences.{OpenSequences}
 use Rattle.walrus_flat.specs.Written.{drafted, waiting_else, opens_of, state_of, mode_of, is_dead, mode_if}
@@ -75,7 +76,7 @@ module _ (old : Writer) (location : ℕ) where
     abbrev Puts : Bool → Drafted → RawImmediate → RawOperation → Type 0
     Puts b d raw o = OnTrue b (d ≡ with_bytes old.draft (byte ∷ short_immediate raw) location) → OnFalse b (d ≡ old.draft) → WritesCommon old (record old { draft = d }) o location b
 
-    pub local_written : (n id number : ℕ) → local_of old.indices.ids.now old.indices.function n ≡ Ok id → number_in old.locals.map.now.entries id ≡ Some number → number < 2 ^ 32 →
+    pub local_written : (n id number : ℕ) → local_of old.indices.ids.now old.indices.function n ≡ Ok id → number_in (entries_of old.locals.numbered.now) id ≡ Some number → number < 2 ^ 32 →
         (b : Bool) (d : Drafted) → Puts b d (local number) (operation (Byte byte) (local n ∷ []))
     local_written n id number found has fits = with_immediate (operation (Byte byte) (local n ∷ [])) (local number) (rw (found, has, in_range number fits) refl)
 
@@ -83,13 +84,13 @@ module _ (old : Writer) (location : ℕ) where
         (b : Bool) (d : Drafted) → Puts b d (index space number) (operation (Byte byte) (index space n ∷ []))
     index_written space n id number found has fits =
         with_immediate (operation (Byte byte) (index space n ∷ [])) (index space number)
-        (rw (found, numbered old.«module».now.types old.out.now old.locals.map.now.entries space id number has fits, in_range number fits) refl)
+        (rw (found, numbered old.«module».now.types old.out.now (entries_of old.locals.numbered.now) space id number has fits, in_range number fits) refl)
 
     pub access_written : (a : Access) (id number : ℕ) → id_of old.indices.ids.now Memories a.memory ≡ Ok id → number_of old.out.now Memories id ≡ Ok number → number < 2 ^ 32 →
         (b : Bool) (d : Drafted) → Puts b d (access (record a { memory = number })) (operation (Byte byte) (access a ∷ []))
     access_written a id number found has fits =
         with_immediate (operation (Byte byte) (access a ∷ [])) (access (record a { memory = number }))
-        (rw (found, numbered old.«module».now.types old.out.now old.locals.map.now.entries Memories id number has fits, in_range number fits) refl)
+        (rw (found, numbered old.«module».now.types old.out.now (entries_of old.locals.numbered.now) Memories id number has fits, in_range number fits) refl)
 
     pub label_written : (n : ℕ) → n < 2 ^ 32 → (b : Bool) (d : Drafted) → Puts b d (label n) (operation (Byte byte) (label n ∷ []))
     label_written n fits = with_immediate (operation (Byte byte) (label n ∷ [])) (label n) (rw (in_range n fits) refl)
@@ -135,7 +136,7 @@ module _ (old : Writer) (x : Listed) (location : ℕ) where
               function = ap (λ (w : Writer). w.indices.function) same;
               ty = ap (λ (w : Writer). w.ty) same;
               out = ap (λ (w : Writer). w.out) same;
-              locals = ap (λ (w : Writer). w.locals.map) same;
+              locals = ap (λ (w : Writer). w.locals.numbered) same;
             };
             draft = ap (λ (w : Writer). w.draft) same ∙ ap (λ es. drafted old.draft (es ++ at_location operator location ∷ [])) (sym (ap waiting_else live));
             state_is = state_is;

@@ -37,7 +37,7 @@ module _ (old w : Writer) (o : RawOperation) (type : InstrSeqType) (location : �
         function = ap (λ (k : Writer). k.indices.function) is;
         ty = ap (λ (k : Writer). k.ty) is;
         out = ap (λ (k : Writer). k.out) is;
-        locals = ap (λ (k : Writer). k.locals.map) is;
+        locals = ap (λ (k : Writer). k.locals.numbered) is;
       }) (ap (λ (k : Writer). k.«open») is) (Ok tt) (ap (λ (k : Writer). k.draft) is) tt
   put_as_is p numbered (Err e) ok err = inl err
 

@@ -1,7 +1,5 @@
 -- The open sequences of a body that is checked and not parsed.
 use Rattle.std.specs.Prelude.{◌≡◌, ◌⊎◌, ℕ, nat_lt, List, [], ◌∷◌, length, drop, reverse, map, slice_get, Bool, true, false, ◌||◌, Some, OnOk, Result, Ok, Err}
-use Rattle.std.specs.Prelude.{◌==◌}
-use Rattle.std.specs.HashSet.{contains}
 use Rattle.walrus_ir.specs.Types.{ModuleType, signature_of_type}
 use Rattle.walrus_ir.specs.Unfolding.{among}
 use Rattle.walrus_ir.specs.declared.control.BlockKind.{BlockKind}
@@ -20,6 +18,7 @@ use Rattle.wasm_flat.specs.Flat.{Named, Deadness, deadness, deadness_after, live
 use Rattle.wasm_translate.specs.Changes.{Changes}
 use Rattle.walrus_context.specs.Placing.{is_handler_kind}
 use Rattle.walrus_maps.specs.Environments.{environment_of}
+use Rattle.walrus_flat.specs.UsedLocals.{is_used}
 use Rattle.walrus_flat.specs.declared.checking.Checking.{Checking}
 use Rattle.walrus_flat.specs.declared.checker.Checker.{Checker}
 use Rattle.walrus_flat.specs.declared.open_sequence.OpenSequence.{OpenSequence}
@@ -109,7 +108,7 @@ abbrev pub env_of : Checker → Environment
 env_of c = environment_of c.«module».now c.indices.ids.now c.indices.function c.ty
 
 abbrev pub state_of : Checker → CheckState
-state_of c = record { frames = reverse c.«open».items; dead = c.dead; used = contains (λ x y. x == y) c.used.locals }
+state_of c = record { frames = reverse c.«open».items; dead = c.dead; used = is_used c.used }
 
 -- In whatever frames the open sequences are, the operator passes, memory ran out, or this is the first rule that it breaks.
 abbrev pub ChecksStep : Checker → Checker → RawOperation → Result (Unit {0}) ParseError → Type 0

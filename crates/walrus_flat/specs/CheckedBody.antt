@@ -1,7 +1,6 @@
 -- What checking the operators of a body shows.
-use Rattle.std.specs.Prelude.{◌≡◌, ◌⊎◌, ℕ, List, [], ◌∷◌, ◌||◌, ◌==◌, length, map, nat_lt, Bool, true, false, Option, Some, None, Result, Ok, Err}
+use Rattle.std.specs.Prelude.{◌≡◌, ◌⊎◌, ℕ, List, [], ◌∷◌, ◌||◌, length, map, nat_lt, Bool, true, false, Option, Some, None, Result, Ok, Err}
 use Rattle.walrus_ir.specs.declared.control.BlockKind.TheVariants as kind
-use Rattle.std.specs.HashSet.{HashSet, contains}
 use Rattle.walrus_ir.specs.Types.{ModuleType, signature_of, find_entry}
 use Rattle.walrus_ir.specs.Results.{◌>>=◌, some_or}
 use Rattle.walrus_ir.specs.Unfolding.{among}
@@ -105,7 +104,3 @@ pub record AcceptsUsing {V : Type 0} (given : Setting V) (bytes : List ℕ) (use
 abbrev pub ChecksAll : {V : Type 0} → (Option (ℕ → ℕ) → Setting V) → Bool → List ℕ → (ℕ → Bool) → Result (Unit {0}) ParseFailure → Type 0
 ChecksAll given limit bytes used (Ok u) = (locations : Option (ℕ → ℕ)) → HasLimit limit locations → AcceptsUsing (given locations) bytes used
 ChecksAll given limit bytes used (Err f) = (f.error ≡ Memory) ⊎ ((locations : Option (ℕ → ℕ)) → HasLimit limit locations → FirstFault (given locations) bytes f)
-
--- whether a local is in a set
-abbrev pub is_in : {S : Type 0} → HashSet ℕ S → ℕ → Bool
-is_in s id = contains (λ x y. x == y) s id

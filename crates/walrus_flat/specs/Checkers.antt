@@ -1,6 +1,5 @@
 -- What the steps of the checker do.
 use Rattle.std.specs.Prelude.{◌≡◌, ◌⊎◌, ℕ, List, [], ◌∷◌, ◌++◌, ◌==◌, ◌||◌, reverse, Bool, true, false, cond, Option, Some, None, IsOk, Result, Ok, Err}
-use Rattle.std.specs.HashSet.{contains}
 use Rattle.walrus_ir.specs.declared.control.BlockKind.{BlockKind}
 use Rattle.walrus_ir.specs.declared.control.BlockKind.TheVariants as kind
 use Rattle.walrus_ir.specs.declared.val_type.InstrSeqType.{InstrSeqType}
@@ -15,6 +14,7 @@ use Rattle.wasm_body.specs.declared.error.ParseError.{ParseError}
 use Rattle.wasm_body.specs.declared.error.ParseError.TheVariants.{Memory, Index, ElseOutsideIf, CatchOutsideTry, DelegateOutsideTry}
 use Rattle.wasm_body.specs.Naming.{Environment, id_at, name_block, tag_type, has_pick}
 use Rattle.wasm_translate.specs.Changes.{changed}
+use Rattle.walrus_flat.specs.UsedLocals.{is_used}
 use Rattle.walrus_flat.specs.declared.checker.Checker.{Checker}
 use Rattle.walrus_flat.specs.declared.open_sequence.OpenSequence.{OpenSequence}
 use Rattle.walrus_flat.specs.Checked.{env_of, checking_changes}
@@ -141,7 +141,7 @@ RefusesDelegate old o e = (e ≡ Memory) ⊎ (((e ≡ DelegateOutsideTry) × IsN
 
 -- A local is named, which is used if code isn't dead.
 abbrev pub used_in : Checker → ℕ → Bool
-used_in c id = contains (λ x y. x == y) c.used.locals id
+used_in c id = is_used c.used id
 
 pub record NamesLocal (old new : Checker) (index : ℕ) : Type 0 where
   pub id : ℕ

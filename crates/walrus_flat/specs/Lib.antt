@@ -1,6 +1,8 @@
 -- the open sequences of a body that is checked, and the operators of one that is written
 pub mod SequenceKinds
+-- locals and their numbers
 pub mod UsedMarks
+pub mod UsedLocals
 pub mod Checked
 pub mod Checkers
 pub mod CheckedBody

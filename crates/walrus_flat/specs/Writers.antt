@@ -26,12 +26,13 @@ use Rattle.wasm_translate.specs.Changes.{changed}
 use Rattle.walrus_maps.specs.Environments.{environment_of}
 use Rattle.walrus_maps.specs.IndexMaps.{id_of, local_of}
 use Rattle.walrus_numbering.specs.NumberMaps.{numbers_by}
+use Rattle.walrus_flat.specs.UsedLocals.{entries_of}
 use Rattle.walrus_flat.specs.declared.writer.Writer.{Writer}
 use Rattle.walrus_flat.specs.Written.{writing_changes, drafted, waiting_else, awake, opens_of, state_of, is_dead, mode_if}
 
 -- the numbers with which a body is written
 abbrev pub numbers_in : Writer → Numbers
-numbers_in w = numbers_by w.«module».now.types w.out.now w.locals.map.now.entries
+numbers_in w = numbers_by w.«module».now.types w.out.now (entries_of w.locals.numbered.now)
 
 -- the environment of the body, if its function has this type
 abbrev pub env_at : Writer → (type : ℕ) → Environment
@@ -60,7 +61,7 @@ pub record IsSameWriter (old new : Writer) : Type 0 where
   pub function : new.indices.function ≡ old.indices.function
   pub ty : new.ty ≡ old.ty
   pub out : new.out ≡ old.out
-  pub locals : new.locals.map ≡ old.locals.map
+  pub locals : new.locals.numbered ≡ old.locals.numbered
 
 -- It was written after the `else` that waited.
 pub record WritesAsIs (old new : Writer) (o : RawOperation) (ty : InstrSeqType) (location : ℕ) : Type 0 where

@@ -16,8 +16,9 @@ use Rattle.wasm_body.specs.Bytes.{Numbers, in_32_bits, numbers_in_32_bits, numbe
 use Rattle.wasm_flat.specs.Flat.{Named, Open, Dropped, Kept, Mode, Live, Waits, Dead, FlatState, state, innermost, around, needs_else, mode_of_else, parted, closed, numbered}
 use Rattle.wasm_translate.specs.Changes.{Changes}
 use Rattle.walrus_maps.specs.IndexMaps.{id_of, local_of}
-use Rattle.walrus_numbering.specs.NumberMaps.{numbers_of}
+use Rattle.walrus_numbering.specs.NumberMaps.{numbers_by}
 use Rattle.walrus_emit_state.specs.TreeWriting.Drafts.{Drafted, with_written}
+use Rattle.walrus_flat.specs.UsedLocals.{entries_of}
 use Rattle.walrus_flat.specs.declared.renumbering.Renumbering.{Renumbering}
 use Rattle.walrus_flat.specs.declared.sequences.OpenSequences.{OpenSequences}
 use Rattle.walrus_flat.specs.declared.sequences.Next.{Next}
@@ -39,7 +40,7 @@ writing_changes id_of local_of to type = record {
 }
 
 abbrev pub changes_of : Renumbering → Changes EmitError
-changes_of r = writing_changes (id_of r.indices.now) (local_of r.indices.now r.function) (numbers_of r.numbers) r.ty
+changes_of r = writing_changes (id_of r.indices.now) (local_of r.indices.now r.function) (numbers_by r.types.now r.ids.now (entries_of r.locals.now)) r.ty
 
 -- ---- the state between two operators
 

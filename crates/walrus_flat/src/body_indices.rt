@@ -2,7 +2,7 @@
 ghost use Rattle.std.specs.Prelude.{◌≡◌, IfSome, Ok};
 ghost use Rattle.wasm_operators.specs.declared.types.Space.TheVariants.{Funcs, Globals, Memories};
 ghost use Rattle.walrus_maps.specs.IndexMaps.{id_of, local_of, locals_in};
-ghost use Rattle.walrus_flat.specs.UsedMarks.{is_found};
+ghost use Rattle.walrus_flat.specs.UsedLocals.{is_found};
 
 use walrus_ir::{FunctionId, LocalId};
 use walrus_maps::IndicesToIds;

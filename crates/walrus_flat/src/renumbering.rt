@@ -1,9 +1,13 @@
 //! Operators as they are read become operators with new numbers.
 ghost use Rattle.std.specs.Prelude.{◌≡◌, ◌<◌, ◌^◌, IfOk};
-ghost use Rattle.walrus_numbering.specs.NumberMaps.{numbers_of};
+ghost use Rattle.walrus_ir.specs.Results.{some_or};
+ghost use Rattle.wasm_body.specs.declared.error.EmitError.TheVariants.{UnnumberedLocal};
+ghost use Rattle.walrus_numbering.specs.EmittedLocals.{number_in};
+ghost use Rattle.walrus_flat.specs.UsedLocals.{entries_of};
 
-use walrus_ir::{FunctionId, InstrSeqType, LocalId};
-use walrus_maps::IndicesToIds;
+use crate::local_numbers::NumberedLocals;
+use walrus_ir::{FunctionId, InstrSeqType, LocalId, ModuleTypes};
+use walrus_maps::{IdsToIndices, IndicesToIds};
 use walrus_numbering::{NumberMaps, block_type};
 use wasm_body::EmitError;
 use wasm_operators::{BlockType, Space};
@@ -16,18 +20,22 @@ pub(crate) struct Renumbering<'a> {
     pub indices: &'a IndicesToIds,
     /// The function, whose locals have their own old indices.
     pub function: FunctionId,
-    /// The numbers of ids.
-    pub numbers: NumberMaps<'a>,
+    /// The module's types, which say where an `else` may be left out.
+    pub types: &'a ModuleTypes,
+    /// The new indices of the module's ids.
+    pub ids: &'a IdsToIndices,
+    /// The numbers of the function's locals.
+    pub locals: &'a NumberedLocals,
     /// The type of the sequences of the construct that the operator opens, if it opens one.
     pub ty: InstrSeqType,
 }
 
 /// The number of a local.
-fn local_number(numbers: &NumberMaps<'_>, local: LocalId) -> Result<u32, EmitError>
-    ensures number { result ≡ (numbers_of numbers.now).local_number local }
+fn local_number(locals: &NumberedLocals, local: LocalId) -> Result<u32, EmitError>
+    ensures number { result ≡ some_or (number_in (entries_of locals.now) local) UnnumberedLocal }
     ensures fits { IfOk result (λ number. number < 2 ^ 32) }
 {
-    match numbers.locals.get(&local).copied() {
+    match locals.number(local) {
         Some(number) => Ok(number),
         None => Err(EmitError::UnnumberedLocal),
     }
@@ -45,7 +53,7 @@ impl Translate for Renumbering<'_> {
 
     fn index(&self, space: Space, index: u32) -> Result<u32, EmitError> {
         let indices = self.indices;
-        let ids = self.numbers.ids;
+        let ids = self.ids;
         match space {
             Space::Tables => Ok(ids.get_table_index(indices.get_table(index)?)?),
             Space::Types => Ok(ids.get_type_index(indices.get_type(index)?)?),
@@ -60,7 +68,7 @@ impl Translate for Renumbering<'_> {
 
     fn local(&self, index: u32) -> Result<u32, EmitError> {
         let id = self.indices.get_local(self.function, index)?;
-        local_number(&self.numbers, id)
+        local_number(self.locals, id)
     }
 
     fn label(&self, depth: u32) -> Result<u32, EmitError> {
@@ -76,7 +84,13 @@ impl Translate for Renumbering<'_> {
     }
 
     fn block(&self, _ty: BlockType) -> Result<BlockType, EmitError> {
-        block_type(&self.numbers, self.ty)
+        let maps = NumberMaps {
+            types: self.types,
+            ids: self.ids,
+            // No type names a local.
+            locals: &self.locals.map,
+        };
+        block_type(&maps, self.ty)
     }
 
     fn out_of_memory(&self) -> EmitError {

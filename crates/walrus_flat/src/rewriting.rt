@@ -19,7 +19,8 @@ ghost use Rattle.walrus_rewrite.specs.Errors.{IsOutOfMemory};
 ghost use Rattle.walrus_rewrite.specs.RewrittenBodies.{RefusesRewriting, IsOfWriting};
 ghost use Rattle.walrus_flat.specs.Checked.{env_of};
 ghost use Rattle.walrus_flat.specs.Checkers.{used_in};
-ghost use Rattle.walrus_flat.specs.CheckedBody.{BeginsBody, setting_at, entry_in, ChecksAll, is_in};
+ghost use Rattle.walrus_flat.specs.CheckedBody.{BeginsBody, setting_at, entry_in, ChecksAll};
+ghost use Rattle.walrus_flat.specs.UsedLocals.{is_used, entries_of};
 ghost use Rattle.walrus_flat.specs.Written.{state_of};
 ghost use Rattle.walrus_flat.specs.WrittenBody.{again, IsAccepted, WritesBody, RefusesWriting};
 ghost use Rattle.walrus_flat.specs.RewrittenFlat.{emit_input, empty_draft, is_none, Composes, WritesAll, IsNotAllWritten, Finishes, FinishesBoth, RewritesFlat};
@@ -27,7 +28,7 @@ ghost use Rattle.walrus_flat.specs.RewrittenFlat.{emit_input, empty_draft, is_no
 use crate::body_indices::BodyIndices;
 use crate::check_body::check_operators;
 use crate::checker::Checker;
-use crate::local_numbers::LocalNumbers;
+use crate::local_numbers::{LocalNumbers, NumberedLocals, declare_locals};
 use crate::open_sequence::OpenSequence;
 use crate::scratch::FlatScratch;
 use crate::sequences::{Next, OpenSequences, Written};
@@ -37,11 +38,8 @@ use crate::writer::Writer;
 use std::alloc::Global;
 use std::mem;
 use walrus_emit_state::Draft;
-use walrus_ir::{
-    BlockKind, FunctionId, IdHashMap, IdHashSet, InstrLocId, InstrSeqType, LocalId, Module, TypeId,
-};
+use walrus_ir::{BlockKind, FunctionId, InstrLocId, InstrSeqType, LocalId, Module, TypeId};
 use walrus_maps::{IdsToIndices, IndicesToIds};
-use walrus_numbering::{emit_locals, number_table};
 use walrus_parser::{FunctionBody, OpCheck, failure};
 use walrus_rewrite::{RewriteError, append_lists};
 use wasm_body::{EmitError, ParseError, ParseFailure};
@@ -63,19 +61,6 @@ fn entry_type(module: &Module, ty: TypeId) -> Result<TypeId, ParseError>
     }
 }
 
-/// How many locals a set may have to be lent to the next body.
-const MOST_LENT: usize = 64;
-
-/// The set of the last body, or another one where it may have much room: clearing a set and going over
-/// it take time by its room, so that one great body would make each small one after it slow.
-fn lent_on(alloc: Global, last: IdHashSet<LocalId>) -> IdHashSet<LocalId> {
-    if last.len() <= MOST_LENT {
-        last
-    } else {
-        IdHashSet::new(alloc)
-    }
-}
-
 /// A checker that has checked no operator. It takes the lists of the scratch.
 fn begin_check<'a>(
     alloc: Global,
@@ -94,9 +79,8 @@ fn begin_check<'a>(
 {
     let mut open = mem::replace(&mut scratch.open, Vec::new(alloc));
     open.clear();
-    let last = mem::replace(&mut scratch.used, IdHashSet::new(alloc));
-    let marks = mem::replace(&mut scratch.marks, Vec::new(alloc));
-    let used = UsedLocals::none(lent_on(alloc, last), marks);
+    let last = mem::replace(&mut scratch.used, UsedLocals::new(alloc));
+    let used = last.cleared(alloc);
     let first = OpenSequence {
         kind: BlockKind::FunctionEntry,
         ty: InstrSeqType::MultiValue(entry),
@@ -136,7 +120,7 @@ fn check<V: OpCheck>(
 ) -> Result<(), ParseFailure>
     requires { start + length ops.now < 2 ^ 64 }
     ensures { ChecksAll (setting_at (environment_of «module».now indices.now function ty) start
-        V.check (V.state validator)) has_limit ops.now (is_in scratch.new.used) result }
+        V.check (V.state validator)) has_limit ops.now (is_used scratch.new.used) result }
 {
     let entry = match entry_type(module, ty) {
         Ok(entry) => entry,
@@ -149,10 +133,8 @@ fn check<V: OpCheck>(
     let mut reader = Reader::new(ops, start);
     let result = check_operators(&mut checker, &mut reader, has_limit, validator);
     let Checker { open, used, .. } = checker;
-    let UsedLocals { locals, marks } = used;
     scratch.open = open;
-    scratch.used = locals;
-    scratch.marks = marks;
+    scratch.used = used;
     result
 }
 
@@ -183,7 +165,7 @@ fn write<'a, F: Fn(&usize) -> InstrLocId>(
     start: usize,
     on_instr_pos: Option<&F>,
     out: &'a IdsToIndices,
-    locals: &'a IdHashMap<LocalId, u32>,
+    locals: &'a NumberedLocals,
     base: usize,
     has_map: bool,
     scratch: &mut FlatScratch,
@@ -198,18 +180,15 @@ fn write<'a, F: Fn(&usize) -> InstrLocId>(
     ensures ok { IfOk result (WritesBody F.Fn (again (environment_of «module».now indices.now
         function ty) (record { rest = ops.now; place = start })
         «module».now.code_section_offset on_instr_pos.entry) (numbers_by «module».now.types
-        out.now locals.now.entries) (empty_draft base has_map)) }
+        out.now (entries_of locals.now)) (empty_draft base has_map)) }
     ensures err { IfErr result (λ e. (e ≡ Memory) ⊎ RefusesWriting F.Fn
         (again (environment_of «module».now indices.now function ty)
         (record { rest = ops.now; place = start }) «module».now.code_section_offset
-        on_instr_pos.entry) (numbers_by «module».now.types out.now locals.now.entries) e) }
+        on_instr_pos.entry) (numbers_by «module».now.types out.now (entries_of locals.now)) e) }
 {
     let open = match begin_sequences(alloc, scratch) {
         Ok(open) => open,
         Err(fault) => return Err(fault),
-    };
-    let Ok(table) = number_table(alloc, locals) else {
-        return Err(EmitError::Memory);
     };
     let draft = Draft::new(alloc, base, has_map, ops.len() / 2);
     let mut writer = Writer {
@@ -221,7 +200,10 @@ fn write<'a, F: Fn(&usize) -> InstrLocId>(
         },
         ty,
         out,
-        locals: LocalNumbers { map: locals, table },
+        locals: LocalNumbers {
+            numbered: locals,
+            table: &locals.table,
+        },
         open,
         lists: Lists::new(alloc),
         draft,
@@ -243,14 +225,14 @@ fn begin_body(
     module: &Module,
     args: &[LocalId],
     out: &IdsToIndices,
-    used: &IdHashSet<LocalId>,
-) -> Result<(FunctionEncoder, IdHashMap<LocalId, u32>), EmitError>
+    used: &UsedLocals,
+) -> Result<(FunctionEncoder, NumberedLocals), EmitError>
     ensures ok { IfOk result (λ made. Begins (emit_input «module».now out.now args.now)
-        (is_in used.now) made.0 made.1.entries) }
+        (is_used used.now) made.0 (entries_of made.1)) }
     ensures err { IfErr result (IsNotBegun (emit_input «module».now out.now args.now)
-        (is_in used.now)) }
+        (is_used used.now)) }
 {
-    let (declarations, numbers) = match emit_locals(alloc, args, module, out, used) {
+    let (declarations, numbers) = match declare_locals(alloc, args, module, out, used) {
         Ok(made) => made,
         Err(fault) => return Err(fault),
     };
@@ -285,12 +267,12 @@ fn write_checked<F: Fn(&usize) -> InstrLocId>(
     ensures ok { IfOk result (λ made. WritesAll F.Fn (again (environment_of «module».now
         indices.now function ty) (record { rest = ops.now; place = start })
         «module».now.code_section_offset on_instr_pos.entry) (emit_input «module».now out.now
-        args.now) has_map (numbers_by «module».now.types out.now) (is_in scratch.old.used) made.0
+        args.now) has_map (numbers_by «module».now.types out.now) (is_used scratch.old.used) made.0
         made.1) }
     ensures err { IfErr result (IsNotAllWritten F.Fn (again (environment_of «module».now
         indices.now function ty) (record { rest = ops.now; place = start })
         «module».now.code_section_offset on_instr_pos.entry) (emit_input «module».now out.now
-        args.now) (numbers_by «module».now.types out.now) (is_in scratch.old.used)) }
+        args.now) (numbers_by «module».now.types out.now) (is_used scratch.old.used)) }
 {
     let (encoder, numbers) = match begin_body(alloc, module, args, out, &scratch.used) {
         Ok(made) => made,

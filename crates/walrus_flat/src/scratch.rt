@@ -2,8 +2,8 @@
 
 use crate::open_sequence::OpenSequence;
 use crate::sequences::Written;
+use crate::used_locals::UsedLocals;
 use std::alloc::Global;
-use walrus_ir::{IdHashSet, LocalId};
 
 /// The lists that `rewrite_flat` needs, lent to one body after the other, so that they keep their
 /// memory. Their contents don't matter.
@@ -11,8 +11,7 @@ use walrus_ir::{IdHashSet, LocalId};
 pub struct FlatScratch {
     pub(crate) open: Vec<OpenSequence>,
     pub(crate) sequences: Vec<Written>,
-    pub(crate) used: IdHashSet<LocalId>,
-    pub(crate) marks: Vec<bool>,
+    pub(crate) used: UsedLocals,
 }
 
 impl FlatScratch {
@@ -21,8 +20,7 @@ impl FlatScratch {
         FlatScratch {
             open: Vec::new(alloc),
             sequences: Vec::new(alloc),
-            used: IdHashSet::new(alloc),
-            marks: Vec::new(alloc),
+            used: UsedLocals::new(alloc),
         }
     }
 }

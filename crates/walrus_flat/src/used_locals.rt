@@ -1,47 +1,131 @@
 //! The locals that live operators name.
-ghost use Rattle.std.specs.Prelude.{◌≡◌, ◌||◌, ◌==◌, ℕ, true, false};
-ghost use Rattle.walrus_flat.specs.UsedMarks.{AreUsed, has_local};
+ghost use Rattle.std.specs.Prelude.{◌≡◌, ◌==◌, ℕ, true, IfOk};
+ghost use Rattle.std.specs.HashSet.{contains};
+ghost use Rattle.walrus_ir.specs.Unfolding.{among};
+ghost use Rattle.walrus_facts.specs.Marking.{is_marked};
+ghost use Rattle.walrus_flat.specs.UsedMarks.{is_apart};
 
+use std::alloc::{AllocError, Global};
 use walrus_facts::{is_marked, mark};
 use walrus_ir::{IdHashSet, LocalId};
 
-/// Locals, some of which have a mark, so that each of these is looked for without hashing.
+/// How many locals a set may have to be lent to the next body.
+const MOST_LENT: usize = 64;
+
+/// The set of the last body, or another one where it may have much room: clearing a set takes time by
+/// its room, so that one great body would make each small one after it slow.
+fn lent_on(alloc: Global, last: IdHashSet<LocalId>) -> IdHashSet<LocalId> {
+    if last.len() <= MOST_LENT {
+        last
+    } else {
+        IdHashSet::new(alloc)
+    }
+}
+
+/// The same locals in a set of its own.
+fn set_of(alloc: Global, locals: &IdHashSet<LocalId>) -> Result<IdHashSet<LocalId>, AllocError>
+    ensures { IfOk result (λ all. (x : ℕ)
+        → contains (λ x y. x == y) all x ≡ contains (λ x y. x == y) locals.now x) }
+{
+    let mut all = IdHashSet::new(alloc);
+    for id in locals {
+        all.insert(*id)?;
+    }
+    Ok(all)
+}
+
+/// Locals. Those with small ids have marks and are listed, so that they are found without hashing.
 #[derive(Drop)]
 pub(crate) struct UsedLocals {
-    pub locals: IdHashSet<LocalId>,
-    /// Whether a local is known to be among them, by id.
+    /// Those that have a mark, each once.
+    pub listed: Vec<LocalId>,
+    /// Whether a local is listed, by id.
     pub marks: Vec<bool>,
-    ghost are_used: { AreUsed marks.items locals },
+    /// All others.
+    pub others: IdHashSet<LocalId>,
+    ghost are_listed: { (id : ℕ) → is_marked marks.items id ≡ among id listed.items },
+    ghost apart: { is_apart listed.items ≡ true },
 }
 
 impl UsedLocals {
-    /// No locals. They take the memory of these.
-    pub fn none(mut locals: IdHashSet<LocalId>, mut marks: Vec<bool>) -> UsedLocals
-        ensures { (x : ℕ) → has_local result.locals x ≡ false }
+    ghost use Rattle.std.specs.Prelude.{◌||◌, false};
+    ghost use Rattle.walrus_flat.specs.UsedLocals.{has_local, is_used};
+
+    /// No locals. This allocates nothing.
+    pub fn new(alloc: Global) -> UsedLocals
+        ensures { (x : ℕ) → is_used result x ≡ false }
     {
-        locals.clear();
+        UsedLocals {
+            listed: Vec::new(alloc),
+            marks: Vec::new(alloc),
+            others: IdHashSet::new(alloc),
+        }
+    }
+
+    /// No locals. They take the memory of these.
+    pub fn cleared(self, alloc: Global) -> UsedLocals
+        ensures { (x : ℕ) → is_used result x ≡ false }
+    {
+        let UsedLocals {
+            mut listed,
+            mut marks,
+            others,
+        } = self;
+        listed.clear();
         marks.clear();
-        UsedLocals { locals, marks }
+        let mut others = lent_on(alloc, others);
+        others.clear();
+        UsedLocals {
+            listed,
+            marks,
+            others,
+        }
     }
 
     /// Adds a local, and returns whether it did. If not, memory ran out, and it has the same locals.
     #[inline(always)]
     pub fn add(&mut self, local: LocalId) -> bool
         ensures done { result ≡ true → (x : ℕ)
-            → has_local self.new.locals x ≡ ((x == local) || has_local self.old.locals x) }
-        ensures unchanged { result ≡ false → (x : ℕ)
-            → has_local self.new.locals x ≡ has_local self.old.locals x }
+            → is_used self.new x ≡ ((x == local) || is_used self.old x) }
+        ensures unchanged { result ≡ false → (x : ℕ) → is_used self.new x ≡ is_used self.old x }
     {
-        let id = local.index();
-        if is_marked(&self.marks, id) {
+        if is_marked(&self.marks, local.index()) {
             return true;
         }
-        match self.locals.insert(local) {
-            Ok(_) => {
-                mark(&mut self.marks, id);
-                true
-            }
+        self.add_unmarked(local)
+    }
+
+    /// Adds a local that isn't listed, as `add`.
+    #[inline(never)]
+    fn add_unmarked(&mut self, local: LocalId) -> bool
+        requires { is_marked self.old.marks.items local ≡ false }
+        ensures done { result ≡ true → (x : ℕ)
+            → is_used self.new x ≡ ((x == local) || is_used self.old x) }
+        ensures unchanged { result ≡ false → (x : ℕ) → is_used self.new x ≡ is_used self.old x }
+    {
+        if self.listed.push(local).is_err() {
+            return false;
+        }
+        if mark(&mut self.marks, local.index()) {
+            return true;
+        }
+        self.listed.pop();
+        match self.others.insert(local) {
+            Ok(_) => true,
             Err(_) => false,
         }
+    }
+
+    /// All of them in a set.
+    pub fn all(&self, alloc: Global) -> Result<IdHashSet<LocalId>, AllocError>
+        ensures { IfOk result (λ all. (x : ℕ) → has_local all x ≡ is_used self.now x) }
+    {
+        let mut all = set_of(alloc, &self.others)?;
+        let mut left = self.listed.as_slice();
+        'left: while let Some((id, following)) = left.split_first() {
+            all.insert(*id)?;
+            left = following;
+        }
+        Ok(all)
     }
 }

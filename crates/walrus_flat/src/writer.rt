@@ -30,7 +30,7 @@ use walrus_context::value_type;
 use walrus_emit_state::Draft;
 use walrus_ir::{BinaryOp, InstrLocId, InstrSeqType, Module, TypeId, UnaryOp, ValType};
 use walrus_maps::IdsToIndices;
-use walrus_numbering::{NumberMaps, is_balanced};
+use walrus_numbering::is_balanced;
 use wasm_body::EmitError;
 use wasm_operators::{
     BlockType, Opcode, Operator, RawMemArg, binary_opcode, load_opcode, store_opcode, unary_opcode,
@@ -154,15 +154,12 @@ impl Writer<'_> {
             Ok(()) => {}
             Err(fault) => return Err(fault),
         }
-        let numbers = NumberMaps {
-            types: &self.module.types,
-            ids: self.out,
-            locals: self.locals.map,
-        };
         let with = Renumbering {
             indices: self.indices.ids,
             function: self.indices.function,
-            numbers,
+            types: &self.module.types,
+            ids: self.out,
+            locals: self.locals.numbered,
             ty,
         };
         match translated(operator, &with, &mut self.lists) {

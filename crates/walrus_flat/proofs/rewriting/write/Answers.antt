@@ -5,6 +5,7 @@ use Rattle.walrus_emit_state.specs.TreeWriting.Drafts.{Drafted}
 use Rattle.walrus_maps.specs.Environments.{environment_of}
 use Rattle.walrus_numbering.specs.NumberMaps.{numbers_by}
 use Rattle.walrus_parser.specs.Locating.{MayCall}
+use Rattle.walrus_flat.specs.UsedLocals.{entries_of}
 use Rattle.walrus_flat.specs.WrittenBody.{again, IsAccepted, WritesBody, RefusesWriting}
 use Rattle.walrus_flat.proofs.rewriting.write.Goals as goal
 
@@ -25,7 +26,7 @@ write_operators-requires-clause-accepted g c =
 pub returns-in-Ok-write_operators-clause-ok : goal.returns-in-Ok-write_operators-clause-ok
 returns-in-Ok-write_operators-clause-ok g c =
     let a = c.args in
-    let to = numbers_by a.module.now.types a.out.now a.locals.now.entries in
+    let to = numbers_by a.module.now.types a.out.now (entries_of a.locals.now) in
     let new = c.write_operators.new.writer.draft in
     subst (λ (d : Drafted). WritesBody g.F.Fn (again (environment_of a.module.now a.indices.now a.function a.ty) (record { rest = a.ops.now; place = a.start }) a.module.now.code_section_offset a.on_instr_pos) to d new) c.new-draft.ensures
     (subst (λ (p : Position). WritesBody g.F.Fn (again (environment_of a.module.now a.indices.now a.function a.ty) p a.module.now.code_section_offset a.on_instr_pos) to c.new-draft.result new) c.new-reader.ensures c.in-Ok-write_operators.ensures)
@@ -33,6 +34,6 @@ returns-in-Ok-write_operators-clause-ok g c =
 pub returns-in-Err-write_operators-clause-err : goal.returns-in-Err-write_operators-clause-err
 returns-in-Err-write_operators-clause-err g c =
     let a = c.args in
-    let to = numbers_by a.module.now.types a.out.now a.locals.now.entries in
+    let to = numbers_by a.module.now.types a.out.now (entries_of a.locals.now) in
     subst (λ (p : Position). (c.in-Err-write_operators.fault ≡ Memory) ⊎ RefusesWriting g.F.Fn (again (environment_of a.module.now a.indices.now a.function a.ty) p a.module.now.code_section_offset a.on_instr_pos) to c.in-Err-write_operators.fault)
     c.new-reader.ensures c.in-Err-write_operators.ensures

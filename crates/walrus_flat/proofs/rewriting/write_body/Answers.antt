@@ -1,7 +1,8 @@
 use Rattle.std.proofs.Common.{Bool, Ok, Err, refl, subst, arith}
 use Rattle.wasm_operators.proofs.ReadingBytes.{each_byte}
 use Rattle.walrus_parser.specs.Bodies.{input_of, setting_with}
-use Rattle.walrus_flat.specs.CheckedBody.{ChecksAll, is_in}
+use Rattle.walrus_flat.specs.UsedLocals.{is_used}
+use Rattle.walrus_flat.specs.CheckedBody.{ChecksAll}
 use Rattle.walrus_flat.proofs.FlatBodies.{refuses_body, is_accepted, composed, refused}
 use Rattle.walrus_flat.proofs.rewriting.write_body.Goals as goal
 
@@ -9,7 +10,7 @@ pub write_checked-requires-clause-accepted : goal.write_checked-requires-clause-
 write_checked-requires-clause-accepted g c =
     let a = c.args in
     let i = input_of a.module.now a.indices.now a.function a.ty a.start a.ops.now a.on_instr_pos g.V.OpCheck.check (g.V.OpCheck.state a.validator) in
-    let used = is_in c.check.new.scratch.used in
+    let used = is_used c.check.new.scratch.used in
     let checks = subst (λ (b : Bool). ChecksAll (setting_with i) b a.ops.now used (Ok tt)) c.has_limit-limited.ensures c.in-Ok.ensures in
     is_accepted g.F.Fn i used checks
 
@@ -17,7 +18,7 @@ pub returns-in-Err-clause-err : goal.returns-in-Err-clause-err
 returns-in-Err-clause-err g c =
     let a = c.args in
     let i = input_of a.module.now a.indices.now a.function a.ty a.start a.ops.now a.on_instr_pos g.V.OpCheck.check (g.V.OpCheck.state a.validator) in
-    let used = is_in c.check.new.scratch.used in
+    let used = is_used c.check.new.scratch.used in
     let checks = subst (λ (b : Bool). ChecksAll (setting_with i) b a.ops.now used (Err c.in-Err.failure)) c.has_limit-limited.ensures c.in-Err.ensures in
     refuses_body g.F.Fn i used c.in-Err.failure checks
 
@@ -25,7 +26,7 @@ pub returns-in-Ok-write_checked-clause-ok : goal.returns-in-Ok-write_checked-cla
 returns-in-Ok-write_checked-clause-ok g c =
     let a = c.args in
     let i = input_of a.module.now a.indices.now a.function a.ty a.start a.ops.now a.on_instr_pos g.V.OpCheck.check (g.V.OpCheck.state a.validator) in
-    let used = is_in c.check.new.scratch.used in
+    let used = is_used c.check.new.scratch.used in
     let checks = subst (λ (b : Bool). ChecksAll (setting_with i) b a.ops.now used (Ok tt)) c.has_limit-limited.ensures c.in-Ok.ensures in
     composed g.F.Fn i a.module.now a.out.now a.args.now used checks (λ t. refl) (each_byte a.ops.now (λ k. omega (arith, c.type_inv.ops k))) a.has_map c.in-Ok-write_checked.made.0 c.in-Ok-write_checked.made.1 c.in-Ok-write_checked.ensures.ok
 
@@ -33,6 +34,6 @@ pub returns-in-Err-write_checked-clause-err : goal.returns-in-Err-write_checked-
 returns-in-Err-write_checked-clause-err g c =
     let a = c.args in
     let i = input_of a.module.now a.indices.now a.function a.ty a.start a.ops.now a.on_instr_pos g.V.OpCheck.check (g.V.OpCheck.state a.validator) in
-    let used = is_in c.check.new.scratch.used in
+    let used = is_used c.check.new.scratch.used in
     let checks = subst (λ (b : Bool). ChecksAll (setting_with i) b a.ops.now used (Ok tt)) c.has_limit-limited.ensures c.in-Ok.ensures in
     refused g.F.Fn i a.module.now a.out.now a.args.now used checks c.in-Err-write_checked.fault c.in-Err-write_checked.ensures.err

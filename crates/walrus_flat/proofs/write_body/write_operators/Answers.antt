@@ -11,6 +11,7 @@ use Rattle.walrus_numbering.specs.NumberMaps.{numbers_by}
 use Rattle.walrus_parser.specs.Locating.{Locates, HasNoLocation}
 use Rattle.walrus_flat.specs.declared.writer.Writer.{Writer}
 use Rattle.walrus_flat.specs.Writers.{env_at, numbers_in, IsSameWriter}
+use Rattle.walrus_flat.specs.UsedLocals.{entries_of}
 use Rattle.walrus_flat.specs.WrittenBody.{again, WritesNextAtOnce}
 use Rattle.walrus_flat.proofs.WrittenLoop.{begins_writing, still, unreadable, unlocated, goes_on, refuses, taken_here, completes}
 use Rattle.walrus_flat.proofs.write_body.write_operators.Goals as goal
@@ -19,7 +20,7 @@ same_env : (first w : Writer) → IsSameWriter first w → env_at w w.ty ≡ env
 same_env first w s = λ k. environment_of (s.«module» k).now (s.indices k).now (s.function k) (s.ty k)
 
 same_numbers : (first w : Writer) → IsSameWriter first w → numbers_in w ≡ numbers_in first
-same_numbers first w s = λ k. numbers_by (s.«module» k).now.types (s.out k).now (s.locals k).now.entries
+same_numbers first w s = λ k. numbers_by (s.«module» k).now.types (s.out k).now (entries_of (s.locals k).now)
 
 -- bytes remain
 some_rest : (n : ℕ) (ends : Bool) → ends ≡ (n == 0) → ends ≡ false → 0 < n

@@ -7,7 +7,8 @@ use Rattle.wasm_body.specs.declared.error.EmitError.TheVariants.{Index, TooLarge
 use Rattle.wasm_body.specs.declared.error.IndexError.{IndexError}
 use Rattle.wasm_body.specs.Bytes.{in_32_bits}
 use Rattle.walrus_maps.specs.IndexMaps.{local_of}
-use Rattle.walrus_numbering.specs.NumberMaps.{numbers_of}
+use Rattle.walrus_numbering.specs.NumberMaps.{numbers_by}
+use Rattle.walrus_flat.specs.UsedLocals.{entries_of}
 use Rattle.walrus_flat.proofs.renumbering.RenumberingTranslate.local.Goals as goal
 
 below : (n : ℕ) → n < 2 ^ 32 → nat_lt n (2 ^ 32) ≡ true
@@ -22,5 +23,5 @@ numbered number l id r e is few = sym (ap (λ k. with_fault Index k >>= λ k. nu
 
 pub returns : goal.returns
 returns c =
-    numbered (numbers_of c.args.self.now.numbers).local_number (local_of c.args.self.now.indices.now c.args.self.now.function c.args.index) c.in_ok-id.id c.local_number.result (sym c.in_ok-id.ensures)
+    numbered (numbers_by c.args.self.now.types.now c.args.self.now.ids.now (entries_of c.args.self.now.locals.now)).local_number (local_of c.args.self.now.indices.now c.args.self.now.function c.args.index) c.in_ok-id.id c.local_number.result (sym c.in_ok-id.ensures)
     c.local_number.ensures.number c.local_number.ensures.fits
