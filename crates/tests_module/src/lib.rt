@@ -4,6 +4,8 @@
 #![tactic(auto)]
 
 #[cfg(test)]
+mod additions;
+#[cfg(test)]
 mod cases;
 #[cfg(test)]
 mod every_operator;

@@ -17,3 +17,6 @@ pub mod WritingLemmas
 pub mod CodeLemmas
 pub mod NewSectionLemmas
 pub mod SectionLemmas
+-- sections that are given contents, and one more
+pub mod AdditionLemmas
+pub mod DataLemmas

@@ -15,3 +15,6 @@ pub mod Refusals
 pub mod Sections
 pub mod Views
 pub mod WrittenModules
+-- new contents of sections, and items that are added after those of a section
+pub mod Additions
+pub mod AddedItems

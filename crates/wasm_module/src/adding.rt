@@ -1,42 +1,104 @@
 //! Items that are added to sections (WebAssembly core specification 3.0, binary format, modules).
+ghost use Rattle.std.specs.Prelude.{◌≡◌, ◌++◌, List, OnOk, IfOk};
+ghost use Rattle.wasm_operators.specs.Shortest.{short_number};
+ghost use Rattle.wasm_operators.specs.declared.types.Space.TheVariants.{Funcs, Tables, Memories, Globals, Tags};
+ghost use Rattle.wasm_module.specs.Additions.{HasOneMore, AddsItem, contents_with};
+ghost use Rattle.wasm_module.specs.AddedItems.{export_of, AddsExport, global_of};
+ghost use Rattle.wasm_module.specs.Sections.{SectionAt, IsModule, id_of};
 
 use crate::changes::Changes;
+use crate::constants::write_global;
+use crate::exports::export_kind;
 use crate::fault::{ModuleError, ModuleFault};
 use crate::input::Input;
 use crate::output::{write_bytes, write_number};
 use crate::parsed::ParsedModule;
 use crate::sections::SectionKind;
 use std::alloc::Global;
-use walrus_ir::GlobalId;
-
-/// The kind of exported globals (WebAssembly core specification 3.0, binary format, exports).
-const EXPORTED_GLOBAL: u8 = 3;
+use walrus_body::Space;
+use walrus_ir::{FunctionId, GlobalId, MemoryId, TableId, TagId, Value};
 
 /// The contents of a section with one more item, after the others.
-fn with_item(alloc: Global, contents: &[u8], item: &[u8]) -> Result<Vec<u8>, ModuleError> {
+pub(crate) fn with_item(alloc: Global, contents: &[u8], item: &[u8]) -> Result<Vec<u8>, ModuleError>
+    ensures { IfOk result (λ made. HasOneMore contents.now item.now made.items) }
+{
     let mut items = Input::new(contents);
-    let count = items.number()? as usize;
+    let count = items.number()?;
     let mut made = Vec::new(alloc);
-    write_number(&mut made, count + 1)?;
-    made.extend_from_slice(items.rest())?;
-    made.extend_from_slice(item)?;
+    write_items(&mut made, count as usize + 1, items.rest(), item)?;
     Ok(made)
 }
 
+/// Appends a number, and then items and one more.
+#[tactic(auto, using(wasm_encode::proofs::Appending::appending))]
+fn write_items(
+    out: &mut Vec<u8>,
+    count: usize,
+    items: &[u8],
+    item: &[u8],
+) -> Result<(), ModuleError>
+    ensures { OnOk result (out.new.items
+        ≡ out.old.items ++ (short_number count ++ (items.now ++ item.now))) }
+{
+    match write_number(out, count) {
+        Ok(()) => {}
+        Err(error) => return Err(error),
+    }
+    out.extend_from_slice(items)?;
+    out.extend_from_slice(item)?;
+    Ok(())
+}
+
+/// Appends an export: its name, the kind of what it names, and the index of that.
+#[tactic(auto, using(wasm_encode::proofs::Appending::appending))]
+fn write_export(out: &mut Vec<u8>, name: &str, kind: u8, index: usize) -> Result<(), ModuleError>
+    ensures { OnOk result (out.new.items ≡ out.old.items ++ export_of name.now kind index) }
+{
+    match write_bytes(out, name.as_bytes()) {
+        Ok(()) => {}
+        Err(error) => return Err(error),
+    }
+    out.push(kind)?;
+    write_number(out, index)
+}
+
 impl<'a> ParsedModule<'a> {
+    /// The contents of the section of this kind: those that are given, or those of the source, or no
+    /// items.
+    pub(crate) fn contents_with<'c>(
+        &'c self,
+        changes: &'c Changes,
+        kind: SectionKind,
+    ) -> Result<&'c [u8], ModuleError>
+        ensures { (all : List SectionAt) → IsModule self.now.bytes.now all → IfOk result
+            (λ contents. contents.now ≡ contents_with all changes.now (id_of kind)) }
+    {
+        if let Some(contents) = changes.contents_of(kind) {
+            return Ok(contents);
+        }
+        match self.section(kind) {
+            Ok(Some(section)) => Ok(section.contents()),
+            Ok(None) => Ok(&[0]),
+            Err(error) => Err(error),
+        }
+    }
+
     /// Appends an item to the section of this kind, or to a new one.
-    fn add_item(
+    pub(crate) fn add_item(
         &self,
         changes: &mut Changes,
         kind: SectionKind,
         item: &[u8],
-    ) -> Result<(), ModuleError> {
-        let contents = match (changes.contents_of(kind), self.section(kind)?) {
-            (Some(contents), _) => with_item(self.alloc, contents, item)?,
-            (None, Some(section)) => with_item(self.alloc, section.contents(), item)?,
-            (None, None) => with_item(self.alloc, &[0], item)?,
-        };
-        changes.set_contents(kind, contents)
+    ) -> Result<(), ModuleError>
+        ensures { (all : List SectionAt) → IsModule self.now.bytes.now all
+            → OnOk result (AddsItem all changes.old changes.new (id_of kind) item.now) }
+    {
+        let contents = self.contents_with(changes, kind)?;
+        let made = with_item(self.alloc, contents, item)?;
+        match changes.set_contents(kind, made) {
+            Ok(()) => Ok(()),
+            Err(error) => Err(error),
+        }
     }
 
     /// Adds a global after all others. Its bytes are its type and a constant expression.
@@ -49,17 +111,149 @@ impl<'a> ParsedModule<'a> {
         &mut self,
         changes: &mut Changes,
         global: &[u8],
-    ) -> Result<GlobalId, ModuleError> {
+    ) -> Result<GlobalId, ModuleError>
+        ensures { (all : List SectionAt) → IsModule self.old.bytes.now all
+            → OnOk result (AddsItem all changes.old changes.new 6 global.now) }
+    {
         let mut input = Input::new(global);
-        input.global()?;
-        input.finish()?;
+        match input.global() {
+            Ok(_) => {}
+            Err(error) => return Err(error),
+        }
+        match input.finish() {
+            Ok(()) => self.push_global(changes, global),
+            Err(error) => Err(error),
+        }
+    }
+
+    /// Adds a global with this initial value after all others.
+    ///
+    /// # Errors
+    ///
+    /// `TooGreat` if there are too many globals; or `Memory`.
+    pub fn add_value_global(
+        &mut self,
+        changes: &mut Changes,
+        value: Value,
+        is_mutable: bool,
+    ) -> Result<GlobalId, ModuleError>
+        ensures { (all : List SectionAt) → IsModule self.old.bytes.now all
+            → OnOk result (AddsItem all changes.old changes.new 6 (global_of value is_mutable)) }
+    {
+        let mut global = Vec::new(self.alloc);
+        match write_global(&mut global, value, is_mutable) {
+            Ok(()) => {}
+            Err(error) => return Err(error),
+        }
+        match self.push_global(changes, &global) {
+            Ok(id) => Ok(id),
+            Err(error) => Err(error),
+        }
+    }
+
+    /// Adds a global with these bytes.
+    fn push_global(&mut self, changes: &mut Changes, global: &[u8]) -> Result<GlobalId, ModuleError>
+        ensures { (all : List SectionAt) → IsModule self.old.bytes.now all
+            → OnOk result (AddsItem all changes.old changes.new 6 global.now) }
+    {
         let id = GlobalId::new(self.spaces.globals());
         match self.spaces.add_global() {
             Ok(()) => {}
             Err(error) => return Err(ModuleError::of_index(error, 0)),
         }
-        self.add_item(changes, SectionKind::Global, global)?;
-        Ok(id)
+        match self.add_item(changes, SectionKind::Global, global) {
+            Ok(()) => Ok(id),
+            Err(error) => Err(error),
+        }
+    }
+
+    /// Exports an item under a name: the one with this index in this index space. It isn't checked
+    /// whether there is one.
+    ///
+    /// # Errors
+    ///
+    /// `BadExportKind` if nothing in this space can be exported; `ExportTaken`, with its place, if an
+    /// export of the source has this name; `TooGreat` if the index or the number of exports doesn't
+    /// fit 32 bits; or `Memory`.
+    pub fn export(
+        &self,
+        changes: &mut Changes,
+        name: &str,
+        space: Space,
+        index: usize,
+    ) -> Result<(), ModuleError>
+        ensures { (all : List SectionAt) → IsModule self.now.bytes.now all
+            → OnOk result (AddsExport all changes.old changes.new name.now space index) }
+    {
+        let Some(kind) = export_kind(space) else {
+            return Err(ModuleError {
+                fault: ModuleFault::BadExportKind,
+                at: 0,
+            });
+        };
+        if let Some(section) = self.section(SectionKind::Export)? {
+            self.refuse_export(section.contents, name)?;
+        }
+        let mut item = Vec::new(self.alloc);
+        write_export(&mut item, name, kind, index)?;
+        match self.add_item(changes, SectionKind::Export, &item) {
+            Ok(()) => Ok(()),
+            Err(error) => Err(error),
+        }
+    }
+
+    /// Exports a function under a name.
+    ///
+    /// # Errors
+    ///
+    /// `ExportTaken`, with its place, if an export of the source has this name; `TooGreat` if the
+    /// function's index or the number of exports doesn't fit 32 bits; or `Memory`.
+    pub fn export_function(
+        &self,
+        changes: &mut Changes,
+        name: &str,
+        function: FunctionId,
+    ) -> Result<(), ModuleError>
+        ensures { (all : List SectionAt) → IsModule self.now.bytes.now all
+            → OnOk result (AddsExport all changes.old changes.new name.now Funcs function) }
+    {
+        self.export(changes, name, Space::Funcs, function.index())
+    }
+
+    /// Exports a table under a name.
+    ///
+    /// # Errors
+    ///
+    /// `ExportTaken`, with its place, if an export of the source has this name; `TooGreat` if the
+    /// table's index or the number of exports doesn't fit 32 bits; or `Memory`.
+    pub fn export_table(
+        &self,
+        changes: &mut Changes,
+        name: &str,
+        table: TableId,
+    ) -> Result<(), ModuleError>
+        ensures { (all : List SectionAt) → IsModule self.now.bytes.now all
+            → OnOk result (AddsExport all changes.old changes.new name.now Tables table) }
+    {
+        self.export(changes, name, Space::Tables, table.index())
+    }
+
+    /// Exports a memory under a name.
+    ///
+    /// # Errors
+    ///
+    /// `ExportTaken`, with its place, if an export of the source has this name; `TooGreat` if the
+    /// memory's index or the number of exports doesn't fit 32 bits; or `Memory`.
+    pub fn export_memory(
+        &self,
+        changes: &mut Changes,
+        name: &str,
+        memory: MemoryId,
+    ) -> Result<(), ModuleError>
+        ensures { (all : List SectionAt) → IsModule self.now.bytes.now all
+            → OnOk result (AddsExport all changes.old changes.new name.now Memories memory) }
+    {
+        self.export(changes, name, Space::Memories, memory.index())
     }
 
     /// Exports a global under a name.
@@ -73,15 +267,29 @@ impl<'a> ParsedModule<'a> {
         changes: &mut Changes,
         name: &str,
         global: GlobalId,
-    ) -> Result<(), ModuleError> {
-        if let Some(section) = self.section(SectionKind::Export)? {
-            self.refuse_export(section.contents, name)?;
-        }
-        let mut item = Vec::new(self.alloc);
-        write_bytes(&mut item, name.as_bytes())?;
-        item.push(EXPORTED_GLOBAL)?;
-        write_number(&mut item, global.index())?;
-        self.add_item(changes, SectionKind::Export, &item)
+    ) -> Result<(), ModuleError>
+        ensures { (all : List SectionAt) → IsModule self.now.bytes.now all
+            → OnOk result (AddsExport all changes.old changes.new name.now Globals global) }
+    {
+        self.export(changes, name, Space::Globals, global.index())
+    }
+
+    /// Exports a tag under a name.
+    ///
+    /// # Errors
+    ///
+    /// `ExportTaken`, with its place, if an export of the source has this name; `TooGreat` if the
+    /// tag's index or the number of exports doesn't fit 32 bits; or `Memory`.
+    pub fn export_tag(
+        &self,
+        changes: &mut Changes,
+        name: &str,
+        tag: TagId,
+    ) -> Result<(), ModuleError>
+        ensures { (all : List SectionAt) → IsModule self.now.bytes.now all
+            → OnOk result (AddsExport all changes.old changes.new name.now Tags tag) }
+    {
+        self.export(changes, name, Space::Tags, tag.index())
     }
 
     /// `ExportTaken` if one of these exports has this name.

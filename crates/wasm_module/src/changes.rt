@@ -1,6 +1,7 @@
 //! New contents of the sections of a module.
 
-ghost use Rattle.std.specs.Prelude.{◌≡◌, [], Some, None, IfSome, IfNone};
+ghost use Rattle.std.specs.Prelude.{◌≡◌, ◌<◌, ◌≤◌, [], length, take, Some, None, IfSome, IfNone, IfOk, IfErr, OnOk, OnErr};
+ghost use Rattle.wasm_module.specs.Additions.{IsGivenAt, SetsContents};
 ghost use Rattle.wasm_module.specs.Sections.{id_of};
 ghost use Rattle.wasm_module.specs.WrittenModules.{contents_in};
 
@@ -40,6 +41,45 @@ impl Changes {
         }
     }
 
+    /// The position of the section of this kind in the list; or the one where it has to be put.
+    fn place_of(&self, kind: SectionKind) -> Result<usize, usize>
+        ensures within { IfOk result (λ at. at < length self.now.given.items) }
+        ensures found { IfOk result (IsGivenAt self.now.given.items (id_of kind)) }
+        ensures bound { IfErr result (λ at. at ≤ length self.now.given.items) }
+        ensures before { IfErr result
+            (λ at. contents_in (take at self.now.given.items) (id_of kind) ≡ None) }
+    {
+        let (id, rank) = (kind.id(), kind.rank());
+        'given: for (at, given) in self.given.iter().enumerate() {
+            if given.kind.id() == id {
+                return Ok(at);
+            }
+            if given.kind.rank() > rank {
+                return Err(at);
+            }
+        }
+        Err(self.given.len())
+    }
+
+    /// Puts contents in place of those that are given for their section, or before those of the
+    /// sections after it.
+    fn put(&mut self, given: NewContents) -> Result<(), ModuleError>
+        ensures sets { OnOk result (SetsContents self.old self.new (id_of given.kind)
+            given.contents.items) }
+        ensures refused { OnErr result (self.new.given.items ≡ self.old.given.items) }
+    {
+        match self.place_of(given.kind) {
+            Ok(at) => {
+                self.given[at] = given;
+                Ok(())
+            }
+            Err(at) => match self.given.insert(at, given) {
+                Ok(()) => Ok(()),
+                Err(failed) => Err(ModuleError::from(failed)),
+            },
+        }
+    }
+
     /// Sets the contents of the section of this kind, without its id and size. They replace those
     /// of the module, and those of an earlier call. If the module has no such section, a new one is
     /// written.
@@ -48,28 +88,19 @@ impl Changes {
     ///
     /// `SectionOutOfOrder` if the kind is `Custom` or `Code`; `TooGreat` if the number of bytes
     /// doesn't fit 32 bits; or `Memory`.
-    pub fn set_contents(
-        &mut self,
-        kind: SectionKind,
-        contents: Vec<u8>,
-    ) -> Result<(), ModuleError> {
+    pub fn set_contents(&mut self, kind: SectionKind, contents: Vec<u8>) -> Result<(), ModuleError>
+        ensures sets { OnOk result (SetsContents self.old self.new (id_of kind) contents.items) }
+        ensures refused { OnErr result (self.new.given.items ≡ self.old.given.items) }
+    {
         let fault = match kind {
             SectionKind::Custom | SectionKind::Code => Some(ModuleFault::SectionOutOfOrder),
             _ if contents.len() > u32::MAX as usize => Some(ModuleFault::TooGreat),
             _ => None,
         };
-        if let Some(fault) = fault {
-            return Err(ModuleError { fault, at: 0 });
+        match fault {
+            Some(fault) => Err(ModuleError { fault, at: 0 }),
+            None => self.put(NewContents { kind, contents }),
         }
-        let found = self
-            .given
-            .binary_search_by_key(&kind.rank(), |given| given.kind.rank());
-        let given = NewContents { kind, contents };
-        match found {
-            Ok(at) => self.given[at] = given,
-            Err(at) => self.given.insert(at, given)?,
-        }
-        Ok(())
     }
 
     /// The new contents of the section of this kind, without its id and size; `None` if no call of

@@ -1,5 +1,7 @@
 //! Constant expressions.
 
+ghost use Rattle.std.specs.Prelude.{◌≡◌, ◌++◌, IfOk};
+
 use crate::fault::{ModuleError, ModuleFault};
 use crate::input::Input;
 use wasm_ops::{Operator, Reader};
@@ -20,11 +22,23 @@ fn is_control(operator: &Operator<'_>) -> bool {
     )
 }
 
-impl Input<'_> {
-    /// Reads past a constant expression (WebAssembly core specification 3.0, binary format,
-    /// expressions): operators up to the `end`. It isn't checked whether an operator is constant,
-    /// but none may open, divide or leave a construct.
-    pub fn constant(&mut self) -> Result<(), ModuleError> {
+impl<'a> Input<'a> {
+    /// A constant expression (WebAssembly core specification 3.0, binary format, expressions): the
+    /// bytes of its operators, up to the `end`, which is among them. It isn't checked whether an
+    /// operator is constant, but none may open, divide or leave a construct.
+    pub fn constant(&mut self) -> Result<&'a [u8], ModuleError>
+        ensures value { IfOk result
+            (λ bytes. self.old.rest.now ≡ bytes.now ++ self.new.rest.now) }
+        ensures same_end { self.new.end ≡ self.old.end }
+    {
+        match self.constant_end() {
+            Ok(end) => self.up_to(end),
+            Err(error) => Err(error),
+        }
+    }
+
+    /// The place after the `end` of a constant expression.
+    fn constant_end(&self) -> Result<usize, ModuleError> {
         let rest = self.rest();
         let mut reader = Reader::new(rest, self.at());
         // An operator has at least one byte.
@@ -35,7 +49,7 @@ impl Input<'_> {
                 Err(error) => return Err(ModuleError::of_read(error)),
             };
             if matches!(operator, Operator::End) {
-                return self.skip_to(reader.original_position());
+                return Ok(reader.original_position());
             }
             if is_control(&operator) {
                 return Err(ModuleError {

@@ -22,6 +22,20 @@ fn exported_space(kind: u8) -> Option<Space>
     }
 }
 
+/// The kind of an export that names something in this index space; `None` if none does.
+pub(crate) fn export_kind(space: Space) -> Option<u8>
+    ensures { IfSome result (λ kind. IsExportKind space kind) }
+{
+    match space {
+        Space::Funcs => Some(0),
+        Space::Tables => Some(1),
+        Space::Memories => Some(2),
+        Space::Globals => Some(3),
+        Space::Tags => Some(4),
+        Space::Types | Space::Elements | Space::Data => None,
+    }
+}
+
 /// `OutOfRange` if nothing in the space has this index.
 fn check_index(indices: &IndicesToIds, space: Space, index: u32) -> Result<(), IndexError> {
     match space {

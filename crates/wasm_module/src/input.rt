@@ -1,7 +1,7 @@
 //! Bytes of a module, read from the first one on (WebAssembly core specification 3.0, binary
 //! format, values and types).
 ghost use Rattle.std.specs.Prelude.{◌≡◌, ◌==◌, ◌<◌, ◌≤◌, ◌+◌, ◌-◌, ◌++◌, ◌∷◌, ◌^◌, [], length, take, OnOk, OnErr, IsErr, IfOk, Ok};
-ghost use Rattle.wasm_numbers.specs.Numbers.{u32 as a_u32};
+ghost use Rattle.wasm_numbers.specs.Numbers.{u32 as a_u32, u64 as a_u64};
 ghost use Rattle.wasm_operators.specs.Types.{value_type as a_value_type};
 
 use crate::fault::{ModuleError, ModuleFault};
@@ -100,13 +100,17 @@ impl<'a> Input<'a> {
         }
     }
 
-    /// Skips to this place of the file; `Truncated` if it isn't among the bytes that are left.
-    pub fn skip_to(&mut self, place: usize) -> Result<(), ModuleError> {
+    /// The bytes up to this place of the file; `Truncated` if it isn't among the bytes that are left.
+    pub fn up_to(&mut self, place: usize) -> Result<&'a [u8], ModuleError>
+        ensures value { IfOk result
+            (λ bytes. self.old.rest.now ≡ bytes.now ++ self.new.rest.now) }
+        ensures same_end { self.new.end ≡ self.old.end }
+    {
         match place.checked_sub(self.at()) {
-            Some(len) => {
-                self.part(len)?;
-                Ok(())
-            }
+            Some(len) => match self.part(len) {
+                Ok(part) => Ok(part.rest),
+                Err(error) => Err(error),
+            },
             None => Err(self.fault(ModuleFault::Truncated)),
         }
     }
@@ -161,7 +165,10 @@ impl<'a> Input<'a> {
     }
 
     /// An unsigned number of 64 bits, in LEB128, with the same faults.
-    pub fn long_number(&mut self) -> Result<u64, ModuleError> {
+    pub fn long_number(&mut self) -> Result<u64, ModuleError>
+        ensures value { IfOk result (λ n. a_u64 self.old.rest.now ≡ Ok (n, self.new.rest.now)) }
+        ensures same_end { self.new.end ≡ self.old.end }
+    {
         match read_u64(self.rest) {
             Ok((number, rest)) => {
                 self.rest = rest;
@@ -212,7 +219,11 @@ impl<'a> Input<'a> {
     }
 
     /// A reference type; `Read(BadType)` if there is none.
-    pub fn reference_type(&mut self) -> Result<RawValType, ModuleError> {
+    pub fn reference_type(&mut self) -> Result<RawValType, ModuleError>
+        ensures value { IfOk result
+            (λ ty. a_value_type self.old.rest.now ≡ Ok (ty, self.new.rest.now)) }
+        ensures same_end { self.new.end ≡ self.old.end }
+    {
         let begin = *self;
         match self.value_type()? {
             ValType::Ref(ty) => Ok(ValType::Ref(ty)),

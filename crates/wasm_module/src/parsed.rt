@@ -55,9 +55,9 @@ fn added_at(returned: Result<(), IndexError>, place: usize) -> Result<(), Module
 /// Reads past an item of a section of this kind, which isn't an import, export, function or tag.
 fn pass_item(kind: SectionKind, input: &mut Input<'_>) -> Result<(), ModuleError> {
     match kind {
-        SectionKind::Table => input.table(),
-        SectionKind::Memory => input.limits(),
-        SectionKind::Global => input.global(),
+        SectionKind::Table => input.table().map(|_| ()),
+        SectionKind::Memory => input.memory().map(|_| ()),
+        SectionKind::Global => input.global().map(|_| ()),
         SectionKind::Element => input.element_segment(),
         _ => input.data_segment(),
     }

@@ -36,6 +36,14 @@ impl Input<'_> {
         }
     }
 
+    /// Reads past a constant expression.
+    fn pass_constant(&mut self) -> Result<(), ModuleError> {
+        match self.constant() {
+            Ok(_) => Ok(()),
+            Err(error) => Err(error),
+        }
+    }
+
     /// Reads past everything before the elements of a segment with these flags.
     fn before_elements(&mut self, flags: u32) -> Result<(), ModuleError> {
         let is_active = flags % 2 == 0;
@@ -48,7 +56,7 @@ impl Input<'_> {
             }
         }
         if is_active {
-            match self.constant() {
+            match self.pass_constant() {
                 Ok(()) => {}
                 Err(error) => return Err(error),
             }
@@ -67,7 +75,7 @@ impl Input<'_> {
         };
         for _ in 0..count {
             let passed = match are_expressions {
-                true => self.constant(),
+                true => self.pass_constant(),
                 false => self.pass_index(),
             };
             match passed {

@@ -97,16 +97,24 @@ impl<'a> TypeReader<'a> {
         }
     }
 
+    /// Reads past a mutability.
+    fn mutability(&mut self) -> Result<(), ModuleError> {
+        match self.input.mutability() {
+            Ok(_) => Ok(()),
+            Err(error) => Err(error),
+        }
+    }
+
     /// Reads past the type of a field: a value type, or one of 8 or 16 bits, and its mutability.
     fn field(&mut self) -> Result<(), ModuleError> {
         if matches!(self.input.rest(), [0x77 | 0x78, ..]) {
             return match self.input.byte() {
-                Ok(_) => self.input.mutability(),
+                Ok(_) => self.mutability(),
                 Err(error) => Err(error),
             };
         }
         match read_value_type(&mut self.input, self.limit) {
-            Ok(_) => self.input.mutability(),
+            Ok(_) => self.mutability(),
             Err(error) => Err(error),
         }
     }

@@ -10,10 +10,14 @@ use crate::code::Bodies;
 use crate::exports::Exports;
 use crate::fault::ModuleError;
 use crate::functions::Functions;
+use crate::globals::Globals;
 use crate::imports::Imports;
 use crate::input::Input;
+use crate::memories::Memories;
 use crate::parsed::ParsedModule;
 use crate::sections::{Section, SectionKind, Sections};
+use crate::tables::Tables;
+use crate::tags::Tags;
 
 /// The items of a section that are left, and their number.
 #[derive(Clone, Copy)]
@@ -124,6 +128,70 @@ impl<'a> ParsedModule<'a> {
     {
         match self.items(SectionKind::Import) {
             Ok(items) => Ok(Imports { items }),
+            Err(error) => Err(error),
+        }
+    }
+
+    /// The globals that the module defines, in order. Imported ones, which have the first indices, aren't
+    /// among them.
+    ///
+    /// # Errors
+    ///
+    /// None, since the sections were read before.
+    pub fn globals(&self) -> Result<Globals<'a>, ModuleError>
+        ensures { (all : List SectionAt) → IsModule self.now.bytes.now all
+            → IfOk result (λ globals. HasItems (first_with 6 all) globals.items) }
+    {
+        match self.items(SectionKind::Global) {
+            Ok(items) => Ok(Globals { items }),
+            Err(error) => Err(error),
+        }
+    }
+
+    /// The tables that the module defines, in order. Imported ones, which have the first indices, aren't
+    /// among them.
+    ///
+    /// # Errors
+    ///
+    /// None, since the sections were read before.
+    pub fn tables(&self) -> Result<Tables<'a>, ModuleError>
+        ensures { (all : List SectionAt) → IsModule self.now.bytes.now all
+            → IfOk result (λ tables. HasItems (first_with 4 all) tables.items) }
+    {
+        match self.items(SectionKind::Table) {
+            Ok(items) => Ok(Tables { items }),
+            Err(error) => Err(error),
+        }
+    }
+
+    /// The memories that the module defines, in order. Imported ones, which have the first indices, aren't
+    /// among them.
+    ///
+    /// # Errors
+    ///
+    /// None, since the sections were read before.
+    pub fn memories(&self) -> Result<Memories<'a>, ModuleError>
+        ensures { (all : List SectionAt) → IsModule self.now.bytes.now all
+            → IfOk result (λ memories. HasItems (first_with 5 all) memories.items) }
+    {
+        match self.items(SectionKind::Memory) {
+            Ok(items) => Ok(Memories { items }),
+            Err(error) => Err(error),
+        }
+    }
+
+    /// The tags that the module defines, in order. Imported ones, which have the first indices, aren't
+    /// among them.
+    ///
+    /// # Errors
+    ///
+    /// None, since the sections were read before.
+    pub fn tags(&self) -> Result<Tags<'a>, ModuleError>
+        ensures { (all : List SectionAt) → IsModule self.now.bytes.now all
+            → IfOk result (λ tags. HasItems (first_with 13 all) tags.items) }
+    {
+        match self.items(SectionKind::Tag) {
+            Ok(items) => Ok(Tags { items }),
             Err(error) => Err(error),
         }
     }

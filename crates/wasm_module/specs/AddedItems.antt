@@ -1,0 +1,82 @@
+-- Items that are added to sections (WebAssembly core specification 3.0, binary format, modules): their bytes, each number in its
+-- shortest encoding.
+use Rattle.std.specs.Prelude.{◌≡◌, ◌≢◌, ◌+◌, ◌||◌, ℕ, ℤ, Bool, true, false, is_some, List, [], ◌∷◌, ◌++◌, Option, Some}
+use Rattle.walrus_ir.specs.declared.value.Value.{Value}
+use Rattle.walrus_ir.specs.declared.value.Value.TheVariants.{I32, I64, F32, F64, V128}
+use Rattle.wasm_operators.specs.declared.types.Opcode.TheVariants.{Byte, Prefixed}
+use Rattle.wasm_operators.specs.declared.types.Space.{Space}
+use Rattle.wasm_operators.specs.Operations.{RawOperation, operation, i32, i64, f32, f64, v128}
+use Rattle.wasm_operators.specs.Shortest.{short, short_number}
+use Rattle.wasm_module.specs.declared.changes.Changes.{Changes}
+use Rattle.wasm_module.specs.Additions.{HasOneMore, AddsItem, contents_with}
+use Rattle.wasm_module.specs.CodeSections.{entry}
+use Rattle.wasm_module.specs.Sections.{SectionAt, first_with}
+use Rattle.wasm_module.specs.Views.{IsExportKind}
+use Rattle.wasm_module.specs.WrittenModules.{contents_in}
+
+-- ---- exports (binary format, export section)
+
+-- an export: its name, the kind of what it names, and the index of that
+abbrev pub export_of : (name : List ℕ) → (kind index : ℕ) → List ℕ
+export_of name kind index = entry name ++ kind ∷ short_number index
+
+-- What has this index in this index space is exported under a name.
+abbrev pub AddsExport : (all : List SectionAt) → (old new : Changes) → (name : List ℕ) → Space → (index : ℕ) → Type 0
+AddsExport all old new name space index = (kind : ℕ) × IsExportKind space kind × AddsItem all old new 7 (export_of name kind index)
+
+-- ---- globals (binary format, global section, value types, expressions)
+
+-- the operator whose result is this value
+abbrev pub constant_operation : Value → RawOperation
+constant_operation (I32 z) = operation (Byte 0x41) (i32 z ∷ [])
+constant_operation (I64 z) = operation (Byte 0x42) (i64 z ∷ [])
+constant_operation (F32 bits) = operation (Byte 0x43) (f32 bits ∷ [])
+constant_operation (F64 bits) = operation (Byte 0x44) (f64 bits ∷ [])
+constant_operation (V128 bits) = operation (Prefixed 0xfd 12) (v128 bits ∷ [])
+
+-- a constant expression with this value: the operator, and the `end`
+abbrev pub constant_of : Value → List ℕ
+constant_of value = short (constant_operation value) ++ 0x0b ∷ []
+
+-- the byte of the type of a value
+abbrev pub type_byte : Value → ℕ
+type_byte (I32 z) = 0x7f
+type_byte (I64 z) = 0x7e
+type_byte (F32 bits) = 0x7d
+type_byte (F64 bits) = 0x7c
+type_byte (V128 bits) = 0x7b
+
+abbrev pub mutability : (is_mutable : Bool) → ℕ
+mutability false = 0
+mutability true = 1
+
+-- a global with this initial value
+abbrev pub global_of : Value → (is_mutable : Bool) → List ℕ
+global_of value is_mutable = type_byte value ∷ mutability is_mutable ∷ constant_of value
+
+-- ---- data segments (binary format, data section, data count section)
+
+-- a segment that is put into memory 0, from this address on
+abbrev pub active_data : (address : ℤ) → (bytes : List ℕ) → List ℕ
+active_data address bytes = 0 ∷ (constant_of (I32 address) ++ entry bytes)
+
+-- a segment that operators put into memories
+abbrev pub passive_data : (bytes : List ℕ) → List ℕ
+passive_data bytes = 1 ∷ entry bytes
+
+-- The data count is the number of segments, if they are counted; otherwise it stays.
+abbrev pub CountsData : (is_counted : Bool) → (count : ℕ) → (old new : Option (List ℕ)) → Type 0
+CountsData false count old new = new ≡ old
+CountsData true count old new = new ≡ Some (short_number count)
+
+-- whether the module of these sections has a data count section, with these changes
+abbrev pub has_data_count : (all : List SectionAt) → Changes → Bool
+has_data_count all changes = is_some (contents_in changes.given.items 12) || is_some (first_with 12 all)
+
+-- A data segment is added after the others.
+pub record AddsData (all : List SectionAt) (old new : Changes) (is_counted : Bool) (segment : List ℕ) : Type 0 where
+  pub contents : List ℕ
+  pub has_one_more : HasOneMore (contents_with all old 11) segment contents
+  pub given : contents_in new.given.items 11 ≡ Some contents
+  pub counts : CountsData is_counted (has_one_more.count + 1) (contents_in old.given.items 12) (contents_in new.given.items 12)
+  pub others : (other : ℕ) → other ≢ 11 → other ≢ 12 → contents_in new.given.items other ≡ contents_in old.given.items other
