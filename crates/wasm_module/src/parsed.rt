@@ -55,9 +55,18 @@ fn added_at(returned: Result<(), IndexError>, place: usize) -> Result<(), Module
 /// Reads past an item of a section of this kind, which isn't an import, export, function or tag.
 fn pass_item(kind: SectionKind, input: &mut Input<'_>) -> Result<(), ModuleError> {
     match kind {
-        SectionKind::Table => input.table().map(|_| ()),
-        SectionKind::Memory => input.memory().map(|_| ()),
-        SectionKind::Global => input.global().map(|_| ()),
+        SectionKind::Table => match input.table() {
+            Ok(_) => Ok(()),
+            Err(error) => Err(error),
+        },
+        SectionKind::Memory => match input.memory() {
+            Ok(_) => Ok(()),
+            Err(error) => Err(error),
+        },
+        SectionKind::Global => match input.global() {
+            Ok(_) => Ok(()),
+            Err(error) => Err(error),
+        },
         SectionKind::Element => input.element_segment(),
         _ => input.data_segment(),
     }

@@ -1,5 +1,4 @@
-use Rattle.std.proofs.Common.{ℕ, List, ◌++◌, ◌+◌, Ok, ap, ◌∙◌}
-use Rattle.wasm_numbers.specs.Numbers.{u32}
+use Rattle.std.proofs.Common.{ℕ, List, ◌++◌, ◌+◌, ap, ◌∙◌}
 use Rattle.wasm_operators.specs.Shortest.{short_number}
 use Rattle.wasm_module.proofs.AdditionLemmas.{from_empty}
 use Rattle.wasm_module.proofs.adding.with_item.Goals as goal

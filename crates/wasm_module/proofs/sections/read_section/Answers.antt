@@ -1,6 +1,6 @@
 -- A number follows the id, and as many bytes follow it.
-use Rattle.std.proofs.Common.{◌≡◌, ℕ, ◌-◌, List, ◌∷◌, ◌++◌, length, take, Ok, sym, ap, subst, ◌∙◌, append_assoc, arith}
-use Rattle.wasm_numbers.specs.Numbers.{unsigned, u32}
+use Rattle.std.proofs.Common.{◌≡◌, ℕ, ◌-◌, List, ◌∷◌, ◌++◌, length, sym, ap, ◌∙◌, append_assoc}
+use Rattle.wasm_numbers.specs.Numbers.{unsigned}
 use Rattle.wasm_module.proofs.NumberLemmas.{number_takes, before_last}
 use Rattle.wasm_module.proofs.sections.read_section.Goals as goal
 
