@@ -4,8 +4,6 @@
 #![tactic(auto)]
 
 #[cfg(test)]
-mod additions;
-#[cfg(test)]
 mod cases;
 #[cfg(test)]
 mod every_operator;

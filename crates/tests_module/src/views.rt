@@ -1,10 +1,10 @@
 //! Views of a module: what is in its sections.
 use crate::cases::{bytes_of, fault_text};
-use crate::whole_modules::{EVERY_SECTION, FOLLOWED};
+use crate::whole_modules::FOLLOWED;
 use std::alloc::Global;
 use std::process::Abort;
 use std::test::Fail;
-use wasm_module::{Limits, ModuleError, ParsedModule, SectionKind};
+use wasm_module::{ModuleError, ParsedModule, SectionKind};
 
 // Appends the exports and imports, each with its place.
 fn push_names(text: &mut String, parsed: &ParsedModule<'_>) -> Result<(), Fail> {
@@ -104,104 +104,6 @@ fn views_a_module(rt: HostRuntime) -> Result<(), Fail> {
     let expected =
         "g funcs 1 at 36; m.f Func(1) at 22; 0: 0 to 0; 1: 1 to 1 at 84; 2: 0 to 0 at 123; \
         2 2 0 metadata.code.branch_hint name 0 f at 147, 1 g at 150, 2 h at 153, sourceMappingURL ";
-    assert_eq!(rt; found.as_str(), expected);
-    Ok(())
-}
-
-// Appends limits.
-fn push_limits(text: &mut String, limits: Limits) -> Result<(), Fail> {
-    write!(text, "{}", limits.min)?;
-    if let Some(max) = limits.max {
-        write!(text, " to {max}")?;
-    }
-    if limits.is_shared {
-        write!(text, " shared")?;
-    }
-    if limits.is_64 {
-        write!(text, " 64")?;
-    }
-    Ok(())
-}
-
-// Appends the tables and memories, each with its limits and its place.
-fn push_storage(text: &mut String, parsed: &ParsedModule<'_>) -> Result<(), Fail> {
-    if let Ok(tables) = parsed.tables() {
-        for table in tables {
-            if let Ok(table) = table {
-                write!(text, "table of {:?}: ", table.ty.element)?;
-                push_limits(text, table.ty.limits)?;
-                write!(
-                    text,
-                    " by {} at {}; ",
-                    table.init.unwrap_or(&[]).len(),
-                    table.at
-                )?;
-            }
-        }
-    }
-    if let Ok(memories) = parsed.memories() {
-        for memory in memories {
-            if let Ok(memory) = memory {
-                write!(text, "memory: ")?;
-                push_limits(text, memory.limits)?;
-                write!(text, " at {}; ", memory.at)?;
-            }
-        }
-    }
-    Ok(())
-}
-
-// Appends the tags and globals, each with its place.
-fn push_values(text: &mut String, parsed: &ParsedModule<'_>) -> Result<(), Fail> {
-    if let Ok(tags) = parsed.tags() {
-        for tag in tags {
-            if let Ok(tag) = tag {
-                write!(text, "tag {} at {}; ", tag.ty, tag.at)?;
-            }
-        }
-    }
-    if let Ok(globals) = parsed.globals() {
-        for global in globals {
-            if let Ok(global) = global {
-                write!(text, "global of {:?}: ", global.ty.value)?;
-                for byte in global.init {
-                    write!(text, "{byte} ")?;
-                }
-                write!(text, "{} at {}; ", global.ty.is_mutable, global.at)?;
-            }
-        }
-    }
-    Ok(())
-}
-
-fn viewed_storage(alloc: Global, bytes: &[u8]) -> Result<String, Fail> {
-    match ParsedModule::read(alloc, bytes) {
-        Ok(parsed) => {
-            let mut text = String::new(alloc);
-            push_storage(&mut text, &parsed)?;
-            push_values(&mut text, &parsed)?;
-            Ok(text)
-        }
-        Err(error) => fault_text(alloc, error),
-    }
-}
-
-/// Three tables, three memories, a tag and three globals that a module defines, besides one of each
-/// that it imports. The table section begins at 105, that of memories at 123, that of tags at 134,
-/// and that of globals at 143. The second table has the initial value `ref.func 0`.
-#[test]
-fn views_storage(rt: HostRuntime) -> Result<(), Fail> {
-    let bytes = bytes_of(rt.alloc(), EVERY_SECTION)?;
-    let found = viewed_storage(rt.alloc(), &bytes)?;
-    let expected =
-        "table of Ref(RefType { nullable: true, heap_type: Abstract(Func) }): 1 by 0 at 108; \
-        table of Ref(RefType { nullable: true, heap_type: Abstract(Func) }): 1 by 3 at 111; \
-        table of Ref(RefType { nullable: true, heap_type: Abstract(Extern) }): 1 to 2 64 by 0 at 119; \
-        memory: 1 to 2 at 126; memory: 1 64 at 129; memory: 1 to 1 shared at 131; \
-        tag 0 at 137; \
-        global of I32: 65 42 11 false at 146; \
-        global of Ref(RefType { nullable: true, heap_type: Concrete(2) }): 208 2 11 true at 151; \
-        global of I64: 66 0 11 true at 157; ";
     assert_eq!(rt; found.as_str(), expected);
     Ok(())
 }
