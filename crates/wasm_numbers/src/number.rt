@@ -622,17 +622,28 @@ fn read_bits(count: u32, bytes: &[u8]) -> Result<(u128, &[u8]), ReadFault>
     Ok((join_bytes(count, low, high), rest))
 }
 
+/// The number of four bytes, the least significant one first.
+#[inline(always)]
+fn number_of_four(a: u8, b: u8, c: u8, d: u8) -> u32
+    ensures { result ≡ a + 256 * (b + 256 * (c + 256 * d)) }
+{
+    a as u32 + 256 * (b as u32 + 256 * (c as u32 + 256 * d as u32))
+}
+
 /// Reads the bits of an `f32` at the front (WebAssembly core specification 3.0, binary format,
 /// values). Returns them and the bytes that follow.
 ///
 /// # Errors
 ///
 /// `Truncated` if there are fewer than 4 bytes.
+#[tactic(auto, unfolding(crate::specs::Reading::many))]
 pub fn read_f32(bytes: &[u8]) -> Result<(u32, &[u8]), ReadFault>
     ensures { Gives (λ x. (x.0, x.1.now)) result (some_bits 4 bytes.now) }
 {
-    let (bits, rest) = read_bits(4, bytes)?;
-    Ok((bits as u32, rest))
+    match bytes {
+        [a, b, c, d, rest @ ..] => Ok((number_of_four(*a, *b, *c, *d), rest)),
+        _ => Err(ReadFault::Truncated),
+    }
 }
 
 /// Reads the bits of an `f64` at the front (WebAssembly core specification 3.0, binary format,
@@ -641,11 +652,18 @@ pub fn read_f32(bytes: &[u8]) -> Result<(u32, &[u8]), ReadFault>
 /// # Errors
 ///
 /// `Truncated` if there are fewer than 8 bytes.
+#[tactic(auto, unfolding(crate::specs::Reading::many))]
 pub fn read_f64(bytes: &[u8]) -> Result<(u64, &[u8]), ReadFault>
     ensures { Gives (λ x. (x.0, x.1.now)) result (some_bits 8 bytes.now) }
 {
-    let (bits, rest) = read_bits(8, bytes)?;
-    Ok((bits as u64, rest))
+    match bytes {
+        [a, b, c, d, e, f, g, h, rest @ ..] => {
+            let low = number_of_four(*a, *b, *c, *d) as u64;
+            let high = number_of_four(*e, *f, *g, *h) as u64;
+            Ok((low + (1 << 32) * high, rest))
+        }
+        _ => Err(ReadFault::Truncated),
+    }
 }
 
 /// Reads the bits of a `v128` at the front, the least significant byte first. Returns them and the
