@@ -14,3 +14,4 @@ pub use law::law_written;
 pub use number::write_number;
 pub use operation::write_op;
 pub use out_operator::{OutClauses, OutOp, OutTable};
+pub use type_writer::write_value_type;

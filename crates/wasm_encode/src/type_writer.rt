@@ -58,8 +58,13 @@ fn write_reference(out: &mut Vec<u8>, nullable: bool, heap: RawHeapType) -> Resu
     }
 }
 
-/// Appends a value type.
-pub(crate) fn write_value_type(out: &mut Vec<u8>, ty: RawValType) -> Result<(), AllocError>
+/// Appends the shortest bytes of a value type (WebAssembly core specification 3.0, binary format,
+/// value types).
+///
+/// # Errors
+///
+/// `AllocError` if memory runs out: the bytes before stay, and some of the type may follow them.
+pub fn write_value_type(out: &mut Vec<u8>, ty: RawValType) -> Result<(), AllocError>
     ensures ok { OnOk result (out.new.items ≡ out.old.items ++ short_value ty) }
     ensures unchanged { take (length out.old.items) out.new.items ≡ out.old.items }
 {

@@ -1,6 +1,5 @@
 //! Function types that are added (WebAssembly core specification 3.0, binary format, types).
-ghost use Rattle.std.specs.Prelude.{◌≡◌, ◌++◌, Ok, OnOk, IfOk};
-ghost use Rattle.wasm_operators.specs.Shortest.{short_value};
+ghost use Rattle.std.specs.Prelude.{◌≡◌, Ok, IfOk};
 ghost use Rattle.wasm_body.specs.Translation.{translate_value};
 ghost use Rattle.walrus_maps.specs.IndexMaps.{number_of};
 
@@ -9,28 +8,12 @@ use crate::fault::ModuleError;
 use crate::output::write_number;
 use crate::parsed::ParsedModule;
 use crate::sections::SectionKind;
-use std::alloc::Global;
 use walrus_ir::{HeapType, RefType, TypeId, ValType};
-use wasm_encode as encoded;
-use wasm_encode::OutOp;
-use wasm_ops::{BlockType, RawValType};
+use wasm_encode::write_value_type;
+use wasm_ops::RawValType;
 
 /// The first byte of a function type.
 const FUNCTION: u8 = 0x60;
-
-/// Appends a value type.
-fn write_value_type(alloc: Global, out: &mut Vec<u8>, ty: RawValType) -> Result<(), ModuleError>
-    ensures { OnOk result (out.new.items ≡ out.old.items ++ short_value ty) }
-{
-    // The type of a block with one result is written as the type of the result.
-    let mut block = Vec::new(alloc);
-    let ty = BlockType::Value(ty);
-    encoded::write_op(&OutOp::Block { ty }, &mut block)?;
-    if let [_, value @ ..] = block.as_slice() {
-        out.extend_from_slice(value)?;
-    }
-    Ok(())
-}
 
 impl<'a> ParsedModule<'a> {
     /// A value type with the index of the type that it names; `TooGreat` if that has none.
@@ -79,10 +62,7 @@ impl<'a> ParsedModule<'a> {
                 Ok(raw) => raw,
                 Err(error) => return Err(error),
             };
-            match write_value_type(self.alloc, out, raw) {
-                Ok(()) => {}
-                Err(error) => return Err(error),
-            }
+            write_value_type(out, raw)?;
         }
         Ok(())
     }
